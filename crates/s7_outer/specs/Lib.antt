@@ -1,0 +1,9 @@
+pub mod Count
+pub mod Numbers
+pub mod Held
+pub mod Shown
+pub mod Link
+pub mod Out
+pub mod MemoryLink
+pub mod MemoryOut
+pub mod FailingLink

@@ -1,0 +1,11 @@
+// Counts of faults and waits.
+ghost use Rattle.std.specs.Prelude.{◌≤◌};
+ghost use Rattle.s7_outer.specs.Count.{Rose};
+
+/// One more, up to the last value.
+pub(crate) fn raise(count: &mut u64)
+    ensures rose { Rose count.old count.new }
+    ensures kept { count.old ≤ count.new }
+{
+    *count = count.saturating_add(1);
+}

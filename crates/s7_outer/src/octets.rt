@@ -1,0 +1,138 @@
+// Octets that are owned, and a buffer that never grows.
+ghost use Rattle.std.specs.Prelude.{◌≡◌, ℕ, ◌+◌, ◌<◌, ◌≤◌, List, [], ◌++◌, length, IfOk};
+
+use std::alloc::{AllocError, Global};
+use std::marker::Model;
+use std::mem;
+
+/// Want of memory.
+#[derive(Clone, Copy, Debug, PartialEq, Eq)]
+pub struct Memory;
+
+impl From<AllocError> for Memory {
+    fn from(_: AllocError) -> Self {
+        Memory
+    }
+}
+
+/// Octets that are owned. Contracts see them as a list.
+#[derive(Debug, Drop)]
+pub struct Octets {
+    octets: Vec<u8>,
+}
+
+impl Model for Octets {
+    ghost Value = { List ℕ };
+
+    ghost view = { λ o. o.octets.items };
+}
+
+impl Octets {
+    /// The octets of a vector, which is not copied.
+    pub fn of_vec(octets: Vec<u8>) -> Octets
+        ensures { result ≡ octets.items }
+    {
+        Octets { octets }
+    }
+
+    /// A copy. `Memory` comes where there is none for it.
+    pub fn copy_of(alloc: Global, octets: &[u8]) -> Result<Octets, Memory>
+        ensures { IfOk result (λ o. o ≡ octets.now) }
+    {
+        Ok(Octets {
+            octets: Vec::from_slice(alloc, octets)?,
+        })
+    }
+
+    /// The octets, lent.
+    pub fn as_slice(&self) -> &[u8]
+        ensures { result.now ≡ self.now }
+    {
+        self.octets.as_slice()
+    }
+
+    /// The octets as a vector, which is not copied.
+    pub fn into_vec(self) -> Vec<u8>
+        ensures { result.items ≡ self }
+    {
+        self.octets
+    }
+}
+
+/// Octets with a room that they never pass. Contracts see the octets and the room.
+#[derive(Debug, Drop)]
+pub struct Buffer {
+    octets: Vec<u8>,
+    room: usize,
+}
+
+impl Model for Buffer {
+    ghost use Rattle.std.specs.Prelude.{◌≤◌, ℕ, List, vec_len, vec_capacity};
+    ghost use Rattle.s7_outer.specs.Held.{Held};
+
+    ghost Value = { Held };
+
+    ghost view = { λ b. record { octets = b.octets.items; room = b.room } };
+
+    ghost invariant = { λ b. (vec_len b.octets ≤ b.room) × (b.room ≤ vec_capacity b.octets) };
+}
+
+impl Buffer {
+    /// An empty buffer with room for so many octets, all of it taken here. `Memory` comes where
+    /// there is none for it.
+    pub fn new(alloc: Global, room: usize) -> Result<Buffer, Memory>
+        ensures { IfOk result (λ b. (b.octets ≡ []) × (b.room ≡ room)) }
+    {
+        Ok(Buffer {
+            octets: Vec::with_capacity(alloc, room)?,
+            room,
+        })
+    }
+
+    /// The octets held.
+    pub fn as_slice(&self) -> &[u8]
+        ensures octets { result.now ≡ self.now.octets }
+        ensures fits { length self.now.octets ≤ self.now.room }
+    {
+        self.octets.as_slice()
+    }
+
+    /// How many octets there may be.
+    pub fn room(&self) -> usize
+        ensures room { result ≡ self.now.room }
+        ensures fits { length self.now.octets ≤ self.now.room }
+    {
+        self.room
+    }
+
+    /// Lets go of the octets held. The room stays.
+    pub fn clear(&mut self)
+        ensures octets { self.new.octets ≡ [] }
+        ensures room { self.new.room ≡ self.old.room }
+    {
+        self.octets.clear();
+    }
+
+    /// Adds octets at the end. They fit the room with those held.
+    pub fn add(&mut self, octets: &[u8])
+        requires { length self.old.octets + length octets.now ≤ self.old.room }
+        ensures octets { self.new.octets ≡ self.old.octets ++ octets.now }
+        ensures room { self.new.room ≡ self.old.room }
+    {
+        match self.octets.extend_from_slice(octets) {
+            Ok(()) => {}
+            Err(_) => unreachable!(),
+        }
+    }
+
+    /// Gives the octets held, and leaves the buffer empty and without room.
+    pub fn take(&mut self) -> Octets
+        ensures taken { result ≡ self.old.octets }
+        ensures octets { self.new.octets ≡ [] }
+        ensures room { self.new.room ≡ 0 }
+    {
+        let empty = Vec::new(*self.octets.allocator());
+        self.room = 0;
+        Octets::of_vec(mem::replace(&mut self.octets, empty))
+    }
+}
