@@ -1,0 +1,3 @@
+pub mod PacketLemmas
+pub mod FeedLemmas
+pub mod WriteLemmas

@@ -1,0 +1,115 @@
+-- Packets (TPKTs) of RFC 1006, section 6: the version 03, a reserved octet, the length of the whole packet in
+-- two octets, and a body, which is one TPDU.
+use Rattle.std.specs.Prelude.{◌≡◌, ◌≢◌, ℕ, zero, suc, ◌+◌, ◌*◌, ◌/◌, ◌%◌, ◌≤◌, Bool, true, false, nat_lt, ◌==◌, if◌then◌else◌, List, [], ◌∷◌, ◌++◌, length, take, drop}
+use Rattle.s7_tpkt.specs.Cut.{Cut}
+use Rattle.s7_tpkt.specs.declared.state.FedState.{FedState}
+use Rattle.s7_tpkt.specs.declared.state.FedState.TheVariants.{Whole, More, BadVersion, BadLength, TooLong}
+
+-- A packet: the version is 03, the reserved octet may be anything, and the length field counts the four header
+-- octets too. The least length is 7, as RFC 1006 has it, and the greatest is a limit of the receiver.
+abbrev pub IsPacket : ℕ → List ℕ → Type 0
+IsPacket limit (v ∷ r ∷ hi ∷ lo ∷ body) = (v ≡ 3) × (256 * hi + lo ≡ length body + 4) × (7 ≤ length body + 4) × (length body + 4 ≤ limit)
+IsPacket limit (v ∷ r ∷ hi ∷ []) = ⊥
+IsPacket limit (v ∷ r ∷ []) = ⊥
+IsPacket limit (v ∷ []) = ⊥
+IsPacket limit [] = ⊥
+
+-- what follows its four header octets
+abbrev pub body_of : List ℕ → List ℕ
+body_of packet = drop 4 packet
+
+-- the packet that is written for a body
+abbrev pub packet_of : List ℕ → List ℕ
+packet_of body = 3 ∷ 0 ∷ ((length body + 4) / 256) ∷ ((length body + 4) % 256) ∷ body
+
+-- The octets are the packets with these bodies, in order, and then the rest. The limit of a packet is a
+-- function of the bodies before it.
+abbrev pub Packed : (List (List ℕ) → ℕ) → List (List ℕ) → List ℕ → List (List ℕ) → List ℕ → Type 0
+Packed limits before b [] rest = b ≡ rest
+Packed limits before b (p ∷ ps) rest = (q : List ℕ) × (more : List ℕ) × IsPacket (limits before) q × (p ≡ body_of q) × (b ≡ q ++ more) × Packed limits (before ++ p ∷ []) more ps rest
+
+-- no packet stands at the front
+abbrev pub NoPacketAhead : ℕ → List ℕ → Type 0
+NoPacketAhead limit rest = (q more : List ℕ) → IsPacket limit q → rest ≢ q ++ more
+
+-- the octets are these packets, as many as there are, and a rest
+abbrev pub Packets : (List (List ℕ) → ℕ) → List ℕ → List (List ℕ) → List ℕ → Type 0
+Packets limits b ps rest = Packed limits [] b ps rest × NoPacketAhead (limits ps) rest
+
+-- what a front of a stream shows, by its length field and its length
+abbrev pub state_by : ℕ → ℕ → ℕ → FedState
+state_by limit size held =
+    if nat_lt size 7 then BadLength else (if nat_lt limit size then TooLong else (if nat_lt held size then More else Whole))
+
+-- what is shown where the version is right
+abbrev pub if_begun : ℕ → FedState → FedState
+if_begun v state = if v == 3 then state else BadVersion
+
+-- What the octets at the front of a stream show: a whole packet, a fault, or that more has to come. The first
+-- octet shows the version, and the fourth ends the length field.
+abbrev pub state_of : ℕ → List ℕ → FedState
+state_of limit [] = More
+state_of limit (v ∷ []) = if_begun v More
+state_of limit (v ∷ r ∷ []) = if_begun v More
+state_of limit (v ∷ r ∷ hi ∷ []) = if_begun v More
+state_of limit (v ∷ r ∷ hi ∷ lo ∷ body) = if_begun v (state_by limit (256 * hi + lo) (length body + 4))
+
+-- whether a packet stands at the front
+abbrev pub is_whole : FedState → Bool
+is_whole Whole = true
+is_whole More = false
+is_whole BadVersion = false
+is_whole BadLength = false
+is_whole TooLong = false
+
+-- whether it is a fault, which no more octets mend
+abbrev pub is_fault : FedState → Bool
+is_fault Whole = false
+is_fault More = false
+is_fault BadVersion = true
+is_fault BadLength = true
+is_fault TooLong = true
+
+-- the length field, or 0 where it isn't there yet
+abbrev pub size_of : List ℕ → ℕ
+size_of (v ∷ r ∷ hi ∷ lo ∷ body) = 256 * hi + lo
+size_of (v ∷ r ∷ hi ∷ []) = 0
+size_of (v ∷ r ∷ []) = 0
+size_of (v ∷ []) = 0
+size_of [] = 0
+
+-- the bodies before and those of the packets at the front, at most n of them, and the rest
+abbrev pub cut : (List (List ℕ) → ℕ) → List (List ℕ) → ℕ → List ℕ → List (List ℕ) × List ℕ
+cut limits before zero b = (before, b)
+cut limits before (suc n) b =
+    if is_whole (state_of (limits before) b)
+    then cut limits (before ++ body_of (take (size_of b) b) ∷ []) n (drop (size_of b) b)
+    else (before, b)
+
+-- the bodies of the packets of a stream
+unfoldable pub packets_of : (List (List ℕ) → ℕ) → List ℕ → List (List ℕ)
+packets_of limits b = (cut limits [] (length b) b).0
+
+-- what stands behind them
+unfoldable pub rest_of : (List (List ℕ) → ℕ) → List ℕ → List ℕ
+rest_of limits b = (cut limits [] (length b) b).1
+
+-- a cutter holds the rest of these octets, and has its limit
+pub record HoldsRest (limits : List (List ℕ) → ℕ) (b : List ℕ) (cutter : Cut) : Type 0 where
+  pub held : rest_of limits b ≡ cutter.held
+  pub limit : limits (packets_of limits b) ≡ cutter.limit
+
+-- The octets go on by more of them, and no further packet is whole.
+pub record GoesOn (limits : List (List ℕ) → ℕ) (b more : List ℕ) : Type 0 where
+  pub packets : packets_of limits (b ++ more) ≡ packets_of limits b
+  pub rest : rest_of limits (b ++ more) ≡ rest_of limits b ++ more
+
+-- The octets go on by more of them, which end a packet with this body.
+pub record EndsPacket (limits : List (List ℕ) → ℕ) (b more body : List ℕ) : Type 0 where
+  pub packets : packets_of limits (b ++ more) ≡ packets_of limits b ++ body ∷ []
+  pub rest : rest_of limits (b ++ more) ≡ []
+
+-- The octets go on by more of them, whatever these are.
+pub record GoesFurther (limits : List (List ℕ) → ℕ) (b more : List ℕ) : Type 0 where
+  pub tail : List (List ℕ)
+  pub packets : packets_of limits (b ++ more) ≡ packets_of limits b ++ tail

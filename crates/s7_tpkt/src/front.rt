@@ -1,0 +1,55 @@
+//! What octets at the front of a stream show.
+
+ghost use Rattle.std.specs.Prelude.{◌≡◌, ◌+◌, ◌*◌};
+ghost use Rattle.s7_tpkt.specs.Packets.{state_of};
+ghost use Rattle.s7_tpkt.specs.Front.{wanted};
+
+use crate::state::FedState;
+
+/// The version octet of RFC 1006, section 6.
+pub(crate) const VERSION: u8 = 3;
+
+/// The octets before a packet's body.
+pub(crate) const HEADER: usize = 4;
+
+/// The least length of a packet.
+const LEAST: usize = 7;
+
+/// The state by what is held.
+pub(crate) fn state_of(limit: usize, held: &[u8]) -> FedState
+    ensures { result ≡ state_of limit held.now }
+{
+    match held {
+        [] => FedState::More,
+        [version, ..] if *version != VERSION => FedState::BadVersion,
+        [_, _, high, low, body @ ..] => {
+            let size = size_of(*high, *low);
+            if size < LEAST {
+                FedState::BadLength
+            } else if limit < size {
+                FedState::TooLong
+            } else if body.len() + HEADER < size {
+                FedState::More
+            } else {
+                FedState::Whole
+            }
+        }
+        _ => FedState::More,
+    }
+}
+
+/// How many octets to take at once.
+pub(crate) fn wanted(held: &[u8]) -> usize
+    ensures { result ≡ wanted held.now }
+{
+    match held {
+        [_, _, high, low, body @ ..] => size_of(*high, *low).saturating_sub(body.len() + HEADER),
+        _ => 1,
+    }
+}
+
+fn size_of(high: u8, low: u8) -> usize
+    ensures { result ≡ 256 * high + low }
+{
+    256 * high as usize + low as usize
+}
