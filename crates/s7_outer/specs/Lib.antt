@@ -7,3 +7,14 @@ pub mod Out
 pub mod MemoryLink
 pub mod MemoryOut
 pub mod FailingLink
+pub mod FilesShown
+pub mod Files
+pub mod MemoryFiles
+pub mod DialShown
+pub mod Dial
+pub mod MemoryDial
+pub mod DoorShown
+pub mod Door
+pub mod MemoryDoor
+pub mod PipesHeld
+pub mod Pipes

@@ -1,5 +1,5 @@
 -- What a link in memory shows.
-use Rattle.std.specs.Prelude.{ℕ, List, [], ◌∷◌, drop, Bool, true, false, Option, None, Some}
+use Rattle.std.specs.Prelude.{ℕ, List, [], ◌∷◌, drop, Bool, true, false, None, Some}
 use Rattle.s7_outer.specs.Shown.{Shown}
 use Rattle.s7_outer.specs.declared.memory_link.MemoryLink.{MemoryLink}
 
@@ -17,6 +17,7 @@ shown_of m = record {
   moment = Some m.moment;
   clock_faults = 0;
   space = None;
+  lent = None;
 }
 
 -- a link that has not been used
@@ -30,4 +31,5 @@ unused input moment = record {
   moment = Some moment;
   clock_faults = 0;
   space = None;
+  lent = None;
 }

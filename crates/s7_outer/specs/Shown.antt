@@ -1,5 +1,15 @@
 -- What a link shows to contracts.
 use Rattle.std.specs.Prelude.{ℕ, List, Option, Bool}
+use Rattle.std.specs.Borrow.{GName}
+
+-- what a link works on that was lent to it
+pub record Lent : Type 0 where
+  -- the loan, by the name that proofs have for it
+  pub loan : GName
+  -- which end of what was lent
+  pub end : ℕ
+  -- how many octets there may be in each direction
+  pub room : ℕ
 
 pub record Shown : Type 0 where
   -- the octets that are left to receive, where the link tells them
@@ -18,3 +28,5 @@ pub record Shown : Type 0 where
   pub clock_faults : ℕ
   -- how many octets it can still take, where it tells that
   pub space : Option ℕ
+  -- what the link works on that was lent to it, where there is such a thing; no call changes it
+  pub lent : Option Lent

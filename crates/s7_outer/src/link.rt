@@ -39,6 +39,8 @@ pub enum Tick {
 }
 
 /// A stream of octets in either direction. What it tells of them, and its counts, stand in `shows`.
+/// A link that works on something lent to it, as an end of two pipes does, shows which loan that
+/// is. No call changes this, so whoever lent it knows afterwards what became of it.
 pub trait Link {
     /// What the link shows to contracts. No count in it ever falls.
     ghost shows: { Self → Shown };
@@ -66,7 +68,8 @@ pub trait Link {
 
         ensures moment { (shows self.new).moment ≡ (shows self.old).moment }
         ensures clock_faults { (shows self.new).clock_faults ≡ (shows self.old).clock_faults }
-        ensures space { (shows self.new).space ≡ (shows self.old).space };
+        ensures space { (shows self.new).space ≡ (shows self.old).space }
+        ensures lent { (shows self.new).lent ≡ (shows self.old).lent };
 
     /// Hands on the first octets of the piece, at least one.
     ///
@@ -89,7 +92,8 @@ pub trait Link {
         ensures moment { (shows self.new).moment ≡ (shows self.old).moment }
         ensures clock_faults { (shows self.new).clock_faults ≡ (shows self.old).clock_faults }
         ensures fits { IfSome (shows self.old).space (λ space. length (octets_sent result piece.now) ≤ space) }
-        ensures space { (shows self.new).space ≡ option_map (λ space. space - length (octets_sent result piece.now)) (shows self.old).space };
+        ensures space { (shows self.new).space ≡ option_map (λ space. space - length (octets_sent result piece.now)) (shows self.old).space }
+        ensures lent { (shows self.new).lent ≡ (shows self.old).lent };
 }
 
 /// A link that has a clock.

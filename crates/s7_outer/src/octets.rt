@@ -1,5 +1,7 @@
 // Octets that are owned, and a buffer that never grows.
 ghost use Rattle.std.specs.Prelude.{◌≡◌, ℕ, ◌+◌, ◌<◌, ◌≤◌, List, [], ◌++◌, length, IfOk};
+ghost use Rattle.std.specs.Borrow.{Lends, Array, sem, u8 as octet};
+ghost use Rattle.std.specs.List.{refill};
 
 use std::alloc::{AllocError, Global};
 use std::marker::Model;
@@ -78,6 +80,9 @@ impl Model for Buffer {
 }
 
 impl Buffer {
+    ghost use Rattle.s7_outer.specs.Held.{with_octets};
+    ghost use Rattle.s7_outer.specs.contracts.octets.Buffer.{the_row};
+
     /// An empty buffer with room for so many octets, all of it taken here. `Memory` comes where
     /// there is none for it.
     pub fn new(alloc: Global, room: usize) -> Result<Buffer, Memory>
@@ -95,6 +100,16 @@ impl Buffer {
         ensures fits { length self.now.octets ≤ self.now.room }
     {
         self.octets.as_slice()
+    }
+
+    /// The octets held, to be written. The buffer has what was last written here, and its room
+    /// stays.
+    pub fn as_mut_slice(&mut self) -> &mut [u8]
+        ensures* writes_back { sem 𝓛 (Lends the_row (Array octet 0) self.entry result (with_octets self.old)) }
+        ensures octets { result.now ≡ self.old.octets }
+        ensures same_length { (octets : List ℕ) → length octets ≡ length self.old.octets → with_octets self.old octets ≡ record self.old { octets = octets } }
+    {
+        self.octets.as_mut_slice()
     }
 
     /// How many octets there may be.

@@ -71,6 +71,7 @@ impl<R: Input + Print + SystemClock + Drop> Link for RealLink<R> {
       moment = None;
       clock_faults = s.clock_faults;
       space = None;
+      lent = None;
     } };
 
     fn receive(&mut self, into: &mut [u8]) -> Got {

@@ -1,4 +1,6 @@
 use super::*;
+use std::fs;
+use std::sync::Wait;
 use std::test::Fail;
 
 #[test]
@@ -77,5 +79,170 @@ fn a_real_link_has_the_time(rt: HostRuntime) -> Result<(), Fail> {
     let mut into = [0u8; 8];
     assert!(rt; matches!(link.receive(&mut into), Got::End));
     assert!(rt; matches!(link.receive(&mut into), Got::End));
+    Ok(())
+}
+
+#[test]
+fn a_buffer_is_written_in_place(rt: HostRuntime) -> Result<(), Fail> {
+    let mut buffer = Buffer::new(rt.alloc(), 4)?;
+    buffer.add(b"abc");
+    let octets = buffer.as_mut_slice();
+    assert!(rt; octets.len() == 3);
+    octets[1] = b'x';
+    assert!(rt; buffer.as_slice() == b"axc".as_slice() && buffer.room() == 4);
+    Ok(())
+}
+
+#[test]
+fn files_in_memory_fail_at_the_call(rt: HostRuntime) -> Result<(), Fail> {
+    let mut files = MemoryFiles::new();
+    let mut text = Vec::new(rt.alloc());
+    assert!(rt; files.read(rt.alloc(), "a", &mut text) == Err(FileFault::Failed));
+    files.insert(rt.alloc(), "a", Octets::copy_of(rt.alloc(), b"one")?)?;
+    assert!(rt; files.read(rt.alloc(), "a", &mut text).is_ok());
+    assert!(rt; text.as_slice() == b"one".as_slice());
+    files.fail_at(3);
+    assert!(rt; files.write(rt.alloc(), "b", b"two").is_ok());
+    assert!(rt; files.write(rt.alloc(), "b", b"three") == Err(FileFault::Failed));
+    assert!(rt; files.write(rt.alloc(), "c", b"four").is_ok());
+    assert!(rt; files.get("b") == Some(b"two".as_slice()));
+    assert!(rt; files.get("c") == Some(b"four".as_slice()));
+    assert!(rt; files.get("d").is_none());
+    Ok(())
+}
+
+#[test]
+fn the_machines_files(rt: HostRuntime) -> Result<(), Fail> {
+    let path = "s7_outer_scratch";
+    let mut files = StdFiles::new(rt.clone()?);
+    let mut text = Vec::new(rt.alloc());
+    let written = [b'7'; 5000];
+    assert!(rt;
+        files
+            .write(rt.alloc(), path, b"more than is left below")
+            .is_ok()
+    );
+    assert!(rt; files.write(rt.alloc(), path, &written).is_ok());
+    assert!(rt; files.read(rt.alloc(), path, &mut text).is_ok());
+    assert!(rt; text.as_slice() == written.as_slice());
+    fs::remove_file(&rt, path)?;
+
+    let mut text = Vec::new(rt.alloc());
+    assert!(rt; files.read(rt.alloc(), path, &mut text) == Err(FileFault::Failed));
+    assert!(rt; text.is_empty());
+    assert!(rt; files.read(rt.alloc(), ".", &mut text) == Err(FileFault::Failed));
+    assert!(rt; files.write(rt.alloc(), ".", b"x") == Err(FileFault::Failed));
+    Ok(())
+}
+
+#[test]
+fn a_dial_and_a_door_in_memory(rt: HostRuntime) -> Result<(), Fail> {
+    let mut dial = MemoryDial::new(Some(b'a'));
+    assert!(rt; matches!(dial.call("host", 102), Dialled::Link(b'a')));
+    assert!(rt; matches!(dial.call("host", 102), Dialled::Failed));
+    let mut door = MemoryDoor::new([b'a', b'b'].to_vec(rt.alloc())?, Some(1));
+    assert!(rt; door.listen(102).is_ok());
+    assert!(rt; matches!(door.next(), Arrival::Link(b'a')));
+    assert!(rt; matches!(door.next(), Arrival::Failed));
+    assert!(rt; matches!(door.next(), Arrival::Link(b'b')));
+    assert!(rt; matches!(door.next(), Arrival::End));
+    assert!(rt; matches!(door.next(), Arrival::End));
+    Ok(())
+}
+
+// The first port from here on that nobody hears is taken.
+const FIRST_PORT: u16 = 47102;
+
+#[test]
+fn a_real_connection(rt: HostRuntime) -> Result<(), Fail> {
+    let mut door = TcpDoor::new(rt.clone()?);
+    let mut dial = TcpDial::new(rt.clone()?);
+    assert!(rt; matches!(door.next(), Arrival::Failed));
+    let mut port = FIRST_PORT;
+    for other in FIRST_PORT + 1..FIRST_PORT + 20 {
+        if door.listen(port).is_ok() {
+            break;
+        }
+        port = other;
+    }
+    let Dialled::Link(mut client) = dial.call("127.0.0.1", port) else {
+        return Err(Fail::from("no link"));
+    };
+    let Arrival::Link(mut server) = door.next() else {
+        return Err(Fail::from("no arrival"));
+    };
+    let mut into = [0u8; 8];
+    assert!(rt; client.transmit(b"abc") == Sent::Bytes(3));
+    assert!(rt; server.receive(&mut into[..2]) == Got::Bytes(2) && into[1] == b'b');
+    assert!(rt; server.receive(&mut into) == Got::Bytes(1) && into[0] == b'c');
+    let Tick::At(before) = client.now() else {
+        return Err(Fail::from("no time"));
+    };
+    assert!(rt; client.receive(&mut into) == Got::NotYet);
+    let Tick::At(after) = client.now() else {
+        return Err(Fail::from("no time"));
+    };
+    assert!(rt; after.saturating_sub(before) >= 50);
+    assert!(rt; server.transmit(b"x") == Sent::Bytes(1));
+    assert!(rt; client.receive(&mut into) == Got::Bytes(1) && into[0] == b'x');
+    drop(server);
+    assert!(rt; client.receive(&mut into) == Got::End);
+    assert!(rt; client.receive(&mut into) == Got::End);
+    drop(door);
+    assert!(rt; matches!(dial.call("127.0.0.1", port), Dialled::Failed));
+    Ok(())
+}
+
+fn pass_shared<R: Wait, G: Gate + Sync>(rt: &R, gate: &G, link: u32, ordinal: u64) {
+    gate.pass(rt, link, ordinal);
+}
+
+#[test]
+fn a_gate_holds_until_the_other_came(rt: HostRuntime) -> Result<(), Fail> {
+    pass_shared(&rt, &OpenGate, 1, 0);
+    let gate = HoldGate::new(1, 2, 3);
+    pass_shared(&rt, &gate, 2, 0);
+    pass_shared(&rt, &gate, 1, 1);
+    assert!(rt; !gate.gave_up());
+    pass_shared(&rt, &gate, 1, 0);
+    assert!(rt; gate.gave_up());
+    let gate = HoldGate::new(1, 2, 3);
+    pass_shared(&rt, &gate, 2, 1);
+    pass_shared(&rt, &gate, 1, 0);
+    assert!(rt; !gate.gave_up());
+    Ok(())
+}
+
+#[test]
+fn pipes_move_what_fits(rt: HostRuntime) -> Result<(), Fail> {
+    let mut pipes = Pipes::new(rt.alloc(), 4, 7)?;
+    let mut into = [0u8; 8];
+    let mut client = PipeEnd {
+        pipes: &mut pipes,
+        side: Side::Client,
+    };
+    assert!(rt; client.receive(&mut into) == Got::NotYet);
+    assert!(rt; client.transmit(b"abc") == Sent::Bytes(3));
+    assert!(rt; client.now() == Tick::At(7));
+    let mut server = PipeEnd {
+        pipes: &mut pipes,
+        side: Side::Server,
+    };
+    let mut two = [0u8; 2];
+    assert!(rt; server.receive(&mut two) == Got::Bytes(2) && two[1] == b'b');
+    let mut client = PipeEnd {
+        pipes: &mut pipes,
+        side: Side::Client,
+    };
+    // The room is used across its end.
+    assert!(rt; client.transmit(b"defg") == Sent::Bytes(3));
+    assert!(rt; client.transmit(b"g") == Sent::NotYet);
+    assert!(rt; pipes.held(Side::Server) == 4 && pipes.held(Side::Client) == 0);
+    let mut server = PipeEnd {
+        pipes: &mut pipes,
+        side: Side::Server,
+    };
+    assert!(rt; server.receive(&mut into) == Got::Bytes(4) && into[0] == b'c' && into[3] == b'f');
+    assert!(rt; pipes.held(Side::Server) == 0);
     Ok(())
 }

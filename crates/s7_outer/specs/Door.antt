@@ -1,0 +1,16 @@
+-- What a door gives.
+use Rattle.std.specs.Prelude.{◌≡◌, ℕ, ◌≤◌, List, [], ◌∷◌, Option, Some, None}
+use Rattle.s7_outer.specs.declared.door.Arrival.{Arrival}
+use Rattle.s7_outer.specs.declared.door.Arrival.TheVariants as arrival
+
+-- where the links to come are told, the first of them comes, `End` only after the last, and a
+-- failure takes none
+abbrev pub GivesNext : {L : Type 0} → Option (List L) → Option (List L) → Arrival L → Type 0
+GivesNext None new answer = new ≡ None
+GivesNext (Some links) new (arrival.Link link) = (rest : List _) × (links ≡ link ∷ rest) × (new ≡ Some rest)
+GivesNext (Some links) new arrival.End = (links ≡ []) × (new ≡ Some [])
+GivesNext (Some links) new arrival.Failed = new ≡ Some links
+
+-- no count of a port fell
+abbrev pub NoPortFell : (ℕ → ℕ) → (ℕ → ℕ) → Type 0
+NoPortFell old new = (port : ℕ) → old port ≤ new port

@@ -1,0 +1,10 @@
+-- What a door shows to contracts.
+use Rattle.std.specs.Prelude.{ℕ, List, Option}
+
+pub record DoorShown (L : Type 0) : Type 0 where
+  -- the links still to come, where the door tells them
+  pub coming : Option (List L)
+  -- the port of the last `listen`, and 0 before the first
+  pub heard : ℕ
+  -- how often a call for a port has failed
+  pub faults : ℕ → ℕ

@@ -1,0 +1,27 @@
+// A dial: it calls a host and gives a link.
+ghost use Rattle.std.specs.Prelude.{◌≡◌, ◌≤◌};
+ghost use Rattle.s7_outer.specs.Count.{Rose};
+ghost use Rattle.s7_outer.specs.DialShown.{DialShown};
+ghost use Rattle.s7_outer.specs.Dial.{GivesTold, NoHostFell};
+
+/// What a call gives.
+#[derive(Drop)]
+pub enum Dialled<L> {
+    /// A link to the host.
+    Link(L),
+    /// The call failed.
+    Failed,
+}
+
+/// Calls a host by its name or address. What it tells, and its counts, stand in `shows`.
+pub trait Dial<L> {
+    /// What the dial shows to contracts. No count in it ever falls.
+    ghost shows: { Self → DialShown L };
+
+    /// A link to the host's port. `Failed` comes only where the count of this host and port rose
+    /// in this call.
+    fn call(&mut self, host: &str, port: u16) -> Dialled<L>
+        ensures gives { GivesTold ((shows self.old).next host.now port) result }
+        ensures failed { result ≡ Dialled.Failed → Rose ((shows self.old).faults host.now port) ((shows self.new).faults host.now port) }
+        ensures faults { NoHostFell (shows self.old).faults (shows self.new).faults };
+}

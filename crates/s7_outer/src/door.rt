@@ -1,0 +1,42 @@
+// A door: links come in by it.
+ghost use Rattle.std.specs.Prelude.{◌≡◌, ◌≤◌, OnErr};
+ghost use Rattle.s7_outer.specs.Count.{Rose};
+ghost use Rattle.s7_outer.specs.DoorShown.{DoorShown};
+ghost use Rattle.s7_outer.specs.Door.{GivesNext, NoPortFell};
+
+/// What a door gives.
+#[derive(Drop)]
+pub enum Arrival<L> {
+    /// The next link.
+    Link(L),
+    /// No link is left, and none will come.
+    End,
+    /// The door failed.
+    Failed,
+}
+
+/// The door can't be opened.
+#[derive(Clone, Copy, Debug, PartialEq, Eq)]
+pub struct DoorFailed;
+
+/// Where links come in. What it tells of them, and its counts, stand in `shows`.
+pub trait Door<L> {
+    /// What the door shows to contracts. No count in it ever falls.
+    ghost shows: { Self → DoorShown L };
+
+    /// Hears this port from now on, also after `DoorFailed`, which comes only where the port's
+    /// count rose in this call. The links to come stay.
+    fn listen(&mut self, port: u16) -> Result<(), DoorFailed>
+        ensures heard { (shows self.new).heard ≡ port }
+        ensures coming { (shows self.new).coming ≡ (shows self.old).coming }
+        ensures failed { OnErr result (Rose ((shows self.old).faults port) ((shows self.new).faults port)) }
+        ensures faults { NoPortFell (shows self.old).faults (shows self.new).faults };
+
+    /// The next link. `End` comes only where none is left, and `Failed`, which takes no link, only
+    /// where the count of the port that is heard rose in this call.
+    fn next(&mut self) -> Arrival<L>
+        ensures gives { GivesNext (shows self.old).coming (shows self.new).coming result }
+        ensures heard { (shows self.new).heard ≡ (shows self.old).heard }
+        ensures failed { result ≡ Arrival.Failed → Rose ((shows self.old).faults (shows self.old).heard) ((shows self.new).faults (shows self.old).heard) }
+        ensures faults { NoPortFell (shows self.old).faults (shows self.new).faults };
+}

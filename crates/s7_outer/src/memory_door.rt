@@ -1,0 +1,77 @@
+// A door in memory.
+ghost use Rattle.std.specs.Prelude.{◌≡◌, ◌≤◌, ◌↔◌, Some, IsTrue};
+ghost use Rattle.s7_outer.specs.Count.{Rose};
+
+use crate::count::raise;
+use crate::{Arrival, Door, DoorFailed};
+use std::alloc::Global;
+use std::vec::IntoIter;
+
+/// Gives its links in order and then `End`. The call of a chosen place fails and takes no link.
+/// Its `listen` succeeds.
+#[derive(Drop)]
+pub struct MemoryDoor<L> {
+    links: IntoIter<L, Global>,
+    place: usize,
+    fail_at: Option<usize>,
+    port: u16,
+    faults: u64,
+}
+
+impl<L: Drop> MemoryDoor<L> {
+    ghost use Rattle.s7_outer.specs.MemoryDoor.{door_of, unused_door, failing_place, place_of};
+
+    /// A door with these links. Where `fail_at` is given, the call of `next` of that number fails,
+    /// counted from 0.
+    pub fn new(links: Vec<L>, fail_at: Option<usize>) -> MemoryDoor<L>
+        ensures shown { door_of result ≡ unused_door links.items }
+        ensures failing { failing_place result ≡ fail_at }
+        ensures place { place_of result ≡ 0 }
+    {
+        MemoryDoor {
+            links: links.into_iter(),
+            place: 0,
+            fail_at,
+            port: 0,
+            faults: 0,
+        }
+    }
+
+    // Counts a call, and says whether it has to fail.
+    fn fails(&mut self) -> bool
+        ensures fails { IsTrue result ↔ (failing_place self.old ≡ Some (place_of self.old)) }
+        ensures failing { failing_place self.new ≡ failing_place self.old }
+        ensures rose { IsTrue result → Rose self.old.faults self.new.faults }
+        ensures faults { self.old.faults ≤ self.new.faults }
+        ensures links { self.new.links ≡ self.old.links }
+        ensures port { self.new.port ≡ self.old.port }
+    {
+        let fails = self.fail_at == Some(self.place);
+        self.place = self.place.saturating_add(1);
+        if fails {
+            raise(&mut self.faults);
+        }
+        fails
+    }
+}
+
+impl<L: Drop> Door<L> for MemoryDoor<L> {
+    ghost use Rattle.s7_outer.specs.MemoryDoor.{door_of};
+
+    ghost shows = { door_of };
+
+    fn listen(&mut self, port: u16) -> Result<(), DoorFailed> {
+        self.port = port;
+        Ok(())
+    }
+
+    fn next(&mut self) -> Arrival<L> {
+        if self.fails() {
+            return Arrival::Failed;
+        }
+        match self.links.next() {
+            Some(link) => Arrival::Link(link),
+            None => Arrival::End,
+        }
+    }
+}

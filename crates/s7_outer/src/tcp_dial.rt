@@ -1,0 +1,54 @@
+// A dial over TCP.
+ghost use Rattle.std.specs.Prelude.{None};
+
+use crate::count::raise;
+use crate::{Dial, Dialled, RealLink};
+use std::io;
+use std::io::Input;
+use std::net::{Net, TcpStream};
+use std::rt::Clock as SystemClock;
+use std::time::Duration;
+
+// A receive on a dialled stream waits no longer.
+const WAIT_MILLISECONDS: u64 = 100;
+
+/// Calls any host over TCP. It tells no links. A receive on a link that it gives answers `NotYet`
+/// after 100 milliseconds without an octet.
+#[derive(Drop)]
+pub struct TcpDial<R> {
+    rt: R,
+    faults: u64,
+}
+
+impl<R: Net<Stream = TcpStream> + Drop> TcpDial<R> {
+    /// A dial over this runtime.
+    pub fn new(rt: R) -> TcpDial<R> {
+        TcpDial { rt, faults: 0 }
+    }
+}
+
+impl<R> Dial<RealLink<R>> for TcpDial<R>
+where
+    R: Net<Stream = TcpStream> + Input + Print + SystemClock + Clone + Drop,
+{
+    ghost shows = { λ d. record { next = λ _ _. None; faults = λ _ _. d.faults } };
+
+    fn call(&mut self, host: &str, port: u16) -> Dialled<RealLink<R>> {
+        match connect(&self.rt, host, port) {
+            Ok(link) => Dialled::Link(link),
+            Err(_) => {
+                raise(&mut self.faults);
+                Dialled::Failed
+            }
+        }
+    }
+}
+
+fn connect<R>(rt: &R, host: &str, port: u16) -> io::Result<RealLink<R>>
+where
+    R: Net<Stream = TcpStream> + Input + Print + SystemClock + Clone + Drop,
+{
+    let stream = TcpStream::connect(rt, (host, port))?;
+    stream.set_read_timeout(Some(Duration::from_millis(WAIT_MILLISECONDS)))?;
+    RealLink::stream(rt.clone()?, stream)
+}
