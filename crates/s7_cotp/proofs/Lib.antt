@@ -1,0 +1,9 @@
+pub mod ReadLemmas
+pub mod WriteLemmas
+pub mod MessageLemmas
+pub mod StepLemmas
+pub mod JoinLemmas
+pub mod CutLemmas
+pub mod ParameterLemmas
+pub mod SpellLemmas
+pub mod RoundLemmas

@@ -1,0 +1,82 @@
+-- The TPDUs of ISO 8073, class 0: which octets say what.
+use Rattle.std.specs.Prelude.{◌≡◌, ℕ, ◌+◌, ◌≤◌, Bool, ◌==◌, nat_le, if◌then◌else◌, List, [], ◌∷◌, ◌++◌, length}
+use Rattle.std.specs.List.{flat_map, AllByRecursion}
+use Rattle.s7_outer.specs.Numbers.{number_of_two}
+use Rattle.s7_cotp.specs.Told.{ConnectionTold, Told, connect, confirm, fragment, disconnect, reject}
+
+-- A parameter of the variable part (13.2.3).
+pub record Parameter : Type 0 where
+  pub code : ℕ
+  pub value : List ℕ
+
+-- its code, the length of its value, and its value
+abbrev pub parameter_octets : Parameter → List ℕ
+parameter_octets p = p.code ∷ length p.value ∷ p.value
+
+-- The TPDU size, C0, is one octet from 07 to 0D; 0C and 0D are taken in class 0 too.
+abbrev pub IsSize : List ℕ → Type 0
+IsSize value = (n : ℕ) × (value ≡ n ∷ []) × (7 ≤ n) × (n ≤ 13)
+
+-- A TSAP, calling C1 or called C2, has 1 to 16 octets.
+abbrev pub IsTsap : List ℕ → Type 0
+IsTsap value = (1 ≤ length value) × (length value ≤ 16)
+
+-- Any other parameter is passed over.
+pub record IsGood (p : Parameter) : Type 0 where
+  pub size : p.code ≡ 0xC0 → IsSize p.value
+  pub calling : p.code ≡ 0xC1 → IsTsap p.value
+  pub called : p.code ≡ 0xC2 → IsTsap p.value
+
+-- the value of the last parameter with a code, where there is one
+abbrev pub last_value : ℕ → List ℕ → List Parameter → List ℕ
+last_value code otherwise [] = otherwise
+last_value code otherwise (p ∷ ps) = last_value code (if p.code == code then p.value else otherwise) ps
+
+-- A connection request or confirm (13.3 and 13.4): the length octet counts what follows it in the header, and
+-- a size that isn't said counts as 0A, 1,024 octets. What stands behind the header is passed over.
+pub record SpellsConnection (code : ℕ) (octets : List ℕ) (c : ConnectionTold) : Type 0 where
+  pub dst_high : ℕ
+  pub dst_low : ℕ
+  pub src_high : ℕ
+  pub src_low : ℕ
+  pub parameters : List Parameter
+  pub behind : List ℕ
+  pub spelled : octets ≡ (length (flat_map parameter_octets parameters) + 6) ∷ code ∷ dst_high ∷ dst_low ∷ src_high ∷ src_low ∷ c.class ∷ flat_map parameter_octets parameters ++ behind
+  pub good : AllByRecursion IsGood parameters
+  pub dst_ref : c.dst_ref ≡ number_of_two dst_high dst_low
+  pub src_ref : c.src_ref ≡ number_of_two src_high src_low
+  pub size_code : c.size_code ∷ [] ≡ last_value 0xC0 (0x0A ∷ []) parameters
+  pub calling : c.calling ≡ last_value 0xC1 [] parameters
+  pub called : c.called ≡ last_value 0xC2 [] parameters
+
+-- A fragment (13.7): of its third octet the high bit is the end bit, and no other is read.
+pub record SpellsFragment (octets : List ℕ) (last : Bool) (user : List ℕ) : Type 0 where
+  pub end : ℕ
+  pub spelled : octets ≡ 2 ∷ 0xF0 ∷ end ∷ user
+  pub bit : last ≡ nat_le 0x80 end
+
+-- A disconnect request (13.5): what follows its reason is passed over.
+pub record SpellsDisconnect (octets : List ℕ) (reason : ℕ) : Type 0 where
+  pub dst_high : ℕ
+  pub dst_low : ℕ
+  pub src_high : ℕ
+  pub src_low : ℕ
+  pub more : List ℕ
+  pub behind : List ℕ
+  pub spelled : octets ≡ (length more + 6) ∷ 0x80 ∷ dst_high ∷ dst_low ∷ src_high ∷ src_low ∷ reason ∷ more ++ behind
+
+-- An error (13.12): what follows its cause is passed over.
+pub record SpellsReject (octets : List ℕ) (cause : ℕ) : Type 0 where
+  pub dst_high : ℕ
+  pub dst_low : ℕ
+  pub more : List ℕ
+  pub behind : List ℕ
+  pub spelled : octets ≡ (length more + 4) ∷ 0x70 ∷ dst_high ∷ dst_low ∷ cause ∷ more ++ behind
+
+-- the octets are a TPDU that says this
+abbrev pub SpellsTpdu : List ℕ → Told → Type 0
+SpellsTpdu octets (connect c) = SpellsConnection 0xE0 octets c
+SpellsTpdu octets (confirm c) = SpellsConnection 0xD0 octets c
+SpellsTpdu octets (fragment last user) = SpellsFragment octets last user
+SpellsTpdu octets (disconnect reason) = SpellsDisconnect octets reason
+SpellsTpdu octets (reject cause) = SpellsReject octets cause

@@ -1,0 +1,23 @@
+//! Messages cut into fragments.
+
+ghost use Rattle.std.specs.Prelude.{◌≡◌, ◌-◌, ◌≤◌};
+ghost use Rattle.std.specs.List.{AllByRecursion};
+ghost use Rattle.s7_cotp.specs.Pairs.{pairs_of, IsCut, IsPart};
+
+use crate::pairs::Fragments;
+
+/// The header octets of a DT.
+const HEADER: usize = 3;
+
+/// The fragments of a message of `len` octets in TPDUs of at most `tpdu` octets, from 128 to 8,192. Each has
+/// `tpdu - 3` octets but the last, which has no more; a message of no octets has one fragment.
+#[tactic(auto, unfolding(crate::specs::Pairs::pairs_of))]
+pub fn fragments(len: usize, tpdu: usize) -> Fragments
+    requires least { 128 ≤ tpdu }
+    requires most { tpdu ≤ 8192 }
+    ensures pairs { result ≡ pairs_of len tpdu }
+    ensures cut { IsCut (tpdu - 3) 0 len result }
+    ensures parts { AllByRecursion (IsPart (tpdu - 3) len) result }
+{
+    Fragments::of(len, tpdu - HEADER)
+}

@@ -1,0 +1,156 @@
+//! Fragments joined to messages.
+
+ghost use Rattle.std.specs.Prelude.{◌≤◌, ◌≡◌, ◌<◌, ◌++◌, ◌∷◌, [], ℕ, List, length, true, IfOk, if◌then◌else◌, nat_lt};
+ghost use Rattle.s7_cotp.specs.Gathered.{empty, is_fault, is_whole};
+ghost use Rattle.s7_cotp.specs.Messages.{Fragment, joined_with, answer_of, with_fragment, HoldsRest, GoesOn, EndsMessage};
+
+use s7_outer::{Buffer, Memory};
+use std::alloc::Global;
+use std::marker::Model;
+
+/// How many fragments a message has at most.
+const MOST_FRAGMENTS: usize = 64;
+
+/// What a joiner answers.
+#[derive(Clone, Copy, Debug, PartialEq, Eq)]
+pub enum Joined {
+    /// A message is whole.
+    Whole,
+    /// A message has begun, and its last fragment has not come.
+    More,
+    /// The message has more than 64 fragments.
+    TooManyFragments,
+    /// The message has more octets than the limit.
+    TooLong,
+}
+
+/// Joins fragments to messages (ISO 8073, 13.7: the user data up to a DT with the end bit is one message, a
+/// TSDU). Its whole buffer is taken when it is made.
+#[derive(Drop)]
+pub struct Joiner {
+    buffer: Buffer,
+    count: usize,
+    state: Joined,
+}
+
+impl Model for Joiner {
+    ghost use Rattle.std.specs.Prelude.{◌≡◌, ◌≤◌, ℕ};
+    ghost use Rattle.s7_cotp.specs.Gathered.{Gathered};
+
+    ghost Value = { Gathered };
+
+    ghost use Rattle.s7_cotp.specs.declared.joining.Joined.TheVariants.{Whole};
+
+    ghost view = { λ j. record { octets = j.buffer.octets; count = j.count; state = j.state; limit = j.buffer.room } };
+
+    ghost invariant = { λ j. (j.count ≤ 64) × (j.state ≡ Whole → j.count ≡ 0) };
+}
+
+impl Joiner {
+    /// A joiner of messages of at most `limit` octets, which has no fragment yet. `Memory` comes where there
+    /// is none for the buffer.
+    pub fn new(alloc: Global, limit: usize) -> Result<Joiner, Memory>
+        ensures empty { IfOk result (λ j. j ≡ empty limit) }
+        ensures holds { IfOk result (λ j. HoldsRest [] j) }
+    {
+        Ok(Joiner {
+            buffer: Buffer::new(alloc, limit)?,
+            count: 0,
+            state: Joined::More,
+        })
+    }
+
+    /// Adds a fragment to the message, or begins the next one where the message is whole.
+    ///
+    /// `TooManyFragments` comes at the 65th fragment of a message, else `TooLong` where the message passes the
+    /// limit. Both add nothing, and stay: each later call answers the same and changes nothing.
+    pub fn add(&mut self, user: &[u8], last: bool) -> Joined
+        ensures answer { result ≡ self.new.state }
+        ensures value { self.new ≡ with_fragment self.old (record { last = last; user = user.now }) }
+
+        // Whatever fragments came before, their messages and the rest go on so.
+        ensures holds { (fs : List Fragment) → HoldsRest fs self.old
+            → HoldsRest (fs ++ record { last = last; user = user.now } ∷ []) self.new }
+        ensures goes_on { (fs : List Fragment) → HoldsRest fs self.old → result ≡ Joined.More
+            → GoesOn self.old.limit fs (record { last = last; user = user.now } ∷ []) }
+        ensures ends_message { (fs : List Fragment) → HoldsRest fs self.old → result ≡ Joined.Whole
+            → EndsMessage self.old.limit fs (record { last = last; user = user.now }) self.new.octets }
+
+        // Behind a fault no message ends, whatever comes.
+        ensures fault { (fs more : List Fragment) → HoldsRest fs self.old → is_fault result ≡ true
+            → GoesOn self.old.limit fs (record { last = last; user = user.now } ∷ more) }
+        ensures stays { is_fault self.old.state ≡ true → (result ≡ self.old.state) × (self.new ≡ self.old) }
+    {
+        self.take(user, last)
+    }
+
+    /// The message, which is whole.
+    pub fn message(&self) -> &[u8]
+        requires { self.now.state ≡ Joined.Whole }
+        ensures { result.now ≡ self.now.octets }
+    {
+        self.buffer.as_slice()
+    }
+
+    /// How many octets are held of a message that isn't whole: 0 where it is. After a fault they are those from
+    /// before it.
+    pub fn held(&self) -> usize
+        ensures held { result ≡ (if is_whole self.now.state then 0 else length self.now.octets) }
+        ensures most { result ≤ self.now.limit }
+    {
+        match self.state {
+            Joined::Whole => 0,
+            _ => self.buffer.as_slice().len(),
+        }
+    }
+
+    /// Whether fragments are held of a message that isn't whole, be they without octets. After a fault they are
+    /// those from before it.
+    pub fn is_open(&self) -> bool
+        ensures { result ≡ nat_lt 0 self.now.count }
+    {
+        self.count > 0
+    }
+
+    // Takes a fragment, or a fault.
+    fn take(&mut self, user: &[u8], last: bool) -> Joined
+        ensures answer { result ≡ self.new.state }
+        ensures value { self.new ≡ with_fragment self.old (record { last = last; user = user.now }) }
+    {
+        if self.state == Joined::TooManyFragments || self.state == Joined::TooLong {
+            return self.state;
+        }
+        if self.state == Joined::Whole {
+            self.buffer.clear();
+        }
+        self.state = self.judge(user, last);
+        match self.state {
+            Joined::Whole => {
+                self.buffer.add(user);
+                self.count = 0;
+            }
+            Joined::More => {
+                self.buffer.add(user);
+                self.count += 1;
+            }
+            Joined::TooManyFragments | Joined::TooLong => {}
+        }
+        self.state
+    }
+
+    // What a joiner that is at no fault answers to a fragment.
+    fn judge(&self, user: &[u8], last: bool) -> Joined
+        ensures { result ≡ answer_of (joined_with self.now.limit self.now.octets self.now.count (record { last = last; user = user.now })) }
+    {
+        let held = self.buffer.as_slice().len();
+        if self.count >= MOST_FRAGMENTS {
+            Joined::TooManyFragments
+        } else if user.len() > self.buffer.room() - held {
+            Joined::TooLong
+        } else if last {
+            Joined::Whole
+        } else {
+            Joined::More
+        }
+    }
+}
