@@ -1,0 +1,59 @@
+-- The parameters that negotiate a link's PDU and parallel jobs, as in the Snap7 1.4 sources
+-- (s7_types.h, TReqFunNegotiateParams): F0, an octet, jobs calling, jobs called, PDU length.
+use Rattle.std.specs.Prelude.{◌≡◌, ℕ, ◌^◌, ◌<◌, ◌≤◌, Bool, ◌==◌, ◌&&◌, nat_lt, if◌then◌else◌, min, max, List, ◌∷◌, ◌++◌, length, slice_index, Result, Ok, Err}
+use Rattle.s7_outer.specs.Numbers.{two_octets}
+use Rattle.s7_header.specs.Octets.{number_at}
+use Rattle.s7_header.specs.declared.negotiation.Negotiation.{Negotiation}
+use Rattle.s7_header.specs.declared.negotiation.TheConstants.{LEAST_PDU, MOST_PDU, MOST_JOBS}
+use Rattle.s7_header.specs.declared.faults.BadParams.{BadParams}
+use Rattle.s7_header.specs.declared.faults.TooSmall.{TooSmall}
+
+-- the octets of a negotiation, with any octet in the place that is passed over
+abbrev pub negotiation_octets : ℕ → Negotiation → List ℕ
+negotiation_octets passed n = 0xF0 ∷ passed ∷ (two_octets n.calling ++ two_octets n.called ++ two_octets n.pdu)
+
+-- the octets that are written
+abbrev pub negotiation_spelling : Negotiation → List ℕ
+negotiation_spelling n = negotiation_octets 0 n
+
+-- the fields are numbers of two octets
+pub record IsNegotiation (n : Negotiation) : Type 0 where
+  pub calling : n.calling < 2 ^ 16
+  pub called : n.called < 2 ^ 16
+  pub pdu : n.pdu < 2 ^ 16
+
+-- the parameters are the negotiation's, whatever is passed over
+pub record SpellsNegotiation (params : List ℕ) (n : Negotiation) : Type 0 where
+  pub passed : ℕ
+  pub octets : params ≡ negotiation_octets passed n
+  pub is_negotiation : IsNegotiation n
+
+-- whether the parameters have the form
+abbrev pub negotiates : List ℕ → Bool
+negotiates params = (length params == 8) && (slice_index params 0 == 0xF0)
+
+-- the fields from their places
+abbrev pub asked_of : List ℕ → Negotiation
+asked_of params = record { calling = number_at params 2; called = number_at params 4; pdu = number_at params 6 }
+
+-- the negotiation that the parameters spell
+unfoldable pub negotiation_of : List ℕ → Result Negotiation BadParams
+negotiation_of params = if negotiates params then Ok (asked_of params) else Err (record {})
+
+-- how many jobs are granted
+abbrev pub jobs_granted : ℕ → ℕ
+jobs_granted asked = max 1 (min asked MOST_JOBS)
+
+-- what every grant keeps to
+pub record IsGrant (n : Negotiation) : Type 0 where
+  pub pdu_least : LEAST_PDU ≤ n.pdu
+  pub pdu_most : n.pdu ≤ MOST_PDU
+  pub calling_least : 1 ≤ n.calling
+  pub calling_most : n.calling ≤ MOST_JOBS
+  pub called_least : 1 ≤ n.called
+  pub called_most : n.called ≤ MOST_JOBS
+
+-- what is granted
+abbrev pub granted : Negotiation → Result Negotiation TooSmall
+granted asked =
+    if nat_lt asked.pdu LEAST_PDU then Err (record {}) else Ok (record { calling = jobs_granted asked.calling; called = jobs_granted asked.called; pdu = min asked.pdu MOST_PDU })
