@@ -1,0 +1,6 @@
+pub mod Gives
+pub mod Word
+pub mod Item
+pub mod Params
+pub mod DataItem
+pub mod Sizes

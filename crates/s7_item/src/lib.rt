@@ -1,0 +1,29 @@
+//! Items and data items of read and write telegrams: the table of words, lists of at most twenty
+//! items, and how items and their octets are written, read and counted.
+#![tactic(auto)]
+
+mod item;
+mod items;
+mod laws;
+mod numbers;
+mod params;
+mod places;
+mod read_data;
+mod sizes;
+mod word;
+mod write_data;
+
+pub use item::Item;
+pub use items::{Items, MOST_ITEMS};
+pub use laws::{
+    data_items_are_exact, data_items_read_back, items_are_exact, items_read_back, sizes_are_lengths,
+};
+pub use params::{ItemFault, read_items, write_items};
+pub use places::{DataItems, DataPlace};
+pub use read_data::{DataFault, read_data_items};
+pub use sizes::{answer_size, request_size};
+pub use word::{size_of, transport_of};
+pub use write_data::write_data_item;
+
+#[cfg(test)]
+mod tests;

@@ -1,0 +1,104 @@
+// Reading data items.
+ghost use Rattle.std.specs.Prelude.{◌≡◌, ◌+◌, ◌≤◌, length, drop, All, OnOk, IfOk};
+ghost use Rattle.s7_item.specs.Gives.{Gives};
+ghost use Rattle.s7_item.specs.DataItem.{octets_meant, padding_of, place_in, span_of, data_places_of};
+
+use crate::word::{counts_bits, is_transport};
+use crate::{DataItems, DataPlace};
+
+/// Why octets can't be read as data items.
+#[derive(Clone, Copy, Debug, PartialEq, Eq)]
+pub enum DataFault {
+    /// A transport size isn't 03, 04, 05, 07 or 09.
+    Transport,
+    /// The octets end before the data items do.
+    Short,
+    /// Octets are left after the last data item.
+    Rest,
+}
+
+/// Finds the octets of `n` data items, at most twenty: code, transport size, length (2), octets,
+/// and a padding octet after an odd number of octets where another item follows. A length counts
+/// bits, rounded up to whole octets, for the transport sizes 03, 04 and 05, and octets for 07 and
+/// 09. Codes and padding octets are passed over. The first refusal in order of the octets counts:
+/// `Transport` where a transport size is none of these, `Short` where the octets end early, `Rest`
+/// where some are left over. What `into` held before is gone; after a refusal it is empty.
+#[tactic(auto, unfolding(crate::specs::DataItem::data_places_of))]
+pub fn read_data_items(octets: &[u8], n: usize, into: &mut DataItems) -> Result<(), DataFault>
+    requires { n ≤ 20 }
+    ensures read { Gives (data_places_of n octets.now) result into.new }
+    ensures many { OnOk result (length into.new ≡ n) }
+    ensures inside { OnOk result
+        (All (λ place. place.from + place.len ≤ length octets.now) into.new) }
+{
+    into.clear();
+    let mut at = 0;
+    for k in 0..n {
+        let last = k + 1 == n;
+        match read_place(octets, at, last) {
+            Ok(place) => {
+                at = place.from + place.len + padding_of(place.len, last);
+                into.push(place);
+            }
+            Err(fault) => {
+                into.clear();
+                return Err(fault);
+            }
+        }
+    }
+    if at < octets.len() {
+        into.clear();
+        return Err(DataFault::Rest);
+    }
+    Ok(())
+}
+
+// The place of the octets of the data item that begins at `at`, the last one or not.
+fn read_place(octets: &[u8], at: usize, last: bool) -> Result<DataPlace, DataFault>
+    requires { at ≤ length octets.now }
+    ensures place { result ≡ place_in at last (drop at octets.now) }
+    ensures from { IfOk result (λ place. place.from ≡ at + 4) }
+    ensures fits { IfOk result (λ place. at + span_of place last ≤ length octets.now) }
+{
+    let rest = &octets[at..];
+    if rest.len() < 2 {
+        return Err(DataFault::Short);
+    }
+    let transport = rest[1];
+    if !is_transport(transport) {
+        return Err(DataFault::Transport);
+    }
+    if rest.len() < 4 {
+        return Err(DataFault::Short);
+    }
+    let len = octets_meant(transport, u16::from_be_bytes([rest[2], rest[3]]));
+    if rest.len() < 4 + len + padding_of(len, last) {
+        return Err(DataFault::Short);
+    }
+    Ok(DataPlace {
+        transport,
+        from: at + 4,
+        len,
+    })
+}
+
+// How many octets a stated length means.
+fn octets_meant(transport: u8, stated: u16) -> usize
+    ensures meant { result ≡ octets_meant transport stated }
+    ensures most { result ≤ 65535 }
+{
+    let stated = usize::from(stated);
+    if counts_bits(transport) {
+        stated.div_ceil(8)
+    } else {
+        stated
+    }
+}
+
+// How many octets pad the octets of a data item, the last one or not.
+pub(crate) fn padding_of(len: usize, last: bool) -> usize
+    ensures padding { result ≡ padding_of len last }
+    ensures most { result ≤ 1 }
+{
+    if last { 0 } else { len % 2 }
+}

@@ -1,0 +1,52 @@
+// The table of words.
+ghost use Rattle.std.specs.Prelude.{◌≡◌, ◌≤◌, IfSome};
+ghost use Rattle.s7_item.specs.Word.{size_of, transport_of, is_transport, counts_bits};
+
+/// How many octets an element of this word has: 1 for bits (01), bytes (02) and characters (03),
+/// 2 for words (04), integers (05), counters (1C) and timers (1D), 4 for double words (06), double
+/// integers (07) and reals (08). `None` for every other word.
+#[tactic(auto, unfolding(crate::specs::Word::size_of))]
+pub fn size_of(word: u8) -> Option<u16>
+    ensures size { result ≡ size_of word }
+    ensures most { IfSome result (λ size. size ≤ 4) }
+{
+    match word {
+        0x01 | 0x02 | 0x03 => Some(1),
+        0x04 | 0x05 | 0x1C | 0x1D => Some(2),
+        0x06 | 0x07 | 0x08 => Some(4),
+        _ => None,
+    }
+}
+
+/// The transport size that a data item of this word is sent with: 03 for bits, 04 for bytes, words
+/// and double words, 05 for integers and double integers, 07 for reals, 09 for characters, counters
+/// and timers. 00 for a word that `size_of` doesn't know.
+#[tactic(auto, unfolding(crate::specs::Word::transport_of))]
+pub fn transport_of(word: u8) -> u8
+    ensures { result ≡ transport_of word }
+{
+    match word {
+        0x01 => 0x03,
+        0x02 | 0x04 | 0x06 => 0x04,
+        0x05 | 0x07 => 0x05,
+        0x08 => 0x07,
+        0x03 | 0x1C | 0x1D => 0x09,
+        _ => 0x00,
+    }
+}
+
+/// A data item may have this transport size.
+#[tactic(auto, unfolding(crate::specs::Word::is_transport))]
+pub(crate) fn is_transport(transport: u8) -> bool
+    ensures { result ≡ is_transport transport }
+{
+    matches!(transport, 0x03 | 0x04 | 0x05 | 0x07 | 0x09)
+}
+
+/// The stated length of a data item with this transport size counts bits.
+#[tactic(auto, unfolding(crate::specs::Word::counts_bits))]
+pub(crate) fn counts_bits(transport: u8) -> bool
+    ensures { result ≡ counts_bits transport }
+{
+    matches!(transport, 0x03 | 0x04 | 0x05)
+}

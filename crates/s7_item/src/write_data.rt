@@ -1,0 +1,77 @@
+// Writing data items.
+ghost use Rattle.std.specs.Prelude.{◌≡◌, ◌<◌, ◌≤◌, ◌++◌, length, drop, IsTrue, IsSome};
+ghost use Rattle.s7_item.specs.Word.{size_of, transport_of};
+ghost use Rattle.s7_item.specs.DataItem.{head_octets, carries, stated_length, data_item_octets};
+
+use crate::numbers::two_octets;
+use crate::read_data::padding_of;
+use crate::transport_of;
+use crate::word::counts_bits;
+
+/// The code of an item that was read or written.
+const GOOD: u8 = 0xFF;
+
+/// The code that stands in the data items of a write request.
+const REQUESTED: u8 = 0x00;
+
+/// The transport size of bits.
+const BITS: u8 = 0x03;
+
+/// Writes a data item. With code FF (an answer) or 00 (a write request) it is code, the word's
+/// transport size, length (2), the octets, and one octet 00 where their number is odd and the item
+/// isn't the last. The length is 1 for one octet of bits (01); else it counts bits, eight for each
+/// octet, for the transport sizes 03, 04 and 05, and octets for 07 and 09. With every other code,
+/// which refuses the item, it is the code and `00 00 00`. Needs room and, where octets are written,
+/// a word that `size_of` knows and a length below 2^16. The result is the number of octets written.
+pub fn write_data_item(code: u8, word: u8, octets: &[u8], last: bool, into: &mut [u8]) -> usize
+    requires known { IsTrue (carries code) → IsSome (size_of word) }
+    requires fits { IsTrue (carries code)
+        → stated_length (transport_of word) (length octets.now) < 65536 }
+    requires room { length (data_item_octets code word octets.now last) ≤ length into.old }
+    ensures len { result ≡ length (data_item_octets code word octets.now last) }
+    ensures written { into.new ≡ data_item_octets code word octets.now last ++ drop result into.old }
+{
+    if !carries(code) {
+        into[..4].copy_from_slice(&[code, 0x00, 0x00, 0x00]);
+        return 4;
+    }
+    into[..4].copy_from_slice(&head(code, word, octets.len()));
+    let end = 4 + octets.len();
+    into[4..end].copy_from_slice(octets);
+    if padding_of(octets.len(), last) == 0 {
+        return end;
+    }
+    into[end] = 0x00;
+    end + 1
+}
+
+// The octets before those of the item.
+fn head(code: u8, word: u8, len: usize) -> [u8; 4]
+    requires { stated_length (transport_of word) len < 65536 }
+    ensures { result ≡ head_octets code word len }
+{
+    let transport = transport_of(word);
+    let [high, low] = two_octets(stated_length(transport, len));
+    [code, transport, high, low]
+}
+
+// A data item with this code has octets.
+fn carries(code: u8) -> bool
+    ensures { result ≡ carries code }
+{
+    code == GOOD || code == REQUESTED
+}
+
+// The length that is stated of so many octets.
+fn stated_length(transport: u8, len: usize) -> u16
+    requires { stated_length transport len < 65536 }
+    ensures { result ≡ stated_length transport len }
+{
+    if transport == BITS && len == 1 {
+        1
+    } else if counts_bits(transport) {
+        8 * len as u16
+    } else {
+        len as u16
+    }
+}
