@@ -1,0 +1,68 @@
+-- What a memory is, and which areas may join it (Snap7 1.4 reference manual, `Srv_RegisterArea`).
+use Rattle.std.specs.Prelude.{◌≡◌, ℕ, ◌+◌, ◌%◌, ◌<◌, ◌≤◌, ◌==◌, ◌&&◌, ◌||◌, not, nat_lt, nat_le, if◌then◌else◌, Option, None, Some, is_some, List, [], length, Bool, true, map, filter, sum_by}
+use Rattle.std.specs.List.{AllByRecursion}
+use Rattle.std.specs.List.Sorted.{IsStrictlySortedBy}
+use Rattle.std.specs.Map.{keys_of, values_of}
+use Rattle.s7_area.specs.declared.key.AreaKey.{AreaKey}
+use Rattle.s7_area.specs.declared.register.RegisterFault.{RegisterFault}
+use Rattle.s7_area.specs.declared.register.RegisterFault.TheVariants as fault
+use Rattle.s7_area.specs.Keys.{is_key, is_numbered}
+use Rattle.s7_area.specs.Memory.{Memory, key_cmp, octets_at}
+
+-- the lengths of all areas together
+abbrev pub total_of : Memory → ℕ
+total_of m = sum_by length (values_of m)
+
+-- the numbers of the data blocks
+abbrev pub db_numbers : List AreaKey → List ℕ
+db_numbers keys = map (λ key. key.number) (filter (λ key. key.area == 0x84) keys)
+
+-- the numbers of the data blocks whose names are left, where there is a map
+abbrev pub numbers_left : Option (List AreaKey) → List ℕ
+numbers_left None = []
+numbers_left (Some keys) = db_numbers keys
+
+-- an area: a name that there may be, from 1 to 65,536 octets, and two for each counter or timer
+pub record IsArea (e : AreaKey × List ℕ) : Type 0 where
+  pub name : is_key e.0 ≡ true
+  pub some : 0 < length e.1
+  pub most : length e.1 ≤ 65536
+  pub even : is_numbered e.0.area ≡ true → length e.1 % 2 ≡ 0
+
+-- areas in the order of their names, with at most 16,777,216 octets together and 2,048 data blocks
+pub record IsMemory (m : Memory) : Type 0 where
+  pub areas : AllByRecursion IsArea m
+  pub ordered : IsStrictlySortedBy key_cmp (keys_of m)
+  pub total : total_of m ≤ 16777216
+  pub blocks : length (db_numbers (keys_of m)) ≤ 2048
+
+-- what is kept: a memory, and the lengths of all areas together
+abbrev pub Keeps : Memory → ℕ → Type 0
+Keeps m total = IsMemory m × (total ≡ total_of m)
+
+-- an area of this name may not have so many octets beside the others
+abbrev pub is_wrong_size : Memory → AreaKey → ℕ → Bool
+is_wrong_size m key len =
+    len == 0 || nat_lt 65536 len || (is_numbered key.area && not (len % 2 == 0))
+    || nat_lt 16777216 (total_of m + len)
+
+-- the area would be a data block more than there may be
+abbrev pub is_db_too_many : Memory → AreaKey → Bool
+is_db_too_many m key = key.area == 0x84 && nat_le 2048 (length (db_numbers (keys_of m)))
+
+-- the first fault of an area of this name and length that asks to join
+abbrev pub fault_of : Memory → AreaKey → ℕ → Option RegisterFault
+fault_of m key len =
+    if not (is_key key) then Some fault.Key
+    else (if is_wrong_size m key len then Some fault.Size
+    else (if is_some (octets_at m key) then Some fault.Exists
+    else (if is_db_too_many m key then Some fault.TooManyDbs
+    else None)))
+
+-- the numbers of Snap7 for these faults; want of memory has none
+abbrev pub fault_code : RegisterFault → ℕ
+fault_code fault.Key = 0x0050_0000
+fault_code fault.Size = 0x0050_0000
+fault_code fault.Exists = 0x0030_0000
+fault_code fault.TooManyDbs = 0x0060_0000
+fault_code fault.Memory = 0

@@ -1,0 +1,302 @@
+// Areas by their names.
+ghost use Rattle.std.specs.Prelude.{◌≡◌, ◌≢◌, ◌≤◌, ◌++◌, [], None, false, length, drop, IfOk, IfErr, IfSome, IfNone, OnErr, MatchResult, option_map};
+ghost use Rattle.std.specs.Option.{option_copied};
+ghost use Rattle.std.specs.Result.{result_ok};
+ghost use Rattle.std.specs.Map.{keys_of, remove_entry};
+ghost use Rattle.std.specs.BTreeMap.{insert_entry, is_at};
+ghost use Rattle.s7_item.specs.Item.{octet_count};
+ghost use Rattle.s7_item.specs.DataItem.{carries};
+ghost use Rattle.s7_area.specs.Memory.{key_cmp, octets_at, entries_of, read_code, read_octets, write_code, written};
+
+use crate::area::Area;
+use crate::codes::{GOOD, NO_AREA, OUT_OF_RANGE, WRONG_SIZE, WRONG_WORD};
+use crate::db_numbers::DbNumbers;
+use crate::key::{AreaKey, is_numbered};
+use crate::place::{is_inside, is_misfit, key_of, read_place};
+use crate::register::{RegisterFault, Unknown};
+use s7_item::Item;
+use s7_outer::{Memory, Octets};
+use std::alloc::Global;
+use std::collections::BTreeMap;
+use std::marker::Model;
+
+/// How many octets an area has at most.
+const MOST_OCTETS: usize = 65_536;
+
+/// How many octets all areas have together at most.
+const MOST_IN_ALL: usize = 16_777_216;
+
+/// How many data blocks there are at most.
+const MOST_DBS: usize = 2_048;
+
+/// The answer to a read of an item: the code, and how many octets came.
+#[derive(Clone, Copy, Debug, PartialEq, Eq)]
+pub struct ItemAnswer {
+    pub code: u8,
+    pub len: usize,
+}
+
+/// Areas by their names. Contracts see the list of names and octets in the order of the names.
+#[derive(Drop)]
+pub struct Areas {
+    // a map can't be made without an allocator, so the first area makes it
+    map: Option<BTreeMap<AreaKey, Area>>,
+    total: usize,
+}
+
+impl Model for Areas {
+    ghost use Rattle.std.specs.Prelude.{List, ℕ};
+    ghost use Rattle.s7_area.specs.declared.key.AreaKey.{AreaKey};
+
+    ghost Value = { List (AreaKey × List ℕ) };
+
+    ghost use Rattle.s7_area.specs.Memory.{entries_of};
+    ghost use Rattle.s7_area.specs.Registers.{Keeps};
+
+    ghost view = { λ a. entries_of a.map };
+
+    ghost invariant = { λ a. Keeps (entries_of a.map) a.total };
+}
+
+impl Areas {
+    ghost use Rattle.s7_area.specs.Registers.{IsMemory, fault_of, is_wrong_size, db_numbers};
+
+    /// No areas.
+    pub fn new() -> Areas
+        ensures { result ≡ [] }
+    {
+        Areas {
+            map: None,
+            total: 0,
+        }
+    }
+
+    /// The octets of an area, lent; `None` exactly where no area of this name is registered.
+    pub fn octets_of(&self, key: AreaKey) -> Option<&[u8]>
+        ensures { option_map (λ octets. octets.now) result ≡ octets_at self.now key }
+    {
+        match self.area_of(key) {
+            Some(area) => Some(area.as_slice()),
+            None => None,
+        }
+    }
+
+    fn area_of(&self, key: AreaKey) -> Option<&Area>
+        ensures { option_copied result ≡ octets_at self.now key }
+    {
+        match &self.map {
+            Some(map) => map.get(&key),
+            None => None,
+        }
+    }
+
+    /// The numbers of the data blocks, in ascending order. What is registered is a memory: names in
+    /// order, each with octets that it may have, within the limits of `register`.
+    pub fn db_numbers(&self) -> DbNumbers<'_>
+        ensures numbers { result ≡ db_numbers (keys_of self.now) }
+        ensures memory { IsMemory self.now }
+    {
+        DbNumbers {
+            keys: self.map.as_ref().map(|map| map.keys()),
+        }
+    }
+
+    /// What a read of an item gives, lent: the octets of its place, for a bit 00 or 01; or the code
+    /// of the refusal, as `read` has it, which is neither FF nor 00.
+    #[tactic(auto, unfolding(crate::specs::Memory::read_code, crate::specs::Memory::read_octets))]
+    pub fn look_up(&self, item: &Item) -> Result<&[u8], u8>
+        ensures good { IfOk result (λ octets. read_code self.now item.now ≡ 0xFF) }
+        ensures octets { IfOk result (λ octets. octets.now ≡ read_octets self.now item.now) }
+        ensures count { IfOk result (λ octets. length octets.now ≡ octet_count item.now) }
+        ensures code { IfErr result (λ code. code ≡ read_code self.now item.now) }
+        ensures bad { IfErr result (λ code. carries code ≡ false) }
+        ensures none { OnErr result (read_octets self.now item.now ≡ []) }
+    {
+        if is_misfit(item) {
+            return Err(WRONG_WORD);
+        }
+        let Some(area) = self.area_of(key_of(item)) else {
+            return Err(NO_AREA);
+        };
+        let area = area.as_slice();
+        if !is_inside(item, area.len()) {
+            return Err(OUT_OF_RANGE);
+        }
+        Ok(read_place(item, area))
+    }
+
+    /// Reads an item: the code, and with code FF the octets of its place, in front of `into`. The
+    /// code is the first that applies: 06 where the word is unknown, a bit's count isn't 1, exactly
+    /// one of word and area is 1C, or exactly one is 1D; 0A where the area isn't registered; 05
+    /// where the count is 0 or the place isn't inside the area; and FF.
+    ///
+    /// The place starts at octet `address / 8`, for counters and timers at `address * 2`, and has
+    /// the octets of `count` elements. A bit is bit `address mod 8` of that octet, and is read as 00
+    /// or 01. The number of the data block is passed over in other areas, and the low three bits of
+    /// an address where the word isn't a bit. Needs room for `count` times the word's size.
+    pub fn read(&self, item: &Item, into: &mut [u8]) -> ItemAnswer
+        requires { octet_count item.now ≤ length into.old }
+        ensures code { result.code ≡ read_code self.now item.now }
+        ensures len { result.len ≡ length (read_octets self.now item.now) }
+        ensures octets { into.new ≡ read_octets self.now item.now ++ drop result.len into.old }
+    {
+        match self.look_up(item) {
+            Ok(octets) => {
+                into[..octets.len()].copy_from_slice(octets);
+                ItemAnswer {
+                    code: GOOD,
+                    len: octets.len(),
+                }
+            }
+            Err(code) => ItemAnswer { code, len: 0 },
+        }
+    }
+
+    /// Writes octets to the place of an item, and answers the code: the first of 06, 0A and 05 that
+    /// applies as for `read`; 07 where the octets aren't `count` times the word's size; and FF. Any
+    /// octet but 00 turns a bit on, and 00 turns it off; the other bits stay. With every code but
+    /// FF the areas stay as they were.
+    #[tactic(auto, unfolding(crate::specs::Memory::read_code, crate::specs::Memory::write_code, crate::specs::Memory::written))]
+    pub fn write(&mut self, item: &Item, octets: &[u8]) -> u8
+        ensures code { result ≡ write_code self.old item.now octets.now }
+        ensures written { self.new ≡ written self.old item.now octets.now }
+        ensures refused { result ≢ 0xFF → self.new ≡ self.old }
+    {
+        if is_misfit(item) {
+            return WRONG_WORD;
+        }
+        let Some(map) = &mut self.map else {
+            return NO_AREA;
+        };
+        let Some(area) = map.get_mut(&key_of(item)) else {
+            return NO_AREA;
+        };
+        if !is_inside(item, area.as_slice().len()) {
+            return OUT_OF_RANGE;
+        }
+        if octets.len() != item.octet_count() {
+            return WRONG_SIZE;
+        }
+        area.write(item, octets);
+        GOOD
+    }
+
+    /// A copy. `Memory` comes where there is none for it.
+    pub fn copy(&self, alloc: Global) -> Result<Areas, Memory>
+        ensures { IfOk result (λ copy. copy ≡ self.now) }
+    {
+        let Some(map) = &self.map else {
+            return Ok(Areas::new());
+        };
+        match map.clone() {
+            Ok(map) => Ok(Areas {
+                map: Some(map),
+                total: self.total,
+            }),
+            Err(_) => Err(Memory),
+        }
+    }
+
+    /// Registers an area. The first that applies is the refusal: `Key` where no area may have this
+    /// name; `Size` where there are no octets, more than 65,536, an odd number of them for counters
+    /// or timers, or more than 16,777,216 with those of all areas; `Exists` where an area of this
+    /// name is registered; `TooManyDbs` where it would be a data block more than 2,048; `Memory`
+    /// where there is none. A refusal changes nothing and hands the octets back.
+    pub fn register(
+        &mut self,
+        alloc: Global,
+        key: AreaKey,
+        octets: Octets,
+    ) -> Result<(), (RegisterFault, Octets)>
+        ensures refused { IfSome (fault_of self.old key (length octets))
+            (λ fault. result ≡ Err (fault, octets)) }
+        ensures taken { IfNone (fault_of self.old key (length octets))
+            (MatchResult result (λ _. self.new ≡ insert_entry key_cmp self.old key octets)
+            (λ e. e ≡ (RegisterFault.Memory, octets))) }
+        ensures err { OnErr result (self.new ≡ self.old) }
+    {
+        match self.fault_of(key, octets.as_slice().len()) {
+            Some(fault) => Err((fault, octets)),
+            None => self.add(alloc, key, octets),
+        }
+    }
+
+    /// Takes an area that has no fault.
+    fn add(
+        &mut self,
+        alloc: Global,
+        key: AreaKey,
+        octets: Octets,
+    ) -> Result<(), (RegisterFault, Octets)>
+        requires { fault_of self.old key (length octets) ≡ None }
+        ensures taken { MatchResult result (λ _. self.new ≡ insert_entry key_cmp self.old key octets)
+            (λ e. e ≡ (RegisterFault.Memory, octets)) }
+        ensures err { OnErr result (self.new ≡ self.old) }
+    {
+        let len = octets.as_slice().len();
+        let mut map = take_or_make(&mut self.map, alloc);
+        let inserted = map.insert(key, Area::new(octets));
+        self.map = Some(map);
+        match inserted {
+            Ok(_) => {
+                self.total += len;
+                Ok(())
+            }
+            Err(refused) => Err((RegisterFault::Memory, refused.value.1.into_octets())),
+        }
+    }
+
+    /// The first fault of an area of so many octets that asks to join.
+    fn fault_of(&self, key: AreaKey, len: usize) -> Option<RegisterFault>
+        ensures { result ≡ fault_of self.now key len }
+    {
+        if !key.is_key() {
+            Some(RegisterFault::Key)
+        } else if self.is_wrong_size(key, len) {
+            Some(RegisterFault::Size)
+        } else if self.area_of(key).is_some() {
+            Some(RegisterFault::Exists)
+        } else if key.is_db() && self.db_numbers().count() >= MOST_DBS {
+            Some(RegisterFault::TooManyDbs)
+        } else {
+            None
+        }
+    }
+
+    /// No area of this name may have so many octets beside the others.
+    fn is_wrong_size(&self, key: AreaKey, len: usize) -> bool
+        ensures { result ≡ is_wrong_size self.now key len }
+    {
+        len == 0
+            || len > MOST_OCTETS
+            || is_numbered(key.area) && len % 2 != 0
+            || len > MOST_IN_ALL - self.total
+    }
+
+    /// Gives the octets of an area back, which is then no longer registered. `Unknown` comes exactly
+    /// where no area of this name is, and changes nothing.
+    pub fn unregister(&mut self, key: AreaKey) -> Result<Octets, Unknown>
+        ensures octets { result_ok result ≡ octets_at self.old key }
+        ensures rest { self.new ≡ remove_entry (is_at (key_cmp key)) self.old }
+        ensures err { OnErr result (self.new ≡ self.old) }
+    {
+        let Some(map) = &mut self.map else {
+            return Err(Unknown);
+        };
+        let Some(area) = map.remove(&key) else {
+            return Err(Unknown);
+        };
+        self.total -= area.as_slice().len();
+        Ok(area.into_octets())
+    }
+}
+
+/// The map, which is made where there is none yet.
+fn take_or_make(map: &mut Option<BTreeMap<AreaKey, Area>>, alloc: Global) -> BTreeMap<AreaKey, Area>
+    ensures { result.entries ≡ entries_of map.old }
+{
+    match map.take() {
+        Some(map) => map,
+        None => BTreeMap::new(alloc),
+    }
+}

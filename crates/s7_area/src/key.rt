@@ -1,0 +1,55 @@
+// The names of areas.
+ghost use Rattle.std.specs.Prelude.{◌≡◌, ◌==◌};
+ghost use Rattle.s7_area.specs.Keys.{is_key, is_numbered};
+
+/// The code of the area of data blocks.
+pub(crate) const DATA_BLOCK: u8 = 0x84;
+
+/// The code of the area of counters.
+pub(crate) const COUNTERS: u8 = 0x1C;
+
+/// The code of the area of timers.
+pub(crate) const TIMERS: u8 = 0x1D;
+
+/// The codes of inputs, outputs and flags.
+const INPUTS: u8 = 0x81;
+
+const OUTPUTS: u8 = 0x82;
+
+const FLAGS: u8 = 0x83;
+
+/// The name of an area: the code of its kind, and for data blocks (84) the number of the block,
+/// from 1 to 65,535. Inputs (81), outputs (82), flags (83), counters (1C) and timers (1D) are one
+/// area each, with the number 0.
+#[derive(Clone, Copy, Debug, PartialEq, Eq, PartialOrd, Ord)]
+pub struct AreaKey {
+    pub area: u8,
+    pub number: u16,
+}
+
+impl AreaKey {
+    /// There may be an area of this name.
+    pub(crate) fn is_key(&self) -> bool
+        ensures { result ≡ is_key self.now }
+    {
+        match self.area {
+            DATA_BLOCK => self.number != 0,
+            INPUTS | OUTPUTS | FLAGS | COUNTERS | TIMERS => self.number == 0,
+            _ => false,
+        }
+    }
+
+    /// The area is a data block.
+    pub(crate) fn is_db(&self) -> bool
+        ensures { result ≡ (self.now.area == 0x84) }
+    {
+        self.area == DATA_BLOCK
+    }
+}
+
+/// The elements of this area are counters or timers, which have numbers and two octets each.
+pub(crate) fn is_numbered(area: u8) -> bool
+    ensures { result ≡ is_numbered area }
+{
+    area == COUNTERS || area == TIMERS
+}

@@ -1,0 +1,19 @@
+//! Areas: the memory of a controller, a map from the names of areas to their octets, which items
+//! read and write.
+#![tactic(auto)]
+
+mod area;
+mod areas;
+mod codes;
+mod db_numbers;
+mod key;
+mod place;
+mod register;
+
+pub use areas::{Areas, ItemAnswer};
+pub use db_numbers::DbNumbers;
+pub use key::AreaKey;
+pub use register::{RegisterFault, Unknown};
+
+#[cfg(test)]
+mod tests;
