@@ -1,0 +1,4 @@
+pub mod Histories
+pub mod Machines
+pub mod Turns
+pub mod Seats

@@ -1,0 +1,61 @@
+//! Who waits before it has a ticket.
+//!
+//! Tickets are served in their order, so with many seats each turn would wait until one more sleeper is awake. Therefore only few
+//! seats hold a ticket at a time, and newcomers sleep at the door meanwhile. A sleeper is counted before it looks a last time, and
+//! who advances reads the count after that. Whoever finds the queue empty lets a sleeper in, so one is let in as long as any sleeps.
+ghost use Rattle.std.specs.Prelude.{◌≡◌};
+ghost use Rattle.s7_turn.specs.Turns.{IsSized};
+
+use crate::machine::Machine;
+use crate::plays::{Place, Ring, Top};
+use crate::words::{DOOR, SERVING, SLEEPERS, TICKET};
+use std::sync::Wait;
+
+/// With so many tickets out, newcomers sleep.
+const FEW: u64 = 2;
+
+/// A sleeper that was woken so often goes in, however many tickets are out.
+const PATIENCE: u32 = 4;
+
+/// A sleeper is woken after every so many turns, also while the queue is never empty.
+const PERIOD: u64 = 16;
+
+fn is_full<M: Machine>(top: &Top<M>) -> bool
+    requires { IsSized top.now.table_id }
+{
+    let served = top.peek(SERVING);
+    top.peek(TICKET).wrapping_sub(served) >= FEW
+}
+
+/// Sleeps while enough seats hold tickets.
+pub(crate) fn pass<M: Machine, R: Wait>(rt: &R, top: &Top<M>, place: &mut Place<M>)
+    requires table { (place.old.table_id ≡ top.now.table_id) × IsSized top.now.table_id }
+    ensures seat { (place.new.table_id ≡ place.old.table_id) × (place.new.id ≡ place.old.id) × (place.new.me ≡ place.old.me) }
+{
+    if !is_full(top) {
+        return;
+    }
+    top.fetch_add::<Ring>(place, SLEEPERS, 1);
+    for _ in 0..PATIENCE {
+        let rung = top.peek(DOOR);
+        if !is_full(top) {
+            break;
+        }
+        top.park(rt, DOOR, (rung % (1 << 32)) as u32);
+    }
+    top.fetch_sub::<Ring>(place, SLEEPERS, 1);
+}
+
+/// Lets one sleeper in, if the queue is empty now that so many were served.
+pub(crate) fn open<M: Machine>(top: &Top<M>, place: &mut Place<M>, served: u64)
+    requires table { (place.old.table_id ≡ top.now.table_id) × IsSized top.now.table_id }
+    ensures seat { (place.new.table_id ≡ place.old.table_id) × (place.new.id ≡ place.old.id) × (place.new.me ≡ place.old.me) }
+{
+    if top.peek(SLEEPERS) == 0 {
+        return;
+    }
+    if served % PERIOD == 0 || top.peek(TICKET) == served {
+        top.fetch_add::<Ring>(place, DOOR, 1);
+        top.wake_one(DOOR);
+    }
+}

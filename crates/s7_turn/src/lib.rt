@@ -1,0 +1,19 @@
+//! One machine for many callers: each call takes its turn, and the machine's history is one for all of them.
+#![tactic(auto)]
+
+mod adder;
+mod bell;
+mod door;
+mod hall;
+mod machine;
+mod plays;
+#[cfg(test)]
+mod tests;
+mod turn;
+mod view;
+mod words;
+
+pub use adder::Adder;
+pub use hall::{Full, Hall, Receipt, Seat};
+pub use machine::Machine;
+pub use view::Entry;

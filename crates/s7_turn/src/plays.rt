@@ -1,0 +1,101 @@
+//! The rule of the table, and what each step on it tells.
+ghost use Rattle.s7_turn.specs.Machines.{IsFrom};
+ghost use Rattle.s7_turn.specs.Turns.{Kept, opener, drew, looked, took, entered, gave, advanced, compared, rang, gave_number, newcomer, joined, nobody};
+
+use crate::machine::Machine;
+use crate::view::View;
+use atomic_table::{Join, Play, Seat, Shared, Split, TableRule};
+use std::marker::PhantomData;
+use std::snapshot::Snapshot;
+
+/// The table as seats share it.
+pub(crate) type Top<M> = Shared<
+    Option<Box<M>>,
+    View<<M as Machine>::Request, M>,
+    Snapshot<M>,
+    Turns<M>,
+>;
+
+/// A seat at it.
+pub(crate) type Place<M> = Seat<Option<Box<M>>, View<<M as Machine>::Request, M>>;
+
+pub struct Turns<M> {
+    machine: PhantomData<M>,
+}
+
+impl<M: Machine> TableRule<Option<Box<M>>, View<M::Request, M>, Snapshot<M>> for Turns<M> {
+    ghost holds = { λ key. Kept (λ b m. IsFrom M.Machine b.value m) (λ b. M.history b.value) key.value };
+
+    ghost first = { λ key. opener key.value };
+}
+
+pub(crate) struct Draw;
+
+impl<B, R, O> Play<Option<B>, View<R, O>> for Draw {
+    ghost then = { drew };
+}
+
+pub(crate) struct Look;
+
+impl<B, R, O> Play<Option<B>, View<R, O>> for Look {
+    ghost then = { looked };
+}
+
+pub(crate) struct Take<M> {
+    machine: PhantomData<M>,
+}
+
+impl<M: Machine> Play<Option<Box<M>>, View<M::Request, M>> for Take<M> {
+    ghost then = { took (λ b m. IsFrom M.Machine b.value m) (λ b. M.history b.value) };
+}
+
+/// Notes the entry that the machine has made.
+pub(crate) struct Enter<M> {
+    machine: PhantomData<M>,
+}
+
+impl<M: Machine> Play<Option<Box<M>>, View<M::Request, M>> for Enter<M> {
+    ghost then = { entered (λ b. M.history b.value) };
+}
+
+pub(crate) struct Give;
+
+impl<B, R, O> Play<Option<B>, View<R, O>> for Give {
+    ghost then = { gave };
+}
+
+pub(crate) struct Advance;
+
+impl<B, R, O> Play<Option<B>, View<R, O>> for Advance {
+    ghost then = { advanced };
+}
+
+pub(crate) struct Compare;
+
+impl<B, R, O> Play<Option<B>, View<R, O>> for Compare {
+    ghost then = { compared };
+}
+
+/// What is written for those who sleep.
+pub(crate) struct Ring;
+
+impl<B, R, O> Play<Option<B>, View<R, O>> for Ring {
+    ghost then = { rang };
+}
+
+/// A number for a new caller.
+pub(crate) struct Number;
+
+impl<R, O> Split<View<R, O>> for Number {
+    ghost left = { gave_number };
+
+    ghost right = { newcomer };
+}
+
+pub(crate) struct Both;
+
+impl<R, O> Join<View<R, O>> for Both {
+    ghost both = { joined };
+
+    ghost spent = { nobody };
+}
