@@ -1,0 +1,86 @@
+-- No write changes the code of another one: a code depends on the lengths of areas, which stay.
+use Rattle.std.proofs.Common.{◌≡◌, ℕ, Bool, true, false, cond, eqb, not, List, [], ◌∷◌, length, Option, None, Some, unwrap_or, refl, sym, ap, ◌∙◌, arith, IsTrue, ◌&&◌}
+use Rattle.std.specs.Option.{option_map}
+use Rattle.std.specs.Map.{lookup, set_value}
+use Rattle.std.specs.BTreeMap.{is_at}
+use Rattle.std.proofs.lemmas.Bool.{eqb-true}
+use Rattle.std.proofs.lemmas.Grind.{common_steps}
+use Rattle.s7_item.specs.Item.{octet_count}
+use Rattle.s7_item.specs.DataItem.{octets_at as octets_in}
+use Rattle.s7_item.specs.declared.item.Item.{Item}
+use Rattle.s7_item.specs.declared.places.DataPlace.{DataPlace}
+use Rattle.s7_area.specs.declared.key.AreaKey.{AreaKey}
+use Rattle.s7_area.specs.Places.{is_misfit, is_inside, key_of, changed_at}
+use Rattle.s7_area.specs.Memory.{Memory, key_cmp, octets_at, with_octets, code_in, read_code, write_code, written}
+use Rattle.s7_plant.specs.Answers.{write_codes}
+
+option_length-cond : (b : Bool) (o : Option (List ℕ)) (x y : List ℕ) → length x ≡ length y → option_map length (cond b (Some x) o) ≡ option_map length (cond b (Some y) o)
+option_length-cond true o x y same = ap Some same
+option_length-cond false o x y same = refl
+
+option_length-cond_rest : (b : Bool) (x : List ℕ) (o o' : Option (List ℕ)) → option_map length o ≡ option_map length o' → option_map length (cond b (Some x) o) ≡ option_map length (cond b (Some x) o')
+option_length-cond_rest true x o o' same = refl
+option_length-cond_rest false x o o' same = same
+
+set_step : {K : Type 0} (other : K → Bool) (e : K × List ℕ) (es rest : List (K × List ℕ)) (old new : List ℕ) (b : Bool) (later : Option (List ℕ)) → cond b (Some e.1) later ≡ Some old → length new ≡ length old → (later ≡ Some old → option_map length (lookup other rest) ≡ option_map length (lookup other es)) → option_map length (lookup other (cond b ((e.0, new) ∷ es) (e ∷ rest))) ≡ option_map length (lookup other (e ∷ es))
+set_step other e es rest old new true later is same more = option_length-cond (other e.0) (lookup other es) new e.1 (let first : old ≡ e.1 = cc in same ∙ ap length first)
+set_step other e es rest old new false later is same more = option_length-cond_rest (other e.0) e.1 _ _ (more is)
+
+-- the value at one key is replaced by one of the same length
+length-set_value : {K : Type 0} (test other : K → Bool) (es : List (K × List ℕ)) (old new : List ℕ) → lookup test es ≡ Some old → length new ≡ length old → option_map length (lookup other (set_value test es new)) ≡ option_map length (lookup other es)
+length-set_value test other [] old new found same = refl
+length-set_value test other (e ∷ es) old new found same =
+    set_step other e es (set_value test es new) old new (test e.0) (lookup test es) found same (λ is. length-set_value test other es old new is same)
+
+length-changed_at : (item : Item) (octets old : List ℕ) → IsTrue (is_inside item (length old)) → length octets ≡ octet_count item → length (changed_at item octets old) ≡ length old
+unfolding changed_at
+length-changed_at item octets old inside count = grind (arith, common_steps)
+
+-- the code of a write, from its parts
+abbrev code_by : Bool → Option (List ℕ) → Item → List ℕ → ℕ
+code_by misfit found item octets =
+    let code = cond misfit 6 (code_in found item) in
+    cond (eqb code 255 && not (eqb (length octets) (octet_count item))) 7 code
+
+same_by_parts : (m : Memory) (item : Item) (octets : List ℕ) (key : AreaKey) (old : List ℕ) (fits counts : Bool) → octets_at m (key_of item) ≡ Some old → fits ≡ is_inside item (length old) → counts ≡ eqb (length octets) (octet_count item) → option_map length (octets_at (cond (eqb (cond (eqb (cond fits 255 5) 255 && not counts) 7 (cond fits 255 5)) 255) (with_octets m (key_of item) (changed_at item octets old)) m) key) ≡ option_map length (octets_at m key)
+same_by_parts m item octets key old false counts found a b = refl
+same_by_parts m item octets key old true false found a b = refl
+same_by_parts m item octets key old true true found a b =
+    length-set_value (is_at (key_cmp (key_of item))) (is_at (key_cmp key)) m old _ found (length-changed_at item octets old (sym a) (eqb-true (length octets) (octet_count item) (sym b)))
+
+by_parts : (m : Memory) (item : Item) (octets : List ℕ) (key : AreaKey) (misfit : Bool) (found : Option (List ℕ)) → octets_at m (key_of item) ≡ found → option_map length (octets_at (cond (eqb (code_by misfit found item octets) 255) (with_octets m (key_of item) (changed_at item octets (unwrap_or found []))) m) key) ≡ option_map length (octets_at m key)
+by_parts m item octets key true found is = refl
+by_parts m item octets key false None is = refl
+by_parts m item octets key false (Some old) is = same_by_parts m item octets key old _ _ is refl refl
+
+-- the areas after a write have the lengths that they had
+length-written : (m : Memory) (item : Item) (octets : List ℕ) (key : AreaKey) → option_map length (octets_at (written m item octets) key) ≡ option_map length (octets_at m key)
+unfolding written write_code read_code
+length-written m item octets key = by_parts m item octets key (is_misfit item) (octets_at m (key_of item)) refl
+
+code_in-length : (a b : Option (List ℕ)) (item : Item) → option_map length a ≡ option_map length b → code_in a item ≡ code_in b item
+code_in-length None None item same = refl
+code_in-length None (Some b) item same = cc
+code_in-length (Some a) None item same = cc
+code_in-length (Some a) (Some b) item same = let is : length a ≡ length b = cc in ap (λ n. cond (is_inside item n) 255 5) is
+
+-- two memories have the same areas, of the same lengths
+abbrev SameLengths : Memory → Memory → Type 0
+SameLengths m n = (key : AreaKey) → option_map length (octets_at m key) ≡ option_map length (octets_at n key)
+
+code-same : (m n : Memory) (item : Item) (octets : List ℕ) → SameLengths m n → write_code m item octets ≡ write_code n item octets
+unfolding write_code read_code
+code-same m n item octets same =
+    ap (λ c. let code = cond (is_misfit item) 6 c in cond (eqb code 255 && not (eqb (length octets) (octet_count item))) 7 code) (code_in-length _ _ item (same (key_of item)))
+
+codes-same : (m n : Memory) (items : List Item) (places : List DataPlace) (all : List ℕ) → SameLengths m n → write_codes m items places all ≡ write_codes n items places all
+codes-same m n [] places all same = refl
+codes-same m n (i ∷ is) [] all same = refl
+codes-same m n (i ∷ is) (p ∷ ps) all same =
+    let head = code-same m n i (octets_in all p) same in
+    let tail = codes-same (written m i (octets_in all p)) (written n i (octets_in all p)) is ps all (λ key. length-written m i (octets_in all p) key ∙ same key ∙ sym (length-written n i (octets_in all p) key)) in
+    rw (head, tail) refl
+
+-- no write changes the codes of those that follow
+pub codes_in_turn : (m : Memory) (item : Item) (octets : List ℕ) (items : List Item) (places : List DataPlace) (all : List ℕ) → write_codes (written m item octets) items places all ≡ write_codes m items places all
+codes_in_turn m item octets items places all = codes-same _ m items places all (length-written m item octets)

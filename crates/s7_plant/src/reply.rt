@@ -1,0 +1,50 @@
+// What a plant answers.
+ghost use Rattle.std.specs.Prelude.{◌≡◌, [], IfOk};
+ghost use Rattle.s7_plant.specs.Replies.{said, said_of};
+
+use s7_outer::{Buffer, Memory};
+use std::alloc::Global;
+
+/// How many octets of parameters a reply has room for.
+pub const PARAMS_ROOM: usize = 16;
+
+/// How many octets a reply to any request has room for.
+pub const BODY_ROOM: usize = 65_572;
+
+/// What a plant answers to a request.
+#[derive(Drop)]
+pub struct Reply {
+    /// The error word, 0 where the request was carried out.
+    pub error: u16,
+    /// The parameters of the answer.
+    pub params: Buffer,
+    /// The octets of the answer, without a data header.
+    pub body: Buffer,
+}
+
+impl Reply {
+    /// An empty reply with room for 16 octets of parameters and for `room` octets of body, all of it
+    /// taken here. `Memory` comes where there is none for it.
+    pub fn new(alloc: Global, room: usize) -> Result<Reply, Memory>
+        ensures empty { IfOk result (λ reply. said_of reply ≡ said 0 [] []) }
+        ensures params { IfOk result (λ reply. reply.params.room ≡ PARAMS_ROOM) }
+        ensures body { IfOk result (λ reply. reply.body.room ≡ room) }
+    {
+        Ok(Reply {
+            error: 0,
+            params: Buffer::new(alloc, PARAMS_ROOM)?,
+            body: Buffer::new(alloc, room)?,
+        })
+    }
+
+    /// Lets go of what was said. The rooms stay.
+    pub(crate) fn clear(&mut self)
+        ensures said { said_of self.new ≡ said 0 [] [] }
+        ensures params { self.new.params.room ≡ self.old.params.room }
+        ensures body { self.new.body.room ≡ self.old.body.room }
+    {
+        self.error = 0;
+        self.params.clear();
+        self.body.clear();
+    }
+}

@@ -1,0 +1,78 @@
+// The writes of a request.
+ghost use Rattle.std.specs.Prelude.{◌≡◌, ◌+◌, ◌≤◌, ◌++◌, length, All};
+ghost use Rattle.s7_area.specs.Memory.{write_code};
+ghost use Rattle.s7_plant.specs.Answers.{write_all, write_codes};
+
+use s7_area::Areas;
+use s7_item::{DataPlace, Item};
+use s7_outer::Buffer;
+
+/// The code of an item that was written.
+const GOOD: u8 = 0xFF;
+
+/// The code of an item that has another number of octets.
+const WRONG_SIZE: u8 = 0x07;
+
+/// Makes the writes from left to right, each on what the one before left, and adds their codes.
+pub(crate) fn write_items(
+    areas: &mut Areas,
+    items: &[Item],
+    places: &[DataPlace],
+    octets: &[u8],
+    codes: &mut Buffer,
+)
+    requires places { length places.now ≡ length items.now }
+    requires inside { All (λ place. place.from + place.len ≤ length octets.now) places.now }
+    requires room { length codes.old.octets + length items.now ≤ codes.old.room }
+    ensures areas { areas.new ≡ write_all areas.old items.now places.now octets.now }
+    ensures codes { codes.new.octets
+        ≡ codes.old.octets ++ write_codes areas.old items.now places.now octets.now }
+    ensures many { length codes.new.octets ≡ length codes.old.octets + length items.now }
+    ensures room { codes.new.room ≡ codes.old.room }
+{
+    for k in 0..items.len() {
+        let place = places[k];
+        let code = areas.write(&items[k], &octets[place.from..place.from + place.len]);
+        codes.add(&[code]);
+    }
+}
+
+/// Adds the codes that the writes would have. No write changes the code of another one.
+#[tactic(auto, using(std::proofs::lemmas::Grind::common_steps, crate::proofs::CodeLemmas::codes_in_turn))]
+pub(crate) fn judge_items(
+    areas: &Areas,
+    items: &[Item],
+    places: &[DataPlace],
+    octets: &[u8],
+    codes: &mut Buffer,
+)
+    requires places { length places.now ≡ length items.now }
+    requires inside { All (λ place. place.from + place.len ≤ length octets.now) places.now }
+    requires room { length codes.old.octets + length items.now ≤ codes.old.room }
+    ensures codes { codes.new.octets
+        ≡ codes.old.octets ++ write_codes areas.now items.now places.now octets.now }
+    ensures many { length codes.new.octets ≡ length codes.old.octets + length items.now }
+    ensures room { codes.new.room ≡ codes.old.room }
+{
+    for k in 0..items.len() {
+        let place = places[k];
+        let code = judge_item(
+            areas,
+            &items[k],
+            &octets[place.from..place.from + place.len],
+        );
+        codes.add(&[code]);
+    }
+}
+
+/// The code that a write of these octets would have.
+#[tactic(auto, unfolding(s7_area::specs::Memory::write_code))]
+fn judge_item(areas: &Areas, item: &Item, octets: &[u8]) -> u8
+    ensures { result ≡ write_code areas.now item.now octets.now }
+{
+    match areas.look_up(item) {
+        Ok(held) if held.len() == octets.len() => GOOD,
+        Ok(_) => WRONG_SIZE,
+        Err(code) => code,
+    }
+}
