@@ -1,0 +1,11 @@
+pub mod Words
+pub mod Opening
+pub mod Block
+pub mod Stage
+pub mod Message
+pub mod Owed
+pub mod Step
+pub mod Link
+pub mod Session
+pub mod Report
+pub mod End

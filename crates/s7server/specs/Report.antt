@@ -1,0 +1,43 @@
+-- What is printed.
+use Rattle.std.specs.Prelude.{◌≡◌, ◌⊎◌, ℕ, List, [], ◌∷◌, ◌++◌, codes, Option}
+use Rattle.std.specs.Fmt.{decimal}
+use Rattle.std.specs.Io.KnownBytes.{append_known}
+use Rattle.s7_outer.specs.Count.{Rose}
+use Rattle.s7_outer.specs.Out.{AppendsPrefix}
+use Rattle.s7server.specs.declared.outcome.Outcome.{Outcome}
+use Rattle.s7server.specs.declared.outcome.Outcome.TheVariants as outcome
+
+-- a line ends with LF
+abbrev pub line_end : List ℕ
+line_end = 10 ∷ []
+
+abbrev pub outcome_text : Outcome → List ℕ
+outcome_text outcome.Ended = codes "ended"
+outcome_text (outcome.Torn n) = codes "torn " ++ decimal n
+outcome_text outcome.Unbuilt = codes "unbuilt"
+outcome_text outcome.ReadFault = codes "read-fault"
+outcome_text outcome.WriteFault = codes "write-fault"
+outcome_text outcome.Spent = codes "spent"
+outcome_text outcome.Memory = codes "memory"
+
+-- the link's line, and the journal's
+abbrev pub lines_of : List ℕ → ℕ → List ℕ
+lines_of text entries =
+    codes "link 1 " ++ (text ++ (codes " entries " ++ (decimal entries ++ (line_end ++ (codes "journal " ++ (decimal entries ++ line_end))))))
+
+-- THE REPORT of one served link
+abbrev pub report_of : Outcome → ℕ → List ℕ
+report_of result entries = lines_of (outcome_text result) entries
+
+abbrev pub usage_line : List ℕ
+usage_line = codes "usage: s7server pipe AREAS, s7server serve AREAS" ++ line_end
+
+abbrev pub areas_line : List ℕ
+areas_line = codes "areas line 1" ++ line_end
+
+abbrev pub memory_line : List ℕ
+memory_line = codes "memory" ++ line_end
+
+-- an output gained a line, or a front of it where the output failed
+abbrev pub Prints : Option (List ℕ) → Option (List ℕ) → ℕ → ℕ → List ℕ → Type 0
+Prints old new before now line = (new ≡ append_known old line) ⊎ (AppendsPrefix old new line × Rose before now)

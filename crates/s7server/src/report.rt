@@ -1,0 +1,34 @@
+// What is printed.
+ghost use Rattle.std.specs.Prelude.{◌≡◌, IfOk, string_bytes};
+ghost use Rattle.s7server.specs.Report.{outcome_text, lines_of, report_of};
+
+use crate::outcome::Outcome;
+use std::alloc::{AllocError, Global};
+
+/// The report of one served link.
+pub fn report(alloc: Global, outcome: Outcome, entries: u64) -> Result<String, AllocError>
+    ensures { IfOk result (λ text. string_bytes text ≡ report_of outcome entries) }
+{
+    let text = outcome_text(alloc, outcome)?;
+    lines(alloc, text.as_str(), entries)
+}
+
+fn lines(alloc: Global, text: &str, entries: u64) -> Result<String, AllocError>
+    ensures { IfOk result (λ report. string_bytes report ≡ lines_of text.now entries) }
+{
+    format!(in alloc; "link 1 {text} entries {entries}\njournal {entries}\n")
+}
+
+fn outcome_text(alloc: Global, outcome: Outcome) -> Result<String, AllocError>
+    ensures { IfOk result (λ text. string_bytes text ≡ outcome_text outcome) }
+{
+    match outcome {
+        Outcome::Ended => String::from_str(alloc, "ended"),
+        Outcome::Torn(count) => format!(in alloc; "torn {count}"),
+        Outcome::Unbuilt => String::from_str(alloc, "unbuilt"),
+        Outcome::ReadFault => String::from_str(alloc, "read-fault"),
+        Outcome::WriteFault => String::from_str(alloc, "write-fault"),
+        Outcome::Spent => String::from_str(alloc, "spent"),
+        Outcome::Memory => String::from_str(alloc, "memory"),
+    }
+}
