@@ -1,7 +1,8 @@
 -- One bit of an octet, turned on or off by masks.
-use Rattle.std.proofs.Common.{◌≡◌, ℕ, zero, suc, ◌+◌, ◌-◌, ◌*◌, ◌/◌, ◌%◌, ◌^◌, ◌<◌, Bool, true, false, eqb, ◌&&◌, bit_and, bit_or, inl, inr, refl, arith}
+use Rattle.std.proofs.Common.{◌≡◌, ℕ, zero, suc, ◌+◌, ◌-◌, ◌*◌, ◌/◌, ◌%◌, ◌^◌, ◌<◌, Bool, true, false, cond, eqb, ◌&&◌, bit_and, bit_or, inl, inr, refl, arith}
 use Rattle.std.proofs.lemmas.Bool.{eqb-true, cases_lt}
-use Rattle.s7_area.specs.Places.{with_bit}
+use Rattle.s7_area.specs.Places.{bit_of, with_bit}
+use Rattle.s7_area.specs.Laws.{BitsStandAlone}
 
 -- a test holds at each number below n
 all_below : (ℕ → Bool) → ℕ → Bool
@@ -41,3 +42,19 @@ turned_on octet k small bit = eqb-true _ _ ((both_of _ _ (both octet k small bit
 pub turned_off : (octet k : ℕ) → octet < 256 → k < 8 → bit_and octet (255 - 1 * 2 ^ k % 256) ≡ with_bit octet k false
 unfolding masks
 turned_off octet k small bit = eqb-true _ _ ((both_of _ _ (both octet k small bit)).1)
+
+-- a bit is turned and another one stays, at an octet and two bits
+alone : Bool → ℕ → ℕ → ℕ → Bool
+alone on k j octet = eqb (bit_of (with_bit octet k on) j) (cond (eqb j k) (cond on 1 0) (bit_of octet j))
+
+all_alone : (on : Bool) → all_below (λ k. all_below (λ j. all_below (alone on k j) 256) 8) 8 ≡ true
+unfolding all_below alone
+all_alone true = refl
+all_alone false = refl
+
+pub stand_alone : BitsStandAlone
+unfolding alone
+stand_alone octet k j on small bit other =
+    let at_k = all_below-at (λ i. all_below (λ l. all_below (alone on i l) 256) 8) 8 k (all_alone on) bit in
+    let at_j = all_below-at (λ l. all_below (alone on k l) 256) 8 j at_k other in
+    eqb-true _ _ (all_below-at (alone on k j) 256 octet at_j small)

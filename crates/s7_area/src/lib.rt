@@ -7,12 +7,14 @@ mod areas;
 mod codes;
 mod db_numbers;
 mod key;
+mod laws;
 mod place;
 mod register;
 
 pub use areas::{Areas, ItemAnswer};
 pub use db_numbers::DbNumbers;
 pub use key::AreaKey;
+pub use laws::{bits_stand_alone, written_is_read};
 pub use register::{RegisterFault, Unknown};
 
 #[cfg(test)]

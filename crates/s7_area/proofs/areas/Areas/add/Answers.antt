@@ -1,6 +1,6 @@
 use Rattle.std.proofs.Common.{◌≡◌, None, length, rules}
 use Rattle.s7_area.specs.Memory.{entries_of}
-use Rattle.s7_area.specs.Registers.{Keeps, fault_of}
+use Rattle.s7_area.specs.Registers.{fault_of}
 use Rattle.s7_area.proofs.MemoryLemmas.{Keeps-insert_entry}
 use Rattle.s7_area.proofs.areas.Areas.add.Goals as goal
 
