@@ -1,0 +1,11 @@
+pub mod BoxLemmas
+pub mod PlaceLemmas
+pub mod PastLemmas
+pub mod SizeLemmas
+pub mod TurnLemmas
+pub mod ConsumeLemmas
+pub mod ServeLemmas
+pub mod RunLemmas
+pub mod SendLemmas
+pub mod AnswerLemmas
+pub mod JoinLemmas

@@ -1,0 +1,38 @@
+use Rattle.std.proofs.Common.{◌∙◌}
+use Rattle.s7_session.proofs.TurnLemmas.{moves_none, moves_both}
+use Rattle.s7_session.proofs.ServeLemmas.{served_after, not_closed}
+use Rattle.s7_session.proofs.RunLemmas.{link_run}
+use Rattle.s7_session.proofs.session.Session.serve.Goals as goal
+
+pub loop-init : goal.loop-init
+loop-init g c = record {
+  moves = moves_none _ c.args.self.now (g.L.Link.shows c.args.line.now) (g.D.Doer.stands c.args.doer.now) (g.D.Doer.is_full c.args.doer.now);
+  kept = g.met.D.Doer.keeps_same c.args.doer.now;
+  going = λ e. e;
+}
+
+pub returns-in-Closed : goal.returns-in-Closed
+returns-in-Closed g c =
+    let served =
+    served_after _ c.args.self.now c.loop.self c.turn.new.self (g.L.Link.shows c.args.line.now) (g.L.Link.shows c.loop.line) (g.L.Link.shows c.turn.new.line)
+    (g.D.Doer.stands c.args.doer.now) (g.D.Doer.stands c.loop.doer) (g.D.Doer.stands c.turn.new.doer) (g.D.Doer.is_full c.args.doer.now) (g.D.Doer.is_full c.loop.doer) (g.D.Doer.is_full c.turn.new.doer)
+    c.in-Closed.outcome c.loop.invariant.moves c.loop.invariant.going c.in-Closed.ensures.turn
+    in
+    record {
+      served = served;
+      run =
+          link_run _ c.args.self.now c.turn.new.self (g.L.Link.shows c.args.line.now) (g.L.Link.shows c.turn.new.line)
+          (g.D.Doer.stands c.args.doer.now) (g.D.Doer.stands c.turn.new.doer) (g.D.Doer.is_full c.args.doer.now) (g.D.Doer.is_full c.turn.new.doer)
+          c.in-Closed.outcome served;
+      kept = g.met.D.Doer.keeps_both c.args.doer.now c.loop.doer c.turn.new.doer c.loop.invariant.kept c.turn.ensures.kept;
+    }
+
+pub loop-preserved : goal.loop-preserved
+loop-preserved g c = record {
+  moves =
+      moves_both _ c.args.self.now c.loop.self c.turn.new.self (g.L.Link.shows c.args.line.now) (g.L.Link.shows c.loop.line) (g.L.Link.shows c.turn.new.line)
+      (g.D.Doer.stands c.args.doer.now) (g.D.Doer.stands c.loop.doer) (g.D.Doer.stands c.turn.new.doer) (g.D.Doer.is_full c.args.doer.now) (g.D.Doer.is_full c.loop.doer) (g.D.Doer.is_full c.turn.new.doer)
+      c.loop.invariant.moves c.turn.ensures.turn.moves;
+  kept = g.met.D.Doer.keeps_both c.args.doer.now c.loop.doer c.turn.new.doer c.loop.invariant.kept c.turn.ensures.kept;
+  going = λ e. c.turn.ensures.turn.closed ∙ not_closed c.turn.result c.in_default.not-Closed;
+}

@@ -1,0 +1,18 @@
+-- The error words of refusals, which are this protocol profile's own.
+use Rattle.std.specs.Prelude.{ℕ}
+use Rattle.s7_session.specs.declared.judge.Refusal.{Refusal}
+use Rattle.s7_session.specs.declared.judge.Refusal.TheVariants.{UnknownFunction, NotNegotiated, Unreadable, OverPdu}
+
+abbrev pub error_of : Refusal → ℕ
+error_of UnknownFunction = 0x8104
+error_of NotNegotiated = 0x8403
+error_of Unreadable = 0x8404
+error_of OverPdu = 0x8500
+
+-- the history is full
+abbrev pub FULL : ℕ
+FULL = 0x8F01
+
+-- the clock failed
+abbrev pub CLOCK_FAILED : ℕ
+CLOCK_FAILED = 0x8F02

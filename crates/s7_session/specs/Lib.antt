@@ -1,0 +1,16 @@
+pub mod Entry
+pub mod Verdict
+pub mod LinkState
+pub mod Bounds
+pub mod Outgoing
+pub mod Sent
+pub mod Judgement
+pub mod Judged
+pub mod Errors
+pub mod Handling
+pub mod Asking
+pub mod Owed
+pub mod Answers
+pub mod Conversing
+pub mod Stands
+pub mod LinkRun

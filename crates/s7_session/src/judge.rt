@@ -1,0 +1,186 @@
+// How a message is judged.
+ghost use Rattle.std.specs.Prelude.{◌≡◌, ◌≤◌, ◌<◌, ℕ, ◌+◌, List, length, slice_index, All, IfOk, Some, None};
+ghost use Rattle.s7_header.specs.Negotiation.{negotiation_of, granted as granted_of, IsGrant};
+ghost use Rattle.s7_item.specs.Params.{items_of};
+ghost use Rattle.s7_item.specs.DataItem.{data_places_of};
+ghost use Rattle.s7_session.specs.LinkState.{LinkState};
+ghost use Rattle.s7_session.specs.Judgement.{judge, job, function, function_at, negotiation, read, write, write_of, user_at, group, pdu_limit, is_request, sequence_of, refuse};
+ghost use Rattle.s7_session.specs.Judged.{judgement_of, IsWithin};
+
+use s7_header::{
+    Kind, MOST_PDU, Negotiation, grant, parts, read_header, read_negotiate, read_user,
+};
+use s7_item::{DataItems, Items, answer_size, read_data_items, read_items};
+
+/// The functions of a job that are served.
+const READ: u8 = 0x04;
+
+const WRITE: u8 = 0x05;
+
+const NEGOTIATE: u8 = 0xF0;
+
+/// Why a message is refused.
+#[derive(Clone, Copy, Debug, PartialEq, Eq)]
+pub(crate) enum Refusal {
+    /// The type, the function, the group or the subfunction isn't served.
+    UnknownFunction,
+    /// No PDU was negotiated.
+    NotNegotiated,
+    /// Parameters or data can't be read.
+    Unreadable,
+    /// The lengths disagree, or the message or its answer passes the PDU.
+    OverPdu,
+}
+
+/// What a message asks for.
+#[derive(Drop)]
+pub(crate) enum Judgement<'a> {
+    /// Nothing that can be given.
+    Refuse(Refusal),
+    /// A PDU and parallel jobs: this is granted.
+    Grant(Negotiation),
+    /// The octets of items.
+    Read(Items),
+    /// New octets for items.
+    Write {
+        items: Items,
+        places: DataItems,
+        body: &'a [u8],
+    },
+}
+
+/// Judges a message of ten octets or more that begins with 32, on a link with this PDU.
+#[tactic(auto, unfolding(crate::specs::Judgement::judge))]
+pub(crate) fn judge(granted: Option<u16>, message: &[u8]) -> Judgement<'_>
+    requires { 10 ≤ length message.now }
+    ensures judged { (link : LinkState) → link.granted ≡ granted → judgement_of link (sequence_of message.now) result ≡ judge link message.now }
+    ensures within { IsWithin granted result }
+{
+    if !is_request(message) {
+        return Judgement::Refuse(Refusal::UnknownFunction);
+    }
+    let Ok(header) = read_header(message) else {
+        return Judgement::Refuse(Refusal::OverPdu);
+    };
+    if message.len() > pdu_limit(granted) {
+        return Judgement::Refuse(Refusal::OverPdu);
+    }
+    let (params, body) = parts(message, &header);
+    match header.kind {
+        Kind::Job => judge_job(granted, params, body),
+        Kind::User => Judgement::Refuse(judge_user(granted, params)),
+        Kind::Ack | Kind::AckData => Judgement::Refuse(Refusal::UnknownFunction),
+    }
+}
+
+fn is_request(message: &[u8]) -> bool
+    requires { 10 ≤ length message.now }
+    ensures { result ≡ is_request message.now }
+{
+    message[1] == 0x01 || message[1] == 0x07
+}
+
+fn pdu_limit(granted: Option<u16>) -> usize
+    ensures { result ≡ pdu_limit granted }
+{
+    usize::from(granted.unwrap_or(MOST_PDU))
+}
+
+fn judge_job<'a>(granted: Option<u16>, params: &[u8], body: &'a [u8]) -> Judgement<'a>
+    ensures judged { (link : LinkState) (sequence : ℕ) → link.granted ≡ granted → judgement_of link sequence result ≡ job link sequence params.now body.now }
+    ensures within { IsWithin granted result }
+{
+    match params {
+        [] => judge_function(granted, 0, params, body),
+        [code, ..] => {
+            if *code == NEGOTIATE {
+                judge_negotiation(params)
+            } else {
+                judge_function(granted, *code, params, body)
+            }
+        }
+    }
+}
+
+fn judge_negotiation<'a>(params: &[u8]) -> Judgement<'a>
+    ensures judged { (link : LinkState) (sequence : ℕ) → judgement_of link sequence result ≡ negotiation link sequence (negotiation_of params.now) }
+    ensures within { (granted : _) → IsWithin granted result }
+{
+    let Ok(asked) = read_negotiate(params) else {
+        return Judgement::Refuse(Refusal::Unreadable);
+    };
+    match grant(&asked) {
+        Ok(granted) => Judgement::Grant(granted),
+        Err(_) => Judgement::Refuse(Refusal::OverPdu),
+    }
+}
+
+fn judge_function<'a>(
+    granted: Option<u16>,
+    code: u8,
+    params: &[u8],
+    body: &'a [u8],
+) -> Judgement<'a>
+    ensures judged { (link : LinkState) (sequence : ℕ) → judgement_of link sequence result ≡ function_at link granted code sequence params.now body.now }
+    ensures within { IsWithin granted result }
+{
+    let Some(pdu) = granted else {
+        return Judgement::Refuse(Refusal::NotNegotiated);
+    };
+    match code {
+        READ => judge_read(pdu, params, body),
+        WRITE => judge_write(pdu, params, body),
+        _ => Judgement::Refuse(Refusal::UnknownFunction),
+    }
+}
+
+fn judge_read<'a>(pdu: u16, params: &[u8], body: &[u8]) -> Judgement<'a>
+    ensures judged { (link : LinkState) (sequence : ℕ) → judgement_of link sequence result ≡ read link pdu sequence body.now (items_of params.now) }
+    ensures within { IsWithin (Some pdu) result }
+{
+    let mut items = Items::new();
+    if read_items(params, &mut items).is_err() || !body.is_empty() {
+        return Judgement::Refuse(Refusal::Unreadable);
+    }
+    if answer_size(&items) > u32::from(pdu) {
+        return Judgement::Refuse(Refusal::OverPdu);
+    }
+    Judgement::Read(items)
+}
+
+fn judge_write<'a>(pdu: u16, params: &[u8], body: &'a [u8]) -> Judgement<'a>
+    ensures judged { (link : LinkState) (sequence : ℕ) → judgement_of link sequence result ≡ write link pdu sequence body.now (items_of params.now) }
+    ensures within { IsWithin (Some pdu) result }
+{
+    let mut items = Items::new();
+    if read_items(params, &mut items).is_err() {
+        return Judgement::Refuse(Refusal::Unreadable);
+    }
+    let mut places = DataItems::new();
+    if read_data_items(body, items.len(), &mut places).is_err() {
+        return Judgement::Refuse(Refusal::Unreadable);
+    }
+    if 14 + items.len() > usize::from(pdu) {
+        return Judgement::Refuse(Refusal::OverPdu);
+    }
+    Judgement::Write {
+        items,
+        places,
+        body,
+    }
+}
+
+fn judge_user(granted: Option<u16>, params: &[u8]) -> Refusal
+    ensures { refuse result ≡ user_at granted params.now }
+{
+    if granted.is_none() {
+        return Refusal::NotNegotiated;
+    }
+    if params.is_empty() {
+        return Refusal::UnknownFunction;
+    }
+    match read_user(params) {
+        Ok(_) => Refusal::UnknownFunction,
+        Err(_) => Refusal::Unreadable,
+    }
+}

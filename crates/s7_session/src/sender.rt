@@ -1,0 +1,155 @@
+// Messages and confirms that go out.
+ghost use Rattle.std.specs.Prelude.{◌≡◌, ◌==◌, ℕ, ◌+◌, ◌≤◌, List, [], ◌∷◌, ◌++◌, length, IfOk, slice_range};
+ghost use Rattle.s7_cotp.specs.Told.{connection_of};
+ghost use Rattle.s7_cotp.specs.Spelling.{spelling_of_confirm};
+ghost use Rattle.s7_tpkt.specs.Packets.{packet_of};
+ghost use Rattle.s7_header.specs.Negotiation.{negotiation_spelling};
+ghost use Rattle.s7_plant.specs.Replies.{said_of};
+ghost use Rattle.s7_session.specs.Judgement.{answer_octets, refusal_octets, reply_octets};
+ghost use Rattle.s7_session.specs.Sent.{sent_message, fragment_octets};
+
+use crate::boxes::Outbox;
+use s7_cotp::{Connection, fragments, write_confirm, write_data};
+use s7_header::{
+    Header, Kind, MOST_PDU, Negotiation, write_header, write_negotiate, write_refusal,
+};
+use s7_outer::{Buffer, Memory};
+use s7_plant::Reply;
+use std::alloc::Global;
+
+/// How many octets a message that goes out has at most.
+pub(crate) const MOST: usize = MOST_PDU as usize;
+
+/// The header of a data TPDU.
+const DATA_HEADER: usize = 3;
+
+/// How many octets a confirm has at most: its header, and a size and two TSAPs.
+const CONFIRM: usize = 64;
+
+/// Puts messages together, and holds the octets that are to be sent.
+#[derive(Drop)]
+pub(crate) struct Sender {
+    message: Buffer,
+    pub(crate) outbox: Outbox,
+    ghost room: { message.room ≡ 960 },
+}
+
+impl Sender {
+    /// Nothing is to be sent. `Memory` comes where there is none for the longest message.
+    pub(crate) fn new(alloc: Global) -> Result<Sender, Memory>
+        ensures { IfOk result (λ s. s.outbox ≡ record { unsent = []; room = 4096 }) }
+    {
+        Ok(Sender {
+            message: Buffer::new(alloc, MOST)?,
+            outbox: Outbox::new(),
+        })
+    }
+
+    /// Puts the answer to a job, of at most 960 octets.
+    pub(crate) fn put_answer(&mut self, size: u16, sequence: u16, params: &[u8], body: &[u8])
+        requires least { 128 ≤ size }
+        requires most { size ≤ 8192 }
+        requires fits { 12 + length params.now + length body.now ≤ 960 }
+        requires room { 1016 ≤ self.old.outbox.room }
+        ensures { self.new.outbox.unsent ≡ self.old.outbox.unsent ++ sent_message size (answer_octets sequence params.now body.now) }
+    {
+        let header = Header {
+            kind: Kind::AckData,
+            sequence,
+            param_len: params.len() as u16,
+            body_len: body.len() as u16,
+            error: 0,
+        };
+        let mut octets = [0u8; 12];
+        let len = write_header(&header, &mut octets);
+        self.message.clear();
+        self.message.add(&octets[..len]);
+        self.message.add(params);
+        self.message.add(body);
+        put_message(&mut self.outbox, size, self.message.as_slice());
+    }
+
+    /// Puts the refusal of a message with this sequence.
+    pub(crate) fn put_refusal(&mut self, size: u16, sequence: u16, error: u16)
+        requires least { 128 ≤ size }
+        requires most { size ≤ 8192 }
+        requires room { 1016 ≤ self.old.outbox.room }
+        ensures { self.new.outbox.unsent ≡ self.old.outbox.unsent ++ sent_message size (refusal_octets sequence error) }
+    {
+        let mut octets = [0u8; 12];
+        write_refusal(sequence, error, &mut octets);
+        put_message(&mut self.outbox, size, &octets);
+    }
+
+    /// Puts the answer of a reply: a refusal where it has an error.
+    pub(crate) fn put_reply(&mut self, size: u16, sequence: u16, reply: &Reply)
+        requires least { 128 ≤ size }
+        requires most { size ≤ 8192 }
+        requires fits { reply.now.error ≡ 0 → 12 + length reply.now.params.octets + length reply.now.body.octets ≤ 960 }
+        requires room { 1016 ≤ self.old.outbox.room }
+        ensures { self.new.outbox.unsent ≡ self.old.outbox.unsent ++ sent_message size (reply_octets sequence (said_of reply.now)) }
+    {
+        if reply.error == 0 {
+            self.put_answer(
+                size,
+                sequence,
+                reply.params.as_slice(),
+                reply.body.as_slice(),
+            );
+        } else {
+            self.put_refusal(size, sequence, reply.error);
+        }
+    }
+
+    /// Puts the answer to a negotiation.
+    pub(crate) fn put_grant(&mut self, size: u16, sequence: u16, granted: &Negotiation)
+        requires least { 128 ≤ size }
+        requires most { size ≤ 8192 }
+        requires room { 1016 ≤ self.old.outbox.room }
+        ensures { self.new.outbox.unsent ≡ self.old.outbox.unsent ++ sent_message size (answer_octets sequence (negotiation_spelling granted.now) []) }
+    {
+        let mut params = [0u8; 8];
+        write_negotiate(granted, &mut params);
+        self.put_answer(size, sequence, &params, &[]);
+    }
+
+    /// Puts the confirm of a connect request.
+    pub(crate) fn put_confirm(&mut self, c: &Connection)
+        requires least_size { 7 ≤ c.now.size_code }
+        requires most_size { c.now.size_code ≤ 13 }
+        requires calling { c.now.calling.len ≤ 16 }
+        requires called { c.now.called.len ≤ 16 }
+        requires room { 1016 ≤ self.old.outbox.room }
+        ensures { self.new.outbox.unsent ≡ self.old.outbox.unsent ++ packet_of (spelling_of_confirm (connection_of c.now)) }
+    {
+        let mut octets = [0u8; CONFIRM];
+        let len = write_confirm(c, &mut octets);
+        self.outbox.put(&octets[..len]);
+    }
+}
+
+// Puts a message in fragments.
+fn put_message(outbox: &mut Outbox, size: u16, message: &[u8])
+    requires least { 128 ≤ size }
+    requires most { size ≤ 8192 }
+    requires fits { length message.now ≤ 960 }
+    requires room { 1016 ≤ outbox.old.room }
+    ensures { outbox.new.unsent ≡ outbox.old.unsent ++ sent_message size message.now }
+{
+    for (start, end) in fragments(message.len(), usize::from(size)) {
+        put_fragment(outbox, message, start, end);
+    }
+}
+
+fn put_fragment(outbox: &mut Outbox, message: &[u8], start: usize, end: usize)
+    requires order { start ≤ end }
+    requires within { end ≤ length message.now }
+    requires fits { length message.now ≤ 960 }
+    requires room { length (fragment_octets message.now (start, end)) ≤ outbox.old.room }
+    ensures unsent { outbox.new.unsent ≡ outbox.old.unsent ++ fragment_octets message.now (start, end) }
+    ensures room { outbox.new.room + length (fragment_octets message.now (start, end)) ≡ outbox.old.room }
+{
+    let mut tpdu = [0u8; MOST + DATA_HEADER];
+    let len = write_data(end == message.len(), &message[start..end], &mut tpdu);
+    outbox.put(&tpdu[..len]);
+}

@@ -1,0 +1,345 @@
+ghost use Rattle.std.specs.Prelude.{◌<◌, ◌≤◌};
+
+use super::*;
+use s7_area::{AreaKey, Areas};
+use s7_outer::{FailingLink, Fate, Memory, MemoryLink, Octets};
+use s7_plant::{Plant, Reply, Request};
+use std::alloc::Global;
+use std::sync::Wait;
+use std::test::Fail;
+
+/// A plant with data block 1, `11 22 33 44`, that carries out so many requests and is full then.
+#[derive(Drop)]
+struct Desk {
+    plant: Plant,
+    count: u64,
+    room: u64,
+    ghost fits: { count ≤ room },
+}
+
+impl Desk {
+    fn new(alloc: Global, room: u64) -> Result<Desk, Memory> {
+        let key = AreaKey {
+            area: 0x84,
+            number: 1,
+        };
+        let octets = Octets::copy_of(alloc, &[0x11, 0x22, 0x33, 0x44])?;
+        let mut areas = Areas::new();
+        if areas.register(alloc, key, octets).is_err() {
+            return Err(Memory);
+        }
+        Ok(Desk {
+            plant: Plant::new(areas),
+            count: 0,
+            room,
+        })
+    }
+}
+
+impl Doer for Desk {
+    ghost stands = { λ d entries. Unit {0} };
+
+    ghost is_full = { λ d r. d.room ≤ d.count };
+
+    ghost keeps = { λ d e. Unit {0} };
+
+    ghost keeps_same = { λ d. tt };
+
+    ghost keeps_both = { λ a b c p q. tt };
+
+    fn act(&mut self, request: Request, reply: &mut Reply) -> Result<u64, Request> {
+        if self.count == self.room {
+            return Err(request);
+        }
+        let mut request = request;
+        self.plant.step(&mut request, reply);
+        self.count += 1;
+        Ok(self.count)
+    }
+}
+
+const CONNECT: &[u8] =
+    b"\x03\x00\x00\x16\x11\xE0\x00\x00\x00\x01\x00\xC0\x01\x0A\xC1\x02\x01\x00\xC2\x02\x01\x02";
+
+const CONFIRM: &[u8] =
+    b"\x03\x00\x00\x16\x11\xD0\x00\x01\x00\x01\x00\xC0\x01\x0A\xC1\x02\x01\x00\xC2\x02\x01\x02";
+
+const SETUP: &[u8] =
+    b"\x03\x00\x00\x19\x02\xF0\x80\x32\x01\x00\x00\x00\x04\x00\x08\x00\x00\xF0\x00\x00\x01\x00\x01\x01\xE0";
+
+const GRANTED: &[u8] =
+    b"\x03\x00\x00\x1B\x02\xF0\x80\x32\x03\x00\x00\x00\x04\x00\x08\x00\x00\x00\x00\xF0\x00\x00\x01\x00\x01\x01\xE0";
+
+const READ: &[u8] =
+    b"\x03\x00\x00\x1F\x02\xF0\x80\x32\x01\x00\x00\x00\x05\x00\x0E\x00\x00\x04\x01\x12\x0A\x10\x02\x00\x04\x00\x01\x84\x00\x00\x00";
+
+const READ_ANSWER: &[u8] =
+    b"\x03\x00\x00\x1D\x02\xF0\x80\x32\x03\x00\x00\x00\x05\x00\x02\x00\x08\x00\x00\x04\x01\xFF\x04\x00\x20\x11\x22\x33\x44";
+
+/// The read's message in two fragments.
+const READ_FRONT: &[u8] = b"\x03\x00\x00\x0C\x02\xF0\x00\x32\x01\x00\x00\x00";
+
+const READ_REST: &[u8] =
+    b"\x03\x00\x00\x1A\x02\xF0\x80\x05\x00\x0E\x00\x00\x04\x01\x12\x0A\x10\x02\x00\x04\x00\x01\x84\x00\x00\x00";
+
+/// The write of three items, whose second lies outside of its data block.
+const WRITE: &[u8] =
+    b"\x03\x00\x00\x48\x02\xF0\x80\x32\x01\x00\x00\x00\x0A\x00\x26\x00\x11\x05\x03\x12\x0A\x10\x02\x00\x01\x00\x01\x84\x00\x00\x00\x12\x0A\x10\x02\x00\x01\x00\x01\x84\x00\x00\x20\x12\x0A\x10\x02\x00\x01\x00\x01\x84\x00\x00\x18\x00\x04\x00\x08\xAA\x00\x00\x04\x00\x08\xBB\x00\x00\x04\x00\x08\xCC";
+
+const WRITE_ANSWER: &[u8] =
+    b"\x03\x00\x00\x18\x02\xF0\x80\x32\x03\x00\x00\x00\x0A\x00\x02\x00\x03\x00\x00\x05\x03\xFF\x05\xFF";
+
+const READ_AFTER_WRITE: &[u8] =
+    b"\x03\x00\x00\x1D\x02\xF0\x80\x32\x03\x00\x00\x00\x05\x00\x02\x00\x08\x00\x00\x04\x01\xFF\x04\x00\x20\xAA\x22\x33\xCC";
+
+const DISCONNECT: &[u8] = b"\x03\x00\x00\x0B\x06\x80\x00\x01\x00\x01\x80";
+
+/// What comes in on a link, and what becomes of it.
+#[derive(Drop)]
+struct Row {
+    input: &'static [&'static [u8]],
+    output: &'static [&'static [u8]],
+    outcome: Outcome,
+    entries: u64,
+}
+
+fn joined(alloc: Global, parts: &[&[u8]]) -> Result<Vec<u8>, Memory> {
+    let mut all = Vec::new(alloc);
+    for part in parts {
+        all.extend_from_slice(part)?;
+    }
+    Ok(all)
+}
+
+/// A link that gives this input in pieces of at most `most` octets is served as the row says.
+fn is_served<R: Wait>(
+    rt: &R,
+    alloc: Global,
+    row: &Row,
+    most: usize,
+    room: u64,
+) -> Result<bool, Memory>
+    requires { 0 < most }
+{
+    let input = Octets::of_vec(joined(alloc, row.input)?);
+    let mut line = MemoryLink::new(alloc, input, most, 4_096, 7)?;
+    let mut desk = Desk::new(alloc, room)?;
+    let mut session = Session::new(alloc, 1)?;
+    let outcome = session.serve(rt, alloc, &mut line, &mut desk);
+    let output = joined(alloc, row.output)?;
+    let last = if row.entries == 0 {
+        None
+    } else {
+        Some(row.entries)
+    };
+    Ok(
+        outcome == row.outcome
+            && line.written() == output.as_slice()
+            && session.entries() == row.entries
+            && session.last() == last,
+    )
+}
+
+/// The row holds however the octets are cut.
+fn is_served_in_pieces<R: Wait>(
+    rt: &R,
+    alloc: Global,
+    row: &Row,
+    room: u64,
+) -> Result<bool, Memory> {
+    Ok(
+        is_served(rt, alloc, row, 8_192, room)?
+            && is_served(rt, alloc, row, 3, room)?
+            && is_served(rt, alloc, row, 1, room)?,
+    )
+}
+
+#[test]
+fn telegrams_are_answered(rt: HostRuntime) -> Result<(), Fail> {
+    let rows = [
+        Row {
+            input: &[CONNECT, SETUP, READ],
+            output: &[CONFIRM, GRANTED, READ_ANSWER],
+            outcome: Outcome::Ended,
+            entries: 1,
+        },
+        Row {
+            input: &[
+                CONNECT, SETUP, READ_FRONT, READ_REST, READ, DISCONNECT, READ,
+            ],
+            output: &[CONFIRM, GRANTED, READ_ANSWER, READ_ANSWER],
+            outcome: Outcome::Ended,
+            entries: 2,
+        },
+        Row {
+            input: &[CONNECT, SETUP, WRITE, READ],
+            output: &[CONFIRM, GRANTED, WRITE_ANSWER, READ_AFTER_WRITE],
+            outcome: Outcome::Ended,
+            entries: 2,
+        },
+    ];
+    for row in &rows {
+        assert!(rt; is_served_in_pieces(&rt, rt.alloc(), row, 9)?);
+    }
+    Ok(())
+}
+
+#[test]
+fn refused_telegrams_leave_the_link(rt: HostRuntime) -> Result<(), Fail> {
+    let rows = [
+        // A PDU of 63 is asked for, and then a read without any.
+        Row {
+            input: &[
+                CONNECT,
+                b"\x03\x00\x00\x19\x02\xF0\x80\x32\x01\x00\x00\x00\x01\x00\x08\x00\x00\xF0\x00\x00\x01\x00\x01\x00\x3F",
+                READ,
+            ],
+            output: &[
+                CONFIRM,
+                b"\x03\x00\x00\x13\x02\xF0\x80\x32\x02\x00\x00\x00\x01\x00\x00\x00\x00\x85\x00",
+                b"\x03\x00\x00\x13\x02\xF0\x80\x32\x02\x00\x00\x00\x05\x00\x00\x00\x00\x84\x03",
+            ],
+            outcome: Outcome::Ended,
+            entries: 0,
+        },
+        // A function that isn't served, lengths that disagree, and a read of no items.
+        Row {
+            input: &[
+                CONNECT,
+                SETUP,
+                b"\x03\x00\x00\x12\x02\xF0\x80\x32\x01\x00\x00\x00\x11\x00\x01\x00\x00\x99",
+                b"\x03\x00\x00\x13\x02\xF0\x80\x32\x01\x00\x00\x00\x22\x00\x0E\x00\x00\x04\x01",
+                b"\x03\x00\x00\x13\x02\xF0\x80\x32\x01\x00\x00\x00\x23\x00\x02\x00\x00\x04\x00",
+            ],
+            output: &[
+                CONFIRM,
+                GRANTED,
+                b"\x03\x00\x00\x13\x02\xF0\x80\x32\x02\x00\x00\x00\x11\x00\x00\x00\x00\x81\x04",
+                b"\x03\x00\x00\x13\x02\xF0\x80\x32\x02\x00\x00\x00\x22\x00\x00\x00\x00\x85\x00",
+                b"\x03\x00\x00\x13\x02\xF0\x80\x32\x02\x00\x00\x00\x23\x00\x00\x00\x00\x84\x04",
+            ],
+            outcome: Outcome::Ended,
+            entries: 0,
+        },
+        // A history with room for one telegram.
+        Row {
+            input: &[CONNECT, SETUP, READ, READ],
+            output: &[
+                CONFIRM,
+                GRANTED,
+                READ_ANSWER,
+                b"\x03\x00\x00\x13\x02\xF0\x80\x32\x02\x00\x00\x00\x05\x00\x00\x00\x00\x8F\x01",
+            ],
+            outcome: Outcome::Ended,
+            entries: 1,
+        },
+    ];
+    for row in &rows {
+        assert!(rt; is_served_in_pieces(&rt, rt.alloc(), row, 1)?);
+    }
+    Ok(())
+}
+
+#[test]
+fn a_link_ends_with_its_reason(rt: HostRuntime) -> Result<(), Fail> {
+    let rows: [(&'static [&'static [u8]], &'static [&'static [u8]], Outcome); 11] = [
+        (&[], &[], Outcome::Ended),
+        (&[b"\x03\x00\x00"], &[], Outcome::Torn(3)),
+        // Five octets of a message, and three of a packet.
+        (
+            &[CONNECT, READ_FRONT, b"\x03\x00\x00"],
+            &[CONFIRM],
+            Outcome::Torn(8),
+        ),
+        (
+            &[CONNECT, READ_FRONT, DISCONNECT],
+            &[CONFIRM],
+            Outcome::Torn(5),
+        ),
+        (&[b"\x04"], &[], Outcome::BadFrame { at: 0 }),
+        (
+            &[CONNECT, SETUP, b"\x03\x00\x00\x06"],
+            &[CONFIRM, GRANTED],
+            Outcome::BadFrame { at: 47 },
+        ),
+        // 1,032 octets, where the TPDU size is 1,024.
+        (
+            &[CONNECT, b"\x03\x00\x04\x08"],
+            &[CONFIRM],
+            Outcome::FrameTooLong { at: 22 },
+        ),
+        (
+            &[CONNECT, b"\x03\x00\x00\x07\x02\x10\x80"],
+            &[CONFIRM],
+            Outcome::BadTpdu { at: 22 },
+        ),
+        (&[SETUP], &[], Outcome::Unexpected { at: 0 }),
+        (
+            &[CONNECT, CONNECT],
+            &[CONFIRM],
+            Outcome::Unexpected { at: 22 },
+        ),
+        (
+            &[
+                CONNECT,
+                SETUP,
+                b"\x03\x00\x00\x11\x02\xF0\x80\x33\x01\x00\x00\x00\x04\x00\x00\x00\x00",
+                READ,
+            ],
+            &[CONFIRM, GRANTED],
+            Outcome::NotS7 { at: 47 },
+        ),
+    ];
+    for (input, output, outcome) in rows {
+        let row = Row {
+            input,
+            output,
+            outcome,
+            entries: 0,
+        };
+        assert!(rt; is_served_in_pieces(&rt, rt.alloc(), &row, 9)?);
+    }
+    Ok(())
+}
+
+#[test]
+fn a_link_without_room_fails(rt: HostRuntime) -> Result<(), Fail> {
+    let input = Octets::copy_of(rt.alloc(), CONNECT)?;
+    let mut line = MemoryLink::new(rt.alloc(), input, 8_192, 10, 7)?;
+    let mut desk = Desk::new(rt.alloc(), 9)?;
+    let mut session = Session::new(rt.alloc(), 1)?;
+    let outcome = session.serve(&rt, rt.alloc(), &mut line, &mut desk);
+    assert!(rt; outcome == Outcome::WriteFault);
+    assert!(rt; line.written() == &CONFIRM[..10]);
+    Ok(())
+}
+
+#[test]
+fn a_turn_tells_what_it_did(rt: HostRuntime) -> Result<(), Fail> {
+    let input = Octets::copy_of(rt.alloc(), CONNECT)?;
+    let inner = MemoryLink::new(rt.alloc(), input, 8_192, 64, 7)?;
+    let fates = [
+        Fate::NotYet,
+        Fate::Pass,
+        Fate::NotYet,
+        Fate::Pass,
+        Fate::Fail,
+    ]
+    .to_vec(rt.alloc())?;
+    let mut line = FailingLink::new(inner, fates);
+    let mut desk = Desk::new(rt.alloc(), 9)?;
+    let mut session = Session::new(rt.alloc(), 1)?;
+    let turns = [
+        Turn::NotYet,
+        Turn::Went,
+        Turn::NotYet,
+        Turn::Went,
+        Turn::Closed(Outcome::ReadFault),
+        Turn::Closed(Outcome::ReadFault),
+    ];
+    for turn in turns {
+        assert!(rt; session.turn(rt.alloc(), &mut line, &mut desk) == turn);
+    }
+    assert!(rt; line.inner().written() == CONFIRM);
+    Ok(())
+}
