@@ -1,11 +1,8 @@
-pub mod Words
-pub mod Opening
 pub mod Block
-pub mod Stage
-pub mod Message
-pub mod Owed
-pub mod Step
-pub mod Link
-pub mod Session
-pub mod Report
+pub mod Doing
 pub mod End
+pub mod History
+pub mod Link
+pub mod Opening
+pub mod Report
+pub mod Words

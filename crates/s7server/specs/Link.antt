@@ -1,65 +1,53 @@
--- What serving one link over a data block leaves, from outside.
-use Rattle.std.specs.Prelude.{◌≡◌, ◌≢◌, ℕ, ◌<◌, ◌≤◌, List, [], ◌++◌, length, take, IsTrue}
-use Rattle.std.specs.Io.KnownBytes.{prepend_known, append_known, IsAtEnd}
+-- What serving one link leaves, from outside.
+use Rattle.std.specs.Prelude.{◌≡◌, ◌⊎◌, ℕ, List, length, map}
+use Rattle.std.specs.Io.KnownBytes.{prepend_known, append_known}
 use Rattle.s7_outer.specs.Shown.{Shown}
-use Rattle.s7_outer.specs.Count.{Rose}
-use Rattle.s7server.specs.Owed.{owed, entries_of, end_of, spent}
-use Rattle.s7server.specs.declared.outcome.Outcome.{Outcome}
-use Rattle.s7server.specs.declared.outcome.Outcome.TheVariants as outcome
+use Rattle.s7_outer.specs.Count.{RoseBy}
+use Rattle.s7_area.specs.Memory.{Memory}
+use Rattle.s7_plant.specs.declared.request.Request.{Request}
+use Rattle.s7_plant.specs.Histories.{replay}
+use Rattle.s7_session.specs.declared.outcome.Outcome.{Outcome}
+use Rattle.s7_session.specs.declared.outcome.Outcome.TheVariants as outcome
+use Rattle.s7_session.specs.Entry.{asked}
+use Rattle.s7_session.specs.Verdict.{Verdict}
+use Rattle.s7_session.specs.Owed.{owed, entered}
+use Rattle.s7_session.specs.Answers.{AnyFull, FullStays, AllAt, clock_failures}
+use Rattle.s7_session.specs.LinkRun.{IsWritten, IsEnd}
+use Rattle.s7server.specs.History.{history}
+use Rattle.s7server.specs.Doing.{most_requests}
 
--- the front of a list
-abbrev pub IsFrontOf : List ℕ → List ℕ → Type 0
-IsFrontOf front all = (rest : List ℕ) × (all ≡ front ++ rest)
-
--- what is owed for the octets taken was written, and its reads were entered
-pub record IsAnswered (number : ℕ) (octets : List ℕ) (taken written : List ℕ) (entries : ℕ) : Type 0 where
-  pub written_is : written ≡ owed number octets taken
-  pub entries_is : entries ≡ entries_of number octets taken
-
--- The answers broke off. The octets that were handled are the first of those taken, and of what is owed for them a
--- front was written, and not all. Only the packet that the last of them ended lacks octets of its answer.
-pub record IsBrokenOff (number : ℕ) (octets : List ℕ) (taken written : List ℕ) (entries : ℕ) : Type 0 where
-  pub handled : List ℕ
-  pub unhandled : List ℕ
-  pub missing : List ℕ
-  pub front : taken ≡ handled ++ unhandled
-  pub broken : owed number octets handled ≡ written ++ missing
-  pub some : 0 < length missing
-  pub before : (n : ℕ) → n < length handled → IsFrontOf (owed number octets (take n handled)) written
-  pub entries_is : entries ≡ entries_of number octets handled
-
--- all answers were written, unless a transmit failed
-abbrev pub Answers : ℕ → List ℕ → List ℕ → List ℕ → ℕ → Outcome → Type 0
-Answers number octets taken written entries outcome.Ended = IsAnswered number octets taken written entries
-Answers number octets taken written entries (outcome.Torn n) = IsAnswered number octets taken written entries
-Answers number octets taken written entries outcome.Unbuilt = IsAnswered number octets taken written entries
-Answers number octets taken written entries outcome.ReadFault = IsAnswered number octets taken written entries
-Answers number octets taken written entries outcome.WriteFault = IsBrokenOff number octets taken written entries
-Answers number octets taken written entries outcome.Spent = IsAnswered number octets taken written entries
-Answers number octets taken written entries outcome.Memory = IsAnswered number octets taken written entries
-
--- why the link ended: after so many octets as are taken at most only a fault of the last packet, and a failure at its
--- answer, come before `Spent`
-abbrev pub IsEnd : ℕ → List ℕ → Shown → Shown → List ℕ → Outcome → Type 0
-IsEnd number octets pipe line taken outcome.Ended =
-    (end_of number octets taken ≡ outcome.Ended) × IsAtEnd line.left × IsTrue line.has_ended × (length taken < spent)
-IsEnd number octets pipe line taken (outcome.Torn n) =
-    (end_of number octets taken ≡ outcome.Torn n) × IsAtEnd line.left × IsTrue line.has_ended × (length taken < spent)
-IsEnd number octets pipe line taken outcome.Unbuilt = end_of number octets taken ≡ outcome.Unbuilt
-IsEnd number octets pipe line taken outcome.ReadFault =
-    Rose pipe.faults line.faults × (end_of number octets taken ≢ outcome.Unbuilt) × (length taken < spent)
-IsEnd number octets pipe line taken outcome.WriteFault = Rose pipe.faults line.faults
-IsEnd number octets pipe line taken outcome.Spent = (length taken ≡ spent) × (end_of number octets taken ≢ outcome.Unbuilt)
-IsEnd number octets pipe line taken outcome.Memory = taken ≡ []
-
--- A LINK THAT WAS SERVED over the data block of this number with these octets: what it showed before and after, how
--- it ended, and how many reads were entered
-pub record IsServedLink (number : ℕ) (octets : List ℕ) (pipe line : Shown) (result : Outcome) (entries : ℕ) : Type 0 where
-  -- the octets taken from it, and those written on it
+-- A LINK THAT WAS SERVED over a memory: what it showed before and after, the memory that was left, how it ended, and
+-- how many telegrams were entered
+pub record IsServedLink (opening : Memory) (pipe line : Shown) (closing : Memory) (result : Outcome) (accepted : ℕ) : Type 0 where
+  -- the octets taken from it, those written on it, and the verdicts of its telegrams
   pub taken : List ℕ
   pub written : List ℕ
-  pub most : length taken ≤ spent
+  pub verdicts : List Verdict
+  -- the requests that were entered
+  pub requests : List Request
   pub took : pipe.left ≡ prepend_known taken line.left
   pub wrote : line.written ≡ append_known pipe.written written
-  pub answers : Answers number octets taken written entries result
-  pub end : IsEnd number octets pipe line taken result
+  -- the answers that are owed, or a front of them where a transmit failed
+  pub answers : IsWritten result written (owed taken verdicts)
+  -- the requests are those that the telegrams asked, in order, and each was answered by the memory at its place
+  pub legal : entered taken verdicts ≡ map asked (history opening requests)
+  pub closing_is : closing ≡ replay opening requests
+  pub entries : accepted ≡ length requests
+  -- a telegram was refused for want of room only after so many requests, and none was entered afterwards
+  pub full : AnyFull verdicts → length requests ≡ most_requests
+  pub full_stays : FullStays verdicts
+  -- the clock failed as often as it was told
+  pub clock : RoseBy (clock_failures verdicts) pipe.clock_faults line.clock_faults
+  pub moments : AllAt pipe.moment (history opening requests)
+  pub end : IsEnd pipe line taken verdicts result
+
+-- memory was wanting for the link's buffers, and nothing became of it
+pub record IsLeftAlone (opening : Memory) (pipe line : Shown) (closing : Memory) (result : Outcome) (accepted : ℕ) : Type 0 where
+  pub line_is : line ≡ pipe
+  pub closing_is : closing ≡ opening
+  pub result_is : result ≡ outcome.Memory
+  pub entries : accepted ≡ 0
+
+abbrev pub IsServed : Memory → Shown → Shown → Memory → Outcome → ℕ → Type 0
+IsServed opening pipe line closing result accepted =
+    IsServedLink opening pipe line closing result accepted ⊎ IsLeftAlone opening pipe line closing result accepted

@@ -4,8 +4,8 @@ use Rattle.std.specs.Fmt.{decimal}
 use Rattle.std.specs.Io.KnownBytes.{append_known}
 use Rattle.s7_outer.specs.Count.{Rose}
 use Rattle.s7_outer.specs.Out.{AppendsPrefix}
-use Rattle.s7server.specs.declared.outcome.Outcome.{Outcome}
-use Rattle.s7server.specs.declared.outcome.Outcome.TheVariants as outcome
+use Rattle.s7_session.specs.declared.outcome.Outcome.{Outcome}
+use Rattle.s7_session.specs.declared.outcome.Outcome.TheVariants as outcome
 
 -- a line ends with LF
 abbrev pub line_end : List ℕ
@@ -14,7 +14,13 @@ line_end = 10 ∷ []
 abbrev pub outcome_text : Outcome → List ℕ
 outcome_text outcome.Ended = codes "ended"
 outcome_text (outcome.Torn n) = codes "torn " ++ decimal n
-outcome_text outcome.Unbuilt = codes "unbuilt"
+outcome_text (outcome.BadFrame at) = codes "bad-frame " ++ decimal at
+outcome_text (outcome.FrameTooLong at) = codes "frame-too-long " ++ decimal at
+outcome_text (outcome.BadTpdu at) = codes "bad-tpdu " ++ decimal at
+outcome_text (outcome.Unexpected at) = codes "unexpected " ++ decimal at
+outcome_text (outcome.TooManyFragments at) = codes "too-many-fragments " ++ decimal at
+outcome_text (outcome.TooLong at) = codes "too-long " ++ decimal at
+outcome_text (outcome.NotS7 at) = codes "not-s7 " ++ decimal at
 outcome_text outcome.ReadFault = codes "read-fault"
 outcome_text outcome.WriteFault = codes "write-fault"
 outcome_text outcome.Spent = codes "spent"

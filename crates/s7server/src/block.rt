@@ -1,42 +1,39 @@
 // One data block.
-ghost use Rattle.std.specs.Prelude.{◌≡◌, ◌≤◌, length};
-ghost use Rattle.s7server.specs.Block.{read_code, read_octets};
+ghost use Rattle.std.specs.Prelude.{◌≡◌, ◌≤◌, length, IfOk};
+ghost use Rattle.s7server.specs.Block.{opening};
 
-use s7_item::Item;
-use s7_outer::Octets;
+use s7_area::{AreaKey, Areas, RegisterFault};
+use s7_outer::{Memory, Octets};
+use std::alloc::Global;
 
-/// The item was read.
-const GOOD: u8 = 0xFF;
+/// The area of data blocks.
+const DATA_BLOCK: u8 = 0x84;
 
-/// The item's place isn't inside the block.
-const OUT_OF_RANGE: u8 = 0x05;
-
-/// Another block is asked for.
-const NOT_AVAILABLE: u8 = 0x0A;
-
-/// A data block: its number, and its octets.
+/// A data block: its number, from 1 on, and its octets, from 1 to 65,536.
 #[derive(Debug, Drop)]
 pub struct DataBlock {
     pub number: u16,
     pub octets: Octets,
+    ghost least: { 1 ≤ number },
+    ghost some: { 1 ≤ length octets },
+    ghost most: { length octets ≤ 65536 },
 }
 
 impl DataBlock {
-    /// Reads bytes: the item's code, and its octets, of which a refused item has none.
-    pub fn read(&self, item: &Item) -> (u8, &[u8])
-        ensures code { result.0 ≡ read_code self.now.number self.now.octets item.now }
-        ensures octets { result.1.now ≡ read_octets self.now.number self.now.octets item.now }
-        ensures len { length result.1.now ≤ item.now.count }
+    /// The areas of a controller that has this block alone. `Memory` comes where there is none for
+    /// them.
+    pub fn into_areas(self, alloc: Global) -> Result<Areas, Memory>
+        ensures { IfOk result (λ areas. areas ≡ opening self.number self.octets) }
     {
-        if item.db != self.number {
-            return (NOT_AVAILABLE, &[]);
+        let key = AreaKey {
+            area: DATA_BLOCK,
+            number: self.number,
+        };
+        let mut areas = Areas::new();
+        match areas.register(alloc, key, self.octets) {
+            Ok(()) => Ok(areas),
+            Err((RegisterFault::Memory, _)) => Err(Memory),
+            Err(_) => unreachable!(),
         }
-        let octets = self.octets.as_slice();
-        let start = (item.address / 8) as usize;
-        let end = start + usize::from(item.count);
-        if item.count == 0 || octets.len() < end {
-            return (OUT_OF_RANGE, &[]);
-        }
-        (GOOD, &octets[start..end])
     }
 }

@@ -1,16 +1,10 @@
 //! Serves a data block on standard input and output, as a controller would.
 #![tactic(auto)]
 
-mod answer;
 mod block;
-mod boxes;
-mod outcome;
-mod packet;
-mod reply;
+mod doer;
 mod report;
 mod server;
-mod session;
-mod stage;
 #[cfg(test)]
 mod tests;
 mod words;

@@ -2,7 +2,7 @@
 ghost use Rattle.std.specs.Prelude.{◌≡◌, IfOk, string_bytes};
 ghost use Rattle.s7server.specs.Report.{outcome_text, lines_of, report_of};
 
-use crate::outcome::Outcome;
+use s7_session::Outcome;
 use std::alloc::{AllocError, Global};
 
 /// The report of one served link.
@@ -25,7 +25,13 @@ fn outcome_text(alloc: Global, outcome: Outcome) -> Result<String, AllocError>
     match outcome {
         Outcome::Ended => String::from_str(alloc, "ended"),
         Outcome::Torn(count) => format!(in alloc; "torn {count}"),
-        Outcome::Unbuilt => String::from_str(alloc, "unbuilt"),
+        Outcome::BadFrame { at } => format!(in alloc; "bad-frame {at}"),
+        Outcome::FrameTooLong { at } => format!(in alloc; "frame-too-long {at}"),
+        Outcome::BadTpdu { at } => format!(in alloc; "bad-tpdu {at}"),
+        Outcome::Unexpected { at } => format!(in alloc; "unexpected {at}"),
+        Outcome::TooManyFragments { at } => format!(in alloc; "too-many-fragments {at}"),
+        Outcome::TooLong { at } => format!(in alloc; "too-long {at}"),
+        Outcome::NotS7 { at } => format!(in alloc; "not-s7 {at}"),
         Outcome::ReadFault => String::from_str(alloc, "read-fault"),
         Outcome::WriteFault => String::from_str(alloc, "write-fault"),
         Outcome::Spent => String::from_str(alloc, "spent"),

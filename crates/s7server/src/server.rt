@@ -1,19 +1,22 @@
 // The whole of what the program does, over a link and an output that are handed in.
-ghost use Rattle.std.specs.Prelude.{◌≡◌, ◌⊎◌, ◌↔◌, map, IsSome, IsNone, IfSome, IfNone, IfOk, Some, None, is_none, if◌then◌else◌};
+ghost use Rattle.std.specs.Prelude.{◌≡◌, [], ◌⊎◌, ◌↔◌, map, IsSome, IsNone, IfSome, IfNone, IfOk, Some, None, is_none, if◌then◌else◌};
 ghost use Rattle.s7_outer.specs.Count.{Rose};
 ghost use Rattle.s7_outer.specs.Out.{AppendsPrefix};
 ghost use Rattle.std.specs.Io.KnownBytes.{append_known};
 ghost use Rattle.s7server.specs.Words.{usage, faulty, told_by};
 ghost use Rattle.s7server.specs.End.{Serves};
-ghost use Rattle.s7server.specs.Link.{IsServedLink};
+ghost use Rattle.s7server.specs.Link.{IsServed};
+ghost use Rattle.s7server.specs.Block.{opening};
+ghost use Rattle.s7server.specs.Doing.{opening_of, memory_of, requests_of};
 ghost use Rattle.s7server.specs.Report.{Prints, usage_line, areas_line, memory_line, report_of};
 
 use crate::block::DataBlock;
-use crate::outcome::Outcome;
+use crate::doer::PlantDoer;
 use crate::report::report;
-use crate::session::Session;
 use crate::words::{Command, read_words};
-use s7_outer::{Link, Octets, Out};
+use s7_area::Areas;
+use s7_outer::{Clock, Link, Memory, Out};
+use s7_session::{Outcome, Session};
 use std::alloc::Global;
 use std::sync::Wait;
 
@@ -32,11 +35,11 @@ pub const OUTPUT: u8 = 5;
 /// Memory was wanting.
 pub const MEMORY: u8 = 9;
 
-/// A link that was served: the octets of the data block as opened, the link as it was left, how it
-/// ended, and how many reads were entered.
+/// A link that was served: the areas and the link as they were left, how the link ended, and how
+/// many telegrams were entered.
 #[derive(Drop)]
 pub struct Run<L: Link + Drop> {
-    pub octets: Octets,
+    pub areas: Areas,
     pub line: L,
     pub outcome: Outcome,
     pub entries: u64,
@@ -55,7 +58,7 @@ pub struct ServerEnd<L: Link + Drop> {
 /// The status is 1 where the words are no command, 2 where the inline word can't be read, 9 where
 /// memory was wanting outside the link's session, 5 where the output failed at the report, and else
 /// 0. For 1, 2 and 9 one line is printed instead.
-pub fn server_main<R: Wait, L: Link + Drop, O: Out>(
+pub fn server_main<R: Wait, L: Link + Clock + Drop, O: Out>(
     rt: &R,
     alloc: Global,
     words: &[&str],
@@ -70,7 +73,7 @@ pub fn server_main<R: Wait, L: Link + Drop, O: Out>(
     ensures output_failed { result.status ≡ OUTPUT → Rose (O.out_faults out.old) (O.out_faults out.new) }
 
     // The link was served, over the block that the words name, or is handed back as it was.
-    ensures served { IfSome result.run (λ run. Serves (told_by (map (λ w. w.now) words.now)) run.octets (L.shows pipe) (L.shows run.line) run.outcome run.entries) }
+    ensures served { IfSome result.run (λ run. Serves (told_by (map (λ w. w.now) words.now)) run.areas (L.shows pipe) (L.shows run.line) run.outcome run.entries) }
     ensures unserved { result.pipe ≡ (if is_none result.run then Some pipe else None) }
     ensures run { (result.status ≡ DONE) ⊎ (result.status ≡ OUTPUT) → IsSome result.run }
     ensures no_run { (result.status ≡ USAGE) ⊎ (result.status ≡ AREAS) → IsNone result.run }
@@ -96,7 +99,7 @@ pub fn server_main<R: Wait, L: Link + Drop, O: Out>(
 }
 
 // Serves the link over a data block, and prints the report.
-fn serve_block<R: Wait, L: Link + Drop, O: Out>(
+fn serve_block<R: Wait, L: Link + Clock + Drop, O: Out>(
     rt: &R,
     alloc: Global,
     block: DataBlock,
@@ -104,21 +107,23 @@ fn serve_block<R: Wait, L: Link + Drop, O: Out>(
     out: &mut O,
 ) -> ServerEnd<L>
     ensures statuses { (result.status ≡ DONE) ⊎ (result.status ≡ OUTPUT) ⊎ (result.status ≡ MEMORY) }
-    ensures run { IsSome result.run }
-    ensures served { IfSome result.run (λ run. (run.octets ≡ block.octets)
-        × IsServedLink block.number block.octets (L.shows pipe) (L.shows run.line) run.outcome run.entries) }
-    ensures no_pipe { result.pipe ≡ None }
+    ensures run { (result.status ≡ DONE) ⊎ (result.status ≡ OUTPUT) → IsSome result.run }
+    ensures served { IfSome result.run (λ run. IsServed (opening block.number block.octets) (L.shows pipe) (L.shows run.line) run.areas run.outcome run.entries) }
+    ensures unserved { result.pipe ≡ (if is_none result.run then Some pipe else None) }
     ensures output_failed { result.status ≡ OUTPUT → Rose (O.out_faults out.old) (O.out_faults out.new) }
     ensures done { result.status ≡ DONE → IfSome result.run (λ run. O.text out.new ≡ append_known (O.text out.old) (report_of run.outcome run.entries)) }
     ensures broken_off { result.status ≡ OUTPUT → IfSome result.run (λ run. AppendsPrefix (O.text out.old) (O.text out.new) (report_of run.outcome run.entries)) }
     ensures memory_line { result.status ≡ MEMORY → Prints (O.text out.old) (O.text out.new) (O.out_faults out.old) (O.out_faults out.new) memory_line }
 {
+    let Ok(mut doer) = open(alloc, block) else {
+        return unserved(MEMORY, b"memory\n", pipe, out);
+    };
     let mut line = pipe;
-    let served = serve_link(rt, alloc, &block, &mut line);
+    let served = serve_link(rt, alloc, &mut line, &mut doer);
     ServerEnd {
         status: print_report(alloc, served.outcome, served.entries, out),
         run: Some(Run {
-            octets: block.octets,
+            areas: doer.into_areas(),
             line,
             outcome: served.outcome,
             entries: served.entries,
@@ -127,24 +132,41 @@ fn serve_block<R: Wait, L: Link + Drop, O: Out>(
     }
 }
 
-// How a link ended, and how many reads were entered.
+// A doer over a data block.
+fn open(alloc: Global, block: DataBlock) -> Result<PlantDoer, Memory>
+    ensures opening { IfOk result (λ d. opening_of d ≡ opening block.number block.octets) }
+    ensures memory { IfOk result (λ d. memory_of d ≡ opening block.number block.octets) }
+    ensures requests { IfOk result (λ d. requests_of d ≡ []) }
+{
+    let areas = block.into_areas(alloc)?;
+    PlantDoer::new(alloc, areas)
+}
+
+// How a link ended, and how many telegrams were entered.
 #[derive(Clone, Copy, Debug)]
 struct Served {
     outcome: Outcome,
     entries: u64,
 }
 
-// Serves a link over a data block.
-fn serve_link<R: Wait, L: Link>(rt: &R, alloc: Global, block: &DataBlock, line: &mut L) -> Served
-    ensures { IsServedLink block.now.number block.now.octets (L.shows line.old) (L.shows line.new) result.outcome result.entries }
+// Serves a link over a fresh doer.
+fn serve_link<R: Wait, L: Link + Clock>(
+    rt: &R,
+    alloc: Global,
+    line: &mut L,
+    doer: &mut PlantDoer,
+) -> Served
+    requires requests { requests_of doer.old ≡ [] }
+    requires memory { memory_of doer.old ≡ opening_of doer.old }
+    ensures { IsServed (opening_of doer.old) (L.shows line.old) (L.shows line.new) (memory_of doer.new) result.outcome result.entries }
 {
-    let Ok(mut session) = Session::new(alloc) else {
+    let Ok(mut session) = Session::new(alloc, 1) else {
         return Served {
             outcome: Outcome::Memory,
             entries: 0,
         };
     };
-    let outcome = session.serve(rt, block, line);
+    let outcome = session.serve(rt, alloc, line, doer);
     Served {
         outcome,
         entries: session.entries(),

@@ -1,51 +1,66 @@
 ghost use Rattle.std.specs.Prelude.{◌<◌};
 
 use crate::server::{ServerEnd, server_main};
+use s7_area::{AreaKey, Areas};
 use s7_outer::{FailingLink, Fate, MemoryLink, MemoryOut, Octets};
 use std::alloc::Global;
 use std::process::Abort;
 use std::sync::Wait;
 use std::test::Fail;
 
-const WORDS: [&str; 2] = ["pipe", "DB1=11223344"];
+const BLOCK: &str = "DB1=11223344";
+
+const OPENED: [u8; 4] = [0x11, 0x22, 0x33, 0x44];
 
 const ROOM: usize = 1 << 16;
 
-/// Per line: what comes, what is written, the outcome, and the entries.
+/// Per line: what comes, what is written, the outcome, and the entries. Nothing; a connect request;
+/// a negotiation; a read, whole and in two fragments; a negotiation of 63 and a read before any; a
+/// disconnect request, after which nothing is taken.
 const SERVED: &str = "||ended|0
 0300001611e00000000100c0010ac1020100c2020102|0300001611d00001000100c0010ac1020100c2020102|ended|0
 0300001611e00000000100c0010ac1020100c2020102 0300001902f08032010000000400080000f0000001000101e0|0300001611d00001000100c0010ac1020100c2020102 0300001b02f080320300000004000800000000f0000001000101e0|ended|0
-0300001611e00000000100c0010ac1020100c2020102 0300001902f08032010000000400080000f0000001000101e0 0300001f02f080320100000005000e00000401120a10020004000184000000|0300001611d00001000100c0010ac1020100c2020102 0300001b02f080320300000004000800000000f0000001000101e0 0300001d02f0803203000000050002000800000401ff04002011223344|ended|1";
+0300001611e00000000100c0010ac1020100c2020102 0300001902f08032010000000400080000f0000001000101e0 0300001f02f080320100000005000e00000401120a10020004000184000000|0300001611d00001000100c0010ac1020100c2020102 0300001b02f080320300000004000800000000f0000001000101e0 0300001d02f0803203000000050002000800000401ff04002011223344|ended|1
+0300001611e00000000100c0010ac1020100c2020102 0300001902f08032010000000400080000f0000001000101e0 0300000c02f0003201000000 0300001a02f08005000e00000401120a10020004000184000000|0300001611d00001000100c0010ac1020100c2020102 0300001b02f080320300000004000800000000f0000001000101e0 0300001d02f0803203000000050002000800000401ff04002011223344|ended|1
+0300001611e00000000100c0010ac1020100c2020102 0300001902f08032010000000100080000f00000010001003f 0300001f02f080320100000002000e00000401120a10020004000184000000|0300001611d00001000100c0010ac1020100c2020102 0300001302f080320200000001000000008500 0300001302f080320200000002000000008403|ended|0
+0300001611e00000000100c0010ac1020100c2020102 0300001902f08032010000000400080000f0000001000101e0 0300001f02f080320100000005000e00000401120a10020004000184000000 0300000b06800001000180 0300001f02f080320100000005000e00000401120a10020004000184000000|0300001611d00001000100c0010ac1020100c2020102 0300001b02f080320300000004000800000000f0000001000101e0 0300001d02f0803203000000050002000800000401ff04002011223344|ended|1";
 
-/// The same, for packets that aren't served.
-const UNBUILT: &str = "030000||torn 3|0
+/// The same, for links that end in a packet or a message, or by a fault of a packet.
+const ENDS: &str = "030000||torn 3|0
 0300001611e000000001||torn 10|0
-04||unbuilt|0
-03000003||unbuilt|0
-03002008||unbuilt|0
-0300ffff||unbuilt|0
-0300001611e00000000100c00107c1020100c2020102||unbuilt|0
-0300001902f08032010000000400080000f0000001000101e0||unbuilt|0
-0300001611e00000000100c0010ac1020100c2020102 0300000702f000|0300001611d00001000100c0010ac1020100c2020102|unbuilt|0
-0300001611e00000000100c0010ac1020100c2020102 0300001002f080320100000000000000|0300001611d00001000100c0010ac1020100c2020102|unbuilt|0";
+0300001611e00000000100c0010ac1020100c2020102 0300000c02f0003201000000|0300001611d00001000100c0010ac1020100c2020102|torn 5|0
+0300001611e00000000100c0010ac1020100c2020102 0300000c02f0003201000000 03000019|0300001611d00001000100c0010ac1020100c2020102|torn 9|0
+04||bad-frame 0|0
+03000003||bad-frame 0|0
+0300001611e00000000100c0010ac1020100c2020102 0300001902f08032010000000400080000f0000001000101e0 03000006|0300001611d00001000100c0010ac1020100c2020102 0300001b02f080320300000004000800000000f0000001000101e0|bad-frame 47|0
+03002008||frame-too-long 0|0
+0300ffff||frame-too-long 0|0
+0300001611e00000000100c0010ac1020100c2020102 03000408|0300001611d00001000100c0010ac1020100c2020102|frame-too-long 22|0
+0300000702c000||bad-tpdu 0|0
+0300001611e00000000100c0010ac1020100c2020102 0300000702c000|0300001611d00001000100c0010ac1020100c2020102|bad-tpdu 22|0
+0300001902f08032010000000400080000f0000001000101e0||unexpected 0|0
+0300001611e00000000100c0010ac1020100c2020102 0300001611e00000000100c0010ac1020100c2020102|0300001611d00001000100c0010ac1020100c2020102|unexpected 22|0
+0300001611e00000000100c0010ac1020100c2020102 0300001002f080320100000000000000|0300001611d00001000100c0010ac1020100c2020102|not-s7 22|0
+0300001611e00000000100c0010ac1020100c2020102 0300001902f08033010000000400080000f0000001000101e0|0300001611d00001000100c0010ac1020100c2020102|not-s7 22|0";
 
-/// Per line: a message on a link that negotiated, its answer, and the entries. Two octets, one past
-/// the end, another block, as many as the PDU holds; one more, data, another word, another area,
-/// two items, another type, other lengths; a PDU of 63, one above the greatest.
+/// Per line: a message on a link that negotiated, its answer, and the entries. Two octets; one past
+/// the end; another block, no octet and a word of counters; two items; a bit; an unknown function;
+/// lengths that disagree; negotiations of 63 and above the greatest, and of 7 octets; as many octets as
+/// the PDU holds, and one more; an item that is cut short.
 const MESSAGES: &str =
-    "320100000006000e00000401120a10020002000184000010|3203000000060002000600000401ff0400103344|1
-320100000007000e00000401120a10020002000184000018|320300000007000200040000040105000000|1
-320100000008000e00000401120a10020001000284000000|32030000000800020004000004010a000000|1
-320100000009000e00000401120a100201ce000184000000|320300000009000200040000040105000000|1
-32010000000a000e00000401120a100201cf000184000000|32020000000a000000008104|0
-32010000000b000e00010401120a1002000400018400000000|32020000000b000000008104|0
-32010000000c000e00000401120a10040001000184000000|32020000000c000000008104|0
-32010000000d000e00000401120a10020001000183000000|32020000000d000000008104|0
-32010000000e000e00000402120a10020001000184000000|32020000000e000000008104|0
-32070000000f000e00000401120a10020001000184000000|32020000000f000000008104|0
-320100000010000d00000401120a10020001000184000000|320200000010000000008104|0
-32010000001100080000f00000010001003f|320200000011000000008104|0
-32010000001200080000f00000090000ffff|320300000012000800000000f0000008000103c0|0";
+    "320100000006000E00000401120A10020002000184000010|3203000000060002000600000401FF0400103344|1
+320100000007000E00000401120A10020002000184000018|320300000007000200040000040105000000|1
+320100000008002600000403120A10020001000284000000120A10020000000184000000120A10090001000184000000|3203000000080002000C000004030A0000000500000006000000|1
+320100000009001A00000402120A10020001000184000000120A10020001000184000008|3203000000090002000B00000402FF0400081100FF04000822|1
+32010000000B000E00000401120A10010001000184000004|32030000000B0002000500000401FF03000101|1
+3201000000110001000099|320200000011000000008104|0
+320100000012000D00000401120A10020001000184000000|320200000012000000008500|0
+32010000001300080000F00000010001003F|320200000013000000008500|0
+32010000001400080000F00000090000FFFF|320300000014000800000000F0000008000103C0|0
+32010000001500070000F0000001000101|320200000015000000008404|0
+320100000016000E00000401120A100201CE000184000000|320300000016000200040000040105000000|1
+320100000017000E00000401120A100201CF000184000000|320200000017000000008500|0
+320100000018000D00000401120A100200010001840000|320200000018000000008404|0";
 
 const CONNECT: &str =
     "0300001611e00000000100c0010ac1020100c2020102 0300001902f08032010000000400080000f0000001000101e0";
@@ -56,6 +71,22 @@ const CONFIRM: &str =
 const READ: &str = "0300001f02f080320100000005000e00000401120a10020004000184000000";
 
 const ANSWER: &str = "0300001d02f0803203000000050002000800000401ff04002011223344";
+
+/// A write of the first octet, of one past the end, and of the last, and its answer.
+const WRITE: &str =
+    "0300004802f08032010000000a002600110503120a10020001000184000000120a10020001000184000020120a1002000100018400001800040008aa0000040008bb0000040008cc";
+
+const WRITTEN: &str = "0300001802f08032030000000a0002000300000503ff05ff";
+
+/// A data block of 200 octets.
+const LONG_BLOCK: &str =
+    "DB1=5a5a5a5a5a5a5a5a5a5a5a5a5a5a5a5a5a5a5a5a5a5a5a5a5a5a5a5a5a5a5a5a5a5a5a5a5a5a5a5a5a5a5a5a5a5a5a5a5a5a5a5a5a5a5a5a5a5a5a5a5a5a5a5a5a5a5a5a5a5a5a5a5a5a5a5a5a5a5a5a5a5a5a5a5a5a5a5a5a5a5a5a5a5a5a5a5a5a5a5a5a5a5a5a5a5a5a5a5a5a5a5a5a5a5a5a5a5a5a5a5a5a5a5a5a5a5a5a5a5a5a5a5a5a5a5a5a5a5a5a5a5a5a5a5a5a5a5a5a5a5a5a5a5a5a5a5a5a5a5a5a5a5a5a5a5a5a5a5a5a5a5a5a5a5a5a5a5a5a5a5a5a5a5a5a5a5a5a5a5a5a5a5a5a5a5a5a5a5a5a";
+
+/// Per line: a connect request, a negotiation and a read in four fragments, and the answers at the
+/// TPDU size of 128 octets, in two fragments, and at 8,192 octets, in one.
+const SIZES: &str =
+    "0300001611e00000000100c00107c1020100c2020102 0300001902f08032010000000400080000f0000001000101e0 0300000802f00032 0300000902f0000100 0300001302f000000005000e00000401120a10 0300001002f0800200c8000184000000|0300001611d00001000100c00107c1020100c2020102 0300001b02f080320300000004000800000000f0000001000101e0 0300008402f000320300000005000200cc00000401ff0406405a5a5a5a5a5a5a5a5a5a5a5a5a5a5a5a5a5a5a5a5a5a5a5a5a5a5a5a5a5a5a5a5a5a5a5a5a5a5a5a5a5a5a5a5a5a5a5a5a5a5a5a5a5a5a5a5a5a5a5a5a5a5a5a5a5a5a5a5a5a5a5a5a5a5a5a5a5a5a5a5a5a5a5a5a5a5a5a5a5a5a5a5a5a5a5a5a5a5a5a5a5a5a5a5a5a5a 0300006402f0805a5a5a5a5a5a5a5a5a5a5a5a5a5a5a5a5a5a5a5a5a5a5a5a5a5a5a5a5a5a5a5a5a5a5a5a5a5a5a5a5a5a5a5a5a5a5a5a5a5a5a5a5a5a5a5a5a5a5a5a5a5a5a5a5a5a5a5a5a5a5a5a5a5a5a5a5a5a5a5a5a5a5a5a5a5a5a5a5a5a5a5a5a|ended|1
+0300001611e00000000100c0010dc1020100c2020102 0300001902f08032010000000400080000f0000001000101e0 0300000802f00032 0300000902f0000100 0300001302f000000005000e00000401120a10 0300001002f0800200c8000184000000|0300001611d00001000100c0010dc1020100c2020102 0300001b02f080320300000004000800000000f0000001000101e0 030000e102f080320300000005000200cc00000401ff0406405a5a5a5a5a5a5a5a5a5a5a5a5a5a5a5a5a5a5a5a5a5a5a5a5a5a5a5a5a5a5a5a5a5a5a5a5a5a5a5a5a5a5a5a5a5a5a5a5a5a5a5a5a5a5a5a5a5a5a5a5a5a5a5a5a5a5a5a5a5a5a5a5a5a5a5a5a5a5a5a5a5a5a5a5a5a5a5a5a5a5a5a5a5a5a5a5a5a5a5a5a5a5a5a5a5a5a5a5a5a5a5a5a5a5a5a5a5a5a5a5a5a5a5a5a5a5a5a5a5a5a5a5a5a5a5a5a5a5a5a5a5a5a5a5a5a5a5a5a5a5a5a5a5a5a5a5a5a5a5a5a5a5a5a5a5a5a5a5a5a5a5a5a5a5a5a5a5a5a5a5a5a5a5a5a5a5a5a5a5a5a5a5a5a5a5a5a5a5a5a|ended|1";
 
 // The octets of a text in hex with blanks.
 fn octets(alloc: Global, text: &str) -> Result<Vec<u8>, Fail> {
@@ -76,27 +107,36 @@ fn with_message(alloc: Global, text: &str, message: &str) -> Result<Vec<u8>, Fai
     Ok(all)
 }
 
-// Serves a link with this input, which moves so many octets a call, and compares what is written on
-// it and printed.
+// Serves a link over the data block of a word with this input, which moves so many octets a call,
+// compares what is written on it and printed, and gives the areas.
 fn serves<R: Wait + Abort>(
     rt: &R,
     alloc: Global,
+    word: &str,
     input: Vec<u8>,
     most: usize,
     written: &[u8],
     report: &str,
-) -> Result<(), Fail>
+) -> Result<Areas, Fail>
     requires { 0 < most }
 {
     let link = MemoryLink::new(alloc, Octets::of_vec(input), most, ROOM, 0)?;
     let mut out = MemoryOut::new(alloc, ROOM)?;
-    let end = server_main(rt, alloc, &WORDS, link, &mut out);
+    let end = server_main(rt, alloc, &["pipe", word], link, &mut out);
     assert_eq!(rt; end.status, 0);
     assert!(rt; out.text() == report.as_bytes(), "{report}");
     let run = end.run.ok_or("no run")?;
     assert!(rt; run.line.written() == written, "{report}");
-    assert!(rt; run.octets.as_slice() == [0x11, 0x22, 0x33, 0x44].as_slice());
-    Ok(())
+    Ok(run.areas)
+}
+
+// The areas hold these octets in data block 1.
+fn holds(areas: &Areas, octets: &[u8]) -> bool {
+    let key = AreaKey {
+        area: 0x84,
+        number: 1,
+    };
+    areas.octets_of(key) == Some(octets)
 }
 
 // The report of a link that ended so.
@@ -105,7 +145,13 @@ fn report(alloc: Global, outcome: &str, entries: &str) -> Result<String, Fail> {
 }
 
 // Serves a link for a line of input, octets written, outcome and entries.
-fn serves_line<R: Wait + Abort>(rt: &R, alloc: Global, line: &str, most: usize) -> Result<(), Fail>
+fn serves_line<R: Wait + Abort>(
+    rt: &R,
+    alloc: Global,
+    word: &str,
+    line: &str,
+    most: usize,
+) -> Result<Areas, Fail>
     requires { 0 < most }
 {
     let mut fields = line.split('|');
@@ -113,7 +159,15 @@ fn serves_line<R: Wait + Abort>(rt: &R, alloc: Global, line: &str, most: usize) 
     let written = octets(alloc, fields.next().ok_or("nothing written")?)?;
     let outcome = fields.next().ok_or("no outcome")?;
     let report = report(alloc, outcome, fields.next().ok_or("no entries")?)?;
-    serves(rt, alloc, input, most, written.as_slice(), report.as_str())
+    serves(
+        rt,
+        alloc,
+        word,
+        input,
+        most,
+        written.as_slice(),
+        report.as_str(),
+    )
 }
 
 // Serves a link for a line of message, answer and entries.
@@ -122,22 +176,100 @@ fn answers_line<R: Wait + Abort>(rt: &R, alloc: Global, line: &str) -> Result<()
     let input = with_message(alloc, CONNECT, fields.next().ok_or("no message")?)?;
     let written = with_message(alloc, CONFIRM, fields.next().ok_or("no answer")?)?;
     let report = report(alloc, "ended", fields.next().ok_or("no entries")?)?;
-    serves(rt, alloc, input, ROOM, written.as_slice(), report.as_str())
+    let areas = serves(
+        rt,
+        alloc,
+        BLOCK,
+        input,
+        ROOM,
+        written.as_slice(),
+        report.as_str(),
+    )?;
+    assert!(rt; holds(&areas, &OPENED));
+    Ok(())
 }
 
 #[test]
 fn a_link_is_served(rt: HostRuntime) -> Result<(), Fail> {
     for line in SERVED.lines() {
-        serves_line(&rt, rt.alloc(), line, ROOM)?;
-        serves_line(&rt, rt.alloc(), line, 1)?;
+        serves_line(&rt, rt.alloc(), BLOCK, line, ROOM)?;
+        let areas = serves_line(&rt, rt.alloc(), BLOCK, line, 1)?;
+        assert!(&rt; holds(&areas, &OPENED));
     }
     Ok(())
 }
 
 #[test]
-fn other_packets_end_a_link(rt: HostRuntime) -> Result<(), Fail> {
-    for line in UNBUILT.lines() {
-        serves_line(&rt, rt.alloc(), line, ROOM)?;
+fn packets_and_messages_end_a_link(rt: HostRuntime) -> Result<(), Fail> {
+    for line in ENDS.lines() {
+        serves_line(&rt, rt.alloc(), BLOCK, line, ROOM)?;
+        serves_line(&rt, rt.alloc(), BLOCK, line, 1)?;
+    }
+    Ok(())
+}
+
+#[test]
+fn tpdu_sizes_are_honoured(rt: HostRuntime) -> Result<(), Fail> {
+    for line in SIZES.lines() {
+        serves_line(&rt, rt.alloc(), LONG_BLOCK, line, ROOM)?;
+        serves_line(&rt, rt.alloc(), LONG_BLOCK, line, 1)?;
+    }
+    Ok(())
+}
+
+#[test]
+fn a_write_goes_on_after_a_refused_item(rt: HostRuntime) -> Result<(), Fail> {
+    let alloc = rt.alloc();
+    let mut input = octets(alloc, CONNECT)?;
+    input.extend_from_slice(octets(alloc, WRITE)?.as_slice())?;
+    let mut written = octets(alloc, CONFIRM)?;
+    written.extend_from_slice(octets(alloc, WRITTEN)?.as_slice())?;
+    let report = report(alloc, "ended", "1")?;
+    let areas = serves(
+        &rt,
+        alloc,
+        BLOCK,
+        input,
+        ROOM,
+        written.as_slice(),
+        report.as_str(),
+    )?;
+    assert!(&rt; holds(&areas, &[0xAA, 0x22, 0x33, 0xCC]));
+    Ok(())
+}
+
+// A connect request, and so many fragments of so many octets.
+fn fragments(alloc: Global, count: usize, len: u8) -> Result<Vec<u8>, Fail> {
+    let mut all = octets(alloc, "0300001611e00000000100c0010ac1020100c2020102")?;
+    for _ in 0..count {
+        all.extend_from_slice(&[3, 0, 0, len % 249 + 7, 2, 0xF0, 0])?;
+        for _ in 0..len % 249 {
+            all.push(0x32)?;
+        }
+    }
+    Ok(all)
+}
+
+#[test]
+fn fragments_have_an_end(rt: HostRuntime) -> Result<(), Fail> {
+    let alloc = rt.alloc();
+    let confirm = octets(alloc, "0300001611d00001000100c0010ac1020100c2020102")?;
+    for (count, len, outcome) in [
+        (64, 128, "torn 8192"),
+        (65, 1, "too-many-fragments 534"),
+        (52, 160, "too-long 8539"),
+    ] {
+        let input = fragments(alloc, count, len)?;
+        let report = report(alloc, outcome, "0")?;
+        serves(
+            &rt,
+            alloc,
+            BLOCK,
+            input,
+            ROOM,
+            confirm.as_slice(),
+            report.as_str(),
+        )?;
     }
     Ok(())
 }
@@ -148,25 +280,6 @@ fn messages_are_answered(rt: HostRuntime) -> Result<(), Fail> {
         answers_line(&rt, rt.alloc(), line)?;
     }
     Ok(())
-}
-
-#[test]
-fn the_longest_packet_is_taken(rt: HostRuntime) -> Result<(), Fail> {
-    let mut input = octets(rt.alloc(), CONNECT)?;
-    input.extend_from_slice(&[3, 0, 0x20, 0x07, 2, 0xF0, 0x80, 0x32])?;
-    for _ in 8..8199 {
-        input.push(0)?;
-    }
-    let written = with_message(rt.alloc(), CONFIRM, "320200000000000000008104")?;
-    let report = report(rt.alloc(), "ended", "0")?;
-    serves(
-        &rt,
-        rt.alloc(),
-        input,
-        ROOM,
-        written.as_slice(),
-        report.as_str(),
-    )
 }
 
 // Calls the server with these words, on a link that has ended.
@@ -227,7 +340,13 @@ fn served_with<R: Wait>(
     }
     fates.push(fate)?;
     let link = MemoryLink::new(alloc, Octets::of_vec(input), ROOM, ROOM, 0)?;
-    Ok(server_main(rt, alloc, &WORDS, FailingLink::new(link, fates), out))
+    Ok(server_main(
+        rt,
+        alloc,
+        &["pipe", BLOCK],
+        FailingLink::new(link, fates),
+        out,
+    ))
 }
 
 // So many octets of the answers are written where the k-th call meets a fate, and the report ends so.
@@ -316,7 +435,7 @@ fn an_output_may_fail(rt: HostRuntime) -> Result<(), Fail> {
     let alloc = rt.alloc();
     let link = MemoryLink::new(alloc, Octets::of_vec(Vec::new(alloc)), ROOM, ROOM, 0)?;
     let mut out = MemoryOut::new(alloc, 10)?;
-    let end = server_main(&rt, alloc, &WORDS, link, &mut out);
+    let end = server_main(&rt, alloc, &["pipe", BLOCK], link, &mut out);
     assert_eq!(&rt; end.status, 5);
     assert!(&rt; end.run.is_some());
     assert!(&rt; out.text() == b"link 1 end".as_slice());

@@ -1,5 +1,5 @@
 // The words of the command line.
-ghost use Rattle.std.specs.Prelude.{◌≡◌, ◌≢◌, ◌==◌, ◌&&◌, ◌+◌, ◌≤◌, List, ℕ, map, length, take, drop, codes, true, nat_lt, nat_le, option_map, Some, IfOk, IsOk, Ok, Err};
+ghost use Rattle.std.specs.Prelude.{◌≡◌, ◌≢◌, ◌==◌, ◌&&◌, ◌+◌, ◌≤◌, List, ℕ, map, length, take, drop, codes, true, nat_lt, nat_le, option_map, Some, IfSome, IfOk, IsOk, Ok, Err};
 ghost use Rattle.std.specs.List.{list_all, position};
 ghost use Rattle.std.specs.Char.{is_ascii_digit};
 ghost use Rattle.std.specs.Str.{bytes_eq};
@@ -97,6 +97,7 @@ fn equals(rest: &[u8]) -> Option<usize>
 
 // The block of this number, with the octets of these digits.
 fn open(alloc: Global, number: u16, digits: &[u8]) -> Result<Command, Memory>
+    requires { 1 ≤ number }
     ensures told { IfOk result (λ command. told_of command ≡ opened_with number (block_octets (decode_of digits.now))) }
 {
     match hex::decode(alloc, digits) {
@@ -107,6 +108,7 @@ fn open(alloc: Global, number: u16, digits: &[u8]) -> Result<Command, Memory>
 }
 
 fn opened(number: u16, octets: Vec<u8>) -> Command
+    requires { 1 ≤ number }
     ensures { told_of result ≡ opened_with number (block_octets (Ok octets.items)) }
 {
     if octets.is_empty() || octets.len() > MOST_OCTETS {
@@ -119,7 +121,8 @@ fn opened(number: u16, octets: Vec<u8>) -> Command
 }
 
 fn block_number(number: Option<u64>) -> Option<u16>
-    ensures { result ≡ block_number number }
+    ensures number { result ≡ block_number number }
+    ensures least { IfSome result (λ n. 1 ≤ n) }
 {
     match number {
         Some(number) if 1 <= number && number <= 65535 => Some(number as u16),

@@ -1,13 +1,13 @@
-use Rattle.std.proofs.Common.{sym}
-use Rattle.s7server.proofs.ServedLemmas.{served, not_served}
+use Rattle.std.proofs.Common.{inl}
+use Rattle.s7server.specs.Doing.{opening_of, memory_of, requests_of}
+use Rattle.s7server.proofs.HistoryLemmas.{served_link}
 use Rattle.s7server.proofs.server.serve_link.Goals as goal
-
-pub returns-in_default : goal.returns-in_default
-returns-in_default g c = not_served c.args.block.now.number c.args.block.now.octets (g.L.Link.shows c.args.line.now)
 
 pub returns : goal.returns
 returns g c =
-    let pipe = g.L.Link.shows c.args.line.now in
-    served c.args.block.now.number c.args.block.now.octets pipe (g.L.Link.shows c.serve-outcome.new.line) c.serve-outcome.new.self c.serve-outcome.result c.entries.result
-    (c.serve-outcome.ensures.holds pipe (c.in-Ok.ensures.holds c.args.block.now.number c.args.block.now.octets pipe))
-    c.serve-outcome.ensures.closed (sym c.entries.ensures)
+    let new = c.serve-outcome.new.doer in
+    rw c.entries.ensures
+    (inl (served_link (opening_of c.args.doer.now) (opening_of new) (memory_of new)
+    (g.L.Link.shows c.args.line.now) (g.L.Link.shows c.serve-outcome.new.line)
+    (requests_of c.args.doer.now) (requests_of new) _ c.serve-outcome.result _ _ _
+    (c.serve-outcome.ensures.run c.in-Ok.ensures) (λ d r q h. h) c.requires.requests c.serve-outcome.ensures.kept new.replayed))
