@@ -282,6 +282,29 @@ fn messages_are_answered(rt: HostRuntime) -> Result<(), Fail> {
     Ok(())
 }
 
+#[test]
+fn the_longest_packet_is_taken(rt: HostRuntime) -> Result<(), Fail> {
+    let alloc = rt.alloc();
+    let mut input = octets(alloc, "0300001611e00000000100c0010dc1020100c2020102")?;
+    input.extend_from_slice(&[3, 0, 0x20, 0x07, 2, 0xF0, 0x80, 0x32])?;
+    for _ in 8..8199 {
+        input.push(0)?;
+    }
+    let confirm = "0300001611d00001000100c0010dc1020100c2020102";
+    let written = with_message(alloc, confirm, "320200000000000000008104")?;
+    let report = report(alloc, "ended", "0")?;
+    serves(
+        &rt,
+        alloc,
+        BLOCK,
+        input,
+        ROOM,
+        written.as_slice(),
+        report.as_str(),
+    )?;
+    Ok(())
+}
+
 // Calls the server with these words, on a link that has ended.
 fn words_give<R: Wait + Abort>(
     rt: &R,
