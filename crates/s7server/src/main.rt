@@ -9,27 +9,51 @@ mod server;
 mod tests;
 mod words;
 
-use s7_outer::{RealLink, StdOut};
-use server::server_main;
+use s7_outer::{Out, RealLink, StdOut};
+use server::{MEMORY, server_main};
+use std::alloc::{AllocError, Global};
 use std::process::ExitCode;
 use std::{env, io};
 
 fn main(rt: HostRuntime) -> io::Result<ExitCode> {
     let alloc = rt.alloc();
-    let mut owned = Vec::new(alloc);
-    for word in env::args(&rt)?.skip(1) {
-        owned.push(word)?;
-    }
-    let mut words = Vec::new(alloc);
-    for word in &owned {
-        words.push(word.as_str())?;
-    }
+    let streams: Result<_, _> = rt.clone();
+    let (Ok(owned), Ok(streams)) = (own_words(&rt, alloc), streams) else {
+        return Ok(no_memory(&mut StdOut::new(rt.stderr())));
+    };
+    let Ok(words) = lent_words(alloc, owned.as_slice()) else {
+        return Ok(no_memory(&mut StdOut::new(rt.stderr())));
+    };
     let words = words.as_slice();
-    let pipe = RealLink::standard(rt.clone()?);
+    let pipe = RealLink::standard(streams);
     let status = if words.first() == Some(&"pipe") {
         server_main(&rt, alloc, words, pipe, &mut StdOut::new(rt.stderr())).status
     } else {
         server_main(&rt, alloc, words, pipe, &mut StdOut::new(rt.stdout())).status
     };
     Ok(ExitCode::from(status))
+}
+
+// The words of the command line.
+fn own_words(rt: &HostRuntime, alloc: Global) -> io::Result<Vec<String>> {
+    let mut words = Vec::new(alloc);
+    for word in env::args(rt)?.skip(1) {
+        words.push(word)?;
+    }
+    Ok(words)
+}
+
+fn lent_words(alloc: Global, owned: &[String]) -> Result<Vec<&str>, AllocError> {
+    let mut words = Vec::new(alloc);
+    for word in owned {
+        words.push(word.as_str())?;
+    }
+    Ok(words)
+}
+
+// Memory was wanting before the words were read. The line's own failure changes nothing.
+fn no_memory<O: Out>(out: &mut O) -> ExitCode {
+    match out.put(b"memory\n") {
+        Ok(()) | Err(_) => ExitCode::from(MEMORY),
+    }
 }
