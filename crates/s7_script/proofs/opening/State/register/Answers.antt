@@ -1,0 +1,24 @@
+use Rattle.std.proofs.Common.{◌≡◌, ap, arith, length}
+use Rattle.std.specs.BTreeMap.{insert_entry}
+use Rattle.s7_area.specs.Memory.{key_cmp}
+use Rattle.s7_area.specs.Registers.{fault_of}
+use Rattle.s7_script.proofs.JoinLemmas.{joins, taken_by, refused_by}
+use Rattle.s7_script.specs.Shown.{open_of}
+use Rattle.s7_script.proofs.opening.State.register.Goals.{in-Ok, in-Err}
+use Rattle.s7_script.proofs.opening.State.register.Goals as goal
+
+pub invariant_of-self : goal.invariant_of-self
+invariant_of-self c =
+    let s = c.args.self.now in
+    let key = c.args.area.key in
+    let octets = c.of_vec.result in
+    let t = taken_by (fault_of s.areas key (length octets)) c.in-Ok.field-0 octets c.register.new.self (insert_entry key_cmp s.areas key octets) c.in-Ok.ensures.refused c.in-Ok.ensures.taken in
+    let len : c.len-len.result ≡ length octets = omega (arith, c.args.area.octets.ok.0, ap length c.of_vec.ensures, c.len-len.ensures) in
+    let j = joins s.areas c.register.new.self key octets s.total c.len-len.result s.ordered s.is_total t.0 t.1 len in
+    record { is_total = j.is_total; fits = j.fits; ordered = j.ordered }
+
+pub returns-clause-err : goal.returns-clause-err
+returns-clause-err c = elim c.match-register.branch [
+  | in-Ok w ↦ rw w.result-is tt
+  | in-Err w ↦ rw w.result-is (refused_by c.args.self.now.areas (open_of c.args.area) w.in-Err.refusal w.in-Err.field-0-1 c.of_vec.result w.fault.result w.kind_of.result c.of_vec.ensures w.fault.ensures w.kind_of.ensures w.in-Err.ensures.refused w.in-Err.ensures.taken)
+]

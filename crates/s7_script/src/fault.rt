@@ -1,0 +1,42 @@
+//! What is wrong in an area file.
+use s7_area::RegisterFault;
+use thiserror::Error;
+
+/// What is wrong with a line.
+#[derive(Clone, Copy, Debug, PartialEq, Eq, Error)]
+pub enum AreasKind {
+    /// The first line isn't `s7 areas 1`.
+    #[error("no first line of an area file")]
+    Head,
+    /// A line that should begin an area doesn't: another name, or a field is missing or too many.
+    #[error("no area line")]
+    Line,
+    /// A field isn't a decimal number of at most ten digits, or the number of a data block isn't
+    /// from 1 to 65,535.
+    #[error("no number for this field")]
+    Number,
+    /// A line of octets isn't an even number of hexadecimal digits.
+    #[error("no hexadecimal digits")]
+    Digits,
+    /// A line of octets has more of them than are left of the area.
+    #[error("more octets than the area has")]
+    Length,
+    /// The area is refused. This is told at the line that begins it: `Size` before its octets are
+    /// read, every other fault once they are whole.
+    #[error("the area is refused")]
+    Register(RegisterFault),
+    /// The file ends before the area has all its octets; the line is the one after the last.
+    #[error("the file ends inside an area")]
+    Ended,
+    /// There is no memory.
+    #[error("out of memory")]
+    Memory,
+}
+
+/// The first wrong line of an area file, and what is wrong with it. Lines are numbered from 1, and
+/// those after line 4,294,967,295 have its number too.
+#[derive(Clone, Copy, Debug, PartialEq, Eq)]
+pub struct AreasFault {
+    pub line: u32,
+    pub kind: AreasKind,
+}

@@ -1,0 +1,113 @@
+// The lines of a text, and the fields of a line.
+ghost use Rattle.std.specs.Prelude.{◌≡◌, ◌≢◌, ◌&&◌, nat_lt, nat_le, IfSome, IfNone, ◌<◌, ◌≤◌, ◌+◌, ◌-◌, ◌∷◌, ℕ, length, option_map, take, drop, slice_index, true};
+ghost use Rattle.std.specs.List.{list_all, position};
+ghost use Rattle.std.specs.Char.{is_ascii_digit};
+ghost use Rattle.std.specs.Str.Parse.{digits_value};
+ghost use Rattle.s7_script.specs.Lines.{lines, without_return};
+ghost use Rattle.s7_script.specs.Fields.{number_of, is_space, first_field, fields_after};
+
+/// The first line of a text that isn't empty, and what follows it.
+pub(crate) fn first_line(text: &[u8]) -> (&[u8], &[u8])
+    requires { 0 < length text.now }
+    ensures line { lines text.now ≡ result.0.now ∷ lines result.1.now }
+    ensures shorter { length result.1.now < length text.now }
+{
+    match newline(text) {
+        Some(end) => (cut_return(&text[..end]), &text[end + 1..]),
+        None => (text, &text[text.len()..]),
+    }
+}
+
+/// Where the first LF is.
+fn newline(text: &[u8]) -> Option<usize>
+    ensures within { IfSome result (λ n. n < length text.now) }
+    ensures found { IfSome result (λ n. slice_index text.now n ≡ 10) }
+    ensures first { IfSome result (λ n. (k : ℕ) → k < n → slice_index text.now k ≢ 10) }
+    ensures none { IfNone result ((k : ℕ) → k < length text.now → slice_index text.now k ≢ 10) }
+{
+    for (i, b) in text.iter().enumerate() {
+        if *b == b'\n' {
+            return Some(i);
+        }
+    }
+    None
+}
+
+fn cut_return(line: &[u8]) -> &[u8]
+    ensures { result.now ≡ without_return line.now }
+{
+    if line.is_empty() {
+        return line;
+    }
+    let last = line.len() - 1;
+    if line[last] == b'\r' {
+        &line[..last]
+    } else {
+        line
+    }
+}
+
+/// The first field of a line, and those after it: fields are separated by one space.
+pub(crate) fn split_field(text: &[u8]) -> (&[u8], Option<&[u8]>)
+    ensures first { result.0.now ≡ first_field text.now (position is_space text.now) }
+    ensures rest { option_map (λ t. t.now) result.1 ≡ fields_after text.now (position is_space text.now) }
+{
+    match space(text) {
+        Some(end) => {
+            if end >= text.len() {
+                unreachable!()
+            }
+            (&text[..end], Some(after(text, end)))
+        }
+        None => (text, None),
+    }
+}
+
+fn after(text: &[u8], end: usize) -> &[u8]
+    requires { end < length text.now }
+    ensures { result.now ≡ drop (end + 1) text.now }
+{
+    &text[end + 1..]
+}
+
+fn space(text: &[u8]) -> Option<usize>
+    ensures { result ≡ position is_space text.now }
+{
+    text.iter().position(|b| *b == b' ')
+}
+
+/// The number that a field is: at most ten decimal digits.
+pub(crate) fn number(field: &[u8]) -> Option<u64>
+    ensures { result ≡ number_of field.now }
+{
+    if is_number(field) {
+        Some(value_of(field))
+    } else {
+        None
+    }
+}
+
+fn is_number(field: &[u8]) -> bool
+    ensures { result ≡ ((nat_lt 0 (length field.now) && nat_le (length field.now) 10)
+        && list_all is_ascii_digit field.now) }
+{
+    !field.is_empty() && field.len() <= 10 && all_digits(field)
+}
+
+fn all_digits(field: &[u8]) -> bool
+    ensures { result ≡ list_all is_ascii_digit field.now }
+{
+    field.iter().all(|b| b.is_ascii_digit())
+}
+
+fn value_of(digits: &[u8]) -> u64
+    requires most { length digits.now ≤ 10 }
+    requires digits { list_all is_ascii_digit digits.now ≡ true }
+    ensures { result ≡ digits_value 10 digits.now }
+{
+    let mut value = 0;
+    for digit in digits {
+        value = value * 10 + u64::from(*digit - b'0');
+    }
+    value
+}

@@ -1,0 +1,19 @@
+-- What fits a PDU length: no telegram that carries items is longer than the length that was
+-- negotiated (Snap7 1.4 reference manual, PDU negotiation and multi-variable jobs).
+use Rattle.std.specs.Prelude.{ℕ, ◌+◌, ◌&&◌, nat_le, Bool, if◌then◌else◌, unwrap_or, List, length}
+use Rattle.s7_item.specs.Word.{size_of}
+use Rattle.s7_item.specs.Sizes.{request_size, answer_size}
+use Rattle.s7_item.specs.declared.item.Item.{Item}
+
+-- how many octets an element of the item has, and 0 where its word is unknown
+abbrev pub size : Item → ℕ
+size item = unwrap_or (size_of item.word) 0
+
+-- how long the answer is: twelve octets of header, two of parameters, and for a read the data items
+-- with all their octets, for a write one code for each item
+abbrev pub answer_length : List Item → Bool → ℕ
+answer_length items write = if write then 14 + length items else answer_size items
+
+-- the request for these items and its answer are no longer than the PDU length
+unfoldable pub fits : ℕ → Bool → List Item → Bool
+fits pdu write items = nat_le (request_size items write) pdu && nat_le (answer_length items write) pdu
