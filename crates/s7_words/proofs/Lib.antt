@@ -1,0 +1,5 @@
+pub mod ClapLine
+pub mod Fine
+pub mod Commands
+pub mod Lines
+pub mod RunLemmas

@@ -1,0 +1,31 @@
+-- The commands of both programs are built by their lines.
+use Rattle.std.proofs.Common.{refl, codes, None, Some}
+use Rattle.s7_words.specs.Server.{pipe_line, save}
+use Rattle.s7_words.specs.Tool.{run_line, host, port, kind, rack, slot, pdu, polls}
+use Rattle.s7_words.proofs.Commands.{IsCommand, long_known}
+
+pub pipe_is : IsCommand (codes "pipe") pipe_line
+pipe_is = record {
+  is_built = refl;
+  is_free = refl;
+  is_simple_too = refl;
+  has_name = refl;
+  fields = refl;
+  known = (long_known _ save refl refl, tt);
+  placed = (refl, record { long = None; index = Some 1; found = refl; small = refl }, refl);
+  operands = (refl, tt);
+  options = (refl, tt);
+}
+
+pub run_is : IsCommand (codes "run") run_line
+run_is = record {
+  is_built = refl;
+  is_free = refl;
+  is_simple_too = refl;
+  has_name = refl;
+  fields = refl;
+  known = (long_known _ host refl refl, (long_known _ port refl refl, (long_known _ kind refl refl, (long_known _ rack refl refl, (long_known _ slot refl refl, (long_known _ pdu refl refl, (long_known _ polls refl refl, tt)))))));
+  placed = (refl, record { long = None; index = Some 1; found = refl; small = refl }, refl);
+  operands = (refl, tt);
+  options = (refl, (refl, (refl, (refl, (refl, (refl, (refl, tt)))))));
+}

@@ -1,0 +1,23 @@
+-- The numbers of `run`, each in its range.
+use Rattle.std.proofs.Common.{refl, codes}
+use Rattle.s7_words.specs.Tool.{run_line, port, kind, rack, slot, pdu, polls}
+use Rattle.s7_words.proofs.Commands.{ReadsNumber, number_or_is}
+use Rattle.s7_words.proofs.Lines.{run_is}
+
+pub port_is : ReadsNumber (codes "run") run_line run_is port 16 1 65535 102
+port_is = number_or_is (codes "run") run_line run_is port 16 1 65535 102 refl refl refl refl
+
+pub kind_is : ReadsNumber (codes "run") run_line run_is kind 8 1 3 1
+kind_is = number_or_is (codes "run") run_line run_is kind 8 1 3 1 refl refl refl refl
+
+pub rack_is : ReadsNumber (codes "run") run_line run_is rack 8 0 7 0
+rack_is = number_or_is (codes "run") run_line run_is rack 8 0 7 0 refl refl refl refl
+
+pub slot_is : ReadsNumber (codes "run") run_line run_is slot 8 0 31 2
+slot_is = number_or_is (codes "run") run_line run_is slot 8 0 31 2 refl refl refl refl
+
+pub pdu_is : ReadsNumber (codes "run") run_line run_is pdu 16 64 960 480
+pdu_is = number_or_is (codes "run") run_line run_is pdu 16 64 960 480 refl refl refl refl
+
+pub polls_is : ReadsNumber (codes "run") run_line run_is polls 32 1 4294967295 50
+polls_is = number_or_is (codes "run") run_line run_is polls 32 1 4294967295 50 refl refl refl refl

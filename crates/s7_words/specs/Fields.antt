@@ -1,0 +1,31 @@
+-- Fields of commands, and the numbers and texts that were given for them.
+use Rattle.std.specs.Prelude.{ℕ, true, false, codes, Some, None, option_map, unwrap_or}
+use Rattle.std.specs.Str.Parse.{digits_value, without_leading_plus}
+use Rattle.s7_words.specs.Line.{Text, Field, Given, value_of}
+
+-- an operand that has to be there
+abbrev pub operand : Text → Field
+operand name = record { name = name; range = None; is_required = true }
+
+-- an option of any text
+abbrev pub text : Text → Field
+text name = record { name = name; range = None; is_required = false }
+
+-- an option of a number from low to high
+abbrev pub number : Text → ℕ → ℕ → Field
+number name low high = record { name = name; range = Some (low, high); is_required = false }
+
+-- the area file, which several commands take
+abbrev pub areas : Field
+areas = operand (codes "AREAS")
+
+-- ---- what was given, or the default
+
+abbrev pub number_of : Text → ℕ
+number_of text = digits_value 10 (without_leading_plus text)
+
+abbrev pub number_or : Given → Field → ℕ → ℕ
+number_or given f default = unwrap_or (option_map number_of (value_of given f.name)) default
+
+abbrev pub text_or : Given → Field → Text → Text
+text_or given f default = unwrap_or (value_of given f.name) default

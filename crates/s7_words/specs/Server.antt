@@ -1,0 +1,27 @@
+-- The words of the server: this project's own command line, with options in GNU form.
+use Rattle.std.specs.Prelude.{codes, List, [], ◌∷◌, Option, None, option_map, if◌then◌else◌}
+use Rattle.std.specs.Str.{bytes_eq}
+use Rattle.s7_words.specs.Line.{Text, Field, Line, Given, given_by, value_of}
+use Rattle.s7_words.specs.Fields.{text, areas, text_or}
+
+-- a command with its operands and options
+pub data ServerTold : Type 0 where
+  pipe : (areas : Text) (save : Option Text) → ServerTold
+
+-- ---- pipe AREAS [--save PATH]
+
+abbrev pub save : Field
+save = text (codes "save")
+
+abbrev pub pipe_line : Line
+pipe_line = record { operands = areas ∷ []; options = save ∷ [] }
+
+abbrev pub pipe_of : Given → ServerTold
+pipe_of given = pipe (text_or given areas []) (value_of given save.name)
+
+-- ---- all commands
+
+-- the command that the words name, or nothing where they are usage
+abbrev pub server_words : List Text → Option ServerTold
+server_words [] = None
+server_words (name ∷ rest) = if bytes_eq name (codes "pipe") then option_map pipe_of (given_by pipe_line rest) else None

@@ -1,0 +1,27 @@
+-- Commands as contracts see them: their texts in the place of the references to them.
+use Rattle.std.specs.Prelude.{option_map}
+use Rattle.s7_words.specs.Server.{ServerTold, pipe}
+use Rattle.s7_words.specs.Tool.{RunTold, ToolTold, run}
+use Rattle.s7_words.specs.declared.run_words.RunWords.{RunWords}
+use Rattle.s7_words.specs.declared.server.ServerWords.{ServerWords}
+use Rattle.s7_words.specs.declared.server.ServerWords.TheVariants.{Pipe}
+use Rattle.s7_words.specs.declared.tool.ToolWords.{ToolWords}
+use Rattle.s7_words.specs.declared.tool.ToolWords.TheVariants.{Run}
+
+abbrev pub server_told_of : ServerWords → ServerTold
+server_told_of (Pipe areas save) = pipe areas.now (option_map (λ s. s.now) save)
+
+abbrev pub run_told_of : RunWords → RunTold
+run_told_of r = record {
+  script = r.script.now;
+  host = r.host.now;
+  port = r.port;
+  kind = r.kind;
+  rack = r.rack;
+  slot = r.slot;
+  pdu = r.pdu;
+  polls = r.polls;
+}
+
+abbrev pub tool_told_of : ToolWords → ToolTold
+tool_told_of (Run r) = run (run_told_of r)

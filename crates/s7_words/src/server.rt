@@ -1,0 +1,69 @@
+// The commands of the server.
+ghost use Rattle.std.specs.Prelude.{◌≡◌, IfOk, codes, drop, map, option_map};
+ghost use Rattle.clap.specs.Words.{app_of};
+ghost use Rattle.s7_words.specs.Built.{app_by};
+ghost use Rattle.s7_words.specs.Line.{given_by};
+ghost use Rattle.s7_words.specs.Server.{pipe_line, pipe_of, server_words};
+ghost use Rattle.s7_words.specs.Shown.{server_told_of};
+
+use crate::command::{accepted, bare, operand, text};
+use clap::Command;
+use s7_outer::Memory;
+use std::alloc::{AllocError, Global};
+
+/// A command of the server with its operands and options.
+#[derive(Clone, Copy, Debug, PartialEq, Eq)]
+pub enum ServerWords<'a> {
+    /// `pipe AREAS [--save PATH]`: one link, on standard input and output. `areas` is the path of the
+    /// area file that is read, and `save` the path that the areas are saved to, where it is given.
+    /// Both are any text.
+    Pipe {
+        areas: &'a str,
+        save: Option<&'a str>,
+    },
+}
+
+/// The command that the words name, or `None` where they are usage: where there are none, where the
+/// first one names no command, and where the rest are not what it takes.
+///
+/// The first word is the name of the command. An option is `--name VALUE` or `--name=VALUE`, at most
+/// once each, before or after the operands; after `--` every word is an operand. Before it a word of
+/// two or more characters that begins with `-` is neither an operand nor the VALUE of an option
+/// before it. `--name=` has the empty VALUE. There is no help flag and no version flag.
+///
+/// `Memory` comes where there is none for the parse.
+pub fn read_server_words<'a>(
+    alloc: Global,
+    words: &'a [&'a str],
+) -> Result<Option<ServerWords<'a>>, Memory>
+    ensures told { IfOk result (λ r. option_map server_told_of r ≡ server_words (map (λ w. w.now) words.entry.now)) }
+{
+    let Some(name) = words.first() else {
+        return Ok(None);
+    };
+    match *name {
+        "pipe" => read_pipe(alloc, words),
+        _ => Ok(None),
+    }
+}
+
+fn read_pipe<'a>(alloc: Global, words: &'a [&'a str]) -> Result<Option<ServerWords<'a>>, Memory>
+    ensures { IfOk result (λ r. option_map server_told_of r
+        ≡ option_map pipe_of (given_by pipe_line (drop 1 (map (λ w. w.now) words.entry.now)))) }
+{
+    let Some(matches) = accepted(pipe_command(alloc)?.try_get_matches_from(words))? else {
+        return Ok(None);
+    };
+    Ok(Some(ServerWords::Pipe {
+        areas: matches.get_str("AREAS").unwrap_or(""),
+        save: matches.get_str("save"),
+    }))
+}
+
+fn pipe_command<'a>(alloc: Global) -> Result<Command<'a>, AllocError>
+    ensures { IfOk result (λ c. app_of c ≡ app_by (codes "pipe") pipe_line) }
+{
+    bare(alloc, "pipe")
+        .arg(operand(alloc, "AREAS"))?
+        .arg(text(alloc, "save"))
+}

@@ -1,0 +1,252 @@
+use super::*;
+use std::test::Fail;
+
+fn pipe<'a>(areas: &'a str, save: Option<&'a str>) -> ServerWords<'a> {
+    ServerWords::Pipe { areas, save }
+}
+
+#[test]
+fn server_lines(rt: HostRuntime) -> Result<(), Fail> {
+    let lines: &[(&[&str], ServerWords)] = &[
+        (&["pipe", "a.txt"], pipe("a.txt", None)),
+        (&["pipe", "-"], pipe("-", None)),
+        (&["pipe", ""], pipe("", None)),
+        (&["pipe", "a b"], pipe("a b", None)),
+        (&["pipe", "pipe"], pipe("pipe", None)),
+        (
+            &["pipe", "a.txt", "--save", "b.txt"],
+            pipe("a.txt", Some("b.txt")),
+        ),
+        (
+            &["pipe", "--save", "b.txt", "a.txt"],
+            pipe("a.txt", Some("b.txt")),
+        ),
+        (
+            &["pipe", "a.txt", "--save=b.txt"],
+            pipe("a.txt", Some("b.txt")),
+        ),
+        (
+            &["pipe", "--save=b.txt", "a.txt"],
+            pipe("a.txt", Some("b.txt")),
+        ),
+        (&["pipe", "a.txt", "--save="], pipe("a.txt", Some(""))),
+        (&["pipe", "a.txt", "--save", ""], pipe("a.txt", Some(""))),
+        (&["pipe", "a.txt", "--save", "-"], pipe("a.txt", Some("-"))),
+        (&["pipe", "a.txt", "--save=-x"], pipe("a.txt", Some("-x"))),
+        (&["pipe", "a.txt", "--save=b=c"], pipe("a.txt", Some("b=c"))),
+        (&["pipe", "--", "a.txt"], pipe("a.txt", None)),
+        (&["pipe", "--", "-x"], pipe("-x", None)),
+        (&["pipe", "--", "--"], pipe("--", None)),
+        (&["pipe", "--", "--save"], pipe("--save", None)),
+        (&["pipe", "a.txt", "--"], pipe("a.txt", None)),
+        (
+            &["pipe", "--save", "b.txt", "--", "a.txt"],
+            pipe("a.txt", Some("b.txt")),
+        ),
+    ];
+    for (words, expected) in lines {
+        assert!(rt;
+            read_server_words(rt.alloc(), words)? == Some(*expected),
+            "{words:?}"
+        );
+    }
+    Ok(())
+}
+
+#[test]
+fn server_usage(rt: HostRuntime) -> Result<(), Fail> {
+    let lines: &[&[&str]] = &[
+        &[],
+        &[""],
+        &["a.txt"],
+        &["Pipe", "a.txt"],
+        &["--", "pipe", "a.txt"],
+        &["help"],
+        &["help", "pipe"],
+        &["--help"],
+        &["--version"],
+        &["serve", "a.txt"],
+        &["run", "a.txt"],
+        &["pipe"],
+        &["pipe", "--"],
+        &["pipe", "a.txt", "b.txt"],
+        &["pipe", "--", "a.txt", "b.txt"],
+        &["pipe", "a.txt", "--", "--save", "b.txt"],
+        &["pipe", "--help"],
+        &["pipe", "a.txt", "--help"],
+        &["pipe", "a.txt", "-h"],
+        &["pipe", "a.txt", "--version"],
+        &["pipe", "a.txt", "-V"],
+        &["pipe", "-x"],
+        &["pipe", "-é"],
+        &["pipe", "a.txt", "--save"],
+        &["pipe", "--save", "b.txt"],
+        &["pipe", "a.txt", "--save", "-x"],
+        &["pipe", "a.txt", "--save", "--", "b.txt"],
+        &["pipe", "a.txt", "--save", "b.txt", "--save", "b.txt"],
+        &["pipe", "a.txt", "--save=b.txt", "--save="],
+        &["pipe", "a.txt", "--sav", "b.txt"],
+        &["pipe", "a.txt", "--SAVE", "b.txt"],
+        &["pipe", "a.txt", "-s", "b.txt"],
+        &["pipe", "a.txt", "--=b.txt"],
+        &["pipe", "a.txt", "--journal", "5"],
+        &["pipe", "a.txt", "--port", "102"],
+    ];
+    for words in lines {
+        assert!(rt;
+            read_server_words(rt.alloc(), words)?.is_none(),
+            "{words:?}"
+        );
+    }
+    Ok(())
+}
+
+type Run<'a> = (&'a str, &'a str, u16, u8, u8, u8, u16, u32);
+
+fn fields<'a>(words: &ToolWords<'a>) -> Run<'a> {
+    let ToolWords::Run(run) = words;
+    (
+        run.script, run.host, run.port, run.kind, run.rack, run.slot, run.pdu, run.polls,
+    )
+}
+
+#[test]
+fn tool_lines(rt: HostRuntime) -> Result<(), Fail> {
+    let local = "127.0.0.1";
+    let lines: &[(&[&str], Run)] = &[
+        (&["run", "s"], ("s", local, 102, 1, 0, 2, 480, 50)),
+        (&["run", "--", "-s"], ("-s", local, 102, 1, 0, 2, 480, 50)),
+        (
+            &["run", "s", "--host", "h"],
+            ("s", "h", 102, 1, 0, 2, 480, 50),
+        ),
+        (&["run", "s", "--host="], ("s", "", 102, 1, 0, 2, 480, 50)),
+        (
+            &["run", "--port", "1", "s"],
+            ("s", local, 1, 1, 0, 2, 480, 50),
+        ),
+        (
+            &["run", "s", "--port=65535"],
+            ("s", local, 65535, 1, 0, 2, 480, 50),
+        ),
+        (
+            &["run", "s", "--port=+007"],
+            ("s", local, 7, 1, 0, 2, 480, 50),
+        ),
+        (
+            &["run", "s", "--type", "1"],
+            ("s", local, 102, 1, 0, 2, 480, 50),
+        ),
+        (
+            &["run", "s", "--type", "3"],
+            ("s", local, 102, 3, 0, 2, 480, 50),
+        ),
+        (
+            &["run", "s", "--rack", "+0"],
+            ("s", local, 102, 1, 0, 2, 480, 50),
+        ),
+        (
+            &["run", "s", "--rack", "7"],
+            ("s", local, 102, 1, 7, 2, 480, 50),
+        ),
+        (
+            &["run", "s", "--slot", "0"],
+            ("s", local, 102, 1, 0, 0, 480, 50),
+        ),
+        (
+            &["run", "s", "--slot", "31"],
+            ("s", local, 102, 1, 0, 31, 480, 50),
+        ),
+        (
+            &["run", "s", "--pdu", "64"],
+            ("s", local, 102, 1, 0, 2, 64, 50),
+        ),
+        (
+            &["run", "s", "--pdu", "960"],
+            ("s", local, 102, 1, 0, 2, 960, 50),
+        ),
+        (
+            &["run", "s", "--polls", "1"],
+            ("s", local, 102, 1, 0, 2, 480, 1),
+        ),
+        (
+            &["run", "s", "--polls", "00000000000000000000004294967295"],
+            ("s", local, 102, 1, 0, 2, 480, 4_294_967_295),
+        ),
+        (
+            &[
+                "run",
+                "--polls",
+                "8",
+                "--pdu=240",
+                "--slot",
+                "1",
+                "s",
+                "--rack=3",
+                "--type",
+                "2",
+                "--port",
+                "1102",
+                "--host",
+                "plc.example",
+            ],
+            ("s", "plc.example", 1102, 2, 3, 1, 240, 8),
+        ),
+    ];
+    for (words, expected) in lines {
+        let Some(told) = read_tool_words(rt.alloc(), words)? else {
+            return Err(Fail::from("usage"));
+        };
+        assert!(rt; fields(&told) == *expected, "{words:?}");
+    }
+    Ok(())
+}
+
+#[test]
+fn tool_usage(rt: HostRuntime) -> Result<(), Fail> {
+    let lines: &[&[&str]] = &[
+        &[],
+        &["run"],
+        &["runs", "s"],
+        &["pipe", "s"],
+        &["help", "run"],
+        &["--help"],
+        &["rig", "a", "b"],
+        &["gen", "5"],
+        &["partner", "a"],
+        &["run", "s", "t"],
+        &["run", "--host", "h"],
+        &["run", "s", "--help"],
+        &["run", "s", "-h"],
+        &["run", "s", "-x"],
+        &["run", "s", "--jobs", "2"],
+        &["run", "s", "--save", "t"],
+        &["run", "s", "--port", "102", "--port", "102"],
+        &["run", "s", "--port"],
+        &["run", "s", "--port", "0"],
+        &["run", "s", "--port", "65536"],
+        &["run", "s", "--port", "18446744073709551718"],
+        &["run", "s", "--port="],
+        &["run", "s", "--port", ""],
+        &["run", "s", "--port=+"],
+        &["run", "s", "--port=++7"],
+        &["run", "s", "--port=7 "],
+        &["run", "s", "--port=0x7"],
+        &["run", "s", "--port=1_102"],
+        &["run", "s", "--type", "0"],
+        &["run", "s", "--type", "4"],
+        &["run", "s", "--rack", "-0"],
+        &["run", "s", "--rack=-0"],
+        &["run", "s", "--rack=8"],
+        &["run", "s", "--slot=-0"],
+        &["run", "s", "--slot", "32"],
+        &["run", "s", "--pdu", "63"],
+        &["run", "s", "--pdu", "961"],
+        &["run", "s", "--polls", "0"],
+        &["run", "s", "--polls", "4294967296"],
+    ];
+    for words in lines {
+        assert!(rt; read_tool_words(rt.alloc(), words)?.is_none(), "{words:?}");
+    }
+    Ok(())
+}
