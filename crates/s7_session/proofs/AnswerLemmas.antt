@@ -12,9 +12,9 @@ use Rattle.s7_session.specs.Verdict.{Entered, Full, NoMemory}
 use Rattle.s7_tpkt.specs.Packets.{packet_of}
 use Rattle.s7_cotp.specs.Told.{Told, ConnectionTold, connect}
 use Rattle.s7_cotp.specs.Spelling.{spelling_of_confirm}
-use Rattle.s7_session.specs.Bounds.{size_of_code}
+use Rattle.s7_wire.specs.Bounds.{size_of_code}
 use Rattle.s7_session.specs.declared.outcome.Outcome.TheVariants as outcome
-use Rattle.s7_session.specs.Sent.{sent_message, sent_messages}
+use Rattle.s7_wire.specs.Sent.{sent_message, sent_messages}
 use Rattle.s7_session.specs.Judgement.{Judgement, judge}
 use Rattle.s7_plant.specs.Requests.{kept}
 use Rattle.s7_plant.specs.declared.request.Request.TheVariants.{Read, Write}

@@ -3,7 +3,7 @@ use Rattle.std.proofs.Common.{◌≡◌, ◌==◌, ℕ, Bool, true, false, cond,
 use Rattle.s7_cotp.specs.Gathered.{Gathered, is_fault}
 use Rattle.s7_cotp.specs.declared.joining.Joined.TheVariants as joined
 use Rattle.s7_cotp.specs.Messages.{Fragment, Step, more, whole, too_many_fragments, too_long, joined_with, after_step, with_fragment, open_octets}
-use Rattle.s7_session.specs.Bounds.{message_limit}
+use Rattle.s7_wire.specs.Bounds.{message_limit}
 use Rattle.s7_session.specs.declared.outcome.Outcome.TheVariants as outcome
 use Rattle.s7_session.specs.Handling.{Unfinished, end_with}
 use Rattle.s7_session.specs.Answers.{IsByOctets}

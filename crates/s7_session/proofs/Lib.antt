@@ -1,4 +1,3 @@
-pub mod BoxLemmas
 pub mod PlaceLemmas
 pub mod PastLemmas
 pub mod SizeLemmas
@@ -6,6 +5,5 @@ pub mod TurnLemmas
 pub mod ConsumeLemmas
 pub mod ServeLemmas
 pub mod RunLemmas
-pub mod SendLemmas
 pub mod AnswerLemmas
 pub mod JoinLemmas

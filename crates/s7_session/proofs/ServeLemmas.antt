@@ -1,9 +1,9 @@
 -- Laws of turns, one after another.
-use Rattle.std.proofs.Common.{◌≡◌, ◌==◌, ℕ, ◌+◌, ◌<◌, ◌≤◌, Bool, true, false, cond, ◌&&◌, List, [], ◌++◌, length, refl, ap, sym, ◌∙◌, subst, append_assoc, arith, ◌⊎◌, inl, inr}
+use Rattle.std.proofs.Common.{◌≡◌, ◌==◌, ℕ, ◌+◌, ◌<◌, Bool, true, false, cond, ◌&&◌, List, [], ◌++◌, length, refl, ap, sym, ◌∙◌, subst, append_assoc, arith, ◌⊎◌, inl, inr}
 use Rattle.std.specs.Prelude.{Option, None, Some, IsTrue, IfSome, IsSome}
 use Rattle.std.proofs.lemmas.List.{append-nil, nil_from_length}
 use Rattle.std.proofs.lemmas.Bool.Decides.{nat_tests}
-use Rattle.std.specs.Io.KnownBytes.{prepend_known, append_known, IsAtEnd}
+use Rattle.std.specs.Io.KnownBytes.{prepend_known, IsAtEnd}
 use Rattle.s7_outer.specs.Shown.{Shown}
 use Rattle.s7_outer.specs.Count.{Rose}
 use Rattle.s7_tpkt.specs.Packets.{state_of}
@@ -21,7 +21,7 @@ use Rattle.s7_session.specs.Handling.{lives}
 use Rattle.s7_session.specs.Owed.{past, end_of, end_by_state, torn_or_ended}
 use Rattle.s7_session.specs.Conversing.{between_of, sends}
 use Rattle.s7_session.specs.Stands.{Stands, Moves, IsTurn, IsServed, Consumes, HasCause, HasMetNotYet, IsIdle, IsUnended, closed_with, closed_by, unread, unsent}
-use Rattle.s7_session.proofs.TurnLemmas.{Keeps, stood_plain, moves_plain, moves_both, moves_none, cause_earlier, prepend_none, append_none, one_stays}
+use Rattle.s7_session.proofs.TurnLemmas.{Keeps, Moved, stood_plain, moves_plain, moves_both, moves_none, cause_earlier, prepend_none, append_none, space_none, fits_none, one_stays}
 use Rattle.s7_session.proofs.ConsumeLemmas.{end_at}
 
 pub closed_not_yet : (o : Outcome) → turn.Closed o ≡ turn.NotYet → ⊥
@@ -51,17 +51,16 @@ same_closed o o' e = cc
 -- a turn that only received and sent
 pub turn_plain : (u : Type 0) (old new : Session) (link link' : Shown) (stands : List Entry → Type 0) (is_full : Request → Type 0) (written : List ℕ) (result : Turn)
     → Keeps old new → sends old.conversation ≡ written ++ sends new.conversation → old.inbox ≡ new.inbox
-    → link.left ≡ link'.left → link'.written ≡ append_known link.written written → link.faults ≤ link'.faults → link.waits ≤ link'.waits → link'.moment ≡ link.moment → link'.clock_faults ≡ link.clock_faults
-    → closed_with old ≡ None → closed_with new ≡ closed_by result
+    → Moved link link' [] written → closed_with old ≡ None → closed_with new ≡ closed_by result
     → (result ≡ turn.Went → 0 < length written) → (result ≡ turn.NotYet → (written ≡ []) × Rose link.waits link'.waits × HasMetNotYet old link)
     → ((o : Outcome) → result ≡ turn.Closed o → (b : List ℕ) (js : List Verdict) (w : List ℕ) → Stands old b js w → Stands new b js (w ++ written) → HasCause link link' new b js o)
     → IsTurn u old link stands is_full new link' stands is_full result
 unfolding moves_plain
-turn_plain u old new link link' stands is_full written result keeps outbox inbox took wrote faults waits moment clock live closed went not_yet cause = record {
-  moves = moves_plain u old new link link' stands is_full [] written keeps outbox (append-nil old.inbox ∙ inbox) (λ e. live) (took ∙ prepend_none link'.left) wrote faults waits moment clock;
+turn_plain u old new link link' stands is_full written result keeps outbox inbox moved live closed went not_yet cause = record {
+  moves = moves_plain u old new link link' stands is_full [] written keeps outbox (append-nil old.inbox ∙ inbox) (λ e. live) moved;
   one = omega arith;
   went = λ e. omega (arith, went e);
-  not_yet = λ e. (refl, refl, (not_yet e).0, (not_yet e).1, (not_yet e).2);
+  not_yet = λ e. (refl, refl, (not_yet e).0, (not_yet e).1, (not_yet e).2, sym (outbox ∙ ap (λ x. x ++ sends new.conversation) (not_yet e).0));
   receives = λ h. absurd (omega (arith, h));
   closed = closed;
   cause = λ o e l b js w h.
@@ -73,14 +72,13 @@ turn_plain u old new link link' stands is_full written result keeps outbox inbox
 -- a turn that moved nothing and closes
 pub turn_closing : (u : Type 0) (old new : Session) (link link' : Shown) (d : List Entry → Type 0) (f : Request → Type 0) (o : Outcome) (result : Turn)
     → Keeps old new → sends new.conversation ≡ sends old.conversation → new.inbox ≡ old.inbox
-    → link.left ≡ link'.left → link'.written ≡ link.written → link.faults ≤ link'.faults → link.waits ≤ link'.waits → link'.moment ≡ link.moment → link'.clock_faults ≡ link.clock_faults
-    → closed_with old ≡ None → closed_with new ≡ Some o → result ≡ turn.Closed o
+    → Moved link link' [] [] → closed_with old ≡ None → closed_with new ≡ Some o → result ≡ turn.Closed o
     → ((b : List ℕ) (js : List Verdict) (w : List ℕ) → Stands old b js w → HasCause link link' new b js o)
     → IsTurn u old link d f new link' d f result
-turn_closing u old new link link' d f o result keeps outbox inbox took wrote faults waits moment clock live closed is cause =
+turn_closing u old new link link' d f o result keeps outbox inbox moved live closed is cause =
     let P : Turn → Type 0 = λ t. IsTurn u old link d f new link' d f t in
     subst P (sym is) (turn_plain u old new link link' d f [] (turn.Closed o) keeps (sym outbox) (sym inbox)
-    took (wrote ∙ append_none link.written) faults waits moment clock live closed (λ e. absurd (closed_not_went o e)) (λ e. absurd (closed_not_yet o e))
+    moved live closed (λ e. absurd (closed_not_went o e)) (λ e. absurd (closed_not_yet o e))
     (λ o' e b js w h n.
     let Q : Outcome → Type 0 = λ x. HasCause link link' new b js x in
     subst Q (same_closed o o' e) (cause b js w h)))
@@ -95,6 +93,9 @@ moves_used u old new link link' d d' f f' result k = record {
   entries = k.entries;
   took = prepend_none link.left ∙ ap (prepend_known []) (sym (ap (λ x. x.left) k.line));
   wrote = ap (λ x. x.written) k.line ∙ append_none link.written;
+  fits = fits_none link.space;
+  space = ap (λ x. x.space) k.line ∙ space_none link.space;
+  lent = ap (λ x. x.lent) k.line;
   inbox = append-nil old.inbox ∙ k.inbox;
   stood = λ b js w h.
       let P : List ℕ → Type 0 = λ x. Stands new (b ++ k.used) (js ++ k.verdicts) x in
@@ -131,13 +132,11 @@ turn_used u old new link link' d d' f f' result live k = record {
 -- a turn that received octets and used some of them
 pub turn_both : (u : Type 0) (old mid new : Session) (link link' link'' : Shown) (d d' : List Entry → Type 0) (f f' : Request → Type 0) (result : Turn)
     → Keeps old mid → sends mid.conversation ≡ sends old.conversation → closed_with mid ≡ closed_with old
-    → link.left ≡ prepend_known mid.inbox link'.left → link'.written ≡ link.written → link.faults ≤ link'.faults → link.waits ≤ link'.waits
-    → link'.moment ≡ link.moment → link'.clock_faults ≡ link.clock_faults
-    → closed_with old ≡ None → IsIdle old → Consumes u mid link' d f new link'' d' f' result → IsTurn u old link d f new link'' d' f' result
+    → Moved link link' mid.inbox [] → closed_with old ≡ None → IsIdle old → Consumes u mid link' d f new link'' d' f' result → IsTurn u old link d f new link'' d' f' result
 unfolding moves_both moves_plain moves_used
-turn_both u old mid new link link' link'' d d' f f' result keeps outbox closed took wrote faults waits moment clock live idle k =
+turn_both u old mid new link link' link'' d d' f f' result keeps outbox closed moved live idle k =
     let same : old.inbox ++ mid.inbox ≡ mid.inbox = ap (λ x. x ++ mid.inbox) idle.1 in
-    let first = moves_plain u old mid link link' d f mid.inbox [] keeps (sym outbox) same (λ e. live) took (wrote ∙ append_none link.written) faults waits moment clock in
+    let first = moves_plain u old mid link link' d f mid.inbox [] keeps (sym outbox) same (λ e. live) moved in
     record {
       moves = moves_both u old mid new link link' link'' d d d' f f f' first (moves_used u mid new link' link'' d d' f f' result k);
       one = k.one;
@@ -273,11 +272,11 @@ unended_at old new b js w live cutter h = record { lives = h.lives live; more = 
 
 -- where a link tells its space, a transmit of what is left met none
 pub met_full : (old : Session) (link : Shown) → ((space : ℕ) → link.space ≡ Some space → space ≡ 0) → (unsent old ≡ [] → ⊥) → HasMetNotYet old link
-met_full old link full some = record { full = λ n e i. full n e; empty = λ n e i. absurd (some i) }
+met_full old link full some = record { idle = λ i. absurd (some i); full = λ n e i. full n e; empty = λ n e i. absurd (some i) }
 
 -- and a receive met nothing
-pub met_empty : (old : Session) (link : Shown) → ((space : ℕ) → link.space ≡ Some space → link.left ≡ Some []) → unsent old ≡ [] → HasMetNotYet old link
-met_empty old link empty none = record { full = λ n e i. absurd (i none); empty = λ n e i. empty n e }
+pub met_empty : (old : Session) (link : Shown) → ((space : ℕ) → link.space ≡ Some space → link.left ≡ Some []) → IsIdle old → HasMetNotYet old link
+met_empty old link empty idle = record { idle = λ i. idle.1; full = λ n e i. absurd (i idle.0); empty = λ n e i. empty n e }
 
 pub not_empty : (xs : List ℕ) → 0 < length xs → xs ≡ [] → ⊥
 not_empty xs h e = omega (arith, h, ap length e)

@@ -11,7 +11,8 @@ use Rattle.s7_session.specs.Verdict.{Verdict, Entered, Full, ClockFailed, NoMemo
 use Rattle.s7_session.specs.Judgement.{Judgement, refuse, own, ask, judge}
 use Rattle.s7_session.specs.Handling.{Between, lives, Handling, Met, met, clock_step, handling, by_tpdu, told, connected, unconnected, by_joining, message_handling, by_judgement, is_s7, closing, nothing_unfinished, after_packet}
 use Rattle.s7_session.specs.Owed.{Past, start, with_step, next, run, past}
-use Rattle.s7_session.specs.Bounds.{limits, limit_after, limit_by, size_of_code, message_limit}
+use Rattle.s7_wire.specs.Bounds.{size_of_code, message_limit}
+use Rattle.s7_session.specs.Bounds.{limits, limit_after, limit_by}
 use Rattle.s7_session.proofs.PastLemmas.{next_at, run_lives}
 
 -- the link keeps its TPDU size where it lives

@@ -1,6 +1,6 @@
 -- Laws of what calls do to a session.
-use Rattle.std.proofs.Common.{◌≡◌, ℕ, ◌+◌, ◌≤◌, List, [], ◌∷◌, ◌++◌, length, map, ◌⊎◌, inl, inr, refl, ap, sym, ◌∙◌, subst, append_assoc, arith, length-append}
-use Rattle.std.specs.Prelude.{Option, None, Some}
+use Rattle.std.proofs.Common.{◌≡◌, ℕ, ◌+◌, ◌-◌, ◌≤◌, List, [], ◌∷◌, ◌++◌, length, map, ◌⊎◌, inl, inr, refl, ap, sym, ◌∙◌, subst, append_assoc, arith, length-append}
+use Rattle.std.specs.Prelude.{Option, None, Some, option_map, IfSome}
 use Rattle.std.proofs.lemmas.List.{append-nil}
 use Rattle.std.specs.Io.KnownBytes.{prepend_known, append_known}
 use Rattle.s7_outer.specs.Shown.{Shown}
@@ -32,6 +32,75 @@ prepend_none (Some x) = refl
 pub append_none : (o : Option (List ℕ)) → o ≡ append_known o []
 append_none None = refl
 append_none (Some x) = ap Some (sym (append-nil x))
+
+pub space_twice : (o : Option ℕ) (a b : List ℕ) → option_map (λ s. s - length b) (option_map (λ s. s - length a) o) ≡ option_map (λ s. s - length (a ++ b)) o
+space_twice None a b = refl
+space_twice (Some s) a b = ap Some (omega (arith, length-append a b))
+
+pub space_none : (o : Option ℕ) → o ≡ option_map (λ s. s - 0) o
+space_none None = refl
+space_none (Some s) = ap Some (omega arith)
+
+pub fits_twice : (o : Option ℕ) (a b : List ℕ) → IfSome o (λ s. length a ≤ s) → IfSome (option_map (λ s. s - length a) o) (λ s. length b ≤ s) → IfSome o (λ s. length (a ++ b) ≤ s)
+fits_twice None a b p q = tt
+fits_twice (Some s) a b p q = omega (arith, length-append a b, p, q)
+
+pub fits_none : (o : Option ℕ) → IfSome o (λ s. 0 ≤ s)
+fits_none None = tt
+fits_none (Some s) = omega arith
+
+-- what calls did to a link that received and sent so much
+pub record Moved (link link' : Shown) (received written : List ℕ) : Type 0 where
+  pub took : link.left ≡ prepend_known received link'.left
+  pub wrote : link'.written ≡ append_known link.written written
+  pub fits : IfSome link.space (λ s. length written ≤ s)
+  pub space : link'.space ≡ option_map (λ s. s - length written) link.space
+  pub lent : link'.lent ≡ link.lent
+  pub moment : link'.moment ≡ link.moment
+  pub clock_faults : link'.clock_faults ≡ link.clock_faults
+  pub faults : link.faults ≤ link'.faults
+  pub waits : link.waits ≤ link'.waits
+
+pub moved_nothing : (k : Shown) → Moved k k [] []
+moved_nothing k = record {
+  took = prepend_none k.left;
+  wrote = append_none k.written;
+  fits = fits_none k.space;
+  space = space_none k.space;
+  lent = refl;
+  moment = refl;
+  clock_faults = refl;
+  faults = omega arith;
+  waits = omega arith;
+}
+
+pub moved_by_receive : (k k' : Shown) (received : List ℕ) → k.left ≡ prepend_known received k'.left → k.faults ≤ k'.faults → k.waits ≤ k'.waits
+    → k' ≡ record k { left = k'.left; has_ended = k'.has_ended; faults = k'.faults; waits = k'.waits } → Moved k k' received []
+moved_by_receive k k' received took faults waits same = record {
+  took = took;
+  wrote = ap (λ x. x.written) same ∙ append_none k.written;
+  fits = fits_none k.space;
+  space = ap (λ x. x.space) same ∙ space_none k.space;
+  lent = ap (λ x. x.lent) same;
+  moment = ap (λ x. x.moment) same;
+  clock_faults = ap (λ x. x.clock_faults) same;
+  faults = faults;
+  waits = waits;
+}
+
+pub moved_by_transmit : (k k' : Shown) (written : List ℕ) → k'.written ≡ append_known k.written written → IfSome k.space (λ s. length written ≤ s) → k'.space ≡ option_map (λ s. s - length written) k.space → k.faults ≤ k'.faults → k.waits ≤ k'.waits
+    → k' ≡ record k { written = k'.written; faults = k'.faults; waits = k'.waits; space = k'.space } → Moved k k' [] written
+moved_by_transmit k k' written wrote fits space faults waits same = record {
+  took = prepend_none k.left ∙ ap (prepend_known []) (sym (ap (λ x. x.left) same));
+  wrote = wrote;
+  fits = fits;
+  space = space;
+  lent = ap (λ x. x.lent) same;
+  moment = ap (λ x. x.moment) same;
+  clock_faults = ap (λ x. x.clock_faults) same;
+  faults = faults;
+  waits = waits;
+}
 
 pub AnyFull-append : (xs ys : List Verdict) → AnyFull (xs ++ ys) → AnyFull xs ⊎ AnyFull ys
 AnyFull-append [] ys h = inr h
@@ -129,17 +198,19 @@ stood_plain old new written k outbox closed b js w h = record {
 unfoldable pub moves_plain : (u : Type 0) (old new : Session) (link link' : Shown) (stands : List Entry → Type 0) (is_full : Request → Type 0) (received written : List ℕ)
     → Keeps old new → sends old.conversation ≡ written ++ sends new.conversation → old.inbox ++ received ≡ new.inbox
     → (closed_with new ≡ None → closed_with old ≡ None)
-    → link.left ≡ prepend_known received link'.left → link'.written ≡ append_known link.written written → link.faults ≤ link'.faults → link.waits ≤ link'.waits
-    → link'.moment ≡ link.moment → link'.clock_faults ≡ link.clock_faults
+    → Moved link link' received written
     → Moves u old link stands is_full new link' stands is_full
-moves_plain u old new link link' stands is_full received written k outbox inbox closed took wrote faults waits moment clock = record {
+moves_plain u old new link link' stands is_full received written k outbox inbox closed moved = record {
   received = received;
   used = [];
   written = written;
   verdicts = [];
   entries = [];
-  took = took;
-  wrote = wrote;
+  took = moved.took;
+  wrote = moved.wrote;
+  fits = moved.fits;
+  space = moved.space;
+  lent = moved.lent;
   inbox = inbox;
   stood = λ b js w h. stands_nothing new b js (w ++ written) (stood_plain old new written k outbox closed b js w h);
   asked = λ b js w h. ap (λ x. entered x (js ++ [])) (append-nil b) ∙ (ap (λ x. entered b x) (append-nil js) ∙ sym (append-nil (entered b js)));
@@ -150,11 +221,11 @@ moves_plain u old new link link' stands is_full received written k outbox inbox 
   full = λ h. absurd h;
   none_entered = λ i h. tt;
   full_stays = λ i. tt;
-  clock = omega (arith, clock);
-  moment = moment;
+  clock = omega (arith, moved.clock_faults);
+  moment = moved.moment;
   moments = tt;
-  faults = faults;
-  waits = waits;
+  faults = moved.faults;
+  waits = moved.waits;
 }
 
 -- calls one after another
@@ -168,6 +239,9 @@ moves_both u s0 s1 s2 k0 k1 k2 d0 d1 d2 f0 f1 f2 m n = record {
   entries = m.entries ++ n.entries;
   took = m.took ∙ (ap (prepend_known m.received) n.took ∙ prepend_twice m.received n.received k2.left);
   wrote = n.wrote ∙ (ap (λ o. append_known o n.written) m.wrote ∙ append_twice k0.written m.written n.written);
+  fits = fits_twice k0.space m.written n.written m.fits (subst (λ (x : Option ℕ). IfSome x (λ s. length n.written ≤ s)) m.space n.fits);
+  space = n.space ∙ (ap (option_map (λ s. s - length n.written)) m.space ∙ space_twice k0.space m.written n.written);
+  lent = n.lent ∙ m.lent;
   inbox = sym (append_assoc s0.inbox m.received n.received)
       ∙ ap (λ x. x ++ n.received) m.inbox
       ∙ append_assoc m.used s1.inbox n.received
@@ -207,7 +281,7 @@ keeps_same s = record { cutter = refl; used = refl; at = refl; count = refl; new
 
 unfoldable pub moves_none : (u : Type 0) (s : Session) (k : Shown) (d : List Entry → Type 0) (f : Request → Type 0) → Moves u s k d f s k d f
 moves_none u s k d f =
-    moves_plain u s s k k d f [] [] (keeps_same s) refl (append-nil s.inbox) (λ h. h) (prepend_none k.left) (append_none k.written) (omega arith) (omega arith) refl refl
+    moves_plain u s s k k d f [] [] (keeps_same s) refl (append-nil s.inbox) (λ h. h) (moved_nothing k)
 
 -- a cause in a later part is one in the whole
 pub cause_earlier : (k0 k1 k2 : Shown) (s : Session) (b : List ℕ) (js : List Verdict) (o : Outcome) → k0.faults ≤ k1.faults → HasCause k1 k2 s b js o → HasCause k0 k2 s b js o

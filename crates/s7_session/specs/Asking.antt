@@ -2,7 +2,7 @@
 use Rattle.std.specs.Prelude.{ℕ, List, [], ◌∷◌, false}
 use Rattle.s7_plant.specs.declared.request.Request.{Request}
 use Rattle.s7_session.specs.Errors.{FULL}
-use Rattle.s7_session.specs.Sent.{sent_message, sent_messages}
+use Rattle.s7_wire.specs.Sent.{sent_message, sent_messages}
 use Rattle.s7_session.specs.Judgement.{reply_octets, refusal_octets}
 use Rattle.s7_session.specs.Handling.{Between, Handling, asks}
 

@@ -1,29 +1,15 @@
--- Numbers of a link.
-use Rattle.std.specs.Prelude.{ℕ, ◌+◌, ◌^◌, List, [], ◌∷◌, Result, Ok, Err, Option, None, Some}
+-- Numbers of a served link.
+use Rattle.std.specs.Prelude.{ℕ, List, [], ◌∷◌, Result, Ok, Err, Option, None, Some}
 use Rattle.s7_cotp.specs.Told.{Told, connect, confirm, fragment, disconnect, reject}
 use Rattle.s7_cotp.specs.Reading.{tpdu_of}
 use Rattle.s7_cotp.specs.declared.tpdu.CotpFault.{CotpFault}
+use Rattle.s7_wire.specs.Bounds.{first_limit, size_of_code, limit_of_size}
 
 -- no more octets are taken from a link
 abbrev pub spent : ℕ
 spent = 4294967295
 
--- the greatest length of a message
-abbrev pub message_limit : ℕ
-message_limit = 8192
-
--- the greatest length of a packet before the connect request
-abbrev pub first_limit : ℕ
-first_limit = 8199
-
--- A TPDU size by its code: 07 is 128, and each further one doubles it.
-abbrev pub size_of_code : ℕ → ℕ
-size_of_code code = 2 ^ code
-
--- Some senders count only user data, so a packet may have the header's three octets more than the TPDU size.
-abbrev pub limit_of_size : ℕ → ℕ
-limit_of_size size = size + 7
-
+-- the length that no packet passes, by the first one
 abbrev pub limit_after : Result Told CotpFault → ℕ
 limit_after (Ok (connect c)) = limit_of_size (size_of_code c.size_code)
 limit_after (Ok (confirm c)) = first_limit

@@ -12,8 +12,8 @@ use Rattle.s7_session.specs.declared.outcome.Outcome.{Outcome}
 use Rattle.s7_session.specs.declared.outcome.Outcome.TheVariants as outcome
 use Rattle.s7_session.specs.Verdict.{Verdict, Entered, Full, ClockFailed, NoMemory}
 use Rattle.s7_session.specs.LinkState.{LinkState}
-use Rattle.s7_session.specs.Bounds.{message_limit, size_of_code}
-use Rattle.s7_session.specs.Sent.{sent_message, sent_messages}
+use Rattle.s7_wire.specs.Bounds.{message_limit, size_of_code}
+use Rattle.s7_wire.specs.Sent.{sent_message, sent_messages}
 use Rattle.s7_session.specs.Judgement.{Judgement, refuse, own, ask, judge, sequence_of, refusal_octets}
 use Rattle.s7_session.specs.Errors.{error_of, FULL, CLOCK_FAILED}
 

@@ -2,8 +2,6 @@ pub mod Entry
 pub mod Verdict
 pub mod LinkState
 pub mod Bounds
-pub mod Outgoing
-pub mod Sent
 pub mod Judgement
 pub mod Judged
 pub mod Errors

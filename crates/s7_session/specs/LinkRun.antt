@@ -1,5 +1,5 @@
 -- What a whole run of a link is, from outside.
-use Rattle.std.specs.Prelude.{◌≡◌, ℕ, List, [], ◌++◌, length, map, Option, None, IsTrue}
+use Rattle.std.specs.Prelude.{◌≡◌, ℕ, ◌-◌, ◌≤◌, List, [], ◌++◌, length, map, Option, None, option_map, IfSome, IsTrue}
 use Rattle.std.specs.Io.KnownBytes.{prepend_known, append_known, IsAtEnd}
 use Rattle.s7_outer.specs.Shown.{Shown}
 use Rattle.s7_outer.specs.Count.{Rose, RoseBy}
@@ -82,6 +82,11 @@ pub record IsLinkRun (uniform : Type 0) (link link' : Shown) (stands stands' : L
   pub entries : List Entry
   pub took : link.left ≡ prepend_known taken link'.left
   pub wrote : link'.written ≡ append_known link.written written
+  -- the link has room for as many fewer, works on what it worked on, and its clock tells the same moment
+  pub fits : IfSome link.space (λ s. length written ≤ s)
+  pub space : link'.space ≡ option_map (λ s. s - length written) link.space
+  pub lent : link'.lent ≡ link.lent
+  pub moment : link'.moment ≡ link.moment
   pub owed : IsWritten result written (owed taken verdicts)
   -- the doer entered what was asked and entered, in order and nothing else, with these replies
   pub asked : map asked entries ≡ entered taken verdicts

@@ -1,5 +1,5 @@
 -- What a session stands for, and what its turns do.
-use Rattle.std.specs.Prelude.{◌≡◌, ℕ, ◌+◌, ◌<◌, ◌≤◌, List, [], ◌++◌, length, map, Option, None, Some, IsTrue}
+use Rattle.std.specs.Prelude.{◌≡◌, ℕ, ◌+◌, ◌-◌, ◌<◌, ◌≤◌, List, [], ◌++◌, length, map, Option, None, Some, option_map, IfSome, IsTrue}
 use Rattle.std.specs.Io.KnownBytes.{prepend_known, append_known, IsAtEnd}
 use Rattle.s7_outer.specs.Shown.{Shown}
 use Rattle.s7_outer.specs.Count.{Rose, RoseBy}
@@ -18,6 +18,10 @@ use Rattle.s7_session.specs.Handling.{lives, stops}
 use Rattle.s7_session.specs.Owed.{past, owed, entered, end_of}
 use Rattle.s7_session.specs.Answers.{AnyFull, NoneEntered, FullStays, AllAt, clock_failures, last_number}
 use Rattle.s7_session.specs.Bounds.{limits, spent}
+
+-- the number of its link
+abbrev pub number_of : Session → ℕ
+number_of s = s.link
 
 -- the octets that were read and not used
 abbrev pub unread : Session → List ℕ
@@ -65,6 +69,10 @@ pub record Moves (uniform : Type 0) (old : Session) (link : Shown) (stands : Lis
   pub entries : List Entry
   pub took : link.left ≡ prepend_known received link'.left
   pub wrote : link'.written ≡ append_known link.written written
+  -- the link has room for as many fewer, and works on what it worked on
+  pub fits : IfSome link.space (λ s. length written ≤ s)
+  pub space : link'.space ≡ option_map (λ s. s - length written) link.space
+  pub lent : link'.lent ≡ link.lent
   pub inbox : unread old ++ received ≡ used ++ unread new
   -- whatever the session stands for
   pub stood : (b : List ℕ) (js : List Verdict) (w : List ℕ) → Stands old b js w → Stands new (b ++ used) (js ++ verdicts) (w ++ written)
@@ -121,8 +129,10 @@ closed_by turn.Went = None
 closed_by turn.NotYet = None
 closed_by (turn.Closed o) = Some o
 
--- where the link tells its space, there is none for what is left to send, or nothing is left on it
+-- Something is left to send, and a link that tells its space has none. Or nothing is left to send or to use, and
+-- nothing is left on such a link.
 pub record HasMetNotYet (old : Session) (link : Shown) : Type 0 where
+  pub idle : unsent old ≡ [] → unread old ≡ []
   pub full : (space : ℕ) → link.space ≡ Some space → (unsent old ≡ [] → ⊥) → space ≡ 0
   pub empty : (space : ℕ) → link.space ≡ Some space → unsent old ≡ [] → link.left ≡ Some []
 
@@ -131,7 +141,7 @@ pub record IsTurn (uniform : Type 0) (old : Session) (link : Shown) (stands : Li
   -- at most one telegram met its verdict
   pub one : length moves.verdicts ≤ 1
   pub went : result ≡ turn.Went → 0 < length moves.received + length moves.used + length moves.written
-  pub not_yet : result ≡ turn.NotYet → (moves.received ≡ []) × (moves.used ≡ []) × (moves.written ≡ []) × Rose link.waits link'.waits × HasMetNotYet old link
+  pub not_yet : result ≡ turn.NotYet → (moves.received ≡ []) × (moves.used ≡ []) × (moves.written ≡ []) × Rose link.waits link'.waits × HasMetNotYet old link × (unsent new ≡ unsent old)
   -- it receives only where nothing is left to send or to use
   pub receives : 0 < length moves.received → IsIdle old
   pub closed : closed_with new ≡ closed_by result

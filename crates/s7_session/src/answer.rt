@@ -8,7 +8,6 @@ ghost use Rattle.s7_plant.specs.Replies.{IsReadyReply};
 ghost use Rattle.s7_session.specs.Asking.{asking};
 ghost use Rattle.s7_session.specs.Judgement.{sequence_of};
 ghost use Rattle.s7_session.specs.Errors.{error_of};
-ghost use Rattle.s7_session.specs.Bounds.{size_of_code};
 ghost use Rattle.s7_session.specs.Handling.{Between, handling, connected, unconnected, by_joining, message_handling, by_judgement, is_s7, end_with, after_packet, confirmed, lives};
 ghost use Rattle.s7_session.specs.Owed.{start};
 ghost use Rattle.s7_session.specs.Answers.{Answers, IsSettled, standing_by};
@@ -22,6 +21,7 @@ use crate::sender::Sender;
 use s7_cotp::{Connection, Joined, Joiner, Tpdu, read_tpdu};
 use s7_outer::{Memory, Octets};
 use s7_plant::{BODY_ROOM, Reply, Request};
+use s7_wire::tpdu_size;
 use std::alloc::Global;
 
 /// How many octets a message has at most.
@@ -95,28 +95,8 @@ impl Conversation {
             called: request.called,
         };
         self.sender.put_confirm(&confirm);
-        self.tpdu_size = Some(size_of_code(request.size_code));
+        self.tpdu_size = Some(tpdu_size(request.size_code));
         Handled::Answered
-    }
-}
-
-// The TPDU size of a connect request.
-fn size_of_code(code: u8) -> u16
-    requires least { 7 ≤ code }
-    requires most { code ≤ 13 }
-    ensures size { result ≡ size_of_code code }
-    ensures least { 128 ≤ result }
-    ensures most { result ≤ 8192 }
-{
-    match code {
-        0x07 => 128,
-        0x08 => 256,
-        0x09 => 512,
-        0x0A => 1_024,
-        0x0B => 2_048,
-        0x0C => 4_096,
-        0x0D => 8_192,
-        _ => unreachable!(),
     }
 }
 

@@ -3,7 +3,6 @@
 #![tactic(auto)]
 
 mod answer;
-mod boxes;
 mod conversation;
 mod doer;
 mod judge;

@@ -1,27 +1,24 @@
 // Messages and confirms that go out.
-ghost use Rattle.std.specs.Prelude.{◌≡◌, ◌==◌, ℕ, ◌+◌, ◌≤◌, List, [], ◌∷◌, ◌++◌, length, IfOk, slice_range};
+ghost use Rattle.std.specs.Prelude.{◌≡◌, ℕ, ◌+◌, ◌≤◌, List, [], ◌∷◌, ◌++◌, length, IfOk};
 ghost use Rattle.s7_cotp.specs.Told.{connection_of};
 ghost use Rattle.s7_cotp.specs.Spelling.{spelling_of_confirm};
 ghost use Rattle.s7_tpkt.specs.Packets.{packet_of};
 ghost use Rattle.s7_header.specs.Negotiation.{negotiation_spelling};
 ghost use Rattle.s7_plant.specs.Replies.{said_of};
 ghost use Rattle.s7_session.specs.Judgement.{answer_octets, refusal_octets, reply_octets};
-ghost use Rattle.s7_session.specs.Sent.{sent_message, fragment_octets};
+ghost use Rattle.s7_wire.specs.Sent.{sent_message};
 
-use crate::boxes::Outbox;
-use s7_cotp::{Connection, fragments, write_confirm, write_data};
+use s7_cotp::{Connection, write_confirm};
 use s7_header::{
     Header, Kind, MOST_PDU, Negotiation, write_header, write_negotiate, write_refusal,
 };
 use s7_outer::{Buffer, Memory};
 use s7_plant::Reply;
+use s7_wire::{Outbox, put_message};
 use std::alloc::Global;
 
 /// How many octets a message that goes out has at most.
-pub(crate) const MOST: usize = MOST_PDU as usize;
-
-/// The header of a data TPDU.
-const DATA_HEADER: usize = 3;
+const MOST: usize = MOST_PDU as usize;
 
 /// How many octets a confirm has at most: its header, and a size and two TSAPs.
 const CONFIRM: usize = 64;
@@ -126,30 +123,4 @@ impl Sender {
         let len = write_confirm(c, &mut octets);
         self.outbox.put(&octets[..len]);
     }
-}
-
-// Puts a message in fragments.
-fn put_message(outbox: &mut Outbox, size: u16, message: &[u8])
-    requires least { 128 ≤ size }
-    requires most { size ≤ 8192 }
-    requires fits { length message.now ≤ 960 }
-    requires room { 1016 ≤ outbox.old.room }
-    ensures { outbox.new.unsent ≡ outbox.old.unsent ++ sent_message size message.now }
-{
-    for (start, end) in fragments(message.len(), usize::from(size)) {
-        put_fragment(outbox, message, start, end);
-    }
-}
-
-fn put_fragment(outbox: &mut Outbox, message: &[u8], start: usize, end: usize)
-    requires order { start ≤ end }
-    requires within { end ≤ length message.now }
-    requires fits { length message.now ≤ 960 }
-    requires room { length (fragment_octets message.now (start, end)) ≤ outbox.old.room }
-    ensures unsent { outbox.new.unsent ≡ outbox.old.unsent ++ fragment_octets message.now (start, end) }
-    ensures room { outbox.new.room + length (fragment_octets message.now (start, end)) ≡ outbox.old.room }
-{
-    let mut tpdu = [0u8; MOST + DATA_HEADER];
-    let len = write_data(end == message.len(), &message[start..end], &mut tpdu);
-    outbox.put(&tpdu[..len]);
 }

@@ -5,10 +5,10 @@ ghost use Rattle.s7_tpkt.specs.declared.state.FedState.TheVariants.{More};
 ghost use Rattle.s7_cotp.specs.Gathered.{is_fault};
 ghost use Rattle.s7_session.specs.Bounds.{spent};
 
-use crate::boxes::Inbox;
 use crate::conversation::Conversation;
 use crate::outcome::Outcome;
 use s7_tpkt::Cutter;
+use s7_wire::Inbox;
 
 /// The server's side of one link: packets of RFC 1006, TPDUs of class 0 (ISO 8073), and messages.
 /// It begins with a connect request, and holds what was read and not used, and what is still to be

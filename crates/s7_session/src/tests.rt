@@ -94,6 +94,24 @@ const READ_AFTER_WRITE: &[u8] =
 
 const DISCONNECT: &[u8] = b"\x03\x00\x00\x0B\x06\x80\x00\x01\x00\x01\x80";
 
+/// A connect request for a TPDU size of 8,192.
+const CONNECT_8192: &[u8] =
+    b"\x03\x00\x00\x16\x11\xE0\x00\x00\x00\x01\x00\xC0\x01\x0D\xC1\x02\x01\x00\xC2\x02\x01\x02";
+
+const CONFIRM_8192: &[u8] =
+    b"\x03\x00\x00\x16\x11\xD0\x00\x01\x00\x01\x00\xC0\x01\x0D\xC1\x02\x01\x00\xC2\x02\x01\x02";
+
+/// A fragment of one octet that isn't the last of its message, and eight of them.
+const FRAGMENT: &[u8] = b"\x03\x00\x00\x08\x02\xF0\x00\x32";
+
+const EIGHT_FRAGMENTS: &[u8] =
+    b"\x03\x00\x00\x08\x02\xF0\x00\x32\x03\x00\x00\x08\x02\xF0\x00\x32\x03\x00\x00\x08\x02\xF0\x00\x32\x03\x00\x00\x08\x02\xF0\x00\x32\x03\x00\x00\x08\x02\xF0\x00\x32\x03\x00\x00\x08\x02\xF0\x00\x32\x03\x00\x00\x08\x02\xF0\x00\x32\x03\x00\x00\x08\x02\xF0\x00\x32";
+
+/// The head of a fragment of 8,192 octets that isn't the last of its message, and its octets.
+const LONG_HEAD: &[u8] = b"\x03\x00\x20\x07\x02\xF0\x00";
+
+const LONG: &[u8] = &[0x32; 8_192];
+
 /// What comes in on a link, and what becomes of it.
 #[derive(Drop)]
 struct Row {
@@ -298,6 +316,64 @@ fn a_link_ends_with_its_reason(rt: HostRuntime) -> Result<(), Fail> {
             entries: 0,
         };
         assert!(rt; is_served_in_pieces(&rt, rt.alloc(), &row, 9)?);
+    }
+    Ok(())
+}
+
+#[test]
+fn a_message_has_its_bounds(rt: HostRuntime) -> Result<(), Fail> {
+    let rows = [
+        // 64 fragments, and a 65th.
+        Row {
+            input: &[
+                CONNECT,
+                EIGHT_FRAGMENTS,
+                EIGHT_FRAGMENTS,
+                EIGHT_FRAGMENTS,
+                EIGHT_FRAGMENTS,
+                EIGHT_FRAGMENTS,
+                EIGHT_FRAGMENTS,
+                EIGHT_FRAGMENTS,
+                EIGHT_FRAGMENTS,
+            ],
+            output: &[CONFIRM],
+            outcome: Outcome::Torn(64),
+            entries: 0,
+        },
+        Row {
+            input: &[
+                CONNECT,
+                EIGHT_FRAGMENTS,
+                EIGHT_FRAGMENTS,
+                EIGHT_FRAGMENTS,
+                EIGHT_FRAGMENTS,
+                EIGHT_FRAGMENTS,
+                EIGHT_FRAGMENTS,
+                EIGHT_FRAGMENTS,
+                EIGHT_FRAGMENTS,
+                FRAGMENT,
+                FRAGMENT,
+            ],
+            output: &[CONFIRM],
+            outcome: Outcome::TooManyFragments { at: 534 },
+            entries: 0,
+        },
+        // 8,192 octets, and one more.
+        Row {
+            input: &[CONNECT_8192, LONG_HEAD, LONG],
+            output: &[CONFIRM_8192],
+            outcome: Outcome::Torn(8_192),
+            entries: 0,
+        },
+        Row {
+            input: &[CONNECT_8192, LONG_HEAD, LONG, FRAGMENT, FRAGMENT],
+            output: &[CONFIRM_8192],
+            outcome: Outcome::TooLong { at: 8_221 },
+            entries: 0,
+        },
+    ];
+    for row in &rows {
+        assert!(rt; is_served_in_pieces(&rt, rt.alloc(), row, 9)?);
     }
     Ok(())
 }

@@ -5,17 +5,17 @@ ghost use Rattle.s7_plant.specs.declared.request.Request.{Request};
 ghost use Rattle.s7_session.specs.Owed.{torn_or_ended};
 ghost use Rattle.s7_session.specs.Bounds.{limit_by};
 ghost use Rattle.s7_session.specs.Conversing.{between_of};
-ghost use Rattle.s7_session.specs.Stands.{IsTurn, IsServed, Consumes, closed_with, entry_count, newest, unread, unsent};
+ghost use Rattle.s7_session.specs.Stands.{IsTurn, IsServed, Consumes, number_of, closed_with, entry_count, newest, unread, unsent};
 ghost use Rattle.s7_session.specs.LinkRun.{IsFresh, IsLinkRun};
 
 use crate::answer::Handled;
-use crate::boxes::{Inbox, PIECE};
 use crate::conversation::Conversation;
 use crate::doer::Doer;
 use crate::outcome::{Outcome, Turn};
 use crate::session::Session;
 use s7_outer::{Clock, Got, Link, Memory, Sent};
 use s7_tpkt::{Cutter, FedState};
+use s7_wire::{Inbox, PIECE};
 use std::alloc::Global;
 use std::sync::Wait;
 
@@ -32,7 +32,8 @@ impl Session {
     /// The session of a link of this number, which has taken nothing. All buffers of the link are
     /// taken here; `Memory` comes where there is none for them.
     pub fn new(alloc: Global, link: u32) -> Result<Session, Memory>
-        ensures { IfOk result IsFresh }
+        ensures fresh { IfOk result IsFresh }
+        ensures number { IfOk result (λ s. number_of s ≡ link) }
     {
         Ok(Session {
             link,
@@ -78,6 +79,7 @@ impl Session {
         requires { closed_with self.old ≡ None }
         ensures closed { closed_with self.new ≡ Some outcome }
         ensures result { result ≡ Turn.Closed outcome }
+        ensures number { number_of self.new ≡ number_of self.old }
         ensures cutter { self.new.cutter ≡ self.old.cutter }
         ensures inbox { self.new.inbox ≡ self.old.inbox }
         ensures conversation { self.new.conversation ≡ self.old.conversation }
@@ -97,6 +99,7 @@ impl Session {
         requires read { 0 < length (unread self.old) }
         ensures consumes { (k : Shown) → Consumes ((d : D) (r q : Request) → D.is_full d r → D.is_full d q) self.old k (D.stands doer.old) (D.is_full doer.old)
             self.new k (D.stands doer.new) (D.is_full doer.new) result }
+        ensures number { number_of self.new ≡ number_of self.old }
         ensures kept { D.keeps doer.old doer.new }
     {
         let fed = self.cutter.feed(self.inbox.as_slice());
@@ -169,6 +172,7 @@ impl Session {
         ensures turn { IsTurn ((d : D) (r q : Request) → D.is_full d r → D.is_full d q)
             self.old (L.shows line.old) (D.stands doer.old) (D.is_full doer.old)
             self.new (L.shows line.new) (D.stands doer.new) (D.is_full doer.new) result }
+        ensures number { number_of self.new ≡ number_of self.old }
         ensures kept { D.keeps doer.old doer.new }
         ensures stays { (o : Outcome) → closed_with self.old ≡ Some o → (result ≡ Turn.Closed o) × (self.new ≡ self.old) }
     {
@@ -217,6 +221,7 @@ impl Session {
         ensures run { IsFresh self.old → IsLinkRun ((d : D) (r q : Request) → D.is_full d r → D.is_full d q)
             (L.shows line.old) (L.shows line.new) (D.stands doer.old) (D.stands doer.new)
             (D.is_full doer.old) (D.is_full doer.new) result (entry_count self.new) (newest self.new) }
+        ensures number { number_of self.new ≡ number_of self.old }
         ensures kept { D.keeps doer.old doer.new }
     {
         for _ in rt.forever() {

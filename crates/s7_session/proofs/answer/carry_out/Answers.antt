@@ -2,7 +2,7 @@ use Rattle.std.proofs.Common.{refl, [], ◌∷◌, false}
 use Rattle.s7_plant.specs.Requests.{kept}
 use Rattle.s7_plant.specs.Replies.{said_of}
 use Rattle.s7_session.specs.Errors.{FULL}
-use Rattle.s7_session.specs.Sent.{sent_message, sent_messages}
+use Rattle.s7_wire.specs.Sent.{sent_message, sent_messages}
 use Rattle.s7_session.specs.Judgement.{reply_octets, refusal_octets}
 use Rattle.s7_session.specs.Asking.{asking}
 use Rattle.s7_session.proofs.AnswerLemmas.{answers_full, answers_entered, kept_same, one_message, after_nothing, false_not_true}

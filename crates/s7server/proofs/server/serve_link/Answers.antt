@@ -10,4 +10,4 @@ returns g c =
     (inl (served_link (opening_of c.args.doer.now) (opening_of new) (memory_of new)
     (g.L.Link.shows c.args.line.now) (g.L.Link.shows c.serve-outcome.new.line)
     (requests_of c.args.doer.now) (requests_of new) _ c.serve-outcome.result _ _ _
-    (c.serve-outcome.ensures.run c.in-Ok.ensures) (λ d r q h. h) c.requires.requests c.serve-outcome.ensures.kept new.replayed))
+    (c.serve-outcome.ensures.run c.in-Ok.ensures.fresh) (λ d r q h. h) c.requires.requests c.serve-outcome.ensures.kept new.replayed))

@@ -4,7 +4,7 @@ use Rattle.s7_header.specs.Negotiation.{negotiation_spelling}
 use Rattle.s7_session.specs.declared.judge.Judgement.TheVariants as code
 use Rattle.s7_session.specs.declared.outcome.Outcome.TheVariants as outcome
 use Rattle.s7_session.specs.Errors.{error_of, FULL, CLOCK_FAILED}
-use Rattle.s7_session.specs.Sent.{sent_message, sent_messages}
+use Rattle.s7_wire.specs.Sent.{sent_message, sent_messages}
 use Rattle.s7_session.specs.Judged.{judgement_of}
 use Rattle.s7_session.specs.Judgement.{answer_octets, refusal_octets, reply_octets, sequence_of}
 use Rattle.s7_session.specs.Handling.{message_handling}

@@ -3,9 +3,9 @@ use Rattle.s7_tpkt.specs.Packets.{packets_of, rest_of, state_of}
 use Rattle.s7_session.specs.Owed.{past}
 use Rattle.s7_session.proofs.session.Session.new.Goals as goal
 
-pub returns : goal.returns
+pub returns-clause-fresh : goal.returns-clause-fresh
 unfolding packets_of rest_of past
-returns c = record {
+returns-clause-fresh c = record {
   stands = record {
     rest = λ l. record { held = sym c.new.ensures.held; limit = sym c.new.ensures.limit };
     used = refl;

@@ -1,4 +1,4 @@
-use Rattle.std.proofs.Common.{◌∙◌}
+use Rattle.std.proofs.Common.{refl, ◌∙◌}
 use Rattle.s7_session.proofs.TurnLemmas.{moves_none, moves_both}
 use Rattle.s7_session.proofs.ServeLemmas.{served_after, not_closed}
 use Rattle.s7_session.proofs.RunLemmas.{link_run}
@@ -7,6 +7,7 @@ use Rattle.s7_session.proofs.session.Session.serve.Goals as goal
 pub loop-init : goal.loop-init
 loop-init g c = record {
   moves = moves_none _ c.args.self.now (g.L.Link.shows c.args.line.now) (g.D.Doer.stands c.args.doer.now) (g.D.Doer.is_full c.args.doer.now);
+  number = refl;
   kept = g.met.D.Doer.keeps_same c.args.doer.now;
   going = λ e. e;
 }
@@ -24,6 +25,7 @@ returns-in-Closed g c =
           link_run _ c.args.self.now c.turn.new.self (g.L.Link.shows c.args.line.now) (g.L.Link.shows c.turn.new.line)
           (g.D.Doer.stands c.args.doer.now) (g.D.Doer.stands c.turn.new.doer) (g.D.Doer.is_full c.args.doer.now) (g.D.Doer.is_full c.turn.new.doer)
           c.in-Closed.outcome served;
+      number = c.turn.ensures.number ∙ c.loop.invariant.number;
       kept = g.met.D.Doer.keeps_both c.args.doer.now c.loop.doer c.turn.new.doer c.loop.invariant.kept c.turn.ensures.kept;
     }
 
@@ -33,6 +35,7 @@ loop-preserved g c = record {
       moves_both _ c.args.self.now c.loop.self c.turn.new.self (g.L.Link.shows c.args.line.now) (g.L.Link.shows c.loop.line) (g.L.Link.shows c.turn.new.line)
       (g.D.Doer.stands c.args.doer.now) (g.D.Doer.stands c.loop.doer) (g.D.Doer.stands c.turn.new.doer) (g.D.Doer.is_full c.args.doer.now) (g.D.Doer.is_full c.loop.doer) (g.D.Doer.is_full c.turn.new.doer)
       c.loop.invariant.moves c.turn.ensures.turn.moves;
+  number = c.turn.ensures.number ∙ c.loop.invariant.number;
   kept = g.met.D.Doer.keeps_both c.args.doer.now c.loop.doer c.turn.new.doer c.loop.invariant.kept c.turn.ensures.kept;
   going = λ e. c.turn.ensures.turn.closed ∙ not_closed c.turn.result c.in_default.not-Closed;
 }

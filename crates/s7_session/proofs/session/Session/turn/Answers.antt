@@ -1,9 +1,9 @@
-use Rattle.std.proofs.Common.{◌≡◌, [], take, refl, sym, ap, ◌∙◌, arith}
+use Rattle.std.proofs.Common.{◌≡◌, [], take, refl, sym, ap, ◌∙◌}
 use Rattle.std.specs.Prelude.{None}
 use Rattle.std.specs.Io.KnownBytes.{prepend_known}
 use Rattle.s7_session.specs.declared.outcome.Turn.TheVariants as turn
 use Rattle.s7_session.specs.declared.outcome.Outcome.TheVariants as outcome
-use Rattle.s7_session.proofs.TurnLemmas.{prepend_none, append_none}
+use Rattle.s7_session.proofs.TurnLemmas.{moved_nothing, moved_by_receive, moved_by_transmit}
 use Rattle.s7_session.proofs.ServeLemmas.{turn_closed, turn_plain, turn_closing, turn_used, turn_both, empty_of, some_of, none_from_not, went_not_yet, not_yet_not_went, went_not_closed, not_yet_not_closed, cause_end, closed_keeps, parts_keep, unended_at, met_full, met_empty, not_empty, if_some, is_some_from}
 use Rattle.s7_session.proofs.session.Session.turn.Goals as goal
 
@@ -15,8 +15,8 @@ returns-in-Bytes-clause-turn g c =
     let live : c.args.self.now.closed ≡ None = none_from_not c.args.self.now.closed c.in_default.not-Some in
     turn_plain _ c.args.self.now _ (g.L.Link.shows c.args.line.now) (g.L.Link.shows c.flush.new.line) (g.D.Doer.stands c.args.doer.now) (g.D.Doer.is_full c.args.doer.now)
     (take c.in-Bytes.field-0 c.args.self.now.conversation.sender.outbox.unsent) turn.Went (parts_keep _ _ refl refl refl refl refl refl refl refl) c.in-Bytes.ensures.sent refl
-    (sym c.flush.ensures.took) c.in-Bytes.ensures.wrote c.flush.ensures.faults c.flush.ensures.waits c.flush.ensures.moment c.flush.ensures.clock_faults live live
-    (λ e. c.in-Bytes.ensures.some c.in-Bytes.field-0 refl) (λ e. absurd (went_not_yet e)) (λ o e. absurd (went_not_closed o e))
+    (moved_by_transmit (g.L.Link.shows c.args.line.now) (g.L.Link.shows c.flush.new.line) _ c.in-Bytes.ensures.wrote c.in-Bytes.ensures.fits c.in-Bytes.ensures.space c.flush.ensures.faults c.flush.ensures.waits c.flush.ensures.same) live live
+    (λ e. (c.in-Bytes.ensures.some c.in-Bytes.field-0 refl).1) (λ e. absurd (went_not_yet e)) (λ o e. absurd (went_not_closed o e))
 
 pub returns-in-NotYet-clause-turn : goal.returns-in-NotYet-clause-turn
 returns-in-NotYet-clause-turn g c =
@@ -24,9 +24,9 @@ returns-in-NotYet-clause-turn g c =
     let some = some_of c.args.self.now.conversation.sender.outbox.unsent c.is_empty.result c.is_empty.ensures c.if-not-is_empty.true in
     turn_plain _ c.args.self.now _ (g.L.Link.shows c.args.line.now) (g.L.Link.shows c.flush.new.line) (g.D.Doer.stands c.args.doer.now) (g.D.Doer.is_full c.args.doer.now)
     [] turn.NotYet (parts_keep _ _ refl refl refl refl refl refl refl refl) c.in-NotYet.ensures.sent refl
-    (sym c.flush.ensures.took) c.in-NotYet.ensures.wrote c.flush.ensures.faults c.flush.ensures.waits c.flush.ensures.moment c.flush.ensures.clock_faults live live
+    (moved_by_transmit (g.L.Link.shows c.args.line.now) (g.L.Link.shows c.flush.new.line) _ c.in-NotYet.ensures.wrote c.in-NotYet.ensures.fits c.in-NotYet.ensures.space c.flush.ensures.faults c.flush.ensures.waits c.flush.ensures.same) live live
     (λ e. absurd (not_yet_not_went e))
-    (λ e. (refl, c.in-NotYet.ensures.not_yet refl, met_full c.args.self.now (g.L.Link.shows c.args.line.now) (λ n h. if_some _ _ c.in-NotYet.ensures.no_space n h refl) (not_empty _ some)))
+    (λ e. (refl, c.in-NotYet.ensures.not_yet refl, met_full c.args.self.now (g.L.Link.shows c.args.line.now) (λ n h. (if_some _ _ c.in-NotYet.ensures.no_space n h).0 refl) (not_empty _ some)))
     (λ o e. absurd (not_yet_not_closed o e))
 
 pub returns-in-Failed-clause-turn : goal.returns-in-Failed-clause-turn
@@ -36,7 +36,7 @@ returns-in-Failed-clause-turn g c =
     let same = ap (λ x. x.sender.outbox.unsent) k.conversation ∙ sym c.in-Failed.ensures.sent in
     turn_closing _ c.args.self.now c.close.new.self (g.L.Link.shows c.args.line.now) (g.L.Link.shows c.flush.new.line) (g.D.Doer.stands c.args.doer.now) (g.D.Doer.is_full c.args.doer.now)
     outcome.WriteFault c.close.result (parts_keep _ _ k.cutter k.at k.used k.count k.newest (ap (λ x. x.joiner) k.conversation) (ap (λ x. x.tpdu_size) k.conversation) (ap (λ x. x.granted) k.conversation)) same k.inbox
-    (sym c.flush.ensures.took) (c.in-Failed.ensures.wrote ∙ sym (append_none (g.L.Link.shows c.args.line.now).written)) c.flush.ensures.faults c.flush.ensures.waits c.flush.ensures.moment c.flush.ensures.clock_faults
+    (moved_by_transmit (g.L.Link.shows c.args.line.now) (g.L.Link.shows c.flush.new.line) _ c.in-Failed.ensures.wrote c.in-Failed.ensures.fits c.in-Failed.ensures.space c.flush.ensures.faults c.flush.ensures.waits c.flush.ensures.same)
     live k.closed k.result
     (λ b js w h. (c.in-Failed.ensures.failed refl, rw same (some_of c.args.self.now.conversation.sender.outbox.unsent c.is_empty.result c.is_empty.ensures c.if-not-is_empty.true), unended_at c.args.self.now c.close.new.self b js w live k.cutter h))
 
@@ -53,7 +53,7 @@ returns-then-self-eq-SPENT-clause-turn g c =
     let read = empty_of c.args.self.now.inbox c.is_empty-2.result c.is_empty-2.ensures c.if-not-is_empty-2.false in
     turn_closing _ c.args.self.now c.close-then-self-eq-SPENT.new.self (g.L.Link.shows c.args.line.now) (g.L.Link.shows c.args.line.now) (g.D.Doer.stands c.args.doer.now) (g.D.Doer.is_full c.args.doer.now)
     outcome.Spent c.close-then-self-eq-SPENT.result (closed_keeps _ _ k.cutter k.conversation k.at k.used k.count k.newest) (ap (λ x. x.sender.outbox.unsent) k.conversation) k.inbox
-    refl refl (omega arith) (omega arith) refl refl live k.closed k.result
+    (moved_nothing (g.L.Link.shows c.args.line.now)) live k.closed k.result
     (λ b js w h. (
       h.used ∙ c.if-self-eq-SPENT.true,
       (ap (λ x. x.sender.outbox.unsent) k.conversation ∙ none, k.inbox ∙ read),
@@ -65,7 +65,7 @@ returns-in-Bytes-refill-clause-turn g c =
     let k = c.consume-in-Bytes-refill in
     turn_both _ c.args.self.now _ k.new.self (g.L.Link.shows c.args.line.now) (g.L.Link.shows c.refill.new.line) (g.L.Link.shows c.refill.new.line)
     (g.D.Doer.stands c.args.doer.now) (g.D.Doer.stands k.new.doer) (g.D.Doer.is_full c.args.doer.now) (g.D.Doer.is_full k.new.doer)
-    k.result (closed_keeps _ _ refl refl refl refl refl refl) refl refl c.refill.ensures.took c.refill.ensures.wrote c.refill.ensures.faults c.refill.ensures.waits c.refill.ensures.moment c.refill.ensures.clock_faults
+    k.result (closed_keeps _ _ refl refl refl refl refl refl) refl refl (moved_by_receive (g.L.Link.shows c.args.line.now) (g.L.Link.shows c.refill.new.line) _ c.refill.ensures.took c.refill.ensures.faults c.refill.ensures.waits c.refill.ensures.same)
     (none_from_not c.args.self.now.closed c.in_default.not-Some) (
       empty_of c.args.self.now.conversation.sender.outbox.unsent c.is_empty.result c.is_empty.ensures c.if-not-is_empty.false,
       empty_of c.args.self.now.inbox c.is_empty-2.result c.is_empty-2.ensures c.if-not-is_empty-2.false,
@@ -80,9 +80,9 @@ returns-in-NotYet-refill-clause-turn g c =
     let old_none = empty_of c.args.self.now.inbox c.is_empty-2.result c.is_empty-2.ensures c.if-not-is_empty-2.false in
     turn_plain _ c.args.self.now _ (g.L.Link.shows c.args.line.now) (g.L.Link.shows c.refill.new.line) (g.D.Doer.stands c.args.doer.now) (g.D.Doer.is_full c.args.doer.now)
     [] turn.NotYet (closed_keeps _ _ refl refl refl refl refl refl) refl (old_none ∙ sym none)
-    (c.refill.ensures.took ∙ (ap (λ x. prepend_known x (g.L.Link.shows c.refill.new.line).left) none ∙ sym (prepend_none (g.L.Link.shows c.refill.new.line).left))) (c.refill.ensures.wrote ∙ append_none (g.L.Link.shows c.args.line.now).written) c.refill.ensures.faults c.refill.ensures.waits c.refill.ensures.moment c.refill.ensures.clock_faults live live
+    (moved_by_receive (g.L.Link.shows c.args.line.now) (g.L.Link.shows c.refill.new.line) [] (c.refill.ensures.took ∙ ap (λ x. prepend_known x (g.L.Link.shows c.refill.new.line).left) none) c.refill.ensures.faults c.refill.ensures.waits c.refill.ensures.same) live live
     (λ e. absurd (not_yet_not_went e))
-    (λ e. (refl, (c.in-NotYet-refill.ensures.not_yet refl).1, met_empty c.args.self.now (g.L.Link.shows c.args.line.now) (λ n h. c.in-NotYet-refill.ensures.nothing_left (is_some_from _ n h) refl) sent))
+    (λ e. (refl, (c.in-NotYet-refill.ensures.not_yet refl).1, met_empty c.args.self.now (g.L.Link.shows c.args.line.now) (λ n h. (c.in-NotYet-refill.ensures.nothing_left (is_some_from _ n h)).0 refl) (sent, old_none)))
     (λ o e. absurd (not_yet_not_closed o e))
 
 pub returns-in-Failed-refill-clause-turn : goal.returns-in-Failed-refill-clause-turn
@@ -94,7 +94,7 @@ returns-in-Failed-refill-clause-turn g c =
     let old_none = empty_of c.args.self.now.inbox c.is_empty-2.result c.is_empty-2.ensures c.if-not-is_empty-2.false in
     turn_closing _ c.args.self.now c.close-in-Failed-refill.new.self (g.L.Link.shows c.args.line.now) (g.L.Link.shows c.refill.new.line) (g.D.Doer.stands c.args.doer.now) (g.D.Doer.is_full c.args.doer.now)
     outcome.ReadFault c.close-in-Failed-refill.result (closed_keeps _ _ k.cutter k.conversation k.at k.used k.count k.newest) (ap (λ x. x.sender.outbox.unsent) k.conversation) (k.inbox ∙ (none ∙ sym old_none))
-    (c.refill.ensures.took ∙ (ap (λ x. prepend_known x (g.L.Link.shows c.refill.new.line).left) none ∙ sym (prepend_none (g.L.Link.shows c.refill.new.line).left))) c.refill.ensures.wrote c.refill.ensures.faults c.refill.ensures.waits c.refill.ensures.moment c.refill.ensures.clock_faults
+    (moved_by_receive (g.L.Link.shows c.args.line.now) (g.L.Link.shows c.refill.new.line) [] (c.refill.ensures.took ∙ ap (λ x. prepend_known x (g.L.Link.shows c.refill.new.line).left) none) c.refill.ensures.faults c.refill.ensures.waits c.refill.ensures.same)
     live k.closed k.result
     (λ b js w h. (
       (c.in-Failed-refill.ensures.failed refl).1,
@@ -111,7 +111,7 @@ returns-in-End-clause-turn g c =
     let old_none = empty_of c.args.self.now.inbox c.is_empty-2.result c.is_empty-2.ensures c.if-not-is_empty-2.false in
     turn_closing _ c.args.self.now c.close-in-End.new.self (g.L.Link.shows c.args.line.now) (g.L.Link.shows c.refill.new.line) (g.D.Doer.stands c.args.doer.now) (g.D.Doer.is_full c.args.doer.now)
     c.end-outcome.result c.close-in-End.result (closed_keeps _ _ k.cutter k.conversation k.at k.used k.count k.newest) (ap (λ x. x.sender.outbox.unsent) k.conversation) (k.inbox ∙ (ended.0 ∙ sym old_none))
-    (c.refill.ensures.took ∙ (ap (λ x. prepend_known x (g.L.Link.shows c.refill.new.line).left) ended.0 ∙ sym (prepend_none (g.L.Link.shows c.refill.new.line).left))) c.refill.ensures.wrote c.refill.ensures.faults c.refill.ensures.waits c.refill.ensures.moment c.refill.ensures.clock_faults
+    (moved_by_receive (g.L.Link.shows c.args.line.now) (g.L.Link.shows c.refill.new.line) [] (c.refill.ensures.took ∙ ap (λ x. prepend_known x (g.L.Link.shows c.refill.new.line).left) ended.0) c.refill.ensures.faults c.refill.ensures.waits c.refill.ensures.same)
     live k.closed k.result
     (cause_end c.args.self.now c.close-in-End.new.self (g.L.Link.shows c.args.line.now) (g.L.Link.shows c.refill.new.line) c.end-outcome.result live k.cutter c.end-outcome.ensures
     (ap (λ x. x.sender.outbox.unsent) k.conversation ∙ sent) (k.inbox ∙ ended.0) ended.1 ended.2)

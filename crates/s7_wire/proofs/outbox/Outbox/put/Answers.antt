@@ -2,8 +2,8 @@ use Rattle.std.proofs.Common.{◌≡◌, ◌∙◌, ◌+◌, ◌-◌, ◌++◌, 
 use Rattle.std.proofs.lemmas.Grind.{common_steps}
 use borrow.Rule.Slice.PartMut.{put_mid, post_of}
 use Rattle.s7_tpkt.specs.Packets.{packet_of}
-use Rattle.s7_session.proofs.BoxLemmas.{put_behind}
-use Rattle.s7_session.proofs.boxes.Outbox.put.Goals as goal
+use Rattle.s7_wire.proofs.BoxLemmas.{put_behind}
+use Rattle.s7_wire.proofs.outbox.Outbox.put.Goals as goal
 
 pub returns-clause-unsent : goal.returns-clause-unsent
 returns-clause-unsent c =

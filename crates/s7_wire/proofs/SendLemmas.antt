@@ -5,7 +5,7 @@ use Rattle.std.specs.Prelude.{slice_range}
 use Rattle.std.specs.List.{flat_map, AllByRecursion}
 use Rattle.std.proofs.lemmas.List.{length-take-le, length-drop}
 use Rattle.s7_cotp.specs.Pairs.{pairs_of, pairs_from, fragments_of}
-use Rattle.s7_session.specs.Sent.{fragment_octets, sent_message}
+use Rattle.s7_wire.specs.Sent.{fragment_octets, sent_message}
 
 -- the pair lies in a message of so many octets
 abbrev pub LiesIn : ℕ → ℕ × ℕ → Type 0

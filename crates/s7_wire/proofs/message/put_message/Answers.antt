@@ -1,9 +1,9 @@
-use Rattle.std.proofs.Common.{rules, ◌≡◌, ◌++◌, length, ap, sym, subst, List, ℕ, arith}
+use Rattle.std.proofs.Common.{rules, ◌≡◌, ◌+◌, ◌++◌, length, ap, sym, subst, List, ℕ, arith}
 use Rattle.std.specs.List.{flat_map, AllByRecursion}
 use Rattle.s7_cotp.specs.Pairs.{pairs_of}
-use Rattle.s7_session.specs.Sent.{fragment_octets}
-use Rattle.s7_session.proofs.SendLemmas.{LiesIn, length-sent, sent_lie}
-use Rattle.s7_session.proofs.sender.put_message.Goals as goal
+use Rattle.s7_wire.specs.Sent.{fragment_octets}
+use Rattle.s7_wire.proofs.SendLemmas.{LiesIn, length-sent, sent_lie}
+use Rattle.s7_wire.proofs.message.put_message.Goals as goal
 
 pub loop-start-init : goal.loop-start-init
 loop-start-init c =
@@ -15,5 +15,9 @@ loop-start-init c =
       ends = tt;
       sent = ap (λ ps. c.args.outbox.now.unsent ++ flat_map (fragment_octets m) ps) is;
       room = omega (arith, ap (λ ps. length (flat_map (fragment_octets m) ps)) is, length-sent m c.args.size c.requires.fits c.requires.least, c.requires.room);
+      left = ap (λ ps. c.args.outbox.now.room + length (flat_map (fragment_octets m) ps)) (sym is);
       lie = subst P (sym is) (sent_lie m c.args.size);
     }
+
+pub returns-clause-most : goal.returns-clause-most
+returns-clause-most c = length-sent c.args.message.now c.args.size c.requires.fits c.requires.least

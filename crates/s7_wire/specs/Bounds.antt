@@ -1,0 +1,18 @@
+-- Numbers that hold for each link.
+use Rattle.std.specs.Prelude.{ℕ, ◌+◌, ◌^◌}
+
+-- the greatest length of a message that is joined from fragments
+abbrev pub message_limit : ℕ
+message_limit = 8192
+
+-- the greatest length of a packet before the TPDU size is agreed
+abbrev pub first_limit : ℕ
+first_limit = 8199
+
+-- A TPDU size by its code: 07 is 128, and each further one doubles it.
+abbrev pub size_of_code : ℕ → ℕ
+size_of_code code = 2 ^ code
+
+-- Some senders count only user data, so a packet may have the header's three octets more than the TPDU size.
+abbrev pub limit_of_size : ℕ → ℕ
+limit_of_size size = size + 7

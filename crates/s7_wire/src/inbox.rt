@@ -1,0 +1,101 @@
+// The octets that were read and not used.
+ghost use Rattle.std.specs.Prelude.{◌≡◌, ◌==◌, ◌↔◌, ℕ, ◌<◌, ◌≤◌, [], length, drop, Some, IsTrue, IsSome};
+ghost use Rattle.std.specs.Io.KnownBytes.{prepend_known, IsAtEnd};
+ghost use Rattle.s7_outer.specs.Count.{Rose};
+
+use s7_outer::{Got, Link};
+use std::marker::Model;
+
+/// How many octets one receive takes at most.
+pub const PIECE: usize = 8_192;
+
+/// The octets that were read and not used yet.
+#[derive(Drop)]
+pub struct Inbox {
+    octets: [u8; PIECE],
+    from: usize,
+    upto: usize,
+}
+
+impl Model for Inbox {
+    ghost use Rattle.std.specs.Prelude.{◌≤◌, ℕ, List, take, drop};
+
+    ghost Value = { List ℕ };
+
+    ghost view = { λ i. drop i.from (take i.upto i.octets) };
+
+    ghost invariant = { λ i. (i.from ≤ i.upto) × (i.upto ≤ 8192) };
+}
+
+impl Inbox {
+    /// Nothing was read.
+    pub fn new() -> Inbox
+        ensures { result ≡ [] }
+    {
+        Inbox {
+            octets: [0; PIECE],
+            from: 0,
+            upto: 0,
+        }
+    }
+
+    /// Whether every octet that was read is used.
+    pub fn is_empty(&self) -> bool
+        ensures { result ≡ (length self.now == 0) }
+    {
+        self.from == self.upto
+    }
+
+    /// The octets that were read and not used, at most 8,192.
+    pub fn as_slice(&self) -> &[u8]
+        ensures octets { result.now ≡ self.now }
+        ensures fits { length self.now ≤ 8192 }
+    {
+        let read = &self.octets[..self.upto];
+        &read[self.from..]
+    }
+
+    /// So many of the first octets are used.
+    pub fn advance(&mut self, count: usize)
+        requires { count ≤ length self.old }
+        ensures { self.new ≡ drop count self.old }
+    {
+        self.from += count;
+    }
+
+    /// Receives octets by one receive, where none are left, and at most so many.
+    ///
+    /// Nothing is there afterwards but what came with `Bytes`. `End` comes only where the link has
+    /// ended, `NotYet` only where its `waits` rose in this call, `Failed` only where its `faults`
+    /// did. A link that tells its space answers `NotYet` exactly where nothing is left on it.
+    pub fn refill<L: Link>(&mut self, line: &mut L, most: usize) -> Got
+        requires empty { self.old ≡ [] }
+        requires some { 0 < most }
+        ensures took { (L.shows line.old).left ≡ prepend_known self.new (L.shows line.new).left }
+        ensures some { (n : ℕ) → result ≡ Got.Bytes n → (length self.new ≡ n) × (0 < length self.new) × (length self.new ≤ most) }
+        ensures end { result ≡ Got.End → (self.new ≡ []) × IsAtEnd (L.shows line.new).left × IsTrue (L.shows line.new).has_ended }
+        ensures ended { IsTrue (L.shows line.old).has_ended → (self.new ≡ []) × IsTrue (L.shows line.new).has_ended }
+        ensures failed { result ≡ Got.Failed → (self.new ≡ []) × Rose (L.shows line.old).faults (L.shows line.new).faults }
+        ensures not_yet { result ≡ Got.NotYet → (self.new ≡ []) × Rose (L.shows line.old).waits (L.shows line.new).waits }
+        ensures nothing_left { IsSome (L.shows line.old).space → (result ≡ Got.NotYet) ↔ ((L.shows line.old).left ≡ Some []) }
+        ensures faults { (L.shows line.old).faults ≤ (L.shows line.new).faults }
+        ensures waits { (L.shows line.old).waits ≤ (L.shows line.new).waits }
+
+        // Nothing else of the link changes.
+        ensures same { L.shows line.new ≡ record (L.shows line.old) {
+          left = (L.shows line.new).left;
+          has_ended = (L.shows line.new).has_ended;
+          faults = (L.shows line.new).faults;
+          waits = (L.shows line.new).waits;
+        } }
+    {
+        let room = most.min(PIECE);
+        let got = line.receive(&mut self.octets[..room]);
+        self.from = 0;
+        self.upto = match got {
+            Got::Bytes(count) => count,
+            Got::End | Got::NotYet | Got::Failed => 0,
+        };
+        got
+    }
+}

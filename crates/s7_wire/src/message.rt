@@ -1,0 +1,41 @@
+// Messages that go out in fragments.
+ghost use Rattle.std.specs.Prelude.{◌≡◌, ◌+◌, ◌≤◌, ◌++◌, length};
+ghost use Rattle.s7_wire.specs.Sent.{sent_message, fragment_octets};
+
+use crate::outbox::Outbox;
+use s7_cotp::{fragments, write_data};
+
+/// How many octets a message that goes out has at most.
+pub const MOST_MESSAGE: usize = 960;
+
+/// The header of a data TPDU.
+const DATA_HEADER: usize = 3;
+
+/// Puts a message of at most 960 octets behind what is to be sent, in fragments for a TPDU size from
+/// 128 to 8,192, each in a packet. They take at most 1,016 octets.
+pub fn put_message(outbox: &mut Outbox, size: u16, message: &[u8])
+    requires least { 128 ≤ size }
+    requires most { size ≤ 8192 }
+    requires fits { length message.now ≤ 960 }
+    requires room { 1016 ≤ outbox.old.room }
+    ensures unsent { outbox.new.unsent ≡ outbox.old.unsent ++ sent_message size message.now }
+    ensures room { outbox.new.room + length (sent_message size message.now) ≡ outbox.old.room }
+    ensures most { length (sent_message size message.now) ≤ 1016 }
+{
+    for (start, end) in fragments(message.len(), usize::from(size)) {
+        put_fragment(outbox, message, start, end);
+    }
+}
+
+fn put_fragment(outbox: &mut Outbox, message: &[u8], start: usize, end: usize)
+    requires order { start ≤ end }
+    requires within { end ≤ length message.now }
+    requires fits { length message.now ≤ 960 }
+    requires room { length (fragment_octets message.now (start, end)) ≤ outbox.old.room }
+    ensures unsent { outbox.new.unsent ≡ outbox.old.unsent ++ fragment_octets message.now (start, end) }
+    ensures room { outbox.new.room + length (fragment_octets message.now (start, end)) ≡ outbox.old.room }
+{
+    let mut tpdu = [0u8; MOST_MESSAGE + DATA_HEADER];
+    let len = write_data(end == message.len(), &message[start..end], &mut tpdu);
+    outbox.put(&tpdu[..len]);
+}

@@ -1,0 +1,122 @@
+// The octets that are to be sent.
+ghost use Rattle.std.specs.Prelude.{◌≡◌, ◌==◌, ◌↔◌, ℕ, ◌+◌, ◌-◌, ◌<◌, ◌≤◌, [], ◌++◌, length, drop, IfSome, option_map};
+ghost use Rattle.std.specs.Io.KnownBytes.{append_known};
+ghost use Rattle.s7_outer.specs.Count.{Rose};
+ghost use Rattle.s7_outer.specs.Link.{octets_sent};
+
+use s7_outer::{Link, Sent};
+use s7_tpkt::write_packet;
+use std::marker::Model;
+
+/// How many octets may wait to be sent.
+pub const OUTGOING: usize = 4_096;
+
+/// The octets that are still to be sent, and the room for more.
+#[derive(Drop)]
+pub struct Outbox {
+    octets: [u8; OUTGOING],
+    from: usize,
+    upto: usize,
+}
+
+impl Model for Outbox {
+    ghost use Rattle.std.specs.Prelude.{◌≤◌, ◌-◌, ℕ, List, take, drop};
+    ghost use Rattle.s7_wire.specs.Outgoing.{Outgoing};
+
+    ghost Value = { Outgoing };
+
+    ghost view = { λ o. record { unsent = drop o.from (take o.upto o.octets); room = 4096 - o.upto } };
+
+    ghost invariant = { λ o. (o.from ≤ o.upto) × (o.upto ≤ 4096) };
+}
+
+impl Outbox {
+    ghost use Rattle.s7_tpkt.specs.Packets.{packet_of};
+
+    /// Nothing is to be sent.
+    pub fn new() -> Outbox
+        ensures { result ≡ record { unsent = []; room = 4096 } }
+    {
+        Outbox {
+            octets: [0; OUTGOING],
+            from: 0,
+            upto: 0,
+        }
+    }
+
+    /// Whether nothing is left to send.
+    pub fn is_empty(&self) -> bool
+        ensures { result ≡ (length self.now.unsent == 0) }
+    {
+        self.from == self.upto
+    }
+
+    fn as_slice(&self) -> &[u8]
+        ensures { result.now ≡ self.now.unsent }
+    {
+        let octets = &self.octets[..self.upto];
+        &octets[self.from..]
+    }
+
+    /// All room is there again, where nothing is left to send.
+    pub fn clear(&mut self)
+        requires { self.old.unsent ≡ [] }
+        ensures { self.new ≡ record { unsent = []; room = 4096 } }
+    {
+        self.from = 0;
+        self.upto = 0;
+    }
+
+    /// Puts the packet with this body behind what is to be sent.
+    pub fn put(&mut self, body: &[u8])
+        requires least { 3 ≤ length body.now }
+        requires room { length body.now + 4 ≤ self.old.room }
+        ensures unsent { self.new.unsent ≡ self.old.unsent ++ packet_of body.now }
+        ensures room { self.new.room + length body.now + 4 ≡ self.old.room }
+    {
+        self.upto += write_packet(body, &mut self.octets[self.upto..]);
+    }
+
+    /// Sends octets, by one transmit of all that are left.
+    ///
+    /// `NotYet` comes only where the link's `waits` rose in this call, `Failed` only where its
+    /// `faults` did; neither sends an octet. A link that tells its space answers `NotYet` exactly
+    /// where it is 0. The room stays: only `clear` gives it back.
+    pub fn flush<L: Link>(&mut self, line: &mut L) -> Sent
+        requires { 0 < length self.old.unsent }
+        ensures sent { self.old.unsent ≡ octets_sent result self.old.unsent ++ self.new.unsent }
+        ensures room { self.new.room ≡ self.old.room }
+        ensures wrote { (L.shows line.new).written ≡ append_known (L.shows line.old).written (octets_sent result self.old.unsent) }
+        ensures some { (n : ℕ) → result ≡ Sent.Bytes n → (length (octets_sent result self.old.unsent) ≡ n) × (0 < length (octets_sent result self.old.unsent)) }
+        ensures failed { result ≡ Sent.Failed → Rose (L.shows line.old).faults (L.shows line.new).faults }
+        ensures not_yet { result ≡ Sent.NotYet → Rose (L.shows line.old).waits (L.shows line.new).waits }
+        ensures no_space { IfSome (L.shows line.old).space (λ space. (result ≡ Sent.NotYet) ↔ (space ≡ 0)) }
+        ensures fits { IfSome (L.shows line.old).space (λ space. length (octets_sent result self.old.unsent) ≤ space) }
+        ensures space { (L.shows line.new).space ≡ option_map (λ space. space - length (octets_sent result self.old.unsent)) (L.shows line.old).space }
+        ensures faults { (L.shows line.old).faults ≤ (L.shows line.new).faults }
+        ensures waits { (L.shows line.old).waits ≤ (L.shows line.new).waits }
+
+        // Nothing else of the link changes.
+        ensures same { L.shows line.new ≡ record (L.shows line.old) {
+          written = (L.shows line.new).written;
+          faults = (L.shows line.new).faults;
+          waits = (L.shows line.new).waits;
+          space = (L.shows line.new).space;
+        } }
+    {
+        let sent = line.transmit(self.as_slice());
+        if let Sent::Bytes(count) = sent {
+            self.advance(count);
+        }
+        sent
+    }
+
+    // The first octets went.
+    fn advance(&mut self, count: usize)
+        requires { count ≤ length self.old.unsent }
+        ensures unsent { self.new.unsent ≡ drop count self.old.unsent }
+        ensures room { self.new.room ≡ self.old.room }
+    {
+        self.from += count;
+    }
+}
