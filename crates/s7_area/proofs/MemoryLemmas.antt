@@ -18,6 +18,7 @@ use Rattle.s7_area.specs.declared.key.AreaKey.{AreaKey}
 use Rattle.s7_area.specs.Memory.{Memory, key_cmp, octets_at, with_octets}
 use Rattle.s7_area.specs.declared.register.RegisterFault.TheVariants.{Key, Size, Exists, TooManyDbs}
 use Rattle.s7_area.specs.Keys.{is_key, is_numbered}
+use Rattle.s7_area.specs.Laws.{IsFaultless}
 use Rattle.s7_area.specs.Registers.{total_of, db_numbers, IsArea, IsMemory, Keeps, is_wrong_size, is_db_too_many, fault_of}
 
 pub key_cmp_total : IsTotalOrder key_cmp
@@ -103,42 +104,26 @@ total-insert_entry m key octets sorted absent =
     let none : unwrap_or (option_map length (octets_at m key)) 0 ≡ 0 = rw absent refl in
     omega (arith, sums, none)
 
--- what is known of an area that has no fault
-pub record IsFaultless (m : Memory) (key : AreaKey) (len : ℕ) : Type 0 where
-  pub name : is_key key ≡ true
-  pub size : is_wrong_size m key len ≡ false
-  pub absent : octets_at m key ≡ None
-  pub few : is_db_too_many m key ≡ false
-
 absent_by : (o : Option (List ℕ)) → is_some o ≡ false → o ≡ None
 absent_by None none = refl
 absent_by (Some x) none = cc
+
+sized_by : (total len : ℕ) (pairs : Bool) → (eqb len 0 || ltb 65536 len || (pairs && not (eqb (len % 2) 0)) || ltb 16777216 (total + len)) ≡ false → (0 < len) × (len ≤ 65536) × (pairs ≡ true → len % 2 ≡ 0) × (total + len ≤ 16777216)
+sized_by total len true size = (grind (arith, nat_tests), grind (arith, nat_tests), λ _. grind (arith, nat_tests), grind (arith, nat_tests))
+sized_by total len false size = (grind (arith, nat_tests), grind (arith, nat_tests), λ is. cc, grind (arith, nat_tests))
 
 faultless_by : (m : Memory) (key : AreaKey) (len : ℕ) (a b c d : Bool) → is_key key ≡ a → is_wrong_size m key len ≡ b → is_some (octets_at m key) ≡ c → is_db_too_many m key ≡ d → cond (not a) (Some Key) (cond b (Some Size) (cond c (Some Exists) (cond d (Some TooManyDbs) None))) ≡ None → IsFaultless m key len
 faultless_by m key len false b c d p q r s none = cc
 faultless_by m key len true true c d p q r s none = cc
 faultless_by m key len true false true d p q r s none = cc
 faultless_by m key len true false false true p q r s none = cc
-faultless_by m key len true false false false p q r s none = record { name = p; size = q; absent = absent_by _ r; few = s }
+faultless_by m key len true false false false p q r s none =
+    let parts = sized_by (total_of m) len (is_numbered key.area) q in
+    record { name = p; size = q; some = parts.0; most = parts.1; even = parts.2; fits = parts.3; absent = absent_by _ r; few = s }
 
+-- what is known of an area that has no fault
 pub faultless : (m : Memory) (key : AreaKey) (len : ℕ) → fault_of m key len ≡ None → IsFaultless m key len
 faultless m key len none = faultless_by m key len _ _ _ _ refl refl refl refl none
-
--- the length that an area with no fault has
-pub record IsSized (m : Memory) (key : AreaKey) (len : ℕ) : Type 0 where
-  pub some : 0 < len
-  pub most : len ≤ 65536
-  pub even : is_numbered key.area ≡ true → len % 2 ≡ 0
-  pub fits : total_of m + len ≤ 16777216
-
-sized_by : (total len : ℕ) (pairs : Bool) → (eqb len 0 || ltb 65536 len || (pairs && not (eqb (len % 2) 0)) || ltb 16777216 (total + len)) ≡ false → (0 < len) × (len ≤ 65536) × (pairs ≡ true → len % 2 ≡ 0) × (total + len ≤ 16777216)
-sized_by total len true size = (grind (arith, nat_tests), grind (arith, nat_tests), λ _. grind (arith, nat_tests), grind (arith, nat_tests))
-sized_by total len false size = (grind (arith, nat_tests), grind (arith, nat_tests), λ is. cc, grind (arith, nat_tests))
-
-pub sized : (m : Memory) (key : AreaKey) (len : ℕ) → is_wrong_size m key len ≡ false → IsSized m key len
-sized m key len size =
-    let parts = sized_by (total_of m) len (is_numbered key.area) size in
-    record { some = parts.0; most = parts.1; even = parts.2; fits = parts.3 }
 
 few_by : (n : ℕ) (is_db : Bool) → (is_db && leb 2048 n) ≡ false → n ≤ 2048 → one_if is_db + n ≤ 2048
 few_by n true few most = grind (arith, nat_tests)
@@ -147,11 +132,10 @@ few_by n false few most = omega arith
 pub IsMemory-insert_entry : (m : Memory) (key : AreaKey) (octets : List ℕ) → IsStrictlySortedBy key_cmp (keys_of (insert_entry key_cmp m key octets)) → fault_of m key (length octets) ≡ None → IsMemory m → IsMemory (insert_entry key_cmp m key octets)
 IsMemory-insert_entry m key octets sorted none is =
     let no_fault = faultless m key (length octets) none in
-    let size = sized m key (length octets) no_fault.size in
     record {
-      areas = all-insert_entry IsArea key_cmp m key octets no_fault.absent (record { name = no_fault.name; some = size.some; most = size.most; even = size.even }) is.areas;
+      areas = all-insert_entry IsArea key_cmp m key octets no_fault.absent (record { name = no_fault.name; some = no_fault.some; most = no_fault.most; even = no_fault.even }) is.areas;
       ordered = sorted;
-      total = omega (arith, total-insert_entry m key octets is.ordered no_fault.absent, size.fits);
+      total = omega (arith, total-insert_entry m key octets is.ordered no_fault.absent, no_fault.fits);
       blocks = omega (arith, blocks-insert_entry m key octets, few_by (blocks_of m) (eqb key.area 0x84) no_fault.few is.blocks);
     }
 

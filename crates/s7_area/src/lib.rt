@@ -14,7 +14,7 @@ mod register;
 pub use areas::{Areas, ItemAnswer};
 pub use db_numbers::DbNumbers;
 pub use key::AreaKey;
-pub use laws::{bits_stand_alone, written_is_read};
+pub use laws::{areas_join, bits_stand_alone, written_is_read};
 pub use register::{RegisterFault, Unknown};
 
 #[cfg(test)]

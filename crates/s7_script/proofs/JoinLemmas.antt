@@ -9,7 +9,7 @@ use Rattle.s7_area.specs.Registers.{total_of, fault_of}
 use Rattle.s7_area.specs.declared.key.AreaKey.{AreaKey}
 use Rattle.s7_area.specs.declared.register.RegisterFault.{RegisterFault}
 use Rattle.s7_area.specs.declared.register.RegisterFault.TheVariants as fault
-use Rattle.s7_area.proofs.MemoryLemmas.{key_cmp_total, total-insert_entry, faultless, sized}
+use Rattle.s7_area.specs.Laws.{AreasJoin}
 use Rattle.s7_script.specs.Reading.{Open, FailsAs, joined, kind_of, registered}
 use Rattle.s7_script.specs.declared.fault.AreasFault.{AreasFault}
 use Rattle.s7_script.specs.declared.fault.AreasKind.{AreasKind}
@@ -20,14 +20,13 @@ pub record Joins (new : Memory) (total : ℕ) : Type 0 where
   pub fits : total ≤ 16777216
   pub ordered : IsStrictlySortedBy key_cmp (keys_of new)
 
-pub joins : (m new : Memory) (key : AreaKey) (octets : List ℕ) (total len : ℕ) → IsStrictlySortedBy key_cmp (keys_of m) → total ≡ total_of m → fault_of m key (length octets) ≡ None → new ≡ insert_entry key_cmp m key octets → len ≡ length octets → Joins new (total + len)
-joins m new key octets total len sorted is none made long =
-    let no = faultless m key (length octets) none in
-    let size = sized m key (length octets) no.size in
+pub joins : AreasJoin → (m new : Memory) (key : AreaKey) (octets : List ℕ) (total len : ℕ) → IsStrictlySortedBy key_cmp (keys_of m) → total ≡ total_of m → fault_of m key (length octets) ≡ None → new ≡ insert_entry key_cmp m key octets → len ≡ length octets → Joins new (total + len)
+joins law m new key octets total len sorted is none made long =
+    let no = law.faultless m key (length octets) none in
     subst (λ x. Joins x (total + len)) (sym made) (record {
-      is_total = omega (arith, is, long, total-insert_entry m key octets sorted no.absent);
-      fits = omega (arith, is, long, size.fits);
-      ordered = sorted-insert key_cmp key_cmp_total m key octets sorted;
+      is_total = omega (arith, is, long, law.total m key octets sorted no.absent);
+      fits = omega (arith, is, long, no.fits);
+      ordered = sorted-insert key_cmp law.ordered m key octets sorted;
     })
 
 abbrev Same : Result (Unit {0}) (RegisterFault × List ℕ) → Result (Unit {0}) (RegisterFault × List ℕ) → Type 0
@@ -40,6 +39,12 @@ SamePair a b = a ≡ b
 pub taken_by : (f : Option RegisterFault) (u : Unit {0}) (octets : List ℕ) (new made : Memory) → IfSome f (λ fault. Same (Ok u) (Err (fault, octets))) → IfNone f (new ≡ made) → (f ≡ None) × (new ≡ made)
 taken_by None u octets new made refused taken = (refl, taken)
 taken_by (Some fault) u octets new made refused taken = cc
+
+-- an area that is taken joins the others
+pub registers : (m new : Memory) (a : Open) (octets : List ℕ) → octets ≡ a.octets → fault_of m a.key (length octets) ≡ None → new ≡ insert_entry key_cmp m a.key octets → registered m a ≡ Ok (record { areas = new; current = None })
+registers m new a octets same none made =
+    let fits : fault_of m a.key (length a.octets) ≡ None = ap (λ o. fault_of m a.key (length o)) (sym same) ∙ none in
+    ap (joined m a) fits ∙ ap (λ o. Ok (record { areas = insert_entry key_cmp m a.key o; current = None })) (sym same) ∙ ap (λ x. Ok (record { areas = x; current = None })) (sym made)
 
 abbrev pub fault_of_kind : ℕ → AreasKind → AreasFault
 fault_of_kind line kind = record { line = line; kind = kind }

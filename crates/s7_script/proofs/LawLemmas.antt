@@ -1,5 +1,5 @@
 -- What is written for areas names them.
-use Rattle.std.proofs.Common.{◌≡◌, ◌≢◌, ◌∙◌, ◌<◌, ◌≤◌, ◌+◌, ◌^◌, ◌&&◌, ℕ, Bool, true, false, not, zero, suc, refl, sym, ap, arith, List, [], ◌∷◌, ◌++◌, length, take, drop, slice_index, codes, Some, None, Ok, eq-eqb, append_assoc, append-nil, lt-ltb, le-ltb, true≢false, length-append, length-drop}
+use Rattle.std.proofs.Common.{◌≡◌, ◌≢◌, ◌∙◌, ◌<◌, ◌≤◌, ◌+◌, ◌^◌, ◌&&◌, ℕ, Bool, true, false, not, zero, suc, refl, sym, ap, subst, arith, List, [], ◌∷◌, ◌++◌, length, take, drop, slice_index, codes, Some, None, Ok, eq-eqb, append_assoc, append-nil, lt-ltb, le-ltb, true≢false, length-append, length-drop}
 use Rattle.std.specs.Prelude.{◌==◌}
 use Rattle.std.specs.List.{list_all, position, prefix_len}
 use Rattle.std.specs.Char.{digit_value, is_ascii_digit}
@@ -152,40 +152,31 @@ block_written number some few = record {
   begins = λ n. refl;
 }
 
-pub inputs_written : IsWritten (record { area = 0x81; number = 0 })
-inputs_written = record {
-  reads = λ line n most. named line 80 69 (decimal n) refl refl ∙ size-written line (record { area = 0x81; number = 0 }) n most;
-  plain = λ n most. plain-append (codes "PE ") (decimal n) (plain_by_test (codes "PE ") refl) (size_plain n most);
-  begins = λ n. refl;
+-- an area of which there is one, with a name of two octets
+single_written : (area a b : ℕ) → list_all is_plain (a ∷ b ∷ 32 ∷ []) ≡ true → (a == 35) ≡ false → is_space a ≡ false → is_space b ≡ false
+    → ((n : ℕ) → head_text (record { area = area; number = 0 }) n ≡ a ∷ b ∷ 32 ∷ decimal n)
+    → ((line : ℕ) (rest : Text) → named_line line (area_named (a ∷ b ∷ [])) (Some rest) ≡ with_size line (record { area = area; number = 0 }) (Some rest))
+    → IsWritten (record { area = area; number = 0 })
+single_written area a b plain begins first second head name = record {
+  reads = λ line n most. ap (area_line line) (head n) ∙ named line a b (decimal n) first second ∙ name line (decimal n) ∙ size-written line (record { area = area; number = 0 }) n most;
+  plain = λ n most. subst AllPlain (sym (head n)) (plain-append (a ∷ b ∷ 32 ∷ []) (decimal n) (plain_by_test (a ∷ b ∷ 32 ∷ []) plain) (size_plain n most));
+  begins = λ n. ap is_passed (head n) ∙ begins;
 }
+
+pub inputs_written : IsWritten (record { area = 0x81; number = 0 })
+inputs_written = single_written 0x81 80 69 refl refl refl refl (λ n. refl) (λ line rest. refl)
 
 pub outputs_written : IsWritten (record { area = 0x82; number = 0 })
-outputs_written = record {
-  reads = λ line n most. named line 80 65 (decimal n) refl refl ∙ size-written line (record { area = 0x82; number = 0 }) n most;
-  plain = λ n most. plain-append (codes "PA ") (decimal n) (plain_by_test (codes "PA ") refl) (size_plain n most);
-  begins = λ n. refl;
-}
+outputs_written = single_written 0x82 80 65 refl refl refl refl (λ n. refl) (λ line rest. refl)
 
 pub flags_written : IsWritten (record { area = 0x83; number = 0 })
-flags_written = record {
-  reads = λ line n most. named line 77 75 (decimal n) refl refl ∙ size-written line (record { area = 0x83; number = 0 }) n most;
-  plain = λ n most. plain-append (codes "MK ") (decimal n) (plain_by_test (codes "MK ") refl) (size_plain n most);
-  begins = λ n. refl;
-}
+flags_written = single_written 0x83 77 75 refl refl refl refl (λ n. refl) (λ line rest. refl)
 
 pub counters_written : IsWritten (record { area = 0x1C; number = 0 })
-counters_written = record {
-  reads = λ line n most. named line 67 84 (decimal n) refl refl ∙ size-written line (record { area = 0x1C; number = 0 }) n most;
-  plain = λ n most. plain-append (codes "CT ") (decimal n) (plain_by_test (codes "CT ") refl) (size_plain n most);
-  begins = λ n. refl;
-}
+counters_written = single_written 0x1C 67 84 refl refl refl refl (λ n. refl) (λ line rest. refl)
 
 pub timers_written : IsWritten (record { area = 0x1D; number = 0 })
-timers_written = record {
-  reads = λ line n most. named line 84 77 (decimal n) refl refl ∙ size-written line (record { area = 0x1D; number = 0 }) n most;
-  plain = λ n most. plain-append (codes "TM ") (decimal n) (plain_by_test (codes "TM ") refl) (size_plain n most);
-  begins = λ n. refl;
-}
+timers_written = single_written 0x1D 84 77 refl refl refl refl (λ n. refl) (λ line rest. refl)
 
 -- ---- an area line
 

@@ -5,3 +5,4 @@ pub mod KeptLemmas
 pub mod JoinLemmas
 pub mod LawLemmas
 pub mod SpellingLemmas
+pub mod LoadLemmas

@@ -18,7 +18,7 @@ use Rattle.s7_area.specs.Keys.{is_key, is_single}
 use Rattle.s7_area.specs.Memory.{Memory, key_cmp, octets_at}
 use Rattle.s7_area.specs.Registers.{IsArea, IsMemory, db_numbers, fault_of, total_of}
 use Rattle.s7_area.specs.declared.key.AreaKey.{AreaKey}
-use Rattle.s7_area.proofs.MemoryLemmas.{key_cmp_total, total-insert_entry, faultless}
+use Rattle.s7_area.specs.Laws.{AreasJoin}
 use Rattle.s7_script.specs.Lines.{Text, lines}
 use Rattle.s7_script.specs.Reading.{after_header, areas, header, next_line, read_lines}
 use Rattle.s7_script.specs.Spelling.{IsInRange, area_text, block, head_text, hex_lines, order, part, part_of, single, singles, spelling}
@@ -116,12 +116,12 @@ few_ok : (n : ℕ) (b : Bool) → one_if b + n ≤ 2048 → (b && nat_le 2048 n)
 few_ok n true h = grind (arith, nat_tests)
 few_ok n false h = refl
 
-no_fault : (m : Memory) (p : AreaKey → Bool) (key : AreaKey) (octets : List ℕ) → IsMemory m → octets_at m key ≡ Some octets → p key ≡ false → fault_of (kept key_cmp p m) key (length octets) ≡ None
-no_fault m p key octets is found out =
+no_fault : AreasJoin → (m : Memory) (p : AreaKey → Bool) (key : AreaKey) (octets : List ℕ) → IsMemory m → octets_at m key ≡ Some octets → p key ≡ false → fault_of (kept key_cmp p m) key (length octets) ≡ None
+no_fault law m p key octets is found out =
     let area = all-found key_cmp IsArea exact key octets m is.areas found in
     let absent = lookup-kept key_cmp exact p key m out in
-    let joined = insert-kept key_cmp exact key_cmp_total p key octets m is.ordered found out in
-    let sum = total-insert_entry (kept key_cmp p m) key octets (sorted-kept key_cmp p m is.ordered) absent in
+    let joined = insert-kept key_cmp exact law.ordered p key octets m is.ordered found out in
+    let sum = law.total (kept key_cmp p m) key octets (sorted-kept key_cmp p m is.ordered) absent in
     let fits : total_of (kept key_cmp p m) + length octets ≤ 16777216 = omega (arith, sum, ap total_of joined, sum-kept key_cmp length (added key_cmp p key) m, is.total) in
     let few : one_if (eqb key.area 0x84) + blocks_of (kept key_cmp p m) ≤ 2048 = omega (arith, more-blocks (kept key_cmp p m) key octets absent, ap blocks_of joined, fewer-blocks (added key_cmp p key) m, is.blocks) in
     rw (area.name, size_ok (total_of (kept key_cmp p m)) (length octets) (key.area == 0x1C || key.area == 0x1D) area.some area.most area.even fits, absent, few_ok (blocks_of (kept key_cmp p m)) (eqb key.area 0x84) few) refl
@@ -147,8 +147,8 @@ area_parts key octets text = append_assoc (head_text key (length octets)) (10 �
 abbrev Reads : Memory → (AreaKey → Bool) → List AreaKey → ℕ → Type 0
 Reads m p ks line = read_lines line (between (kept key_cmp p m)) (lines (flat_map (part m) ks)) ≡ Ok (kept key_cmp (all_added p ks) m)
 
-reads_part : (m : Memory) (p : AreaKey → Bool) (key : AreaKey) (ks : List AreaKey) (line : ℕ) → IsMemory m → IsInRange m key → p key ≡ false → ((n : ℕ) → Reads m (added key_cmp p key) ks n) → Reads m p (key ∷ ks) line
-reads_part m p key ks line is range out more = go (octets_at m key) refl range.1
+reads_part : AreasJoin → (m : Memory) (p : AreaKey → Bool) (key : AreaKey) (ks : List AreaKey) (line : ℕ) → IsMemory m → IsInRange m key → p key ≡ false → ((n : ℕ) → Reads m (added key_cmp p key) ks n) → Reads m p (key ∷ ks) line
+reads_part law m p key ks line is range out more = go (octets_at m key) refl range.1
   where
     text : Text
     text = flat_map (part m) ks
@@ -161,20 +161,20 @@ reads_part m p key ks line is range out more = go (octets_at m key) refl range.1
     go (Some octets) found bytes =
         let area = all-found key_cmp IsArea exact key octets m is.areas found in
         let written = written_by key area.name range.0 in
-        let none = no_fault m p key octets is found out in
+        let none = no_fault law m p key octets is found out in
         let r = hexes (length octets) (next_line line) line (kept key_cmp p m) (key, octets) [] octets (flat_map (part m) ks) area.some (omega arith) refl (bytes_of octets bytes) none in
         ap (λ t. read_lines line (between (kept key_cmp p m)) (lines (t ++ flat_map (part m) ks))) (part-is m key (Some octets) found)
         ∙ ap (λ t. read_lines line (between (kept key_cmp p m)) (lines t)) (area_parts key octets (flat_map (part m) ks))
         ∙ ap (λ ls. read_lines line (between (kept key_cmp p m)) ls) (line_then (head_text key (length octets)) (hex_lines (length octets) octets ++ flat_map (part m) ks) (written.plain (length octets) area.most))
         ∙ line_passes line (between (kept key_cmp p m)) (inside (kept key_cmp p m) line (key, octets) []) (head_text key (length octets)) (lines (hex_lines (length octets) octets ++ flat_map (part m) ks))
-        (opens line (kept key_cmp p m) (key, octets) written area.most ((faultless (kept key_cmp p m) key (length octets) none).size))
+        (opens line (kept key_cmp p m) (key, octets) written area.most ((law.faultless (kept key_cmp p m) key (length octets) none).size))
         ∙ r.reads
-        ∙ ap (λ (x : Memory). read_lines r.next (between x) (lines (flat_map (part m) ks))) (insert-kept key_cmp exact key_cmp_total p key octets m is.ordered found out)
+        ∙ ap (λ (x : Memory). read_lines r.next (between x) (lines (flat_map (part m) ks))) (insert-kept key_cmp exact law.ordered p key octets m is.ordered found out)
         ∙ more r.next
 
-read_all : (m : Memory) (ks : List AreaKey) (p : AreaKey → Bool) (line : ℕ) → IsMemory m → AllByRecursion (IsInRange m) ks → Fresh p ks → Reads m p ks line
-read_all m [] p line is range fresh = ends line (between (kept key_cmp p m))
-read_all m (k ∷ ks) p line is range fresh = reads_part m p k ks line is range.0 fresh.0 (λ n. read_all m ks (added key_cmp p k) n is range.1 fresh.1)
+read_all : AreasJoin → (m : Memory) (ks : List AreaKey) (p : AreaKey → Bool) (line : ℕ) → IsMemory m → AllByRecursion (IsInRange m) ks → Fresh p ks → Reads m p ks line
+read_all law m [] p line is range fresh = ends line (between (kept key_cmp p m))
+read_all law m (k ∷ ks) p line is range fresh = reads_part law m p k ks line is range.0 fresh.0 (λ n. read_all law m ks (added key_cmp p k) n is range.1 fresh.1)
 
 -- ---- all names
 
@@ -207,10 +207,10 @@ or-true : (b : Bool) → (b || true) ≡ true
 or-true true = refl
 or-true false = refl
 
-itself : (p : AreaKey → Bool) (k : AreaKey) → k.area ≡ 0x84 → added key_cmp p (block k.number) k ≡ true
-itself p k same =
+itself : AreasJoin → (p : AreaKey → Bool) (k : AreaKey) → k.area ≡ 0x84 → added key_cmp p (block k.number) k ≡ true
+itself law p k same =
     let is : block k.number ≡ k = ap (λ a. record { area = a; number = k.number }) (sym same) in
-    let tied : key_cmp (block k.number) k ≡ Equal = ap (λ x. key_cmp x k) is ∙ tied_itself key_cmp_total k in
+    let tied : key_cmp (block k.number) k ≡ Equal = ap (λ x. key_cmp x k) is ∙ tied_itself law.ordered k in
     ap (λ o. p k || is_eq o) tied ∙ or-true (p k)
 
 abbrev dbs : List AreaKey → List AreaKey
@@ -222,14 +222,14 @@ blocks keys = map block (map (λ key. key.number) keys)
 abbrev IsAdded : (AreaKey → Bool) → List AreaKey → AreaKey → Type 0
 IsAdded p ks x = x.area ≡ 0x84 → all_added p ks x ≡ true
 
-in_blocks_step : (t : Bool) (k : AreaKey) (keys : List AreaKey) (p : AreaKey → Bool) → (k.area == 0x84) ≡ t → ((q : AreaKey → Bool) → AllByRecursion (IsAdded q (blocks (dbs keys))) keys)
+in_blocks_step : AreasJoin → (t : Bool) (k : AreaKey) (keys : List AreaKey) (p : AreaKey → Bool) → (k.area == 0x84) ≡ t → ((q : AreaKey → Bool) → AllByRecursion (IsAdded q (blocks (dbs keys))) keys)
     → AllByRecursion (IsAdded p (blocks (cond t (k ∷ dbs keys) (dbs keys)))) (k ∷ keys)
-in_blocks_step true k keys p is more = (λ same. stays (blocks (dbs keys)) (added key_cmp p (block k.number)) k (itself p k same), more (added key_cmp p (block k.number)))
-in_blocks_step false k keys p is more = (λ same. absurd (true≢false (sym (eq-eqb k.area 0x84 same) ∙ is)), more p)
+in_blocks_step law true k keys p is more = (λ same. stays (blocks (dbs keys)) (added key_cmp p (block k.number)) k (itself law p k same), more (added key_cmp p (block k.number)))
+in_blocks_step law false k keys p is more = (λ same. absurd (true≢false (sym (eq-eqb k.area 0x84 same) ∙ is)), more p)
 
-in_blocks : (keys : List AreaKey) (p : AreaKey → Bool) → AllByRecursion (IsAdded p (blocks (dbs keys))) keys
-in_blocks [] p = tt
-in_blocks (k ∷ keys) p = in_blocks_step (k.area == 0x84) k keys p refl (in_blocks keys)
+in_blocks : AreasJoin → (keys : List AreaKey) (p : AreaKey → Bool) → AllByRecursion (IsAdded p (blocks (dbs keys))) keys
+in_blocks law [] p = tt
+in_blocks law (k ∷ keys) p = in_blocks_step law (k.area == 0x84) k keys p refl (in_blocks law keys)
 
 abbrev IsFresh : (AreaKey → Bool) → AreaKey → Type 0
 IsFresh p x = x.area ≡ 0x84 → p x ≡ false
@@ -267,16 +267,16 @@ none_kept [] = refl
 none_kept (e ∷ m) = none_kept m
 
 -- what is written for areas names them
-pub areas-spelling : (m : Memory) → IsMemory m → AllByRecursion (IsInRange m) (order m) → areas (spelling m) ≡ Ok m
-areas-spelling m is range =
+pub areas-spelling : AreasJoin → (m : Memory) → IsMemory m → AllByRecursion (IsInRange m) (order m) → areas (spelling m) ≡ Ok m
+areas-spelling law m is range =
     let keys = keys_of m in
     let fresh = fresh-append (map single singles) (blocks (dbs keys)) none (refl, (refl, (refl, (refl, (refl, tt))))) (fresh_blocks keys after_singles is.ordered (all_of (IsFresh after_singles) keys no_block)) in
     let whole : kept key_cmp (all_added none (order m)) m ≡ m =
     ap (λ q. kept key_cmp q m) (added-append (map single singles) (blocks (dbs keys)) none)
-    ∙ all_kept key_cmp (all_added after_singles (blocks (dbs keys))) m (all_turns (blocks (dbs keys)) m is.areas (in_blocks keys after_singles)) in
+    ∙ all_kept key_cmp (all_added after_singles (blocks (dbs keys))) m (all_turns (blocks (dbs keys)) m is.areas (in_blocks law keys after_singles)) in
     ap after_header (line_then header (flat_map (part m) (order m)) (plain_by_test header refl))
     ∙ ap (λ (x : Memory). read_lines 2 (between x) (lines (flat_map (part m) (order m)))) (sym (none_kept m))
-    ∙ read_all m (order m) none 2 is range fresh
+    ∙ read_all law m (order m) none 2 is range fresh
     ∙ ap Ok whole
 
 flat-append : (f : AreaKey → Text) (xs ys : List AreaKey) → flat_map f (xs ++ ys) ≡ flat_map f xs ++ flat_map f ys

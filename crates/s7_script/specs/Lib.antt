@@ -3,3 +3,5 @@ pub mod Fields
 pub mod Reading
 pub mod Spelling
 pub mod Shown
+pub mod Naming
+pub mod Loading

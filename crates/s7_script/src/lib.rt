@@ -4,11 +4,13 @@
 mod area_line;
 mod fault;
 mod lines;
+mod load;
 mod opening;
 mod read;
 mod write;
 
 pub use fault::{AreasFault, AreasKind};
+pub use load::{LoadFault, load_areas};
 pub use read::read_areas;
 pub use write::write_areas;
 

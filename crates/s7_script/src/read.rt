@@ -11,7 +11,7 @@ use crate::lines::first_line;
 use crate::opening::{Open, State};
 use crate::{AreasFault, AreasKind};
 use hex::FromHexError;
-use s7_area::{AreaKey, Areas, RegisterFault};
+use s7_area::{AreaKey, Areas, RegisterFault, areas_join};
 use s7_outer::Octets;
 use std::alloc::Global;
 
@@ -149,6 +149,7 @@ impl State {
         ensures ok { OnOk result (registered self.old.areas (open_of area) ≡ Ok (state_of self.new)) }
         ensures err { IfErr result (λ e. FailsAs e e.kind (registered self.old.areas (open_of area))) }
     {
+        areas_join();
         let len = area.octets.len();
         match self
             .areas

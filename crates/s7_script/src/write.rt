@@ -8,7 +8,7 @@ ghost use Rattle.s7_script.specs.Reading.{areas as areas_by};
 ghost use Rattle.s7_script.specs.Spelling.{IsInRange, area_text, block, hex_lines, name_of, part, single, singles, spelling};
 
 use crate::area_line::DATA_BLOCK;
-use s7_area::{AreaKey, Areas};
+use s7_area::{AreaKey, Areas, areas_join};
 use s7_outer::{Memory, Octets};
 use std::alloc::Global;
 
@@ -19,6 +19,7 @@ pub fn write_areas(alloc: Global, areas: &Areas) -> Result<Octets, Memory>
     ensures spelled { IfOk result (λ text. text ≡ spelling areas.now) }
     ensures law { IfOk result (λ text. areas_by text ≡ Ok areas.now) }
 {
+    areas_join();
     let mut text = Vec::new(alloc);
     text.extend_from_slice(b"s7 areas 1\n")?;
     write_singles(alloc, &mut text, areas, &[0x81, 0x82, 0x83, 0x1C, 0x1D])?;

@@ -1,9 +1,11 @@
 -- What is printed.
-use Rattle.std.specs.Prelude.{◌≡◌, ◌⊎◌, ℕ, List, [], ◌∷◌, ◌++◌, codes, Option}
+use Rattle.std.specs.Prelude.{◌≡◌, ◌⊎◌, ℕ, List, [], ◌∷◌, ◌++◌, codes, Option, Some, None}
 use Rattle.std.specs.Fmt.{decimal}
 use Rattle.std.specs.Io.KnownBytes.{append_known}
 use Rattle.s7_outer.specs.Count.{Rose}
 use Rattle.s7_outer.specs.Out.{AppendsPrefix}
+use Rattle.s7_script.specs.declared.load.LoadFault.{LoadFault}
+use Rattle.s7_script.specs.declared.load.LoadFault.TheVariants as fault
 use Rattle.s7_session.specs.declared.outcome.Outcome.{Outcome}
 use Rattle.s7_session.specs.declared.outcome.Outcome.TheVariants as outcome
 
@@ -38,8 +40,15 @@ report_of result entries = lines_of (outcome_text result) entries
 abbrev pub usage_line : List ℕ
 usage_line = codes "usage: s7server pipe AREAS, s7server serve AREAS" ++ line_end
 
-abbrev pub areas_line : List ℕ
-areas_line = codes "areas line 1" ++ line_end
+-- the line for areas that can't be read; there is none for a file that failed, nor for want of memory
+abbrev pub refusal_line : LoadFault → Option (List ℕ)
+refusal_line (fault.Line n) = Some (codes "areas line " ++ (decimal n ++ line_end))
+refusal_line fault.TooLong = Some (codes "areas too long" ++ line_end)
+refusal_line fault.Failed = None
+refusal_line fault.Memory = None
+
+abbrev pub file_line : List ℕ → List ℕ
+file_line path = codes "file failed " ++ (path ++ line_end)
 
 abbrev pub memory_line : List ℕ
 memory_line = codes "memory" ++ line_end

@@ -1,15 +1,13 @@
-//! Serves a data block on standard input and output, as a controller would.
+//! Serves areas on standard input and output, as a controller would.
 #![tactic(auto)]
 
-mod block;
 mod doer;
 mod report;
 mod server;
 #[cfg(test)]
 mod tests;
-mod words;
 
-use s7_outer::{Out, RealLink, StdOut};
+use s7_outer::{Out, RealLink, StdFiles, StdOut};
 use server::{MEMORY, server_main};
 use std::alloc::{AllocError, Global};
 use std::process::ExitCode;
@@ -18,7 +16,8 @@ use std::{env, io};
 fn main(rt: HostRuntime) -> io::Result<ExitCode> {
     let alloc = rt.alloc();
     let streams: Result<_, _> = rt.clone();
-    let (Ok(owned), Ok(streams)) = (own_words(&rt, alloc), streams) else {
+    let files: Result<_, _> = rt.clone();
+    let (Ok(owned), Ok(streams), Ok(files)) = (own_words(&rt, alloc), streams, files) else {
         return Ok(no_memory(&mut StdOut::new(rt.stderr())));
     };
     let Ok(words) = lent_words(alloc, owned.as_slice()) else {
@@ -26,10 +25,27 @@ fn main(rt: HostRuntime) -> io::Result<ExitCode> {
     };
     let words = words.as_slice();
     let pipe = RealLink::standard(streams);
+    let mut files = StdFiles::new(files);
     let status = if words.first() == Some(&"pipe") {
-        server_main(&rt, alloc, words, pipe, &mut StdOut::new(rt.stderr())).status
+        server_main(
+            &rt,
+            alloc,
+            words,
+            &mut files,
+            pipe,
+            &mut StdOut::new(rt.stderr()),
+        )
+        .status
     } else {
-        server_main(&rt, alloc, words, pipe, &mut StdOut::new(rt.stdout())).status
+        server_main(
+            &rt,
+            alloc,
+            words,
+            &mut files,
+            pipe,
+            &mut StdOut::new(rt.stdout()),
+        )
+        .status
     };
     Ok(ExitCode::from(status))
 }

@@ -1,7 +1,8 @@
 // What is printed.
-ghost use Rattle.std.specs.Prelude.{◌≡◌, IfOk, string_bytes};
-ghost use Rattle.s7server.specs.Report.{outcome_text, lines_of, report_of};
+ghost use Rattle.std.specs.Prelude.{◌≡◌, Some, IfOk, string_bytes};
+ghost use Rattle.s7server.specs.Report.{outcome_text, lines_of, report_of, refusal_line, file_line};
 
+use s7_script::LoadFault;
 use s7_session::Outcome;
 use std::alloc::{AllocError, Global};
 
@@ -37,4 +38,18 @@ fn outcome_text(alloc: Global, outcome: Outcome) -> Result<String, AllocError>
         Outcome::Spent => String::from_str(alloc, "spent"),
         Outcome::Memory => String::from_str(alloc, "memory"),
     }
+}
+
+/// The line for areas whose line of this number is faulty.
+pub fn areas_line(alloc: Global, number: u32) -> Result<String, AllocError>
+    ensures { IfOk result (λ text. refusal_line (LoadFault.Line number) ≡ Some (string_bytes text)) }
+{
+    format!(in alloc; "areas line {number}\n")
+}
+
+/// The line for a file that failed.
+pub fn file_line(alloc: Global, path: &str) -> Result<String, AllocError>
+    ensures { IfOk result (λ text. string_bytes text ≡ file_line path.now) }
+{
+    format!(in alloc; "file failed {path}\n")
 }

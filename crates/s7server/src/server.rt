@@ -1,22 +1,24 @@
-// The whole of what the program does, over a link and an output that are handed in.
-ghost use Rattle.std.specs.Prelude.{◌≡◌, [], ◌⊎◌, ◌↔◌, map, IsSome, IsNone, IfSome, IfNone, IfOk, Some, None, is_none, if◌then◌else◌};
+// The whole of what the program does, over files, a link and an output that are handed in.
+ghost use Rattle.std.specs.Prelude.{◌≡◌, ◌≢◌, [], ◌⊎◌, ◌↔◌, map, option_map, OnOk, IsErrOf, IsTrue, IsSome, IsNone, IsSomeAnd, IfSome, IfNone, IfOk, Some, None, true, false, is_none, is_some, if◌then◌else◌};
 ghost use Rattle.s7_outer.specs.Count.{Rose};
+ghost use Rattle.s7_outer.specs.Files.{NonePathFell, KeepsOtherPaths};
 ghost use Rattle.s7_outer.specs.Out.{AppendsPrefix};
 ghost use Rattle.std.specs.Io.KnownBytes.{append_known};
-ghost use Rattle.s7server.specs.Words.{usage, faulty, told_by};
-ghost use Rattle.s7server.specs.End.{Serves};
+ghost use Rattle.s7_script.specs.Spelling.{spelling};
+ghost use Rattle.s7_words.specs.Server.{server_words, pipe as piped};
+ghost use Rattle.s7server.specs.End.{Serves, Refuses, path_at};
+ghost use Rattle.s7server.specs.Saving.{KeepsBut, HoldsAreas};
 ghost use Rattle.s7server.specs.Link.{IsServed};
-ghost use Rattle.s7server.specs.Block.{opening};
 ghost use Rattle.s7server.specs.Doing.{opening_of, memory_of, requests_of};
-ghost use Rattle.s7server.specs.Report.{Prints, usage_line, areas_line, memory_line, report_of};
+ghost use Rattle.s7server.specs.Report.{Prints, usage_line, refusal_line, file_line, memory_line, report_of};
 
-use crate::block::DataBlock;
 use crate::doer::PlantDoer;
-use crate::report::report;
-use crate::words::{Command, read_words};
+use crate::report::{areas_line, file_line, report};
 use s7_area::Areas;
-use s7_outer::{Clock, Link, Memory, Out};
+use s7_outer::{Clock, FileFault, Files, Link, Memory, Out};
+use s7_script::{LoadFault, load_areas, write_areas};
 use s7_session::{Outcome, Session};
+use s7_words::{ServerWords, read_server_words};
 use std::alloc::Global;
 use std::sync::Wait;
 
@@ -26,8 +28,11 @@ pub const DONE: u8 = 0;
 /// The words are no command.
 pub const USAGE: u8 = 1;
 
-/// The inline word can't be read.
+/// The areas can't be read.
 pub const AREAS: u8 = 2;
+
+/// A file failed.
+pub const FILE: u8 = 3;
 
 /// The output failed.
 pub const OUTPUT: u8 = 5;
@@ -53,77 +58,180 @@ pub struct ServerEnd<L: Link + Drop> {
     pub pipe: Option<L>,
 }
 
-/// Reads the words, serves the link over the data block that they name, and prints the report.
+/// Reads the words, loads the areas that they name, serves the link over them, saves the areas that
+/// are left where the words ask for it, and prints the report.
 ///
-/// The status is 1 where the words are no command, 2 where the inline word can't be read, 9 where
-/// memory was wanting outside the link's session, 5 where the output failed at the report, and else
-/// 0. For 1, 2 and 9 one line is printed instead.
-pub fn server_main<R: Wait, L: Link + Clock + Drop, O: Out>(
+/// The status is 1 where the words are no command; 2 where the areas can't be read: a faulty line,
+/// an inline word among these, or more than 67,108,864 octets; 3 where the area file failed, or the
+/// file to save to; 9 where memory was wanting outside the link's session; 5 where the output failed
+/// at the report; and else 0. For 1, 2, 3 and 9 one line is printed instead, and its failure changes
+/// nothing.
+///
+/// A run is there where the link was served, and else the link comes back as it was, and no path
+/// changes. Where a run is there, no path changes but the one to save to. With status 0 or 5 the
+/// areas that are left lie there; with 3 or 9 it may hold anything.
+pub fn server_main<R: Wait, F: Files, L: Link + Clock + Drop, O: Out>(
     rt: &R,
     alloc: Global,
     words: &[&str],
+    files: &mut F,
     pipe: L,
     out: &mut O,
 ) -> ServerEnd<L>
     // The status.
-    ensures usage { (result.status ≡ USAGE) ↔ (told_by (map (λ w. w.now) words.now) ≡ usage) }
-    ensures faulty { result.status ≡ AREAS → told_by (map (λ w. w.now) words.now) ≡ faulty }
-    ensures faulty_words { told_by (map (λ w. w.now) words.now) ≡ faulty → (result.status ≡ AREAS) ⊎ (result.status ≡ MEMORY) }
-    ensures statuses { (result.status ≡ DONE) ⊎ (result.status ≡ USAGE) ⊎ (result.status ≡ AREAS) ⊎ (result.status ≡ OUTPUT) ⊎ (result.status ≡ MEMORY) }
+    ensures usage { result.status ≡ USAGE → (server_words (map (λ w. w.now) words.now)) ≡ None }
+    ensures usage_words { (server_words (map (λ w. w.now) words.now)) ≡ None → (result.status ≡ USAGE) ⊎ (result.status ≡ MEMORY) }
+    ensures statuses { (result.status ≡ DONE) ⊎ (result.status ≡ USAGE) ⊎ (result.status ≡ AREAS) ⊎ (result.status ≡ FILE) ⊎ (result.status ≡ OUTPUT) ⊎ (result.status ≡ MEMORY) }
+    ensures refused { result.status ≡ AREAS → Refuses (server_words (map (λ w. w.now) words.now)) (F.shows files.old) (Prints (O.text out.old) (O.text out.new) (O.out_faults out.old) (O.out_faults out.new)) }
+    ensures file_failed { result.status ≡ FILE → IsSomeAnd (path_at (is_some result.run) (server_words (map (λ w. w.now) words.now))) (λ path. Rose ((F.shows files.old).faults path) ((F.shows files.new).faults path) × Prints (O.text out.old) (O.text out.new) (O.out_faults out.old) (O.out_faults out.new) (file_line path)) }
     ensures output_failed { result.status ≡ OUTPUT → Rose (O.out_faults out.old) (O.out_faults out.new) }
 
-    // The link was served, over the block that the words name, or is handed back as it was.
-    ensures served { IfSome result.run (λ run. Serves (told_by (map (λ w. w.now) words.now)) run.areas (L.shows pipe) (L.shows run.line) run.outcome run.entries) }
+    // The link was served, over the areas that the words name, or is handed back as it was.
+    ensures served { IfSome result.run (λ run. Serves (server_words (map (λ w. w.now) words.now)) (F.shows files.old) run.areas (L.shows pipe) (L.shows run.line) run.outcome run.entries) }
     ensures unserved { result.pipe ≡ (if is_none result.run then Some pipe else None) }
     ensures run { (result.status ≡ DONE) ⊎ (result.status ≡ OUTPUT) → IsSome result.run }
     ensures no_run { (result.status ≡ USAGE) ⊎ (result.status ≡ AREAS) → IsNone result.run }
+
+    // What the files hold.
+    ensures saved { (result.status ≡ DONE) ⊎ (result.status ≡ OUTPUT) → IfSome result.run (λ run. HoldsAreas (path_at true (server_words (map (λ w. w.now) words.now))) (F.shows files.old) (F.shows files.new) run.areas) }
+    ensures paths { KeepsBut (if is_some result.run then path_at true (server_words (map (λ w. w.now) words.now)) else None) (F.shows files.old) (F.shows files.new) }
+    ensures file_faults { NonePathFell (F.shows files.old).faults (F.shows files.new).faults }
 
     // What was printed.
     ensures done { result.status ≡ DONE → IfSome result.run (λ run. O.text out.new ≡ append_known (O.text out.old) (report_of run.outcome run.entries)) }
     ensures broken_off { result.status ≡ OUTPUT → IfSome result.run (λ run. AppendsPrefix (O.text out.old) (O.text out.new) (report_of run.outcome run.entries)) }
     ensures usage_line { result.status ≡ USAGE → Prints (O.text out.old) (O.text out.new) (O.out_faults out.old) (O.out_faults out.new) usage_line }
-    ensures areas_line { result.status ≡ AREAS → Prints (O.text out.old) (O.text out.new) (O.out_faults out.old) (O.out_faults out.new) areas_line }
     ensures memory_line { result.status ≡ MEMORY → Prints (O.text out.old) (O.text out.new) (O.out_faults out.old) (O.out_faults out.new) memory_line }
 {
-    match read_words(alloc, words) {
-        Ok(Command::Opens(block)) => serve_block(rt, alloc, block, pipe, out),
-        Ok(Command::Usage) => unserved(
+    match read_server_words(alloc, words) {
+        Ok(Some(ServerWords::Pipe { areas, save })) => {
+            serve_named(rt, alloc, areas, save, files, pipe, out)
+        }
+        Ok(None) => unserved(
             USAGE,
             b"usage: s7server pipe AREAS, s7server serve AREAS\n",
             pipe,
             out,
         ),
-        Ok(Command::Faulty) => unserved(AREAS, b"areas line 1\n", pipe, out),
         Err(_) => unserved(MEMORY, b"memory\n", pipe, out),
     }
 }
 
-// Serves the link over a data block, and prints the report.
-fn serve_block<R: Wait, L: Link + Clock + Drop, O: Out>(
+// Serves the link over the areas that a word names.
+fn serve_named<R: Wait, F: Files, L: Link + Clock + Drop, O: Out>(
     rt: &R,
     alloc: Global,
-    block: DataBlock,
+    areas: &str,
+    save: Option<&str>,
+    files: &mut F,
     pipe: L,
     out: &mut O,
 ) -> ServerEnd<L>
-    ensures statuses { (result.status ≡ DONE) ⊎ (result.status ≡ OUTPUT) ⊎ (result.status ≡ MEMORY) }
-    ensures run { (result.status ≡ DONE) ⊎ (result.status ≡ OUTPUT) → IsSome result.run }
-    ensures served { IfSome result.run (λ run. IsServed (opening block.number block.octets) (L.shows pipe) (L.shows run.line) run.areas run.outcome run.entries) }
-    ensures unserved { result.pipe ≡ (if is_none result.run then Some pipe else None) }
+    // The status.
+    ensures statuses { (result.status ≡ DONE) ⊎ (result.status ≡ AREAS) ⊎ (result.status ≡ FILE) ⊎ (result.status ≡ OUTPUT) ⊎ (result.status ≡ MEMORY) }
+    ensures refused { result.status ≡ AREAS → Refuses (Some (piped areas.now (option_map (λ s. s.now) save.entry))) (F.shows files.old) (Prints (O.text out.old) (O.text out.new) (O.out_faults out.old) (O.out_faults out.new)) }
+    ensures file_failed { result.status ≡ FILE → IsSomeAnd (path_at (is_some result.run) (Some (piped areas.now (option_map (λ s. s.now) save.entry)))) (λ path. Rose ((F.shows files.old).faults path) ((F.shows files.new).faults path) × Prints (O.text out.old) (O.text out.new) (O.out_faults out.old) (O.out_faults out.new) (file_line path)) }
     ensures output_failed { result.status ≡ OUTPUT → Rose (O.out_faults out.old) (O.out_faults out.new) }
+
+    // The link was served, over the areas that the words name, or is handed back as it was.
+    ensures served { IfSome result.run (λ run. Serves (Some (piped areas.now (option_map (λ s. s.now) save.entry))) (F.shows files.old) run.areas (L.shows pipe) (L.shows run.line) run.outcome run.entries) }
+    ensures unserved { result.pipe ≡ (if is_none result.run then Some pipe else None) }
+    ensures run { (result.status ≡ DONE) ⊎ (result.status ≡ OUTPUT) → IsSome result.run }
+    ensures no_run { result.status ≡ AREAS → IsNone result.run }
+
+    // What the files hold.
+    ensures saved { (result.status ≡ DONE) ⊎ (result.status ≡ OUTPUT) → IfSome result.run (λ run. HoldsAreas (path_at true (Some (piped areas.now (option_map (λ s. s.now) save.entry)))) (F.shows files.old) (F.shows files.new) run.areas) }
+    ensures paths { KeepsBut (if is_some result.run then path_at true (Some (piped areas.now (option_map (λ s. s.now) save.entry))) else None) (F.shows files.old) (F.shows files.new) }
+    ensures file_faults { NonePathFell (F.shows files.old).faults (F.shows files.new).faults }
+
+    // What was printed.
     ensures done { result.status ≡ DONE → IfSome result.run (λ run. O.text out.new ≡ append_known (O.text out.old) (report_of run.outcome run.entries)) }
     ensures broken_off { result.status ≡ OUTPUT → IfSome result.run (λ run. AppendsPrefix (O.text out.old) (O.text out.new) (report_of run.outcome run.entries)) }
     ensures memory_line { result.status ≡ MEMORY → Prints (O.text out.old) (O.text out.new) (O.out_faults out.old) (O.out_faults out.new) memory_line }
 {
-    let Ok(mut doer) = open(alloc, block) else {
+    match load_areas(alloc, files, areas) {
+        Ok(opening) => serve_areas(rt, alloc, opening, save, files, pipe, out),
+        Err(fault) => ServerEnd {
+            status: print_refusal(alloc, fault, areas, out),
+            run: None,
+            pipe: Some(pipe),
+        },
+    }
+}
+
+// Prints why the areas weren't loaded, and says the status.
+fn print_refusal<O: Out>(alloc: Global, fault: LoadFault, path: &str, out: &mut O) -> u8
+    ensures statuses { (result ≡ AREAS) ⊎ (result ≡ FILE) ⊎ (result ≡ MEMORY) }
+    ensures areas { result ≡ AREAS → IsSomeAnd (refusal_line fault) (Prints (O.text out.old) (O.text out.new) (O.out_faults out.old) (O.out_faults out.new)) }
+    ensures file { result ≡ FILE → fault ≡ LoadFault.Failed }
+    ensures file_line { result ≡ FILE → Prints (O.text out.old) (O.text out.new) (O.out_faults out.old) (O.out_faults out.new) (file_line path.now) }
+    ensures memory_line { result ≡ MEMORY → Prints (O.text out.old) (O.text out.new) (O.out_faults out.old) (O.out_faults out.new) memory_line }
+{
+    match fault {
+        LoadFault::Failed => print_failed(alloc, path, out),
+        LoadFault::TooLong => print_status(AREAS, b"areas too long\n", out),
+        LoadFault::Line(number) => match areas_line(alloc, number) {
+            Ok(text) => print_status(AREAS, text.as_bytes(), out),
+            Err(_) => print_status(MEMORY, b"memory\n", out),
+        },
+        LoadFault::Memory => print_status(MEMORY, b"memory\n", out),
+    }
+}
+
+// Prints that a file failed, and says the status.
+fn print_failed<O: Out>(alloc: Global, path: &str, out: &mut O) -> u8
+    ensures statuses { (result ≡ FILE) ⊎ (result ≡ MEMORY) }
+    ensures file_line { result ≡ FILE → Prints (O.text out.old) (O.text out.new) (O.out_faults out.old) (O.out_faults out.new) (file_line path.now) }
+    ensures memory_line { result ≡ MEMORY → Prints (O.text out.old) (O.text out.new) (O.out_faults out.old) (O.out_faults out.new) memory_line }
+{
+    match file_line(alloc, path) {
+        Ok(text) => print_status(FILE, text.as_bytes(), out),
+        Err(_) => print_status(MEMORY, b"memory\n", out),
+    }
+}
+
+// Prints a line for a status.
+fn print_status<O: Out>(status: u8, line: &[u8], out: &mut O) -> u8
+    ensures status { result ≡ status }
+    ensures line { Prints (O.text out.old) (O.text out.new) (O.out_faults out.old) (O.out_faults out.new) line.now }
+{
+    print_line(line, out);
+    status
+}
+
+// Serves the link over areas, saves those that are left, and prints the report.
+fn serve_areas<R: Wait, F: Files, L: Link + Clock + Drop, O: Out>(
+    rt: &R,
+    alloc: Global,
+    opening: Areas,
+    save: Option<&str>,
+    files: &mut F,
+    pipe: L,
+    out: &mut O,
+) -> ServerEnd<L>
+    ensures statuses { (result.status ≡ DONE) ⊎ (result.status ≡ FILE) ⊎ (result.status ≡ OUTPUT) ⊎ (result.status ≡ MEMORY) }
+    ensures run { (result.status ≢ MEMORY) → IsSome result.run }
+    ensures served { IfSome result.run (λ run. IsServed opening (L.shows pipe) (L.shows run.line) run.areas run.outcome run.entries) }
+    ensures unserved { result.pipe ≡ (if is_none result.run then Some pipe else None) }
+    ensures file_failed { result.status ≡ FILE → IsSomeAnd (option_map (λ s. s.now) save.entry) (λ path. Rose ((F.shows files.old).faults path) ((F.shows files.new).faults path) × Prints (O.text out.old) (O.text out.new) (O.out_faults out.old) (O.out_faults out.new) (file_line path)) }
+    ensures output_failed { result.status ≡ OUTPUT → Rose (O.out_faults out.old) (O.out_faults out.new) }
+    ensures saved { (result.status ≡ DONE) ⊎ (result.status ≡ OUTPUT) → IfSome result.run (λ run. HoldsAreas (option_map (λ s. s.now) save.entry) (F.shows files.old) (F.shows files.new) run.areas) }
+    ensures paths { KeepsBut (if is_some result.run then option_map (λ s. s.now) save.entry else None) (F.shows files.old) (F.shows files.new) }
+    ensures file_faults { NonePathFell (F.shows files.old).faults (F.shows files.new).faults }
+    ensures done { result.status ≡ DONE → IfSome result.run (λ run. O.text out.new ≡ append_known (O.text out.old) (report_of run.outcome run.entries)) }
+    ensures broken_off { result.status ≡ OUTPUT → IfSome result.run (λ run. AppendsPrefix (O.text out.old) (O.text out.new) (report_of run.outcome run.entries)) }
+    ensures memory_line { result.status ≡ MEMORY → Prints (O.text out.old) (O.text out.new) (O.out_faults out.old) (O.out_faults out.new) memory_line }
+{
+    let Ok(mut doer) = PlantDoer::new(alloc, opening) else {
         return unserved(MEMORY, b"memory\n", pipe, out);
     };
     let mut line = pipe;
     let served = serve_link(rt, alloc, &mut line, &mut doer);
+    let areas = doer.into_areas();
     ServerEnd {
-        status: print_report(alloc, served.outcome, served.entries, out),
+        status: close(alloc, &areas, save, served, files, out),
         run: Some(Run {
-            areas: doer.into_areas(),
+            areas,
             line,
             outcome: served.outcome,
             entries: served.entries,
@@ -132,14 +240,51 @@ fn serve_block<R: Wait, L: Link + Clock + Drop, O: Out>(
     }
 }
 
-// A doer over a data block.
-fn open(alloc: Global, block: DataBlock) -> Result<PlantDoer, Memory>
-    ensures opening { IfOk result (λ d. opening_of d ≡ opening block.number block.octets) }
-    ensures memory { IfOk result (λ d. memory_of d ≡ opening block.number block.octets) }
-    ensures requests { IfOk result (λ d. requests_of d ≡ []) }
+// Saves the areas where that is asked for, prints the report, and says how that went.
+fn close<F: Files, O: Out>(
+    alloc: Global,
+    areas: &Areas,
+    save: Option<&str>,
+    served: Served,
+    files: &mut F,
+    out: &mut O,
+) -> u8
+    ensures statuses { (result ≡ DONE) ⊎ (result ≡ FILE) ⊎ (result ≡ OUTPUT) ⊎ (result ≡ MEMORY) }
+    ensures file_failed { result ≡ FILE → IsSomeAnd (option_map (λ s. s.now) save.entry) (λ path. Rose ((F.shows files.old).faults path) ((F.shows files.new).faults path) × Prints (O.text out.old) (O.text out.new) (O.out_faults out.old) (O.out_faults out.new) (file_line path)) }
+    ensures output_failed { result ≡ OUTPUT → Rose (O.out_faults out.old) (O.out_faults out.new) }
+    ensures saved { (result ≡ DONE) ⊎ (result ≡ OUTPUT) → HoldsAreas (option_map (λ s. s.now) save.entry) (F.shows files.old) (F.shows files.new) areas.now }
+    ensures paths { KeepsBut (option_map (λ s. s.now) save.entry) (F.shows files.old) (F.shows files.new) }
+    ensures file_faults { NonePathFell (F.shows files.old).faults (F.shows files.new).faults }
+    ensures done { result ≡ DONE → O.text out.new ≡ append_known (O.text out.old) (report_of served.outcome served.entries) }
+    ensures broken_off { result ≡ OUTPUT → AppendsPrefix (O.text out.old) (O.text out.new) (report_of served.outcome served.entries) }
+    ensures memory_line { result ≡ MEMORY → Prints (O.text out.old) (O.text out.new) (O.out_faults out.old) (O.out_faults out.new) memory_line }
 {
-    let areas = block.into_areas(alloc)?;
-    PlantDoer::new(alloc, areas)
+    let Some(path) = save else {
+        return print_report(alloc, served.outcome, served.entries, out);
+    };
+    match save_areas(alloc, areas, path, files) {
+        Ok(()) => print_report(alloc, served.outcome, served.entries, out),
+        Err(FileFault::Failed) => print_failed(alloc, path, out),
+        Err(_) => print_status(MEMORY, b"memory\n", out),
+    }
+}
+
+// Writes the area file of areas.
+fn save_areas<F: Files>(
+    alloc: Global,
+    areas: &Areas,
+    path: &str,
+    files: &mut F,
+) -> Result<(), FileFault>
+    ensures saved { OnOk result (IsTrue (F.shows files.old).tells → (F.shows files.new).held path.now ≡ Some (spelling areas.now)) }
+    ensures failed { IsErrOf result FileFault.Failed → Rose ((F.shows files.old).faults path.now) ((F.shows files.new).faults path.now) }
+    ensures paths { KeepsBut (Some path.now) (F.shows files.old) (F.shows files.new) }
+    ensures faults { NonePathFell (F.shows files.old).faults (F.shows files.new).faults }
+{
+    let Ok(text) = write_areas(alloc, areas) else {
+        return Err(FileFault::Memory);
+    };
+    files.write(alloc, path, text.as_slice())
 }
 
 // How a link ended, and how many telegrams were entered.

@@ -2,7 +2,7 @@ ghost use Rattle.std.specs.Prelude.{◌<◌};
 
 use crate::server::{ServerEnd, server_main};
 use s7_area::{AreaKey, Areas};
-use s7_outer::{FailingLink, Fate, MemoryLink, MemoryOut, Octets};
+use s7_outer::{FailingLink, Fate, MemoryFiles, MemoryLink, MemoryOut, Octets};
 use std::alloc::Global;
 use std::process::Abort;
 use std::sync::Wait;
@@ -122,7 +122,14 @@ fn serves<R: Wait + Abort>(
 {
     let link = MemoryLink::new(alloc, Octets::of_vec(input), most, ROOM, 0)?;
     let mut out = MemoryOut::new(alloc, ROOM)?;
-    let end = server_main(rt, alloc, &["pipe", word], link, &mut out);
+    let end = server_main(
+        rt,
+        alloc,
+        &["pipe", word],
+        &mut MemoryFiles::new(),
+        link,
+        &mut out,
+    );
     assert_eq!(rt; end.status, 0);
     assert!(rt; out.text() == report.as_bytes(), "{report}");
     let run = end.run.ok_or("no run")?;
@@ -305,7 +312,32 @@ fn the_longest_packet_is_taken(rt: HostRuntime) -> Result<(), Fail> {
     Ok(())
 }
 
-// Calls the server with these words, on a link that has ended.
+// The octets of a file under `a.txt`.
+fn files_with(alloc: Global, octets: Vec<u8>) -> Result<MemoryFiles, Fail> {
+    let mut files = MemoryFiles::new();
+    files.insert(alloc, "a.txt", Octets::of_vec(octets))?;
+    Ok(files)
+}
+
+// Calls the server with these words and files, on a link that has ended.
+fn files_give<R: Wait + Abort>(
+    rt: &R,
+    alloc: Global,
+    words: &[&str],
+    files: &mut MemoryFiles,
+    status: u8,
+    text: &str,
+) -> Result<bool, Fail> {
+    let link = MemoryLink::new(alloc, Octets::of_vec(Vec::new(alloc)), ROOM, ROOM, 0)?;
+    let mut out = MemoryOut::new(alloc, ROOM)?;
+    let end = server_main(rt, alloc, words, files, link, &mut out);
+    assert_eq!(rt; end.status, status);
+    assert!(rt; out.text() == text.as_bytes(), "{text}");
+    assert!(rt; end.pipe.is_none() == end.run.is_some());
+    Ok(end.run.is_some())
+}
+
+// The same without files: a run is there exactly with status 0.
 fn words_give<R: Wait + Abort>(
     rt: &R,
     alloc: Global,
@@ -313,13 +345,8 @@ fn words_give<R: Wait + Abort>(
     status: u8,
     text: &str,
 ) -> Result<(), Fail> {
-    let link = MemoryLink::new(alloc, Octets::of_vec(Vec::new(alloc)), ROOM, ROOM, 0)?;
-    let mut out = MemoryOut::new(alloc, ROOM)?;
-    let end = server_main(rt, alloc, words, link, &mut out);
-    assert_eq!(rt; end.status, status);
-    assert!(rt; out.text() == text.as_bytes(), "{text}");
-    assert!(rt; end.run.is_some() == (status == 0));
-    assert!(rt; end.pipe.is_none() == (status == 0));
+    let ran = files_give(rt, alloc, words, &mut MemoryFiles::new(), status, text)?;
+    assert!(rt; ran == (status == 0));
     Ok(())
 }
 
@@ -329,7 +356,8 @@ fn words_are_usage(rt: HostRuntime) -> Result<(), Fail> {
     words_give(&rt, rt.alloc(), &[], 1, usage)?;
     words_give(&rt, rt.alloc(), &["serve", "DB1=11"], 1, usage)?;
     words_give(&rt, rt.alloc(), &["pipe"], 1, usage)?;
-    words_give(&rt, rt.alloc(), &["pipe", "DB1"], 1, usage)
+    words_give(&rt, rt.alloc(), &["pipe", "DB1=11", "DB2=22"], 1, usage)?;
+    words_give(&rt, rt.alloc(), &["pipe", "DB1=11", "--save"], 1, usage)
 }
 
 #[test]
@@ -337,6 +365,8 @@ fn words_are_read(rt: HostRuntime) -> Result<(), Fail> {
     for word in "DB0=11 DB65536=11 DB+1=11 DB1= DB1=1".split(' ') {
         words_give(&rt, rt.alloc(), &["pipe", word], 2, "areas line 1\n")?;
     }
+    words_give(&rt, rt.alloc(), &["pipe", "DB1"], 3, "file failed DB1\n")?;
+    words_give(&rt, rt.alloc(), &["pipe", ""], 3, "file failed \n")?;
     let report = report(rt.alloc(), "ended", "0")?;
     words_give(
         &rt,
@@ -367,6 +397,7 @@ fn served_with<R: Wait>(
         rt,
         alloc,
         &["pipe", BLOCK],
+        &mut MemoryFiles::new(),
         FailingLink::new(link, fates),
         out,
     ))
@@ -458,9 +489,126 @@ fn an_output_may_fail(rt: HostRuntime) -> Result<(), Fail> {
     let alloc = rt.alloc();
     let link = MemoryLink::new(alloc, Octets::of_vec(Vec::new(alloc)), ROOM, ROOM, 0)?;
     let mut out = MemoryOut::new(alloc, 10)?;
-    let end = server_main(&rt, alloc, &["pipe", BLOCK], link, &mut out);
+    let end = server_main(
+        &rt,
+        alloc,
+        &["pipe", BLOCK],
+        &mut MemoryFiles::new(),
+        link,
+        &mut out,
+    );
     assert_eq!(&rt; end.status, 5);
     assert!(&rt; end.run.is_some());
     assert!(&rt; out.text() == b"link 1 end".as_slice());
+    Ok(())
+}
+
+const AREA_FILE: &str = "s7 areas 1\nDB 1 4\n11223344\n";
+
+// The words of a run that saves, with a write of two octets.
+fn saves<R: Wait + Abort>(
+    rt: &R,
+    alloc: Global,
+    words: &[&str],
+    files: &mut MemoryFiles,
+    status: u8,
+    text: &str,
+) -> Result<(), Fail> {
+    let mut input = octets(alloc, CONNECT)?;
+    input.extend_from_slice(octets(alloc, WRITE)?.as_slice())?;
+    let link = MemoryLink::new(alloc, Octets::of_vec(input), ROOM, ROOM, 0)?;
+    let mut out = MemoryOut::new(alloc, ROOM)?;
+    let end = server_main(rt, alloc, words, files, link, &mut out);
+    assert_eq!(rt; end.status, status);
+    assert!(rt; out.text() == text.as_bytes(), "{text}");
+    let run = end.run.ok_or("no run")?;
+    assert!(rt; holds(&run.areas, &[0xAA, 0x22, 0x33, 0xCC]));
+    Ok(())
+}
+
+// The areas that are left are saved under the path.
+fn saves_under<R: Wait + Abort>(
+    rt: &R,
+    alloc: Global,
+    words: &[&str],
+    path: &str,
+) -> Result<MemoryFiles, Fail> {
+    let report = report(alloc, "ended", "1")?;
+    let mut files = files_with(alloc, Vec::from_slice(alloc, AREA_FILE.as_bytes())?)?;
+    saves(rt, alloc, words, &mut files, 0, report.as_str())?;
+    assert!(rt; files.get(path) == Some(b"s7 areas 1\nDB 1 4\naa2233cc\n".as_slice()));
+    Ok(files)
+}
+
+#[test]
+fn the_areas_that_are_left_are_saved(rt: HostRuntime) -> Result<(), Fail> {
+    let alloc = rt.alloc();
+    let files = saves_under(&rt, alloc, &["pipe", "a.txt", "--save", "b.txt"], "b.txt")?;
+    assert!(&rt; files.get("a.txt") == Some(AREA_FILE.as_bytes()));
+    saves_under(&rt, alloc, &["pipe", "--save", "a.txt", "a.txt"], "a.txt")?;
+    let files = saves_under(&rt, alloc, &["pipe", BLOCK, "--save=", "--"], "")?;
+    assert!(&rt; files.get("a.txt") == Some(AREA_FILE.as_bytes()));
+    Ok(())
+}
+
+#[test]
+fn files_may_fail(rt: HostRuntime) -> Result<(), Fail> {
+    let alloc = rt.alloc();
+    let words = &["pipe", "a.txt", "--save", "b.txt"];
+    let mut files = files_with(alloc, Vec::from_slice(alloc, AREA_FILE.as_bytes())?)?;
+    files.fail_at(0);
+    let failed = "file failed a.txt\n";
+    let ran = files_give(&rt, alloc, words, &mut files, 3, failed)?;
+    assert!(&rt; !ran);
+    assert!(&rt; files.get("b.txt").is_none());
+    let ran = files_give(&rt, alloc, words, &mut MemoryFiles::new(), 3, failed)?;
+    assert!(&rt; !ran);
+    let mut files = files_with(alloc, Vec::from_slice(alloc, AREA_FILE.as_bytes())?)?;
+    files.fail_at(1);
+    saves(&rt, alloc, words, &mut files, 3, "file failed b.txt\n")
+}
+
+#[test]
+fn area_files_are_read(rt: HostRuntime) -> Result<(), Fail> {
+    let alloc = rt.alloc();
+    let report = report(alloc, "ended", "0")?;
+    for (text, status, printed) in [
+        ("s7 areas 1\nDB 1 4\n1122\n33", 2, "areas line 5\n"),
+        ("s7 areas 1\nDB 1 4\n1122\n33\n", 2, "areas line 5\n"),
+        ("", 2, "areas line 1\n"),
+        ("s7 areas 1\n\nDB 0 4\n11223344\n", 2, "areas line 3\n"),
+        ("s7 areas 1", 0, report.as_str()),
+        ("s7 areas 1\nDB 1 4\n11223344", 0, report.as_str()),
+        ("s7 areas 1\r\nDB 1 4\r\n11223344\r\n", 0, report.as_str()),
+    ] {
+        let mut files = files_with(alloc, Vec::from_slice(alloc, text.as_bytes())?)?;
+        let ran = files_give(&rt, alloc, &["pipe", "a.txt"], &mut files, status, printed)?;
+        assert!(&rt; ran == (status == 0), "{text}");
+        assert!(&rt; files.get("a.txt") == Some(text.as_bytes()), "{text}");
+    }
+    Ok(())
+}
+
+// An area file of a first line and a comment, of so many octets.
+fn comment(alloc: Global, count: usize) -> Result<Vec<u8>, Fail> {
+    let mut text = Vec::from_slice(alloc, b"s7 areas 1\n")?;
+    for _ in 11..count {
+        text.push(b'#')?;
+    }
+    Ok(text)
+}
+
+#[test]
+fn files_have_an_end(rt: HostRuntime) -> Result<(), Fail> {
+    let alloc = rt.alloc();
+    let report = report(alloc, "ended", "0")?;
+    for (count, status, printed) in [
+        (67_108_864, 0, report.as_str()),
+        (67_108_865, 2, "areas too long\n"),
+    ] {
+        let mut files = files_with(alloc, comment(alloc, count)?)?;
+        let ran = files_give(&rt, alloc, &["pipe", "a.txt"], &mut files, status, printed)?;
+        assert!(&rt; ran == (status == 0), "{count}");
+    }
     Ok(())
 }

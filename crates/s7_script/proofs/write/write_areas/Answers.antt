@@ -13,4 +13,4 @@ returns-clause-law c =
     c.in_ok-write_singles.ensures.ok c.in_ok-write_blocks.ensures.ok in
     let s = c.in_ok-write_singles.ensures.range in
     let range : AllByRecursion (IsInRange c.args.areas.now) (order c.args.areas.now) = (s.0, (s.1.0, (s.1.1.0, (s.1.1.1.0, (s.1.1.1.1.0, c.in_ok-write_blocks.ensures.range))))) in
-    ap areas_by spelled ∙ areas-spelling c.args.areas.now c.in_ok-write_blocks.ensures.memory range
+    ap areas_by spelled ∙ areas-spelling c.areas_join.ensures c.args.areas.now c.in_ok-write_blocks.ensures.memory range
