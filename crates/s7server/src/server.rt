@@ -63,9 +63,9 @@ pub struct ServerEnd<L: Link + Drop> {
 ///
 /// The status is 1 where the words are no command; 2 where the areas can't be read: a faulty line,
 /// an inline word among these, or more than 67,108,864 octets; 3 where the area file failed, or the
-/// file to save to; 9 where memory was wanting outside the link's session; 5 where the output failed
-/// at the report; and else 0. For 1, 2, 3 and 9 one line is printed instead, and its failure changes
-/// nothing.
+/// file to save to; 9 where memory was wanting outside the link's session, which may come in the
+/// place of 1, 2 and 3 too; 5 where the output failed at the report; and else 0. For 1, 2, 3 and 9
+/// one line is printed instead, and its failure changes nothing.
 ///
 /// A run is there where the link was served, and else the link comes back as it was, and no path
 /// changes. Where a run is there, no path changes but the one to save to. With status 0 or 5 the
