@@ -1,6 +1,6 @@
 use super::*;
 use s7_area::{AreaKey, Areas, RegisterFault};
-use s7_outer::{Memory, Octets};
+use s7_outer::{Memory, MemoryFiles, Octets};
 use std::test::Fail;
 
 fn key(area: u8, number: u16) -> AreaKey {
@@ -115,6 +115,23 @@ fn areas_that_are_written(rt: HostRuntime) -> Result<(), Fail> {
         }
         let written = write_areas(rt.alloc(), &areas)?;
         assert!(rt; written.as_slice() == text.as_bytes());
+    }
+    Ok(())
+}
+
+#[test]
+fn areas_that_are_loaded(rt: HostRuntime) -> Result<(), Fail> {
+    let text = Octets::copy_of(rt.alloc(), b"s7 areas 1\nDB 1 4\n11223344\n")?;
+    let mut files = MemoryFiles::new();
+    files.insert(rt.alloc(), "plant.txt", text)?;
+    for word in ["DB1=11223344", "plant.txt"] {
+        let Ok(areas) = load_areas(rt.alloc(), &mut files, word) else {
+            return Err(Fail::from("not loaded"));
+        };
+        assert!(rt;
+            holds(&areas, key(0x84, 1), &[0x11, 0x22, 0x33, 0x44]),
+            "{word:?}"
+        );
     }
     Ok(())
 }
