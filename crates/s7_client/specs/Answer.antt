@@ -1,0 +1,104 @@
+-- What answers a client's telegrams (Snap7 1.4 reference manual, and its public sources). An answer
+-- has the sequence of its telegram. It is an acknowledgement with data and no error, or a refusal,
+-- an acknowledgement with an error word alone.
+use Rattle.std.specs.Prelude.{ℕ, ◌+◌, Bool, not, ◌==◌, ◌&&◌, nat_le, List, [], ◌∷◌, length, drop, take, slice_index, Option, None, Some, option_map, Result, Ok, Err, if◌then◌else◌}
+use Rattle.s7_header.specs.Octets.{number_at}
+use Rattle.s7_header.specs.declared.header.Header.{Header}
+use Rattle.s7_header.specs.declared.header.Kind.{Kind}
+use Rattle.s7_header.specs.declared.header.Kind.TheVariants.{Job, Ack, AckData, User}
+use Rattle.s7_header.specs.declared.faults.HeaderFault.{HeaderFault}
+use Rattle.s7_header.specs.declared.faults.BadParams.{BadParams}
+use Rattle.s7_header.specs.Header.{header_of, params_of, body_of}
+use Rattle.s7_header.specs.declared.negotiation.Negotiation.{Negotiation}
+use Rattle.s7_header.specs.Negotiation.{negotiation_of}
+use Rattle.s7_item.specs.declared.item.Item.{Item}
+use Rattle.s7_item.specs.Item.{octet_count}
+use Rattle.s7_item.specs.Word.{transport_of}
+use Rattle.s7_item.specs.DataItem.{stated_length, padding_of}
+use Rattle.s7_client.specs.Question.{Question, negotiates, reads, writes}
+
+-- the answer for one item that was read: its return code, and its octets where that is FF
+pub record ItemAnswer : Type 0 where
+  pub code : ℕ
+  pub octets : List ℕ
+
+pub data Answer : Type 0 where
+  -- the confirm of a connect request
+  confirms : Answer
+  -- what was granted
+  grants : (granted : Negotiation) → Answer
+  -- the items that were read
+  tells : (items : List ItemAnswer) → Answer
+  -- the return codes of the items that were written
+  notes : (codes : List ℕ) → Answer
+  -- the error word of a refusal
+  refuses : (error : ℕ) → Answer
+  -- a disconnect request was transmitted, which has no answer
+  departed : Answer
+
+-- ---- the data items of a read's answer
+
+-- the octets begin with a data item that was read: its transport size and length are the item's own,
+-- and its octets and the padding are there
+abbrev pub begins_read : Item → Bool → List ℕ → Bool
+begins_read item last octets =
+    (slice_index octets 0 == 0xFF && slice_index octets 1 == transport_of item.word)
+    && (number_at octets 2 == stated_length (transport_of item.word) (octet_count item)
+    && nat_le (4 + octet_count item + padding_of (octet_count item) last) (length octets))
+
+-- the octets begin with a data item that was refused: another code, and three octets 00
+abbrev pub begins_refused : List ℕ → Bool
+begins_refused octets =
+    (not (slice_index octets 0 == 0xFF) && slice_index octets 1 == 0)
+    && (number_at octets 2 == 0 && nat_le 4 (length octets))
+
+abbrev pub item_first : ItemAnswer → List ItemAnswer → List ItemAnswer
+item_first answer answers = answer ∷ answers
+
+-- the answers for these items that the octets are, and nothing where they are none
+abbrev pub item_answers : List Item → List ℕ → Option (List ItemAnswer)
+item_answers [] octets = if length octets == 0 then Some [] else None
+item_answers (item ∷ items) octets =
+    if begins_read item (length items == 0) octets
+    then option_map (item_first (record { code = 0xFF; octets = take (octet_count item) (drop 4 octets) }))
+    (item_answers items (drop (4 + octet_count item + padding_of (octet_count item) (length items == 0)) octets))
+    else (if begins_refused octets
+    then option_map (item_first (record { code = slice_index octets 0; octets = [] })) (item_answers items (drop 4 octets))
+    else None)
+
+-- ---- the answers of each question
+
+-- the parameters are the function and the number of items
+abbrev pub counts_items : ℕ → List Item → List ℕ → Bool
+counts_items function items params =
+    length params == 2 && (slice_index params 0 == function && slice_index params 1 == length items)
+
+abbrev pub grant_in : Result Negotiation BadParams → Option Answer
+grant_in (Ok granted) = Some (grants granted)
+grant_in (Err bad) = None
+
+-- what an acknowledgement with these parameters and data answers
+abbrev pub acknowledged : Question → List ℕ → List ℕ → Option Answer
+acknowledged (negotiates asked) params body =
+    if length body == 0 then grant_in (negotiation_of params) else None
+acknowledged (reads items) params body =
+    if counts_items 0x04 items params then option_map tells (item_answers items body) else None
+acknowledged (writes items octets) params body =
+    if counts_items 0x05 items params && length body == length items then Some (notes body) else None
+
+abbrev pub by_kind : Kind → Question → Header → List ℕ → Option Answer
+by_kind Job question h message = None
+by_kind Ack question h message =
+    if h.param_len == 0 && h.body_len == 0 then Some (refuses h.error) else None
+by_kind AckData question h message =
+    if h.error == 0 then acknowledged question (params_of message h) (body_of message h) else None
+by_kind User question h message = None
+
+abbrev pub by_header : Question → ℕ → List ℕ → Result Header HeaderFault → Option Answer
+by_header question sequence message (Err fault) = None
+by_header question sequence message (Ok h) =
+    if h.sequence == sequence then by_kind h.kind question h message else None
+
+-- WHAT A MESSAGE ANSWERS to a question of this sequence, and nothing where it is no answer to it
+unfoldable pub answer_of : Question → ℕ → List ℕ → Option Answer
+answer_of question sequence message = by_header question sequence message (header_of message)

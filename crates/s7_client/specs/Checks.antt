@@ -1,0 +1,42 @@
+-- What is checked of a job before anything is sent: the first that applies.
+use Rattle.std.specs.Prelude.{ℕ, ◌+◌, ◌^◌, Bool, not, ◌==◌, ◌||◌, ◌&&◌, nat_lt, nat_le, is_some, List, [], ◌∷◌, length, Result, Ok, Err, if◌then◌else◌}
+use Rattle.std.specs.List.{list_all}
+use Rattle.s7_item.specs.declared.item.Item.{Item}
+use Rattle.s7_item.specs.Word.{size_of}
+use Rattle.s7_item.specs.Item.{octet_count}
+use Rattle.s7_split.specs.Parts.{range_end}
+use Rattle.s7_split.specs.Groups.{packed_of}
+use Rattle.s7_split.specs.declared.packing.PackFault.{PackFault}
+use Rattle.s7_client.specs.declared.codes.TheConstants.{GOOD, INVALID_PARAMETERS, TOO_MANY_ITEMS, INVALID_WORD, OVER_PDU}
+
+abbrev pub is_known : Item → Bool
+is_known item = is_some (size_of item.word)
+
+-- there are elements, exactly one if they are bits, and the range ends inside the address field
+abbrev pub is_placed : Item → Bool
+is_placed item =
+    (not (item.count == 0) && (not (item.word == 0x01) || item.count == 1)) && nat_le (range_end item) (2 ^ 24)
+
+-- how many octets items have together
+abbrev pub octet_count_of : List Item → ℕ
+octet_count_of [] = 0
+octet_count_of (item ∷ items) = octet_count item + octet_count_of items
+
+abbrev pub pack_check : Result Unit PackFault → ℕ
+pack_check (Ok packed) = GOOD
+pack_check (Err fault) = OVER_PDU
+
+-- of a read or write of one item
+abbrev pub check_item : Item → Bool → ℕ
+check_item item has_octets =
+    if not (is_known item) then INVALID_WORD
+    else (if not (is_placed item && has_octets) then INVALID_PARAMETERS
+    else GOOD)
+
+-- of a read or write of several
+abbrev pub check_items : List Item → Bool → ℕ → Bool → ℕ
+check_items items has_octets pdu write =
+    if nat_lt 20 (length items) then TOO_MANY_ITEMS
+    else (if not (list_all is_known items) then INVALID_WORD
+    else (if not (list_all is_placed items && has_octets) then INVALID_PARAMETERS
+    else pack_check (packed_of pdu write items)))

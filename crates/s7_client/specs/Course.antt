@@ -1,0 +1,272 @@
+-- The course of a job on its link: what the octets that were used make of it, and what may be sent.
+-- The octets are packets of RFC 1006 with TPDUs of ISO 8073, class 0, as a server's link has them.
+use Rattle.std.specs.Prelude.{ℕ, ◌+◌, Bool, true, false, ◌==◌, nat_lt, List, [], ◌∷◌, ◌++◌, length, Option, None, Some, Result, Ok, Err, if◌then◌else◌}
+use Rattle.s7_outer.specs.Numbers.{two_octets}
+use Rattle.s7_tpkt.specs.Packets.{packet_of, packets_of, rest_of, state_of}
+use Rattle.s7_tpkt.specs.declared.state.FedState.{FedState}
+use Rattle.s7_tpkt.specs.declared.state.FedState.TheVariants as fed
+use Rattle.s7_cotp.specs.Told.{Told, ConnectionTold, connect, confirm, fragment, disconnect, reject}
+use Rattle.s7_cotp.specs.Reading.{tpdu_of}
+use Rattle.s7_cotp.specs.Spelling.{spelling_of_connect, spelling_of_disconnect}
+use Rattle.s7_cotp.specs.Messages.{Step, more, whole, too_many_fragments, too_long, joined_with}
+use Rattle.s7_cotp.specs.declared.tpdu.CotpFault.{CotpFault}
+use Rattle.s7_wire.specs.Bounds.{message_limit, first_limit, size_of_code, limit_of_size}
+use Rattle.s7_wire.specs.Sent.{sent_message}
+use Rattle.s7_client.specs.declared.config.Config.{Config}
+use Rattle.s7_client.specs.declared.job.Job.{Job}
+use Rattle.s7_client.specs.declared.job.Job.TheVariants as job
+use Rattle.s7_client.specs.declared.grant.Grant.{Grant}
+use Rattle.s7_client.specs.declared.codes.TheConstants.{NOT_CONNECTED, LINK_ENDED, BAD_PACKET, SHORT_MESSAGE, TOO_MANY_FRAGMENTS, TOO_LONG, INVALID_ANSWER}
+use Rattle.s7_client.specs.Question.{Question, question_octets}
+use Rattle.s7_client.specs.Answer.{Answer, confirms, answer_of}
+use Rattle.s7_client.specs.Dialogue.{Telegram, connect_request, numbered, disconnect_request, End, Next, sends, ends, fault_end, dialogue}
+
+-- where a job starts: what the client has by then
+pub record Origin : Type 0 where
+  pub job : Job
+  pub config : Config
+  -- what was granted, and nothing on a client that isn't connected
+  pub granted : Option Grant
+  -- the TPDU size of the link, and the sequence of the last numbered telegram on it
+  pub size : ℕ
+  pub sequence : ℕ
+
+-- what a job waits for
+pub data Awaits : Type 0 where
+  -- the confirm of the connect request
+  for_confirm : Awaits
+  -- the answer to a question
+  for_answer : (question : Question) → Awaits
+  -- that the disconnect request is transmitted
+  for_departure : Awaits
+  -- nothing: the job is over, with a message that was no answer or none
+  for_nothing : (end : End) → (carried : List ℕ) → Awaits
+
+-- the fragments of a message that isn't whole: their octets, and how many they are
+pub record Unfinished : Type 0 where
+  pub octets : List ℕ
+  pub count : ℕ
+
+abbrev pub nothing_unfinished : Unfinished
+nothing_unfinished = record { octets = []; count = 0 }
+
+pub record Course : Type 0 where
+  -- the answers so far, in the order of their telegrams
+  pub answers : List Answer
+  pub size : ℕ
+  pub unfinished : Unfinished
+  pub sequence : ℕ
+  -- all octets that may be sent so far
+  pub out : List ℕ
+  pub awaits : Awaits
+
+-- ---- what is sent
+
+-- sequences are 1, 2 and so on, and after FFFF comes 1
+abbrev pub next_sequence : ℕ → ℕ
+next_sequence sequence = if sequence == 0xFFFF then 1 else sequence + 1
+
+-- the TPDU size that is asked for, by its code and in octets
+abbrev pub asked_size_code : ℕ
+asked_size_code = 0x0A
+
+-- the client's reference is 0001, the class 00
+abbrev pub request_of : Config → ConnectionTold
+request_of config = record {
+  dst_ref = 0;
+  src_ref = 1;
+  class = 0;
+  size_code = asked_size_code;
+  calling = two_octets config.calling;
+  called = two_octets config.called;
+}
+
+abbrev pub connect_octets : Config → List ℕ
+connect_octets config = packet_of (spelling_of_connect (request_of config))
+
+-- a disconnect request by the user of the link
+abbrev pub disconnect_octets : List ℕ
+disconnect_octets = packet_of (spelling_of_disconnect 1 1 0x80)
+
+-- the octets of a telegram, where a message goes out under this sequence
+abbrev pub telegram_octets : Config → ℕ → ℕ → Telegram → List ℕ
+telegram_octets config size sequence connect_request = connect_octets config
+telegram_octets config size sequence (numbered question) = sent_message size (question_octets sequence question)
+telegram_octets config size sequence disconnect_request = disconnect_octets
+
+-- what may be sent of what comes next
+abbrev pub octets_of : Config → ℕ → ℕ → Next → List ℕ
+octets_of config size sequence (sends telegram) = telegram_octets config size sequence telegram
+octets_of config size sequence (ends end) = []
+
+-- a numbered telegram takes the next sequence
+abbrev pub sequence_by : ℕ → Next → ℕ
+sequence_by sequence (sends connect_request) = sequence
+sequence_by sequence (sends (numbered question)) = next_sequence sequence
+sequence_by sequence (sends disconnect_request) = sequence
+sequence_by sequence (ends end) = sequence
+
+-- what is awaited then, where a message that was no answer is kept
+abbrev pub awaits_by : List ℕ → Next → Awaits
+awaits_by carried (sends connect_request) = for_confirm
+awaits_by carried (sends (numbered question)) = for_answer question
+awaits_by carried (sends disconnect_request) = for_departure
+awaits_by carried (ends end) = for_nothing end carried
+
+-- what comes next happens
+abbrev pub with_next : Config → Course → Next → Course
+with_next config course next = record {
+  answers = course.answers;
+  size = course.size;
+  unfinished = course.unfinished;
+  sequence = sequence_by course.sequence next;
+  out = course.out ++ octets_of config course.size (sequence_by course.sequence next) next;
+  awaits = awaits_by [] next;
+}
+
+-- one more answer
+abbrev pub with_answer : Origin → Course → Answer → Course
+with_answer origin course answer =
+    with_next origin.config (record course { answers = course.answers ++ answer ∷ [] })
+    (dialogue origin.job origin.config origin.granted (course.answers ++ answer ∷ []))
+
+-- ---- what is taken
+
+abbrev pub with_fault : Course → ℕ → Course
+with_fault course code = record course { awaits = for_nothing (fault_end code) [] }
+
+abbrev pub by_answer : Origin → Course → List ℕ → Option Answer → Course
+by_answer origin course message None = record course { awaits = for_nothing (fault_end INVALID_ANSWER) message }
+by_answer origin course message (Some answer) = with_answer origin course answer
+
+-- a whole message
+abbrev pub with_message : Origin → Course → Question → List ℕ → Course
+with_message origin course question message =
+    if nat_lt (length message) 10 then with_fault course SHORT_MESSAGE
+    else by_answer origin course message (answer_of question course.sequence message)
+
+abbrev pub by_joining : Origin → Course → Question → Step → Course
+by_joining origin course question (more octets count) =
+    record course { unfinished = record { octets = octets; count = count } }
+by_joining origin course question (whole message) =
+    with_message origin (record course { unfinished = nothing_unfinished }) question message
+by_joining origin course question too_many_fragments = with_fault course TOO_MANY_FRAGMENTS
+by_joining origin course question too_long = with_fault course TOO_LONG
+
+-- a TPDU where an answer is awaited: fragments, and a disconnect request ends the link
+abbrev pub connected : Origin → Course → Question → Result Told CotpFault → Course
+connected origin course question (Ok (fragment last user)) =
+    by_joining origin course question
+    (joined_with message_limit course.unfinished.octets course.unfinished.count (record { last = last; user = user }))
+connected origin course question (Ok (disconnect reason)) = with_fault course LINK_ENDED
+connected origin course question (Ok (connect c)) = with_fault course BAD_PACKET
+connected origin course question (Ok (confirm c)) = with_fault course BAD_PACKET
+connected origin course question (Ok (reject cause)) = with_fault course BAD_PACKET
+connected origin course question (Err fault) = with_fault course BAD_PACKET
+
+-- a TPDU where the confirm is awaited
+abbrev pub confirming : Origin → Course → Result Told CotpFault → Course
+confirming origin course (Ok (confirm c)) =
+    with_answer origin (record course { size = size_of_code c.size_code }) confirms
+confirming origin course (Ok (connect c)) = with_fault course NOT_CONNECTED
+confirming origin course (Ok (fragment last user)) = with_fault course NOT_CONNECTED
+confirming origin course (Ok (disconnect reason)) = with_fault course NOT_CONNECTED
+confirming origin course (Ok (reject cause)) = with_fault course NOT_CONNECTED
+confirming origin course (Err fault) = with_fault course BAD_PACKET
+
+-- a packet with this body: a job that awaits no octets uses none
+abbrev pub by_awaits : Origin → Course → List ℕ → Awaits → Course
+by_awaits origin course body for_confirm = confirming origin course (tpdu_of body)
+by_awaits origin course body (for_answer question) = connected origin course question (tpdu_of body)
+by_awaits origin course body for_departure = course
+by_awaits origin course body (for_nothing end carried) = course
+
+unfoldable pub with_packet : Origin → Course → List ℕ → Course
+with_packet origin course body = by_awaits origin course body course.awaits
+
+-- ---- whole courses
+
+abbrev pub is_connect : Job → Bool
+is_connect job.Connect = true
+is_connect (job.ReadArea item) = false
+is_connect (job.WriteArea item octets) = false
+is_connect (job.ReadMany items) = false
+is_connect (job.WriteMany items octets) = false
+is_connect job.Disconnect = false
+
+-- a connect on a client that isn't connected begins the link anew
+abbrev pub begins_anew : Option Grant → Job → Bool
+begins_anew None job = is_connect job
+begins_anew (Some granted) job = false
+
+-- a link that begins anew has the TPDU size that is asked for, until a confirm tells another, and its first sequence
+-- follows 0
+abbrev pub size_at : Bool → ℕ → ℕ
+size_at anew size = if anew then size_of_code asked_size_code else size
+
+abbrev pub sequence_at : Bool → ℕ → ℕ
+sequence_at anew sequence = if anew then 0 else sequence
+
+abbrev pub blank : Origin → Course
+blank origin = record {
+  answers = [];
+  size = size_at (begins_anew origin.granted origin.job) origin.size;
+  unfinished = nothing_unfinished;
+  sequence = sequence_at (begins_anew origin.granted origin.job) origin.sequence;
+  out = [];
+  awaits = for_confirm;
+}
+
+-- a job that was started
+unfoldable pub begun : Origin → Course
+begun origin =
+    with_next origin.config (blank origin) (dialogue origin.job origin.config origin.granted [])
+
+abbrev pub run : Origin → Course → List (List ℕ) → Course
+run origin course [] = course
+run origin course (body ∷ bodies) = run origin (with_packet origin course body) bodies
+
+-- the length that no packet passes: that of the TPDU size, once the confirm isn't awaited
+abbrev pub limit_where : Awaits → ℕ → ℕ
+limit_where for_confirm size = first_limit
+limit_where (for_answer question) size = limit_of_size size
+limit_where for_departure size = limit_of_size size
+limit_where (for_nothing end carried) size = limit_of_size size
+
+abbrev pub limit_in : Course → ℕ
+limit_in course = limit_where course.awaits course.size
+
+-- that of a packet, by the bodies of those before it
+abbrev pub limits : Origin → List (List ℕ) → ℕ
+limits origin bodies = limit_in (run origin (begun origin) bodies)
+
+-- a packet that can't be one ends a job that isn't over
+abbrev pub by_state : Course → FedState → Course
+by_state course fed.BadVersion = with_fault course BAD_PACKET
+by_state course fed.BadLength = with_fault course BAD_PACKET
+by_state course fed.TooLong = with_fault course TOO_LONG
+by_state course fed.More = course
+by_state course fed.Whole = course
+
+abbrev pub unless_over : Course → Course → Awaits → Course
+unless_over next course for_confirm = next
+unless_over next course (for_answer question) = next
+unless_over next course for_departure = course
+unless_over next course (for_nothing end carried) = course
+
+abbrev pub with_rest : Course → FedState → Course
+with_rest course state = unless_over (by_state course state) course course.awaits
+
+-- after whole packets
+abbrev pub packets_run : Origin → List ℕ → Course
+packets_run origin b = run origin (begun origin) (packets_of (limits origin) b)
+
+-- THE COURSE of a job after the octets that it used
+unfoldable pub course : Origin → List ℕ → Course
+course origin b =
+    with_rest (packets_run origin b)
+    (state_of (limits origin (packets_of (limits origin) b)) (rest_of (limits origin) b))
+
+-- THE OCTETS THAT MAY BE SENT after them
+abbrev pub may_send : Origin → List ℕ → List ℕ
+may_send origin b = (course origin b).out

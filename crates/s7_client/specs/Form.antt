@@ -1,0 +1,64 @@
+-- The form of ends: what a job gives where it came off, by what was asked.
+use Rattle.std.specs.Prelude.{◌≡◌, ◌≢◌, ℕ, ◌+◌, ◌≤◌, ◌==◌, if◌then◌else◌, List, [], ◌∷◌, ◌++◌, length}
+use Rattle.std.specs.Option.{ForSome}
+use Rattle.s7_item.specs.declared.item.Item.{Item}
+use Rattle.s7_item.specs.Item.{octet_count}
+use Rattle.s7_client.specs.declared.grant.Grant.{Grant}
+use Rattle.s7_client.specs.declared.job.Job.{Job}
+use Rattle.s7_client.specs.declared.job.Job.TheVariants as job
+use Rattle.s7_client.specs.Answer.{Answer, departed}
+use Rattle.s7_client.specs.Dialogue.{End, ends, fault_end, dialogue}
+use Rattle.s7_client.specs.Course.{Origin, for_departure, for_nothing, course}
+
+-- how many octets an item with this code has: none where it wasn't read
+abbrev pub count_read : Item → ℕ → ℕ
+count_read item code = if code == 0xFF then octet_count item else 0
+
+-- the octets of all items
+unfoldable pub octets_read : List Item → List ℕ → ℕ
+octets_read [] cs = 0
+octets_read (item ∷ items) [] = 0
+octets_read (item ∷ items) (code ∷ cs) = count_read item code + octets_read items cs
+
+-- Of several items there are as many codes as items, and the octets of those that were read. Other
+-- jobs have no codes, and only reads have octets.
+abbrev pub FormOf : Job → List ℕ → List ℕ → Type 0
+FormOf job.Connect octets codes = (octets ≡ []) × (codes ≡ [])
+FormOf (job.ReadArea item) octets codes = codes ≡ []
+FormOf (job.WriteArea item written) octets codes = (octets ≡ []) × (codes ≡ [])
+FormOf (job.ReadMany items) octets codes =
+    (length codes ≤ 20) × (length codes ≡ length items) × (length octets ≡ octets_read items codes)
+FormOf (job.WriteMany items written) octets codes =
+    (length codes ≤ 20) × (length codes ≡ length items) × (octets ≡ [])
+FormOf job.Disconnect octets codes = (octets ≡ []) × (codes ≡ [])
+
+-- the end has the form of the job where it came off, and else neither octets nor codes
+abbrev pub HasForm : Job → End → Type 0
+HasForm job end =
+    (end.code ≡ 0 → FormOf job end.octets end.codes) × (end.code ≢ 0 → (end.octets ≡ []) × (end.codes ≡ []))
+
+-- a read of one item has as many octets as the item
+abbrev pub IsWhole : Job → End → Type 0
+IsWhole job.Connect end = Unit {0}
+IsWhole (job.ReadArea item) end = end.code ≡ 0 → length end.octets ≡ octet_count item
+IsWhole (job.WriteArea item written) end = Unit {0}
+IsWhole (job.ReadMany items) end = Unit {0}
+IsWhole (job.WriteMany items written) end = Unit {0}
+IsWhole job.Disconnect end = Unit {0}
+
+-- Every end of a job has its form.
+pub record EndsHaveForm : Type 0 where
+  -- the ends that octets give
+  pub octets : (origin : Origin) (b : List ℕ) (end : End) (carried : List ℕ)
+      → (course origin b).awaits ≡ for_nothing end carried → HasForm origin.job end
+  -- and where a PDU of at least 64 was granted, one item is read whole
+  pub whole : (origin : Origin) (b : List ℕ) (end : End) (carried : List ℕ)
+      → ForSome origin.granted (λ (grant : Grant). 64 ≤ grant.pdu)
+      → (course origin b).awaits ≡ for_nothing end carried → IsWhole origin.job end
+  -- the end once a disconnect request was transmitted, which only a disconnect transmits
+  pub departure : (origin : Origin) (b : List ℕ) (answers : List Answer) (end : End)
+      → (course origin b).awaits ≡ for_departure
+      → dialogue origin.job origin.config origin.granted (answers ++ departed ∷ []) ≡ ends end
+      → (origin.job ≡ job.Disconnect) × HasForm origin.job end
+  -- the end by a fault of the link
+  pub fault : (done : Job) (code : ℕ) → code ≢ 0 → HasForm done (fault_end code)

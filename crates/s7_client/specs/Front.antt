@@ -1,0 +1,9 @@
+-- How the message of a job begins.
+use Rattle.std.specs.Prelude.{ℕ, List, ◌++◌, length}
+use Rattle.s7_header.specs.declared.header.Kind.TheVariants.{Job}
+use Rattle.s7_header.specs.Header.{spelling_of}
+
+-- a job of this sequence with these parameters, up to its data of so many octets
+abbrev pub job_front : ℕ → List ℕ → ℕ → List ℕ
+job_front sequence params n =
+    spelling_of (record { kind = Job; sequence = sequence; param_len = length params; body_len = n; error = 0 }) ++ params

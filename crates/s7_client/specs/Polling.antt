@@ -1,0 +1,240 @@
+-- What starting and polling do.
+use Rattle.std.specs.Prelude.{◌≡◌, ◌⊎◌, ℕ, ◌+◌, ◌<◌, ◌≤◌, Bool, true, false, List, [], ◌++◌, length, Option, None, Some, option_map, IsSome, ◌-◌, if◌then◌else◌}
+use Rattle.s7_outer.specs.Shown.{Shown}
+use Rattle.s7_outer.specs.Count.{Rose}
+use Rattle.s7_client.specs.declared.config.Config.{Config}
+use Rattle.s7_client.specs.declared.job.Job.{Job}
+use Rattle.s7_client.specs.declared.job.JobResult.{JobResult}
+use Rattle.s7_client.specs.declared.job.Polled.{Polled}
+use Rattle.s7_client.specs.declared.job.Polled.TheVariants as polled
+use Rattle.s7_client.specs.declared.grant.Grant.{Grant}
+use Rattle.s7_client.specs.declared.grant.Leaves.{Leaves}
+use Rattle.s7_client.specs.declared.grant.Leaves.TheVariants as leaving
+use Rattle.s7_client.specs.declared.codes.TheConstants.{TIMED_OUT}
+use Rattle.s7_client.specs.declared.under_way.UnderWay.{UnderWay}
+use Rattle.s7_client.specs.declared.client.Client.{Client}
+use Rattle.s7_cotp.specs.Gathered.{empty}
+use Rattle.s7_wire.specs.Bounds.{first_limit, message_limit, size_of_code}
+use Rattle.s7_client.specs.declared.line.Line.{Line}
+use Rattle.s7_client.specs.declared.running.Running.{Running}
+use Rattle.s7_client.specs.Dialogue.{End, ends, fault_end}
+use Rattle.s7_client.specs.Running.{IsResult, IsOver, next_of}
+use Rattle.s7_client.specs.Course.{Origin, begins_anew, course, asked_size_code, octets_of, sequence_by}
+use Rattle.s7_client.specs.At.{LeavesOpen, limit_at}
+use Rattle.s7_client.specs.Standing.{Stands, Fits, IsBetween, Moves, HasCause, HasMetNotYet, IsUnderWay, IsFault, unread, unsent}
+
+-- the job that is outstanding
+abbrev pub job_of : Client → Option Job
+job_of c = option_map (λ (u : UnderWay). u.running.job) c.job
+
+-- how many of its polls met a link that had nothing to give, or no room
+abbrev pub waited_of : Client → Option ℕ
+waited_of c = option_map (λ (u : UnderWay). u.waited) c.job
+
+abbrev pub config_of : Client → Config
+config_of c = c.config
+
+-- what was granted, and nothing on a client that isn't connected
+abbrev pub grant_of : Client → Option Grant
+grant_of c = c.granted
+
+abbrev pub granted_pdu : Client → Option ℕ
+granted_pdu c = option_map (λ (g : Grant). g.pdu) c.granted
+
+abbrev pub closed_of : Client → Bool
+closed_of c = c.is_closed
+
+-- the TPDU size of its link, and the sequence of the last numbered telegram
+abbrev pub size_of : Client → ℕ
+size_of c = c.line.talk.size
+
+abbrev pub sequence_of : Client → ℕ
+sequence_of c = c.line.talk.sequence
+
+-- the octets that were read and not used
+abbrev pub unread_of : Client → List ℕ
+unread_of c = unread c.line
+
+-- where a job starts on a client
+abbrev pub origin_at : Client → Job → Origin
+origin_at c job = record { job = job; config = c.config; granted = c.granted; size = size_of c; sequence = sequence_of c }
+
+-- The client stands for the octets that its job has used and those that it has transmitted, since it started there.
+pub record StandsFor (c : Client) (origin : Origin) (b written : List ℕ) : Type 0 where
+  pub under_way : UnderWay
+  pub is : c.job ≡ Some under_way
+  pub config : origin.config ≡ c.config
+  pub granted : origin.granted ≡ c.granted
+  pub stands : Stands origin c.line under_way b written
+
+-- a client that isn't connected and has no job
+pub record IsFresh (c : Client) (asked : Config) : Type 0 where
+  pub config : config_of c ≡ asked
+  pub granted : grant_of c ≡ None
+  pub closed : closed_of c ≡ false
+  pub job : job_of c ≡ None
+  pub unread : unread_of c ≡ []
+  pub size : size_of c ≡ size_of_code asked_size_code
+  pub sequence : sequence_of c ≡ 0
+
+-- ---- starting
+
+-- The job was started: it has used and transmitted nothing. What was read before and not used is still there, but for
+-- a link that begins anew.
+pub record IsStarted (old new : Client) (job : Job) : Type 0 where
+  pub stands : StandsFor new (origin_at old job) [] []
+  pub waited : waited_of new ≡ Some 0
+  pub unread : unread_of new ≡ (if begins_anew (grant_of old) job then [] else unread_of old)
+  pub config : config_of new ≡ config_of old
+  pub granted : grant_of new ≡ grant_of old
+  pub closed : closed_of new ≡ (if begins_anew (grant_of old) job then false else closed_of old)
+
+-- ---- polling
+
+-- what is granted after an end
+abbrev pub grant_after : Leaves → Option Grant → Option Grant
+grant_after leaving.AsItWas granted = granted
+grant_after (leaving.Connected now) granted = Some now
+grant_after leaving.Disconnected granted = None
+grant_after leaving.Closed granted = None
+
+-- whether the client is closed after it
+abbrev pub closed_after : Leaves → Bool → Bool
+closed_after leaving.AsItWas closed = closed
+closed_after (leaving.Connected now) closed = false
+closed_after leaving.Disconnected closed = closed
+closed_after leaving.Closed closed = true
+
+-- the job met a link that had nothing to give, or no room, as often as it may
+pub record IsByPatience (origin : Origin) (link link' : Shown) (kept : List ℕ) (end : End) (carried b written : List ℕ) (waited : Option ℕ) : Type 0 where
+  pub last : waited ≡ Some (origin.config.polls - 1)
+  pub rose : Rose link.waits link'.waits
+  pub met : HasMetNotYet origin kept link' b written
+  pub under_way : IsUnderWay origin b written
+  pub fault : IsFault TIMED_OUT end carried
+
+-- why a job is done
+abbrev pub IsDoneBy : Origin → Shown → Shown → List ℕ → End → List ℕ → List ℕ → List ℕ → Option ℕ → Type 0
+IsDoneBy origin link link' kept end carried b written waited =
+    HasCause origin link link' kept end carried b written ⊎ IsByPatience origin link link' kept end carried b written waited
+
+-- how a job that started there and has used and transmitted these octets is done
+pub record IsDone (origin : Origin) (link link' : Shown) (old new : Client) (told : JobResult) (b written : List ℕ) : Type 0 where
+  pub end : End
+  pub carried : List ℕ
+  pub result : IsResult told origin.job end carried
+  pub granted : grant_of new ≡ grant_after end.leaves (grant_of old)
+  pub closed : closed_of new ≡ closed_after end.leaves (closed_of old)
+  pub cause : IsDoneBy origin link link' (unread_of new) end carried b written (waited_of old)
+  -- where the next job starts
+  pub size : size_of new ≡ (course origin b).size
+  pub sequence : sequence_of new ≡ (course origin b).sequence
+
+-- the job goes on
+pub record IsPending (origin : Origin) (link' : Shown) (new : Client) (b written : List ℕ) : Type 0 where
+  pub stands : StandsFor new origin b written
+  pub met : HasMetNotYet origin (unread_of new) link' b written
+
+-- the job met one more poll in which the link had nothing to give, or no room
+abbrev pub WaitsOnce : Option ℕ → Option ℕ → ℕ → Type 0
+WaitsOnce (Some before) (Some now) polls = (now ≡ before + 1) × (now < polls)
+WaitsOnce None (Some now) polls = ⊥
+WaitsOnce (Some before) None polls = ⊥
+WaitsOnce None None polls = ⊥
+
+pub record Pends (old new : Client) (link link' : Shown) : Type 0 where
+  pub rose : Rose link.waits link'.waits
+  pub waited : WaitsOnce (waited_of old) (waited_of new) (config_of old).polls
+  pub granted : grant_of new ≡ grant_of old
+  pub closed : closed_of new ≡ closed_of old
+
+-- what a poll comes to, by the octets that it used and transmitted
+abbrev pub Comes : Client → Shown → Client → Shown → List ℕ → List ℕ → Polled → Type 0
+Comes old link new link' used written (polled.Done result) =
+    (IsSome (job_of old)) × (job_of new ≡ None)
+    × ((origin : Origin) (b w : List ℕ) → StandsFor old origin b w → IsDone origin link link' old new result (b ++ used) (w ++ written))
+Comes old link new link' used written polled.Pending =
+    Pends old new link link'
+    × ((origin : Origin) (b w : List ℕ) → StandsFor old origin b w → IsPending origin link' new (b ++ used) (w ++ written))
+Comes old link new link' used written polled.Idle =
+    (job_of old ≡ None) × (new ≡ old) × (link' ≡ link)
+
+pub record IsPoll (old : Client) (link : Shown) (new : Client) (link' : Shown) (result : Polled) : Type 0 where
+  pub moves : Moves (unread_of old) link (unread_of new) link'
+  pub config : config_of new ≡ config_of old
+  pub comes : Comes old link new link' moves.used moves.written result
+
+-- ---- the line
+
+-- a link that nothing moved on
+pub record IsNew (l : Line) : Type 0 where
+  pub held : l.cutter.held ≡ []
+  pub limit : l.cutter.limit ≡ first_limit
+  pub joiner : l.talk.joiner ≡ empty message_limit
+  pub size : l.talk.size ≡ size_of_code asked_size_code
+  pub sequence : l.talk.sequence ≡ 0
+  pub sent : unsent l ≡ []
+  pub unread : unread l ≡ []
+
+-- the first telegram of a job was put
+pub record BeginsLine (l l' : Line) (r : Running) (config : Config) : Type 0 where
+  pub sent : unsent l' ≡ octets_of config l.talk.size l'.talk.sequence (next_of config r)
+  pub sequence : l'.talk.sequence ≡ sequence_by l.talk.sequence (next_of config r)
+  pub few : length (unsent l') ≤ 1016
+  pub size : l'.talk.size ≡ l.talk.size
+  pub joiner : l'.talk.joiner ≡ l.talk.joiner
+  pub inbox : l'.inbox ≡ l.inbox
+  pub held : l'.cutter.held ≡ []
+  pub limit : l'.cutter.limit ≡ limit_at r.stage l'.talk.size
+  pub most : l'.cutter.limit ≤ 8199
+
+-- ---- the parts of a poll
+
+-- a poll met not yet, and the job goes on or has met it too often
+pub record Waits (u u' : UnderWay) (polls : ℕ) (goes_on : Bool) : Type 0 where
+  pub same : goes_on ≡ true → u' ≡ record u { waited = u.waited + 1 }
+  pub patient : goes_on ≡ true → u.waited + 1 < polls
+  pub last : goes_on ≡ false → u.waited + 1 ≡ polls
+  pub fails : goes_on ≡ false → (config : Config) → next_of config u'.running ≡ ends (fault_end TIMED_OUT)
+  pub over : goes_on ≡ false → IsOver u'.running.stage
+  pub job : u'.running.job ≡ u.running.job
+  pub carried : u'.carried ≡ u.carried
+
+-- the job goes on after a round of steps
+pub record RoundGoesOn (l : Line) (u : UnderWay) (link : Shown) (l' : Line) (u' : UnderWay) (link' : Shown) (config : Config) (granted : Option Grant) : Type 0 where
+  pub moves : Moves (unread l) link (unread l') link'
+  pub fits : Fits l' u'
+  pub rose : Rose link.waits link'.waits
+  pub waited : u'.waited ≡ u.waited + 1
+  pub patient : u'.waited < config.polls
+  pub stood : (origin : Origin) (b w : List ℕ) → origin.config ≡ config → origin.granted ≡ granted → Stands origin l u b w
+      → Stands origin l' u' (b ++ moves.used) (w ++ moves.written) × HasMetNotYet origin (unread l') link' (b ++ moves.used) (w ++ moves.written)
+
+-- how a job is over
+pub record EndsBy (origin : Origin) (link link' : Shown) (l : Line) (u : UnderWay) (b written : List ℕ) (waited : ℕ) : Type 0 where
+  pub end : End
+  pub carried : List ℕ
+  pub next : (k : Config) → next_of k u.running ≡ ends end
+  pub carries : u.carried.octets ≡ carried
+  pub size : l.talk.size ≡ (course origin b).size
+  pub sequence : l.talk.sequence ≡ (course origin b).sequence
+  pub job : u.running.job ≡ origin.job
+  pub cause : IsDoneBy origin link link' (unread l) end carried b written (Some waited)
+
+-- the job is over after it
+pub record RoundEnds (l : Line) (u : UnderWay) (link : Shown) (l' : Line) (u' : UnderWay) (link' : Shown) (config : Config) (granted : Option Grant) : Type 0 where
+  pub moves : Moves (unread l) link (unread l') link'
+  pub over : IsOver u'.running.stage
+  pub left : LeavesOpen u'.running.stage → IsBetween l'
+  pub ends_by : (origin : Origin) (b w : List ℕ) → origin.config ≡ config → origin.granted ≡ granted → Stands origin l u b w
+      → EndsBy origin link link' l' u' (b ++ moves.used) (w ++ moves.written) u.waited
+
+abbrev pub Round : Line → UnderWay → Shown → Line → UnderWay → Shown → Config → Option Grant → Bool → Type 0
+Round l u link l' u' link' config granted true = RoundGoesOn l u link l' u' link' config granted
+Round l u link l' u' link' config granted false = RoundEnds l u link l' u' link' config granted
+
+-- a job of which nothing came yet
+pub record IsBlank (u : UnderWay) : Type 0 where
+  pub carried : u.carried.octets ≡ []
+  pub room : u.carried.room ≡ 8192
+  pub waited : u.waited ≡ 0

@@ -1,0 +1,209 @@
+-- What a client stands for while a job is under way, and what its polls do.
+use Rattle.std.specs.Prelude.{◌≡◌, ◌⊎◌, ℕ, ◌+◌, ◌-◌, ◌*◌, ◌<◌, ◌≤◌, false, List, [], ◌∷◌, ◌++◌, length, Option, Some, option_map, IsTrue}
+use Rattle.std.specs.Io.KnownBytes.{prepend_known, append_known, IsAtEnd}
+use Rattle.s7_outer.specs.Shown.{Shown}
+use Rattle.s7_outer.specs.Count.{Rose}
+use Rattle.s7_tpkt.specs.Packets.{HoldsRest, packets_of, state_of}
+use Rattle.s7_tpkt.specs.declared.state.FedState.TheVariants as fed
+use Rattle.s7_cotp.specs.Gathered.{is_fault}
+use Rattle.s7_wire.specs.Bounds.{limit_of_size}
+use Rattle.s7_client.specs.declared.config.Config.{Config}
+use Rattle.s7_client.specs.declared.grant.Grant.{Grant}
+use Rattle.s7_client.specs.declared.codes.TheConstants.{LINK_ENDED, SEND_FAILED, RECEIVE_FAILED}
+use Rattle.s7_client.specs.declared.line.Line.{Line}
+use Rattle.s7_client.specs.declared.under_way.UnderWay.{UnderWay}
+use Rattle.s7_client.specs.declared.steps.Step.{Step}
+use Rattle.s7_client.specs.declared.steps.Step.TheVariants as step
+use Rattle.s7_client.specs.Answer.{departed}
+use Rattle.s7_client.specs.Dialogue.{ends, End, fault_end, dialogue}
+use Rattle.s7_client.specs.Running.{next_of, IsOver, IsOpening}
+use Rattle.s7_client.specs.Course.{Origin, Awaits, for_confirm, for_answer, for_departure, for_nothing, begun, run, course, may_send, limits}
+use Rattle.s7_client.specs.At.{IsAt, IsClear, LeavesOpen, budget}
+
+abbrev pub unread : Line → List ℕ
+unread l = l.inbox
+
+abbrev pub unsent : Line → List ℕ
+unsent l = l.talk.outbox.unsent
+
+abbrev pub IsPrefixOf : List ℕ → List ℕ → Type 0
+IsPrefixOf front all = (rest : List ℕ) × (all ≡ front ++ rest)
+
+-- octets are awaited
+abbrev pub AwaitsOctets : Awaits → Type 0
+AwaitsOctets for_confirm = Unit {0}
+AwaitsOctets (for_answer question) = Unit {0}
+AwaitsOctets for_departure = ⊥
+AwaitsOctets (for_nothing end carried) = ⊥
+
+-- all that could be sent was transmitted before the next packet was used
+abbrev pub SentFirst : Origin → List ℕ → List ℕ → Type 0
+SentFirst origin b written =
+    (bodies more : List (List ℕ)) (body : List ℕ) → packets_of (limits origin) b ≡ bodies ++ body ∷ more
+    → IsPrefixOf (run origin (begun origin) bodies).out written
+
+-- each octet was used where octets were awaited, and so none behind those that ended the job
+abbrev pub AllAwaited : Origin → List ℕ → Type 0
+AllAwaited origin b = (front rest : List ℕ) → b ≡ front ++ rest → 0 < length rest → AwaitsOctets (course origin front).awaits
+
+-- The client stands for the octets that its job has used and those that it has transmitted: it stands at their place
+-- of the course, and what is still to be sent is what may be sent beyond what was transmitted.
+pub record Stands (origin : Origin) (l : Line) (u : UnderWay) (b written : List ℕ) : Type 0 where
+  pub at : IsAt origin (course origin b) l.talk u
+  pub owed : may_send origin b ≡ written ++ unsent l
+  pub rest : (IsOver u.running.stage → ⊥) → HoldsRest (limits origin) b l.cutter
+  pub sent_first : SentFirst origin b written
+  pub all_awaited : AllAwaited origin b
+
+-- a link between two messages
+pub record IsBetween (l : Line) : Type 0 where
+  pub held : l.cutter.held ≡ []
+  pub limit : l.cutter.limit ≡ limit_of_size l.talk.size
+  pub clear : IsClear l.talk.joiner
+  pub sent : unsent l ≡ []
+
+-- what holds of a line and its job, whatever the course
+pub record Fits (l : Line) (u : UnderWay) : Type 0 where
+  pub going : (IsOver u.running.stage → ⊥) → is_fault l.talk.joiner.state ≡ false
+  pub more : (IsOver u.running.stage → ⊥) → state_of l.cutter.limit l.cutter.held ≡ fed.More
+  pub limit : (IsOver u.running.stage → ⊥) → l.cutter.limit ≤ 8199
+  pub opening : IsOpening u.running.stage → IsClear l.talk.joiner
+  pub between : LeavesOpen u.running.stage → IsBetween l
+  pub many : (IsOver u.running.stage → ⊥) → l.talk.joiner.count ≤ 64
+  pub few : length (unsent l) ≤ 1016
+  pub quiet : IsOver u.running.stage → unsent l ≡ []
+  pub carried : u.carried.room ≡ 8192
+
+-- ---- why a job ends, with which end and which message that was no answer
+
+-- the octets used end it: every telegram was transmitted
+pub record IsByOctets (origin : Origin) (end : End) (carried b written : List ℕ) : Type 0 where
+  pub over : (course origin b).awaits ≡ for_nothing end carried
+  pub sent : written ≡ may_send origin b
+  pub all_awaited : AllAwaited origin b
+
+-- the disconnect request was transmitted
+pub record IsByDeparture (origin : Origin) (end : End) (carried b written : List ℕ) : Type 0 where
+  pub awaited : (course origin b).awaits ≡ for_departure
+  pub next : dialogue origin.job origin.config origin.granted ((course origin b).answers ++ departed ∷ []) ≡ ends end
+  pub none : carried ≡ []
+  pub sent : written ≡ may_send origin b
+  pub all_awaited : AllAwaited origin b
+
+-- all was sent, nothing that was read is unused, and octets are awaited
+pub record IsWaiting (origin : Origin) (kept b written : List ℕ) : Type 0 where
+  pub awaits : AwaitsOctets (course origin b).awaits
+  pub sent : written ≡ may_send origin b
+  pub none : kept ≡ []
+
+-- a fault that no message carries
+abbrev pub IsFault : ℕ → End → List ℕ → Type 0
+IsFault code end carried = (end ≡ fault_end code) × (carried ≡ [])
+
+-- the link ended where octets were awaited
+pub record IsByEnd (origin : Origin) (link' : Shown) (kept : List ℕ) (end : End) (carried b written : List ℕ) : Type 0 where
+  pub waiting : IsWaiting origin kept b written
+  pub at_end : IsAtEnd link'.left
+  pub has_ended : IsTrue link'.has_ended
+  pub fault : IsFault LINK_ENDED end carried
+
+-- the link failed at a receive
+pub record IsByReceive (origin : Origin) (link link' : Shown) (kept : List ℕ) (end : End) (carried b written : List ℕ) : Type 0 where
+  pub waiting : IsWaiting origin kept b written
+  pub rose : Rose link.faults link'.faults
+  pub fault : IsFault RECEIVE_FAILED end carried
+
+-- the link failed at a transmit
+pub record IsBySend (origin : Origin) (link link' : Shown) (end : End) (carried b written : List ℕ) : Type 0 where
+  pub rest : List ℕ
+  pub some : 0 < length rest
+  pub unsent : may_send origin b ≡ written ++ rest
+  pub sent_first : SentFirst origin b written
+  pub all_awaited : AllAwaited origin b
+  pub rose : Rose link.faults link'.faults
+  pub fault : IsFault SEND_FAILED end carried
+
+-- of these, by the octets that were read and are kept unused
+abbrev pub HasCause : Origin → Shown → Shown → List ℕ → End → List ℕ → List ℕ → List ℕ → Type 0
+HasCause origin link link' kept end carried b written =
+    IsByOctets origin end carried b written
+    ⊎ IsByDeparture origin end carried b written
+    ⊎ IsByEnd origin link' kept end carried b written
+    ⊎ IsByReceive origin link link' kept end carried b written
+    ⊎ IsBySend origin link link' end carried b written
+
+-- the job is over, and that has its cause
+pub record HasEnded (origin : Origin) (link link' : Shown) (l : Line) (u : UnderWay) (b written : List ℕ) : Type 0 where
+  pub end : End
+  pub carried : List ℕ
+  pub next : (k : Config) → next_of k u.running ≡ ends end
+  pub carries : u.carried.octets ≡ carried
+  -- what the link has of it
+  pub job : u.running.job ≡ origin.job
+  pub size : l.talk.size ≡ (course origin b).size
+  pub sequence : l.talk.sequence ≡ (course origin b).sequence
+  pub cause : HasCause origin link link' (unread l) end carried b written
+
+-- ---- steps of a poll
+
+-- What steps did to a link, and to the octets that were read and are kept unused, however many they were.
+pub record Moves (kept : List ℕ) (link : Shown) (kept' : List ℕ) (link' : Shown) : Type 0 where
+  -- the octets that came, those that were used and those that were written
+  pub received : List ℕ
+  pub used : List ℕ
+  pub written : List ℕ
+  pub took : link.left ≡ prepend_known received link'.left
+  pub wrote : link'.written ≡ append_known link.written written
+  pub inbox : kept ++ received ≡ used ++ kept'
+  pub faults : link.faults ≤ link'.faults
+  pub waits : link.waits ≤ link'.waits
+  pub moment : link'.moment ≡ link.moment
+  pub lent : link'.lent ≡ link.lent
+  pub space : link'.space ≡ option_map (λ space. space - length written) link.space
+
+-- The job has met not yet: where the link tells its space, there is none for what is still to be sent, or nothing is
+-- left on it.
+pub record HasMetNotYet (origin : Origin) (kept : List ℕ) (link : Shown) (b written : List ℕ) : Type 0 where
+  pub full : (rest : List ℕ) (space : ℕ) → may_send origin b ≡ written ++ rest → 0 < length rest → link.space ≡ Some space → space ≡ 0
+  pub empty : (space : ℕ) → may_send origin b ≡ written → link.space ≡ Some space → link.left ≡ Some []
+  -- where all was sent, octets are awaited and none is unused
+  pub waiting : may_send origin b ≡ written → IsWaiting origin kept b written
+
+-- The job isn't over there: what was transmitted is a front of what may be sent, and no answer was used before its
+-- telegram was transmitted.
+pub record IsUnderWay (origin : Origin) (b written : List ℕ) : Type 0 where
+  pub owed : IsPrefixOf written (may_send origin b)
+  pub sent_first : SentFirst origin b written
+  pub all_awaited : AllAwaited origin b
+  pub goes_on : (end : End) (carried : List ℕ) → (course origin b).awaits ≡ for_nothing end carried → ⊥
+
+-- how much a job can still do: octets to use, and then octets to send
+abbrev pub work : Line → UnderWay → ℕ
+work l u = budget u.running.stage l.talk.joiner.count (length l.cutter.held) * 2048 + length (unsent l)
+
+-- what one step comes to
+pub record IsStep (l : Line) (u : UnderWay) (link : Shown) (l' : Line) (u' : UnderWay) (link' : Shown) (config : Config) (granted : Option Grant) (result : Step) : Type 0 where
+  pub moves : Moves (unread l) link (unread l') link'
+  pub fits : (result ≡ step.Over → ⊥) → Fits l' u'
+  pub left : LeavesOpen u'.running.stage → IsBetween l'
+  pub waited : u'.waited ≡ u.waited
+  pub stood : (origin : Origin) (b w : List ℕ) → origin.config ≡ config → origin.granted ≡ granted → Stands origin l u b w
+      → (result ≡ step.Over → ⊥) → Stands origin l' u' (b ++ moves.used) (w ++ moves.written)
+  pub less : result ≡ step.Went → work l' u' < work l u
+  pub not_yet : result ≡ step.NotYet → Rose link.waits link'.waits
+  pub met : (origin : Origin) (b w : List ℕ) → origin.config ≡ config → origin.granted ≡ granted → Stands origin l u b w
+      → result ≡ step.NotYet → HasMetNotYet origin (unread l') link' (b ++ moves.used) (w ++ moves.written)
+  pub over : result ≡ step.Over → IsOver u'.running.stage
+  pub cause : (origin : Origin) (b w : List ℕ) → origin.config ≡ config → origin.granted ≡ granted → Stands origin l u b w
+      → result ≡ step.Over → HasEnded origin link link' l' u' (b ++ moves.used) (w ++ moves.written)
+
+-- what using octets that were read does, up to the end of one packet
+pub record Consumes (l : Line) (u : UnderWay) (l' : Line) (u' : UnderWay) (config : Config) (granted : Option Grant) : Type 0 where
+  pub used : List ℕ
+  pub some : 0 < length used
+  pub inbox : unread l ≡ used ++ unread l'
+  pub fits : Fits l' u'
+  pub waited : u'.waited ≡ u.waited
+  pub stood : (origin : Origin) (b w : List ℕ) → origin.config ≡ config → origin.granted ≡ granted → Stands origin l u b w
+      → Stands origin l' u' (b ++ used) w
+  pub less : work l' u' < work l u

@@ -1,0 +1,66 @@
+// The return codes of at most twenty items.
+ghost use Rattle.std.specs.Prelude.{◌≡◌, ℕ, ◌+◌, ◌<◌, ◌≤◌, [], ◌∷◌, ◌++◌, length, take, slice_index};
+
+use std::marker::Model;
+
+/// Return codes in order, at most twenty. Contracts see them as a list.
+#[derive(Drop)]
+pub(crate) struct Codes {
+    codes: [u8; 20],
+    len: u8,
+}
+
+impl Model for Codes {
+    ghost use Rattle.std.specs.Prelude.{◌≡◌, ◌≤◌, ℕ, List, take, slice_index};
+
+    ghost Value = { List ℕ };
+
+    ghost view = { λ c. take c.len c.codes };
+
+    ghost invariant = { λ c. (c.len ≤ 20) × ((k : ℕ) → c.len ≤ k → slice_index c.codes k ≡ 0) };
+}
+
+impl Codes {
+    /// No codes.
+    pub(crate) fn new() -> Codes
+        ensures { result ≡ [] }
+    {
+        Codes {
+            codes: [0; 20],
+            len: 0,
+        }
+    }
+
+    /// Adds a code at the end, where there are fewer than twenty.
+    pub(crate) fn push(&mut self, code: u8)
+        requires { length self.old < 20 }
+        ensures { self.new ≡ self.old ++ code ∷ [] }
+    {
+        self.codes[usize::from(self.len)] = code;
+        self.len += 1;
+    }
+
+    /// The codes in order.
+    pub(crate) fn as_slice(&self) -> &[u8]
+        ensures { result.now ≡ self.now }
+    {
+        &self.codes[..usize::from(self.len)]
+    }
+
+    /// How many codes there are.
+    pub(crate) fn len(&self) -> u8
+        ensures len { result ≡ length self.now }
+        ensures most { result ≤ 20 }
+    {
+        self.len
+    }
+
+    /// The codes in the first places, and 0 in the others.
+    pub(crate) fn places(&self) -> [u8; 20]
+        ensures codes { take (length self.now) result ≡ self.now }
+        ensures blank { (k : ℕ) → length self.now ≤ k → slice_index result k ≡ 0 }
+        ensures places { length result ≡ 20 }
+    {
+        self.codes
+    }
+}

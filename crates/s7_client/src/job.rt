@@ -1,0 +1,68 @@
+// What a client can be asked to do, and what comes of it.
+
+use crate::ItemList;
+use s7_item::Item;
+use s7_outer::Octets;
+
+/// What a client is asked to do.
+#[derive(Debug, Drop)]
+pub enum Job {
+    /// Connect and negotiate; on a connected client nothing.
+    Connect,
+    /// Read an item, in as many telegrams as it takes.
+    ReadArea { item: Item },
+    /// Write an item, in as many telegrams as it takes.
+    WriteArea { item: Item, octets: Octets },
+    /// Read at most twenty items, in as few telegrams as their order lets.
+    ReadMany { items: ItemList },
+    /// Write at most twenty items, with the octets of all of them joined.
+    WriteMany { items: ItemList, octets: Octets },
+    /// Tell the server that the link ends.
+    Disconnect,
+}
+
+/// What came of a job.
+#[derive(Debug, Drop)]
+pub struct JobResult {
+    /// The job.
+    pub job: Job,
+    /// 0, or the number of an error, one of the constants of the module `codes`.
+    pub code: u32,
+    /// The octets that were read, of several items those of each that was read, joined. None where
+    /// the code isn't 0.
+    pub octets: Octets,
+    /// The return codes of the items of `ReadMany` and `WriteMany`, in the first `count` places;
+    /// the other places are 0.
+    pub codes: [u8; 20],
+    /// How many return codes there are: none for other jobs, and none where the code isn't 0.
+    pub count: u8,
+    /// The message that is no answer, where the code is 00800000, and else no octets.
+    pub carried: Octets,
+}
+
+/// Why a job wasn't started.
+#[derive(Clone, Copy, Debug, PartialEq, Eq)]
+pub enum StartCause {
+    /// Another job is outstanding.
+    Pending,
+    /// There is no memory for it.
+    Memory,
+}
+
+/// A job that wasn't started, and why.
+#[derive(Debug, Drop)]
+pub struct StartFault {
+    pub cause: StartCause,
+    pub job: Job,
+}
+
+/// What a poll came to.
+#[derive(Debug, Drop)]
+pub enum Polled {
+    /// The job is done.
+    Done(JobResult),
+    /// The link had nothing to give, or no room, and the job goes on.
+    Pending,
+    /// No job is outstanding.
+    Idle,
+}

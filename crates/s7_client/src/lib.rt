@@ -1,0 +1,40 @@
+//! A client of S7 over ISO-on-TCP: jobs that are started and polled.
+#![tactic(auto)]
+
+mod answer;
+mod checks;
+mod client;
+pub mod codes;
+mod codes_list;
+mod collect;
+mod config;
+mod data_items;
+mod grant;
+mod item_list;
+mod job;
+mod laws;
+mod left;
+mod line;
+mod message;
+mod packets;
+mod polls;
+mod progress;
+mod refusals;
+mod running;
+mod runs;
+mod starting;
+mod steps;
+mod taking;
+mod talk;
+mod under_way;
+
+pub use client::Client;
+pub use config::Config;
+pub use item_list::ItemList;
+pub use job::{Job, JobResult, Polled, StartCause, StartFault};
+pub use laws::{ends_have_form, telegrams_fit};
+
+#[cfg(test)]
+mod client_tests;
+#[cfg(test)]
+mod tests;

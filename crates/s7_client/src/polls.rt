@@ -1,0 +1,316 @@
+// How jobs are started and polled.
+ghost use Rattle.std.specs.Prelude.{◌≡◌, ◌<◌, ◌≤◌, [], true, false, None, IsSome, IfOk, OnOk, IfErr, OnErr};
+ghost use Rattle.s7_client.specs.Polling.{IsFresh, IsStarted, IsPoll, job_of, granted_pdu, closed_of, IsNew, IsBlank, BeginsLine, Waits, Round, grant_after, closed_after};
+ghost use Rattle.s7_client.specs.At.{LeavesLink};
+ghost use Rattle.s7_client.specs.Running.{next_of, Follows, IsOver, IsResult};
+ghost use Rattle.s7_client.specs.Dialogue.{ends, End};
+ghost use Rattle.s7_client.specs.Course.{begins_anew};
+ghost use Rattle.s7_client.specs.Standing.{Fits, unsent};
+
+use crate::client::Client;
+use crate::codes::TIMED_OUT;
+use crate::config::Config;
+use crate::grant::{Grant, Leaves};
+use crate::job::{Job, JobResult, Polled, StartCause, StartFault};
+use crate::line::Line;
+use crate::running::Running;
+use crate::steps::{Step, packet_limit};
+use crate::talk::Talk;
+use crate::under_way::UnderWay;
+use s7_cotp::Joiner;
+use s7_outer::{Buffer, Link, Memory};
+use s7_tpkt::Cutter;
+use s7_wire::{Inbox, MOST_MESSAGE, Outbox};
+use std::alloc::Global;
+
+/// How many octets a message has at most.
+const MESSAGE: usize = 8_192;
+
+/// The TPDU size that is asked for.
+const ASKED_SIZE: u16 = 1_024;
+
+impl Client {
+    /// A client that isn't connected and has no job. The PDU is from 64 to 960, the jobs from 1 to
+    /// 8, the polls at least 1. `Memory` comes where there is none for its buffers.
+    pub fn new(alloc: Global, config: Config) -> Result<Client, Memory>
+        requires least_pdu { 64 ≤ config.pdu }
+        requires most_pdu { config.pdu ≤ 960 }
+        requires least_jobs { 1 ≤ config.jobs }
+        requires most_jobs { config.jobs ≤ 8 }
+        requires polls { 1 ≤ config.polls }
+        ensures { IfOk result (λ client. IsFresh client config) }
+    {
+        Ok(Client {
+            config,
+            granted: None,
+            is_closed: false,
+            line: Line::new(alloc)?,
+            job: None,
+        })
+    }
+
+    /// The longest telegram that was granted, in octets; `None` exactly while the client isn't
+    /// connected.
+    pub fn granted(&self) -> Option<u16>
+        ensures { result ≡ granted_pdu self.now }
+    {
+        match self.granted {
+            Some(grant) => Some(grant.pdu),
+            None => None,
+        }
+    }
+
+    /// Whether a code closed the client, and no connect was started since.
+    pub fn closed(&self) -> bool
+        ensures { result ≡ closed_of self.now }
+    {
+        self.is_closed
+    }
+
+    /// Starts a job. All memory of the job is taken here. `Pending` comes exactly while another job
+    /// is outstanding, `Memory` where there is none for it; both hand the job back and change
+    /// nothing.
+    pub fn start(&mut self, alloc: Global, job: Job) -> Result<(), StartFault>
+        ensures started { OnOk result (IsStarted self.old self.new job) }
+        ensures idle { OnOk result (job_of self.old ≡ None) }
+        ensures pending { IsSome (job_of self.old) → IfErr result (λ fault. fault.cause ≡ StartCause.Pending) }
+        ensures only_pending { IfErr result (λ fault. fault.cause ≡ StartCause.Pending → IsSome (job_of self.old)) }
+        ensures handed_back { IfErr result (λ fault. fault.job ≡ job) }
+        ensures unchanged { OnErr result (self.new ≡ self.old) }
+    {
+        if self.job.is_some() {
+            return Err(StartFault {
+                cause: StartCause::Pending,
+                job,
+            });
+        }
+        let anew = begins_anew(self.granted, &job);
+        let running = match Running::begin(alloc, &self.config, self.granted, job) {
+            Ok(running) => running,
+            Err(job) => return Err(wants_memory(job)),
+        };
+        let Ok(carried) = Buffer::new(alloc, MESSAGE) else {
+            return Err(wants_memory(running.job));
+        };
+        let job = UnderWay {
+            running,
+            carried,
+            waited: 0,
+        };
+        if anew {
+            let Ok(line) = Line::new(alloc) else {
+                return Err(wants_memory(job.running.job));
+            };
+            self.set_out_anew(line, job);
+            return Ok(());
+        }
+        if self.granted.is_some() {
+            self.set_out(job);
+            return Ok(());
+        }
+        self.turn_down(job);
+        Ok(())
+    }
+
+    // Sets out with a job on a client that is connected.
+    fn set_out(&mut self, job: UnderWay)
+        requires idle { self.old.job ≡ None }
+        requires connected { IsSome self.old.granted }
+        requires blank { IsBlank job }
+        requires follows { Follows job.running self.old.config self.old.granted [] }
+        ensures { IsStarted self.old self.new job.running.job }
+    {
+        self.line.begin(&job.running, &self.config);
+        self.job = Some(job);
+    }
+
+    // Sets out with a connect on a link that begins anew.
+    fn set_out_anew(&mut self, line: Line, job: UnderWay)
+        requires idle { self.old.job ≡ None }
+        requires anew { begins_anew self.old.granted job.running.job ≡ true }
+        requires line { IsNew line }
+        requires blank { IsBlank job }
+        requires follows { Follows job.running self.old.config self.old.granted [] }
+        ensures { IsStarted self.old self.new job.running.job }
+    {
+        self.line = line;
+        self.is_closed = false;
+        self.line.begin(&job.running, &self.config);
+        self.job = Some(job);
+    }
+
+    // Takes a job that is over at once, since the client isn't connected.
+    fn turn_down(&mut self, job: UnderWay)
+        requires idle { self.old.job ≡ None }
+        requires unconnected { self.old.granted ≡ None }
+        requires not_anew { begins_anew self.old.granted job.running.job ≡ false }
+        requires blank { IsBlank job }
+        requires follows { Follows job.running self.old.config self.old.granted [] }
+        ensures { IsStarted self.old self.new job.running.job }
+    {
+        self.job = Some(job);
+    }
+
+    /// Goes on with the job over the link until it is done or the link has nothing to give, or no
+    /// room, yet.
+    ///
+    /// All that may go out is sent before the next packet is used, and octets are received only
+    /// where all was sent and used. `Done` carries what the octets used make of the job, or a cause
+    /// by its code. `Pending` comes only where the link's `waits` rose in this poll, `Idle` exactly
+    /// where no job is outstanding.
+    pub fn poll<L: Link>(&mut self, link: &mut L) -> Polled
+        ensures { IsPoll self.old (L.shows link.old) self.new (L.shows link.new) result }
+    {
+        if self.job.is_none() {
+            return Polled::Idle;
+        }
+        let Some(job) = &mut self.job else {
+            unreachable!()
+        };
+        if self.line.round(job, &self.config, self.granted, link) {
+            return Polled::Pending;
+        }
+        let leaves = job.running.leaves();
+        self.granted = grant_after(leaves, self.granted);
+        self.is_closed = closed_after(leaves, self.is_closed);
+        let_go(&mut self.line.talk.outbox, leaves);
+        match self.job.take() {
+            Some(job) => Polled::Done(done(job)),
+            None => unreachable!(),
+        }
+    }
+}
+
+// What came of a job that is over.
+fn done(job: UnderWay) -> JobResult
+    requires { IsOver job.running.stage }
+    ensures { (config : _) (end : End) → next_of config job.running ≡ ends end → IsResult result job.running.job end job.carried.octets }
+{
+    let UnderWay {
+        running,
+        mut carried,
+        ..
+    } = job;
+    running.into_result(carried.take())
+}
+
+// Nothing is left to send on a link that doesn't go on.
+fn let_go(outbox: &mut Outbox, leaves: Leaves)
+    ensures kept { LeavesLink leaves → outbox.new ≡ outbox.old }
+    ensures cleared { (LeavesLink leaves → ⊥) → outbox.new.unsent ≡ [] }
+{
+    match leaves {
+        Leaves::AsItWas | Leaves::Connected(_) => {}
+        Leaves::Disconnected | Leaves::Closed => *outbox = Outbox::new(),
+    }
+}
+
+impl UnderWay {
+    // The link had nothing to give, or no room, once more. Says whether the job goes on, and else
+    // ends it.
+    fn wait(&mut self, polls: u32) -> bool
+        requires { self.old.waited < polls }
+        ensures { Waits self.old self.new polls result }
+    {
+        self.waited += 1;
+        if self.waited < polls {
+            return true;
+        }
+        self.running.fail(TIMED_OUT);
+        false
+    }
+}
+
+// What is granted after the end of a job.
+fn grant_after(leaves: Leaves, granted: Option<Grant>) -> Option<Grant>
+    ensures { result ≡ grant_after leaves granted }
+{
+    match leaves {
+        Leaves::AsItWas => granted,
+        Leaves::Connected(grant) => Some(grant),
+        Leaves::Disconnected | Leaves::Closed => None,
+    }
+}
+
+// Whether the client is closed after it.
+fn closed_after(leaves: Leaves, closed: bool) -> bool
+    ensures { result ≡ closed_after leaves closed }
+{
+    match leaves {
+        Leaves::AsItWas | Leaves::Disconnected => closed,
+        Leaves::Connected(_) => false,
+        Leaves::Closed => true,
+    }
+}
+
+impl Line {
+    // Goes on with a job until the link has nothing to give, or no room, or the job is over. Says
+    // whether the job goes on.
+    fn round<L: Link>(
+        &mut self,
+        job: &mut UnderWay,
+        config: &Config,
+        granted: Option<Grant>,
+        link: &mut L,
+    ) -> bool
+        requires fits { Fits self.old job.old }
+        requires pdu { config.now.pdu ≤ 960 }
+        requires waited { job.old.waited < config.now.polls }
+        ensures { Round self.old job.old (L.shows link.old) self.new job.new (L.shows link.new) config.now granted result }
+    {
+        match self.advance(job, config, granted, link) {
+            Step::NotYet => job.wait(config.polls),
+            Step::Over => false,
+            Step::Went => unreachable!(),
+        }
+    }
+
+    // A link that nothing moved on.
+    fn new(alloc: Global) -> Result<Line, Memory>
+        ensures { IfOk result IsNew }
+    {
+        Ok(Line {
+            cutter: Cutter::new(),
+            inbox: Inbox::new(),
+            talk: Talk {
+                joiner: Joiner::new(alloc, MESSAGE)?,
+                size: ASKED_SIZE,
+                sequence: 0,
+                message: Buffer::new(alloc, MOST_MESSAGE)?,
+                outbox: Outbox::new(),
+            },
+        })
+    }
+
+    // Puts the first telegram of a job, between two messages.
+    fn begin(&mut self, running: &Running, config: &Config)
+        requires sent { unsent self.old ≡ [] }
+        requires held { self.old.cutter.held ≡ [] }
+        ensures begins { BeginsLine self.old self.new running.now config.now }
+    {
+        self.talk.put_telegram(running, config);
+        self.cutter
+            .set_limit(packet_limit(&running.stage, self.talk.size));
+    }
+}
+
+// A job that there is no memory for.
+fn wants_memory(job: Job) -> StartFault
+    ensures cause { result.cause ≡ StartCause.Memory }
+    ensures job { result.job ≡ job }
+{
+    StartFault {
+        cause: StartCause::Memory,
+        job,
+    }
+}
+
+// A connect on a client that isn't connected begins the link anew.
+fn begins_anew(granted: Option<Grant>, job: &Job) -> bool
+    ensures { result ≡ begins_anew granted job.now }
+{
+    match (granted, job) {
+        (None, Job::Connect) => true,
+        _ => false,
+    }
+}

@@ -1,0 +1,161 @@
+// The steps of a poll.
+ghost use Rattle.std.specs.Prelude.{◌≡◌, ◌≢◌, ◌<◌, ◌≤◌, [], length};
+ghost use Rattle.s7_client.specs.At.{IsAwaiting, limit_at};
+ghost use Rattle.s7_client.specs.Standing.{Fits, IsStep, Consumes, unread, unsent};
+
+use crate::codes::{BAD_PACKET, LINK_ENDED, RECEIVE_FAILED, SEND_FAILED, TOO_LONG};
+use crate::config::Config;
+use crate::grant::Grant;
+use crate::line::Line;
+use crate::running::Stage;
+use crate::under_way::UnderWay;
+use s7_outer::{Got, Link, Sent};
+use s7_tpkt::FedState;
+use s7_wire::PIECE;
+
+/// The length that no packet passes before the confirm, and how much more than the TPDU size one may
+/// have after it.
+const FIRST_LIMIT: u16 = 8_199;
+
+const HEADERS: u16 = 7;
+
+/// What one step comes to.
+#[derive(Clone, Copy, Debug, PartialEq, Eq)]
+pub(crate) enum Step {
+    /// It moved octets or used some.
+    Went,
+    /// The link had nothing to give, or no room, yet.
+    NotYet,
+    /// The job is over.
+    Over,
+}
+
+impl Line {
+    /// Takes steps until the link has nothing to give, or no room, or the job is over.
+    pub(crate) fn advance<L: Link>(
+        &mut self,
+        job: &mut UnderWay,
+        config: &Config,
+        granted: Option<Grant>,
+        link: &mut L,
+    ) -> Step
+        requires fits { Fits self.old job.old }
+        requires pdu { config.now.pdu ≤ 960 }
+        ensures steps { IsStep self.old job.old (L.shows link.old) self.new job.new (L.shows link.new) config.now granted result }
+        ensures rests { result ≢ Step.Went }
+    {
+        loop {
+            match self.step(job, config, granted, link) {
+                Step::Went => {}
+                Step::NotYet => return Step::NotYet,
+                Step::Over => return Step::Over,
+            }
+        }
+    }
+
+    /// Sends what is left to send, or else uses octets that were read, or else receives and uses
+    /// octets, up to the end of one packet.
+    pub(crate) fn step<L: Link>(
+        &mut self,
+        job: &mut UnderWay,
+        config: &Config,
+        granted: Option<Grant>,
+        link: &mut L,
+    ) -> Step
+        requires fits { Fits self.old job.old }
+        requires pdu { config.now.pdu ≤ 960 }
+        ensures { IsStep self.old job.old (L.shows link.old) self.new job.new (L.shows link.new) config.now granted result }
+    {
+        if !self.talk.outbox.is_empty() {
+            return match self.talk.outbox.flush(link) {
+                Sent::Bytes(_) => Step::Went,
+                Sent::NotYet => Step::NotYet,
+                Sent::Failed => {
+                    job.running.fail(SEND_FAILED);
+                    Step::Over
+                }
+            };
+        }
+        match &job.running.stage {
+            Stage::Over { .. } => Step::Over,
+            Stage::Leaving => {
+                job.running.depart(config);
+                Step::Over
+            }
+            Stage::Opening => self.go_on(job, config, granted, link),
+            Stage::Asking { .. } => self.go_on(job, config, granted, link),
+        }
+    }
+
+    // Uses octets, where all was sent and octets are awaited.
+    fn go_on<L: Link>(
+        &mut self,
+        job: &mut UnderWay,
+        config: &Config,
+        granted: Option<Grant>,
+        link: &mut L,
+    ) -> Step
+        requires fits { Fits self.old job.old }
+        requires pdu { config.now.pdu ≤ 960 }
+        requires sent { unsent self.old ≡ [] }
+        requires awaiting { IsAwaiting job.old.running.stage }
+        ensures { IsStep self.old job.old (L.shows link.old) self.new job.new (L.shows link.new) config.now granted result }
+    {
+        if !self.inbox.is_empty() {
+            self.consume(job, config, granted);
+            return Step::Went;
+        }
+        match self.inbox.refill(link, PIECE) {
+            Got::Bytes(_) => {
+                self.consume(job, config, granted);
+                Step::Went
+            }
+            Got::NotYet => Step::NotYet,
+            Got::Failed => {
+                job.running.fail(RECEIVE_FAILED);
+                Step::Over
+            }
+            Got::End => {
+                job.running.fail(LINK_ENDED);
+                Step::Over
+            }
+        }
+    }
+
+    // Uses octets that were read, up to the end of one packet.
+    fn consume(&mut self, job: &mut UnderWay, config: &Config, granted: Option<Grant>)
+        requires fits { Fits self.old job.old }
+        requires pdu { config.now.pdu ≤ 960 }
+        requires sent { unsent self.old ≡ [] }
+        requires awaiting { IsAwaiting job.old.running.stage }
+        requires read { 0 < length (unread self.old) }
+        ensures { Consumes self.old job.old self.new job.new config.now granted }
+    {
+        let fed = self.cutter.feed(self.inbox.as_slice());
+        self.inbox.advance(fed.taken);
+        match fed.state {
+            FedState::More => {}
+            FedState::BadVersion | FedState::BadLength => job.running.fail(BAD_PACKET),
+            FedState::TooLong => job.running.fail(TOO_LONG),
+            FedState::Whole => {
+                self.talk.packet(job, config, granted, self.cutter.body());
+                self.cutter.clear();
+                self.cutter
+                    .set_limit(packet_limit(&job.running.stage, self.talk.size));
+            }
+        }
+    }
+}
+
+// The length that no packet passes.
+pub(crate) fn packet_limit(stage: &Stage, size: u16) -> u16
+    requires { size ≤ 8192 }
+    ensures limit { result ≡ limit_at stage.now size }
+    ensures least { 7 ≤ result }
+    ensures most { result ≤ 8199 }
+{
+    match stage {
+        Stage::Opening => FIRST_LIMIT,
+        Stage::Asking { .. } | Stage::Leaving | Stage::Over { .. } => size + HEADERS,
+    }
+}
