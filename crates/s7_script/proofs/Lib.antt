@@ -6,3 +6,7 @@ pub mod JoinLemmas
 pub mod LawLemmas
 pub mod SpellingLemmas
 pub mod LoadLemmas
+pub mod ScriptLemmas
+pub mod PartLemmas
+pub mod PrintLemmas
+pub mod FormLemmas

@@ -5,3 +5,7 @@ pub mod Spelling
 pub mod Shown
 pub mod Naming
 pub mod Loading
+pub mod Script
+pub mod ScriptShown
+pub mod Printing
+pub mod Laws

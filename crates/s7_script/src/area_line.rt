@@ -30,7 +30,7 @@ pub(crate) fn area_line(line: u32, text: &[u8]) -> Result<(AreaKey, u64), AreasF
 }
 
 /// The code of the area of this name.
-fn area_named(name: &[u8]) -> Option<u8>
+pub(crate) fn area_named(name: &[u8]) -> Option<u8>
     ensures { result ≡ area_named name.now }
 {
     if name == b"PE".as_slice() {

@@ -1,18 +1,35 @@
-//! Area files: texts that name areas and their octets.
+//! Area files, texts that name areas and their octets, and scripts, texts that name jobs.
 #![tactic(auto)]
 
 mod area_line;
 mod fault;
+mod item_text;
+mod laws;
 mod lines;
 mod load;
 mod opening;
+mod print;
 mod read;
+mod reading;
+mod script_fault;
+mod script_line;
+mod script_list;
 mod write;
+mod written;
 
 pub use fault::{AreasFault, AreasKind};
+pub use laws::ends_print;
 pub use load::{LoadFault, load_areas};
+pub use print::print_result;
 pub use read::read_areas;
+pub use reading::read_script;
+pub use script_fault::{ScriptFault, ScriptKind};
+pub use script_list::{Script, ScriptLine};
 pub use write::write_areas;
 
+#[cfg(test)]
+mod print_tests;
+#[cfg(test)]
+mod script_tests;
 #[cfg(test)]
 mod tests;

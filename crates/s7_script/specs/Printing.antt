@@ -1,0 +1,80 @@
+-- The line that is printed for what came of a job.
+use Rattle.std.specs.Prelude.{◌≡◌, ◌≢◌, ℕ, ◌==◌, ◌≤◌, ◌/◌, ◌%◌, List, [], ◌∷◌, ◌++◌, length, map, take, drop, codes, if◌then◌else◌}
+use Rattle.std.specs.List.{flat_map}
+use Rattle.std.specs.Fmt.{decimal}
+use Rattle.hex.specs.Hex.{encode_lower, encode_upper}
+use Rattle.s7_item.specs.declared.item.Item.{Item}
+use Rattle.s7_client.specs.declared.job.Job.{Job}
+use Rattle.s7_client.specs.declared.job.Job.TheVariants as job
+use Rattle.s7_client.specs.declared.job.JobResult.{JobResult}
+use Rattle.s7_client.specs.Form.{count_read, octets_read}
+use Rattle.s7_script.specs.Lines.{Text}
+
+-- the word of a job
+abbrev pub word_of : Job → Text
+word_of job.Connect = codes "connect"
+word_of (job.ReadArea item) = codes "read"
+word_of (job.WriteArea item octets) = codes "write"
+word_of (job.ReadMany items) = codes "readmany"
+word_of (job.WriteMany items octets) = codes "writemany"
+word_of job.Disconnect = codes "disconnect"
+
+-- a number below 4,294,967,296 in four octets
+abbrev pub four_octets : ℕ → List ℕ
+four_octets n = n / 16777216 ∷ n / 65536 % 256 ∷ n / 256 % 256 ∷ n % 256 ∷ []
+
+-- two digits
+abbrev pub code_text : ℕ → Text
+code_text code = encode_upper (code ∷ [])
+
+-- of each item its code, a colon and its octets
+unfoldable pub read_values : List Item → List ℕ → List ℕ → List Text
+read_values [] cs octets = []
+read_values (item ∷ items) [] octets = []
+read_values (item ∷ items) (code ∷ cs) octets =
+    (code_text code ++ 58 ∷ encode_lower (take (count_read item code) octets))
+    ∷ read_values items cs (drop (count_read item code) octets)
+
+abbrev pub octets_value : List ℕ → List Text
+octets_value [] = []
+octets_value (b ∷ bs) = encode_lower (b ∷ bs) ∷ []
+
+abbrev pub codes_of : JobResult → List ℕ
+codes_of r = take r.count r.codes
+
+abbrev pub job_values : JobResult → Job → List Text
+job_values r job.Connect = []
+job_values r (job.ReadArea item) = octets_value r.octets
+job_values r (job.WriteArea item octets) = []
+job_values r (job.ReadMany items) = read_values items (codes_of r) r.octets
+job_values r (job.WriteMany items octets) = map code_text (codes_of r)
+job_values r job.Disconnect = []
+
+-- there are values only where the job came off
+abbrev pub values : JobResult → List Text
+values r = if r.code == 0 then job_values r r.job else []
+
+abbrev pub spaced : Text → Text
+spaced value = 32 ∷ value
+
+abbrev pub or_dash : Text → Text
+or_dash [] = codes " -"
+or_dash (b ∷ bs) = b ∷ bs
+
+-- each value after a space, and `-` where there is none
+abbrev pub values_text : List Text → Text
+values_text vs = or_dash (flat_map spaced vs)
+
+-- line, word, code and values
+abbrev pub print : ℕ → JobResult → Text
+print line r =
+    decimal line ++ 32 ∷ word_of r.job ++ 32 ∷ encode_upper (four_octets r.code) ++ values_text (values r) ++ 10 ∷ []
+
+-- of several items there are as many codes as items, and the octets of those that were read
+abbrev pub IsPrintableOf : JobResult → Job → Type 0
+IsPrintableOf r (job.ReadMany items) = (r.count ≤ 20) × (r.count ≡ length items) × (length r.octets ≡ octets_read items (codes_of r))
+IsPrintableOf r (job.WriteMany items octets) = (r.count ≤ 20) × (r.count ≡ length items)
+IsPrintableOf r _ = r.count ≡ 0
+
+abbrev pub IsPrintable : JobResult → Type 0
+IsPrintable r = (r.code ≡ 0 → IsPrintableOf r r.job) × (r.code ≢ 0 → r.count ≡ 0)

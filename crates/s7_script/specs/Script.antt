@@ -1,0 +1,288 @@
+-- What a script says: its jobs line by line, or the first faulty line.
+use Rattle.std.specs.Prelude.{ℕ, Bool, ◌≡◌, ◌==◌, ◌&&◌, ◌+◌, ◌*◌, ◌/◌, ◌%◌, ◌||◌, nat_le, List, [], ◌∷◌, ◌++◌, length, take, drop, codes, unwrap_or, Option, Some, None, Result, Ok, Err, if◌then◌else◌}
+use Rattle.std.specs.List.{position}
+use Rattle.std.specs.Str.{bytes_eq}
+use Rattle.hex.specs.Hex.{decode_of}
+use Rattle.hex.specs.declared.error.FromHexError.{FromHexError}
+use Rattle.s7_area.specs.declared.key.AreaKey.{AreaKey}
+use Rattle.s7_item.specs.Word.{size_of}
+use Rattle.s7_item.specs.declared.item.Item.{Item}
+use Rattle.s7_client.specs.declared.job.Job.{Job}
+use Rattle.s7_client.specs.declared.job.Job.TheVariants as job
+use Rattle.s7_script.specs.Lines.{Text, lines, with_first}
+use Rattle.s7_script.specs.Fields.{is_space, first_field, fields_after, number_of}
+use Rattle.s7_script.specs.Reading.{area_named, is_passed, next_line}
+use Rattle.s7_script.specs.declared.script_list.ScriptLine.{ScriptLine}
+use Rattle.s7_script.specs.declared.script_fault.ScriptFault.{ScriptFault}
+use Rattle.s7_script.specs.declared.script_fault.ScriptKind.{ScriptKind}
+use Rattle.s7_script.specs.declared.script_fault.ScriptKind.TheVariants as kind
+
+infixl 10 ◌>>=◌
+abbrev pub ◌>>=◌ : {A B E : Type 0} → Result A E → (A → Result B E) → Result B E
+(Ok x) >>= f = f x
+(Err e) >>= f = Err e
+
+-- ---- fields, of which the first wrong one from the left decides
+
+abbrev pub field_of : Text → Text
+field_of text = first_field text (position is_space text)
+
+abbrev pub rest_of : Text → Option Text
+rest_of text = fields_after text (position is_space text)
+
+-- a number in a range
+abbrev pub within : ℕ → ℕ → Option ℕ → Result ℕ ScriptKind
+within low high None = Err kind.Number
+within low high (Some n) = if nat_le low n && nat_le n high then Ok n else Err kind.Number
+
+-- there are no more fields
+abbrev pub ended : {A : Type 0} → A → Option Text → Result A ScriptKind
+ended x None = Ok x
+ended x (Some rest) = Err kind.Fields
+
+-- an area that is there once
+abbrev pub named_key : Option ℕ → Result AreaKey ScriptKind
+named_key None = Err kind.Word
+named_key (Some area) = Ok (record { area = area; number = 0 })
+
+-- the letters of a data block are followed by its number
+abbrev pub key_of : Text → Result AreaKey ScriptKind
+key_of field =
+    if bytes_eq (take 2 field) (codes "DB")
+    then (do
+      number ← within 1 65535 (number_of (drop 2 field))
+      Ok (record { area = 0x84; number = number }))
+    else named_key (area_named field)
+
+-- the code of the word of this name
+abbrev pub word_named : Text → Option ℕ
+word_named name =
+    if bytes_eq name (codes "bit") then Some 0x01
+    else (if bytes_eq name (codes "byte") then Some 0x02
+    else (if bytes_eq name (codes "char") then Some 0x03
+    else (if bytes_eq name (codes "word") then Some 0x04
+    else (if bytes_eq name (codes "int") then Some 0x05
+    else (if bytes_eq name (codes "dword") then Some 0x06
+    else (if bytes_eq name (codes "dint") then Some 0x07
+    else (if bytes_eq name (codes "real") then Some 0x08
+    else (if bytes_eq name (codes "counter") then Some 0x1C
+    else (if bytes_eq name (codes "timer") then Some 0x1D
+    else None)))))))))
+
+abbrev pub word_of : Option ℕ → Result ℕ ScriptKind
+word_of None = Err kind.Word
+word_of (Some word) = Ok word
+
+abbrev pub is_point : ℕ → Bool
+is_point b = b == 46
+
+-- octet and bit, with a point between them
+abbrev pub bit_place : Text → Option ℕ → Result ℕ ScriptKind
+bit_place field None = Err kind.Number
+bit_place field (Some point) = do
+  octet ← within 0 2097151 (number_of (take point field))
+  bit ← within 0 7 (number_of (drop (point + 1) field))
+  Ok (octet * 8 + bit)
+
+abbrev pub octet_place : Text → Result ℕ ScriptKind
+octet_place field = do
+  octet ← within 0 2097151 (number_of field)
+  Ok (octet * 8)
+
+-- the address that a start names: counters and timers have numbers
+abbrev pub address_of : AreaKey → ℕ → Text → Result ℕ ScriptKind
+address_of key word field =
+    if key.area == 0x1C || key.area == 0x1D then within 0 16777215 (number_of field)
+    else (if word == 0x01 then bit_place field (position is_point field)
+    else octet_place field)
+
+-- ---- items
+
+-- where an item lies, and the fields that follow
+pub record Place : Type 0 where
+  pub key : AreaKey
+  pub word : ℕ
+  pub address : ℕ
+  pub rest : Option Text
+
+abbrev pub with_start : AreaKey → ℕ → Option Text → Result Place ScriptKind
+with_start key word None = Err kind.Fields
+with_start key word (Some text) = do
+  address ← address_of key word (field_of text)
+  Ok (record { key = key; word = word; address = address; rest = rest_of text })
+
+abbrev pub with_word : AreaKey → Option Text → Result Place ScriptKind
+with_word key None = Err kind.Fields
+with_word key (Some text) = do
+  word ← word_of (word_named (field_of text))
+  with_start key word (rest_of text)
+
+-- KEY WORD START
+abbrev pub place : Text → Result Place ScriptKind
+place text = do
+  key ← key_of (field_of text)
+  with_word key (rest_of text)
+
+abbrev pub item_at : Place → ℕ → Item
+item_at p count = record {
+  area = p.key.area;
+  db = p.key.number;
+  word = p.word;
+  count = count;
+  address = p.address;
+}
+
+abbrev pub with_count : Place → Option Text → Result Item ScriptKind
+with_count p None = Err kind.Fields
+with_count p (Some text) = do
+  count ← within 0 65535 (number_of (field_of text))
+  ended (item_at p count) (rest_of text)
+
+-- KEY WORD START COUNT
+abbrev pub read_item : Text → Result Item ScriptKind
+read_item text = do
+  p ← place text
+  with_count p p.rest
+
+-- how many octets an element of the word has
+abbrev pub element_size : ℕ → ℕ
+element_size word = unwrap_or (size_of word) 1
+
+-- as many elements as the octets make
+abbrev pub counted : Place → ℕ → Result Item ScriptKind
+counted p octets =
+    if octets % element_size p.word == 0
+    then (if nat_le (octets / element_size p.word) 65535
+    then Ok (item_at p (octets / element_size p.word))
+    else Err kind.Number)
+    else Err kind.Fields
+
+-- an item to be written, and its octets
+abbrev pub Written : Type 0
+Written = Item × List ℕ
+
+abbrev pub with_octets : Place → Option Text → Result (List ℕ) FromHexError → Result Written ScriptKind
+with_octets p rest (Err e) = Err kind.Digits
+with_octets p rest (Ok octets) = do
+  item ← counted p (length octets)
+  ended (item, octets) rest
+
+-- an even number of hexadecimal digits, at least two
+abbrev pub with_digits : Place → Text → Option Text → Result Written ScriptKind
+with_digits p field rest =
+    if length field == 0 then Err kind.Digits else with_octets p rest (decode_of field)
+
+abbrev pub with_hex : Place → Option Text → Result Written ScriptKind
+with_hex p None = Err kind.Fields
+with_hex p (Some text) = with_digits p (field_of text) (rest_of text)
+
+-- KEY WORD START HEX
+abbrev pub written_item : Text → Result Written ScriptKind
+written_item text = do
+  p ← place text
+  with_hex p p.rest
+
+-- ---- several items
+
+-- the parts of a text between ` ; ` and ` ; `
+unfoldable pub parts : Text → List Text
+parts [] = [] ∷ []
+parts (a ∷ []) = (a ∷ []) ∷ []
+parts (a ∷ b ∷ []) = (a ∷ b ∷ []) ∷ []
+parts (a ∷ b ∷ c ∷ rest) =
+    if bytes_eq (codes " ; ") (a ∷ b ∷ c ∷ []) then [] ∷ parts rest
+    else with_first a (parts (b ∷ c ∷ rest))
+
+-- the items that these texts name, or the fault of the first wrong one
+unfoldable pub read_items : List Text → Result (List Item) ScriptKind
+read_items [] = Ok []
+read_items (part ∷ rest) = do
+  item ← read_item part
+  items ← read_items rest
+  Ok (item ∷ items)
+
+-- the same with their octets joined
+unfoldable pub written_items : List Text → Result (List Item × List ℕ) ScriptKind
+written_items [] = Ok ([], [])
+written_items (part ∷ rest) = do
+  first ← written_item part
+  others ← written_items rest
+  Ok (first.0 ∷ others.0, first.1 ++ others.1)
+
+-- ---- jobs
+
+abbrev pub read_job : Option Text → Result Job ScriptKind
+read_job None = Err kind.Fields
+read_job (Some text) = do
+  item ← read_item text
+  Ok (job.ReadArea item)
+
+abbrev pub write_job : Option Text → Result Job ScriptKind
+write_job None = Err kind.Fields
+write_job (Some text) = do
+  written ← written_item text
+  Ok (job.WriteArea written.0 written.1)
+
+abbrev pub read_many_job : Option Text → Result Job ScriptKind
+read_many_job None = Err kind.Fields
+read_many_job (Some text) = do
+  items ← read_items (parts text)
+  Ok (job.ReadMany items)
+
+abbrev pub write_many_job : Option Text → Result Job ScriptKind
+write_many_job None = Err kind.Fields
+write_many_job (Some text) = do
+  written ← written_items (parts text)
+  Ok (job.WriteMany written.0 written.1)
+
+abbrev pub job_named : Text → Option Text → Result Job ScriptKind
+job_named name rest =
+    if bytes_eq name (codes "read") then read_job rest
+    else (if bytes_eq name (codes "write") then write_job rest
+    else (if bytes_eq name (codes "readmany") then read_many_job rest
+    else (if bytes_eq name (codes "writemany") then write_many_job rest
+    else Err kind.Word)))
+
+-- the job that a line names
+abbrev pub job_of : Text → Result Job ScriptKind
+job_of text = job_named (field_of text) (rest_of text)
+
+-- ---- the lines in order
+
+abbrev pub at_line : ℕ → Result Job ScriptKind → Result (List ScriptLine) ScriptFault
+at_line line (Ok job) = Ok (record { line = line; job = job } ∷ [])
+at_line line (Err kind) = Err (record { line = line; kind = kind })
+
+-- empty lines and comments have no job, every other line has one
+abbrev pub line_jobs : ℕ → Text → Result (List ScriptLine) ScriptFault
+line_jobs line text = if is_passed text then Ok [] else at_line line (job_of text)
+
+-- the lines from this number on
+unfoldable pub script_lines : ℕ → List Text → Result (List ScriptLine) ScriptFault
+script_lines line [] = Ok []
+script_lines line (text ∷ rest) = do
+  jobs ← line_jobs line text
+  more ← script_lines (next_line line) rest
+  Ok (jobs ++ more)
+
+-- the jobs that a script names, or its first faulty line
+abbrev pub script : Text → Result (List ScriptLine) ScriptFault
+script text = script_lines 1 (lines text)
+
+-- ---- what a call returned is this, unless memory ran out
+
+abbrev pub FailsAs : {Y : Type 0} → ScriptKind → Result Y ScriptKind → Type 0
+FailsAs kind.Memory told = Unit {0}
+FailsAs e told = told ≡ Err e
+
+abbrev pub Gives : {X Y : Type 0} → (X → Y) → Result X ScriptKind → Result Y ScriptKind → Type 0
+Gives view (Ok x) told = told ≡ Ok (view x)
+Gives view (Err e) told = FailsAs e told
+
+abbrev pub LineFails : {Y : Type 0} → ScriptFault → ScriptKind → Result Y ScriptFault → Type 0
+LineFails e kind.Memory told = Unit {0}
+LineFails e _ told = told ≡ Err e
+
+abbrev pub GivesScript : {X Y : Type 0} → (X → Y) → Result X ScriptFault → Result Y ScriptFault → Type 0
+GivesScript view (Ok x) told = told ≡ Ok (view x)
+GivesScript view (Err e) told = LineFails e e.kind told

@@ -1,0 +1,172 @@
+// Printing what came of jobs.
+ghost use Rattle.std.specs.Prelude.{◌≡◌, ◌≤◌, ◌+◌, ◌∷◌, ◌++◌, [], OnOk, IfOk, length, map};
+ghost use Rattle.std.specs.List.{flat_map};
+ghost use Rattle.std.specs.Fmt.{decimal};
+ghost use Rattle.hex.specs.Hex.{encode_lower, encode_upper};
+ghost use Rattle.s7_client.specs.Form.{count_read, octets_read};
+ghost use Rattle.s7_script.specs.Printing.{IsPrintable, IsPrintableOf, code_text, four_octets, job_values, octets_value, print, read_values, spaced, values, values_text, word_of};
+
+use s7_client::{Job, JobResult};
+use s7_item::Item;
+use s7_outer::{Memory, Octets};
+use std::alloc::Global;
+
+/// The return code of an item that was read.
+const GOOD: u8 = 0xFF;
+
+/// The line that tells what came of the job of a line: the line's number, the job's word, its code in
+/// eight upper-case hexadecimal digits, and the value, with one space between them and LF at the end.
+///
+/// The value of `read` is its octets in lower case. That of `readmany` is of each item its code in
+/// two upper-case digits, a colon, and its octets where the code is FF; that of `writemany` the
+/// codes; with one space between two. The value is `-` where there is none, as after `connect`,
+/// `write` and `disconnect` and where the code isn't 0. `Memory` comes where there is none.
+pub fn print_result(alloc: Global, line: u32, done: &JobResult) -> Result<Octets, Memory>
+    requires { IsPrintable done.now }
+    ensures { IfOk result (λ text. text ≡ print line done.now) }
+{
+    let mut text = Vec::new(alloc);
+    add_head(alloc, &mut text, line, done)?;
+    let values = values_text(alloc, done)?;
+    if values.is_empty() {
+        text.extend_from_slice(b" -")?;
+    } else {
+        text.extend_from_slice(values.as_slice())?;
+    }
+    text.extend_from_slice(b"\n")?;
+    Ok(Octets::of_vec(text))
+}
+
+/// Adds the line's number, the job's word and the code.
+fn add_head(alloc: Global, text: &mut Vec<u8>, line: u32, done: &JobResult) -> Result<(), Memory>
+    ensures { OnOk result (text.new.items ≡ text.old.items
+        ++ (decimal line ++ 32 ∷ word_of done.now.job ++ 32 ∷ encode_upper (four_octets done.now.code))) }
+{
+    let word = word_of(&done.job);
+    let head = format!(in alloc; "{line} {word} ")?;
+    let code = hex::encode_upper(alloc, four_octets(done.code).as_slice())?;
+    text.extend_from_slice(head.as_bytes())?;
+    text.extend_from_slice(code.as_bytes())?;
+    Ok(())
+}
+
+fn word_of(job: &Job) -> &'static str
+    ensures { result.now ≡ word_of job.now }
+{
+    match job {
+        Job::Connect => "connect",
+        Job::ReadArea { .. } => "read",
+        Job::WriteArea { .. } => "write",
+        Job::ReadMany { .. } => "readmany",
+        Job::WriteMany { .. } => "writemany",
+        Job::Disconnect => "disconnect",
+    }
+}
+
+fn four_octets(n: u32) -> [u8; 4]
+    ensures { result ≡ four_octets n }
+{
+    n.to_be_bytes()
+}
+
+/// The values, each after a space.
+fn values_text(alloc: Global, done: &JobResult) -> Result<Vec<u8>, Memory>
+    requires { IsPrintable done.now }
+    ensures { IfOk result (λ text. text.items ≡ flat_map spaced (values done.now)) }
+{
+    let mut text = Vec::new(alloc);
+    if done.code == 0 {
+        add_job_values(alloc, &mut text, done)?;
+    }
+    Ok(text)
+}
+
+/// Adds the values of a job that came off.
+fn add_job_values(alloc: Global, text: &mut Vec<u8>, done: &JobResult) -> Result<(), Memory>
+    requires { IsPrintableOf done.now done.now.job }
+    ensures { OnOk result (text.new.items
+        ≡ text.old.items ++ flat_map spaced (job_values done.now done.now.job)) }
+{
+    match &done.job {
+        Job::ReadArea { .. } => add_octets(alloc, text, done.octets.as_slice()),
+        Job::ReadMany { items } => {
+            let codes = &done.codes[..usize::from(done.count)];
+            add_items(alloc, text, items.as_slice(), codes, done.octets.as_slice())
+        }
+        Job::WriteMany { .. } => add_codes(alloc, text, &done.codes[..usize::from(done.count)]),
+        Job::Connect | Job::WriteArea { .. } | Job::Disconnect => Ok(()),
+    }
+}
+
+/// Adds octets, where there are any.
+fn add_octets(alloc: Global, text: &mut Vec<u8>, octets: &[u8]) -> Result<(), Memory>
+    ensures { OnOk result (text.new.items ≡ text.old.items ++ flat_map spaced (octets_value octets.now)) }
+{
+    if octets.is_empty() {
+        return Ok(());
+    }
+    let digits = hex::encode(alloc, octets)?;
+    text.extend_from_slice(b" ")?;
+    text.extend_from_slice(digits.as_bytes())?;
+    Ok(())
+}
+
+/// Adds codes.
+fn add_codes(alloc: Global, text: &mut Vec<u8>, codes: &[u8]) -> Result<(), Memory>
+    ensures { OnOk result (text.new.items ≡ text.old.items ++ flat_map spaced (map code_text codes.now)) }
+{
+    for code in codes {
+        add_code(alloc, text, *code)?;
+    }
+    Ok(())
+}
+
+fn add_code(alloc: Global, text: &mut Vec<u8>, code: u8) -> Result<(), Memory>
+    ensures { OnOk result (text.new.items ≡ text.old.items ++ spaced (code_text code)) }
+{
+    let digits = hex::encode_upper(alloc, [code].as_slice())?;
+    text.extend_from_slice(b" ")?;
+    text.extend_from_slice(digits.as_bytes())?;
+    Ok(())
+}
+
+/// Adds the codes of items and the octets of those that were read.
+fn add_items(
+    alloc: Global,
+    text: &mut Vec<u8>,
+    items: &[Item],
+    codes: &[u8],
+    octets: &[u8],
+) -> Result<(), Memory>
+    requires codes { length codes.now ≡ length items.now }
+    requires octets { length octets.now ≡ octets_read items.now codes.now }
+    ensures { OnOk result (text.new.items
+        ≡ text.old.items ++ flat_map spaced (read_values items.now codes.now octets.now)) }
+{
+    let mut rest = octets;
+    for (k, item) in items.iter().enumerate() {
+        let (own, after) = rest.split_at(count_read(item, codes[k]));
+        add_item(alloc, text, codes[k], own)?;
+        rest = after;
+    }
+    Ok(())
+}
+
+/// How many octets an item with this code has.
+fn count_read(item: &Item, code: u8) -> usize
+    ensures { result ≡ count_read item.now code }
+{
+    if code == GOOD { item.octet_count() } else { 0 }
+}
+
+/// Adds an item's code and octets.
+fn add_item(alloc: Global, text: &mut Vec<u8>, code: u8, octets: &[u8]) -> Result<(), Memory>
+    ensures { OnOk result (text.new.items
+        ≡ text.old.items ++ spaced (code_text code ++ 58 ∷ encode_lower octets.now)) }
+{
+    add_code(alloc, text, code)?;
+    let digits = hex::encode(alloc, octets)?;
+    text.extend_from_slice(b":")?;
+    text.extend_from_slice(digits.as_bytes())?;
+    Ok(())
+}

@@ -1,0 +1,32 @@
+//! What is wrong in a script.
+use thiserror::Error;
+
+/// What is wrong with a line.
+#[derive(Clone, Copy, Debug, PartialEq, Eq, Error)]
+pub enum ScriptKind {
+    /// The first word, an area or the word of an item isn't known.
+    #[error("no such word")]
+    Word,
+    /// A field isn't a decimal number of at most ten digits, or is outside its range; or a written
+    /// item has more than 65,535 elements.
+    #[error("no number for this field")]
+    Number,
+    /// The octets aren't an even number of hexadecimal digits, at least two.
+    #[error("no hexadecimal digits")]
+    Digits,
+    /// A field is missing or too many, or the octets of a written item are no whole number of
+    /// elements.
+    #[error("a field is missing or too many")]
+    Fields,
+    /// There is no memory.
+    #[error("out of memory")]
+    Memory,
+}
+
+/// The first wrong line of a script, and what is wrong with it. Lines are numbered from 1, and those
+/// after line 4,294,967,295 have its number too.
+#[derive(Clone, Copy, Debug, PartialEq, Eq)]
+pub struct ScriptFault {
+    pub line: u32,
+    pub kind: ScriptKind,
+}
