@@ -1,0 +1,4 @@
+pub mod Loading
+pub mod Ran
+pub mod Report
+pub mod Run
