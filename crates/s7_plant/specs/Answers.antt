@@ -1,13 +1,15 @@
 -- What a plant answers to a request, and the memory that it leaves (Snap7 1.4 reference manual,
 -- `Cli_ReadMultiVars` and `Cli_WriteMultiVars`).
-use Rattle.std.specs.Prelude.{ℕ, ◌+◌, Bool, List, [], ◌∷◌, length, map}
+use Rattle.std.specs.Prelude.{◌≡◌, ℕ, ◌+◌, ◌≤◌, Bool, List, [], ◌∷◌, length, map}
 use Rattle.s7_item.specs.DataItem.{DataItem, padding_of, data_octets, octets_at}
 use Rattle.s7_item.specs.declared.item.Item.{Item}
 use Rattle.s7_item.specs.declared.places.DataPlace.{DataPlace}
 use Rattle.s7_area.specs.Memory.{Memory, read_code, read_octets, write_code, written}
 use Rattle.s7_plant.specs.declared.request.Request.{Request}
 use Rattle.s7_plant.specs.declared.request.Request.TheVariants.{Read, Write}
-use Rattle.s7_plant.specs.Replies.{Said, said}
+use Rattle.s7_plant.specs.declared.reply.Reply.{Reply}
+use Rattle.s7_plant.specs.Requests.{full_size}
+use Rattle.s7_plant.specs.Replies.{Said, said, said_of}
 
 -- the data item that answers the read of an item
 abbrev pub read_item : Memory → Item → DataItem
@@ -43,3 +45,9 @@ answer_of m (Write items places octets) =
 abbrev pub after : Memory → Request → Memory
 after m (Read items) = m
 after m (Write items places octets) = write_all m items places octets
+
+-- The reply is the one that this memory gives to the request, and the answer that is made of it has
+-- at most its full size.
+pub record IsReplyOf (m : Memory) (r : Request) (reply : Reply) : Type 0 where
+  pub said : said_of reply ≡ answer_of m r
+  pub fits : 12 + length reply.params.octets + length reply.body.octets ≤ full_size r

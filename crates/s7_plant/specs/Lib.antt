@@ -2,3 +2,4 @@ pub mod Requests
 pub mod Replies
 pub mod Answers
 pub mod Histories
+pub mod Journals

@@ -1,17 +1,24 @@
-//! The plant: what clients ask of it, what it answers, and how its areas go on.
+//! The plant: what clients ask of it, what it answers, and how its areas go on; and the book, which
+//! is a plant with the journal that led to it.
 #![tactic(auto)]
 
+mod book;
 mod data_item;
+mod journal;
 mod laws;
 mod plant;
 mod reply;
 mod request;
+mod steps;
 mod write;
 
-pub use laws::{kept_requests_are_the_same, replay_goes_on};
+pub use book::Book;
+pub use journal::{Entry, Journal};
+pub use laws::{calls_lead_the_same, kept_requests_are_the_same, replay_goes_on};
 pub use plant::Plant;
 pub use reply::{BODY_ROOM, PARAMS_ROOM, Reply};
 pub use request::Request;
+pub use steps::Steps;
 
 #[cfg(test)]
 mod tests;

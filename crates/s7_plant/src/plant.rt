@@ -83,6 +83,19 @@ impl Plant {
         ensures ready { IsReadyReply reply.new }
         ensures again { IsReady r.new }
     {
+        self.act(r, reply);
+    }
+
+    /// Answers a request as `reply` says, and makes its change, for a request that stays.
+    pub(crate) fn act(&mut self, r: &Request, reply: &mut Reply)
+        requires request { IsReady r.now }
+        requires reply { IsReadyReply reply.old }
+        ensures said { said_of reply.new ≡ answer_of self.old.areas r.now }
+        ensures after { self.new.areas ≡ after self.old.areas r.now }
+        ensures fits { 12 + length reply.new.params.octets + length reply.new.body.octets
+            ≤ full_size r.now }
+        ensures ready { IsReadyReply reply.new }
+    {
         match r {
             Request::Read { .. } => self.reply(r, reply),
             Request::Write {

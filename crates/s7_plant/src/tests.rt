@@ -1,4 +1,4 @@
-ghost use Rattle.std.specs.Prelude.{◌+◌, ◌≤◌, length, All, IsTrue, IfOk, IfSome};
+ghost use Rattle.std.specs.Prelude.{◌≡◌, ◌+◌, ◌≤◌, length, All, IsTrue, IfOk, IfSome};
 ghost use Rattle.s7_plant.specs.Requests.{IsReady};
 ghost use Rattle.s7_plant.specs.Replies.{IsReadyReply};
 
@@ -6,7 +6,10 @@ use super::*;
 use s7_area::{AreaKey, Areas};
 use s7_item::{DataItems, DataPlace, Items, answer_size, read_data_items, read_items};
 use s7_outer::{Memory, Octets};
+use s7_turn::Hall;
 use std::alloc::Global;
+use std::marker::Brand;
+use std::sync::ledger::{Blank, Ledger};
 use std::test::Fail;
 
 const DB1: AreaKey = AreaKey {
@@ -14,8 +17,8 @@ const DB1: AreaKey = AreaKey {
     number: 1,
 };
 
-/// A plant with data block 1, `11 22 33 44`, and the counters 1 and 2.
-fn a_plant(alloc: Global) -> Result<Plant, Memory> {
+/// Data block 1, `11 22 33 44`, and the counters 1 and 2.
+fn some_areas(alloc: Global) -> Result<Areas, Memory> {
     let counters = AreaKey {
         area: 0x1C,
         number: 0,
@@ -27,7 +30,7 @@ fn a_plant(alloc: Global) -> Result<Plant, Memory> {
             return Err(Memory);
         }
     }
-    Ok(Plant::new(areas))
+    Ok(areas)
 }
 
 /// The read of these parameters.
@@ -90,7 +93,7 @@ const READ_TWO: [u8; 26] =
 
 #[test]
 fn reads_are_answered(rt: HostRuntime) -> Result<(), Fail> {
-    let mut plant = a_plant(rt.alloc())?;
+    let mut plant = Plant::new(some_areas(rt.alloc())?);
     let mut reply = a_reply(rt.alloc())?;
     let rows: [(&[u8], &[u8]); 6] = [
         (
@@ -129,7 +132,7 @@ fn reads_are_answered(rt: HostRuntime) -> Result<(), Fail> {
 
 #[test]
 fn writes_are_answered(rt: HostRuntime) -> Result<(), Fail> {
-    let mut plant = a_plant(rt.alloc())?;
+    let mut plant = Plant::new(some_areas(rt.alloc())?);
     let mut reply = a_reply(rt.alloc())?;
     let params =
         b"\x05\x03\x12\x0A\x10\x02\x00\x01\x00\x01\x84\x00\x00\x00\x12\x0A\x10\x02\x00\x01\x00\x01\x84\x00\x00\x20\x12\x0A\x10\x02\x00\x01\x00\x01\x84\x00\x00\x18";
@@ -143,5 +146,129 @@ fn writes_are_answered(rt: HostRuntime) -> Result<(), Fail> {
     plant.step(&mut request, &mut reply);
     assert!(rt; says(&reply, b"\x05\x03", b"\xFF\x05\xFF"));
     assert!(rt; plant.areas.octets_of(DB1) == Some(&[0xAA, 0x22, 0x33, 0xCC]));
+    Ok(())
+}
+
+/// A read where there is no data, and else a write.
+fn a_request(alloc: Global, params: &[u8], data: &[u8]) -> Result<Option<Request>, Memory>
+    ensures { IfOk result (λ r. IfSome r IsReady) }
+{
+    if data.is_empty() {
+        Ok(a_read(params))
+    } else {
+        a_write(alloc, params, data)
+    }
+}
+
+/// AA at octet 0 of data block 1.
+const WRITE_AA: (&[u8], &[u8]) = (
+    b"\x05\x01\x12\x0A\x10\x02\x00\x01\x00\x01\x84\x00\x00\x00",
+    b"\x00\x04\x00\x08\xAA",
+);
+
+/// CC at octet 3 of data block 1.
+const WRITE_CC: (&[u8], &[u8]) = (
+    b"\x05\x01\x12\x0A\x10\x02\x00\x01\x00\x01\x84\x00\x00\x18",
+    b"\x00\x04\x00\x08\xCC",
+);
+
+/// All of data block 1.
+const READ_ALL: (&[u8], &[u8]) = (
+    b"\x04\x01\x12\x0A\x10\x02\x00\x04\x00\x01\x84\x00\x00\x00",
+    b"",
+);
+
+#[test]
+fn steps_are_entered(rt: HostRuntime) -> Result<(), Fail> {
+    let mut book = Book::new(rt.alloc(), some_areas(rt.alloc())?, 3)?;
+    let mut reply = a_reply(rt.alloc())?;
+    let rows: [(u32, (&[u8], &[u8]), u64, &[u8]); 3] = [
+        (7, WRITE_AA, 0, b"\xFF"),
+        (8, READ_ALL, 1, b"\xFF\x04\x00\x20\xAA\x22\x33\x44"),
+        (7, WRITE_CC, 2, b"\xFF"),
+    ];
+    for (link, (params, data), number, body) in rows {
+        let request = a_request(rt.alloc(), params, data)?.ok_or("no request")?;
+        assert_eq!(rt; book.step(link, request, &mut reply).ok(), Some(number));
+        assert!(rt; says(&reply, &params[..2], body), "{link}");
+    }
+    assert_eq!(rt; book.journal.len(), 3);
+    for (entry, link) in book.journal.as_slice().iter().zip([7, 8, 7]) {
+        assert_eq!(rt; entry.link, link);
+    }
+    assert!(rt; book.opening.areas.octets_of(DB1) == Some(&[0x11, 0x22, 0x33, 0x44]));
+    assert!(rt; book.plant.areas.octets_of(DB1) == Some(&[0xAA, 0x22, 0x33, 0xCC]));
+    Ok(())
+}
+
+#[test]
+fn a_full_book_hands_back(rt: HostRuntime) -> Result<(), Fail> {
+    let mut book = Book::new(rt.alloc(), some_areas(rt.alloc())?, 1)?;
+    let mut reply = a_reply(rt.alloc())?;
+    let read = a_read(READ_ALL.0).ok_or("no request")?;
+    assert_eq!(rt; book.step(7, read, &mut reply).ok(), Some(0));
+    let write = a_write(rt.alloc(), WRITE_AA.0, WRITE_AA.1)?.ok_or("no request")?;
+    let Err(Request::Write { items, octets, .. }) = book.step(7, write, &mut reply) else {
+        return Err(Fail::from("not handed back"));
+    };
+    assert_eq!(rt; items.len(), 1);
+    assert_eq!(rt; octets.as_slice(), WRITE_AA.1);
+    assert!(rt; says(&reply, b"\x04\x01", b"\xFF\x04\x00\x20\x11\x22\x33\x44"));
+    assert_eq!(rt; book.journal.len(), 1);
+    assert!(rt; book.plant.areas.octets_of(DB1) == Some(&[0x11, 0x22, 0x33, 0x44]));
+    Ok(())
+}
+
+/// The plant after the first entries, where there are so many.
+fn image_of<S: Ledger>(
+    alloc: Global,
+    book: &Book,
+    n: u64,
+    blank: Blank,
+) -> Result<Option<Plant>, Memory>
+    requires name { blank.name ≡ S.name }
+    requires parts { blank.parts ≡ S.parts }
+    requires one { blank.parts ≡ 1 }
+{
+    if n > book.journal.len() {
+        return Ok(None);
+    }
+    let mut steps = Steps::<S>::new(blank);
+    Ok(Some(book.image_at(alloc, n, &mut steps)?))
+}
+
+#[test]
+fn images_are_replayed(rt: HostRuntime) -> Result<(), Fail> {
+    let mut book = Book::new(rt.alloc(), some_areas(rt.alloc())?, 262_144)?;
+    let mut reply = a_reply(rt.alloc())?;
+    for (params, data) in [WRITE_AA, READ_ALL, WRITE_CC] {
+        let request = a_request(rt.alloc(), params, data)?.ok_or("no request")?;
+        assert!(rt; book.step(7, request, &mut reply).is_ok());
+    }
+    let rows = [
+        (0, [0x11, 0x22, 0x33, 0x44]),
+        (1, [0xAA, 0x22, 0x33, 0x44]),
+        (2, [0xAA, 0x22, 0x33, 0x44]),
+        (3, [0xAA, 0x22, 0x33, 0xCC]),
+    ];
+    for (n, octets) in rows {
+        let image = image_of::<Brand>(rt.alloc(), &book, n, Blank::new(1))?.ok_or("no image")?;
+        assert!(rt; image.areas.octets_of(DB1) == Some(&octets), "{n}");
+    }
+    Ok(())
+}
+
+#[test]
+fn a_hall_serves_a_book(rt: HostRuntime) -> Result<(), Fail> {
+    let book = Book::new(rt.alloc(), some_areas(rt.alloc())?, 2)?;
+    let mut reply = a_reply(rt.alloc())?;
+    let (hall, mut seat) = Hall::new(rt.alloc(), book).ok().ok_or("memory")?;
+    let write = a_write(rt.alloc(), WRITE_AA.0, WRITE_AA.1)?.ok_or("no request")?;
+    let done = hall.act(&rt, &mut seat, write, &mut reply);
+    assert_eq!(rt; done.ok().ok_or("full")?.number, 0);
+    assert!(rt; says(&reply, b"\x05\x01", b"\xFF"));
+    let book = hall.close(&rt, seat);
+    assert_eq!(rt; book.journal.len(), 1);
+    assert!(rt; book.plant.areas.octets_of(DB1) == Some(&[0xAA, 0x22, 0x33, 0x44]));
     Ok(())
 }

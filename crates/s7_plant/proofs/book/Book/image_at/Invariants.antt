@@ -1,0 +1,12 @@
+use Rattle.std.proofs.Common.{◌≡◌, ◌+◌}
+use Rattle.s7_plant.specs.Journals.{at}
+use Rattle.s7_plant.specs.Replies.{IsReadyReply}
+use Rattle.s7_plant.proofs.book.Book.image_at.Given as goal
+
+-- the entries so far were applied, at one step each
+abbrev pub invariant-loop-entry : goal.invariant-loop-entry
+invariant-loop-entry g l = record {
+  areas : l.image.areas ≡ at l.self.opening.areas l.self.journal.entries l.entry-index;
+  steps : l.steps ≡ l.fn.steps + l.entry-index;
+  reply : IsReadyReply l.reply;
+}

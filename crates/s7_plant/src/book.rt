@@ -1,0 +1,155 @@
+// A plant with the journal that led to it.
+ghost use Rattle.std.specs.Prelude.{◌≡◌, ◌≤◌, ◌<◌, ◌+◌, ◌++◌, ◌∷◌, ◌↔◌, [], length};
+ghost use Rattle.std.specs.Prelude.{IsErr, IfErr, MatchResult, IfOk, OnOk};
+ghost use Rattle.s7_plant.specs.Journals.{replay_entries};
+
+use crate::journal::{Entry, Journal};
+use crate::plant::Plant;
+use crate::reply::{BODY_ROOM, Reply};
+use crate::request::Request;
+use crate::steps::Steps;
+use s7_area::Areas;
+use s7_outer::Memory;
+use s7_turn::Machine;
+use std::alloc::Global;
+use std::sync::ledger::Ledger;
+
+/// A plant with its journal: the plant is what the journal's entries, one after another, made of the
+/// opening.
+#[derive(Drop)]
+pub struct Book {
+    /// The plant before the first entry.
+    pub opening: Plant,
+    /// The plant after the last one.
+    pub plant: Plant,
+    pub journal: Journal,
+    pub ghost replayed: { plant.areas ≡ replay_entries opening.areas journal.entries },
+}
+
+impl Book {
+    ghost use Rattle.s7_plant.specs.Requests.{IsReady, kept, full_size};
+    ghost use Rattle.s7_plant.specs.Replies.{IsReadyReply, said_of};
+    ghost use Rattle.s7_plant.specs.Answers.{answer_of, after};
+    ghost use Rattle.s7_plant.specs.Journals.{entries_of, entered, at};
+
+    /// A plant with these areas and nothing in its journal, which takes `limit` entries, from 1 to
+    /// 262,144. Their room and a copy of the areas are taken here; `Memory` comes where there is none
+    /// for them, and the areas are dropped then.
+    pub fn new(alloc: Global, areas: Areas, limit: u64) -> Result<Book, Memory>
+        requires some { 1 ≤ limit }
+        requires few { limit ≤ 262144 }
+        ensures opening { IfOk result (λ book. book.opening.areas ≡ areas) }
+        ensures plant { IfOk result (λ book. book.plant.areas ≡ areas) }
+        ensures journal { IfOk result (λ book. book.journal ≡ entries_of [] limit) }
+    {
+        Ok(Book {
+            opening: Plant::new(areas.copy(alloc)?),
+            plant: Plant::new(areas),
+            journal: Journal::new(alloc, limit)?,
+        })
+    }
+
+    /// Carries a request out and enters it under its link, and answers the entry's number, from 0. The
+    /// reply is the one of the plant that all earlier entries led to, as `Plant::reply` has it. The
+    /// request comes back exactly where the journal has its limit's length, and nothing changes then,
+    /// not even the reply. Needs a ready request and a ready reply, and leaves the reply ready. It
+    /// takes no memory.
+    pub fn step(
+        &mut self,
+        link: u32,
+        mut request: Request,
+        reply: &mut Reply,
+    ) -> Result<u64, Request>
+        requires request { IsReady request }
+        requires reply { IsReadyReply reply.old }
+        ensures full { IsErr result ↔ (length self.old.journal.entries ≡ self.old.journal.limit) }
+        ensures err { IfErr result
+            (λ back. (back ≡ request) × (self.new ≡ self.old) × (reply.new ≡ reply.old)) }
+        ensures number { IfOk result (λ number. number ≡ length self.old.journal.entries) }
+        ensures below { OnOk result (length self.old.journal.entries < self.old.journal.limit) }
+        ensures entered { OnOk result (self.new.journal ≡ entries_of
+            (self.old.journal.entries ++ entered link (kept request) ∷ []) self.old.journal.limit) }
+        ensures said { OnOk result (said_of reply.new ≡ answer_of
+            (replay_entries self.old.opening.areas self.old.journal.entries) (kept request)) }
+        ensures after { OnOk result (self.new.plant.areas ≡ after self.old.plant.areas request) }
+        ensures fits { OnOk result (12 + length reply.new.params.octets + length reply.new.body.octets
+            ≤ full_size request) }
+        ensures ready { IsReadyReply reply.new }
+        ensures opening { self.new.opening ≡ self.old.opening }
+        ensures limit { self.new.journal.limit ≡ self.old.journal.limit }
+    {
+        if self.journal.is_full() {
+            return Err(request);
+        }
+        let number = self.journal.len();
+        self.plant.step(&mut request, reply);
+        self.journal.push(Entry { link, request });
+        Ok(number)
+    }
+
+    /// The plant after the first `n` entries. Needs `n` to be at most the journal's length. Each
+    /// application of an entry is one step, so there are `n` of them. `Memory` comes where there is
+    /// none for the image, and no step was taken then.
+    pub fn image_at<S: Ledger>(
+        &self,
+        alloc: Global,
+        n: u64,
+        steps: &mut Steps<S>,
+    ) -> Result<Plant, Memory>
+        requires { n ≤ length self.now.journal.entries }
+        ensures image { IfOk result
+            (λ image. image.areas ≡ at self.now.opening.areas self.now.journal.entries n) }
+        ensures counted { MatchResult result
+            (λ _. steps.new ≡ steps.old + n) (λ _. steps.new ≡ steps.old) }
+        ensures most { steps.new ≤ steps.old + n }
+    {
+        let mut image = Plant::new(self.opening.areas.copy(alloc)?);
+        let mut reply = Reply::new(alloc, BODY_ROOM)?;
+        let entries = &self.journal.as_slice()[..n as usize];
+        for entry in entries {
+            steps.tick();
+            image.act(&entry.request, &mut reply);
+        }
+        Ok(image)
+    }
+}
+
+impl Machine for Book {
+    ghost use Rattle.s7_area.specs.Memory.{Memory};
+    ghost use Rattle.s7_plant.specs.Answers.{IsReplyOf};
+    ghost use Rattle.s7_plant.specs.Requests.{IsReady, kept};
+    ghost use Rattle.s7_plant.specs.Replies.{IsReadyReply};
+    ghost use Rattle.s7_plant.specs.Journals.{calls_of, after_call};
+
+    type Request = Request;
+
+    type Reply = Reply;
+
+    ghost State = { Memory };
+
+    ghost opening = { λ book. book.opening.areas };
+
+    ghost history = { λ book. calls_of book.journal.entries };
+
+    ghost limit = { λ book. book.journal.limit };
+
+    ghost state = { λ book. book.plant.areas };
+
+    ghost after = { after_call };
+
+    ghost kept = { kept };
+
+    ghost request_ready = { IsReady };
+
+    ghost reply_ready = { IsReadyReply };
+
+    ghost gives = { λ m _ r reply. IsReplyOf m r reply };
+
+    fn len(&self) -> u64 {
+        self.journal.len()
+    }
+
+    fn step(&mut self, caller: u32, request: Request, reply: &mut Reply) -> Result<u64, Request> {
+        Book::step(self, caller, request, reply)
+    }
+}

@@ -1,0 +1,83 @@
+// What a plant was asked, in order.
+ghost use Rattle.std.specs.Prelude.{◌≡◌, ◌<◌, ◌≤◌, ◌↔◌, [], ◌∷◌, ◌++◌, length};
+ghost use Rattle.std.specs.Prelude.{IsTrue, IfOk};
+ghost use Rattle.s7_plant.specs.Journals.{entries_of, AreReady};
+ghost use Rattle.s7_plant.specs.Requests.{IsReady};
+
+use crate::request::Request;
+use s7_outer::Memory;
+use std::alloc::Global;
+use std::marker::Model;
+
+/// A request that was carried out, with the link that it came on.
+#[derive(Drop)]
+pub struct Entry {
+    pub link: u32,
+    pub request: Request,
+}
+
+/// Entries in order, with room for all that may come. Contracts see the list and the limit of its
+/// length, which is from 1 to 262,144.
+#[derive(Drop)]
+pub struct Journal {
+    entries: Vec<Entry>,
+    limit: u64,
+}
+
+impl Model for Journal {
+    ghost use Rattle.std.specs.Prelude.{vec_len, vec_capacity};
+    ghost use Rattle.s7_plant.specs.Journals.{Entries, entries_of, IsJournal};
+
+    ghost Value = { Entries };
+
+    ghost view = { λ j. entries_of j.entries.items j.limit };
+
+    ghost invariant = { λ j. IsJournal j.entries.items (vec_len j.entries) j.limit (vec_capacity j.entries) };
+}
+
+impl Journal {
+    /// No entries, and room for `limit` of them, all of it taken here. `Memory` comes where there is
+    /// none for it.
+    pub(crate) fn new(alloc: Global, limit: u64) -> Result<Journal, Memory>
+        requires some { 1 ≤ limit }
+        requires few { limit ≤ 262144 }
+        ensures { IfOk result (λ journal. journal ≡ entries_of [] limit) }
+    {
+        Ok(Journal {
+            entries: Vec::with_capacity(alloc, limit as usize)?,
+            limit,
+        })
+    }
+
+    /// How many entries there are.
+    pub fn len(&self) -> u64
+        ensures len { result ≡ length self.now.entries }
+        ensures most { result ≤ self.now.limit }
+    {
+        self.entries.len() as u64
+    }
+
+    /// The entries, lent. The request of each is ready to be carried out again.
+    pub fn as_slice(&self) -> &[Entry]
+        ensures entries { result.now ≡ self.now.entries }
+        ensures ready { AreReady self.now.entries }
+    {
+        self.entries.as_slice()
+    }
+
+    /// There are as many entries as there may be.
+    pub(crate) fn is_full(&self) -> bool
+        ensures { IsTrue result ↔ (length self.now.entries ≡ self.now.limit) }
+    {
+        self.len() == self.limit
+    }
+
+    /// Adds an entry at the end, which takes no memory.
+    pub(crate) fn push(&mut self, entry: Entry)
+        requires room { length self.old.entries < self.old.limit }
+        requires ready { IsReady entry.request }
+        ensures { self.new ≡ entries_of (self.old.entries ++ entry ∷ []) self.old.limit }
+    {
+        self.entries.push_reserved(entry);
+    }
+}

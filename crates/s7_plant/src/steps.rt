@@ -1,0 +1,42 @@
+// The count of steps.
+ghost use Rattle.std.specs.Prelude.{◌≡◌, ◌+◌};
+
+use std::marker::Model;
+use std::sync::ledger::{Blank, Book, Ledger, Share};
+
+/// How many steps were taken. It takes no octets, and only `tick` changes it.
+#[derive(Drop)]
+pub struct Steps<S: Ledger> {
+    book: Book<S>,
+    share: Share<S>,
+}
+
+impl<S: Ledger> Model for Steps<S> {
+    ghost use Rattle.std.specs.Prelude.{ℕ, ◌<◌};
+
+    ghost Value = { ℕ };
+
+    ghost view = { λ s. s.book.total };
+
+    ghost invariant = { λ s. 0 < s.share.parts };
+}
+
+impl<S: Ledger> Steps<S> {
+    /// No step yet. Needs the blank of a ledger of one part.
+    pub fn new(blank: Blank) -> Steps<S>
+        requires name { blank.name ≡ S.name }
+        requires parts { blank.parts ≡ S.parts }
+        requires one { blank.parts ≡ 1 }
+        ensures { result ≡ 0 }
+    {
+        let (book, share) = blank.open::<S>();
+        Steps { book, share }
+    }
+
+    /// One step more.
+    pub fn tick(&mut self)
+        ensures { self.new ≡ self.old + 1 }
+    {
+        self.book.add(&mut self.share, 1);
+    }
+}
