@@ -7,3 +7,4 @@ pub mod ServeLemmas
 pub mod RunLemmas
 pub mod AnswerLemmas
 pub mod JoinLemmas
+pub mod BookLemmas

@@ -12,3 +12,5 @@ pub mod Answers
 pub mod Conversing
 pub mod Stands
 pub mod LinkRun
+pub mod Books
+pub mod BookLaws

@@ -3,6 +3,7 @@
 #![tactic(auto)]
 
 mod answer;
+mod book_doer;
 mod conversation;
 mod doer;
 mod judge;
@@ -11,6 +12,7 @@ mod sender;
 mod session;
 mod turns;
 
+pub use book_doer::BookDoer;
 pub use doer::Doer;
 pub use outcome::{Outcome, Turn};
 pub use session::Session;

@@ -3,7 +3,7 @@ ghost use Rattle.std.specs.Prelude.{◌<◌, ◌≤◌};
 use super::*;
 use s7_area::{AreaKey, Areas};
 use s7_outer::{FailingLink, Fate, Memory, MemoryLink, Octets};
-use s7_plant::{Plant, Reply, Request};
+use s7_plant::{Book, Plant, Reply, Request};
 use std::alloc::Global;
 use std::sync::Wait;
 use std::test::Fail;
@@ -17,19 +17,24 @@ struct Desk {
     ghost fits: { count ≤ room },
 }
 
+/// Data block 1, `11 22 33 44`.
+fn some_areas(alloc: Global) -> Result<Areas, Memory> {
+    let key = AreaKey {
+        area: 0x84,
+        number: 1,
+    };
+    let octets = Octets::copy_of(alloc, &[0x11, 0x22, 0x33, 0x44])?;
+    let mut areas = Areas::new();
+    if areas.register(alloc, key, octets).is_err() {
+        return Err(Memory);
+    }
+    Ok(areas)
+}
+
 impl Desk {
     fn new(alloc: Global, room: u64) -> Result<Desk, Memory> {
-        let key = AreaKey {
-            area: 0x84,
-            number: 1,
-        };
-        let octets = Octets::copy_of(alloc, &[0x11, 0x22, 0x33, 0x44])?;
-        let mut areas = Areas::new();
-        if areas.register(alloc, key, octets).is_err() {
-            return Err(Memory);
-        }
         Ok(Desk {
-            plant: Plant::new(areas),
+            plant: Plant::new(some_areas(alloc)?),
             count: 0,
             room,
         })
@@ -91,6 +96,10 @@ const WRITE_ANSWER: &[u8] =
 
 const READ_AFTER_WRITE: &[u8] =
     b"\x03\x00\x00\x1D\x02\xF0\x80\x32\x03\x00\x00\x00\x05\x00\x02\x00\x08\x00\x00\x04\x01\xFF\x04\x00\x20\xAA\x22\x33\xCC";
+
+/// The refusal of a read for which there is no room.
+const NO_ROOM: &[u8] =
+    b"\x03\x00\x00\x13\x02\xF0\x80\x32\x02\x00\x00\x00\x05\x00\x00\x00\x00\x8F\x01";
 
 const DISCONNECT: &[u8] = b"\x03\x00\x00\x0B\x06\x80\x00\x01\x00\x01\x80";
 
@@ -242,12 +251,7 @@ fn refused_telegrams_leave_the_link(rt: HostRuntime) -> Result<(), Fail> {
         // A history with room for one telegram.
         Row {
             input: &[CONNECT, SETUP, READ, READ],
-            output: &[
-                CONFIRM,
-                GRANTED,
-                READ_ANSWER,
-                b"\x03\x00\x00\x13\x02\xF0\x80\x32\x02\x00\x00\x00\x05\x00\x00\x00\x00\x8F\x01",
-            ],
+            output: &[CONFIRM, GRANTED, READ_ANSWER, NO_ROOM],
             outcome: Outcome::Ended,
             entries: 1,
         },
@@ -417,5 +421,27 @@ fn a_turn_tells_what_it_did(rt: HostRuntime) -> Result<(), Fail> {
         assert!(rt; session.turn(rt.alloc(), &mut line, &mut desk) == turn);
     }
     assert!(rt; line.inner().written() == CONFIRM);
+    Ok(())
+}
+
+#[test]
+fn a_book_is_full_at_its_limit(rt: HostRuntime) -> Result<(), Fail> {
+    let alloc = rt.alloc();
+    let mut book = Book::new(alloc, some_areas(alloc)?, 1)?;
+    let input = Octets::of_vec(joined(alloc, &[CONNECT, SETUP, READ, READ])?);
+    let mut line = MemoryLink::new(alloc, input, 8_192, 4_096, 7)?;
+    let mut session = Session::new(alloc, 7)?;
+    let mut doer = BookDoer {
+        book: &mut book,
+        link: 7,
+    };
+    let outcome = session.serve(&rt, alloc, &mut line, &mut doer);
+    assert!(rt; outcome == Outcome::Ended);
+    let output = joined(alloc, &[CONFIRM, GRANTED, READ_ANSWER, NO_ROOM])?;
+    assert!(rt; line.written() == output.as_slice());
+    assert_eq!(rt; session.entries(), 1);
+    assert!(rt; session.last() == Some(0));
+    assert_eq!(rt; book.journal.len(), 1);
+    assert!(rt; book.journal.as_slice().iter().all(|entry| entry.link == 7));
     Ok(())
 }
