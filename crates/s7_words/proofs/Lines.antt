@@ -1,6 +1,6 @@
 -- The commands of both programs are built by their lines.
 use Rattle.std.proofs.Common.{refl, codes, None, Some}
-use Rattle.s7_words.specs.Server.{pipe_line, save}
+use Rattle.s7_words.specs.Server.{pipe_line, save, journal}
 use Rattle.s7_words.specs.Tool.{run_line, host, port, kind, rack, slot, pdu, polls}
 use Rattle.s7_words.proofs.Commands.{IsCommand, long_known}
 
@@ -11,10 +11,10 @@ pipe_is = record {
   is_simple_too = refl;
   has_name = refl;
   fields = refl;
-  known = (long_known _ save refl refl, tt);
+  known = (long_known _ save refl refl, (long_known _ journal refl refl, tt));
   placed = (refl, record { long = None; index = Some 1; found = refl; small = refl }, refl);
   operands = (refl, tt);
-  options = (refl, tt);
+  options = (refl, (refl, tt));
 }
 
 pub run_is : IsCommand (codes "run") run_line

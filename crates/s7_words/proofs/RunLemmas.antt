@@ -1,8 +1,9 @@
--- The numbers of `run`, each in its range.
+-- The numbers of both programs' commands, each in its range.
 use Rattle.std.proofs.Common.{refl, codes}
+use Rattle.s7_words.specs.Server.{pipe_line, journal}
 use Rattle.s7_words.specs.Tool.{run_line, port, kind, rack, slot, pdu, polls}
 use Rattle.s7_words.proofs.Commands.{ReadsNumber, number_or_is}
-use Rattle.s7_words.proofs.Lines.{run_is}
+use Rattle.s7_words.proofs.Lines.{pipe_is, run_is}
 
 pub port_is : ReadsNumber (codes "run") run_line run_is port 16 1 65535 102
 port_is = number_or_is (codes "run") run_line run_is port 16 1 65535 102 refl refl refl refl
@@ -21,3 +22,6 @@ pdu_is = number_or_is (codes "run") run_line run_is pdu 16 64 960 480 refl refl 
 
 pub polls_is : ReadsNumber (codes "run") run_line run_is polls 32 1 4294967295 50
 polls_is = number_or_is (codes "run") run_line run_is polls 32 1 4294967295 50 refl refl refl refl
+
+pub journal_is : ReadsNumber (codes "pipe") pipe_line pipe_is journal 64 1 262144 65536
+journal_is = number_or_is (codes "pipe") pipe_line pipe_is journal 64 1 262144 65536 refl refl refl refl

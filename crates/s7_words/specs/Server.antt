@@ -1,23 +1,27 @@
 -- The words of the server: this project's own command line, with options in GNU form.
-use Rattle.std.specs.Prelude.{codes, List, [], ◌∷◌, Option, None, option_map, if◌then◌else◌}
+use Rattle.std.specs.Prelude.{ℕ, codes, List, [], ◌∷◌, Option, None, option_map, if◌then◌else◌}
 use Rattle.std.specs.Str.{bytes_eq}
 use Rattle.s7_words.specs.Line.{Text, Field, Line, Given, given_by, value_of}
-use Rattle.s7_words.specs.Fields.{text, areas, text_or}
+use Rattle.s7_words.specs.Fields.{text, number, areas, text_or, number_or}
 
 -- a command with its operands and options
 pub data ServerTold : Type 0 where
-  pipe : (areas : Text) (save : Option Text) → ServerTold
+  pipe : (areas : Text) (save : Option Text) (journal : ℕ) → ServerTold
 
--- ---- pipe AREAS [--save PATH]
+-- ---- pipe AREAS [--save PATH] [--journal N]
 
 abbrev pub save : Field
 save = text (codes "save")
 
+-- how many entries the journal takes
+abbrev pub journal : Field
+journal = number (codes "journal") 1 262144
+
 abbrev pub pipe_line : Line
-pipe_line = record { operands = areas ∷ []; options = save ∷ [] }
+pipe_line = record { operands = areas ∷ []; options = save ∷ journal ∷ [] }
 
 abbrev pub pipe_of : Given → ServerTold
-pipe_of given = pipe (text_or given areas []) (value_of given save.name)
+pipe_of given = pipe (text_or given areas []) (value_of given save.name) (number_or given journal 65536)
 
 -- ---- all commands
 

@@ -1,5 +1,5 @@
 -- Commands as contracts see them: their texts in the place of the references to them.
-use Rattle.std.specs.Prelude.{option_map}
+use Rattle.std.specs.Prelude.{◌≤◌, option_map}
 use Rattle.s7_words.specs.Server.{ServerTold, pipe}
 use Rattle.s7_words.specs.Tool.{RunTold, ToolTold, run}
 use Rattle.s7_words.specs.declared.run_words.RunWords.{RunWords}
@@ -9,7 +9,11 @@ use Rattle.s7_words.specs.declared.tool.ToolWords.{ToolWords}
 use Rattle.s7_words.specs.declared.tool.ToolWords.TheVariants.{Run}
 
 abbrev pub server_told_of : ServerWords → ServerTold
-server_told_of (Pipe areas save) = pipe areas.now (option_map (λ s. s.now) save)
+server_told_of (Pipe areas save journal) = pipe areas.now (option_map (λ s. s.now) save) journal
+
+-- a journal takes from 1 to 262,144 entries
+abbrev pub HasRoom : ServerWords → Type 0
+HasRoom (Pipe areas save journal) = (1 ≤ journal) × (journal ≤ 262144)
 
 abbrev pub run_told_of : RunWords → RunTold
 run_told_of r = record {

@@ -1,12 +1,12 @@
 // The commands of the server.
-ghost use Rattle.std.specs.Prelude.{◌≡◌, IfOk, codes, drop, map, option_map};
+ghost use Rattle.std.specs.Prelude.{◌≡◌, IfOk, IfSome, codes, drop, map, option_map};
 ghost use Rattle.clap.specs.Words.{app_of};
 ghost use Rattle.s7_words.specs.Built.{app_by};
 ghost use Rattle.s7_words.specs.Line.{given_by};
 ghost use Rattle.s7_words.specs.Server.{pipe_line, pipe_of, server_words};
-ghost use Rattle.s7_words.specs.Shown.{server_told_of};
+ghost use Rattle.s7_words.specs.Shown.{server_told_of, HasRoom};
 
-use crate::command::{accepted, bare, operand, text};
+use crate::command::{accepted, bare, number, operand, text};
 use clap::Command;
 use s7_outer::Memory;
 use std::alloc::{AllocError, Global};
@@ -14,12 +14,14 @@ use std::alloc::{AllocError, Global};
 /// A command of the server with its operands and options.
 #[derive(Clone, Copy, Debug, PartialEq, Eq)]
 pub enum ServerWords<'a> {
-    /// `pipe AREAS [--save PATH]`: one link, on standard input and output. `areas` is the path of the
-    /// area file that is read, and `save` the path that the areas are saved to, where it is given.
-    /// Both are any text.
+    /// `pipe AREAS [--save PATH] [--journal N]`: one link, on standard input and output. `areas` is
+    /// the path of the area file that is read, and `save` the path that the areas are saved to, where
+    /// it is given. Both are any text. `journal` is how many entries the journal takes, 1 to 262,144:
+    /// 65,536 where it isn't given.
     Pipe {
         areas: &'a str,
         save: Option<&'a str>,
+        journal: u64,
     },
 }
 
@@ -29,7 +31,9 @@ pub enum ServerWords<'a> {
 /// The first word is the name of the command. An option is `--name VALUE` or `--name=VALUE`, at most
 /// once each, before or after the operands; after `--` every word is an operand. Before it a word of
 /// two or more characters that begins with `-` is neither an operand nor the VALUE of an option
-/// before it. `--name=` has the empty VALUE. There is no help flag and no version flag.
+/// before it. `--name=` has the empty VALUE. A number is one or more decimal digits, with zeros
+/// before them or none, and with a `+` before those or none; one out of its range is usage. There is
+/// no help flag and no version flag.
 ///
 /// `Memory` comes where there is none for the parse.
 pub fn read_server_words<'a>(
@@ -37,6 +41,7 @@ pub fn read_server_words<'a>(
     words: &'a [&'a str],
 ) -> Result<Option<ServerWords<'a>>, Memory>
     ensures told { IfOk result (λ r. option_map server_told_of r ≡ server_words (map (λ w. w.now) words.entry.now)) }
+    ensures journal { IfOk result (λ r. IfSome r HasRoom) }
 {
     let Some(name) = words.first() else {
         return Ok(None);
@@ -48,8 +53,9 @@ pub fn read_server_words<'a>(
 }
 
 fn read_pipe<'a>(alloc: Global, words: &'a [&'a str]) -> Result<Option<ServerWords<'a>>, Memory>
-    ensures { IfOk result (λ r. option_map server_told_of r
+    ensures told { IfOk result (λ r. option_map server_told_of r
         ≡ option_map pipe_of (given_by pipe_line (drop 1 (map (λ w. w.now) words.entry.now)))) }
+    ensures journal { IfOk result (λ r. IfSome r HasRoom) }
 {
     let Some(matches) = accepted(pipe_command(alloc)?.try_get_matches_from(words))? else {
         return Ok(None);
@@ -57,6 +63,7 @@ fn read_pipe<'a>(alloc: Global, words: &'a [&'a str]) -> Result<Option<ServerWor
     Ok(Some(ServerWords::Pipe {
         areas: matches.get_str("AREAS").unwrap_or(""),
         save: matches.get_str("save"),
+        journal: matches.get_one::<u64>("journal").unwrap_or(65_536),
     }))
 }
 
@@ -65,5 +72,6 @@ fn pipe_command<'a>(alloc: Global) -> Result<Command<'a>, AllocError>
 {
     bare(alloc, "pipe")
         .arg(operand(alloc, "AREAS"))?
-        .arg(text(alloc, "save"))
+        .arg(text(alloc, "save"))?
+        .arg(number(alloc, "journal", 1, 262_144))
 }

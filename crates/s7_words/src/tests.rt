@@ -2,7 +2,11 @@ use super::*;
 use std::test::Fail;
 
 fn pipe<'a>(areas: &'a str, save: Option<&'a str>) -> ServerWords<'a> {
-    ServerWords::Pipe { areas, save }
+    ServerWords::Pipe {
+        areas,
+        save,
+        journal: 65_536,
+    }
 }
 
 #[test]
@@ -54,6 +58,33 @@ fn server_lines(rt: HostRuntime) -> Result<(), Fail> {
 }
 
 #[test]
+fn journals_have_their_room(rt: HostRuntime) -> Result<(), Fail> {
+    let lines: &[(&[&str], Option<&str>, u64)] = &[
+        (&["pipe", "a", "--journal", "1"], None, 1),
+        (&["pipe", "--journal=262144", "a"], None, 262_144),
+        (&["pipe", "a", "--journal", "+0065536"], None, 65_536),
+        (
+            &["pipe", "--journal", "3", "a", "--save", "b"],
+            Some("b"),
+            3,
+        ),
+        (&["pipe", "--save=b", "--journal=3", "a"], Some("b"), 3),
+    ];
+    for (words, save, journal) in lines {
+        let expected = ServerWords::Pipe {
+            areas: "a",
+            save: *save,
+            journal: *journal,
+        };
+        assert!(rt;
+            read_server_words(rt.alloc(), words)? == Some(expected),
+            "{words:?}"
+        );
+    }
+    Ok(())
+}
+
+#[test]
 fn server_usage(rt: HostRuntime) -> Result<(), Fail> {
     let lines: &[&[&str]] = &[
         &[],
@@ -89,7 +120,15 @@ fn server_usage(rt: HostRuntime) -> Result<(), Fail> {
         &["pipe", "a.txt", "--SAVE", "b.txt"],
         &["pipe", "a.txt", "-s", "b.txt"],
         &["pipe", "a.txt", "--=b.txt"],
-        &["pipe", "a.txt", "--journal", "5"],
+        &["pipe", "a.txt", "--journal"],
+        &["pipe", "--journal", "5"],
+        &["pipe", "a.txt", "--journal", "0"],
+        &["pipe", "a.txt", "--journal", "262145"],
+        &["pipe", "a.txt", "--journal", "18446744073709551617"],
+        &["pipe", "a.txt", "--journal="],
+        &["pipe", "a.txt", "--journal=-1"],
+        &["pipe", "a.txt", "--journal=0x5"],
+        &["pipe", "a.txt", "--journal", "5", "--journal", "5"],
         &["pipe", "a.txt", "--port", "102"],
     ];
     for words in lines {

@@ -8,6 +8,7 @@ use Rattle.s7_script.specs.declared.load.LoadFault.{LoadFault}
 use Rattle.s7_script.specs.declared.load.LoadFault.TheVariants as fault
 use Rattle.s7_session.specs.declared.outcome.Outcome.{Outcome}
 use Rattle.s7_session.specs.declared.outcome.Outcome.TheVariants as outcome
+use Rattle.s7server.specs.Link.{ServedTold}
 
 -- a line ends with LF
 abbrev pub line_end : List ℕ
@@ -28,14 +29,15 @@ outcome_text outcome.WriteFault = codes "write-fault"
 outcome_text outcome.Spent = codes "spent"
 outcome_text outcome.Memory = codes "memory"
 
--- the link's line, and the journal's
-abbrev pub lines_of : List ℕ → ℕ → List ℕ
-lines_of text entries =
-    codes "link 1 " ++ (text ++ (codes " entries " ++ (decimal entries ++ (line_end ++ (codes "journal " ++ (decimal entries ++ line_end))))))
+-- a link's line before others
+abbrev pub line_of : ℕ → List ℕ → ℕ → List ℕ → List ℕ
+line_of link text entries others =
+    codes "link " ++ (decimal link ++ (codes " " ++ (text ++ (codes " entries " ++ (decimal entries ++ (line_end ++ others))))))
 
--- THE REPORT of one served link
-abbrev pub report_of : Outcome → ℕ → List ℕ
-report_of result entries = lines_of (outcome_text result) entries
+-- THE REPORT: a line for each link, by rising number, and one for the journal
+abbrev pub report_of : List ServedTold → ℕ → List ℕ
+report_of [] journal = codes "journal " ++ (decimal journal ++ line_end)
+report_of (served ∷ links) journal = line_of served.link (outcome_text served.outcome) served.entries (report_of links journal)
 
 abbrev pub usage_line : List ℕ
 usage_line = codes "usage: s7server pipe AREAS, s7server serve AREAS" ++ line_end

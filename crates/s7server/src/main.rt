@@ -1,8 +1,8 @@
 //! Serves areas on standard input and output, as a controller would.
 #![tactic(auto)]
 
-mod doer;
 mod report;
+mod run;
 mod server;
 #[cfg(test)]
 mod tests;

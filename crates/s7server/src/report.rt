@@ -1,23 +1,35 @@
 // What is printed.
-ghost use Rattle.std.specs.Prelude.{◌≡◌, Some, IfOk, string_bytes};
-ghost use Rattle.s7server.specs.Report.{outcome_text, lines_of, report_of, refusal_line, file_line};
+ghost use Rattle.std.specs.Prelude.{◌≡◌, [], Some, IfOk, string_bytes};
+ghost use Rattle.s7server.specs.Report.{outcome_text, line_of, report_of, refusal_line, file_line};
 
 use s7_script::LoadFault;
 use s7_session::Outcome;
 use std::alloc::{AllocError, Global};
 
-/// The report of one served link.
-pub fn report(alloc: Global, outcome: Outcome, entries: u64) -> Result<String, AllocError>
-    ensures { IfOk result (λ text. string_bytes text ≡ report_of outcome entries) }
+/// The report of one served link and a journal of so many entries.
+pub fn report(
+    alloc: Global,
+    link: u32,
+    outcome: Outcome,
+    entries: u64,
+    journal: u64,
+) -> Result<String, AllocError>
+    ensures { IfOk result (λ text. string_bytes text ≡ line_of link (outcome_text outcome) entries (report_of [] journal)) }
 {
     let text = outcome_text(alloc, outcome)?;
-    lines(alloc, text.as_str(), entries)
+    lines(alloc, link, text.as_str(), entries, journal)
 }
 
-fn lines(alloc: Global, text: &str, entries: u64) -> Result<String, AllocError>
-    ensures { IfOk result (λ report. string_bytes report ≡ lines_of text.now entries) }
+fn lines(
+    alloc: Global,
+    link: u32,
+    text: &str,
+    entries: u64,
+    journal: u64,
+) -> Result<String, AllocError>
+    ensures { IfOk result (λ report. string_bytes report ≡ line_of link text.now entries (report_of [] journal)) }
 {
-    format!(in alloc; "link 1 {text} entries {entries}\njournal {entries}\n")
+    format!(in alloc; "link {link} {text} entries {entries}\njournal {journal}\n")
 }
 
 fn outcome_text(alloc: Global, outcome: Outcome) -> Result<String, AllocError>

@@ -1,5 +1,5 @@
 // The whole of what the program does, over files, a link and an output that are handed in.
-ghost use Rattle.std.specs.Prelude.{◌≡◌, ◌≢◌, [], ◌⊎◌, ◌↔◌, map, option_map, OnOk, IsErrOf, IsTrue, IsSome, IsNone, IsSomeAnd, IfSome, IfNone, IfOk, Some, None, true, false, is_none, is_some, if◌then◌else◌};
+ghost use Rattle.std.specs.Prelude.{◌≡◌, ◌≢◌, ◌≤◌, [], ◌∷◌, ◌⊎◌, length, map, option_map, OnOk, IsErrOf, IsTrue, IsSome, IsNone, IsSomeAnd, IfSome, Some, None, true, is_none, is_some, if◌then◌else◌};
 ghost use Rattle.s7_outer.specs.Count.{Rose};
 ghost use Rattle.s7_outer.specs.Files.{NonePathFell, KeepsOtherPaths};
 ghost use Rattle.s7_outer.specs.Out.{AppendsPrefix};
@@ -8,16 +8,19 @@ ghost use Rattle.s7_script.specs.Spelling.{spelling};
 ghost use Rattle.s7_words.specs.Server.{server_words, pipe as piped};
 ghost use Rattle.s7server.specs.End.{Serves, Refuses, path_at};
 ghost use Rattle.s7server.specs.Saving.{KeepsBut, HoldsAreas};
-ghost use Rattle.s7server.specs.Link.{IsServed};
-ghost use Rattle.s7server.specs.Doing.{opening_of, memory_of, requests_of};
+ghost use Rattle.s7_session.specs.LinkRun.{IsFresh};
+ghost use Rattle.s7_session.specs.Stands.{entry_count, newest};
+ghost use Rattle.s7server.specs.Link.{IsServed, IsServedLink, IsOneServed, served_told};
+ghost use Rattle.s7server.specs.Told.{told_of, all_told};
 ghost use Rattle.s7server.specs.Report.{Prints, usage_line, refusal_line, file_line, memory_line, report_of};
 
-use crate::doer::PlantDoer;
 use crate::report::{areas_line, file_line, report};
+use crate::run::{Run, Served, ServerEnd};
 use s7_area::Areas;
-use s7_outer::{Clock, FileFault, Files, Link, Memory, Out};
+use s7_outer::{Clock, FileFault, Files, Link, Out};
+use s7_plant::Book;
 use s7_script::{LoadFault, load_areas, write_areas};
-use s7_session::{Outcome, Session};
+use s7_session::{BookDoer, Outcome, Session};
 use s7_words::{ServerWords, read_server_words};
 use std::alloc::Global;
 use std::sync::Wait;
@@ -40,26 +43,12 @@ pub const OUTPUT: u8 = 5;
 /// Memory was wanting.
 pub const MEMORY: u8 = 9;
 
-/// A link that was served: the areas and the link as they were left, how the link ended, and how
-/// many telegrams were entered.
-#[derive(Drop)]
-pub struct Run<L: Link + Drop> {
-    pub areas: Areas,
-    pub line: L,
-    pub outcome: Outcome,
-    pub entries: u64,
-}
+/// The number of the one link that `pipe` serves.
+const LINK: u32 = 1;
 
-/// What is left in the end: the status, and the run or else the link that wasn't served.
-#[derive(Drop)]
-pub struct ServerEnd<L: Link + Drop> {
-    pub status: u8,
-    pub run: Option<Run<L>>,
-    pub pipe: Option<L>,
-}
-
-/// Reads the words, loads the areas that they name, serves the link over them, saves the areas that
-/// are left where the words ask for it, and prints the report.
+/// Reads the words, loads the areas that they name, serves the link over them with a journal of the
+/// room that the words say, saves the areas that are left where the words ask for it, and prints the
+/// report.
 ///
 /// The status is 1 where the words are no command; 2 where the areas can't be read: a faulty line,
 /// an inline word among these, or more than 67,108,864 octets; 3 where the area file failed, or the
@@ -67,9 +56,10 @@ pub struct ServerEnd<L: Link + Drop> {
 /// place of 1, 2 and 3 too; 5 where the output failed at the report; and else 0. For 1, 2, 3 and 9
 /// one line is printed instead, and its failure changes nothing.
 ///
-/// A run is there where the link was served, and else the link comes back as it was, and no path
-/// changes. Where a run is there, no path changes but the one to save to. With status 0 or 5 the
-/// areas that are left lie there; with 3 or 9 it may hold anything.
+/// A run is there where the link was served. It has the book, that one link, whose number is 1, and no
+/// door that failed. All room of the journal is taken before the link is read. Else the link comes
+/// back as it was, and no path changes. Where a run is there, no path changes but the one to save to.
+/// With status 0 or 5 the areas that are left lie there; with 3 or 9 it may hold anything.
 pub fn server_main<R: Wait, F: Files, L: Link + Clock + Drop, O: Out>(
     rt: &R,
     alloc: Global,
@@ -87,26 +77,32 @@ pub fn server_main<R: Wait, F: Files, L: Link + Clock + Drop, O: Out>(
     ensures output_failed { result.status ≡ OUTPUT → Rose (O.out_faults out.old) (O.out_faults out.new) }
 
     // The link was served, over the areas that the words name, or is handed back as it was.
-    ensures served { IfSome result.run (λ run. Serves (server_words (map (λ w. w.now) words.now)) (F.shows files.old) run.areas (L.shows pipe) (L.shows run.line) run.outcome run.entries) }
+    ensures served { IfSome result.run (λ run. Serves (server_words (map (λ w. w.now) words.now)) (F.shows files.old) (L.shows pipe) run.book (all_told L.shows run.links.items) run.door_failed) }
     ensures unserved { result.pipe ≡ (if is_none result.run then Some pipe else None) }
     ensures run { (result.status ≡ DONE) ⊎ (result.status ≡ OUTPUT) → IsSome result.run }
     ensures no_run { (result.status ≡ USAGE) ⊎ (result.status ≡ AREAS) → IsNone result.run }
 
     // What the files hold.
-    ensures saved { (result.status ≡ DONE) ⊎ (result.status ≡ OUTPUT) → IfSome result.run (λ run. HoldsAreas (path_at true (server_words (map (λ w. w.now) words.now))) (F.shows files.old) (F.shows files.new) run.areas) }
+    ensures saved { (result.status ≡ DONE) ⊎ (result.status ≡ OUTPUT) → IfSome result.run (λ run. HoldsAreas (path_at true (server_words (map (λ w. w.now) words.now))) (F.shows files.old) (F.shows files.new) run.book.plant.areas) }
     ensures paths { KeepsBut (if is_some result.run then path_at true (server_words (map (λ w. w.now) words.now)) else None) (F.shows files.old) (F.shows files.new) }
     ensures file_faults { NonePathFell (F.shows files.old).faults (F.shows files.new).faults }
 
     // What was printed.
-    ensures done { result.status ≡ DONE → IfSome result.run (λ run. O.text out.new ≡ append_known (O.text out.old) (report_of run.outcome run.entries)) }
-    ensures broken_off { result.status ≡ OUTPUT → IfSome result.run (λ run. AppendsPrefix (O.text out.old) (O.text out.new) (report_of run.outcome run.entries)) }
+    ensures done { result.status ≡ DONE → IfSome result.run (λ run. O.text out.new ≡ append_known (O.text out.old) (report_of (all_told L.shows run.links.items) (length run.book.journal.entries))) }
+    ensures broken_off { result.status ≡ OUTPUT → IfSome result.run (λ run. AppendsPrefix (O.text out.old) (O.text out.new) (report_of (all_told L.shows run.links.items) (length run.book.journal.entries))) }
     ensures usage_line { result.status ≡ USAGE → Prints (O.text out.old) (O.text out.new) (O.out_faults out.old) (O.out_faults out.new) usage_line }
     ensures memory_line { result.status ≡ MEMORY → Prints (O.text out.old) (O.text out.new) (O.out_faults out.old) (O.out_faults out.new) memory_line }
 {
     match read_server_words(alloc, words) {
-        Ok(Some(ServerWords::Pipe { areas, save })) => {
-            serve_named(rt, alloc, areas, save, files, pipe, out)
-        }
+        Ok(
+            Some(
+                ServerWords::Pipe {
+                    areas,
+                    save,
+                    journal,
+                },
+            ),
+        ) => serve_named(rt, alloc, areas, save, journal, files, pipe, out),
         Ok(None) => unserved(
             USAGE,
             b"usage: s7server pipe AREAS, s7server serve AREAS\n",
@@ -123,34 +119,38 @@ fn serve_named<R: Wait, F: Files, L: Link + Clock + Drop, O: Out>(
     alloc: Global,
     areas: &str,
     save: Option<&str>,
+    journal: u64,
     files: &mut F,
     pipe: L,
     out: &mut O,
 ) -> ServerEnd<L>
+    requires some { 1 ≤ journal }
+    requires few { journal ≤ 262144 }
+
     // The status.
     ensures statuses { (result.status ≡ DONE) ⊎ (result.status ≡ AREAS) ⊎ (result.status ≡ FILE) ⊎ (result.status ≡ OUTPUT) ⊎ (result.status ≡ MEMORY) }
-    ensures refused { result.status ≡ AREAS → Refuses (Some (piped areas.now (option_map (λ s. s.now) save.entry))) (F.shows files.old) (Prints (O.text out.old) (O.text out.new) (O.out_faults out.old) (O.out_faults out.new)) }
-    ensures file_failed { result.status ≡ FILE → IsSomeAnd (path_at (is_some result.run) (Some (piped areas.now (option_map (λ s. s.now) save.entry)))) (λ path. Rose ((F.shows files.old).faults path) ((F.shows files.new).faults path) × Prints (O.text out.old) (O.text out.new) (O.out_faults out.old) (O.out_faults out.new) (file_line path)) }
+    ensures refused { result.status ≡ AREAS → Refuses (Some (piped areas.now (option_map (λ s. s.now) save.entry) journal)) (F.shows files.old) (Prints (O.text out.old) (O.text out.new) (O.out_faults out.old) (O.out_faults out.new)) }
+    ensures file_failed { result.status ≡ FILE → IsSomeAnd (path_at (is_some result.run) (Some (piped areas.now (option_map (λ s. s.now) save.entry) journal))) (λ path. Rose ((F.shows files.old).faults path) ((F.shows files.new).faults path) × Prints (O.text out.old) (O.text out.new) (O.out_faults out.old) (O.out_faults out.new) (file_line path)) }
     ensures output_failed { result.status ≡ OUTPUT → Rose (O.out_faults out.old) (O.out_faults out.new) }
 
     // The link was served, over the areas that the words name, or is handed back as it was.
-    ensures served { IfSome result.run (λ run. Serves (Some (piped areas.now (option_map (λ s. s.now) save.entry))) (F.shows files.old) run.areas (L.shows pipe) (L.shows run.line) run.outcome run.entries) }
+    ensures served { IfSome result.run (λ run. Serves (Some (piped areas.now (option_map (λ s. s.now) save.entry) journal)) (F.shows files.old) (L.shows pipe) run.book (all_told L.shows run.links.items) run.door_failed) }
     ensures unserved { result.pipe ≡ (if is_none result.run then Some pipe else None) }
     ensures run { (result.status ≡ DONE) ⊎ (result.status ≡ OUTPUT) → IsSome result.run }
     ensures no_run { result.status ≡ AREAS → IsNone result.run }
 
     // What the files hold.
-    ensures saved { (result.status ≡ DONE) ⊎ (result.status ≡ OUTPUT) → IfSome result.run (λ run. HoldsAreas (path_at true (Some (piped areas.now (option_map (λ s. s.now) save.entry)))) (F.shows files.old) (F.shows files.new) run.areas) }
-    ensures paths { KeepsBut (if is_some result.run then path_at true (Some (piped areas.now (option_map (λ s. s.now) save.entry))) else None) (F.shows files.old) (F.shows files.new) }
+    ensures saved { (result.status ≡ DONE) ⊎ (result.status ≡ OUTPUT) → IfSome result.run (λ run. HoldsAreas (path_at true (Some (piped areas.now (option_map (λ s. s.now) save.entry) journal))) (F.shows files.old) (F.shows files.new) run.book.plant.areas) }
+    ensures paths { KeepsBut (if is_some result.run then path_at true (Some (piped areas.now (option_map (λ s. s.now) save.entry) journal)) else None) (F.shows files.old) (F.shows files.new) }
     ensures file_faults { NonePathFell (F.shows files.old).faults (F.shows files.new).faults }
 
     // What was printed.
-    ensures done { result.status ≡ DONE → IfSome result.run (λ run. O.text out.new ≡ append_known (O.text out.old) (report_of run.outcome run.entries)) }
-    ensures broken_off { result.status ≡ OUTPUT → IfSome result.run (λ run. AppendsPrefix (O.text out.old) (O.text out.new) (report_of run.outcome run.entries)) }
+    ensures done { result.status ≡ DONE → IfSome result.run (λ run. O.text out.new ≡ append_known (O.text out.old) (report_of (all_told L.shows run.links.items) (length run.book.journal.entries))) }
+    ensures broken_off { result.status ≡ OUTPUT → IfSome result.run (λ run. AppendsPrefix (O.text out.old) (O.text out.new) (report_of (all_told L.shows run.links.items) (length run.book.journal.entries))) }
     ensures memory_line { result.status ≡ MEMORY → Prints (O.text out.old) (O.text out.new) (O.out_faults out.old) (O.out_faults out.new) memory_line }
 {
     match load_areas(alloc, files, areas) {
-        Ok(opening) => serve_areas(rt, alloc, opening, save, files, pipe, out),
+        Ok(opening) => serve_areas(rt, alloc, opening, save, journal, files, pipe, out),
         Err(fault) => ServerEnd {
             status: print_refusal(alloc, fault, areas, out),
             run: None,
@@ -205,65 +205,70 @@ fn serve_areas<R: Wait, F: Files, L: Link + Clock + Drop, O: Out>(
     alloc: Global,
     opening: Areas,
     save: Option<&str>,
+    journal: u64,
     files: &mut F,
     pipe: L,
     out: &mut O,
 ) -> ServerEnd<L>
+    requires some { 1 ≤ journal }
+    requires few { journal ≤ 262144 }
     ensures statuses { (result.status ≡ DONE) ⊎ (result.status ≡ FILE) ⊎ (result.status ≡ OUTPUT) ⊎ (result.status ≡ MEMORY) }
     ensures run { (result.status ≢ MEMORY) → IsSome result.run }
-    ensures served { IfSome result.run (λ run. IsServed opening (L.shows pipe) (L.shows run.line) run.areas run.outcome run.entries) }
+    ensures served { IfSome result.run (λ run. IsOneServed opening journal (L.shows pipe) run.book (all_told L.shows run.links.items) run.door_failed) }
     ensures unserved { result.pipe ≡ (if is_none result.run then Some pipe else None) }
     ensures file_failed { result.status ≡ FILE → IsSomeAnd (option_map (λ s. s.now) save.entry) (λ path. Rose ((F.shows files.old).faults path) ((F.shows files.new).faults path) × Prints (O.text out.old) (O.text out.new) (O.out_faults out.old) (O.out_faults out.new) (file_line path)) }
     ensures output_failed { result.status ≡ OUTPUT → Rose (O.out_faults out.old) (O.out_faults out.new) }
-    ensures saved { (result.status ≡ DONE) ⊎ (result.status ≡ OUTPUT) → IfSome result.run (λ run. HoldsAreas (option_map (λ s. s.now) save.entry) (F.shows files.old) (F.shows files.new) run.areas) }
+    ensures saved { (result.status ≡ DONE) ⊎ (result.status ≡ OUTPUT) → IfSome result.run (λ run. HoldsAreas (option_map (λ s. s.now) save.entry) (F.shows files.old) (F.shows files.new) run.book.plant.areas) }
     ensures paths { KeepsBut (if is_some result.run then option_map (λ s. s.now) save.entry else None) (F.shows files.old) (F.shows files.new) }
     ensures file_faults { NonePathFell (F.shows files.old).faults (F.shows files.new).faults }
-    ensures done { result.status ≡ DONE → IfSome result.run (λ run. O.text out.new ≡ append_known (O.text out.old) (report_of run.outcome run.entries)) }
-    ensures broken_off { result.status ≡ OUTPUT → IfSome result.run (λ run. AppendsPrefix (O.text out.old) (O.text out.new) (report_of run.outcome run.entries)) }
+    ensures done { result.status ≡ DONE → IfSome result.run (λ run. O.text out.new ≡ append_known (O.text out.old) (report_of (all_told L.shows run.links.items) (length run.book.journal.entries))) }
+    ensures broken_off { result.status ≡ OUTPUT → IfSome result.run (λ run. AppendsPrefix (O.text out.old) (O.text out.new) (report_of (all_told L.shows run.links.items) (length run.book.journal.entries))) }
     ensures memory_line { result.status ≡ MEMORY → Prints (O.text out.old) (O.text out.new) (O.out_faults out.old) (O.out_faults out.new) memory_line }
 {
-    let Ok(mut doer) = PlantDoer::new(alloc, opening) else {
+    let Ok(mut book) = Book::new(alloc, opening, journal) else {
         return unserved(MEMORY, b"memory\n", pipe, out);
     };
-    let mut line = pipe;
-    let served = serve_link(rt, alloc, &mut line, &mut doer);
-    let areas = doer.into_areas();
+    let Ok(mut links) = Vec::with_capacity(alloc, 1) else {
+        return unserved(MEMORY, b"memory\n", pipe, out);
+    };
+    let served = serve_link(rt, alloc, pipe, &mut book);
+    let status = close(alloc, &book, save, &served, files, out);
+    links.push_reserved(served);
     ServerEnd {
-        status: close(alloc, &areas, save, served, files, out),
+        status,
         run: Some(Run {
-            areas,
-            line,
-            outcome: served.outcome,
-            entries: served.entries,
+            book,
+            links,
+            door_failed: false,
         }),
         pipe: None,
     }
 }
 
 // Saves the areas where that is asked for, prints the report, and says how that went.
-fn close<F: Files, O: Out>(
+fn close<F: Files, L: Link + Drop, O: Out>(
     alloc: Global,
-    areas: &Areas,
+    book: &Book,
     save: Option<&str>,
-    served: Served,
+    served: &Served<L>,
     files: &mut F,
     out: &mut O,
 ) -> u8
     ensures statuses { (result ≡ DONE) ⊎ (result ≡ FILE) ⊎ (result ≡ OUTPUT) ⊎ (result ≡ MEMORY) }
     ensures file_failed { result ≡ FILE → IsSomeAnd (option_map (λ s. s.now) save.entry) (λ path. Rose ((F.shows files.old).faults path) ((F.shows files.new).faults path) × Prints (O.text out.old) (O.text out.new) (O.out_faults out.old) (O.out_faults out.new) (file_line path)) }
     ensures output_failed { result ≡ OUTPUT → Rose (O.out_faults out.old) (O.out_faults out.new) }
-    ensures saved { (result ≡ DONE) ⊎ (result ≡ OUTPUT) → HoldsAreas (option_map (λ s. s.now) save.entry) (F.shows files.old) (F.shows files.new) areas.now }
+    ensures saved { (result ≡ DONE) ⊎ (result ≡ OUTPUT) → HoldsAreas (option_map (λ s. s.now) save.entry) (F.shows files.old) (F.shows files.new) book.now.plant.areas }
     ensures paths { KeepsBut (option_map (λ s. s.now) save.entry) (F.shows files.old) (F.shows files.new) }
     ensures file_faults { NonePathFell (F.shows files.old).faults (F.shows files.new).faults }
-    ensures done { result ≡ DONE → O.text out.new ≡ append_known (O.text out.old) (report_of served.outcome served.entries) }
-    ensures broken_off { result ≡ OUTPUT → AppendsPrefix (O.text out.old) (O.text out.new) (report_of served.outcome served.entries) }
+    ensures done { result ≡ DONE → O.text out.new ≡ append_known (O.text out.old) (report_of (told_of L.shows served.now ∷ []) (length book.now.journal.entries)) }
+    ensures broken_off { result ≡ OUTPUT → AppendsPrefix (O.text out.old) (O.text out.new) (report_of (told_of L.shows served.now ∷ []) (length book.now.journal.entries)) }
     ensures memory_line { result ≡ MEMORY → Prints (O.text out.old) (O.text out.new) (O.out_faults out.old) (O.out_faults out.new) memory_line }
 {
     let Some(path) = save else {
-        return print_report(alloc, served.outcome, served.entries, out);
+        return print_report(alloc, served, book.journal.len(), out);
     };
-    match save_areas(alloc, areas, path, files) {
-        Ok(()) => print_report(alloc, served.outcome, served.entries, out),
+    match save_areas(alloc, &book.plant.areas, path, files) {
+        Ok(()) => print_report(alloc, served, book.journal.len(), out),
         Err(FileFault::Failed) => print_failed(alloc, path, out),
         Err(_) => print_status(MEMORY, b"memory\n", out),
     }
@@ -287,35 +292,53 @@ fn save_areas<F: Files>(
     files.write(alloc, path, text.as_slice())
 }
 
-// How a link ended, and how many telegrams were entered.
-#[derive(Clone, Copy, Debug)]
-struct Served {
-    outcome: Outcome,
-    entries: u64,
-}
-
-// Serves a link over a fresh doer.
-fn serve_link<R: Wait, L: Link + Clock>(
+// Serves a link over a fresh book.
+fn serve_link<R: Wait, L: Link + Clock + Drop>(
     rt: &R,
     alloc: Global,
-    line: &mut L,
-    doer: &mut PlantDoer,
-) -> Served
-    requires requests { requests_of doer.old ≡ [] }
-    requires memory { memory_of doer.old ≡ opening_of doer.old }
-    ensures { IsServed (opening_of doer.old) (L.shows line.old) (L.shows line.new) (memory_of doer.new) result.outcome result.entries }
+    pipe: L,
+    book: &mut Book,
+) -> Served<L>
+    requires empty { book.old.journal.entries ≡ [] }
+    requires plant { book.old.plant.areas ≡ book.old.opening.areas }
+    ensures number { result.link ≡ LINK }
+    ensures served { IsServed book.old.opening.areas book.old.journal.limit (L.shows pipe) (told_of L.shows result) book.new }
 {
-    let Ok(mut session) = Session::new(alloc, 1) else {
+    let mut line = pipe;
+    let Ok(mut session) = Session::new(alloc, LINK) else {
         return Served {
+            link: LINK,
+            line,
             outcome: Outcome::Memory,
             entries: 0,
+            last: None,
         };
     };
-    let outcome = session.serve(rt, alloc, line, doer);
+    let outcome = serve_book(rt, alloc, &mut session, &mut line, book);
     Served {
+        link: LINK,
+        line,
         outcome,
         entries: session.entries(),
+        last: session.last(),
     }
+}
+
+// Serves a link over a fresh book by a fresh session.
+fn serve_book<R: Wait, L: Link + Clock>(
+    rt: &R,
+    alloc: Global,
+    session: &mut Session,
+    line: &mut L,
+    book: &mut Book,
+) -> Outcome
+    requires fresh { IsFresh session.old }
+    requires empty { book.old.journal.entries ≡ [] }
+    ensures { IsServedLink book.old.opening.areas book.old.journal.limit (L.shows line.old)
+        (served_told LINK (L.shows line.new) result (entry_count session.new) (newest session.new)) book.new }
+{
+    let mut doer = BookDoer { book, link: LINK };
+    session.serve(rt, alloc, line, &mut doer)
 }
 
 // The end where no link was served: one line is printed, and its failure changes nothing.
@@ -344,14 +367,19 @@ fn print_line<O: Out>(line: &[u8], out: &mut O)
 }
 
 // Prints the report, and says how that went.
-fn print_report<O: Out>(alloc: Global, outcome: Outcome, entries: u64, out: &mut O) -> u8
+fn print_report<L: Link + Drop, O: Out>(
+    alloc: Global,
+    served: &Served<L>,
+    journal: u64,
+    out: &mut O,
+) -> u8
     ensures statuses { (result ≡ DONE) ⊎ (result ≡ OUTPUT) ⊎ (result ≡ MEMORY) }
-    ensures done { result ≡ DONE → O.text out.new ≡ append_known (O.text out.old) (report_of outcome entries) }
-    ensures broken_off { result ≡ OUTPUT → AppendsPrefix (O.text out.old) (O.text out.new) (report_of outcome entries) }
+    ensures done { result ≡ DONE → O.text out.new ≡ append_known (O.text out.old) (report_of (told_of L.shows served.now ∷ []) journal) }
+    ensures broken_off { result ≡ OUTPUT → AppendsPrefix (O.text out.old) (O.text out.new) (report_of (told_of L.shows served.now ∷ []) journal) }
     ensures output_failed { result ≡ OUTPUT → Rose (O.out_faults out.old) (O.out_faults out.new) }
     ensures memory_line { result ≡ MEMORY → Prints (O.text out.old) (O.text out.new) (O.out_faults out.old) (O.out_faults out.new) memory_line }
 {
-    let Ok(text) = report(alloc, outcome, entries) else {
+    let Ok(text) = report(alloc, served.link, served.outcome, served.entries, journal) else {
         print_line(b"memory\n", out);
         return MEMORY;
     };

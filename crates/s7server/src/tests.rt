@@ -1,8 +1,10 @@
 ghost use Rattle.std.specs.Prelude.{◌<◌};
 
-use crate::server::{ServerEnd, server_main};
-use s7_area::{AreaKey, Areas};
+use crate::run::ServerEnd;
+use crate::server::server_main;
+use s7_area::AreaKey;
 use s7_outer::{FailingLink, Fate, MemoryFiles, MemoryLink, MemoryOut, Octets};
+use s7_plant::Book;
 use std::alloc::Global;
 use std::process::Abort;
 use std::sync::Wait;
@@ -108,7 +110,7 @@ fn with_message(alloc: Global, text: &str, message: &str) -> Result<Vec<u8>, Fai
 }
 
 // Serves a link over the data block of a word with this input, which moves so many octets a call,
-// compares what is written on it and printed, and gives the areas.
+// compares what is written on it and printed, and gives the book.
 fn serves<R: Wait + Abort>(
     rt: &R,
     alloc: Global,
@@ -117,7 +119,7 @@ fn serves<R: Wait + Abort>(
     most: usize,
     written: &[u8],
     report: &str,
-) -> Result<Areas, Fail>
+) -> Result<Book, Fail>
     requires { 0 < most }
 {
     let link = MemoryLink::new(alloc, Octets::of_vec(input), most, ROOM, 0)?;
@@ -133,17 +135,18 @@ fn serves<R: Wait + Abort>(
     assert_eq!(rt; end.status, 0);
     assert!(rt; out.text() == report.as_bytes(), "{report}");
     let run = end.run.ok_or("no run")?;
-    assert!(rt; run.line.written() == written, "{report}");
-    Ok(run.areas)
+    let served = run.links.first().ok_or("no link")?;
+    assert!(rt; served.line.written() == written, "{report}");
+    Ok(run.book)
 }
 
-// The areas hold these octets in data block 1.
-fn holds(areas: &Areas, octets: &[u8]) -> bool {
+// Data block 1 of the book's plant holds these octets.
+fn holds(book: &Book, octets: &[u8]) -> bool {
     let key = AreaKey {
         area: 0x84,
         number: 1,
     };
-    areas.octets_of(key) == Some(octets)
+    book.plant.areas.octets_of(key) == Some(octets)
 }
 
 // The report of a link that ended so.
@@ -158,7 +161,7 @@ fn serves_line<R: Wait + Abort>(
     word: &str,
     line: &str,
     most: usize,
-) -> Result<Areas, Fail>
+) -> Result<Book, Fail>
     requires { 0 < most }
 {
     let mut fields = line.split('|');
@@ -183,7 +186,7 @@ fn answers_line<R: Wait + Abort>(rt: &R, alloc: Global, line: &str) -> Result<()
     let input = with_message(alloc, CONNECT, fields.next().ok_or("no message")?)?;
     let written = with_message(alloc, CONFIRM, fields.next().ok_or("no answer")?)?;
     let report = report(alloc, "ended", fields.next().ok_or("no entries")?)?;
-    let areas = serves(
+    let book = serves(
         rt,
         alloc,
         BLOCK,
@@ -192,7 +195,7 @@ fn answers_line<R: Wait + Abort>(rt: &R, alloc: Global, line: &str) -> Result<()
         written.as_slice(),
         report.as_str(),
     )?;
-    assert!(rt; holds(&areas, &OPENED));
+    assert!(rt; holds(&book, &OPENED));
     Ok(())
 }
 
@@ -200,8 +203,8 @@ fn answers_line<R: Wait + Abort>(rt: &R, alloc: Global, line: &str) -> Result<()
 fn a_link_is_served(rt: HostRuntime) -> Result<(), Fail> {
     for line in SERVED.lines() {
         serves_line(&rt, rt.alloc(), BLOCK, line, ROOM)?;
-        let areas = serves_line(&rt, rt.alloc(), BLOCK, line, 1)?;
-        assert!(&rt; holds(&areas, &OPENED));
+        let book = serves_line(&rt, rt.alloc(), BLOCK, line, 1)?;
+        assert!(&rt; holds(&book, &OPENED));
     }
     Ok(())
 }
@@ -232,7 +235,7 @@ fn a_write_goes_on_after_a_refused_item(rt: HostRuntime) -> Result<(), Fail> {
     let mut written = octets(alloc, CONFIRM)?;
     written.extend_from_slice(octets(alloc, WRITTEN)?.as_slice())?;
     let report = report(alloc, "ended", "1")?;
-    let areas = serves(
+    let book = serves(
         &rt,
         alloc,
         BLOCK,
@@ -241,7 +244,7 @@ fn a_write_goes_on_after_a_refused_item(rt: HostRuntime) -> Result<(), Fail> {
         written.as_slice(),
         report.as_str(),
     )?;
-    assert!(&rt; holds(&areas, &[0xAA, 0x22, 0x33, 0xCC]));
+    assert!(&rt; holds(&book, &[0xAA, 0x22, 0x33, 0xCC]));
     Ok(())
 }
 
@@ -357,7 +360,17 @@ fn words_are_usage(rt: HostRuntime) -> Result<(), Fail> {
     words_give(&rt, rt.alloc(), &["serve", "DB1=11"], 1, usage)?;
     words_give(&rt, rt.alloc(), &["pipe"], 1, usage)?;
     words_give(&rt, rt.alloc(), &["pipe", "DB1=11", "DB2=22"], 1, usage)?;
-    words_give(&rt, rt.alloc(), &["pipe", "DB1=11", "--save"], 1, usage)
+    words_give(&rt, rt.alloc(), &["pipe", "DB1=11", "--save"], 1, usage)?;
+    for room in ["0", "262145", "-1", "many"] {
+        words_give(
+            &rt,
+            rt.alloc(),
+            &["pipe", "DB1=11", "--journal", room],
+            1,
+            usage,
+        )?;
+    }
+    Ok(())
 }
 
 #[test]
@@ -419,8 +432,9 @@ fn fate_gives<R: Wait + Abort>(
     let run = served_with(rt, alloc, k, fate, &mut out)?
         .run
         .ok_or("no run")?;
+    let served = run.links.first().ok_or("no link")?;
     assert!(rt; out.text() == report.as_bytes(), "{report}");
-    assert!(rt; run.line.inner().written() == all.as_slice(), "{report}");
+    assert!(rt; served.line.inner().written() == all.as_slice(), "{report}");
     Ok(())
 }
 
@@ -522,7 +536,7 @@ fn saves<R: Wait + Abort>(
     assert_eq!(rt; end.status, status);
     assert!(rt; out.text() == text.as_bytes(), "{text}");
     let run = end.run.ok_or("no run")?;
-    assert!(rt; holds(&run.areas, &[0xAA, 0x22, 0x33, 0xCC]));
+    assert!(rt; holds(&run.book, &[0xAA, 0x22, 0x33, 0xCC]));
     Ok(())
 }
 
@@ -548,6 +562,60 @@ fn the_areas_that_are_left_are_saved(rt: HostRuntime) -> Result<(), Fail> {
     saves_under(&rt, alloc, &["pipe", "--save", "a.txt", "a.txt"], "a.txt")?;
     let files = saves_under(&rt, alloc, &["pipe", BLOCK, "--save=", "--"], "")?;
     assert!(&rt; files.get("a.txt") == Some(AREA_FILE.as_bytes()));
+    Ok(())
+}
+
+/// A read of data block 1 without its sequence, and its answer; the refusal where the journal is full.
+const READ_PARTS: [&str; 2] = [
+    "0300001f02f08032010000",
+    "000e00000401120a10020004000184000000",
+];
+
+const ANSWER_PARTS: [&str; 2] = ["0300001d02f08032030000", "0002000800000401ff04002011223344"];
+
+const FULL_PARTS: [&str; 2] = ["0300001302f08032020000", "000000008f01"];
+
+// Adds a packet with this sequence.
+fn add_packet(
+    alloc: Global,
+    parts: [&str; 2],
+    sequence: u8,
+    all: &mut Vec<u8>,
+) -> Result<(), Fail> {
+    all.extend_from_slice(octets(alloc, parts[0])?.as_slice())?;
+    all.extend_from_slice(&[0, sequence])?;
+    all.extend_from_slice(octets(alloc, parts[1])?.as_slice())?;
+    Ok(())
+}
+
+#[test]
+fn a_journal_has_its_room(rt: HostRuntime) -> Result<(), Fail> {
+    let alloc = rt.alloc();
+    let mut input = octets(alloc, CONNECT)?;
+    let mut written = octets(alloc, CONFIRM)?;
+    for sequence in 5..10 {
+        add_packet(alloc, READ_PARTS, sequence, &mut input)?;
+        let answer = if sequence < 8 {
+            ANSWER_PARTS
+        } else {
+            FULL_PARTS
+        };
+        add_packet(alloc, answer, sequence, &mut written)?;
+    }
+    let link = MemoryLink::new(alloc, Octets::of_vec(input), ROOM, ROOM, 0)?;
+    let mut out = MemoryOut::new(alloc, ROOM)?;
+    let words = &["pipe", BLOCK, "--journal", "3"];
+    let end = server_main(&rt, alloc, words, &mut MemoryFiles::new(), link, &mut out);
+    assert_eq!(&rt; end.status, 0);
+    assert!(&rt; out.text() == b"link 1 ended entries 3\njournal 3\n".as_slice());
+    let run = end.run.ok_or("no run")?;
+    let served = run.links.first().ok_or("no link")?;
+    assert!(&rt; served.line.written() == written.as_slice());
+    assert_eq!(&rt; served.link, 1);
+    assert_eq!(&rt; served.entries, 3);
+    assert!(&rt; served.last == Some(2));
+    assert!(&rt; holds(&run.book, &OPENED));
+    assert!(&rt; !run.door_failed);
     Ok(())
 }
 

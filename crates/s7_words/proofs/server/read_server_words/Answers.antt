@@ -21,4 +21,4 @@ others (w ∷ ws) name is no_pipe =
     go false is_pipe first = refl
 
 pub returns-in_default-name : goal.returns-in_default-name
-returns-in_default-name c = record { told = others c.args.words.now c.in-Some.name.now c.in-Some.ensures.value c.in_default-name.not-pipe }
+returns-in_default-name c = record { told = others c.args.words.now c.in-Some.name.now c.in-Some.ensures.value c.in_default-name.not-pipe; journal = tt }
