@@ -1,41 +1,39 @@
 -- `clap` reads a simple command by the rules of `specs/Line.antt`.
 use Rattle.std.proofs.Common.{◌≡◌, ◌∙◌, ◌<◌, ◌+◌, ◌^◌, ◌&&◌, ◌||◌, ◌⊎◌, ℕ, Bool, cond, true, false, not, refl, sym, ap, subst, List, [], ◌∷◌, ◌++◌, map, length, min, Option, Some, None, is_some, nat_lt, nat_le, inl, inr, true≢false}
-use Rattle.std.specs.Prelude.{◌==◌, if◌then◌else◌, slice_get, option_and_then, option_map, find, fold}
+use Rattle.std.specs.Prelude.{◌==◌, if◌then◌else◌, slice_get, option_and_then, option_map, fold}
 use Rattle.std.specs.List.{list_any, list_all}
 use Rattle.std.specs.Option.{option_map_or}
 use Rattle.std.specs.Str.{bytes_eq, chars}
-use Rattle.std.proofs.lemmas.List.{map-append}
+use Rattle.std.proofs.lemmas.List.Sums.{fold-append}
 use Rattle.std.proofs.lemmas.Slice.Eq.{bytes_eq-Decides}
 use Rattle.std.proofs.Common.{ltb-true, lt-ltb}
 use Rattle.std.proofs.Math.Nat.{lt_of_le_of_lt}
 use Rattle.std.proofs.lemmas.Bool.Decides.{leb_tells}
 use Rattle.clap.specs.Lexer.{usize_max, long_of, short_of}
-use Rattle.clap.specs.Values.{reading_of, read_as}
+use Rattle.clap.specs.Values.{reading_of}
 use Rattle.clap.specs.ValueTests.{accepts}
 use Rattle.clap.specs.Kinds.{Kinds, or_else}
-use Rattle.clap.specs.Facts.{explicit_source}
-use Rattle.clap.specs.Walk.{Held, Row, Rule, Walk, Waiting, idle, option, used, with_values, without, at_row, more_values, has_row, settled, arg_by_id, arg_by_long, arg_by_short, arg_by_index, walked, to_positional, nothing_held, with_default, finished, rows_after, first_of, one_of, row_text, subcommand_met, plain_word, after_step, bundle_met}
+use Rattle.clap.specs.Walk.{Held, Row, Rule, Walk, Waiting, idle, option, positional, value as to_operand, is_append, used_as, used, without, has_row, settled, arg_by_id, arg_by_long, arg_by_short, arg_by_index, walked, to_positional, nothing_held, with_default, finished, rows_after, subcommand_met, plain_word, after_step, bundle_met}
 use Rattle.clap.specs.declared.error.kind.ErrorKind.TheVariants.{UnknownArgument}
 use Rattle.clap.specs.Faults.{entered_fault, built_fault, positional_fault, use_fault, settle_fault, turn_fault, walk_fault, step_fault, flags_fault, defaults_fault, check_fault}
 use Rattle.clap.specs.Simple.{App, Shape, new_shape, new_rule, entered}
 use Rattle.clap.specs.Takes.{is_given as given_row}
-use Rattle.clap.specs.declared.builder.action.ArgAction.TheVariants.{Set}
-use Rattle.clap.specs.declared.builder.value_parser.ValueParser.{ValueParser}
-use Rattle.clap.specs.declared.builder.value_parser.ValueParser.TheVariants as vp
-use Rattle.clap.specs.declared.parser.matches.ValueSource.TheVariants.{CommandLine}
-use Rattle.s7_words.specs.Line.{Text, Kind, ends, named, dashed, plain, Field, Line, Given, Reading, after_two_dashes, after_dash, kind_of_word, range_takes, is_given, value_of, added, with_operand, with_value, with_named, option_of, with_kind, read, has_required, start, given_by}
+use Rattle.clap.specs.declared.builder.action.ArgAction.{ArgAction}
+use Rattle.clap.specs.declared.builder.action.ArgAction.TheVariants.{Set, Append}
+use Rattle.s7_words.proofs.Rows.{parser_in, rows_with, rows_by, or-false, has-rows, was_given}
+use Rattle.s7_words.specs.Line.{Text, Kind, ends, named, dashed, plain, Field, Line, Given, Reading, after_two_dashes, after_dash, kind_of_word, range_takes, is_given, added, with_operand, with_value, with_named, option_of, left_after, with_kind, read, has_required, start, given_by}
 
 -- ---- the rules that a line is built as
 
-abbrev pub parser_in : Option (ℕ × ℕ) → ValueParser
-parser_in None = vp.String
-parser_in (Some r) = vp.Unsigned r.0 r.1
+abbrev pub action_in : Bool → ArgAction
+action_in true = Append
+action_in false = Set
 
 abbrev pub rule : Field → Option Text → Option ℕ → Rule
 rule f long index = record (new_rule f.name) {
   long = long;
   index = index;
-  action = Some Set;
+  action = Some (action_in f.is_many);
   range = Some (record { start_inclusive = 1; end_inclusive = 1 });
   parser = Some (parser_in f.range);
   required = f.is_required;
@@ -51,16 +49,6 @@ shape name rules = record (new_shape name) {
   disable_help_flag = true;
   disable_help_subcommand = true;
   is_built = true;
-}
-
--- the row of a value that was given
-abbrev pub row : Field × Text → Row
-row g = record {
-  id = g.0.name;
-  values = g.1 ∷ [];
-  count = None;
-  source = Some CommandLine;
-  reading = reading_of (parser_in g.0.range);
 }
 
 -- ---- small tools
@@ -86,31 +74,18 @@ and-false : (b : Bool) → (b && false) ≡ false
 and-false true = refl
 and-false false = refl
 
-or-false : (b : Bool) → (b || false) ≡ b
-or-false true = refl
-or-false false = refl
-
 pub bytes_eq-refl : (t : Text) → bytes_eq t t ≡ true
 bytes_eq-refl t = (bytes_eq-Decides t t).1 refl
 
-has-rows : (gs : Given) (name : Text) → has_row name (map row gs) ≡ is_given gs name
-has-rows [] name = refl
-has-rows (g ∷ gs) name = ap (λ b. bytes_eq g.0.name name || b) (has-rows gs name)
+is_appending : (is_many : Bool) → is_append (action_in is_many) ≡ is_many
+is_appending true = refl
+is_appending false = refl
 
 without-none : (name : Text) (rs : List Row) → has_row name rs ≡ false → without name rs ≡ rs
 without-none name [] none = refl
 without-none name (r ∷ rs) none = go (bytes_eq r.id name) (without-none name rs) none
   where
     go : (b : Bool) → (has_row name rs ≡ false → without name rs ≡ rs) → (b || has_row name rs) ≡ false → cond b rs (r ∷ without name rs) ≡ r ∷ rs
-    go true rest e = absurd (true≢false e)
-    go false rest e = ap (λ xs. r ∷ xs) (rest e)
-
-at_row-none : (name : Text) (change : Row → List Row) (missing rs : List Row) → has_row name rs ≡ false → at_row name change missing rs ≡ rs ++ missing
-at_row-none name change missing [] none = refl
-at_row-none name change missing (r ∷ rs) none = go (bytes_eq r.id name) (at_row-none name change missing rs) none
-  where
-    go : (b : Bool) → (has_row name rs ≡ false → at_row name change missing rs ≡ rs ++ missing) → (b || has_row name rs) ≡ false
-        → cond b (change r ++ rs) (r ∷ at_row name change missing rs) ≡ r ∷ (rs ++ missing)
     go true rest e = absurd (true≢false e)
     go false rest e = ap (λ xs. r ∷ xs) (rest e)
 
@@ -132,22 +107,32 @@ accepts-range (Some r) text h = within _ _ _ _ h
 -- what a step's kinds and rows say of what was given after it
 abbrev pub Tells : Kinds → List Row → Option Given → Type 0
 Tells kinds rows None = Fails kinds
-Tells kinds rows (Some gs) = (kinds ≡ []) × (rows ≡ map row gs)
+Tells kinds rows (Some gs) = (kinds ≡ []) × (rows ≡ rows_by gs)
 
-uses_by : (f : Field) (long : Option Text) (index : Option ℕ) (text : Text) (gs : Given) (has takes : Bool) → has_row f.name (map row gs) ≡ has
+-- a field of one value has no row yet
+used_with : (many : Bool) (f : Field) (text : Text) (rows : List Row) → (many ≡ false → has_row f.name rows ≡ false)
+    → used_as (action_in many) f.name (reading_of (parser_in f.range)) (text ∷ []) rows ≡ rows_with rows (f, text)
+used_with true f text rows none = refl
+used_with false f text rows none = ap (λ rs. rows_with rs (f, text)) (without-none f.name rows (none refl))
+
+uses_by : (f : Field) (long : Option Text) (index : Option ℕ) (text : Text) (gs : Given) (many has takes : Bool) → f.is_many ≡ many → has_row f.name (rows_by gs) ≡ has
     → accepts false (parser_in f.range) text ≡ takes
-    → Tells (use_fault false (rule f long index) (text ∷ []) (map row gs)) (used (rule f long index) (text ∷ []) (map row gs)) (cond has None (cond takes (Some (gs ++ (f, text) ∷ [])) None))
-uses_by f long index text gs true takes had took = rw had (fails _ _)
-uses_by f long index text gs false false had took = rw (had, took) (fails _ _)
-uses_by f long index text gs false true had took = (
-  rw (had, took) refl,
-  ap (λ rs. with_values f.name (reading_of (parser_in f.range)) CommandLine (text ∷ []) rs) (without-none f.name (map row gs) had)
-      ∙ at_row-none f.name (more_values CommandLine (text ∷ [])) _ (map row gs) had ∙ sym (map-append row gs ((f, text) ∷ [])),
-)
+    → Tells (use_fault false (rule f long index) (text ∷ []) (rows_by gs)) (used (rule f long index) (text ∷ []) (rows_by gs))
+    (cond (has && not many) None (cond takes (Some (gs ++ (f, text) ∷ [])) None))
+uses_by f long index text gs false true takes many had took = rw (many, had) (fails _ _)
+uses_by f long index text gs false false false many had took = rw (many, had, took) (fails _ _)
+uses_by f long index text gs false false true many had took =
+    (rw (many, had, took) refl, used_with f.is_many f text (rows_by gs) (λ one. had) ∙ sym (fold-append rows_with [] gs ((f, text) ∷ [])))
+uses_by f long index text gs true true false many had took = rw (many, took) (fails _ _)
+uses_by f long index text gs true false false many had took = rw (many, took) (fails _ _)
+uses_by f long index text gs true true true many had took =
+    (rw (many, took) refl, used_with f.is_many f text (rows_by gs) (λ one. absurd (true≢false (sym many ∙ one))) ∙ sym (fold-append rows_with [] gs ((f, text) ∷ [])))
+uses_by f long index text gs true false true many had took =
+    (rw (many, took) refl, used_with f.is_many f text (rows_by gs) (λ one. had) ∙ sym (fold-append rows_with [] gs ((f, text) ∷ [])))
 
 pub uses : (f : Field) (long : Option Text) (index : Option ℕ) (text : Text) (gs : Given) → is_bounded f.range ≡ true
-    → Tells (use_fault false (rule f long index) (text ∷ []) (map row gs)) (used (rule f long index) (text ∷ []) (map row gs)) (added f text gs)
-uses f long index text gs small = uses_by f long index text gs _ _ (has-rows gs f.name) (accepts-range f.range text small)
+    → Tells (use_fault false (rule f long index) (text ∷ []) (rows_by gs)) (used (rule f long index) (text ∷ []) (rows_by gs)) (added f text gs)
+uses f long index text gs small = uses_by f long index text gs _ _ _ refl (has-rows gs f.name) (accepts-range f.range text small)
 
 -- ---- what waits to be used
 
@@ -162,7 +147,7 @@ pending_by (one f text) = Some (f.name, text ∷ [])
 pending_by (open_for f) = Some (f.name, [])
 
 abbrev pub held_by : Given → Pend → Held
-held_by gs p = record { rows = map row gs; pending = pending_by p; skip = 0 }
+held_by gs p = record { rows = rows_by gs; pending = pending_by p; skip = 0 }
 
 -- what was given once the pending value is used
 abbrev pub given_after : Given → Pend → Option Given
@@ -171,6 +156,13 @@ given_after gs (one f text) = added f text gs
 given_after gs (open_for f) = None
 
 -- ---- a command that is built by a line
+
+-- where the next operand stands after a value of this field
+abbrev pub position_after : Field → ℕ → ℕ
+position_after f position = if f.is_many then position else min (position + 1) usize_max
+
+abbrev pub waiting_after : Field → Waiting
+waiting_after f = if f.is_many then positional else idle
 
 -- the argument of this field is found by its name
 pub record IsKnown (c : List Rule) (f : Field) : Type 0 where
@@ -182,6 +174,13 @@ pub record IsKnown (c : List Rule) (f : Field) : Type 0 where
 abbrev pub ArePlaced : List Rule → List Field → ℕ → Type 0
 ArePlaced c [] position = arg_by_index c position ≡ None
 ArePlaced c (f ∷ fs) position = (arg_by_index c position ≡ Some (rule f None (Some position))) × IsKnown c f × ArePlaced c fs (min (position + 1) usize_max)
+
+placed_after : (c : List Rule) (f : Field) (fs : List Field) (position : ℕ) → ArePlaced c (f ∷ fs) position → ArePlaced c (left_after f fs) (position_after f position)
+placed_after c f fs position placed = go f.is_many
+  where
+    go : (b : Bool) → ArePlaced c (cond b (f ∷ fs) fs) (cond b position (min (position + 1) usize_max))
+    go true = placed
+    go false = placed.2
 
 abbrev pub AreKnown : List Rule → List Field → Type 0
 AreKnown c [] = Unit {0}
@@ -275,6 +274,29 @@ then_none (Some x) f h = h x
 abbrev pub reading : List Field → Bool → Given → Reading
 reading left is_ended gs = record { waiting = None; is_ended = is_ended; left = left; given = gs }
 
+-- no option waits for its value
+abbrev pub IsFree : Waiting → Type 0
+IsFree idle = Unit {0}
+IsFree (option name) = ⊥
+IsFree positional = Unit {0}
+
+names_none : (waiting : Waiting) (word : Text) → IsFree waiting → subcommand_met [] waiting word ≡ None
+names_none idle word free = refl
+names_none (option name) word free = absurd free
+names_none positional word free = refl
+
+is_value : (c : List Rule) (waiting : Waiting) (word : Text) (h : Held) → IsFree waiting → plain_word c waiting word h ≡ (h, to_operand)
+is_value c idle word h free = refl
+is_value c (option name) word h free = absurd free
+is_value c positional word h free = refl
+
+free_after : (f : Field) → IsFree (waiting_after f)
+free_after f = go f.is_many
+  where
+    go : (b : Bool) → IsFree (cond b positional idle)
+    go true = tt
+    go false = tt
+
 abbrev pub walk_of : Given → Pend → Waiting → ℕ → Bool → Walk
 walk_of gs p waiting position is_ended =
     record { held = held_by gs p; waiting = waiting; position = position; is_trailing = is_ended; stopped = None }
@@ -285,7 +307,7 @@ module _ (name : Text) (c : List Rule) (options : List Field) where
 
   abbrev pub Ends : Kinds → Walk → Option Given → Type 0
   Ends kinds end None = Fails kinds
-  Ends kinds end (Some gs) = (kinds ≡ []) × ((settled c end.held).rows ≡ map row gs) × (end.stopped ≡ None)
+  Ends kinds end (Some gs) = (kinds ≡ []) × ((settled c end.held).rows ≡ rows_by gs) × (end.stopped ≡ None)
 
   -- the kinds and the end of a walk from w, and what the line says of these words
   abbrev pub Agrees : Walk → List Text → Option Given → Type 0
@@ -327,21 +349,21 @@ module _ (name : Text) (c : List Rule) (options : List Field) where
       → walked c [] (walk_of gs p waiting position is_ended) word
       ≡ record {
         held = record { rows = (settled c (held_by gs p)).rows; pending = Some (f.name, word ∷ []); skip = 0 };
-        waiting = idle;
-        position = min (position + 1) usize_max;
+        waiting = waiting_after f;
+        position = position_after f position;
         is_trailing = is_ended;
         stopped = None;
       }
-      → ((now : Given) → Agrees (walk_of now (one f word) idle (min (position + 1) usize_max) is_ended) words (next now))
+      → ((now : Given) → Agrees (walk_of now (one f word) (waiting_after f) (position_after f position) is_ended) words (next now))
       → Agrees (walk_of gs p waiting position is_ended) (word ∷ words) (option_and_then next o)
   operand_at gs p waiting position is_ended f word words None next settle turn_is walk_is rest =
       stops _ word words _ refl (rw turn_is settle)
   operand_at gs p waiting position is_ended f word words (Some now) next settle turn_is walk_is rest =
-      steps _ (walk_of now (one f word) idle (min (position + 1) usize_max) is_ended) word words _ (turn_is ∙ settle.0)
+      steps _ (walk_of now (one f word) (waiting_after f) (position_after f position) is_ended) word words _ (turn_is ∙ settle.0)
       (walk_is ∙ ap (λ (rows : List Row). record {
         held = record { rows = rows; pending = Some (f.name, word ∷ []); skip = 0 };
-        waiting = idle;
-        position = min (position + 1) usize_max;
+        waiting = waiting_after f;
+        position = position_after f position;
         is_trailing = is_ended;
         stopped = None;
       }) settle.1) (rest now)
@@ -356,8 +378,8 @@ module _ (name : Text) (c : List Rule) (options : List Field) where
       ≡ option_map_or (λ a. positional_fault c false a (held_by gs p)) (arg_by_index c position) (UnknownArgument ∷ [])
       → walked c [] (walk_of gs p waiting position is_ended) word
       ≡ to_positional c (arg_by_index c position) word (walk_of gs p waiting position is_ended) (held_by gs p)
-      → ((now : Given) (f : Field) (fs : List Field) → IsKnown c f → ArePlaced c fs (min (position + 1) usize_max)
-      → Agrees (walk_of now (one f word) idle (min (position + 1) usize_max) is_ended) words (says now (one f word) fs is_ended words))
+      → ((now : Given) (f : Field) (fs : List Field) → IsKnown c f → ArePlaced c (left_after f fs) (position_after f position)
+      → Agrees (walk_of now (one f word) (waiting_after f) (position_after f position) is_ended) words (says now (one f word) (left_after f fs) is_ended words))
       → Agrees (walk_of gs p waiting position is_ended) (word ∷ words)
       (option_and_then (λ now. onward words (with_operand left (reading left is_ended now) word)) (given_after gs p))
   operand gs p waiting position is_ended [] word words known placed turn_is walk_is rest =
@@ -365,8 +387,9 @@ module _ (name : Text) (c : List Rule) (options : List Field) where
   operand gs p waiting position is_ended (f ∷ fs) word words known placed turn_is walk_is rest =
       operand_at gs p waiting position is_ended f word words (given_after gs p) _ (settles c gs p known)
       (turn_is ∙ rw (placed.0, and-false) refl)
-      (walk_is ∙ rw (placed.0, and-false, or-false) refl)
-      (λ now. rw (then_map (λ next. read options next words) (λ given. reading fs is_ended given) (added f word now)) (rest now f fs placed.1 placed.2))
+      (walk_is ∙ rw (placed.0, and-false, or-false, is_appending f.is_many) refl)
+      (λ now. rw (then_map (λ next. read options next words) (λ given. reading (left_after f fs) is_ended given) (added f word now))
+      (rest now f fs placed.1 (placed_after c f fs position placed)))
 
   -- after `--`
   ended : (words : List Text) (gs : Given) (p : Pend) (waiting : Waiting) (position : ℕ) (left : List Field) → KnowsPend c p → ArePlaced c left position
@@ -375,12 +398,12 @@ module _ (name : Text) (c : List Rule) (options : List Field) where
   ended [] gs p waiting position left known placed = ends_here gs p waiting position true (given_after gs p) (settles c gs p known)
   ended (word ∷ words) gs p waiting position left known placed =
       operand gs p waiting position true left word words known placed refl refl
-      (λ now f fs known' placed'. ended words now (one f word) idle (min (position + 1) usize_max) fs known' placed')
+      (λ now f fs known' placed'. ended words now (one f word) (waiting_after f) (position_after f position) (left_after f fs) known' placed')
 
   -- what the words say where no option waits, and where one does
   abbrev pub Closed : List Text → Type 0
-  Closed words = (gs : Given) (p : Pend) (position : ℕ) (left : List Field) → KnowsPend c p → ArePlaced c left position
-      → Agrees (walk_of gs p idle position false) words (says gs p left false words)
+  Closed words = (gs : Given) (p : Pend) (waiting : Waiting) (position : ℕ) (left : List Field) → IsFree waiting → KnowsPend c p → ArePlaced c left position
+      → Agrees (walk_of gs p waiting position false) words (says gs p left false words)
 
   abbrev pub waits : Field → List Field → Given → Reading
   waits f left gs = record { waiting = Some f; is_ended = false; left = left; given = gs }
@@ -469,68 +492,75 @@ module _ (name : Text) (c : List Rule) (options : List Field) where
     plain_walk gs p waiting position word top (two, long, inr (x ∷ xs, short, empty)) = rw (top, two, long, short, empty) refl
 
     -- a value given with its name
-    valued_by : (gs : Given) (p : Pend) (position : ℕ) (left : List Field) (word : Text) (words : List Text) (text value : Text) (f : Field) (o : Option Given)
-        → Looks word (named text (Some value)) → option_of options text ≡ Some f
+    valued_by : (gs : Given) (p : Pend) (waiting : Waiting) (position : ℕ) (left : List Field) (word : Text) (words : List Text) (text value : Text) (f : Field) (o : Option Given)
+        → IsFree waiting → Looks word (named text (Some value)) → option_of options text ≡ Some f
         → Tells (settle_fault c false (held_by gs p)) (settled c (held_by gs p)).rows o → IsKnown c f
         → ((now : Given) → Agrees (walk_of now nothing idle position false) words (says now nothing left false words))
-        → Agrees (walk_of gs p idle position false) (word ∷ words) (option_and_then (λ now. onward words (with_value (reading left false now) f value)) o)
-    valued_by gs p position left word words text value f None look is settle fits rest =
-        stops _ word words _ refl (rw (valued_turn gs p idle position word text value f refl look is) (fails_first _ _ settle))
-    valued_by gs p position left word words text value f (Some now) look is settle fits rest =
+        → Agrees (walk_of gs p waiting position false) (word ∷ words) (option_and_then (λ now. onward words (with_value (reading left false now) f value)) o)
+    valued_by gs p waiting position left word words text value f None free look is settle fits rest =
+        stops _ word words _ refl (rw (valued_turn gs p waiting position word text value f (names_none waiting word free) look is) (fails_first _ _ settle))
+    valued_by gs p waiting position left word words text value f (Some now) free look is settle fits rest =
         rw (then_map (λ next. read options next words) (λ given. reading left false given) (added f value now))
         (uses_next (added f value now) (uses f (Some f.name) None value now fits.small))
       where
-        uses_next : (o : Option Given) → Tells (use_fault false (rule f (Some f.name) None) (value ∷ []) (map row now)) (used (rule f (Some f.name) None) (value ∷ []) (map row now)) o
-            → Agrees (walk_of gs p idle position false) (word ∷ words) (option_and_then (λ given. read options (reading left false given) words) o)
-        uses_next None told = stops _ word words _ refl (rw (valued_turn gs p idle position word text value f refl look is, settle.1) (passes_first _ _ settle.0 told))
+        top : subcommand_met [] waiting word ≡ None
+        top = names_none waiting word free
+
+        uses_next : (o : Option Given) → Tells (use_fault false (rule f (Some f.name) None) (value ∷ []) (rows_by now)) (used (rule f (Some f.name) None) (value ∷ []) (rows_by now)) o
+            → Agrees (walk_of gs p waiting position false) (word ∷ words) (option_and_then (λ given. read options (reading left false given) words) o)
+        uses_next None told = stops _ word words _ refl (rw (valued_turn gs p waiting position word text value f top look is, settle.1) (passes_first _ _ settle.0 told))
         uses_next (Some given) told =
             steps _ (walk_of given nothing idle position false) word words _
-            (valued_turn gs p idle position word text value f refl look is ∙ rw (settle.0, settle.1) told.0)
-            (valued_walk gs p idle position word text value f refl look is
+            (valued_turn gs p waiting position word text value f top look is ∙ rw (settle.0, settle.1) told.0)
+            (valued_walk gs p waiting position word text value f top look is
             ∙ rw (settle.1, told.1) refl)
             (rest given)
 
     -- a name alone
-    named_by : (gs : Given) (p : Pend) (position : ℕ) (left : List Field) (word : Text) (words : List Text) (text : Text) (f : Field) (o : Option Given)
-        → Looks word (named text None) → option_of options text ≡ Some f
+    named_by : (gs : Given) (p : Pend) (waiting : Waiting) (position : ℕ) (left : List Field) (word : Text) (words : List Text) (text : Text) (f : Field) (o : Option Given)
+        → IsFree waiting → Looks word (named text None) → option_of options text ≡ Some f
         → Tells (settle_fault c false (held_by gs p)) (settled c (held_by gs p)).rows o
         → ((now : Given) → Agrees (walk_of now (open_for f) (option f.name) position false) words (read options (waits f left now) words))
-        → Agrees (walk_of gs p idle position false) (word ∷ words) (option_and_then (λ now. read options (waits f left now) words) o)
-    named_by gs p position left word words text f None look is settle rest =
-        stops _ word words _ refl (rw (named_turn gs p idle position word text f refl look is) settle)
-    named_by gs p position left word words text f (Some now) look is settle rest =
+        → Agrees (walk_of gs p waiting position false) (word ∷ words) (option_and_then (λ now. read options (waits f left now) words) o)
+    named_by gs p waiting position left word words text f None free look is settle rest =
+        stops _ word words _ refl (rw (named_turn gs p waiting position word text f (names_none waiting word free) look is) settle)
+    named_by gs p waiting position left word words text f (Some now) free look is settle rest =
         steps _ (walk_of now (open_for f) (option f.name) position false) word words _
-        (named_turn gs p idle position word text f refl look is ∙ settle.0)
-        (named_walk gs p idle position word text f refl look is ∙ rw (settle.1) refl)
+        (named_turn gs p waiting position word text f (names_none waiting word free) look is ∙ settle.0)
+        (named_walk gs p waiting position word text f (names_none waiting word free) look is ∙ rw (settle.1) refl)
         (rest now)
 
-    by_value : (gs : Given) (p : Pend) (position : ℕ) (left : List Field) (word : Text) (words : List Text) (text : Text) (value : Option Text) (o : Option Field)
-        → Looks word (named text value) → option_of options text ≡ o → KnowsPend c p → ArePlaced c left position → Closed words → Open words
-        → Agrees (walk_of gs p idle position false) (word ∷ words)
+    by_value : (gs : Given) (p : Pend) (waiting : Waiting) (position : ℕ) (left : List Field) (word : Text) (words : List Text) (text : Text) (value : Option Text) (o : Option Field)
+        → IsFree waiting → Looks word (named text value) → option_of options text ≡ o → KnowsPend c p → ArePlaced c left position → Closed words → Open words
+        → Agrees (walk_of gs p waiting position false) (word ∷ words)
         (option_and_then (λ now. onward words (with_named (reading left false now) value o)) (given_after gs p))
-    by_value gs p position left word words text value None look is knows placed closed opened =
-        stops _ word words _ (then_none (given_after gs p) _ (λ now. refl)) (unknown_fails gs p idle position word text value refl look is)
-    by_value gs p position left word words text None (Some f) look is knows placed closed opened =
-        named_by gs p position left word words text f (given_after gs p) look is (settles c gs p knows)
+    by_value gs p waiting position left word words text value None free look is knows placed closed opened =
+        stops _ word words _ (then_none (given_after gs p) _ (λ now. refl)) (unknown_fails gs p waiting position word text value (names_none waiting word free) look is)
+    by_value gs p waiting position left word words text None (Some f) free look is knows placed closed opened =
+        named_by gs p waiting position left word words text f (given_after gs p) free look is (settles c gs p knows)
         (λ now. opened now f position left (known_option c options text f known is) placed)
-    by_value gs p position left word words text (Some value) (Some f) look is knows placed closed opened =
-        valued_by gs p position left word words text value f (given_after gs p) look is (settles c gs p knows) (known_option c options text f known is)
-        (λ now. closed now nothing position left tt placed)
+    by_value gs p waiting position left word words text (Some value) (Some f) free look is knows placed closed opened =
+        valued_by gs p waiting position left word words text value f (given_after gs p) free look is (settles c gs p knows) (known_option c options text f known is)
+        (λ now. closed now nothing idle position left tt tt placed)
 
-    closed_by : (gs : Given) (p : Pend) (position : ℕ) (left : List Field) (word : Text) (words : List Text) (k : Kind) → Looks word k
+    closed_by : (gs : Given) (p : Pend) (waiting : Waiting) (position : ℕ) (left : List Field) (word : Text) (words : List Text) (k : Kind) → IsFree waiting → Looks word k
         → KnowsPend c p → ArePlaced c left position → Closed words → Open words
-        → Agrees (walk_of gs p idle position false) (word ∷ words)
+        → Agrees (walk_of gs p waiting position false) (word ∷ words)
         (option_and_then (λ now. onward words (with_kind options (reading left false now) None k word)) (given_after gs p))
-    closed_by gs p position left word words ends look knows placed closed opened =
-        steps _ (walk_of gs p idle position true) word words _ (ends_turn gs p idle position word refl look) (ends_walk gs p idle position word refl look)
-        (ended words gs p idle position left knows placed)
-    closed_by gs p position left word words (named text value) look knows placed closed opened =
-        by_value gs p position left word words text value (option_of options text) look refl knows placed closed opened
-    closed_by gs p position left word words dashed look knows placed closed opened =
-        stops _ word words _ (then_none (given_after gs p) _ (λ now. refl)) (dashed_fails gs p idle position word refl look)
-    closed_by gs p position left word words plain look knows placed closed opened =
-        operand gs p idle position false left word words knows placed (plain_turn gs p idle position word refl look) (plain_walk gs p idle position word refl look)
-        (λ now f fs known' placed'. closed now (one f word) (min (position + 1) usize_max) fs known' placed')
+    closed_by gs p waiting position left word words ends free look knows placed closed opened =
+        steps _ (walk_of gs p waiting position true) word words _ (ends_turn gs p waiting position word (names_none waiting word free) look)
+        (ends_walk gs p waiting position word (names_none waiting word free) look)
+        (ended words gs p waiting position left knows placed)
+    closed_by gs p waiting position left word words (named text value) free look knows placed closed opened =
+        by_value gs p waiting position left word words text value (option_of options text) free look refl knows placed closed opened
+    closed_by gs p waiting position left word words dashed free look knows placed closed opened =
+        stops _ word words _ (then_none (given_after gs p) _ (λ now. refl)) (dashed_fails gs p waiting position word (names_none waiting word free) look)
+    closed_by gs p waiting position left word words plain free look knows placed closed opened =
+        operand gs p waiting position false left word words knows placed
+        (plain_turn gs p waiting position word (names_none waiting word free) look ∙ ap (λ s. step_fault (shape name c) position s.0 s.1) (is_value c waiting word (held_by gs p) free))
+        (plain_walk gs p waiting position word (names_none waiting word free) look
+        ∙ ap (λ s. after_step c word (walk_of gs p waiting position false) s.0 s.1) (is_value c waiting word (held_by gs p) free))
+        (λ now f fs known' placed'. closed now (one f word) (waiting_after f) (position_after f position) (left_after f fs) (free_after f) known' placed')
 
     -- an option that waits has no value
     open_named : (gs : Given) (f : Field) (position : ℕ) (word : Text) (text : Text) (value : Option Text) (o : Option Field) → IsKnown c f
@@ -563,17 +593,17 @@ module _ (name : Text) (c : List Rule) (options : List Field) where
         steps _ (walk_of gs (one f word) idle position false) word words _
         (plain_turn gs (open_for f) (option f.name) position word refl look)
         (plain_walk gs (open_for f) (option f.name) position word refl look ∙ value_walk gs f position word fits)
-        (rw (then_map (λ next. read options next words) (λ given. reading left false given) (added f word gs)) (closed gs (one f word) position left fits placed))
+        (rw (then_map (λ next. read options next words) (λ given. reading left false given) (added f word gs)) (closed gs (one f word) idle position left tt fits placed))
 
     both : (words : List Text) → Closed words × Open words
     unfolding walk_fault read
     both [] = (
-      λ gs p position left knows placed. ends_here gs p idle position false (given_after gs p) (settles c gs p knows),
+      λ gs p waiting position left free knows placed. ends_here gs p waiting position false (given_after gs p) (settles c gs p knows),
       λ gs f position left fits placed. settles c gs (open_for f) fits,
     )
     both (word ∷ words) =
         let rest = both words in (
-          λ gs p position left knows placed. closed_by gs p position left word words (kind_of_word word) (looks word) knows placed rest.0 rest.1,
+          λ gs p waiting position left free knows placed. closed_by gs p waiting position left word words (kind_of_word word) free (looks word) knows placed rest.0 rest.1,
           λ gs f position left fits placed. open_by gs f position left word words (kind_of_word word) (looks word) fits placed rest.0,
         )
 
@@ -581,7 +611,7 @@ module _ (name : Text) (c : List Rule) (options : List Field) where
 pub walk_agrees : (name : Text) (c : List Rule) (line : Line) → IsBuiltBy c line → (words : List Text)
     → Agrees name c line.options (walk_of [] nothing idle 1 false) words (read line.options (start line) words)
 walk_agrees name c line is words =
-    (both name c line.options is.by_long is.by_short is.known words).0 [] nothing 1 line.operands tt is.placed
+    (both name c line.options is.by_long is.by_short is.known words).0 [] nothing idle 1 line.operands tt tt is.placed
 
 -- ---- a whole command
 
@@ -599,26 +629,17 @@ same-cond : {X : Type 0} (b : Bool) (x : X) → cond b x x ≡ x
 same-cond true x = refl
 same-cond false x = refl
 
-no_defaults : (gs : Given) (ps : List Placed) → fold with_default (map row gs) (map rule_at ps) ≡ map row gs
+no_defaults : (gs : Given) (ps : List Placed) → fold with_default (rows_by gs) (map rule_at ps) ≡ rows_by gs
 no_defaults gs [] = refl
-no_defaults gs (p ∷ ps) = ap (λ rows. fold with_default rows (map rule_at ps)) (same-cond (has_row p.0.name (map row gs)) (map row gs)) ∙ no_defaults gs ps
+no_defaults gs (p ∷ ps) = ap (λ rows. fold with_default rows (map rule_at ps)) (same-cond (has_row p.0.name (rows_by gs)) (rows_by gs)) ∙ no_defaults gs ps
 
-no_default_faults : (gs : Given) (ps : List Placed) → defaults_fault (map row gs) (map rule_at ps) ≡ []
+no_default_faults : (gs : Given) (ps : List Placed) → defaults_fault (rows_by gs) (map rule_at ps) ≡ []
 unfolding defaults_fault
 no_default_faults gs [] = refl
-no_default_faults gs (p ∷ ps) = rw (or-true (has_row p.0.name (map row gs)), same-cond (has_row p.0.name (map row gs)) (map row gs)) (no_default_faults gs ps)
-
-was_given : (gs : Given) (name : Text) → given_row name (map row gs) ≡ is_given gs name
-was_given [] name = refl
-was_given (g ∷ gs) name = go (bytes_eq g.0.name name) (was_given gs name)
-  where
-    go : (b : Bool) → given_row name (map row gs) ≡ is_given gs name
-        → option_map_or (λ (r : Row). explicit_source r.source) (cond b (Some (row g)) (find (λ r. bytes_eq r.id name) (map row gs))) false ≡ (b || is_given gs name)
-    go true rest = refl
-    go false rest = rest
+no_default_faults gs (p ∷ ps) = rw (or-true (has_row p.0.name (rows_by gs)), same-cond (has_row p.0.name (rows_by gs)) (rows_by gs)) (no_default_faults gs ps)
 
 -- a required field is missing
-missing : (gs : Given) (ps : List Placed) → list_any (λ (a : Rule). a.required && not (given_row a.id (map row gs))) (map rule_at ps)
+missing : (gs : Given) (ps : List Placed) → list_any (λ (a : Rule). a.required && not (given_row a.id (rows_by gs))) (map rule_at ps)
     ≡ not (list_all (λ (f : Field). not f.is_required || is_given gs f.name) (map (λ (p : Placed). p.0) ps))
 missing gs [] = refl
 missing gs (p ∷ ps) = rw (was_given gs p.0.name, missing gs ps) (go p.0.is_required (is_given gs p.0.name) _)
@@ -647,7 +668,7 @@ module _ (name : Text) (ps : List Placed) (line : Line) (fields : map (λ (p : P
   -- no kind of fault and these rows, or some fault
   abbrev pub Gives : Kinds → List Row → Option Given → Type 0
   Gives kinds rows None = Fails kinds
-  Gives kinds rows (Some gs) = (kinds ≡ []) × (rows ≡ map row gs)
+  Gives kinds rows (Some gs) = (kinds ≡ []) × (rows ≡ rows_by gs)
 
   abbrev level : Kinds → Walk → Kinds
   level kinds end = or_else kinds
@@ -657,11 +678,11 @@ module _ (name : Text) (ps : List Placed) (line : Line) (fields : map (λ (p : P
       (check_fault command.top (finished rules_at end.held) (is_some (entered command end.stopped))))))
 
   none_missing : (gs : Given) (b : Bool) → has_required line gs ≡ b
-      → list_any (λ (a : Rule). a.required && not (given_row a.id (map row gs))) rules_at ≡ not b
+      → list_any (λ (a : Rule). a.required && not (given_row a.id (rows_by gs))) rules_at ≡ not b
   none_missing gs b has = missing gs ps ∙ ap (λ fs. not (list_all (λ (f : Field). not f.is_required || is_given gs f.name) fs)) fields ∙ ap not has
 
   at_end : (gs : Given) (b : Bool) → has_required line gs ≡ b
-      → Gives (check_fault command.top (map row gs) false) (map row gs) (cond b (Some gs) None)
+      → Gives (check_fault command.top (rows_by gs) false) (rows_by gs) (cond b (Some gs) None)
   at_end gs true has = (rw (none_missing gs true has) refl, refl)
   at_end gs false has = rw (none_missing gs false has) (fails _ _)
 
@@ -670,13 +691,13 @@ module _ (name : Text) (ps : List Placed) (line : Line) (fields : map (λ (p : P
   finishes kinds end None h = level_fails kinds _ _ _ h
   finishes kinds end (Some gs) h =
       let parts = both_pass kinds (settle_fault rules_at false end.held) h.0 in
-      let same : finished rules_at end.held ≡ map row gs = ap (λ rs. fold with_default rs rules_at) h.1 ∙ no_defaults gs ps in
+      let same : finished rules_at end.held ≡ rows_by gs = ap (λ rs. fold with_default rs rules_at) h.1 ∙ no_defaults gs ps in
       let level_of : Kinds → Option (Text × List Text) → Kinds → List Row → List Row → Kinds =
       λ k stop settle rs all. or_else k (or_else (entered_fault command stop) (or_else settle
       (or_else (defaults_fault rs rules_at) (check_fault command.top all (is_some (entered command stop)))))) in
-      let begun : level kinds end ≡ level_of [] None [] (map row gs) (map row gs) = λ i. level_of (parts.0 i) (h.2 i) (parts.1 i) (h.1 i) (same i) in
-      let kinds_are : level kinds end ≡ check_fault command.top (map row gs) false =
-      begun ∙ ap (λ k. or_else k (check_fault command.top (map row gs) false)) (no_default_faults gs ps) in
+      let begun : level kinds end ≡ level_of [] None [] (rows_by gs) (rows_by gs) = λ i. level_of (parts.0 i) (h.2 i) (parts.1 i) (h.1 i) (same i) in
+      let kinds_are : level kinds end ≡ check_fault command.top (rows_by gs) false =
+      begun ∙ ap (λ k. or_else k (check_fault command.top (rows_by gs) false)) (no_default_faults gs ps) in
       rw (kinds_are, same) (at_end gs (has_required line gs) refl)
 
   -- a built command that takes a line reads words as the line says
@@ -729,29 +750,3 @@ is_built_by line known placed = record {
   known = known;
   placed = placed;
 }
-
--- ---- what the getters read
-
-pub first_of-rows : (gs : Given) (id : Text) → first_of id (map row gs) ≡ value_of gs id
-first_of-rows [] id = refl
-first_of-rows (g ∷ gs) id = go (bytes_eq g.0.name id) (first_of-rows gs id)
-  where
-    go : (b : Bool) → first_of id (map row gs) ≡ value_of gs id
-        → option_and_then (λ (r : Row). slice_get r.values 0) (cond b (Some (row g)) (find (λ r. bytes_eq r.id id) (map row gs)))
-        ≡ option_map (λ (g : Field × Text). g.1) (cond b (Some g) (find (λ g. bytes_eq g.0.name id) gs))
-    go true rest = refl
-    go false rest = rest
-
-as_written : (range : Option (ℕ × ℕ)) (text : Text) → read_as (reading_of (parser_in range)) text ≡ text
-as_written None text = refl
-as_written (Some r) text = refl
-
-pub one_of-rows : (gs : Given) (id : Text) → one_of id (map row gs) ≡ value_of gs id
-one_of-rows [] id = refl
-one_of-rows (g ∷ gs) id = go (bytes_eq g.0.name id) (one_of-rows gs id)
-  where
-    go : (b : Bool) → one_of id (map row gs) ≡ value_of gs id
-        → option_and_then row_text (cond b (Some (row g)) (find (λ r. bytes_eq r.id id) (map row gs)))
-        ≡ option_map (λ (g : Field × Text). g.1) (cond b (Some g) (find (λ g. bytes_eq g.0.name id) gs))
-    go true rest = ap Some (as_written g.0.range g.1)
-    go false rest = rest

@@ -1,10 +1,10 @@
 -- What a parse by `clap` gives, for a command that is built by a line.
-use Rattle.std.proofs.Common.{◌≡◌, ◌∙◌, ◌≤◌, ◌^◌, inl, inr, nat_lt, ltb-true, leb-true, ℕ, true, false, refl, sym, ap, ap₂, subst, List, [], ◌∷◌, ◌++◌, map, drop, Option, Some, None, Result, Ok, Err}
-use Rattle.std.specs.Prelude.{◌≢◌, IsErrAnd, IfOk, option_map, unwrap_or}
+use Rattle.std.proofs.Common.{◌≡◌, ◌∙◌, ◌≤◌, ◌^◌, inl, inr, nat_lt, ltb-true, leb-true, ℕ, Bool, cond, true, false, refl, sym, ap, ap₂, subst, List, [], ◌∷◌, ◌++◌, map, drop, Option, Some, None, Result, Ok, Err}
+use Rattle.std.specs.Prelude.{◌≢◌, IsErrAnd, IfOk, option_and_then, option_map, unwrap_or, if◌then◌else◌}
 use Rattle.std.specs.Borrow.{Bor}
 use Rattle.std.specs.Str.Parse.{ParsesUnsigned, ExplainsUnsignedError, HasUnsignedDigitsIfOk}
 use Rattle.std.specs.declared.num.ParseIntError.{ParseIntError}
-use Rattle.clap.specs.Words.{App, FailsBy, HasKind, HasMatchesOf, IsAmong, Kinds, built, fault_of, found_of, first_value, is_simple, is_simple_and_free, kind_of, matches_of, one_text, rows_of, first_of, one_of}
+use Rattle.clap.specs.Words.{App, FailsBy, HasKind, HasMatchesOf, IsAmong, Kinds, built, fault_of, found_of, first_value, is_simple, is_simple_and_free, kind_of, matches_of, matched_of, one_text, raw_values, rows_of, all_of, first_of, one_of}
 use Rattle.clap.specs.Simple.{argument_words, names_of}
 use Rattle.clap.specs.Matches.{ReadsOne}
 use Rattle.clap.specs.Walk.{Row, Rule, arg_by_id, nothing_held, rows_after}
@@ -12,11 +12,12 @@ use Rattle.clap.specs.Faults.{built_fault}
 use Rattle.clap.specs.declared.error.Error.{Error}
 use Rattle.clap.specs.declared.error.kind.ErrorKind.TheVariants.{OutOfMemory}
 use Rattle.clap.specs.declared.parser.matches.ArgMatches.{ArgMatches}
-use Rattle.clap.proofs.WalkLemmas.{first_value-rows, one_text-rows}
-use Rattle.s7_words.specs.Line.{Text, Field, Line, Given, given_by, value_of, is_between, is_number_between, range_takes, option_of}
-use Rattle.s7_words.specs.Fields.{number_of, number_or}
+use Rattle.clap.proofs.WalkLemmas.{first_value-rows, one_text-rows, raw_values-rows}
+use Rattle.s7_words.specs.Line.{Text, Field, Line, Given, given_by, has_required, number_of, read, start, value_of, values_of, is_between, is_number_between, range_takes, option_of}
+use Rattle.s7_words.specs.Fields.{number_or}
 use Rattle.s7_words.specs.Built.{app_by}
-use Rattle.s7_words.proofs.ClapLine.{AreKnown, ArePlaced, Fails, Gives, IsKnown, first_of-rows, is_bounded, is_built_by, one_of-rows, places, reads_line, row, rule, rule_at, shape}
+use Rattle.s7_words.proofs.ClapLine.{AreKnown, ArePlaced, Fails, Gives, IsKnown, is_bounded, is_built_by, places, reads_line, rule, rule_at, shape}
+use Rattle.s7_words.proofs.Rows.{all_of-rows, first_of-rows, one_of-rows, rows_by}
 use Rattle.s7_words.proofs.Fine.{AllFine, AllNamed, GivenFine, both_true, line_fine, number_read, value_taken}
 
 -- an option is known by a rule with its name
@@ -58,7 +59,7 @@ pub record IsCommand (name : Text) (line : Line) : Type 0 where
 
 abbrev Reads : Kinds → List Row → Option Given → Type 0
 Reads kinds rows None = Fails kinds
-Reads kinds rows (Some gs) = (kinds ≡ []) × (rows ≡ map row gs)
+Reads kinds rows (Some gs) = (kinds ≡ []) × (rows ≡ rows_by gs)
 
 as_reads : (name : Text) (line : Line) (is : IsCommand name line) (kinds : Kinds) (rows : List Row) (o : Option Given) → Gives name (places line) line is.fields kinds rows o → Reads kinds rows o
 as_reads name line is kinds rows None h = h
@@ -95,7 +96,8 @@ module _ (name : Text) (line : Line) (is : IsCommand name line) where
   pub record IsRead (words : List Text) (m : ArgMatches) : Type 0 where
     pub given : Given
     pub by_line : given_by line (drop 1 words) ≡ Some given
-    pub rows : rows_of (found_of m) ≡ map row given
+    pub rows : rows_of (found_of m) ≡ rows_by given
+    pub required : has_required line given ≡ true
     pub fine : AllFine (line.operands ++ line.options) given
 
   -- a parse that succeeds has the rows of what the line gives
@@ -109,6 +111,14 @@ module _ (name : Text) (line : Line) (is : IsCommand name line) where
       ap (λ (x : ArgMatches). rows_of (found_of x)) (sym same) ∙ (matches (ap is_simple made ∙ is.is_simple_too)).0 ∙ ap (λ (b : App). matches_of b words) made in
       go (given_by line (drop 1 words)) refl (parse_reads words) none found (line_fine line is.operands is.options (drop 1 words))
     where
+      is_required : (o : Option Given) (gs : Given) → option_and_then (λ given. if has_required line given then Some given else None) o ≡ Some gs → has_required line gs ≡ true
+      is_required None gs by = cc
+      is_required (Some given) gs by = kept (has_required line given) refl by
+        where
+          kept : (b : Bool) → has_required line given ≡ b → cond b (Some given) None ≡ Some gs → has_required line gs ≡ true
+          kept true has is = let same : given ≡ gs = cc in subst (λ (g : Given). has_required line g ≡ true) same has
+          kept false has is = cc
+
       empty_fails : (kinds : Kinds) → kinds ≡ [] → Fails kinds → ⊥
       empty_fails [] e h = elim h [ ]
       empty_fails (k ∷ ks) e h = cc
@@ -117,12 +127,20 @@ module _ (name : Text) (line : Line) (is : IsCommand name line) where
           → fault_of (app_by name line) words ≡ [] → rows_of (found_of m) ≡ matches_of (app_by name line) words
           → GivenFine (line.operands ++ line.options) o → IsRead words m
       go None by h none found fine = absurd (empty_fails _ none h)
-      go (Some gs) by h none found fine = record { given = gs; by_line = by; rows = found ∙ h.1; fine = fine }
+      go (Some gs) by h none found fine =
+          record { given = gs; by_line = by; rows = found ∙ h.1; required = is_required (read line.options (start line) (drop 1 words)) gs by; fine = fine }
 
   -- `get_str` and `get_one` give what the line gives
   pub text_read : (words : List Text) (m : ArgMatches) (read : IsRead words m) (id : Text) (r : Option (Bor Text)) → option_map (λ s. s.now) r ≡ first_value (found_of m) id
       → option_map (λ s. s.now) r ≡ value_of read.given id
   text_read words m read id r got = got ∙ first_value-rows (found_of m) id ∙ ap (first_of id) read.rows ∙ first_of-rows read.given id
+
+  -- `get_raw` gives all values that the line gives
+  pub texts_read : (words : List Text) (m : ArgMatches) (read : IsRead words m) (id : Text) (r : Option (Bor (List (Bor Text))))
+      → option_map (λ s. map (λ v. v.now) s.now) r ≡ option_map raw_values (matched_of (found_of m) id)
+      → unwrap_or (option_map (λ s. map (λ v. v.now) s.now) r) [] ≡ values_of read.given id
+  texts_read words m read id r got =
+      ap (λ o. unwrap_or o []) (got ∙ raw_values-rows (found_of m) id ∙ ap (all_of id) read.rows) ∙ all_of-rows read.given id
 
   one_is : (words : List Text) (m : ArgMatches) (read : IsRead words m) (id : Text) → one_text (found_of m) id ≡ value_of read.given id
   one_is words m read id = one_text-rows (found_of m) id ∙ ap (one_of id) read.rows ∙ one_of-rows read.given id

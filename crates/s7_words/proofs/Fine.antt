@@ -1,5 +1,5 @@
 -- Each value that a line gives is one that its field takes.
-use Rattle.std.proofs.Common.{◌≡◌, ◌∙◌, ◌<◌, ◌^◌, ◌&&◌, ℕ, Bool, cond, true, false, refl, sym, ap, subst, List, [], ◌∷◌, ◌++◌, Option, Some, None, Result, Ok, Err, is_some, nat_lt, ltb-true, true≢false}
+use Rattle.std.proofs.Common.{◌≡◌, ◌∙◌, ◌<◌, ◌^◌, ◌&&◌, ℕ, Bool, cond, true, false, not, refl, sym, ap, subst, List, [], ◌∷◌, ◌++◌, Option, Some, None, Result, Ok, Err, is_some, nat_lt, ltb-true, true≢false}
 use Rattle.std.specs.Prelude.{option_and_then, option_map, find}
 use Rattle.std.specs.List.{list_all}
 use Rattle.std.specs.Char.{digit_value}
@@ -9,7 +9,7 @@ use Rattle.std.proofs.lemmas.Bool.{leb-true}
 use Rattle.std.proofs.Math.Nat.{lt_of_le_of_lt}
 use Rattle.std.proofs.lemmas.Slice.Eq.{bytes_eq-Decides}
 use Rattle.clap.specs.Matches.{ReadsOne}
-use Rattle.s7_words.specs.Line.{Text, Kind, ends, named, dashed, plain, Field, Line, Given, Reading, kind_of_word, is_number_between, range_takes, is_given, value_of, added, with_operand, with_value, with_named, option_of, with_kind, with_word, read, has_required, start, given_by}
+use Rattle.s7_words.specs.Line.{Text, Kind, ends, named, dashed, plain, Field, Line, Given, Reading, kind_of_word, is_number_between, range_takes, is_given, value_of, added, with_operand, with_value, with_named, option_of, left_after, with_kind, with_word, read, has_required, start, given_by}
 
 pub record IsFine (all : List Field) (g : Field × Text) : Type 0 where
   pub known : option_of all g.0.name ≡ Some g.0
@@ -44,7 +44,7 @@ module _ (all : List Field) where
   -- a value that is added to what is fine
   with_added : (f : Field) (text : Text) (gs : Given) (make : Given → Reading) → option_of all f.name ≡ Some f → AllFine all gs
       → ((now : Given) → AllFine all now → IsFineReading all (make now)) → AfterFine (option_map make (added f text gs))
-  with_added f text gs make known fine next = go (is_given gs f.name) (range_takes f.range text) refl
+  with_added f text gs make known fine next = go (is_given gs f.name && not f.is_many) (range_takes f.range text) refl
     where
       go : (has takes : Bool) → range_takes f.range text ≡ takes → AfterFine (option_map make (cond has None (cond takes (Some (gs ++ (f, text) ∷ [])) None)))
       go true takes is = tt
@@ -54,9 +54,17 @@ module _ (all : List Field) where
   value_fine : (r : Reading) (f : Field) (text : Text) → IsFineReading all r → option_of all f.name ≡ Some f → AfterFine (with_value r f text)
   value_fine r f text fine known = with_added f text r.given _ known fine.given (λ now h. record { waiting = tt; left = fine.left; given = h })
 
+  left_fine : (f : Field) (fs : List Field) → AllNamed all (f ∷ fs) → AllNamed all (left_after f fs)
+  left_fine f fs known = go f.is_many
+    where
+      go : (b : Bool) → AllNamed all (cond b (f ∷ fs) fs)
+      go true = known
+      go false = known.1
+
   operand_fine : (left : List Field) (r : Reading) (word : Text) → AllNamed all left → IsFineReading all r → AfterFine (with_operand left r word)
   operand_fine [] r word known fine = tt
-  operand_fine (f ∷ fs) r word known fine = with_added f word r.given _ known.0 fine.given (λ now h. record { waiting = fine.waiting; left = known.1; given = h })
+  operand_fine (f ∷ fs) r word known fine =
+      with_added f word r.given _ known.0 fine.given (λ now h. record { waiting = fine.waiting; left = left_fine f fs known; given = h })
 
   named_fine : (r : Reading) (value : Option Text) (o : Option Field) → IsFineReading all r → IsNamed all o → AfterFine (with_named r value o)
   named_fine r value None fine known = tt
@@ -145,7 +153,7 @@ pub both_true : (a b : Bool) → (a && b) ≡ true → (a ≡ true) × (b ≡ tr
 both_true true b e = (refl, e)
 both_true false b e = absurd (true≢false (sym e))
 
-digits_from : (ds : Text) → list_all (λ d. nat_lt (digit_value d) 10) ds ≡ true → AllDigits 10 ds
+pub digits_from : (ds : Text) → list_all (λ d. nat_lt (digit_value d) 10) ds ≡ true → AllDigits 10 ds
 digits_from [] e = tt
 digits_from (d ∷ ds) e =
     let parts = both_true _ _ e in

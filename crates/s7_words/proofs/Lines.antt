@@ -1,7 +1,8 @@
 -- The commands of both programs are built by their lines.
 use Rattle.std.proofs.Common.{refl, codes, None, Some}
-use Rattle.s7_words.specs.Server.{pipe_line, save, journal}
-use Rattle.s7_words.specs.Tool.{run_line, host, port, kind, rack, slot, pdu, polls}
+use Rattle.s7_words.specs.Fields.{journal}
+use Rattle.s7_words.specs.Server.{pipe_line, save}
+use Rattle.s7_words.specs.Tool.{run_line, host, port, kind, rack, slot, pdu, polls, rig_line, turns, seed, steps}
 use Rattle.s7_words.proofs.Commands.{IsCommand, long_known}
 
 pub pipe_is : IsCommand (codes "pipe") pipe_line
@@ -28,4 +29,17 @@ run_is = record {
   placed = (refl, record { long = None; index = Some 1; found = refl; small = refl }, refl);
   operands = (refl, tt);
   options = (refl, (refl, (refl, (refl, (refl, (refl, (refl, tt)))))));
+}
+
+pub rig_is : IsCommand (codes "rig") rig_line
+rig_is = record {
+  is_built = refl;
+  is_free = refl;
+  is_simple_too = refl;
+  has_name = refl;
+  fields = refl;
+  known = (long_known _ turns refl refl, (long_known _ seed refl refl, (long_known _ steps refl refl, (long_known _ pdu refl refl, (long_known _ journal refl refl, tt)))));
+  placed = (refl, record { long = None; index = Some 1; found = refl; small = refl }, (refl, record { long = None; index = Some 2; found = refl; small = refl }, refl));
+  operands = (refl, (refl, tt));
+  options = (refl, (refl, (refl, (refl, (refl, tt)))));
 }

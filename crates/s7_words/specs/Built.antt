@@ -1,6 +1,7 @@
 -- The command of `clap` that takes a line.
-use Rattle.std.specs.Prelude.{ℕ, List, [], ◌∷◌, ◌++◌, map, Option, Some, None, true}
+use Rattle.std.specs.Prelude.{ℕ, List, [], ◌∷◌, ◌++◌, map, Option, Some, None, true, if◌then◌else◌}
 use Rattle.clap.specs.Words.{App, Rule, new_app, new_rule, with_rule}
+use Rattle.clap.specs.declared.builder.action.ArgAction.TheVariants.{Append}
 use Rattle.clap.specs.declared.builder.value_parser.ValueParser.{ValueParser}
 use Rattle.clap.specs.declared.builder.value_parser.ValueParser.TheVariants as vp
 use Rattle.s7_words.specs.Line.{Text, Field, Line}
@@ -11,7 +12,11 @@ parser_of (Some r) = Some (vp.Unsigned r.0 r.1)
 
 -- the arguments as the program makes them
 abbrev pub operand_rule : Field → Rule
-operand_rule f = record (new_rule f.name) { required = f.is_required; parser = parser_of f.range }
+operand_rule f = record (new_rule f.name) {
+  required = f.is_required;
+  action = if f.is_many then Some Append else None;
+  parser = parser_of f.range;
+}
 
 abbrev pub option_rule : Field → Rule
 option_rule f = record (new_rule f.name) { long = Some f.name; required = f.is_required; parser = parser_of f.range }

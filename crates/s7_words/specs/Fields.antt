@@ -1,28 +1,33 @@
 -- Fields of commands, and the numbers and texts that were given for them.
 use Rattle.std.specs.Prelude.{ℕ, true, false, codes, Some, None, option_map, unwrap_or}
-use Rattle.std.specs.Str.Parse.{digits_value, without_leading_plus}
-use Rattle.s7_words.specs.Line.{Text, Field, Given, value_of}
+use Rattle.s7_words.specs.Line.{Text, Field, Given, number_of, value_of}
 
 -- an operand that has to be there
 abbrev pub operand : Text → Field
-operand name = record { name = name; range = None; is_required = true }
+operand name = record { name = name; range = None; is_required = true; is_many = false }
+
+-- operands, of which one has to be there
+abbrev pub operands : Text → Field
+operands name = record { name = name; range = None; is_required = true; is_many = true }
 
 -- an option of any text
 abbrev pub text : Text → Field
-text name = record { name = name; range = None; is_required = false }
+text name = record { name = name; range = None; is_required = false; is_many = false }
 
 -- an option of a number from low to high
 abbrev pub number : Text → ℕ → ℕ → Field
-number name low high = record { name = name; range = Some (low, high); is_required = false }
+number name low high =
+    record { name = name; range = Some (low, high); is_required = false; is_many = false }
 
 -- the area file, which several commands take
 abbrev pub areas : Field
 areas = operand (codes "AREAS")
 
--- ---- what was given, or the default
+-- how many entries the journal takes
+abbrev pub journal : Field
+journal = number (codes "journal") 1 262144
 
-abbrev pub number_of : Text → ℕ
-number_of text = digits_value 10 (without_leading_plus text)
+-- ---- what was given, or the default
 
 abbrev pub number_or : Given → Field → ℕ → ℕ
 number_or given f default = unwrap_or (option_map number_of (value_of given f.name)) default

@@ -1,7 +1,8 @@
 -- The words of one command, in GNU form: options `--name VALUE` or `--name=VALUE`, at most once each,
--- before or after the operands, and `--`, after which each word is an operand.
+-- before, between or after the operands, and `--`, after which each word is an operand.
 use Rattle.std.specs.Prelude.{ℕ, Bool, true, false, not, ◌&&◌, ◌||◌, ◌==◌, nat_lt, nat_le, length}
-use Rattle.std.specs.Prelude.{List, [], ◌∷◌, ◌++◌, Option, Some, None, is_some, option_map, find}
+use Rattle.std.specs.Prelude.{List, [], ◌∷◌, ◌++◌, map, filter, find}
+use Rattle.std.specs.Prelude.{Option, Some, None, is_some, option_map}
 use Rattle.std.specs.Prelude.{option_and_then, if◌then◌else◌, slice_get}
 use Rattle.std.specs.List.{before_first, after_first, list_any, list_all}
 use Rattle.std.specs.Char.{digit_value}
@@ -42,11 +43,12 @@ kind_of_word (x ∷ xs) = if x == 45 then after_dash xs else plain
 
 -- ---- what a command takes
 
--- an option or an operand, of a number in a range or of any text
+-- an option or an operand, of a number in a range or of any text, with one value or with many
 pub record Field : Type 0 where
   pub name : Text
   pub range : Option (ℕ × ℕ)
   pub is_required : Bool
+  pub is_many : Bool
 
 pub record Line : Type 0 where
   pub operands : List Field
@@ -56,18 +58,22 @@ abbrev pub is_between : ℕ → ℕ → ℕ → Bool
 is_between low high n = nat_le low n && nat_le n high
 
 -- decimal digits, with a plus before them or none
-abbrev pub is_number_between : ℕ → ℕ → Text → Bool
-is_number_between low high text =
+abbrev pub is_number : Text → Bool
+is_number text =
     let digits = without_leading_plus text in
-    let n = digits_value 10 digits in
-    (nat_lt 0 (length digits) && list_all (λ d. nat_lt (digit_value d) 10) digits)
-    && is_between low high n
+    nat_lt 0 (length digits) && list_all (λ d. nat_lt (digit_value d) 10) digits
+
+abbrev pub number_of : Text → ℕ
+number_of text = digits_value 10 (without_leading_plus text)
+
+abbrev pub is_number_between : ℕ → ℕ → Text → Bool
+is_number_between low high text = is_number text && is_between low high (number_of text)
 
 abbrev pub range_takes : Option (ℕ × ℕ) → Text → Bool
 range_takes None text = true
 range_takes (Some r) text = is_number_between r.0 r.1 text
 
--- what was given, in order
+-- the values that were given, in order, each with its field
 abbrev pub Given : Type 0
 Given = List (Field × Text)
 
@@ -77,9 +83,12 @@ is_given given name = list_any (λ g. bytes_eq g.0.name name) given
 abbrev pub value_of : Given → Text → Option Text
 value_of given name = option_map (λ g. g.1) (find (λ g. bytes_eq g.0.name name) given)
 
--- one more value, for a field that has none yet and takes the text
+abbrev pub values_of : Given → Text → List Text
+values_of given name = map (λ g. g.1) (filter (λ g. bytes_eq g.0.name name) given)
+
+-- one more value, for a field that takes the text, and that takes many or has none yet
 abbrev pub added : Field → Text → Given → Option Given
-added f text given = if is_given given f.name then None
+added f text given = if is_given given f.name && not f.is_many then None
     else (if range_takes f.range text then Some (given ++ (f, text) ∷ []) else None)
 
 -- ---- the words in order
@@ -92,10 +101,14 @@ pub record Reading : Type 0 where
   pub left : List Field
   pub given : Given
 
+-- the operands to come after a value of the first one: one of many values stays the first
+abbrev pub left_after : Field → List Field → List Field
+left_after f fs = if f.is_many then f ∷ fs else fs
+
 abbrev pub with_operand : List Field → Reading → Text → Option Reading
 with_operand [] r word = None
-with_operand (f ∷ fs) r word =
-    option_map (λ given. record r { left = fs; given = given }) (added f word r.given)
+with_operand (f ∷ fs) r word = option_map
+    (λ given. record r { left = left_after f fs; given = given }) (added f word r.given)
 
 abbrev pub with_value : Reading → Field → Text → Option Reading
 with_value r f text =

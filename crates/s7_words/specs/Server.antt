@@ -2,7 +2,7 @@
 use Rattle.std.specs.Prelude.{ℕ, codes, List, [], ◌∷◌, Option, None, option_map, if◌then◌else◌}
 use Rattle.std.specs.Str.{bytes_eq}
 use Rattle.s7_words.specs.Line.{Text, Field, Line, Given, given_by, value_of}
-use Rattle.s7_words.specs.Fields.{text, number, areas, text_or, number_or}
+use Rattle.s7_words.specs.Fields.{text, areas, journal, text_or, number_or}
 
 -- a command with its operands and options
 pub data ServerTold : Type 0 where
@@ -12,10 +12,6 @@ pub data ServerTold : Type 0 where
 
 abbrev pub save : Field
 save = text (codes "save")
-
--- how many entries the journal takes
-abbrev pub journal : Field
-journal = number (codes "journal") 1 262144
 
 abbrev pub pipe_line : Line
 pipe_line = record { operands = areas ∷ []; options = save ∷ journal ∷ [] }

@@ -1,12 +1,13 @@
 -- Commands as contracts see them: their texts in the place of the references to them.
-use Rattle.std.specs.Prelude.{◌≤◌, option_map}
+use Rattle.std.specs.Prelude.{◌≤◌, map, option_map}
 use Rattle.s7_words.specs.Server.{ServerTold, pipe}
-use Rattle.s7_words.specs.Tool.{RunTold, ToolTold, run}
+use Rattle.s7_words.specs.Tool.{RunTold, RigTold, ToolTold, run, rig}
+use Rattle.s7_words.specs.declared.rig_words.RigWords.{RigWords}
 use Rattle.s7_words.specs.declared.run_words.RunWords.{RunWords}
 use Rattle.s7_words.specs.declared.server.ServerWords.{ServerWords}
 use Rattle.s7_words.specs.declared.server.ServerWords.TheVariants.{Pipe}
 use Rattle.s7_words.specs.declared.tool.ToolWords.{ToolWords}
-use Rattle.s7_words.specs.declared.tool.ToolWords.TheVariants.{Run}
+use Rattle.s7_words.specs.declared.tool.ToolWords.TheVariants.{Run, Rig}
 
 abbrev pub server_told_of : ServerWords → ServerTold
 server_told_of (Pipe areas save journal) = pipe areas.now (option_map (λ s. s.now) save) journal
@@ -27,5 +28,17 @@ run_told_of r = record {
   polls = r.polls;
 }
 
+abbrev pub rig_told_of : RigWords → RigTold
+rig_told_of r = record {
+  areas = r.areas.now;
+  scripts = map (λ s. s.now) r.scripts.items;
+  turns = r.turns.items;
+  seed = r.seed;
+  steps = r.steps;
+  pdu = r.pdu;
+  journal = r.journal;
+}
+
 abbrev pub tool_told_of : ToolWords → ToolTold
 tool_told_of (Run r) = run (run_told_of r)
+tool_told_of (Rig r) = rig (rig_told_of r)

@@ -1,8 +1,10 @@
 -- The words of the tool: this project's own command line, with options in GNU form.
-use Rattle.std.specs.Prelude.{ℕ, codes, List, [], ◌∷◌, Option, None, option_map, if◌then◌else◌}
+use Rattle.std.specs.Prelude.{ℕ, Bool, codes, List, [], ◌∷◌, map, length, ◌*◌, ◌==◌, ◌&&◌, nat_le, nat_lt}
+use Rattle.std.specs.Prelude.{Option, Some, None, option_map, option_and_then, if◌then◌else◌}
+use Rattle.std.specs.List.{list_all, slice_split}
 use Rattle.std.specs.Str.{bytes_eq}
-use Rattle.s7_words.specs.Line.{Text, Field, Line, Given, given_by}
-use Rattle.s7_words.specs.Fields.{operand, text, number, text_or, number_or}
+use Rattle.s7_words.specs.Line.{Text, Field, Line, Given, given_by, is_number, number_of, value_of, values_of}
+use Rattle.s7_words.specs.Fields.{operand, operands, text, number, areas, journal, text_or, number_or}
 
 -- how a script is run: against which controller, over which connection, with how many polls
 pub record RunTold : Type 0 where
@@ -15,9 +17,21 @@ pub record RunTold : Type 0 where
   pub pdu : ℕ
   pub polls : ℕ
 
+-- how scripts are run together: on which areas, in which turns, over which connections, with how
+-- large a journal
+pub record RigTold : Type 0 where
+  pub areas : Text
+  pub scripts : List Text
+  pub turns : List ℕ
+  pub seed : ℕ
+  pub steps : ℕ
+  pub pdu : ℕ
+  pub journal : ℕ
+
 -- a command with its operands and options
 pub data ToolTold : Type 0 where
   run : RunTold → ToolTold
+  rig : RigTold → ToolTold
 
 -- ---- run SCRIPT, with these options
 
@@ -63,9 +77,74 @@ run_of given = run (record {
   polls = number_or given polls 50;
 })
 
+-- ---- rig AREAS SCRIPT.., with these options
+
+abbrev pub scripts : Field
+scripts = operands (codes "SCRIPT")
+
+abbrev pub turns : Field
+turns = text (codes "turns")
+
+abbrev pub seed : Field
+seed = number (codes "seed") 0 4294967295
+
+abbrev pub steps : Field
+steps = number (codes "steps") 0 1000000
+
+abbrev pub rig_line : Line
+rig_line = record {
+  operands = areas ∷ scripts ∷ [];
+  options = turns ∷ seed ∷ steps ∷ pdu ∷ journal ∷ [];
+}
+
+abbrev pub most_scripts : ℕ
+most_scripts = 1024
+
+-- each script has two actors
+abbrev pub actors : List Text → ℕ
+actors given = 2 * length given
+
+abbrev pub is_comma : ℕ → Bool
+is_comma b = b == 44
+
+-- the number of one of the actors, which are counted from 0
+abbrev pub is_actor : ℕ → Text → Bool
+is_actor count text = is_number text && nat_lt (number_of text) count
+
+-- actors, of which one has to be there, joined by commas
+abbrev pub turns_in : ℕ → Text → Option (List ℕ)
+turns_in count text =
+    let parts = slice_split is_comma text in
+    if list_all (is_actor count) parts then Some (map number_of parts) else None
+
+-- there are no turns where none are given
+abbrev pub turns_or_none : ℕ → Option Text → Option (List ℕ)
+turns_or_none count None = Some []
+turns_or_none count (Some text) = turns_in count text
+
+abbrev pub rig_with : Given → List Text → List ℕ → ToolTold
+rig_with given paths order = rig (record {
+  areas = text_or given areas [];
+  scripts = paths;
+  turns = order;
+  seed = number_or given seed 0;
+  steps = number_or given steps 0;
+  pdu = number_or given pdu 480;
+  journal = number_or given journal 65536;
+})
+
+abbrev pub rig_of : Given → Option ToolTold
+rig_of given =
+    let paths = values_of given scripts.name in
+    if nat_le (length paths) most_scripts
+    then option_map (rig_with given paths) (turns_or_none (actors paths) (value_of given turns.name))
+    else None
+
 -- ---- all commands
 
 -- the command that the words name, or nothing where they are usage
 abbrev pub tool_words : List Text → Option ToolTold
 tool_words [] = None
-tool_words (name ∷ rest) = if bytes_eq name (codes "run") then option_map run_of (given_by run_line rest) else None
+tool_words (name ∷ rest) =
+    if bytes_eq name (codes "run") then option_map run_of (given_by run_line rest)
+    else (if bytes_eq name (codes "rig") then option_and_then rig_of (given_by rig_line rest) else None)

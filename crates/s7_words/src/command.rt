@@ -2,11 +2,11 @@
 ghost use Rattle.std.specs.Prelude.{◌≡◌, ◌≢◌, IfOk, IfSome, IfNone, IsErrAnd, Ok, false};
 ghost use Rattle.clap.specs.Words.{app_of, kind_of, rule_of};
 ghost use Rattle.s7_words.specs.Built.{operand_rule, option_rule, without_help};
-ghost use Rattle.s7_words.specs.Fields.{operand, text, number};
+ghost use Rattle.s7_words.specs.Fields.{operand, operands, text, number};
 
 use clap::builder::ValueParser;
 use clap::error::ErrorKind;
-use clap::{Arg, ArgMatches, Command, Error};
+use clap::{Arg, ArgAction, ArgMatches, Command, Error};
 use s7_outer::Memory;
 use std::alloc::Global;
 
@@ -23,6 +23,16 @@ pub(crate) fn operand<'a>(alloc: Global, name: &'a str) -> Arg<'a>
     ensures local { result.global ≡ false }
 {
     Arg::new(alloc, name).required(true)
+}
+
+/// Operands of any text, of which one has to be there.
+pub(crate) fn operands<'a>(alloc: Global, name: &'a str) -> Arg<'a>
+    ensures rule { rule_of result ≡ operand_rule (operands name.entry.now) }
+    ensures local { result.global ≡ false }
+{
+    Arg::new(alloc, name)
+        .required(true)
+        .action(ArgAction::Append)
 }
 
 /// An option of a number from `low` to `high`.

@@ -1,12 +1,16 @@
 //! The words of the command lines of both programs. Options are in GNU form: `--name VALUE` or
-//! `--name=VALUE`, at most once each, before or after the operands, and `--` ends them.
+//! `--name=VALUE`, at most once each, before, between or after the operands, and `--` ends them.
 #![tactic(auto)]
 
 mod command;
+mod rig;
+mod rig_words;
 mod run_words;
 mod server;
 mod tool;
+mod turns;
 
+pub use rig_words::RigWords;
 pub use run_words::RunWords;
 pub use server::{ServerWords, read_server_words};
 pub use tool::{ToolWords, read_tool_words};

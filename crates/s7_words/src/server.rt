@@ -29,7 +29,7 @@ pub enum ServerWords<'a> {
 /// first one names no command, and where the rest are not what it takes.
 ///
 /// The first word is the name of the command. An option is `--name VALUE` or `--name=VALUE`, at most
-/// once each, before or after the operands; after `--` every word is an operand. Before it a word of
+/// once each, before, between or after the operands; after `--` every word is an operand. Before it a word of
 /// two or more characters that begins with `-` is neither an operand nor the VALUE of an option
 /// before it. `--name=` has the empty VALUE. A number is one or more decimal digits, with zeros
 /// before them or none, and with a `+` before those or none; one out of its range is usage. There is

@@ -142,11 +142,13 @@ fn server_usage(rt: HostRuntime) -> Result<(), Fail> {
 
 type Run<'a> = (&'a str, &'a str, u16, u8, u8, u8, u16, u32);
 
-fn fields<'a>(words: &ToolWords<'a>) -> Run<'a> {
-    let ToolWords::Run(run) = words;
-    (
-        run.script, run.host, run.port, run.kind, run.rack, run.slot, run.pdu, run.polls,
-    )
+fn run_fields<'a>(words: &ToolWords<'a>) -> Option<Run<'a>> {
+    match words {
+        ToolWords::Run(run) => Some((
+            run.script, run.host, run.port, run.kind, run.rack, run.slot, run.pdu, run.polls,
+        )),
+        ToolWords::Rig(_) => None,
+    }
 }
 
 #[test]
@@ -236,7 +238,7 @@ fn tool_lines(rt: HostRuntime) -> Result<(), Fail> {
         let Some(told) = read_tool_words(rt.alloc(), words)? else {
             return Err(Fail::from("usage"));
         };
-        assert!(rt; fields(&told) == *expected, "{words:?}");
+        assert!(rt; run_fields(&told) == Some(*expected), "{words:?}");
     }
     Ok(())
 }
@@ -250,7 +252,7 @@ fn tool_usage(rt: HostRuntime) -> Result<(), Fail> {
         &["pipe", "s"],
         &["help", "run"],
         &["--help"],
-        &["rig", "a", "b"],
+        &["rigs", "a", "b"],
         &["gen", "5"],
         &["partner", "a"],
         &["run", "s", "t"],
@@ -287,5 +289,146 @@ fn tool_usage(rt: HostRuntime) -> Result<(), Fail> {
     for words in lines {
         assert!(rt; read_tool_words(rt.alloc(), words)?.is_none(), "{words:?}");
     }
+    Ok(())
+}
+
+type Rig<'a> = (&'a str, &'a [&'a str], &'a [u32], u32, u32, u16, u64);
+
+fn is_rig(words: &ToolWords, expected: &Rig) -> bool {
+    match words {
+        ToolWords::Run(_) => false,
+        ToolWords::Rig(rig) => {
+            rig.areas == expected.0
+                && rig.scripts.as_slice() == expected.1
+                && rig.turns.as_slice() == expected.2
+                && (rig.seed, rig.steps, rig.pdu, rig.journal)
+                    == (expected.3, expected.4, expected.5, expected.6)
+        }
+    }
+}
+
+#[test]
+fn rig_lines(rt: HostRuntime) -> Result<(), Fail> {
+    let lines: &[(&[&str], Rig)] = &[
+        (&["rig", "a", "s"], ("a", &["s"], &[], 0, 0, 480, 65_536)),
+        (&["rig", "", ""], ("", &[""], &[], 0, 0, 480, 65_536)),
+        (
+            &["rig", "DB1=00", "-", "s", "s", "rig"],
+            ("DB1=00", &["-", "s", "s", "rig"], &[], 0, 0, 480, 65_536),
+        ),
+        (
+            &["rig", "--", "-a", "--seed", "--"],
+            ("-a", &["--seed", "--"], &[], 0, 0, 480, 65_536),
+        ),
+        (
+            &["rig", "a", "s", "--", "-t"],
+            ("a", &["s", "-t"], &[], 0, 0, 480, 65_536),
+        ),
+        (
+            &[
+                "rig",
+                "a",
+                "s",
+                "--seed",
+                "4294967295",
+                "t",
+                "--steps=1000000",
+                "u",
+            ],
+            (
+                "a",
+                &["s", "t", "u"],
+                &[],
+                4_294_967_295,
+                1_000_000,
+                480,
+                65_536,
+            ),
+        ),
+        (
+            &["rig", "--pdu", "64", "a", "--journal=+01", "s"],
+            ("a", &["s"], &[], 0, 0, 64, 1),
+        ),
+        (
+            &[
+                "rig",
+                "a",
+                "s",
+                "--pdu=960",
+                "--journal",
+                "262144",
+                "--seed=+0",
+                "--steps",
+                "0",
+            ],
+            ("a", &["s"], &[], 0, 0, 960, 262_144),
+        ),
+        (
+            &["rig", "a", "s", "--turns", "0,1,+1,01"],
+            ("a", &["s"], &[0, 1, 1, 1], 0, 0, 480, 65_536),
+        ),
+        (
+            &["rig", "a", "--turns=3", "s", "t"],
+            ("a", &["s", "t"], &[3], 0, 0, 480, 65_536),
+        ),
+    ];
+    for (words, expected) in lines {
+        let Some(told) = read_tool_words(rt.alloc(), words)? else {
+            return Err(Fail::from("usage"));
+        };
+        assert!(rt; is_rig(&told, expected), "{words:?}");
+    }
+    Ok(())
+}
+
+#[test]
+fn rig_usage(rt: HostRuntime) -> Result<(), Fail> {
+    let lines: &[&[&str]] = &[
+        &["rig"],
+        &["rig", "a"],
+        &["rig", "a", "--"],
+        &["rig", "a", "--turns", "0"],
+        &["rig", "a", "-s"],
+        &["rig", "a", "s", "--help"],
+        &["rig", "a", "s", "--port", "102"],
+        &["rig", "a", "s", "--turns="],
+        &["rig", "a", "s", "--turns", ""],
+        &["rig", "a", "s", "--turns"],
+        &["rig", "a", "s", "--turns", "0,"],
+        &["rig", "a", "s", "--turns", ",0"],
+        &["rig", "a", "s", "--turns", "0,,1"],
+        &["rig", "a", "s", "--turns", "0, 1"],
+        &["rig", "a", "s", "--turns", "2"],
+        &["rig", "a", "s", "--turns", "0,2"],
+        &["rig", "a", "s", "--turns=-0"],
+        &["rig", "a", "s", "--turns", "4294967296"],
+        &["rig", "a", "s", "--turns", "0", "--turns", "0"],
+        &["rig", "a", "s", "t", "--turns", "4"],
+        &["rig", "a", "s", "--seed", "4294967296"],
+        &["rig", "a", "s", "--seed=-0"],
+        &["rig", "a", "s", "--steps", "1000001"],
+        &["rig", "a", "s", "--pdu", "63"],
+        &["rig", "a", "s", "--pdu", "961"],
+        &["rig", "a", "s", "--journal", "0"],
+        &["rig", "a", "s", "--journal", "262145"],
+        &["rig", "a", "s", "--seed", "1", "t", "--seed", "1"],
+    ];
+    for words in lines {
+        assert!(rt; read_tool_words(rt.alloc(), words)?.is_none(), "{words:?}");
+    }
+    Ok(())
+}
+
+#[test]
+fn scripts_are_at_most_1024(rt: HostRuntime) -> Result<(), Fail> {
+    let mut words: Vec<&str> = Vec::new(rt.alloc());
+    words.push("rig")?;
+    words.push("a")?;
+    for _script in 0..1024 {
+        words.push("s")?;
+    }
+    assert!(rt; read_tool_words(rt.alloc(), words.as_slice())?.is_some());
+    words.push("s")?;
+    assert!(rt; read_tool_words(rt.alloc(), words.as_slice())?.is_none());
     Ok(())
 }

@@ -6,18 +6,23 @@ ghost use Rattle.s7_words.specs.Line.{given_by};
 ghost use Rattle.s7_words.specs.Tool.{run_line, run_of, tool_words};
 ghost use Rattle.s7_words.specs.Shown.{tool_told_of};
 
-use crate::RunWords;
 use crate::command::{accepted, bare, number, operand, text};
+use crate::rig::read_rig;
+use crate::{RigWords, RunWords};
 use clap::Command;
 use s7_outer::Memory;
 use std::alloc::{AllocError, Global};
 
 /// A command of the tool with its operands and options.
-#[derive(Clone, Copy, Debug, PartialEq, Eq)]
+#[derive(Debug, PartialEq, Eq, Drop)]
 pub enum ToolWords<'a> {
     /// `run SCRIPT [--host HOST] [--port N] [--type N] [--rack N] [--slot N] [--pdu N] [--polls N]`:
     /// runs a script against a controller. The fields of `RunWords` have the ranges and defaults.
     Run(RunWords<'a>),
+    /// `rig AREAS SCRIPT... [--turns LIST] [--seed N] [--steps N] [--pdu N] [--journal N]`: runs
+    /// scripts together, on one set of areas. LIST is one or more numbers, joined by `,`. The fields
+    /// of `RigWords` have the ranges and defaults.
+    Rig(RigWords<'a>),
 }
 
 /// The command that the words name, or `None` where they are usage: where there are none, where the
@@ -38,6 +43,7 @@ pub fn read_tool_words<'a>(
     };
     match *name {
         "run" => read_run(alloc, words),
+        "rig" => read_rig(alloc, words),
         _ => Ok(None),
     }
 }

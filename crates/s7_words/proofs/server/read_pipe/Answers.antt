@@ -1,7 +1,7 @@
 use Rattle.std.proofs.Common.{ap, refl, sym, codes, option_map, Some, ◌≡◌, ◌∙◌}
 use Rattle.clap.specs.Words.{is_simple_and_free}
 use Rattle.s7_words.specs.Fields.{areas}
-use Rattle.s7_words.specs.Server.{ServerTold, journal, pipe, pipe_line, pipe_of, save}
+use Rattle.s7_words.specs.Server.{ServerTold, pipe, pipe_line, pipe_of, save}
 use Rattle.s7_words.proofs.Commands.{accepted, refused, text_or_is, text_read}
 use Rattle.s7_words.proofs.Lines.{pipe_is}
 use Rattle.s7_words.proofs.RunLemmas.{journal_is}
