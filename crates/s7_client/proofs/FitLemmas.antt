@@ -36,7 +36,7 @@ same_some : {A : Type 0} (x y : A) → Some x ≡ Some y → x ≡ y
 same_some x y e = cc
 
 -- general: what holds of each element holds of the one at a place
-one_of_all : {A : Type 0} (P : A → Type 0) (xs : List A) (k : ℕ) (x : A) → AllByRecursion P xs → slice_get xs k ≡ Some x → P x
+pub one_of_all : {A : Type 0} (P : A → Type 0) (xs : List A) (k : ℕ) (x : A) → AllByRecursion P xs → slice_get xs k ≡ Some x → P x
 one_of_all P [] k x each at = absurd (cc)
 one_of_all P (y ∷ xs) zero x each at = subst P (same_some y x at) each.0
 one_of_all P (y ∷ xs) (suc k) x each at = one_of_all P xs k x each.1 at
@@ -109,7 +109,7 @@ groups_fit pdu write items right = all_so (IsGroup pdu write) (Fits pdu write) (
 
 -- ---- the question that is asked
 
-asked_next : (next : Option Question) (octets codes : List ℕ) (question : Question) → asks_or_ends next (all_read octets codes) ≡ sends (numbered question)
+pub asked_next : (next : Option Question) (octets codes : List ℕ) (question : Question) → asks_or_ends next (all_read octets codes) ≡ sends (numbered question)
     → next ≡ Some question
 asked_next None octets codes question is = absurd (cc)
 asked_next (Some q) octets codes question is = cc
@@ -126,7 +126,7 @@ good_by check next telegram true good is = (eqb-true check 0 good, is)
 good_by check next telegram false good is = absurd (cc)
 
 -- what is sent was checked
-good_sent : (check : ℕ) (next : Next) (telegram : Telegram) → if_good check next ≡ sends telegram → (check ≡ 0) × (next ≡ sends telegram)
+pub good_sent : (check : ℕ) (next : Next) (telegram : Telegram) → if_good check next ≡ sends telegram → (check ≡ 0) × (next ≡ sends telegram)
 good_sent check next telegram is = good_by check next telegram (eqb check 0) refl is
 
 -- ---- each job

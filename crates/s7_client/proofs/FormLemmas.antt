@@ -145,7 +145,7 @@ code_by false m n some is = subst (λ k. 0 < k) (same_some m n is) some
 code_positive : (code n : ℕ) → code_refusal code ≡ Some n → 0 < n
 code_positive code n is = code_by (eqb code 0xFF) (number_of_code code) n (some_code code) is
 
-part_positive : (answer : Answer) (n : ℕ) → part_refusal answer ≡ Some n → 0 < n
+pub part_positive : (answer : Answer) (n : ℕ) → part_refusal answer ≡ Some n → 0 < n
 part_positive (refuses error) n is = subst (λ m. 0 < m) (same_some (number_of_error error) n is) (some_error error)
 part_positive (tells []) n is = absurd (cc)
 part_positive (tells (item ∷ [])) n is = code_positive item.code n is
@@ -162,7 +162,7 @@ first_or_positive : (o : Option ℕ) (k : ℕ) (later : Option (ℕ × ℕ)) (r 
 first_or_positive None k later r here there is = there r is
 first_or_positive (Some n) k later r here there is = subst (λ (s : ℕ × ℕ). 0 < s.1) (same_some (k, n) r is) (here n refl)
 
-first_positive : (refusal : Answer → Option ℕ) (k : ℕ) (answers : List Answer) (r : ℕ × ℕ)
+pub first_positive : (refusal : Answer → Option ℕ) (k : ℕ) (answers : List Answer) (r : ℕ × ℕ)
     → ((answer : Answer) (n : ℕ) → refusal answer ≡ Some n → 0 < n) → first_refusal refusal k answers ≡ Some r → 0 < r.1
 first_positive refusal k [] r positive is = absurd (cc)
 first_positive refusal k (answer ∷ answers) r positive is =
@@ -172,7 +172,7 @@ first_positive refusal k (answer ∷ answers) r positive is =
 write_positive : (place number : ℕ) → 0 < number → 0 < write_number place number
 write_positive place number some = some_if (eqb place 0) number _ some (omega arith)
 
-none_first : (o : Option ℕ) (k : ℕ) (later : Option (ℕ × ℕ)) → first_or o k later ≡ None → (o ≡ None) × (later ≡ None)
+pub none_first : (o : Option ℕ) (k : ℕ) (later : Option (ℕ × ℕ)) → first_or o k later ≡ None → (o ≡ None) × (later ≡ None)
 none_first None k later none = (refl, none)
 none_first (Some n) k later none = absurd (cc)
 

@@ -37,14 +37,15 @@ take_front : (xs ys : List ℕ) → take (length xs) (xs ++ ys) ≡ xs
 take_front [] ys = refl
 take_front (x ∷ xs) ys = ap (λ zs. x ∷ zs) (take_front xs ys)
 
-further : (x y : ℕ) (xs front more rest : List ℕ) → x ≡ y → ((z : List ℕ) × (xs ≡ front ++ z) × (0 < length z)) ⊎ ((z : List ℕ) × (front ≡ xs ++ z) × (more ≡ z ++ rest))
-    → ((z : List ℕ) × (x ∷ xs ≡ y ∷ (front ++ z)) × (0 < length z)) ⊎ ((z : List ℕ) × (y ∷ front ≡ x ∷ (xs ++ z)) × (more ≡ z ++ rest))
+-- a front of a list of two parts ends in the first part, or takes it whole
+abbrev pub IsSplit : List ℕ → List ℕ → List ℕ → List ℕ → Type 0
+IsSplit xs more front rest = ((z : List ℕ) × (xs ≡ front ++ z) × (0 < length z)) ⊎ ((z : List ℕ) × (front ≡ xs ++ z) × (more ≡ z ++ rest))
+
+further : (x y : ℕ) (xs front more rest : List ℕ) → x ≡ y → IsSplit xs more front rest → IsSplit (x ∷ xs) more (y ∷ front) rest
 further x y xs front more rest same (inl h) = inl (h.0, ap (λ a. a ∷ xs) same ∙ ap (λ zs. y ∷ zs) h.1, h.2)
 further x y xs front more rest same (inr h) = inr (h.0, ap (λ a. a ∷ front) (sym same) ∙ ap (λ zs. x ∷ zs) h.1, h.2)
 
--- a front ends in the first part, or takes it whole
-split_front : (xs more front rest : List ℕ) → xs ++ more ≡ front ++ rest
-    → ((z : List ℕ) × (xs ≡ front ++ z) × (0 < length z)) ⊎ ((z : List ℕ) × (front ≡ xs ++ z) × (more ≡ z ++ rest))
+pub split_front : (xs more front rest : List ℕ) → xs ++ more ≡ front ++ rest → IsSplit xs more front rest
 split_front [] more front rest e = inr (front, refl, e)
 split_front (x ∷ xs) more [] rest e = inl (x ∷ xs, refl, omega arith)
 split_front (x ∷ xs) more (y ∷ front) rest e = further x y xs front more rest (ap (head_of x) e) (split_front xs more front rest (ap tail_of e))
@@ -55,7 +56,7 @@ split_front (x ∷ xs) more (y ∷ front) rest e = further x y xs front more res
 front_awaits : (origin : Origin) (b used front rest : List ℕ) (cutter : Cut) → HoldsRest (limits origin) b cutter → state_of cutter.limit cutter.held ≡ fed.More
     → ((k : ℕ) → k < length used → state_of cutter.limit (cutter.held ++ take k used) ≡ fed.More)
     → AwaitsOctets (course origin b).awaits → AllAwaited origin b → 0 < length rest
-    → ((z : List ℕ) × (b ≡ front ++ z) × (0 < length z)) ⊎ ((z : List ℕ) × (front ≡ b ++ z) × (used ≡ z ++ rest)) → AwaitsOctets (course origin front).awaits
+    → IsSplit b used front rest → AwaitsOctets (course origin front).awaits
 front_awaits origin b used front rest cutter h more earliest awaits all some (inl y) = all front y.0 y.1 y.2
 front_awaits origin b used front rest cutter h more earliest awaits all some (inr y) =
     let z = y.0 in

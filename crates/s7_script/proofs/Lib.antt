@@ -10,3 +10,4 @@ pub mod ScriptLemmas
 pub mod PartLemmas
 pub mod PrintLemmas
 pub mod FormLemmas
+pub mod MoveLemmas

@@ -1,13 +1,31 @@
--- Laws of printing.
-use Rattle.std.specs.Prelude.{ℕ, List}
+-- Laws of printing and of scripts.
+use Rattle.std.specs.Prelude.{◌≡◌, ℕ, List, Ok}
+use Rattle.std.specs.List.{AllByRecursion}
 use Rattle.s7_client.specs.declared.job.Job.{Job}
+use Rattle.s7_client.specs.declared.job.Job.TheVariants as job
 use Rattle.s7_client.specs.declared.job.JobResult.{JobResult}
 use Rattle.s7_client.specs.Dialogue.{End}
 use Rattle.s7_client.specs.Form.{HasForm}
 use Rattle.s7_client.specs.Running.{IsResult}
+use Rattle.s7_script.specs.Lines.{Text}
 use Rattle.s7_script.specs.Printing.{IsPrintable}
+use Rattle.s7_script.specs.Script.{script}
+use Rattle.s7_script.specs.declared.script_list.ScriptLine.{ScriptLine}
 
 -- What is told of an end that has its form can be printed.
 pub record EndsPrint : Type 0 where
   pub prints : (asked : Job) (end : End) (message : List ℕ) (told : JobResult) → IsResult told asked end message
       → HasForm asked end → IsPrintable told
+
+-- a job that reads or writes, and so neither a connect nor a disconnect
+abbrev pub MovesData : Job → Type 0
+MovesData job.Connect = ⊥
+MovesData (job.ReadArea item) = Unit {0}
+MovesData (job.WriteArea item octets) = Unit {0}
+MovesData (job.ReadMany items) = Unit {0}
+MovesData (job.WriteMany items octets) = Unit {0}
+MovesData job.Disconnect = ⊥
+
+-- Each line of a script reads or writes.
+pub record ScriptsMoveData : Type 0 where
+  pub moves : (text : Text) (lines : List ScriptLine) → script text ≡ Ok lines → AllByRecursion (λ (l : ScriptLine). MovesData l.job) lines

@@ -18,7 +18,7 @@ mod write;
 mod written;
 
 pub use fault::{AreasFault, AreasKind};
-pub use laws::ends_print;
+pub use laws::{ends_print, scripts_move_data};
 pub use load::{LoadFault, load_areas};
 pub use print::print_result;
 pub use read::read_areas;

@@ -34,6 +34,10 @@ unsent s = sends s.conversation
 abbrev pub closed_with : Session → Option Outcome
 closed_with s = s.closed
 
+-- how many octets were used
+abbrev pub used_of : Session → ℕ
+used_of s = s.used
+
 -- how many telegrams were accepted, and the number of the newest entry
 abbrev pub entry_count : Session → ℕ
 entry_count s = s.count
@@ -50,7 +54,7 @@ IsIdle s = (unsent s ≡ []) × (unread s ≡ [])
 -- to be sent.
 pub record Stands (s : Session) (b : List ℕ) (verdicts : List Verdict) (written : List ℕ) : Type 0 where
   pub rest : (past b verdicts).standing ≡ lives → HoldsRest limits b s.cutter
-  pub used : length b ≡ s.used
+  pub used : length b ≡ used_of s
   pub met : (past b verdicts).verdicts ≡ []
   pub owed : owed b verdicts ≡ written ++ unsent s
   pub lives : closed_with s ≡ None → (past b verdicts).standing ≡ lives

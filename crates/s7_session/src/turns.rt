@@ -5,7 +5,7 @@ ghost use Rattle.s7_plant.specs.declared.request.Request.{Request};
 ghost use Rattle.s7_session.specs.Owed.{torn_or_ended};
 ghost use Rattle.s7_session.specs.Bounds.{limit_by};
 ghost use Rattle.s7_session.specs.Conversing.{between_of};
-ghost use Rattle.s7_session.specs.Stands.{IsTurn, IsServed, Consumes, number_of, closed_with, entry_count, newest, unread, unsent};
+ghost use Rattle.s7_session.specs.Stands.{IsTurn, IsServed, Consumes, number_of, closed_with, entry_count, newest, used_of, unread, unsent};
 ghost use Rattle.s7_session.specs.LinkRun.{IsFresh, IsLinkRun};
 
 use crate::answer::Handled;
@@ -60,6 +60,13 @@ impl Session {
         ensures { result ≡ newest self.now }
     {
         self.newest
+    }
+
+    /// How many octets were used.
+    pub fn used(&self) -> u64
+        ensures { result ≡ used_of self.now }
+    {
+        self.used
     }
 
     // How the link ends where no more octets come.
