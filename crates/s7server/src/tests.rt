@@ -3,8 +3,9 @@ ghost use Rattle.std.specs.Prelude.{◌<◌};
 use crate::run::ServerEnd;
 use crate::server::server_main;
 use s7_area::AreaKey;
+use s7_item::Item;
 use s7_outer::{FailingLink, Fate, MemoryFiles, MemoryLink, MemoryOut, Octets};
-use s7_plant::Book;
+use s7_plant::{Book, Entry, Request};
 use std::alloc::Global;
 use std::process::Abort;
 use std::sync::Wait;
@@ -616,6 +617,58 @@ fn a_journal_has_its_room(rt: HostRuntime) -> Result<(), Fail> {
     assert!(&rt; served.last == Some(2));
     assert!(&rt; holds(&run.book, &OPENED));
     assert!(&rt; !run.door_failed);
+    Ok(())
+}
+
+// Octets of data block 1.
+fn octets_of_block(count: u16, address: u32) -> Item {
+    Item {
+        area: 0x84,
+        db: 1,
+        word: 2,
+        count,
+        address,
+    }
+}
+
+// The entry is of link 1, and asks to read these items.
+fn reads(entry: &Entry, wanted: &[Item]) -> bool {
+    match &entry.request {
+        Request::Read { items } => entry.link == 1 && items.as_slice() == wanted,
+        Request::Write { .. } => false,
+    }
+}
+
+// The same for a write.
+fn writes(entry: &Entry, wanted: &[Item]) -> bool {
+    match &entry.request {
+        Request::Read { .. } => false,
+        Request::Write { items, .. } => entry.link == 1 && items.as_slice() == wanted,
+    }
+}
+
+#[test]
+fn a_journal_has_what_was_asked(rt: HostRuntime) -> Result<(), Fail> {
+    let alloc = rt.alloc();
+    let read = [octets_of_block(4, 0)];
+    let written = [
+        octets_of_block(1, 0),
+        octets_of_block(1, 32),
+        octets_of_block(1, 24),
+    ];
+    let line = format!(in alloc; "{CONNECT} {READ}|{CONFIRM} {ANSWER}|ended|1")?;
+    let book = serves_line(&rt, alloc, BLOCK, line.as_str(), ROOM)?;
+    let entries = book.journal.as_slice();
+    assert_eq!(&rt; entries.len(), 1);
+    for entry in entries {
+        assert!(&rt; reads(entry, &read));
+    }
+    let line = format!(in alloc; "{CONNECT} {READ} {WRITE}|{CONFIRM} {ANSWER} {WRITTEN}|ended|2")?;
+    let book = serves_line(&rt, alloc, BLOCK, line.as_str(), ROOM)?;
+    let entries = book.journal.as_slice();
+    assert_eq!(&rt; entries.len(), 2);
+    assert!(&rt; entries.first().is_some_and(|entry| reads(entry, &read)));
+    assert!(&rt; entries.last().is_some_and(|entry| writes(entry, &written)));
     Ok(())
 }
 
