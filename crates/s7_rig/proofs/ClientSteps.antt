@@ -1,0 +1,545 @@
+-- A client's turn keeps what holds of it and its session.
+use Rattle.std.proofs.Common.{◌≡◌, ◌⊎◌, inl, inr, ℕ, ◌<◌, ◌≤◌, false, List, [], ◌∷◌, ◌++◌, refl, ap, sym, ◌∙◌, subst, append_assoc}
+use Rattle.std.specs.Prelude.{Option, None, Some, unwrap_or, map, if◌then◌else◌}
+use Rattle.std.specs.Borrow.{GName}
+use Rattle.std.proofs.lemmas.List.{append-nil, append_cancel_left, map-append}
+use Rattle.s7_outer.specs.PipesHeld.{PipesHeld}
+use Rattle.s7_outer.specs.Pipes.{end_of}
+use Rattle.s7_outer.specs.Shown.{Shown}
+use Rattle.s7_outer.specs.declared.pipes.Side.TheVariants as side
+use Rattle.s7_area.specs.Memory.{Memory}
+use Rattle.s7_client.specs.declared.client.Client.{Client}
+use Rattle.s7_client.specs.declared.config.Config.{Config}
+use Rattle.s7_client.specs.declared.grant.Grant.{Grant}
+use Rattle.s7_client.specs.declared.grant.Leaves.{Leaves}
+use Rattle.s7_client.specs.declared.grant.Leaves.TheVariants.{AsItWas, Connected}
+use Rattle.s7_client.specs.declared.job.Job.{Job}
+use Rattle.s7_client.specs.declared.job.Job.TheVariants as job
+use Rattle.s7_client.specs.declared.job.JobResult.{JobResult}
+use Rattle.s7_client.specs.declared.job.Polled.{Polled}
+use Rattle.s7_client.specs.declared.job.Polled.TheVariants as polled
+use Rattle.s7_client.specs.Course.{begins_anew}
+use Rattle.s7_client.specs.Standing.{Moves, IsByOctets}
+use Rattle.s7_client.specs.Polling as client
+use Rattle.s7_plant.specs.declared.book.Book.{Book}
+use Rattle.s7_session.specs.Books.{own}
+use Rattle.s7_session.specs.Entry.{asked}
+use Rattle.s7_session.specs.Stands.{unread}
+use Rattle.s7_split.specs.Parts.{parts_of}
+use Rattle.s7_rig.specs.State.{Post}
+use Rattle.s7_rig.specs.Turns.{StartsNext, StartsNothing, with_polled, IsClientTurn}
+use Rattle.s7_rig.specs.Scripts.{IsNoConnect, NoneConnects, ConnectsFirst}
+use Rattle.s7_rig.specs.Split.{AllStand}
+use Rattle.s7_rig.proofs.Joint.{Octets, IsConnecting, IsWorking, IsFailing, IsLost, Mode, untouched, connecting, connected, working, lost, Joint}
+use Rattle.s7_session.specs.Verdict.{Verdict}
+use Rattle.s7_session.specs.Owed.{past, owed, entered}
+use Rattle.s7_session.specs.Stands.{unsent}
+use Rattle.s7_rig.specs.Dialogues.{AreReplies, ReadsParts, IsConnectOver, IsJobOver}
+use Rattle.s7_rig.specs.Settled.{Settled}
+use Rattle.s7_rig.specs.Split.{StandsAtPlaces}
+use Rattle.s7_rig.proofs.OpeningLemmas.{connect_is_settled}
+use Rattle.s7_rig.proofs.OverLemmas.{job_is_settled}
+use Rattle.s7_rig.proofs.EndLemmas.{connect_ends, no_connect_leaves, unconnected_fails, working_ends, good_read_leaves}
+use Rattle.s7_rig.proofs.OwnLemmas.{own_replies, reads_own, stands_at, all_stand_more}
+use Rattle.s7_rig.proofs.ClientFacts.{has_job, waits_for_none, some_job, took, wrote, same_moment, given_on, taken_on, wrote_nothing}
+
+-- ---- the first job and the others
+
+connects_first : (j : Job) (rest : List Job) → ConnectsFirst (j ∷ rest) → (j ≡ job.Connect) × NoneConnects rest
+connects_first job.Connect rest h = (refl, h)
+connects_first (job.ReadArea item) rest h = absurd h
+connects_first (job.WriteArea item octets) rest h = absurd h
+connects_first (job.ReadMany items) rest h = absurd h
+connects_first (job.WriteMany items octets) rest h = absurd h
+connects_first job.Disconnect rest h = absurd h
+
+not_anew : (g : Option Grant) (j : Job) → IsNoConnect j → begins_anew g j ≡ false
+not_anew (Some g) j h = refl
+not_anew None job.Connect h = absurd h
+not_anew None (job.ReadArea item) h = refl
+not_anew None (job.WriteArea item octets) h = refl
+not_anew None (job.ReadMany items) h = refl
+not_anew None (job.WriteMany items octets) h = refl
+not_anew None job.Disconnect h = refl
+
+-- a job is of one kind
+not_connect : (j : Job) (item : _) → j ≡ job.ReadArea item → j ≡ job.Connect → ⊥
+not_connect j item is connects = absurd (cc)
+
+left_as_it_was : (leaves : Leaves) (grant : Grant) → leaves ≡ AsItWas → client.grant_after leaves (Some grant) ≡ None → ⊥
+left_as_it_was leaves grant is gone = absurd (no_grant grant (sym (ap (λ l. client.grant_after l (Some grant)) is) ∙ gone))
+  where
+    no_grant : (g : Grant) → Some g ≡ None → ⊥
+    no_grant g e = absurd (cc)
+
+-- ---- starting
+
+module _ (opening : Memory) (limit : ℕ) (config : Config) (book : Book) where
+  -- the client alone is another, with the same octets unread
+  joint_started : (p : Post) (rest : List Job) (c : Client) (o : Octets) → Joint opening limit config book p o
+      → client.unread_of c ≡ client.unread_of p.client → client.config_of c ≡ config
+      → Mode opening config book (record p { rest = rest; client = c; noted = Some [] }) o
+      → Joint opening limit config book (record p { rest = rest; client = c; noted = Some [] }) o
+  joint_started p rest c o j unread conf mode = record {
+    opened = j.opened;
+    limited = j.limited;
+    stands = j.stands;
+    taken = j.taken;
+    given = j.given ∙ ap (λ x. o.heard ++ (x ++ p.pipes.to_client)) (sym unread);
+    legal = j.legal;
+    full = j.full;
+    full_stays = j.full_stays;
+    clock = j.clock;
+    moment_is = j.moment_is;
+    moments = j.moments;
+    config_is = conf;
+    done = j.done;
+    mode = mode;
+  }
+
+  unread_kept : (p : Post) (c : Client) (j : Job) → client.IsStarted p.client c j → IsNoConnect j → client.unread_of c ≡ client.unread_of p.client
+  unread_kept p c j s calm = s.unread ∙ ap (λ b. if b then [] else client.unread_of p.client) (not_anew (client.grant_of p.client) j calm)
+
+  start_mode : (p : Post) (j : Job) (rest : List Job) (c : Client) (o : Octets) → Joint opening limit config book p o
+      → client.job_of p.client ≡ None → p.rest ≡ j ∷ rest → client.IsStarted p.client c j → Mode opening config book p o
+      → Joint opening limit config book (record p { rest = rest; client = c; noted = Some [] }) o
+  start_mode p j rest c o joint idle left s (untouched u) =
+      let first = connects_first j rest (subst ConnectsFirst left u.jobs) in
+      let none : client.unread_of c ≡ [] =
+      s.unread ∙ ap (λ x. if begins_anew x j then [] else client.unread_of p.client) u.fresh.granted ∙ ap (λ x. if begins_anew None x then [] else client.unread_of p.client) first.0 in
+      joint_started p rest c o joint (none ∙ sym u.fresh.unread) (s.config ∙ joint.config_is) (connecting (record {
+        origin = client.origin_at p.client j;
+        stands = subst (λ x. client.StandsFor c (client.origin_at p.client j) x o.sent) (sym u.heard) (subst (λ x. client.StandsFor c (client.origin_at p.client j) [] x) (sym u.sent) s.stands);
+        job = first.0;
+        config_is = u.fresh.config;
+        granted = u.fresh.granted;
+        jobs = first.1;
+      }))
+  start_mode p j rest c o joint idle left s (connecting k) = absurd (has_job p.client k.origin o.heard o.sent k.stands idle)
+  start_mode p j rest c o joint idle left s (connected k) =
+      let jobs : NoneConnects (j ∷ rest) = subst NoneConnects left k.jobs in
+      joint_started p rest c o joint (unread_kept p c j s jobs.0) (s.config ∙ joint.config_is) (working (record {
+        origin = client.origin_at p.client j;
+        heard = [];
+        sent = [];
+        stands = s.stands;
+        job = jobs.0;
+        grant = k.grant;
+        granted = k.granted;
+        pdu = k.pdu;
+        size = k.size;
+        sequence = k.sequence;
+        before = o.used;
+        judged = o.verdicts;
+        used = [];
+        verdicts = [];
+        settled = k.settled;
+        sent_is = sym k.all_used ∙ sym (append-nil o.used);
+        heard_is = sym k.all_heard ∙ sym (append-nil _);
+        used_is = sym (append-nil o.used);
+        verdicts_are = sym (append-nil o.verdicts);
+        earlier = own opening p.link book.journal.entries;
+        mine = [];
+        entries_are = sym (append-nil _);
+        earlier_are = joint.legal;
+        noted = refl;
+        jobs = jobs.1;
+      }))
+  start_mode p j rest c o joint idle left s (working w) = absurd (has_job p.client w.origin w.heard w.sent w.stands idle)
+  start_mode p j rest c o joint idle left s (lost l) =
+      let jobs : NoneConnects (j ∷ rest) = subst NoneConnects left l.jobs in
+      joint_started p rest c o joint (unread_kept p c j s jobs.0) (s.config ∙ joint.config_is) (lost (record {
+        ungranted = s.granted ∙ l.ungranted;
+        job = inr (record {
+          origin = client.origin_at p.client j;
+          heard = [];
+          sent = [];
+          stands = s.stands;
+          job = jobs.0;
+          granted = l.ungranted;
+        });
+        jobs = jobs.1;
+      }))
+
+  pub start_step : (p q : Post) (o : Octets) → Joint opening limit config book p o → StartsNext p q ⊎ StartsNothing p q → Joint opening limit config book q o
+  start_step p q o joint (inl s) =
+      subst (λ x. Joint opening limit config book x o) (sym s.same) (start_mode p s.job s.rest s.client o joint s.idle s.left s.started joint.mode)
+  start_step p q o joint (inr s) = subst (λ x. Joint opening limit config book x o) (sym s.same) joint
+
+  -- ---- polling
+
+  -- the octets of a link after a client moved some
+  abbrev after : Octets → List ℕ → List ℕ → Octets
+  after o used written = record o { sent = o.sent ++ written; heard = o.heard ++ used }
+
+  abbrev polled_post : Post → Client → PipesHeld → List JobResult → List (List ℕ) → Option (List ℕ) → Post
+  polled_post p c pipes results places noted = record p { client = c; pipes = pipes; results = results; places = places; noted = noted }
+
+  joint_polled : (p : Post) (c : Client) (pipes : PipesHeld) (results : List JobResult) (places : List (List ℕ)) (noted : Option (List ℕ)) (loan : GName) (o : Octets)
+      → Joint opening limit config book p o
+      → (m : Moves (client.unread_of p.client) (end_of loan p.pipes side.Client) (client.unread_of c) (end_of loan pipes side.Client))
+      → client.config_of c ≡ client.config_of p.client
+      → AllStand opening book.journal.entries p.link config.pdu results places
+      → Mode opening config book (polled_post p c pipes results places noted) (after o m.used m.written)
+      → Joint opening limit config book (polled_post p c pipes results places noted) (after o m.used m.written)
+  joint_polled p c pipes results places noted loan o j m same done mode = record {
+    opened = j.opened;
+    limited = j.limited;
+    stands = j.stands;
+    taken = taken_on o.sent o.used (unread p.session) p.pipes.to_server m.written pipes.to_server j.taken (wrote loan p.pipes pipes m.written m.wrote);
+    given = given_on o.answered o.heard (client.unread_of p.client) p.pipes.to_client m.received m.used (client.unread_of c) pipes.to_client j.given (took loan p.pipes pipes m.received m.took) m.inbox;
+    legal = j.legal;
+    full = j.full;
+    full_stays = j.full_stays;
+    clock = j.clock;
+    moment_is = same_moment loan p.pipes pipes m.moment ∙ j.moment_is;
+    moments = j.moments;
+    config_is = same ∙ j.config_is;
+    done = done;
+    mode = mode;
+  }
+
+  abbrev moved : Post → Client → PipesHeld → Post
+  moved p c pipes = record p { client = c; pipes = pipes }
+
+  pending_mode : (p : Post) (c : Client) (pipes : PipesHeld) (link link' : Shown) (used written : List ℕ) (o : Octets)
+      → client.Comes p.client link c link' used written polled.Pending → Mode opening config book p o → Mode opening config book (moved p c pipes) (after o used written)
+  pending_mode p c pipes link link' used written o comes (untouched u) = absurd (waits_for_none p.client c (client.config_of p.client).polls u.fresh.job comes.0.waited)
+  pending_mode p c pipes link link' used written o comes (connecting k) = connecting (record {
+    origin = k.origin;
+    stands = (comes.1 k.origin o.heard o.sent k.stands).stands;
+    job = k.job;
+    config_is = k.config_is;
+    granted = k.granted;
+    jobs = k.jobs;
+  })
+  pending_mode p c pipes link link' used written o comes (connected k) = absurd (waits_for_none p.client c (client.config_of p.client).polls k.idle comes.0.waited)
+  pending_mode p c pipes link link' used written o comes (working w) = working (record {
+    origin = w.origin;
+    heard = w.heard ++ used;
+    sent = w.sent ++ written;
+    stands = (comes.1 w.origin w.heard w.sent w.stands).stands;
+    job = w.job;
+    grant = w.grant;
+    granted = w.granted;
+    pdu = w.pdu;
+    size = w.size;
+    sequence = w.sequence;
+    before = w.before;
+    judged = w.judged;
+    used = w.used;
+    verdicts = w.verdicts;
+    settled = w.settled;
+    sent_is = ap (λ x. x ++ written) w.sent_is ∙ append_assoc w.before w.sent written;
+    heard_is = ap (λ x. x ++ used) w.heard_is ∙ append_assoc _ w.heard used;
+    used_is = w.used_is;
+    verdicts_are = w.verdicts_are;
+    earlier = w.earlier;
+    mine = w.mine;
+    entries_are = w.entries_are;
+    earlier_are = w.earlier_are;
+    noted = w.noted;
+    jobs = w.jobs;
+  })
+  pending_mode p c pipes link link' used written o comes (lost l) = lost (record {
+    ungranted = comes.0.granted ∙ l.ungranted;
+    job = still l.job;
+    jobs = l.jobs;
+  })
+    where
+      still : (client.job_of p.client ≡ None) ⊎ IsFailing p → (client.job_of c ≡ None) ⊎ IsFailing (moved p c pipes)
+      still (inl idle) = absurd (waits_for_none p.client c (client.config_of p.client).polls idle comes.0.waited)
+      still (inr f) = inr (record {
+        origin = f.origin;
+        heard = f.heard ++ used;
+        sent = f.sent ++ written;
+        stands = (comes.1 f.origin f.heard f.sent f.stands).stands;
+        job = f.job;
+        granted = f.granted;
+      })
+
+  -- a client without a job changes nothing
+  idle_mode : (p : Post) (pipes : PipesHeld) (o : Octets) → client.job_of p.client ≡ None → Mode opening config book p o → Mode opening config book (record p { pipes = pipes }) o
+  idle_mode p pipes o idle (untouched u) = untouched (record { fresh = u.fresh; jobs = u.jobs; noted = u.noted; sent = u.sent; heard = u.heard })
+  idle_mode p pipes o idle (connecting k) = absurd (has_job p.client k.origin o.heard o.sent k.stands idle)
+  idle_mode p pipes o idle (connected k) = connected (record {
+    idle = k.idle;
+    grant = k.grant;
+    granted = k.granted;
+    pdu = k.pdu;
+    size = k.size;
+    sequence = k.sequence;
+    settled = k.settled;
+    all_used = k.all_used;
+    all_heard = k.all_heard;
+    jobs = k.jobs;
+  })
+  idle_mode p pipes o idle (working w) = absurd (has_job p.client w.origin w.heard w.sent w.stands idle)
+  idle_mode p pipes o idle (lost l) = lost (record { ungranted = l.ungranted; job = inl idle; jobs = l.jobs })
+
+  same_octets : (o : Octets) (written : List ℕ) → written ≡ [] → o.sent ≡ o.sent ++ written
+  same_octets o written none = sym (append-nil o.sent) ∙ ap (λ x. o.sent ++ x) (sym none)
+
+  idle_step : (p : Post) (c : Client) (pipes : PipesHeld) (loan : GName) (o : Octets) (written : List ℕ) → Joint opening limit config book p o
+      → pipes.to_server ≡ p.pipes.to_server ++ written
+      → (client.job_of p.client ≡ None) × (c ≡ p.client) × (end_of loan pipes side.Client ≡ end_of loan p.pipes side.Client)
+      → (o' : Octets) × (o'.sent ≡ o.sent ++ written) × (o'.answered ≡ o.answered) × Joint opening limit config book (moved p c pipes) o'
+  idle_step p c pipes loan o written j wrote_is comes =
+      let to_client : p.pipes.to_client ≡ pipes.to_client = ap (λ (k : Shown). unwrap_or k.left []) (sym comes.2) in
+      let to_server : p.pipes.to_server ≡ pipes.to_server = ap (λ (k : Shown). unwrap_or k.written []) (sym comes.2) in
+      let base : Joint opening limit config book (record p { pipes = pipes }) o = record {
+        opened = j.opened;
+        limited = j.limited;
+        stands = j.stands;
+        taken = j.taken ∙ ap (λ x. o.used ++ (unread p.session ++ x)) to_server;
+        given = j.given ∙ ap (λ x. o.heard ++ (client.unread_of p.client ++ x)) to_client;
+        legal = j.legal;
+        full = j.full;
+        full_stays = j.full_stays;
+        clock = j.clock;
+        moment_is = ap (λ (k : Shown). unwrap_or k.moment 0) comes.2 ∙ j.moment_is;
+        moments = j.moments;
+        config_is = j.config_is;
+        done = j.done;
+        mode = idle_mode p pipes o comes.0 j.mode;
+      } in (
+        o,
+        same_octets o written (wrote_nothing p.pipes.to_server written (to_server ∙ wrote_is)),
+        refl,
+        subst (λ x. Joint opening limit config book (moved p x pipes) o) (sym comes.1) base,
+      )
+
+  -- ---- a job that is done
+
+  pub record Ends (p : Post) (c : Client) (pipes : PipesHeld) (told : JobResult) (o' : Octets) : Type 0 where
+    pub stands : StandsAtPlaces opening book.journal.entries p.link config.pdu told (unwrap_or p.noted [])
+    pub mode : Mode opening config book (polled_post p c pipes (p.results ++ told ∷ []) (p.places ++ unwrap_or p.noted [] ∷ []) None) o'
+
+  -- the session owes what the client used, and more that is on its way
+  owes : (p : Post) (c : Client) (pipes : PipesHeld) (o : Octets) (heard : List ℕ) → Joint opening limit config book p o
+      → o.answered ≡ heard ++ (client.unread_of c ++ pipes.to_client)
+      → owed o.used o.verdicts ≡ heard ++ ((client.unread_of c ++ pipes.to_client) ++ unsent p.session)
+  owes p c pipes o heard j given =
+      j.stands.owed ∙ ap (λ x. x ++ unsent p.session) given ∙ append_assoc heard (client.unread_of c ++ pipes.to_client) (unsent p.session)
+
+  connect_done : 64 ≤ config.pdu → config.pdu ≤ 960 → (p : Post) (c : Client) (pipes : PipesHeld) (link link' : Shown) (used written : List ℕ) (o : Octets) (told : JobResult)
+      → Joint opening limit config book p o
+      → o.sent ++ written ≡ o.used ++ (unread p.session ++ pipes.to_server)
+      → o.answered ≡ (o.heard ++ used) ++ (client.unread_of c ++ pipes.to_client)
+      → client.job_of c ≡ None → (k : IsConnecting config p o)
+      → client.IsDone k.origin link link' p.client c told (o.heard ++ used) (o.sent ++ written)
+      → Ends p c pipes told (after o used written)
+  connect_done least most p c pipes link link' used written o told j taken given idle k d =
+      by (connect_ends k.origin link link' (client.unread_of c) d.end d.carried (o.heard ++ used) (o.sent ++ written) (client.waited_of p.client) d.cause)
+    where
+      nothing : StandsAtPlaces opening book.journal.entries p.link config.pdu told (unwrap_or p.noted [])
+      nothing = λ item is good. absurd (not_connect told.job item is (d.result.job ∙ k.job))
+
+      ungranted : client.grant_of p.client ≡ None
+      ungranted = sym k.stands.granted ∙ k.granted
+
+      by : ((grant : Grant) × (d.end.leaves ≡ Connected grant) × IsByOctets k.origin d.end d.carried (o.heard ++ used) (o.sent ++ written)) ⊎ (client.grant_after d.end.leaves None ≡ None)
+          → Ends p c pipes told (after o used written)
+      by (inr gone) = record {
+        stands = nothing;
+        mode = lost (record {
+          ungranted = d.granted ∙ ap (client.grant_after d.end.leaves) ungranted ∙ gone;
+          job = inl idle;
+          jobs = k.jobs;
+        });
+      }
+      by (inl well) =
+          let behind = (client.unread_of c ++ pipes.to_client) ++ unsent p.session in
+          let over : IsConnectOver k.origin (o.heard ++ used) (o.sent ++ written) d.end d.carried o.used o.verdicts behind = record {
+            unconnected = k.granted;
+            connects = k.job;
+            least = subst (λ (x : Config). 64 ≤ x.pdu) (sym k.config_is) least;
+            most = subst (λ (x : Config). x.pdu ≤ 960) (sym k.config_is) most;
+            over = well.2;
+            grant = well.0;
+            leaves = well.1;
+            unused = unread p.session ++ pipes.to_server;
+            taken = taken;
+            met = j.stands.met;
+            owed_is = owes p c pipes o (o.heard ++ used) j given;
+          } in
+          let s = connect_is_settled k.origin (o.heard ++ used) (o.sent ++ written) d.end d.carried o.used o.verdicts behind over in
+          let pdu : well.0.pdu ≡ config.pdu = s.granted ∙ ap (λ (x : Config). x.pdu) k.config_is in
+          record {
+            stands = nothing;
+            mode = connected (record {
+              idle = idle;
+              grant = well.0;
+              granted = d.granted ∙ ap (λ l. client.grant_after l (client.grant_of p.client)) well.1;
+              pdu = pdu;
+              size = d.size ∙ s.size;
+              sequence = subst (λ n. n < 65536) (sym d.sequence) s.sequence;
+              settled = subst (λ x. Settled x o.verdicts (Some config.pdu)) (sym s.all_used) (subst (λ n. Settled (o.sent ++ written) o.verdicts (Some n)) pdu s.settled);
+              all_used = s.all_used;
+              all_heard = ap (λ x. owed x o.verdicts) s.all_used ∙ s.owed_is;
+              jobs = k.jobs;
+            });
+          }
+
+  module _ (least : 64 ≤ config.pdu) (most : config.pdu ≤ 960) (p : Post) (c : Client) (pipes : PipesHeld) (link : Shown) (link' : Shown) (used : List ℕ) (written : List ℕ) (o : Octets) (told : JobResult)
+      (j : Joint opening limit config book p o)
+      (taken : o.sent ++ written ≡ o.used ++ (unread p.session ++ pipes.to_server))
+      (given : o.answered ≡ (o.heard ++ used) ++ (client.unread_of c ++ pipes.to_client))
+      (idle : client.job_of c ≡ None) (w : IsWorking opening config book p o)
+      (d : client.IsDone w.origin link link' p.client c told (w.heard ++ used) (w.sent ++ written)) where
+    abbrev heard : List ℕ
+    heard = w.heard ++ used
+
+    abbrev sent : List ℕ
+    sent = w.sent ++ written
+
+    abbrev waits : List ℕ
+    waits = unread p.session ++ pipes.to_server
+
+    abbrev behind : List ℕ
+    behind = (client.unread_of c ++ pipes.to_client) ++ unsent p.session
+
+    granted : client.grant_of p.client ≡ Some w.grant
+    granted = sym w.stands.granted ∙ w.granted
+
+    sent_all : o.sent ++ written ≡ w.before ++ sent
+    sent_all = ap (λ x. x ++ written) w.sent_is ∙ append_assoc w.before w.sent written
+
+    heard_all : o.heard ++ used ≡ owed w.before w.judged ++ heard
+    heard_all = ap (λ x. x ++ used) w.heard_is ∙ append_assoc (owed w.before w.judged) w.heard used
+
+    -- a fact about the session's octets, in the two parts that they have
+    parted : (P : List ℕ → List Verdict → Type 0) → P o.used o.verdicts → P (w.before ++ w.used) (w.judged ++ w.verdicts)
+    parted P h = subst (λ x. P x (w.judged ++ w.verdicts)) w.used_is (subst (λ y. P o.used y) w.verdicts_are h)
+
+    abbrev over : IsByOctets w.origin d.end d.carried heard sent → d.end.leaves ≡ AsItWas → IsJobOver w.origin config.pdu heard sent d.end d.carried w.before w.used w.judged w.verdicts behind
+    over octets leaves = record {
+      grant = w.grant;
+      granted = w.granted;
+      pdu_is = w.pdu;
+      least = least;
+      most = most;
+      size = w.size;
+      sequence = w.sequence;
+      over = octets;
+      leaves = leaves;
+      settled = w.settled;
+      unused = waits;
+      taken = append_cancel_left w.before sent (w.used ++ waits) (sym sent_all ∙ taken ∙ ap (λ x. x ++ waits) w.used_is ∙ append_assoc w.before w.used waits);
+      met = parted (λ x y. (past x y).verdicts ≡ []) j.stands.met;
+      replies = parted (λ x y. AreReplies (entered x y)) (subst AreReplies (sym j.legal) (own_replies opening p.link book.journal.entries));
+      owed_is = parted (λ x y. owed x y ≡ (owed w.before w.judged ++ heard) ++ behind) (owes p c pipes o (o.heard ++ used) j given ∙ ap (λ x. x ++ behind) heard_all);
+    }
+
+    job_ends : ((d.end.leaves ≡ AsItWas) × IsByOctets w.origin d.end d.carried heard sent) ⊎ (client.grant_after d.end.leaves (Some w.grant) ≡ None) → Ends p c pipes told (after o used written)
+    job_ends (inr gone) = record {
+      stands = λ item is good. absurd (left_as_it_was d.end.leaves w.grant
+          (good_read_leaves w.origin link link' (client.unread_of c) d.end d.carried heard sent (client.waited_of p.client) item (sym d.result.job ∙ is) d.cause (sym d.result.code ∙ good)).0 gone);
+      mode = lost (record {
+        ungranted = d.granted ∙ ap (client.grant_after d.end.leaves) granted ∙ gone;
+        job = inl idle;
+        jobs = w.jobs;
+      });
+    }
+    job_ends (inl well) =
+        let s = job_is_settled w.origin config.pdu heard sent d.end d.carried w.before w.used w.judged w.verdicts behind (over well.1 well.0) in
+        let used_all : o.used ≡ w.before ++ sent = w.used_is ∙ ap (λ x. w.before ++ x) s.all_used in
+        let entries : (x : List ℕ) → x ≡ w.before ++ sent → entered (w.before ++ sent) (w.judged ++ w.verdicts) ≡ entered x o.verdicts =
+        λ x e. ap (λ y. entered (w.before ++ sent) y) (sym w.verdicts_are) ∙ ap (λ y. entered y o.verdicts) (sym e) in
+        record {
+          stands = stands_at opening book.journal.entries p.link config.pdu told w.earlier w.mine (unwrap_or p.noted []) w.entries_are (ap (λ n. unwrap_or n []) (sym w.noted))
+              (λ item is good.
+              let read = s.read item (sym d.result.job ∙ is) (sym d.result.code ∙ good) in
+              let all : entered (w.before ++ sent) (w.judged ++ w.verdicts) ≡ entered w.before w.judged ++ map asked w.mine =
+              entries o.used used_all ∙ j.legal ∙ ap (map asked) w.entries_are ∙ map-append asked w.earlier w.mine ∙ ap (λ x. x ++ map asked w.mine) (sym w.earlier_are) in
+              subst (λ x. ReadsParts (parts_of item config.pdu false) (map asked w.mine) x) (sym d.result.octets)
+              (reads_own (entered (w.before ++ sent) (w.judged ++ w.verdicts)) (entered w.before w.judged) read.0 w.mine (parts_of item config.pdu false) d.end.octets all read.1 read.2));
+          mode = connected (record {
+            idle = idle;
+            grant = w.grant;
+            granted = d.granted ∙ ap (λ l. client.grant_after l (client.grant_of p.client)) well.0 ∙ granted;
+            pdu = w.pdu;
+            size = d.size ∙ s.size;
+            sequence = subst (λ n. n < 65536) (sym d.sequence) s.sequence;
+            settled = subst (λ x. Settled x o.verdicts (Some config.pdu)) (sym used_all) (subst (λ y. Settled (w.before ++ sent) y (Some config.pdu)) (sym w.verdicts_are) s.settled);
+            all_used = used_all ∙ sym sent_all;
+            all_heard = ap (λ x. owed x o.verdicts) used_all ∙ ap (λ y. owed (w.before ++ sent) y) w.verdicts_are ∙ s.owed_is ∙ sym heard_all;
+            jobs = w.jobs;
+          });
+        }
+
+    job_done : Ends p c pipes told (after o used written)
+    job_done = job_ends (working_ends w.origin link link' (client.unread_of c) d.end d.carried heard sent (client.waited_of p.client) w.grant w.granted w.job d.cause)
+
+  failed_done : (p : Post) (c : Client) (pipes : PipesHeld) (link link' : Shown) (used written : List ℕ) (o : Octets) (told : JobResult)
+      → client.job_of c ≡ None → (l : IsLost p) (f : IsFailing p)
+      → client.IsDone f.origin link link' p.client c told (f.heard ++ used) (f.sent ++ written)
+      → Ends p c pipes told (after o used written)
+  failed_done p c pipes link link' used written o told idle l f d = record {
+    stands = λ item is good. absurd (unconnected_fails f.origin link link' (client.unread_of c) d.end d.carried (f.heard ++ used) (f.sent ++ written) (client.waited_of p.client) f.granted f.job d.cause
+        (sym d.result.code ∙ good));
+    mode = lost (record {
+      ungranted = d.granted ∙ ap (client.grant_after d.end.leaves) l.ungranted
+          ∙ no_connect_leaves f.origin link link' (client.unread_of c) d.end d.carried (f.heard ++ used) (f.sent ++ written) (client.waited_of p.client) d.cause f.job;
+      job = inl idle;
+      jobs = l.jobs;
+    });
+  }
+
+  done_by : 64 ≤ config.pdu → config.pdu ≤ 960 → (p : Post) (c : Client) (pipes : PipesHeld) (link link' : Shown) (used written : List ℕ) (o : Octets) (told : JobResult)
+      → Joint opening limit config book p o
+      → o.sent ++ written ≡ o.used ++ (unread p.session ++ pipes.to_server)
+      → o.answered ≡ (o.heard ++ used) ++ (client.unread_of c ++ pipes.to_client)
+      → client.Comes p.client link c link' used written (polled.Done told)
+      → Mode opening config book p o
+      → Ends p c pipes told (after o used written)
+  done_by least most p c pipes link link' used written o told j taken given comes (untouched u) = absurd (some_job (client.job_of p.client) comes.0 u.fresh.job)
+  done_by least most p c pipes link link' used written o told j taken given comes (connecting k) =
+      connect_done least most p c pipes link link' used written o told j taken given comes.1 k (comes.2 k.origin o.heard o.sent k.stands)
+  done_by least most p c pipes link link' used written o told j taken given comes (connected k) = absurd (some_job (client.job_of p.client) comes.0 k.idle)
+  done_by least most p c pipes link link' used written o told j taken given comes (working w) =
+      job_done least most p c pipes link link' used written o told j taken given comes.1 w (comes.2 w.origin w.heard w.sent w.stands)
+  done_by least most p c pipes link link' used written o told j taken given comes (lost l) = by l.job
+    where
+      by : (client.job_of p.client ≡ None) ⊎ IsFailing p → Ends p c pipes told (after o used written)
+      by (inl idle) = absurd (some_job (client.job_of p.client) comes.0 idle)
+      by (inr f) = failed_done p c pipes link link' used written o told comes.1 l f (comes.2 f.origin f.heard f.sent f.stands)
+
+  -- ---- a poll
+
+  poll_by : 64 ≤ config.pdu → config.pdu ≤ 960 → (p : Post) (c : Client) (pipes : PipesHeld) (loan : GName) (o : Octets)
+      → Joint opening limit config book p o
+      → (m : Moves (client.unread_of p.client) (end_of loan p.pipes side.Client) (client.unread_of c) (end_of loan pipes side.Client))
+      → client.config_of c ≡ client.config_of p.client
+      → (result : Polled) → client.Comes p.client (end_of loan p.pipes side.Client) c (end_of loan pipes side.Client) m.used m.written result
+      → (o' : Octets) × (o'.sent ≡ o.sent ++ m.written) × (o'.answered ≡ o.answered) × Joint opening limit config book (with_polled result (moved p c pipes)) o'
+  poll_by least most p c pipes loan o j m same polled.Idle comes =
+      idle_step p c pipes loan o m.written j (wrote loan p.pipes pipes m.written m.wrote) comes
+  poll_by least most p c pipes loan o j m same polled.Pending comes = (
+    after o m.used m.written,
+    refl,
+    refl,
+    joint_polled p c pipes p.results p.places p.noted loan o j m same j.done
+        (pending_mode p c pipes (end_of loan p.pipes side.Client) (end_of loan pipes side.Client) m.used m.written o comes j.mode),
+  )
+  poll_by least most p c pipes loan o j m same (polled.Done told) comes =
+      let ends = done_by least most p c pipes (end_of loan p.pipes side.Client) (end_of loan pipes side.Client) m.used m.written o told j
+      (taken_on o.sent o.used (unread p.session) p.pipes.to_server m.written pipes.to_server j.taken (wrote loan p.pipes pipes m.written m.wrote))
+      (given_on o.answered o.heard (client.unread_of p.client) p.pipes.to_client m.received m.used (client.unread_of c) pipes.to_client j.given (took loan p.pipes pipes m.received m.took) m.inbox)
+      comes j.mode in (
+        after o m.used m.written,
+        refl,
+        refl,
+        joint_polled p c pipes (p.results ++ told ∷ []) (p.places ++ unwrap_or p.noted [] ∷ []) None loan o j m same
+            (all_stand_more opening book.journal.entries p.link config.pdu p.results p.places told (unwrap_or p.noted []) j.done ends.stands)
+            ends.mode,
+      )
+
+  -- A client's turn keeps what holds, and what it transmitted stands behind what it had.
+  pub client_step : 64 ≤ config.pdu → config.pdu ≤ 960 → (p q : Post) (stirs : _) (o : Octets) → Joint opening limit config book p o → (turn : IsClientTurn p q stirs)
+      → (o' : Octets) × (o'.sent ≡ o.sent ++ turn.polls.poll.poll.moves.written) × (o'.answered ≡ o.answered) × Joint opening limit config book q o'
+  client_step least most p q stirs o j turn =
+      let r = turn.ready in
+      let t = turn.polls in
+      let polled = poll_by least most r t.client t.pipes t.poll.loan o (start_step p r o j turn.starts) t.poll.poll.moves t.poll.poll.config t.result t.poll.poll.comes in
+      (polled.0, polled.1, polled.2, subst (λ x. Joint opening limit config book x polled.0) (sym t.same) polled.3)

@@ -1,0 +1,21 @@
+-- A list of stations, as a list of posts.
+use Rattle.std.proofs.Common.{◌≡◌, ℕ, ◌-◌, ◌<◌, ◌≤◌, Bool, List, length, get_or, map, slice_get, Some, option_map, sym, ap, ◌∙◌, subst, inr, true, Result, Ok, Err}
+use Rattle.std.proofs.lemmas.Option.{slice_get-map, slice_get-get_or}
+use Rattle.std.proofs.lemmas.Bool.{false≢true}
+use Rattle.std.specs.Result.{is_ok, OnOk}
+use Rattle.s7_rig.specs.State.{State}
+use Rattle.s7_rig.specs.Turns.{SessionTurn, IsTurnOf}
+
+-- what stands at a place of a mapped list
+pub mapped_at : {A B : Type 0} (f : A → B) (xs : List A) (i : ℕ) (x : A) → i < length xs → x ≡ get_or xs i x → slice_get (map f xs) i ≡ Some (f x)
+mapped_at f xs i x h e = slice_get-map f xs i ∙ (ap (option_map f) (slice_get-get_or xs i x h) ∙ ap (λ y. Some (f y)) (sym e))
+
+-- the actors from the number of clients on are the sessions
+pub session_turned : (actor count : ℕ) (old new : State) (stirs : Bool) → length old.posts ≡ count → count ≤ actor → SessionTurn (actor - count) old new stirs → IsTurnOf actor old new stirs
+session_turned actor count old new stirs e h t =
+    inr (subst (λ n. (n ≤ actor) × SessionTurn (actor - n) old new stirs) (sym e) (h, t))
+
+-- what holds where there is a value
+pub on_ok_at : {T E P : Type 0} (r : Result T E) → is_ok r ≡ true → OnOk r P → P
+on_ok_at (Ok x) e h = h
+on_ok_at (Err x) e h = absurd (false≢true e)

@@ -1,0 +1,28 @@
+use Rattle.std.proofs.Common.{◌≡◌, ◌*◌, length, map, refl, ◌∙◌, subst, arith}
+use Rattle.std.proofs.lemmas.List.{length-map}
+use Rattle.s7_rig.specs.Numbers.{count_from}
+use Rattle.s7_rig.specs.Shown.{post_of, state_of}
+use Rattle.s7_rig.specs.Runs.{Turns}
+use Rattle.s7_rig.proofs.TurnsLemmas.{Turns-none, Turns-count}
+use Rattle.s7_rig.proofs.rig.Rig.round.Goals as goal
+
+pub loop-actor-init : goal.loop-actor-init
+unfolding count_from
+loop-actor-init c = record {
+  end = omega arith;
+  count = refl;
+  turns = Turns-none (state_of c.args.self.now);
+}
+
+pub loop-actor-preserved : goal.loop-actor-preserved
+loop-actor-preserved c = record {
+  end = omega arith;
+  count = c.turn.ensures.count ∙ c.loop-actor.invariant.count;
+  turns = Turns-count c.loop-actor.actor _ (state_of c.loop-actor.self) _ _ _ c.loop-actor.invariant.turns c.in_ok-stirred.ensures.turn;
+}
+
+pub returns-clause-turns : goal.returns-clause-turns
+returns-clause-turns c =
+    let n : c.loop-actor.actor ≡ 2 * length (map post_of c.args.self.now.stations.items) =
+    omega (arith, length-map c.args.self.now.stations.items post_of) in
+    subst (λ k. Turns (count_from 0 k) (state_of c.args.self.now) (state_of c.loop-actor.self) c.loop-actor.stirred) n c.loop-actor.invariant.turns

@@ -1,0 +1,22 @@
+use Rattle.std.proofs.Common.{◌*◌, ◌||◌, length, map, sym, subst, ◌∙◌}
+use Rattle.std.proofs.lemmas.List.{length-map}
+use Rattle.std.proofs.lemmas.Result.{on_ok_weaker}
+use Rattle.s7_rig.specs.Shown.{post_of, state_of}
+use Rattle.s7_rig.specs.Runs.{Turns, seeded}
+use Rattle.s7_rig.proofs.TurnsLemmas.{Turns-append}
+use Rattle.s7_rig.proofs.rig.Rig.run.Goals as goal
+
+pub returns-clause-run : goal.returns-clause-run
+returns-clause-run c =
+    let xs = c.args.self.now.stations.items in
+    let stated = c.in_ok-take_stated.ensures.turns in
+    let drawn = c.in_ok-take_drawn.ensures.turns in
+    let middle = state_of c.take_stated.new.self in
+    let end = state_of c.take_drawn.new.self in
+    let turns = subst (λ n. Turns (seeded c.args.seed c.args.steps (2 * n)) middle end drawn.0) (c.take_stated.ensures.count ∙ sym (length-map xs post_of)) drawn.1 in
+    on_ok_weaker c.take_rounds.result (λ rounds. record {
+      middle = end;
+      stirred = stated.0 || drawn.0;
+      turned = Turns-append c.args.turns.now (seeded c.args.seed c.args.steps (2 * length (map post_of xs))) _ middle end stated.0 drawn.0 stated.1 turns;
+      rounds = rounds;
+    }) c.take_rounds.ensures.rounds

@@ -1,0 +1,33 @@
+use Rattle.std.proofs.Common.{refl, sym, ◌∙◌, subst}
+use Rattle.s7_rig.specs.Shown.{state_of}
+use Rattle.s7_rig.specs.Runs.{Turns, actors_of, most_rounds}
+use Rattle.s7_rig.proofs.RoundsLemmas.{CountsOn-begin, CountsOn-more, CountsOn-ends, CountsOn-all, Rounds-finished, Rounds-still}
+use Rattle.s7_rig.proofs.rig.Rig.take_rounds.Goals as goal
+
+pub loop-init : goal.loop-init
+loop-init c = record { count = refl; rounds = CountsOn-begin (state_of c.args.self.now) }
+
+pub returns-then-are_finished-clause-rounds : goal.returns-then-are_finished-clause-rounds
+returns-then-are_finished-clause-rounds c =
+    let now = state_of c.loop.self in
+    CountsOn-ends c.loop.counter most_rounds _ now _ c.loop-test.true c.loop.invariant.rounds (λ more. Rounds-finished more now (sym c.if-are_finished.ensures))
+
+pub returns-then-not-branch-clause-rounds : goal.returns-then-not-branch-clause-rounds
+returns-then-not-branch-clause-rounds c =
+    let now = state_of c.loop.self in
+    let next = state_of c.round.new.self in
+    let round = subst (λ b. Turns (actors_of now) now next b) c.if-not-branch.true c.in_ok-round.ensures.turns in
+    CountsOn-ends c.loop.counter most_rounds _ now _ c.loop-test.true c.loop.invariant.rounds (λ more. Rounds-still more now next (sym c.if-are_finished.ensures) round)
+
+pub loop-preserved : goal.loop-preserved
+loop-preserved c =
+    let now = state_of c.loop.self in
+    let next = state_of c.round.new.self in
+    let round = subst (λ b. Turns (actors_of now) now next b) c.if-not-branch.false c.in_ok-round.ensures.turns in
+    record {
+      count = c.round.ensures.count ∙ c.loop.invariant.count;
+      rounds = CountsOn-more c.loop.counter _ now next (sym c.if-are_finished.ensures) round c.loop.invariant.rounds;
+    }
+
+pub returns-clause-rounds : goal.returns-clause-rounds
+returns-clause-rounds c = CountsOn-all c.loop.counter most_rounds _ (state_of c.loop.self) c.loop.auto.counter-end c.loop-test.false c.loop.invariant.rounds

@@ -1,0 +1,91 @@
+-- The runs of a rig: stated turns, seeded turns, and rounds.
+use Rattle.std.specs.Prelude.{◌≡◌, ◌⊎◌, ℕ, ◌+◌, ◌*◌, ◌/◌, ◌%◌, ◌^◌, ◌||◌, Bool, true, false, List, [], ◌∷◌, ◌++◌, zero, suc, length, None}
+use Rattle.s7_outer.specs.Pipes.{empty_pipes}
+use Rattle.s7_client.specs.declared.config.Config.{Config}
+use Rattle.s7_client.specs.declared.job.Job.{Job}
+use Rattle.s7_client.specs.Polling as client
+use Rattle.s7_session.specs.LinkRun as session
+use Rattle.s7_session.specs.Stands.{number_of}
+use Rattle.s7_rig.specs.Numbers.{count_from}
+use Rattle.s7_rig.specs.State.{Post, State, are_finished}
+use Rattle.s7_rig.specs.Turns.{IsTurnOf}
+
+-- ---- turns one after another
+
+-- the turns of these actors in order, and whether one of them stirred
+unfoldable pub Turns : List ℕ → State → State → Bool → Type 0
+Turns [] old new stirs = (new ≡ old) × (stirs ≡ false)
+Turns (actor ∷ actors) old new stirs =
+    (middle : State) × (first : Bool) × (later : Bool) × IsTurnOf actor old middle first × Turns actors middle new later × (stirs ≡ (first || later))
+
+-- seeded turns: x goes on by a linear congruence
+abbrev pub next_x : ℕ → ℕ
+next_x x = (1103515245 * x + 12345) % 2 ^ 31
+
+-- the actor is its high part modulo the number of actors
+abbrev pub actor_by : ℕ → ℕ → ℕ
+actor_by x actors = (x / 65536) % actors
+
+-- the actors of so many turns
+unfoldable pub drawn : ℕ → ℕ → ℕ → List ℕ
+drawn x zero actors = []
+drawn x (suc steps) actors = actor_by (next_x x) actors ∷ drawn (next_x x) steps actors
+
+-- a seed counts modulo 2^31
+abbrev pub seeded : ℕ → ℕ → ℕ → List ℕ
+seeded seed steps actors = drawn (seed % 2 ^ 31) steps actors
+
+-- all actors in order
+abbrev pub actors_of : State → List ℕ
+actors_of s = count_from 0 (2 * length s.posts)
+
+-- ---- rounds
+
+-- ROUNDS of all actors in order, at most so many: they end where every client is finished, and after a round in which
+-- nothing stirred
+unfoldable pub Rounds : ℕ → State → State → Type 0
+Rounds zero old new = new ≡ old
+Rounds (suc more) old new =
+    ((are_finished old ≡ true) × (new ≡ old))
+    ⊎ ((are_finished old ≡ false) × (middle : State) × (stirs : Bool) × Turns (actors_of old) old middle stirs
+    × (((stirs ≡ false) × (new ≡ middle)) ⊎ ((stirs ≡ true) × Rounds more middle new)))
+
+-- so many rounds are made at most
+abbrev pub most_rounds : ℕ
+most_rounds = 16777216
+
+-- ---- whole runs
+
+-- the octets that each pipe has room for
+abbrev pub pipe_room : ℕ
+pipe_room = 4096
+
+-- 2024-01-01, in milliseconds since 1970
+abbrev pub moment : ℕ
+moment = 1704067200000
+
+-- a client that has done nothing, with all its jobs before it
+pub record IsFreshPost (config : Config) (link : ℕ) (jobs : List Job) (p : Post) : Type 0 where
+  pub link_is : p.link ≡ link
+  pub rest : p.rest ≡ jobs
+  pub client : client.IsFresh p.client config
+  pub session : session.IsFresh p.session
+  pub number : number_of p.session ≡ link
+  pub pipes : p.pipes ≡ empty_pipes pipe_room moment
+  pub results : p.results ≡ []
+  pub places : p.places ≡ []
+  pub noted : p.noted ≡ None
+
+-- such a client for each list of jobs, with links numbered in order from this one
+unfoldable pub AreFresh : Config → ℕ → List (List Job) → List Post → Type 0
+AreFresh config link [] [] = Unit {0}
+AreFresh config link [] (p ∷ posts) = ⊥
+AreFresh config link (jobs ∷ scripts) [] = ⊥
+AreFresh config link (jobs ∷ scripts) (p ∷ posts) = IsFreshPost config link jobs p × AreFresh config (link + 1) scripts posts
+
+-- A WHOLE RUN: the stated turns, then the seeded ones, then rounds
+pub record IsRun (turns : List ℕ) (seed steps : ℕ) (old new : State) : Type 0 where
+  pub middle : State
+  pub stirred : Bool
+  pub turned : Turns (turns ++ seeded seed steps (2 * length old.posts)) old middle stirred
+  pub rounds : Rounds most_rounds middle new

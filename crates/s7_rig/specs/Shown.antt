@@ -1,0 +1,49 @@
+-- What contracts see of a rig.
+use Rattle.std.specs.Prelude.{ℕ, List, map}
+use Rattle.s7_client.specs.declared.job.JobResult.{JobResult}
+use Rattle.s7_plant.specs.declared.book.Book.{Book}
+use Rattle.s7_rig.specs.declared.end.RigClient.{RigClient}
+use Rattle.s7_rig.specs.declared.end.RigEnd.{RigEnd}
+use Rattle.s7_rig.specs.declared.rig.Rig.{Rig}
+use Rattle.s7_rig.specs.declared.station.Station.{Station}
+use Rattle.s7_rig.specs.State.{Post, State}
+
+-- a station as its place in the state
+abbrev pub post_of : Station → Post
+post_of s = record {
+  link = s.link;
+  rest = s.rest.items;
+  client = s.client;
+  session = s.session;
+  pipes = s.pipes;
+  results = s.results.items;
+  places = s.places.items;
+  noted = s.noted;
+}
+
+abbrev pub state_of : Rig → State
+state_of r = record { book = r.book; posts = map post_of r.stations.items }
+
+-- what is told of a client in the end
+pub record ClientTold : Type 0 where
+  pub link : ℕ
+  pub results : List JobResult
+  pub places : List (List ℕ)
+
+-- and of the whole
+pub record EndTold : Type 0 where
+  pub book : Book
+  pub clients : List ClientTold
+
+abbrev pub client_told : RigClient → ClientTold
+client_told c = record { link = c.link; results = c.results.items; places = c.places.items }
+
+abbrev pub end_told : RigEnd → EndTold
+end_told e = record { book = e.book; clients = map client_told e.clients.items }
+
+-- the same of a state
+abbrev pub post_told : Post → ClientTold
+post_told p = record { link = p.link; results = p.results; places = p.places }
+
+abbrev pub state_told : State → EndTold
+state_told s = record { book = s.book; clients = map post_told s.posts }

@@ -1,0 +1,37 @@
+-- The state of a rig: one book, and what each of its clients has.
+use Rattle.std.specs.Prelude.{ℕ, ◌==◌, ◌&&◌, Bool, List, Option, is_none, length}
+use Rattle.std.specs.List.{list_all}
+use Rattle.s7_outer.specs.PipesHeld.{PipesHeld}
+use Rattle.s7_client.specs.declared.client.Client.{Client}
+use Rattle.s7_client.specs.declared.job.Job.{Job}
+use Rattle.s7_client.specs.declared.job.JobResult.{JobResult}
+use Rattle.s7_client.specs.Polling.{job_of}
+use Rattle.s7_plant.specs.declared.book.Book.{Book}
+use Rattle.s7_session.specs.declared.session.Session.{Session}
+
+-- a client, the session that serves it, and what stands between them
+pub record Post : Type 0 where
+  -- the number of their link
+  pub link : ℕ
+  -- the jobs that are still to be started
+  pub rest : List Job
+  pub client : Client
+  pub session : Session
+  -- the octets on their way in either direction
+  pub pipes : PipesHeld
+  -- what came of each job that is done, and the numbers of the entries that the session made while it was under way
+  pub results : List JobResult
+  pub places : List (List ℕ)
+  -- the numbers of the entries so far since the job under way was started, if there is one
+  pub noted : Option (List ℕ)
+
+pub record State : Type 0 where
+  pub book : Book
+  pub posts : List Post
+
+-- no job is left and none is outstanding
+abbrev pub is_finished : Post → Bool
+is_finished p = length p.rest == 0 && is_none (job_of p.client)
+
+abbrev pub are_finished : State → Bool
+are_finished s = list_all is_finished s.posts

@@ -1,0 +1,148 @@
+-- The turns of a rig's actors: the clients, and the sessions that serve them. A turn stirs where it moves an octet, uses
+-- one that its session had read, or ends a job.
+use Rattle.std.specs.Prelude.{◌≡◌, ◌≢◌, ◌⊎◌, ℕ, ◌-◌, ◌<◌, ◌≤◌, ◌==◌, ◌&&◌, ◌||◌, not, nat_lt, Bool, true, false, List, [], ◌∷◌, ◌++◌, length, slice_get, slice_set, None, Some, option_map, unwrap_or, IsSome}
+use Rattle.std.specs.Borrow.{GName}
+use Rattle.s7_outer.specs.PipesHeld.{PipesHeld}
+use Rattle.s7_outer.specs.Pipes.{end_of}
+use Rattle.s7_outer.specs.declared.pipes.Side.TheVariants as side
+use Rattle.s7_client.specs.declared.client.Client.{Client}
+use Rattle.s7_client.specs.declared.job.Job.{Job}
+use Rattle.s7_client.specs.declared.job.Polled.{Polled}
+use Rattle.s7_client.specs.declared.job.Polled.TheVariants as polled
+use Rattle.s7_client.specs.Polling.{job_of, IsStarted, IsPoll}
+use Rattle.s7_plant.specs.declared.book.Book.{Book}
+use Rattle.s7_plant.specs.declared.request.Request.{Request}
+use Rattle.s7_session.specs.declared.book_doer.BookDoer.{BookDoer}
+use Rattle.s7_session.specs.declared.session.Session.{Session}
+use Rattle.s7_session.specs.declared.outcome.Outcome.{Outcome}
+use Rattle.s7_session.specs.declared.outcome.Outcome.TheVariants as outcome
+use Rattle.s7_session.specs.declared.outcome.Turn.{Turn}
+use Rattle.s7_session.specs.Entry.{Entry}
+use Rattle.s7_session.specs.Stands.{IsTurn, closed_with, number_of}
+use Rattle.s7_session.specs.Books.{own, GoesOnBy}
+use Rattle.s7_rig.specs.Numbers.{count_from}
+use Rattle.s7_rig.specs.State.{Post, State}
+
+-- One of the pipes holds another number of octets. In a turn each pipe only fills or only empties, so this tells whether
+-- an octet was moved.
+abbrev pub have_moved : PipesHeld → PipesHeld → Bool
+have_moved old new = not (length new.to_client == length old.to_client && length new.to_server == length old.to_server)
+
+-- ---- a client's turn
+
+-- the next job is started, where none is outstanding and one is left
+pub record StartsNext (old new : Post) : Type 0 where
+  pub idle : job_of old.client ≡ None
+  pub job : Job
+  pub rest : List Job
+  pub left : old.rest ≡ job ∷ rest
+  pub client : Client
+  pub started : IsStarted old.client client job
+  pub same : new ≡ record old { rest = rest; client = client; noted = Some [] }
+
+-- a job is outstanding, or none is left to start
+pub record StartsNothing (old new : Post) : Type 0 where
+  pub none : IsSome (job_of old.client) ⊎ (old.rest ≡ [])
+  pub same : new ≡ old
+
+-- a job that is done gives its result, and the numbers that were noted are its places
+abbrev pub with_polled : Polled → Post → Post
+with_polled (polled.Done told) p = record p {
+  results = p.results ++ told ∷ [];
+  places = p.places ++ unwrap_or p.noted [] ∷ [];
+  noted = None;
+}
+with_polled polled.Pending p = p
+with_polled polled.Idle p = p
+
+abbrev pub is_done : Polled → Bool
+is_done (polled.Done told) = true
+is_done polled.Pending = false
+is_done polled.Idle = false
+
+-- a client polls over its end of the pipes, whichever loan that is
+pub record PollsOver (client : Client) (pipes : PipesHeld) (client' : Client) (pipes' : PipesHeld) (result : Polled) : Type 0 where
+  pub loan : GName
+  pub poll : IsPoll client (end_of loan pipes side.Client) client' (end_of loan pipes' side.Client) result
+
+-- the client polls once
+pub record PollsOnce (old new : Post) (stirs : Bool) : Type 0 where
+  pub client : Client
+  pub pipes : PipesHeld
+  pub result : Polled
+  pub poll : PollsOver old.client old.pipes client pipes result
+  pub fits : length pipes.to_server ≤ pipes.room
+  pub same : new ≡ with_polled result (record old { client = client; pipes = pipes })
+  -- an octet was moved, or a job is done
+  pub stirs_is : stirs ≡ (have_moved old.pipes pipes || is_done result)
+
+-- A CLIENT'S TURN: its next job is started where none is outstanding, and it polls once
+pub record IsClientTurn (old new : Post) (stirs : Bool) : Type 0 where
+  pub ready : Post
+  pub starts : StartsNext old ready ⊎ StartsNothing old ready
+  pub polls : PollsOnce ready new stirs
+
+-- ---- a session's turn
+
+-- the link's entries in a book are these
+abbrev pub stands_in : ℕ → Book → List Entry → Type 0
+stands_in link book entries = entries ≡ own book.opening.areas link book.journal.entries
+
+-- the book is full, for whatever request
+abbrev pub is_full_in : Book → Request → Type 0
+is_full_in book request = length book.journal.entries ≡ book.journal.limit
+
+-- a book is full for every request or for none, which always holds
+abbrev pub uniform : Type 0
+uniform = (d : BookDoer) (r q : Request) → is_full_in d.book.now r → is_full_in d.book.now q
+
+-- a session takes a turn over its end of the pipes, whichever loan that is, and the book goes on by entries of its link
+pub record TakesTurn (link : ℕ) (session : Session) (pipes : PipesHeld) (book : Book) (session' : Session) (pipes' : PipesHeld) (book' : Book) (result : Turn) : Type 0 where
+  pub loan : GName
+  pub turn : IsTurn uniform session (end_of loan pipes side.Server) (stands_in link book) (is_full_in book)
+      session' (end_of loan pipes' side.Server) (stands_in link book') (is_full_in book') result
+  pub stays : (o : Outcome) → closed_with session ≡ Some o → session' ≡ session
+  pub number : number_of session' ≡ number_of session
+  pub goes_on : GoesOnBy link book book'
+
+abbrev pub entry_count : Book → ℕ
+entry_count book = length book.journal.entries
+
+-- A SESSION'S TURN on the book
+pub record IsSessionTurn (old new : Post) (book book' : Book) (stirs : Bool) : Type 0 where
+  pub session : Session
+  pub pipes : PipesHeld
+  pub result : Turn
+  pub takes : TakesTurn old.link old.session old.pipes book session pipes book' result
+  -- the numbers of the entries that it made are noted for the job under way
+  pub same : new ≡ record old {
+    session = session;
+    pipes = pipes;
+    noted = option_map (λ numbers. numbers ++ count_from (entry_count book) (entry_count book' - entry_count book)) old.noted;
+  }
+  -- memory was not wanting
+  pub remembers : closed_with session ≢ Some outcome.Memory
+  -- an octet was moved, or one that had been read was used
+  pub stirs_is : stirs ≡ (have_moved old.pipes pipes || nat_lt 0 (length takes.turn.moves.used))
+
+-- ---- a turn of an actor: everything else is the same
+
+pub record ClientTurn (k : ℕ) (old new : State) (stirs : Bool) : Type 0 where
+  pub post : Post
+  pub post' : Post
+  pub at : slice_get old.posts k ≡ Some post
+  pub turn : IsClientTurn post post' stirs
+  pub same : new ≡ record old { posts = slice_set old.posts k post' }
+
+pub record SessionTurn (k : ℕ) (old new : State) (stirs : Bool) : Type 0 where
+  pub post : Post
+  pub post' : Post
+  pub at : slice_get old.posts k ≡ Some post
+  pub turn : IsSessionTurn post post' old.book new.book stirs
+  pub same : new.posts ≡ slice_set old.posts k post'
+
+-- With K clients the actors below K are the clients, and those from K on their sessions.
+abbrev pub IsTurnOf : ℕ → State → State → Bool → Type 0
+IsTurnOf actor old new stirs =
+    ((actor < length old.posts) × ClientTurn actor old new stirs)
+    ⊎ ((length old.posts ≤ actor) × SessionTurn (actor - length old.posts) old new stirs)

@@ -1,0 +1,21 @@
+//! A rig: clients and the sessions that serve them, all on one book, which act turn by turn over pipes
+//! in memory.
+#![tactic(auto)]
+
+mod end;
+mod laws;
+mod links;
+mod places;
+mod rig;
+mod runs;
+mod schedule;
+mod station;
+mod turns;
+
+pub use end::{RigClient, RigEnd};
+pub use laws::rigs_are_formed;
+pub use places::Places;
+pub use runs::{Schedule, run_rig};
+
+#[cfg(test)]
+mod tests;

@@ -1,0 +1,174 @@
+// A rig: clients and the sessions that serve them, on one book.
+ghost use Rattle.std.specs.Prelude.{◌≡◌, ◌<◌, ◌≤◌, ◌*◌, Bool, All, length, map, [], IfOk, OnOk};
+ghost use Rattle.s7_plant.specs.Journals.{entries_of};
+ghost use Rattle.s7_rig.specs.Shown.{state_of, end_told, state_told};
+ghost use Rattle.s7_rig.specs.State.{are_finished};
+ghost use Rattle.s7_rig.specs.Turns.{IsTurnOf};
+ghost use Rattle.s7_rig.specs.Runs.{Turns, actors_of, seeded, Rounds, most_rounds, AreFresh, IsRun};
+
+use crate::end::{RigClient, RigEnd};
+use crate::schedule::Draw;
+use crate::station::Station;
+use s7_area::Areas;
+use s7_client::{Config, Job};
+use s7_outer::Memory;
+use s7_plant::Book;
+use std::alloc::Global;
+
+/// So many rounds are made at most.
+const MOST_ROUNDS: u32 = 16_777_216;
+
+/// Clients and the sessions that serve them, on one book. Each turn is a client's or a session's.
+#[derive(Drop)]
+pub struct Rig {
+    pub(crate) book: Book,
+    pub(crate) stations: Vec<Station>,
+}
+
+impl Rig {
+    /// A rig over these areas with a journal of this limit, from 1 to 262,144, and a client for each
+    /// list of jobs. Their links are numbered from 1 in order. `Memory` comes where there is none for
+    /// it.
+    pub fn new(
+        alloc: Global,
+        areas: Areas,
+        limit: u64,
+        scripts: Vec<Vec<Job>>,
+        config: Config,
+    ) -> Result<Rig, Memory>
+        requires some { 1 ≤ limit }
+        requires few { limit ≤ 262144 }
+        requires least_pdu { 64 ≤ config.pdu }
+        requires most_pdu { config.pdu ≤ 960 }
+        requires least_jobs { 1 ≤ config.jobs }
+        requires most_jobs { config.jobs ≤ 8 }
+        requires polls { 1 ≤ config.polls }
+        requires scripts { length scripts.items ≤ 1024 }
+        ensures opening { IfOk result (λ rig. (state_of rig).book.opening.areas ≡ areas) }
+        ensures plant { IfOk result (λ rig. (state_of rig).book.plant.areas ≡ areas) }
+        ensures journal { IfOk result (λ rig. (state_of rig).book.journal ≡ entries_of [] limit) }
+        ensures count { IfOk result (λ rig. length rig.stations.items ≡ length scripts.items) }
+        ensures clients { IfOk result (λ rig. AreFresh config 1 (map (λ s. s.items) scripts.items) (state_of rig).posts) }
+    {
+        let mut stations = Vec::with_capacity(alloc, scripts.len())?;
+        let mut link = 1;
+        for jobs in scripts {
+            let station = Station::new(alloc, link, jobs, config)?;
+            stations.push_reserved(station);
+            link += 1;
+        }
+        Ok(Rig {
+            book: Book::new(alloc, areas, limit)?,
+            stations,
+        })
+    }
+
+    /// The turns of these actors, then `steps` turns drawn from the seed, and then rounds of all actors
+    /// in order. With K clients the actors below K are the clients, and those from K on their sessions.
+    /// The rounds end where every client is finished, after a round in which nothing was moved, used
+    /// or done, or after 16,777,216 of them. `Memory` comes where there is none.
+    pub fn run(&mut self, alloc: Global, turns: &[u32], seed: u32, steps: u32) -> Result<(), Memory>
+        requires clients { 0 < length self.old.stations.items }
+        requires actors { All (λ actor. actor < 2 * length self.old.stations.items) turns.now }
+        ensures run { OnOk result (IsRun turns.now seed steps (state_of self.old) (state_of self.new)) }
+        ensures count { length self.new.stations.items ≡ length self.old.stations.items }
+    {
+        self.take_stated(alloc, turns)?;
+        self.take_drawn(alloc, seed, steps)?;
+        self.take_rounds(alloc)
+    }
+
+    // A turn of an actor.
+    fn turn(&mut self, alloc: Global, actor: usize) -> Result<bool, Memory>
+        requires { actor < 2 * length self.old.stations.items }
+        ensures turn { IfOk result (λ stirs. IsTurnOf actor (state_of self.old) (state_of self.new) stirs) }
+        ensures count { length self.new.stations.items ≡ length self.old.stations.items }
+    {
+        let count = self.stations.len();
+        if actor < count {
+            self.stations[actor].client_turn(alloc)
+        } else {
+            self.stations[actor - count].session_turn(alloc, &mut self.book)
+        }
+    }
+
+    // The turns of these actors.
+    fn take_stated(&mut self, alloc: Global, turns: &[u32]) -> Result<(), Memory>
+        requires { All (λ actor. actor < 2 * length self.old.stations.items) turns.now }
+        ensures turns { OnOk result ((stirs : Bool) × Turns turns.now (state_of self.old) (state_of self.new) stirs) }
+        ensures count { length self.new.stations.items ≡ length self.old.stations.items }
+    {
+        for actor in turns {
+            self.turn(alloc, *actor as usize)?;
+        }
+        Ok(())
+    }
+
+    // Turns that are drawn from the seed.
+    fn take_drawn(&mut self, alloc: Global, seed: u32, steps: u32) -> Result<(), Memory>
+        requires { 0 < length self.old.stations.items }
+        ensures turns { OnOk result ((stirs : Bool)
+            × Turns (seeded seed steps (2 * length self.old.stations.items)) (state_of self.old) (state_of self.new) stirs) }
+        ensures count { length self.new.stations.items ≡ length self.old.stations.items }
+    {
+        let mut draw = Draw::new(seed);
+        for _ in 0..steps {
+            let actor = draw.next(2 * self.stations.len());
+            self.turn(alloc, actor)?;
+        }
+        Ok(())
+    }
+
+    // Rounds until all clients are finished, or nothing stirs.
+    fn take_rounds(&mut self, alloc: Global) -> Result<(), Memory>
+        ensures rounds { OnOk result (Rounds most_rounds (state_of self.old) (state_of self.new)) }
+        ensures count { length self.new.stations.items ≡ length self.old.stations.items }
+    {
+        for _ in 0..MOST_ROUNDS {
+            if self.are_finished() {
+                return Ok(());
+            }
+            if !self.round(alloc)? {
+                return Ok(());
+            }
+        }
+        Ok(())
+    }
+
+    // A turn of each actor. Says whether one of them stirred.
+    fn round(&mut self, alloc: Global) -> Result<bool, Memory>
+        ensures turns { IfOk result (λ stirs. Turns (actors_of (state_of self.old)) (state_of self.old) (state_of self.new) stirs) }
+        ensures count { length self.new.stations.items ≡ length self.old.stations.items }
+    {
+        let mut stirred = false;
+        for actor in 0..2 * self.stations.len() {
+            stirred |= self.turn(alloc, actor)?;
+        }
+        Ok(stirred)
+    }
+
+    // Whether every client is finished.
+    fn are_finished(&self) -> bool
+        ensures { result ≡ are_finished (state_of self.now) }
+    {
+        self.stations.iter().all(|station| station.is_finished())
+    }
+
+    /// The book, and what each client has, by rising number of its link.
+    pub fn into_end(self, alloc: Global) -> Result<RigEnd, Memory>
+        ensures { IfOk result (λ end. end_told end ≡ state_told (state_of self)) }
+    {
+        let mut clients = Vec::with_capacity(alloc, self.stations.len())?;
+        for station in self.stations {
+            clients.push_reserved(RigClient {
+                link: station.link,
+                results: station.results,
+                places: station.places,
+            });
+        }
+        Ok(RigEnd {
+            book: self.book,
+            clients,
+        })
+    }
+}

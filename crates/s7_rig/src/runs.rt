@@ -1,0 +1,61 @@
+// A whole run of a rig.
+ghost use Rattle.std.specs.Prelude.{◌≤◌, ◌<◌, ◌*◌, All, length, map, IfOk};
+ghost use Rattle.std.specs.List.{AllByRecursion};
+ghost use Rattle.s7_rig.specs.Scripts.{ConnectsFirst};
+ghost use Rattle.s7_rig.specs.Shown.{end_told};
+ghost use Rattle.s7_rig.specs.Rigs.{Turning, RigRan};
+
+use crate::end::RigEnd;
+use crate::rig::Rig;
+use s7_area::Areas;
+use s7_client::{Config, Job};
+use s7_outer::Memory;
+use std::alloc::Global;
+
+/// Which turns a rig makes before its rounds. With K clients the actors below K are the clients, and
+/// those from K to 2K - 1 their sessions.
+#[derive(Clone, Copy, Debug, PartialEq, Eq)]
+pub struct Schedule<'a> {
+    /// The actors of the first turns, in order.
+    pub turns: &'a [u32],
+    /// The seed of the turns after these.
+    pub seed: u32,
+    /// How many turns are drawn from the seed.
+    pub steps: u32,
+}
+
+/// Runs a rig over these areas, with a journal of this limit, from 1 to 262,144, and a client for
+/// each list of jobs, of 1 to 1,024, whose links are numbered from 1 in order. The first job of each
+/// list is a connect, and no other is. The clients ask for a PDU from 64 to 960 and for 1 to 8 jobs, and
+/// have at least 1 poll for a job. A client's turn starts its next job where none is outstanding, and
+/// polls once; a session's turn is one turn on the book.
+///
+/// The turns of the schedule come first, and then rounds of all actors in order. These end where every
+/// client is finished, after a round in which no octet was moved or used and no job was done, or after
+/// 16,777,216 rounds. `Memory` comes where there is none for the rig, for a job or for a session.
+pub fn run_rig(
+    alloc: Global,
+    areas: Areas,
+    limit: u64,
+    scripts: Vec<Vec<Job>>,
+    config: Config,
+    schedule: Schedule<'_>,
+) -> Result<RigEnd, Memory>
+    requires some { 1 ≤ limit }
+    requires few { limit ≤ 262144 }
+    requires least_pdu { 64 ≤ config.pdu }
+    requires most_pdu { config.pdu ≤ 960 }
+    requires least_jobs { 1 ≤ config.jobs }
+    requires most_jobs { config.jobs ≤ 8 }
+    requires polls { 1 ≤ config.polls }
+    requires clients { 0 < length scripts.items }
+    requires connects { AllByRecursion ConnectsFirst (map (λ s. s.items) scripts.items) }
+    requires few_clients { length scripts.items ≤ 1024 }
+    requires actors { All (λ actor. actor < 2 * length scripts.items) schedule.turns.now }
+    ensures { IfOk result (λ end. RigRan areas limit config (map (λ s. s.items) scripts.items)
+        (record { turns = schedule.entry.turns.now; seed = schedule.entry.seed; steps = schedule.entry.steps }) (end_told end)) }
+{
+    let mut rig = Rig::new(alloc, areas, limit, scripts, config)?;
+    rig.run(alloc, schedule.turns, schedule.seed, schedule.steps)?;
+    rig.into_end(alloc)
+}

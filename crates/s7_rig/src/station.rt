@@ -1,0 +1,31 @@
+// A client and the session that serves it.
+ghost use Rattle.std.specs.Prelude.{◌≡◌, ◌+◌, ◌≤◌, None, length, vec_capacity, IsSome};
+ghost use Rattle.s7_client.specs.Polling.{job_of};
+ghost use Rattle.s7_rig.specs.Standing.{HasStood, room_for};
+
+use crate::places::Places;
+use s7_client::{Client, Job, JobResult};
+use s7_outer::Pipes;
+use s7_session::Session;
+use std::collections::VecDeque;
+
+/// A client with its jobs, and the session that serves it, over two pipes.
+#[derive(Drop)]
+pub struct Station {
+    pub(crate) link: u32,
+    /// The jobs that are still to be started.
+    pub(crate) rest: VecDeque<Job>,
+    pub(crate) client: Client,
+    pub(crate) session: Session,
+    pub(crate) pipes: Pipes,
+    pub(crate) results: Vec<JobResult>,
+    /// The places of each job that is done.
+    pub(crate) places: Vec<Places>,
+    /// The places so far of the job under way.
+    pub(crate) noted: Option<Places>,
+    ghost idle: { noted ≡ None → job_of client ≡ None },
+    ghost busy: { IsSome noted → IsSome (job_of client) },
+    ghost results_fit: { length results.items + length rest.items + room_for noted ≤ vec_capacity results },
+    ghost places_fit: { length places.items + length rest.items + room_for noted ≤ vec_capacity places },
+    ghost stands: { ∥ HasStood session ∥₁ },
+}

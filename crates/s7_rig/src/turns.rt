@@ -1,0 +1,160 @@
+// The turns of a client and of the session that serves it.
+ghost use Rattle.std.specs.Prelude.{◌≡◌, ◌≢◌, ◌<◌, ◌≤◌, ◌⊎◌, ◌-◌, ◌++◌, ◌∷◌, [], length, vec_capacity, None, Some, false, option_map, unwrap_or, IfOk, OnOk, IsSome};
+ghost use Rattle.s7_client.specs.declared.config.Config.{Config};
+ghost use Rattle.s7_session.specs.Stands.{closed_by};
+ghost use Rattle.s7_rig.specs.Numbers.{count_from};
+ghost use Rattle.s7_rig.specs.State.{is_finished};
+ghost use Rattle.s7_rig.specs.Shown.{post_of};
+ghost use Rattle.s7_rig.specs.Turns.{StartsNext, StartsNothing, PollsOnce, IsClientTurn, IsSessionTurn};
+ghost use Rattle.s7_rig.specs.Runs.{IsFreshPost};
+
+use crate::links::{count_held, poll_over, turn_over};
+use crate::places::Places;
+use crate::station::Station;
+use s7_client::{Client, Config, Job, JobResult, Polled};
+use s7_outer::{Memory, Pipes};
+use s7_plant::Book;
+use s7_session::{Outcome, Session, Turn};
+use std::alloc::Global;
+use std::collections::VecDeque;
+
+/// How many octets there may be in each pipe.
+const ROOM: usize = 4_096;
+
+/// 2024-01-01, in milliseconds since 1970, at which the clock of the pipes stands.
+const MOMENT: u64 = 1_704_067_200_000;
+
+impl Station {
+    /// A client of this link with these jobs before it, and a session that has taken nothing.
+    pub(crate) fn new(
+        alloc: Global,
+        link: u32,
+        jobs: Vec<Job>,
+        config: Config,
+    ) -> Result<Station, Memory>
+        requires least_pdu { 64 ≤ config.pdu }
+        requires most_pdu { config.pdu ≤ 960 }
+        requires least_jobs { 1 ≤ config.jobs }
+        requires most_jobs { config.jobs ≤ 8 }
+        requires polls { 1 ≤ config.polls }
+        ensures { IfOk result (λ station. IsFreshPost config link jobs.items (post_of station)) }
+    {
+        let count = jobs.len();
+        Ok(Station {
+            link,
+            rest: VecDeque::from_vec(jobs),
+            client: Client::new(alloc, config)?,
+            session: Session::new(alloc, link)?,
+            pipes: Pipes::new(alloc, ROOM, MOMENT)?,
+            results: Vec::with_capacity(alloc, count)?,
+            places: Vec::with_capacity(alloc, count)?,
+            noted: None,
+        })
+    }
+
+    /// Whether no job is left and none is outstanding.
+    pub(crate) fn is_finished(&self) -> bool
+        ensures { result ≡ is_finished (post_of self.now) }
+    {
+        self.rest.is_empty() && self.noted.is_none()
+    }
+
+    /// The client's turn: it starts its next job where none is outstanding, and polls once. Says
+    /// whether an octet was moved or a job is done. `Memory` comes where there is none for the job.
+    pub(crate) fn client_turn(&mut self, alloc: Global) -> Result<bool, Memory>
+        ensures { IfOk result (λ stirs. IsClientTurn (post_of self.old) (post_of self.new) stirs) }
+    {
+        self.start_next(alloc)?;
+        Ok(self.poll_once())
+    }
+
+    // Starts the next job, where none is outstanding and one is left.
+    fn start_next(&mut self, alloc: Global) -> Result<(), Memory>
+        ensures { OnOk result (StartsNext (post_of self.old) (post_of self.new) ⊎ StartsNothing (post_of self.old) (post_of self.new)) }
+    {
+        if self.noted.is_some() {
+            return Ok(());
+        }
+        let Some(job) = self.rest.pop_front() else {
+            return Ok(());
+        };
+        if self.client.start(alloc, job).is_err() {
+            return Err(Memory);
+        }
+        self.noted = Some(Places::new(alloc));
+        Ok(())
+    }
+
+    fn poll_once(&mut self) -> bool
+        ensures { PollsOnce (post_of self.old) (post_of self.new) result }
+    {
+        let before = count_held(&self.pipes);
+        let polled = poll_over(&mut self.client, &mut self.pipes);
+        let after = count_held(&self.pipes);
+        match polled {
+            Polled::Done(told) => {
+                keep(told, &mut self.results, &mut self.places, &mut self.noted);
+                true
+            }
+            Polled::Pending | Polled::Idle => after != before,
+        }
+    }
+
+    /// The session's turn. Says whether an octet was moved, or one that had been read was used.
+    /// `Memory` comes where there is none for the session or for the numbers of its entries.
+    pub(crate) fn session_turn(&mut self, alloc: Global, book: &mut Book) -> Result<bool, Memory>
+        ensures { IfOk result (λ stirs. IsSessionTurn (post_of self.old) (post_of self.new) book.old book.new stirs) }
+    {
+        let before = count_held(&self.pipes);
+        let used = self.session.used();
+        let first = book.journal.len();
+        let turn = turn_over(alloc, self.link, &mut self.session, &mut self.pipes, book);
+        if was_wanting(turn) {
+            return Err(Memory);
+        }
+        self.note(first, book.journal.len())?;
+        Ok(count_held(&self.pipes) != before || self.session.used() != used)
+    }
+
+    // Notes the numbers of entries for the job under way.
+    fn note(&mut self, first: u64, end: u64) -> Result<(), Memory>
+        requires { first ≤ end }
+        ensures { OnOk result (post_of self.new ≡ record (post_of self.old) {
+          noted = option_map (λ numbers. numbers ++ count_from first (end - first)) (post_of self.old).noted;
+        }) }
+    {
+        match &mut self.noted {
+            Some(places) => places.add(first, end),
+            None => Ok(()),
+        }
+    }
+}
+
+// Whether memory was wanting in the turn.
+fn was_wanting(turn: Turn) -> bool
+    ensures { result ≡ false → closed_by turn ≢ Some Outcome.Memory }
+{
+    turn == Turn::Closed(Outcome::Memory)
+}
+
+// Keeps the result of the job that is done, and the places that were noted for it.
+fn keep(
+    told: JobResult,
+    results: &mut Vec<JobResult>,
+    places: &mut Vec<Places>,
+    noted: &mut Option<Places>,
+)
+    requires results { length results.old.items < vec_capacity results.old }
+    requires places { length places.old.items < vec_capacity places.old }
+    requires noted { IsSome noted.old }
+    ensures results { results.new.items ≡ results.old.items ++ told ∷ [] }
+    ensures results_room { vec_capacity results.new ≡ vec_capacity results.old }
+    ensures places { places.new.items ≡ places.old.items ++ unwrap_or noted.old [] ∷ [] }
+    ensures places_room { vec_capacity places.new ≡ vec_capacity places.old }
+    ensures noted { noted.new ≡ None }
+{
+    results.push_reserved(told);
+    if let Some(numbers) = noted.take() {
+        places.push_reserved(numbers);
+    }
+}
