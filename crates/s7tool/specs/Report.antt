@@ -21,6 +21,9 @@ report (next ∷ lines) (told ∷ results) = print next.line told ++ report line
 abbrev pub usage_line : List ℕ
 usage_line = codes "usage: s7tool run SCRIPT, rig AREAS SCRIPT..., gen N, partner A [B]" ++ line_end
 
+abbrev pub areas_line : ℕ → List ℕ
+areas_line n = codes "areas line " ++ (decimal n ++ line_end)
+
 abbrev pub script_line : ℕ → List ℕ
 script_line n = codes "script line " ++ (decimal n ++ line_end)
 

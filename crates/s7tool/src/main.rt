@@ -1,10 +1,14 @@
-//! Runs scripts against controllers.
+//! Runs scripts against controllers, and in rigs.
 #![tactic(auto)]
 
 mod jobs;
 mod load;
 mod output;
 mod report;
+mod rig_report;
+#[cfg(test)]
+mod rig_tests;
+mod rigging;
 #[cfg(test)]
 mod tests;
 mod tool;

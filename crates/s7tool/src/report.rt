@@ -1,6 +1,6 @@
 // The lines that tell why nothing was run.
 ghost use Rattle.std.specs.Prelude.{◌≡◌, IfOk, string_bytes};
-ghost use Rattle.s7tool.specs.Report.{file_line, script_line};
+ghost use Rattle.s7tool.specs.Report.{areas_line, file_line, script_line};
 
 use std::alloc::{AllocError, Global};
 
@@ -9,6 +9,13 @@ pub fn script_line(alloc: Global, number: u32) -> Result<String, AllocError>
     ensures { IfOk result (λ text. string_bytes text ≡ script_line number) }
 {
     format!(in alloc; "script line {number}\n")
+}
+
+/// The line for areas whose line of this number is faulty.
+pub fn areas_line(alloc: Global, number: u32) -> Result<String, AllocError>
+    ensures { IfOk result (λ text. string_bytes text ≡ areas_line number) }
+{
+    format!(in alloc; "areas line {number}\n")
 }
 
 /// The line for a file that failed.

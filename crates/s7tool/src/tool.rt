@@ -2,14 +2,19 @@
 ghost use Rattle.std.specs.Prelude.{◌≡◌, ◌≢◌, ◌≤◌, ◌+◌, ◌==◌, [], ◌∷◌, ◌⊎◌, map, option_map, IsTrue, IsSome, IsNone, IsSomeAnd, IfSome, IfOk, OnOk, Some, None, true, false, vec_len, if◌then◌else◌};
 ghost use Rattle.std.specs.Vec.{vec_capacity};
 ghost use Rattle.std.specs.List.{list_all};
+ghost use Rattle.std.specs.Io.KnownBytes.{append_known};
 ghost use Rattle.s7_outer.specs.Count.{Rose};
 ghost use Rattle.s7_outer.specs.Dial.{NoHostFell};
 ghost use Rattle.s7_outer.specs.Files.{NonePathFell};
+ghost use Rattle.s7_outer.specs.Out.{AppendsPrefix};
+ghost use Rattle.s7_rig.specs.Shown.{end_told};
 ghost use Rattle.s7_client.specs.Polling.{job_of, config_of};
 ghost use Rattle.s7_client.specs.Runs.{Between, between_of, fresh};
 ghost use Rattle.s7_words.specs.Shown.{run_told_of};
 ghost use Rattle.s7_words.specs.Tool.{tool_words};
-ghost use Rattle.s7tool.specs.Ran.{ForRun, Ran, ReadsScript, RefusesScript, Dials, config_by, refusal_line};
+ghost use Rattle.s7tool.specs.Ran.{ByCommand, ForRun, ForRig, IsRig, Ran, ReadsScript, RefusesScript, FileFails, Dials, config_by, refusal_line};
+ghost use Rattle.s7tool.specs.RigText.{are_clients_good, rig_text};
+ghost use Rattle.s7tool.specs.Rigging.{FailsOneFile, RanRig, RefusesFile};
 ghost use Rattle.s7tool.specs.Report.{Prints, usage_line, file_line, dial_line, memory_line};
 ghost use Rattle.s7tool.specs.Run.{BreaksOff, DoesAll, WantsMemory, connect_line, is_good, place};
 
@@ -17,8 +22,10 @@ use crate::jobs::{Stop, do_all};
 use crate::load::{LoadFault, load_script};
 use crate::output::{print_line, print_status};
 use crate::report::{file_line, script_line};
+use crate::rigging::run_rigging;
 use s7_client::{Client, Config, JobResult};
 use s7_outer::{Dial, Dialled, Files, Link, Out};
+use s7_rig::RigEnd;
 use s7_script::{Script, ScriptLine};
 use s7_words::{RunWords, ToolWords, read_tool_words};
 use std::alloc::{AllocError, Global};
@@ -54,26 +61,33 @@ pub struct RunEnd<L: Link + Drop> {
     pub results: Vec<JobResult>,
 }
 
-/// What is left in the end: the status, and the run where a link was dialled.
+/// What is left in the end: the status, the rig where one ran, and the run where a link was dialled.
 #[derive(Drop)]
 pub struct ToolEnd<L: Link + Drop> {
     pub status: u8,
+    pub rig: Option<RigEnd>,
     pub run: Option<RunEnd<L>>,
 }
 
-/// Reads the words and the script that they name, dials the controller, and carries out a connect,
-/// the jobs of the script in order, and a disconnect. Each result but the disconnect's is printed as
-/// soon as its job is done, the connect's as that of line 0.
+/// Reads the words, and carries out their command.
 ///
-/// The status is 1 where the words are no command; 2 where the script can't be read: a faulty line,
-/// or more than 67,108,864 octets; 3 where its file failed; 4 where the dial failed; 5 where the
-/// output failed at a result, which ends the run; 6 where all jobs were done and a result's code
-/// isn't 0; 9 where memory was wanting, which may come in the place of 1 to 4 too; and else 0. For
-/// 1 to 4 and 9 one line is printed, with 9 after what was printed before, and its failure changes
-/// nothing.
+/// `run` reads the script, dials the controller, and carries out a connect, the jobs of the script in
+/// order, and a disconnect. Each result but the disconnect's is printed as soon as its job is done, the
+/// connect's as that of line 0. `rig` reads the areas and then the scripts in order, and runs a client
+/// for each script, with a connect before and a disconnect after it, on one book of these areas. What
+/// came of it is printed in the end: of each client its results but the disconnect's, and a line where
+/// not all of its jobs were done; and then the journal's length.
+///
+/// The status is 1 where the words are no command; 2 where a script or the areas can't be read: a faulty
+/// line, or more than 67,108,864 octets; 3 where a file that the words name failed; 4 where the dial
+/// failed; 5 where the output failed at a result, which ends a run, or at the text of a rig; 6 where a
+/// result's code isn't 0, or a client of a rig isn't finished; 9 where memory was wanting, which may
+/// come in the place of 1 to 4 too; and else 0. The first file that can't be read decides. For 1 to 4
+/// and 9 one line is printed, with 9 after what was printed before, and its failure changes nothing.
 ///
 /// No path changes. A run is there exactly where a link was dialled. With status 0 or 6 it has the
-/// result of each job, and with 5 or 9 those of the jobs that were done.
+/// result of each job, and with 5 or 9 those of the jobs that were done. A rig is there exactly for `rig`
+/// with status 0, 5 or 6; it dials nothing.
 pub fn tool_main<F: Files, L: Link + Drop, K: Dial<L>, O: Out>(
     alloc: Global,
     words: &[&str],
@@ -85,13 +99,13 @@ pub fn tool_main<F: Files, L: Link + Drop, K: Dial<L>, O: Out>(
     ensures statuses { (result.status ≡ DONE) ⊎ (result.status ≡ USAGE) ⊎ (result.status ≡ SCRIPT) ⊎ (result.status ≡ FILE) ⊎ (result.status ≡ DIAL) ⊎ (result.status ≡ OUTPUT) ⊎ (result.status ≡ JOBS) ⊎ (result.status ≡ MEMORY) }
     ensures usage { result.status ≡ USAGE → tool_words (map (λ w. w.now) words.now) ≡ None }
     ensures usage_words { tool_words (map (λ w. w.now) words.now) ≡ None → (result.status ≡ USAGE) ⊎ (result.status ≡ MEMORY) }
-    ensures refused { result.status ≡ SCRIPT → ForRun (tool_words (map (λ w. w.now) words.now)) (λ told. RefusesScript told.script (F.shows files.old) (Prints (O.text out.old) (O.text out.new) (O.out_faults out.old) (O.out_faults out.new))) }
-    ensures file_failed { result.status ≡ FILE → ForRun (tool_words (map (λ w. w.now) words.now)) (λ told. Rose ((F.shows files.old).faults told.script) ((F.shows files.new).faults told.script)) }
+    ensures refused { result.status ≡ SCRIPT → ByCommand (tool_words (map (λ w. w.now) words.now)) (λ run. RefusesScript run.script (F.shows files.old) (Prints (O.text out.old) (O.text out.new) (O.out_faults out.old) (O.out_faults out.new))) (λ rig. RefusesFile rig (F.shows files.old) (Prints (O.text out.old) (O.text out.new) (O.out_faults out.old) (O.out_faults out.new))) }
+    ensures file_failed { result.status ≡ FILE → ByCommand (tool_words (map (λ w. w.now) words.now)) (λ run. FileFails run.script (F.shows files.old) (F.shows files.new) (Prints (O.text out.old) (O.text out.new) (O.out_faults out.old) (O.out_faults out.new))) (λ rig. FailsOneFile rig (F.shows files.old) (F.shows files.new) (Prints (O.text out.old) (O.text out.new) (O.out_faults out.old) (O.out_faults out.new))) }
     ensures dial_failed { result.status ≡ DIAL → ForRun (tool_words (map (λ w. w.now) words.now)) (λ told. ReadsScript told.script (F.shows files.old) (λ lines. Rose ((K.shows dial.old).faults told.host told.port) ((K.shows dial.new).faults told.host told.port))) }
     ensures output_failed { result.status ≡ OUTPUT → Rose (O.out_faults out.old) (O.out_faults out.new) }
 
     // The run.
-    ensures run { (result.status ≡ DONE) ⊎ (result.status ≡ JOBS) ⊎ (result.status ≡ OUTPUT) → IsSome result.run }
+    ensures ran { (result.status ≡ DONE) ⊎ (result.status ≡ JOBS) ⊎ (result.status ≡ OUTPUT) → ByCommand (tool_words (map (λ w. w.now) words.now)) (λ run. IsSome result.run) (λ rig. IsSome result.rig) }
     ensures no_run { (result.status ≡ USAGE) ⊎ (result.status ≡ SCRIPT) ⊎ (result.status ≡ FILE) ⊎ (result.status ≡ DIAL) → IsNone result.run }
     ensures done { (result.status ≡ DONE) ⊎ (result.status ≡ JOBS) → IfSome result.run (λ run. ForRun (tool_words (map (λ w. w.now) words.now)) (Ran (F.shows files.old) (λ host port. option_map L.shows ((K.shows dial.old).next host port)) (λ config lines link after. DoesAll config lines (place link fresh [] (O.text out.old)) (place (L.shows run.line) after run.results.items (O.text out.new))))) }
     ensures good { result.status ≡ DONE → IfSome result.run (λ run. list_all is_good run.results.items ≡ true) }
@@ -99,9 +113,13 @@ pub fn tool_main<F: Files, L: Link + Drop, K: Dial<L>, O: Out>(
     ensures broken_off { result.status ≡ OUTPUT → IfSome result.run (λ run. ForRun (tool_words (map (λ w. w.now) words.now)) (Ran (F.shows files.old) (λ host port. option_map L.shows ((K.shows dial.old).next host port)) (λ config lines link after. BreaksOff config (connect_line ∷ lines) (place link fresh [] (O.text out.old)) (place (L.shows run.line) after run.results.items (O.text out.new))))) }
     ensures wanting { result.status ≡ MEMORY → IfSome result.run (λ run. ForRun (tool_words (map (λ w. w.now) words.now)) (Ran (F.shows files.old) (λ host port. option_map L.shows ((K.shows dial.old).next host port)) (λ config lines link after. WantsMemory config (connect_line ∷ lines) (place link fresh [] (O.text out.old)) (place (L.shows run.line) after run.results.items (O.text out.new)) (O.out_faults out.old) (O.out_faults out.new)))) }
 
+    // The rig.
+    ensures no_rig { (result.status ≡ USAGE) ⊎ (result.status ≡ SCRIPT) ⊎ (result.status ≡ FILE) ⊎ (result.status ≡ DIAL) ⊎ (result.status ≡ MEMORY) → IsNone result.rig }
+    ensures rig_done { (result.status ≡ DONE) ⊎ (result.status ≡ JOBS) → IfSome result.rig (λ end. ForRig (tool_words (map (λ w. w.now) words.now)) (λ rig. RanRig rig (F.shows files.old) (end_told end) (λ scripts. (O.text out.new ≡ append_known (O.text out.old) (rig_text scripts (end_told end))) × (are_clients_good scripts (end_told end).clients ≡ (result.status == DONE))))) }
+    ensures rig_broken_off { result.status ≡ OUTPUT → IfSome result.rig (λ end. ForRig (tool_words (map (λ w. w.now) words.now)) (λ rig. RanRig rig (F.shows files.old) (end_told end) (λ scripts. AppendsPrefix (O.text out.old) (O.text out.new) (rig_text scripts (end_told end))))) }
+
     // What else was printed.
     ensures usage_line { result.status ≡ USAGE → Prints (O.text out.old) (O.text out.new) (O.out_faults out.old) (O.out_faults out.new) usage_line }
-    ensures file_line { result.status ≡ FILE → ForRun (tool_words (map (λ w. w.now) words.now)) (λ told. Prints (O.text out.old) (O.text out.new) (O.out_faults out.old) (O.out_faults out.new) (file_line told.script)) }
     ensures dial_line { result.status ≡ DIAL → Prints (O.text out.old) (O.text out.new) (O.out_faults out.old) (O.out_faults out.new) dial_line }
     ensures memory_line { result.status ≡ MEMORY → IsNone result.run → Prints (O.text out.old) (O.text out.new) (O.out_faults out.old) (O.out_faults out.new) memory_line }
 
@@ -109,10 +127,12 @@ pub fn tool_main<F: Files, L: Link + Drop, K: Dial<L>, O: Out>(
     ensures paths { F.shows files.new ≡ record (F.shows files.old) { faults = (F.shows files.new).faults } }
     ensures file_faults { NonePathFell (F.shows files.old).faults (F.shows files.new).faults }
     ensures dial_faults { NoHostFell (K.shows dial.old).faults (K.shows dial.new).faults }
+    ensures rig_undialled { IsRig (tool_words (map (λ w. w.now) words.now)) → dial.new ≡ dial.old }
     ensures undialled { (result.status ≡ USAGE) ⊎ (result.status ≡ SCRIPT) ⊎ (result.status ≡ FILE) → dial.new ≡ dial.old }
 {
     match read_tool_words(alloc, words) {
-        Ok(Some(ToolWords::Run(run))) => run_script(alloc, run, files, dial, out),
+        Ok(Some(ToolWords::Run(words))) => run_script(alloc, words, files, dial, out),
+        Ok(Some(ToolWords::Rig(words))) => run_rigging(alloc, words, files, out),
         Ok(None) => unrun(
             USAGE,
             b"usage: s7tool run SCRIPT, rig AREAS SCRIPT..., gen N, partner A [B]\n",
@@ -140,6 +160,7 @@ fn run_script<F: Files, L: Link + Drop, K: Dial<L>, O: Out>(
     // The run.
     ensures run { (result.status ≡ DONE) ⊎ (result.status ≡ JOBS) ⊎ (result.status ≡ OUTPUT) → IsSome result.run }
     ensures no_run { (result.status ≡ SCRIPT) ⊎ (result.status ≡ FILE) ⊎ (result.status ≡ DIAL) → IsNone result.run }
+    ensures no_rig { result.rig ≡ None }
     ensures done { (result.status ≡ DONE) ⊎ (result.status ≡ JOBS) → IfSome result.run (λ run. Ran (F.shows files.old) (λ host port. option_map L.shows ((K.shows dial.old).next host port)) (λ config lines link after. DoesAll config lines (place link fresh [] (O.text out.old)) (place (L.shows run.line) after run.results.items (O.text out.new))) (run_told_of words.entry)) }
     ensures good { result.status ≡ DONE → IfSome result.run (λ run. list_all is_good run.results.items ≡ true) }
     ensures bad { result.status ≡ JOBS → IfSome result.run (λ run. list_all is_good run.results.items ≡ false) }
@@ -161,13 +182,14 @@ fn run_script<F: Files, L: Link + Drop, K: Dial<L>, O: Out>(
         Ok(script) => run_lines(alloc, words, script, dial, out),
         Err(fault) => ToolEnd {
             status: print_refusal(alloc, fault, words.script, out),
+            rig: None,
             run: None,
         },
     }
 }
 
-// Prints why the script wasn't loaded, and says the status.
-fn print_refusal<O: Out>(alloc: Global, fault: LoadFault, path: &str, out: &mut O) -> u8
+/// Prints why the script wasn't loaded, and says the status.
+pub fn print_refusal<O: Out>(alloc: Global, fault: LoadFault, path: &str, out: &mut O) -> u8
     ensures statuses { (result ≡ SCRIPT) ⊎ (result ≡ FILE) ⊎ (result ≡ MEMORY) }
     ensures refused { result ≡ SCRIPT → IsSomeAnd (refusal_line fault) (Prints (O.text out.old) (O.text out.new) (O.out_faults out.old) (O.out_faults out.new)) }
     ensures file { result ≡ FILE → fault ≡ LoadFault.Failed }
@@ -204,6 +226,7 @@ fn run_lines<L: Link + Drop, K: Dial<L>, O: Out>(
     // The run.
     ensures run { (result.status ≡ DONE) ⊎ (result.status ≡ JOBS) ⊎ (result.status ≡ OUTPUT) → IsSome result.run }
     ensures no_run { result.status ≡ DIAL → IsNone result.run }
+    ensures no_rig { result.rig ≡ None }
     ensures done { (result.status ≡ DONE) ⊎ (result.status ≡ JOBS) → IfSome result.run (λ run. Dials (option_map L.shows ((K.shows dial.old).next words.entry.host.now words.entry.port)) (λ link after. DoesAll (config_by (run_told_of words.entry)) script (place link fresh [] (O.text out.old)) (place (L.shows run.line) after run.results.items (O.text out.new)))) }
     ensures good { result.status ≡ DONE → IfSome result.run (λ run. list_all is_good run.results.items ≡ true) }
     ensures bad { result.status ≡ JOBS → IfSome result.run (λ run. list_all is_good run.results.items ≡ false) }
@@ -271,6 +294,7 @@ fn run_over<L: Link + Drop, O: Out>(
     requires room { vec_len results + vec_len lines + 2 ≤ vec_capacity results }
     ensures statuses { (result.status ≡ DONE) ⊎ (result.status ≡ OUTPUT) ⊎ (result.status ≡ JOBS) ⊎ (result.status ≡ MEMORY) }
     ensures run { IsSome result.run }
+    ensures no_rig { result.rig ≡ None }
     ensures output_failed { result.status ≡ OUTPUT → Rose (O.out_faults out.old) (O.out_faults out.new) }
     ensures done { (result.status ≡ DONE) ⊎ (result.status ≡ JOBS) → IfSome result.run (λ run. (after : Between) × DoesAll (config_of client) lines.items (place (L.shows link) fresh [] (O.text out.old)) (place (L.shows run.line) after run.results.items (O.text out.new))) }
     ensures good { result.status ≡ DONE → IfSome result.run (λ run. list_all is_good run.results.items ≡ true) }
@@ -284,6 +308,7 @@ fn run_over<L: Link + Drop, O: Out>(
     let status = run_jobs(alloc, lines, &mut client, &mut line, &mut results, out);
     ToolEnd {
         status,
+        rig: None,
         run: Some(RunEnd { line, results }),
     }
 }
@@ -321,7 +346,8 @@ fn status_of(results: &[JobResult]) -> u8
     if all_good(results) { DONE } else { JOBS }
 }
 
-fn all_good(results: &[JobResult]) -> bool
+/// Whether no result has a code but 0.
+pub fn all_good(results: &[JobResult]) -> bool
     ensures { result ≡ list_all is_good results.now }
 {
     results.iter().all(|told| is_good(told))
@@ -333,12 +359,17 @@ fn is_good(told: &JobResult) -> bool
     told.code == 0
 }
 
-// The end where no link was dialled: one line is printed, and its failure changes nothing.
-fn unrun<L: Link + Drop, O: Out>(status: u8, line: &[u8], out: &mut O) -> ToolEnd<L>
+/// The end where nothing was run: one line is printed, and its failure changes nothing.
+pub fn unrun<L: Link + Drop, O: Out>(status: u8, line: &[u8], out: &mut O) -> ToolEnd<L>
     ensures status { result.status ≡ status }
+    ensures rig { result.rig ≡ None }
     ensures run { result.run ≡ None }
     ensures line { Prints (O.text out.old) (O.text out.new) (O.out_faults out.old) (O.out_faults out.new) line.now }
 {
     print_line(line, out);
-    ToolEnd { status, run: None }
+    ToolEnd {
+        status,
+        rig: None,
+        run: None,
+    }
 }
