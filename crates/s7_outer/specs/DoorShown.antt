@@ -1,5 +1,6 @@
 -- What a door shows to contracts.
 use Rattle.std.specs.Prelude.{ℕ, List, Option}
+use Rattle.s7_outer.specs.Shown.{Lent}
 
 pub record DoorShown (L : Type 0) : Type 0 where
   -- the links still to come, where the door tells them
@@ -8,3 +9,5 @@ pub record DoorShown (L : Type 0) : Type 0 where
   pub heard : ℕ
   -- how often a call for a port has failed
   pub faults : ℕ → ℕ
+  -- what the door works on that was lent to it, where there is such a thing; no call changes it
+  pub lent : Option Lent

@@ -1,15 +1,15 @@
 -- What a door in memory shows.
-use Rattle.std.specs.Prelude.{ℕ, List, Option, Some}
+use Rattle.std.specs.Prelude.{ℕ, List, Option, None, Some}
 use Rattle.std.specs.Vec.Iter.{into_iter_items}
 use Rattle.s7_outer.specs.DoorShown.{DoorShown}
 use Rattle.s7_outer.specs.declared.memory_door.MemoryDoor.{MemoryDoor}
 
 abbrev pub door_of : {L : Type 0} → MemoryDoor L → DoorShown L
-door_of d = record { coming = Some (into_iter_items d.links); heard = d.port; faults = λ _. d.faults }
+door_of d = record { coming = Some (into_iter_items d.links); heard = d.port; faults = λ _. d.faults; lent = None }
 
 -- a door that has not been used
 abbrev pub unused_door : {L : Type 0} → List L → DoorShown L
-unused_door links = record { coming = Some links; heard = 0; faults = λ _. 0 }
+unused_door links = record { coming = Some links; heard = 0; faults = λ _. 0; lent = None }
 
 -- the number of the call of `next` that fails
 abbrev pub failing_place : {L : Type 0} → MemoryDoor L → Option ℕ
@@ -18,3 +18,7 @@ failing_place d = d.fail_at
 -- how many calls of `next` there were
 abbrev pub place_of : {L : Type 0} → MemoryDoor L → ℕ
 place_of d = d.place
+
+-- how often the door has failed
+abbrev pub fault_count : {L : Type 0} → MemoryDoor L → ℕ
+fault_count d = d.faults

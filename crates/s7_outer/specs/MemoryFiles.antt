@@ -32,3 +32,7 @@ calls_of m = m.calls
 -- no file under any path, and no fault
 abbrev pub no_files : FilesShown
 no_files = record { tells = true; held = λ _. None; faults = λ _. 0 }
+
+-- how often a call has failed
+abbrev pub fault_count : MemoryFiles → ℕ
+fault_count m = m.faults

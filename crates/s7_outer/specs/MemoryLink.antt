@@ -1,5 +1,5 @@
 -- What a link in memory shows.
-use Rattle.std.specs.Prelude.{ℕ, List, [], ◌∷◌, drop, Bool, true, false, None, Some}
+use Rattle.std.specs.Prelude.{ℕ, ◌-◌, min, List, [], ◌∷◌, length, drop, Bool, true, false, None, Some}
 use Rattle.s7_outer.specs.Shown.{Shown}
 use Rattle.s7_outer.specs.declared.memory_link.MemoryLink.{MemoryLink}
 
@@ -7,11 +7,35 @@ abbrev pub is_empty : List ℕ → Bool
 is_empty [] = true
 is_empty (x ∷ xs) = false
 
+-- the octets that are left to receive
+abbrev pub unread_of : MemoryLink → List ℕ
+unread_of m = drop m.at m.input
+
+-- how many octets a call moves at most
+abbrev pub most_of : MemoryLink → ℕ
+most_of m = m.most
+
+-- how many octets there may be of output in all
+abbrev pub room_of : MemoryLink → ℕ
+room_of m = m.output.room
+
+-- how many octets of output there may still be
+abbrev pub free_of : MemoryLink → ℕ
+free_of m = m.output.room - length m.output.octets
+
+-- how many octets a receive moves that has room for so many
+abbrev pub receives : MemoryLink → ℕ → ℕ
+receives m room = min room (min m.most (length (unread_of m)))
+
+-- how many octets of so many a transmit moves
+abbrev pub transmits : MemoryLink → ℕ → ℕ
+transmits m count = min count (min m.most (free_of m))
+
 abbrev pub shown_of : MemoryLink → Shown
 shown_of m = record {
-  left = Some (drop m.at m.input);
+  left = Some (unread_of m);
   written = Some m.output.octets;
-  has_ended = is_empty (drop m.at m.input);
+  has_ended = is_empty (unread_of m);
   faults = m.faults;
   waits = 0;
   moment = Some m.moment;

@@ -1,5 +1,5 @@
 -- What the ends of two pipes show.
-use Rattle.std.specs.Prelude.{ℕ, ◌-◌, List, [], length, Some, false}
+use Rattle.std.specs.Prelude.{ℕ, ◌-◌, min, List, [], length, Some, false}
 use Rattle.std.specs.Borrow.{GName}
 use Rattle.s7_outer.specs.PipesHeld.{PipesHeld}
 use Rattle.s7_outer.specs.Shown.{Shown}
@@ -24,6 +24,14 @@ with_waiting p side.Server octets = record p { to_server = octets }
 -- how many octets an end can still give
 abbrev pub space_of : PipesHeld → Side → ℕ
 space_of p s = p.room - length (waiting_for p (across s))
+
+-- how many octets a receive moves that has room for so many
+abbrev pub receives : PipesHeld → Side → ℕ → ℕ
+receives p s room = min room (length (waiting_for p s))
+
+-- how many octets of so many a transmit moves
+abbrev pub transmits : PipesHeld → Side → ℕ → ℕ
+transmits p s count = min count (space_of p s)
 
 abbrev pub number_of : Side → ℕ
 number_of side.Client = 0

@@ -1,9 +1,10 @@
 // Counts of faults and waits.
-ghost use Rattle.std.specs.Prelude.{◌≤◌};
-ghost use Rattle.s7_outer.specs.Count.{Rose};
+ghost use Rattle.std.specs.Prelude.{◌≡◌, ◌≤◌};
+ghost use Rattle.s7_outer.specs.Count.{Rose, raised};
 
 /// One more, up to the last value.
 pub(crate) fn raise(count: &mut u64)
+    ensures raised { count.new ≡ raised count.old }
     ensures rose { Rose count.old count.new }
     ensures kept { count.old ≤ count.new }
 {

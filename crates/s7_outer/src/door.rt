@@ -19,7 +19,8 @@ pub enum Arrival<L> {
 #[derive(Clone, Copy, Debug, PartialEq, Eq)]
 pub struct DoorFailed;
 
-/// Where links come in. What it tells of them, and its counts, stand in `shows`.
+/// Where links come in. What it tells of them, and its counts, stand in `shows`. A door that works
+/// on something lent to it shows which loan that is, and no call changes this.
 pub trait Door<L> {
     /// What the door shows to contracts. No count in it ever falls.
     ghost shows: { Self → DoorShown L };
@@ -29,6 +30,7 @@ pub trait Door<L> {
     fn listen(&mut self, port: u16) -> Result<(), DoorFailed>
         ensures heard { (shows self.new).heard ≡ port }
         ensures coming { (shows self.new).coming ≡ (shows self.old).coming }
+        ensures lent { (shows self.new).lent ≡ (shows self.old).lent }
         ensures failed { OnErr result (Rose ((shows self.old).faults port) ((shows self.new).faults port)) }
         ensures faults { NoPortFell (shows self.old).faults (shows self.new).faults };
 
@@ -37,6 +39,8 @@ pub trait Door<L> {
     fn next(&mut self) -> Arrival<L>
         ensures gives { GivesNext (shows self.old).coming (shows self.new).coming result }
         ensures heard { (shows self.new).heard ≡ (shows self.old).heard }
-        ensures failed { result ≡ Arrival.Failed → Rose ((shows self.old).faults (shows self.old).heard) ((shows self.new).faults (shows self.old).heard) }
+        ensures lent { (shows self.new).lent ≡ (shows self.old).lent }
+        ensures failed { result ≡ Arrival.Failed
+            → Rose ((shows self.old).faults (shows self.old).heard) ((shows self.new).faults (shows self.old).heard) }
         ensures faults { NoPortFell (shows self.old).faults (shows self.new).faults };
 }

@@ -1,6 +1,7 @@
 // A link whose calls meet a list of fates.
-ghost use Rattle.std.specs.Prelude.{◌≡◌, ◌+◌, ◌≤◌, None};
-ghost use Rattle.s7_outer.specs.Count.{Rose};
+ghost use Rattle.std.specs.Prelude.{◌≡◌, ◌≢◌, ◌<◌, length, drop};
+ghost use Rattle.s7_outer.specs.Calls.{IsReceive, IsTransmit, IsLook};
+ghost use Rattle.s7_outer.specs.Count.{raised};
 
 use crate::count::raise;
 use crate::{Clock, Got, Link, Sent, Tick};
@@ -28,11 +29,13 @@ pub struct FailingLink<L: Link> {
 }
 
 impl<L: Link> FailingLink<L> {
-    ghost use Rattle.s7_outer.specs.FailingLink.{inner_of};
+    ghost use Rattle.s7_outer.specs.FailingLink.{inner_of, fates_left, next_fate, counted_of, none_counted};
 
-    /// The link with these fates of its calls.
+    /// The link with these fates of its calls. What it counts is what the link inside has counted.
     pub fn new(inner: L, fates: Vec<Fate>) -> FailingLink<L>
-        ensures { inner_of result ≡ inner }
+        ensures inner { inner_of result ≡ inner }
+        ensures fates { fates_left result ≡ fates.items }
+        ensures counted { counted_of result ≡ none_counted }
     {
         FailingLink {
             inner,
@@ -51,8 +54,10 @@ impl<L: Link> FailingLink<L> {
         &self.inner
     }
 
-    // The next fate.
+    // The next fate, which is used up.
     fn fate(&mut self) -> Fate
+        ensures fate { result ≡ next_fate (fates_left self.old) }
+        ensures fates { fates_left self.new ≡ drop 1 (fates_left self.old) }
         ensures inner { self.new.inner ≡ self.old.inner }
         ensures failed { self.new.failed ≡ self.old.failed }
         ensures waited { self.new.waited ≡ self.old.waited }
@@ -69,14 +74,28 @@ impl<L: Link> FailingLink<L> {
 }
 
 impl<L: Link> Link for FailingLink<L> {
-    ghost shows = { λ f. record (L.shows f.inner) {
-      faults = (L.shows f.inner).faults + f.failed;
-      waits = (L.shows f.inner).waits + f.waited;
-      clock_faults = (L.shows f.inner).clock_faults + f.clock_failed;
-      space = None;
-    } };
+    ghost use Rattle.s7_outer.specs.FailingLink.{inner_of, fates_left, next_fate, counted_of, with_counted};
 
-    fn receive(&mut self, into: &mut [u8]) -> Got {
+    ghost shows = { λ f. with_counted (counted_of f) (L.shows (inner_of f)) };
+
+    /// Uses up the next fate. Where it passes, this is the receive of the link inside; else that
+    /// link is not called.
+    fn receive(&mut self, into: &mut [u8]) -> Got
+        requires { 0 < length into.old }
+
+        ensures call { IsReceive (with_counted (counted_of self.old) (L.shows (inner_of self.old)))
+            (with_counted (counted_of self.new) (L.shows (inner_of self.new))) into.old into.new result }
+        ensures fates { fates_left self.new ≡ drop 1 (fates_left self.old) }
+        ensures passes { next_fate (fates_left self.old) ≡ Fate.Pass
+            → (counted_of self.new ≡ counted_of self.old)
+            × IsReceive (L.shows (inner_of self.old)) (L.shows (inner_of self.new)) into.old into.new result }
+        ensures not_yet { next_fate (fates_left self.old) ≡ Fate.NotYet
+            → (result ≡ Got.NotYet) × (inner_of self.new ≡ inner_of self.old) × (into.new ≡ into.old)
+            × (counted_of self.new ≡ record (counted_of self.old) { waits = raised (counted_of self.old).waits }) }
+        ensures fails { next_fate (fates_left self.old) ≡ Fate.Fail
+            → (result ≡ Got.Failed) × (inner_of self.new ≡ inner_of self.old) × (into.new ≡ into.old)
+            × (counted_of self.new ≡ record (counted_of self.old) { faults = raised (counted_of self.old).faults }) }
+    {
         match self.fate() {
             Fate::Pass => self.inner.receive(into),
             Fate::NotYet => {
@@ -90,7 +109,24 @@ impl<L: Link> Link for FailingLink<L> {
         }
     }
 
-    fn transmit(&mut self, piece: &[u8]) -> Sent {
+    /// Uses up the next fate. Where it passes, this is the transmit of the link inside; else that
+    /// link is not called.
+    fn transmit(&mut self, piece: &[u8]) -> Sent
+        requires { 0 < length piece.now }
+
+        ensures call { IsTransmit (with_counted (counted_of self.old) (L.shows (inner_of self.old)))
+            (with_counted (counted_of self.new) (L.shows (inner_of self.new))) piece.now result }
+        ensures fates { fates_left self.new ≡ drop 1 (fates_left self.old) }
+        ensures passes { next_fate (fates_left self.old) ≡ Fate.Pass
+            → (counted_of self.new ≡ counted_of self.old)
+            × IsTransmit (L.shows (inner_of self.old)) (L.shows (inner_of self.new)) piece.now result }
+        ensures not_yet { next_fate (fates_left self.old) ≡ Fate.NotYet
+            → (result ≡ Sent.NotYet) × (inner_of self.new ≡ inner_of self.old)
+            × (counted_of self.new ≡ record (counted_of self.old) { waits = raised (counted_of self.old).waits }) }
+        ensures fails { next_fate (fates_left self.old) ≡ Fate.Fail
+            → (result ≡ Sent.Failed) × (inner_of self.new ≡ inner_of self.old)
+            × (counted_of self.new ≡ record (counted_of self.old) { faults = raised (counted_of self.old).faults }) }
+    {
         match self.fate() {
             Fate::Pass => self.inner.transmit(piece),
             Fate::NotYet => {
@@ -106,7 +142,22 @@ impl<L: Link> Link for FailingLink<L> {
 }
 
 impl<L: Link + Clock> Clock for FailingLink<L> {
-    fn now(&mut self) -> Tick {
+    ghost use Rattle.s7_outer.specs.FailingLink.{inner_of, fates_left, next_fate, counted_of, with_counted};
+
+    /// Uses up the next fate. Where it fails, the link inside is not called; else this is the look
+    /// at its clock.
+    fn now(&mut self) -> Tick
+        ensures call { IsLook (with_counted (counted_of self.old) (L.shows (inner_of self.old)))
+            (with_counted (counted_of self.new) (L.shows (inner_of self.new))) result }
+        ensures fates { fates_left self.new ≡ drop 1 (fates_left self.old) }
+        ensures passes { next_fate (fates_left self.old) ≢ Fate.Fail
+            → (counted_of self.new ≡ counted_of self.old)
+            × IsLook (L.shows (inner_of self.old)) (L.shows (inner_of self.new)) result }
+        ensures fails { next_fate (fates_left self.old) ≡ Fate.Fail
+            → (result ≡ Tick.Failed) × (inner_of self.new ≡ inner_of self.old)
+            × (counted_of self.new
+            ≡ record (counted_of self.old) { clock_faults = raised (counted_of self.old).clock_faults }) }
+    {
         match self.fate() {
             Fate::Pass | Fate::NotYet => self.inner.now(),
             Fate::Fail => {

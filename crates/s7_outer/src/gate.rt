@@ -1,4 +1,6 @@
 // A gate: it may keep a caller waiting.
+ghost use Rattle.std.specs.Prelude.{◌≡◌};
+
 use std::sync::Wait;
 use std::sync::atomic::{AtomicBool, Ordering};
 use std::thread;
@@ -20,7 +22,8 @@ impl Gate for OpenGate {
 }
 
 /// Keeps the first request of one link until the second request of another comes, or until it has
-/// looked so many times. Threads share it.
+/// looked so many times. Threads share it. That it keeps and lets go is tested and not proved, since
+/// no contract says what an atomic holds.
 #[derive(Drop)]
 pub struct HoldGate {
     held: u32,
@@ -31,8 +34,14 @@ pub struct HoldGate {
 }
 
 impl HoldGate {
+    ghost use Rattle.s7_outer.specs.HoldGate.{held_of, until_of, turns_of};
+
     /// Keeps `pass(rt, held, 0)` until `pass(rt, until, 1)` was called or `turns` looks were made.
-    pub fn new(held: u32, until: u32, turns: u64) -> HoldGate {
+    pub fn new(held: u32, until: u32, turns: u64) -> HoldGate
+        ensures held { held_of result ≡ held }
+        ensures until { until_of result ≡ until }
+        ensures turns { turns_of result ≡ turns }
+    {
         HoldGate {
             held,
             until,
@@ -42,7 +51,7 @@ impl HoldGate {
         }
     }
 
-    /// Whether a request was let go after so many looks, with the other one not seen.
+    /// Whether a request was let go after so many looks, with the other one not seen. Tested only.
     pub fn gave_up(&self) -> bool {
         self.given_up.load(Ordering::SeqCst)
     }

@@ -1,5 +1,7 @@
 // A dial in memory.
-ghost use Rattle.std.specs.Prelude.{◌≡◌};
+ghost use Rattle.std.specs.Prelude.{◌≡◌, ◌≢◌, None};
+ghost use Rattle.s7_outer.specs.Count.{raised};
+ghost use Rattle.s7_outer.specs.Dial.{NoHostFell};
 
 use crate::count::raise;
 use crate::{Dial, Dialled};
@@ -23,11 +25,19 @@ impl<L: Drop> MemoryDial<L> {
 }
 
 impl<L: Drop> Dial<L> for MemoryDial<L> {
-    ghost use Rattle.s7_outer.specs.MemoryDial.{dial_of};
+    ghost use Rattle.s7_outer.specs.MemoryDial.{dial_of, link_of, fault_count, called};
 
     ghost shows = { dial_of };
 
-    fn call(&mut self, host: &str, port: u16) -> Dialled<L> {
+    /// The link, which is given away here. `Failed` comes exactly where there is none, and is
+    /// counted once.
+    fn call(&mut self, host: &str, port: u16) -> Dialled<L>
+        ensures gives { result ≡ called (link_of self.old) }
+        ensures given { link_of self.new ≡ None }
+        ensures counted { result ≡ Dialled.Failed → fault_count self.new ≡ raised (fault_count self.old) }
+        ensures counted_no_other { result ≢ Dialled.Failed → fault_count self.new ≡ fault_count self.old }
+        ensures faults { NoHostFell (dial_of self.old).faults (dial_of self.new).faults }
+    {
         match self.link.take() {
             Some(link) => Dialled::Link(link),
             None => {

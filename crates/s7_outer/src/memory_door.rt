@@ -1,6 +1,7 @@
 // A door in memory.
-ghost use Rattle.std.specs.Prelude.{◌≡◌, ◌≤◌, ◌↔◌, Some, IsTrue};
-ghost use Rattle.s7_outer.specs.Count.{Rose};
+ghost use Rattle.std.specs.Prelude.{◌≡◌, ◌≢◌, ◌≤◌, ◌↔◌, Some, IsTrue, IsOk};
+ghost use Rattle.s7_outer.specs.Count.{raised};
+ghost use Rattle.s7_outer.specs.Door.{GivesNext, NoPortFell};
 
 use crate::count::raise;
 use crate::{Arrival, Door, DoorFailed};
@@ -41,7 +42,9 @@ impl<L: Drop> MemoryDoor<L> {
     fn fails(&mut self) -> bool
         ensures fails { IsTrue result ↔ (failing_place self.old ≡ Some (place_of self.old)) }
         ensures failing { failing_place self.new ≡ failing_place self.old }
-        ensures rose { IsTrue result → Rose self.old.faults self.new.faults }
+        ensures place { place_of self.new ≡ raised (place_of self.old) }
+        ensures counted { IsTrue result → self.new.faults ≡ raised self.old.faults }
+        ensures counted_no_other { (IsTrue result → ⊥) → self.new.faults ≡ self.old.faults }
         ensures faults { self.old.faults ≤ self.new.faults }
         ensures links { self.new.links ≡ self.old.links }
         ensures port { self.new.port ≡ self.old.port }
@@ -56,16 +59,34 @@ impl<L: Drop> MemoryDoor<L> {
 }
 
 impl<L: Drop> Door<L> for MemoryDoor<L> {
-    ghost use Rattle.s7_outer.specs.MemoryDoor.{door_of};
+    ghost use Rattle.s7_outer.specs.MemoryDoor.{door_of, failing_place, place_of, fault_count};
 
     ghost shows = { door_of };
 
-    fn listen(&mut self, port: u16) -> Result<(), DoorFailed> {
+    /// Hears the port. This is no counted call.
+    fn listen(&mut self, port: u16) -> Result<(), DoorFailed>
+        ensures ok { IsOk result }
+        ensures shown { door_of self.new ≡ record (door_of self.old) { heard = port } }
+        ensures faults { NoPortFell (door_of self.old).faults (door_of self.new).faults }
+        ensures failing { failing_place self.new ≡ failing_place self.old }
+        ensures place { place_of self.new ≡ place_of self.old }
+    {
         self.port = port;
         Ok(())
     }
 
-    fn next(&mut self) -> Arrival<L> {
+    /// The next link, or `Failed` exactly at the chosen call.
+    fn next(&mut self) -> Arrival<L>
+        ensures fails { (result ≡ Arrival.Failed) ↔ (failing_place self.old ≡ Some (place_of self.old)) }
+        ensures gives { GivesNext (door_of self.old).coming (door_of self.new).coming result }
+        ensures counted { result ≡ Arrival.Failed → fault_count self.new ≡ raised (fault_count self.old) }
+        ensures counted_no_other { result ≢ Arrival.Failed → fault_count self.new ≡ fault_count self.old }
+        ensures faults { NoPortFell (door_of self.old).faults (door_of self.new).faults }
+        ensures same { door_of self.new
+            ≡ record (door_of self.old) { coming = (door_of self.new).coming; faults = (door_of self.new).faults } }
+        ensures failing { failing_place self.new ≡ failing_place self.old }
+        ensures place { place_of self.new ≡ raised (place_of self.old) }
+    {
         if self.fails() {
             return Arrival::Failed;
         }

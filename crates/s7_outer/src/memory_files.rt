@@ -1,7 +1,8 @@
 // Files in memory.
-ghost use Rattle.std.specs.Prelude.{◌≡◌, ◌≤◌, ◌↔◌, Some, None, IsTrue, OnOk, OnErr, option_map};
-ghost use Rattle.s7_outer.specs.Count.{Rose};
-ghost use Rattle.s7_outer.specs.Files.{KeepsOtherPaths};
+ghost use Rattle.std.specs.Prelude.{◌≡◌, ◌≢◌, ◌+◌, ◌≤◌, ◌↔◌, ◌⊎◌, [], Some, None};
+ghost use Rattle.std.specs.Prelude.{IsTrue, IsErrOf, OnOk, OnErr, option_map, vec_len};
+ghost use Rattle.s7_outer.specs.Count.{raised};
+ghost use Rattle.s7_outer.specs.Files.{file_limit, IsCutFrom, KeepsOtherPaths};
 ghost use Rattle.s7_outer.specs.MemoryFiles.{entries_of, octets_at};
 
 use crate::count::raise;
@@ -68,7 +69,10 @@ impl MemoryFiles {
     // Counts a call, and says whether it has to fail.
     fn fails(&mut self) -> bool
         ensures fails { IsTrue result ↔ (failing_call self.old ≡ Some (calls_of self.old)) }
-        ensures rose { IsTrue result → Rose self.old.faults self.new.faults }
+        ensures failing { failing_call self.new ≡ failing_call self.old }
+        ensures calls { calls_of self.new ≡ raised (calls_of self.old) }
+        ensures counted { IsTrue result → self.new.faults ≡ raised self.old.faults }
+        ensures counted_no_other { (IsTrue result → ⊥) → self.new.faults ≡ self.old.faults }
         ensures kept { self.old.faults ≤ self.new.faults }
         ensures files { self.new.files ≡ self.old.files }
     {
@@ -82,11 +86,31 @@ impl MemoryFiles {
 }
 
 impl Files for MemoryFiles {
-    ghost use Rattle.s7_outer.specs.MemoryFiles.{files_of};
+    ghost use Rattle.s7_outer.specs.MemoryFiles.{files_of, failing_call, calls_of, fault_count};
 
     ghost shows = { files_of };
 
-    fn read(&mut self, alloc: Global, path: &str, into: &mut Vec<u8>) -> Result<(), FileFault> {
+    /// Reads the file. `Failed` comes exactly at the chosen call and where there is no file, and is
+    /// counted once.
+    fn read(&mut self, alloc: Global, path: &str, into: &mut Vec<u8>) -> Result<(), FileFault>
+        requires { into.old.items ≡ [] }
+
+        ensures ok { OnOk result (vec_len into.new ≤ file_limit) }
+        ensures too_long { IsErrOf result FileFault.TooLong → vec_len into.new ≡ file_limit + 1 }
+        ensures after_failed { IsErrOf result FileFault.Failed → into.new.items ≡ [] }
+        ensures after_memory { IsErrOf result FileFault.Memory → into.new.items ≡ [] }
+        ensures told { OnOk result ((files_of self.old).held path.now ≡ Some into.new.items) }
+        ensures cut { IsErrOf result FileFault.TooLong → IsCutFrom ((files_of self.old).held path.now) into.new.items }
+
+        ensures fails { (result ≡ Err FileFault.Failed)
+            ↔ (failing_call self.old ≡ Some (calls_of self.old)) ⊎ ((files_of self.old).held path.now ≡ None) }
+        ensures counted { result ≡ Err FileFault.Failed → fault_count self.new ≡ raised (fault_count self.old) }
+        ensures counted_no_other { result ≢ Err FileFault.Failed → fault_count self.new ≡ fault_count self.old }
+        ensures faults { fault_count self.old ≤ fault_count self.new }
+        ensures same { files_of self.new ≡ record (files_of self.old) { faults = (files_of self.new).faults } }
+        ensures failing { failing_call self.new ≡ failing_call self.old }
+        ensures calls { calls_of self.new ≡ raised (calls_of self.old) }
+    {
         if self.fails() {
             return Err(FileFault::Failed);
         }
@@ -105,7 +129,21 @@ impl Files for MemoryFiles {
         }
     }
 
-    fn write(&mut self, alloc: Global, path: &str, octets: &[u8]) -> Result<(), FileFault> {
+    /// Replaces the file, or makes it. `Failed` comes exactly at the chosen call, is counted once,
+    /// and leaves every path as it was.
+    fn write(&mut self, alloc: Global, path: &str, octets: &[u8]) -> Result<(), FileFault>
+        ensures written { OnOk result ((files_of self.new).held path.now ≡ Some octets.now) }
+        ensures not_written { OnErr result ((files_of self.new).held ≡ (files_of self.old).held) }
+        ensures not_too_long { result ≢ Err FileFault.TooLong }
+        ensures others { KeepsOtherPaths path.now (files_of self.old).held (files_of self.new).held }
+
+        ensures fails { (result ≡ Err FileFault.Failed) ↔ (failing_call self.old ≡ Some (calls_of self.old)) }
+        ensures counted { result ≡ Err FileFault.Failed → fault_count self.new ≡ raised (fault_count self.old) }
+        ensures counted_no_other { result ≢ Err FileFault.Failed → fault_count self.new ≡ fault_count self.old }
+        ensures faults { fault_count self.old ≤ fault_count self.new }
+        ensures failing { failing_call self.new ≡ failing_call self.old }
+        ensures calls { calls_of self.new ≡ raised (calls_of self.old) }
+    {
         if self.fails() {
             return Err(FileFault::Failed);
         }

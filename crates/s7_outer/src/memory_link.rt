@@ -1,5 +1,8 @@
 // A link over octets in memory.
-ghost use Rattle.std.specs.Prelude.{◌≡◌, ◌<◌, ◌≤◌, IsSome, Some, length, IfOk, option_map};
+ghost use Rattle.std.specs.Prelude.{◌≡◌, ◌≢◌, ◌<◌, ◌≤◌, [], IsTrue, Some, length, IfOk, option_map};
+ghost use Rattle.std.specs.Io.KnownBytes.{prepend_known, append_known, IsAtEnd};
+ghost use Rattle.s7_outer.specs.Count.{raised};
+ghost use Rattle.s7_outer.specs.Link.{octets_got, octets_sent, GotWithin, SentWithin, GotCount, SentCount};
 
 use crate::count::raise;
 use crate::{Buffer, Clock, Got, Link, Memory, Octets, Sent, Tick};
@@ -21,7 +24,7 @@ pub struct MemoryLink {
 }
 
 impl MemoryLink {
-    ghost use Rattle.s7_outer.specs.MemoryLink.{shown_of, unused};
+    ghost use Rattle.s7_outer.specs.MemoryLink.{shown_of, unused, most_of, room_of};
 
     /// A link that gives this input, takes and gives at most `most` octets a call, has room for
     /// `room` octets of output, which is taken here, and a clock that stands at `moment`, in
@@ -35,7 +38,9 @@ impl MemoryLink {
         moment: u64,
     ) -> Result<MemoryLink, Memory>
         requires { 0 < most }
-        ensures { IfOk result (λ link. shown_of link ≡ unused input moment) }
+        ensures shown { IfOk result (λ link. shown_of link ≡ unused input moment) }
+        ensures most { IfOk result (λ link. most_of link ≡ most) }
+        ensures room { IfOk result (λ link. room_of link ≡ room) }
     {
         Ok(MemoryLink {
             input,
@@ -56,11 +61,29 @@ impl MemoryLink {
 }
 
 impl Link for MemoryLink {
-    ghost use Rattle.s7_outer.specs.MemoryLink.{shown_of};
+    ghost use Rattle.s7_outer.specs.MemoryLink.{shown_of, most_of, room_of, receives, transmits};
 
     ghost shows = { shown_of };
 
-    fn receive(&mut self, into: &mut [u8]) -> Got {
+    /// Takes the next octets: as many as there is room for, as one call moves, and as are left.
+    /// `End` comes exactly where none is left. No count changes.
+    fn receive(&mut self, into: &mut [u8]) -> Got
+        requires { 0 < length into.old }
+
+        ensures count { GotCount Got.End (receives self.old (length into.old)) result }
+        ensures within { GotWithin result (length into.old) }
+        ensures took { (shown_of self.old).left ≡ prepend_known (octets_got result into.new) (shown_of self.new).left }
+        ensures end { result ≡ Got.End → IsAtEnd (shown_of self.old).left × IsTrue (shown_of self.new).has_ended }
+        ensures ended { IsTrue (shown_of self.old).has_ended
+            → IsTrue (shown_of self.new).has_ended × (octets_got result into.new ≡ []) }
+        ensures same { shown_of self.new
+            ≡ record (shown_of self.old) {
+              left = (shown_of self.new).left;
+              has_ended = (shown_of self.new).has_ended;
+            } }
+        ensures most { most_of self.new ≡ most_of self.old }
+        ensures room { room_of self.new ≡ room_of self.old }
+    {
         let rest = &self.input.as_slice()[self.at..];
         let count = rest.len().min(self.most).min(into.len());
         if count == 0 {
@@ -71,7 +94,26 @@ impl Link for MemoryLink {
         Got::Bytes(count)
     }
 
-    fn transmit(&mut self, piece: &[u8]) -> Sent {
+    /// Keeps the first octets: as many as the piece has, as one call moves, and as there is room
+    /// for. `Failed` comes exactly where no room is left, and is counted once.
+    fn transmit(&mut self, piece: &[u8]) -> Sent
+        requires { 0 < length piece.now }
+
+        ensures count { SentCount Sent.Failed (transmits self.old (length piece.now)) result }
+        ensures within { SentWithin result (length piece.now) }
+        ensures wrote { (shown_of self.new).written
+            ≡ append_known (shown_of self.old).written (octets_sent result piece.now) }
+        ensures counted { result ≡ Sent.Failed → (shown_of self.new).faults ≡ raised (shown_of self.old).faults }
+        ensures counted_no_other { result ≢ Sent.Failed → (shown_of self.new).faults ≡ (shown_of self.old).faults }
+        ensures faults { (shown_of self.old).faults ≤ (shown_of self.new).faults }
+        ensures same { shown_of self.new
+            ≡ record (shown_of self.old) {
+              written = (shown_of self.new).written;
+              faults = (shown_of self.new).faults;
+            } }
+        ensures most { most_of self.new ≡ most_of self.old }
+        ensures room { room_of self.new ≡ room_of self.old }
+    {
         let free = self.output.room() - self.output.as_slice().len();
         let count = piece.len().min(self.most).min(free);
         if count == 0 {
@@ -84,7 +126,15 @@ impl Link for MemoryLink {
 }
 
 impl Clock for MemoryLink {
-    fn now(&mut self) -> Tick {
+    ghost use Rattle.s7_outer.specs.MemoryLink.{shown_of, most_of, room_of};
+
+    /// The moment.
+    fn now(&mut self) -> Tick
+        ensures at { option_map Tick.At (shown_of self.old).moment ≡ Some result }
+        ensures same { shown_of self.new ≡ shown_of self.old }
+        ensures most { most_of self.new ≡ most_of self.old }
+        ensures room { room_of self.new ≡ room_of self.old }
+    {
         Tick::At(self.moment)
     }
 }

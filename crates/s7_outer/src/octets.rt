@@ -1,21 +1,9 @@
-// Octets that are owned, and a buffer that never grows.
-ghost use Rattle.std.specs.Prelude.{◌≡◌, ℕ, ◌+◌, ◌<◌, ◌≤◌, List, [], ◌++◌, length, IfOk};
-ghost use Rattle.std.specs.Borrow.{Lends, Array, sem, u8 as octet};
-ghost use Rattle.std.specs.List.{refill};
+// Octets that are owned.
+ghost use Rattle.std.specs.Prelude.{◌≡◌, ℕ, List, IfOk};
 
-use std::alloc::{AllocError, Global};
+use crate::Memory;
+use std::alloc::Global;
 use std::marker::Model;
-use std::mem;
-
-/// Want of memory.
-#[derive(Clone, Copy, Debug, PartialEq, Eq)]
-pub struct Memory;
-
-impl From<AllocError> for Memory {
-    fn from(_: AllocError) -> Self {
-        Memory
-    }
-}
 
 /// Octets that are owned. Contracts see them as a list.
 #[derive(Debug, Drop)]
@@ -58,96 +46,5 @@ impl Octets {
         ensures { result.items ≡ self }
     {
         self.octets
-    }
-}
-
-/// Octets with a room that they never pass. Contracts see the octets and the room.
-#[derive(Debug, Drop)]
-pub struct Buffer {
-    octets: Vec<u8>,
-    room: usize,
-}
-
-impl Model for Buffer {
-    ghost use Rattle.std.specs.Prelude.{◌≤◌, ℕ, List, vec_len, vec_capacity};
-    ghost use Rattle.s7_outer.specs.Held.{Held};
-
-    ghost Value = { Held };
-
-    ghost view = { λ b. record { octets = b.octets.items; room = b.room } };
-
-    ghost invariant = { λ b. (vec_len b.octets ≤ b.room) × (b.room ≤ vec_capacity b.octets) };
-}
-
-impl Buffer {
-    ghost use Rattle.s7_outer.specs.Held.{with_octets};
-    ghost use Rattle.s7_outer.specs.contracts.octets.Buffer.{the_row};
-
-    /// An empty buffer with room for so many octets, all of it taken here. `Memory` comes where
-    /// there is none for it.
-    pub fn new(alloc: Global, room: usize) -> Result<Buffer, Memory>
-        ensures { IfOk result (λ b. (b.octets ≡ []) × (b.room ≡ room)) }
-    {
-        Ok(Buffer {
-            octets: Vec::with_capacity(alloc, room)?,
-            room,
-        })
-    }
-
-    /// The octets held.
-    pub fn as_slice(&self) -> &[u8]
-        ensures octets { result.now ≡ self.now.octets }
-        ensures fits { length self.now.octets ≤ self.now.room }
-    {
-        self.octets.as_slice()
-    }
-
-    /// The octets held, to be written. The buffer has what was last written here, and its room
-    /// stays.
-    pub fn as_mut_slice(&mut self) -> &mut [u8]
-        ensures* writes_back { sem 𝓛 (Lends the_row (Array octet 0) self.entry result (with_octets self.old)) }
-        ensures octets { result.now ≡ self.old.octets }
-        ensures same_length { (octets : List ℕ) → length octets ≡ length self.old.octets → with_octets self.old octets ≡ record self.old { octets = octets } }
-    {
-        self.octets.as_mut_slice()
-    }
-
-    /// How many octets there may be.
-    pub fn room(&self) -> usize
-        ensures room { result ≡ self.now.room }
-        ensures fits { length self.now.octets ≤ self.now.room }
-    {
-        self.room
-    }
-
-    /// Lets go of the octets held. The room stays.
-    pub fn clear(&mut self)
-        ensures octets { self.new.octets ≡ [] }
-        ensures room { self.new.room ≡ self.old.room }
-    {
-        self.octets.clear();
-    }
-
-    /// Adds octets at the end. They fit the room with those held.
-    pub fn add(&mut self, octets: &[u8])
-        requires { length self.old.octets + length octets.now ≤ self.old.room }
-        ensures octets { self.new.octets ≡ self.old.octets ++ octets.now }
-        ensures room { self.new.room ≡ self.old.room }
-    {
-        match self.octets.extend_from_slice(octets) {
-            Ok(()) => {}
-            Err(_) => unreachable!(),
-        }
-    }
-
-    /// Gives the octets held, and leaves the buffer empty and without room.
-    pub fn take(&mut self) -> Octets
-        ensures taken { result ≡ self.old.octets }
-        ensures octets { self.new.octets ≡ [] }
-        ensures room { self.new.room ≡ 0 }
-    {
-        let empty = Vec::new(*self.octets.allocator());
-        self.room = 0;
-        Octets::of_vec(mem::replace(&mut self.octets, empty))
     }
 }

@@ -1,5 +1,8 @@
 // An end of two pipes.
-ghost use Rattle.std.specs.Prelude.{◌≡◌};
+ghost use Rattle.std.specs.Prelude.{◌≡◌, ◌≢◌, ◌<◌, length};
+ghost use Rattle.s7_outer.specs.Calls.{IsReceive, IsTransmit};
+ghost use Rattle.s7_outer.specs.Count.{raised};
+ghost use Rattle.s7_outer.specs.Link.{GotCount, SentCount};
 
 use crate::{Clock, Got, Link, Pipes, Sent, Side, Tick};
 
@@ -16,11 +19,21 @@ pub struct PipeEnd<'a> {
 }
 
 impl Link for PipeEnd<'_> {
-    ghost use Rattle.s7_outer.specs.Pipes.{end_of};
+    ghost use Rattle.s7_outer.specs.Pipes.{end_of, receives, transmits};
 
     ghost shows = { λ e. end_of e.pipes.ghost_name e.pipes.now e.side };
 
-    fn receive(&mut self, into: &mut [u8]) -> Got {
+    /// Takes the octets that wait for the side, as many as there is room for. `NotYet` comes exactly
+    /// where none wait.
+    fn receive(&mut self, into: &mut [u8]) -> Got
+        requires { 0 < length into.old }
+
+        ensures call { IsReceive (end_of self.old.pipes.ghost_name self.old.pipes.now self.old.side)
+            (end_of self.new.pipes.ghost_name self.new.pipes.now self.new.side) into.old into.new result }
+        ensures count { GotCount Got.NotYet (receives self.old.pipes.now self.old.side (length into.old)) result }
+        ensures waited { result ≡ Got.NotYet → self.new.pipes.now.waits ≡ raised self.old.pipes.now.waits }
+        ensures waited_no_other { result ≢ Got.NotYet → self.new.pipes.now.waits ≡ self.old.pipes.now.waits }
+    {
         let count = self.pipes.take_out(self.side, into);
         if count == 0 {
             self.pipes.wait();
@@ -29,7 +42,17 @@ impl Link for PipeEnd<'_> {
         Got::Bytes(count)
     }
 
-    fn transmit(&mut self, piece: &[u8]) -> Sent {
+    /// Lets the first octets wait for the other side, as many as there is space for. `NotYet` comes
+    /// exactly where there is none.
+    fn transmit(&mut self, piece: &[u8]) -> Sent
+        requires { 0 < length piece.now }
+
+        ensures call { IsTransmit (end_of self.old.pipes.ghost_name self.old.pipes.now self.old.side)
+            (end_of self.new.pipes.ghost_name self.new.pipes.now self.new.side) piece.now result }
+        ensures count { SentCount Sent.NotYet (transmits self.old.pipes.now self.old.side (length piece.now)) result }
+        ensures waited { result ≡ Sent.NotYet → self.new.pipes.now.waits ≡ raised self.old.pipes.now.waits }
+        ensures waited_no_other { result ≢ Sent.NotYet → self.new.pipes.now.waits ≡ self.old.pipes.now.waits }
+    {
         let count = self.pipes.put_in(self.side, piece);
         if count == 0 {
             self.pipes.wait();

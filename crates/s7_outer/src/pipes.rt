@@ -1,6 +1,6 @@
 // Two pipes between a client and a server.
 ghost use Rattle.std.specs.Prelude.{◌≡◌, ◌-◌, ◌≤◌, ◌++◌, min, length, take, drop, IfOk};
-ghost use Rattle.s7_outer.specs.Count.{Rose};
+ghost use Rattle.s7_outer.specs.Count.{Rose, raised};
 ghost use Rattle.s7_outer.specs.Pipes.{across, waiting_for, with_waiting, space_of, empty_pipes};
 
 use crate::Memory;
@@ -93,7 +93,8 @@ impl Pipes {
     // Lets the first octets of the piece wait for the other side, as many as fit.
     pub(crate) fn put_in(&mut self, side: Side, piece: &[u8]) -> usize
         ensures count { result ≡ min (length piece.now) (space_of self.old side) }
-        ensures octets { self.new ≡ with_waiting self.old (across side) (waiting_for self.old (across side) ++ take result piece.now) }
+        ensures octets { self.new
+            ≡ with_waiting self.old (across side) (waiting_for self.old (across side) ++ take result piece.now) }
     {
         match side {
             Side::Client => self.to_server.fill_from_slice(piece),
@@ -103,6 +104,7 @@ impl Pipes {
 
     // Counts that an end had nothing to take, or no room.
     pub(crate) fn wait(&mut self)
+        ensures raised { self.new.waits ≡ raised self.old.waits }
         ensures rose { Rose self.old.waits self.new.waits }
         ensures kept { self.old.waits ≤ self.new.waits }
         ensures same { self.new ≡ record self.old { waits = self.new.waits } }

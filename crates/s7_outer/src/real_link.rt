@@ -1,8 +1,9 @@
 // A link over the machine: its standard streams, or one TCP stream.
-ghost use Rattle.std.specs.Prelude.{◌≡◌, None};
+ghost use Rattle.std.specs.Prelude.{◌≡◌, IfOk};
 
 use crate::count::raise;
-use crate::{Clock, Got, Link, Sent, Tick};
+use crate::{Clock, Got, Link, Memory, Sent, Tick};
+use std::alloc::Global;
 use std::io;
 use std::io::{ErrorKind, Input, Read, Write};
 use std::net::TcpStream;
@@ -21,27 +22,45 @@ pub struct RealLink<R: Input> {
     clock_faults: u64,
 }
 
+// The reader is boxed, since it has 8 KiB of its own, which a stream needs none of.
 #[derive(Drop)]
 enum Ends<R: Input> {
-    Standard(R::Reader),
+    Standard(Box<R::Reader>),
     Stream(TcpStream),
 }
 
 impl<R: Input + Print + SystemClock + Drop> RealLink<R> {
-    /// The standard input and output.
-    pub fn standard(rt: R) -> RealLink<R> {
-        let reader = rt.reader();
-        RealLink::over(rt, Ends::Standard(reader))
+    ghost use Rattle.s7_outer.specs.RealLink.{real_of, unused_real};
+
+    /// The standard input and output. `Memory` comes where there is none for the reader.
+    pub fn standard(alloc: Global, rt: R) -> Result<RealLink<R>, Memory>
+        ensures { IfOk result (λ link. real_of link ≡ unused_real) }
+    {
+        match Box::new(alloc, rt.reader()) {
+            Ok(reader) => Ok(RealLink::over(rt, Ends::Standard(reader))),
+            Err(_) => Err(Memory),
+        }
     }
 
     /// One TCP stream, whose small packets are sent at once. The error is that of the stream,
     /// where it refuses that setting.
-    pub fn stream(rt: R, stream: TcpStream) -> io::Result<RealLink<R>> {
+    pub fn stream(rt: R, stream: TcpStream) -> io::Result<RealLink<R>>
+        ensures { IfOk result (λ link. real_of link ≡ unused_real) }
+    {
         stream.set_nodelay(true)?;
-        Ok(RealLink::over(rt, Ends::Stream(stream)))
+        Ok(RealLink::of_stream(rt, stream))
     }
 
-    fn over(rt: R, ends: Ends<R>) -> RealLink<R> {
+    // One TCP stream that sends small packets at once already.
+    pub(crate) fn of_stream(rt: R, stream: TcpStream) -> RealLink<R>
+        ensures { real_of result ≡ unused_real }
+    {
+        RealLink::over(rt, Ends::Stream(stream))
+    }
+
+    fn over(rt: R, ends: Ends<R>) -> RealLink<R>
+        ensures { real_of result ≡ unused_real }
+    {
         RealLink {
             rt,
             ends,
@@ -53,26 +72,16 @@ impl<R: Input + Print + SystemClock + Drop> RealLink<R> {
     }
 }
 
-// The call may be tried again.
+// The call may be tried again. A read that waited its time out comes as `WouldBlock` on Linux;
+// `TimedOut` is the end of a connection whose peer no longer answers.
 fn is_wait(error: &io::Error) -> bool {
-    matches!(
-        error.kind(),
-        ErrorKind::WouldBlock | ErrorKind::TimedOut | ErrorKind::Interrupted
-    )
+    matches!(error.kind(), ErrorKind::WouldBlock | ErrorKind::Interrupted)
 }
 
 impl<R: Input + Print + SystemClock + Drop> Link for RealLink<R> {
-    ghost shows = { λ s. record {
-      left = None;
-      written = None;
-      has_ended = s.ended;
-      faults = s.faults;
-      waits = s.waits;
-      moment = None;
-      clock_faults = s.clock_faults;
-      space = None;
-      lent = None;
-    } };
+    ghost use Rattle.s7_outer.specs.RealLink.{real_of};
+
+    ghost shows = { real_of };
 
     fn receive(&mut self, into: &mut [u8]) -> Got {
         if self.ended {

@@ -1,5 +1,5 @@
 // The machine's files.
-ghost use Rattle.std.specs.Prelude.{◌≡◌, ◌+◌, ◌≤◌, [], None, false, IsErrOf, OnOk, vec_len};
+ghost use Rattle.std.specs.Prelude.{◌≡◌, ◌+◌, ◌≤◌, [], IsErrOf, OnOk, vec_len};
 ghost use Rattle.s7_outer.specs.Files.{file_limit};
 
 use crate::count::raise;
@@ -18,14 +18,20 @@ pub struct StdFiles<R> {
 }
 
 impl<R: SystemFiles + Drop> StdFiles<R> {
+    ghost use Rattle.s7_outer.specs.StdFiles.{machine_files_of, unused_files};
+
     /// The files that this runtime reaches.
-    pub fn new(rt: R) -> StdFiles<R> {
+    pub fn new(rt: R) -> StdFiles<R>
+        ensures { machine_files_of result ≡ unused_files }
+    {
         StdFiles { rt, faults: 0 }
     }
 }
 
 impl<R: SystemFiles + Drop> Files for StdFiles<R> {
-    ghost shows = { λ s. record { tells = false; held = λ _. None; faults = λ _. s.faults } };
+    ghost use Rattle.s7_outer.specs.StdFiles.{machine_files_of};
+
+    ghost shows = { machine_files_of };
 
     fn read(&mut self, alloc: Global, path: &str, into: &mut Vec<u8>) -> Result<(), FileFault> {
         let answer = match fs::open(&self.rt, path) {

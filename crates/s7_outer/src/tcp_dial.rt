@@ -1,5 +1,5 @@
 // A dial over TCP.
-ghost use Rattle.std.specs.Prelude.{None};
+ghost use Rattle.std.specs.Prelude.{◌≡◌};
 
 use crate::count::raise;
 use crate::{Dial, Dialled, RealLink};
@@ -21,8 +21,12 @@ pub struct TcpDial<R> {
 }
 
 impl<R: Net<Stream = TcpStream> + Drop> TcpDial<R> {
+    ghost use Rattle.s7_outer.specs.TcpDial.{fault_count};
+
     /// A dial over this runtime.
-    pub fn new(rt: R) -> TcpDial<R> {
+    pub fn new(rt: R) -> TcpDial<R>
+        ensures { fault_count result ≡ 0 }
+    {
         TcpDial { rt, faults: 0 }
     }
 }
@@ -31,7 +35,9 @@ impl<R> Dial<RealLink<R>> for TcpDial<R>
 where
     R: Net<Stream = TcpStream> + Input + Print + SystemClock + Clone + Drop,
 {
-    ghost shows = { λ d. record { next = λ _ _. None; faults = λ _ _. d.faults } };
+    ghost use Rattle.s7_outer.specs.TcpDial.{tcp_dial_of};
+
+    ghost shows = { tcp_dial_of };
 
     fn call(&mut self, host: &str, port: u16) -> Dialled<RealLink<R>> {
         match connect(&self.rt, host, port) {

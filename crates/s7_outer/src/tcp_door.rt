@@ -1,5 +1,5 @@
 // A door over TCP.
-ghost use Rattle.std.specs.Prelude.{None};
+ghost use Rattle.std.specs.Prelude.{◌≡◌};
 
 use crate::count::raise;
 use crate::{Arrival, Door, DoorFailed, RealLink};
@@ -8,7 +8,14 @@ use std::io::{ErrorKind, Input};
 use std::net::{Ipv4Addr, Net, TcpListener, TcpStream};
 use std::rt::Clock as SystemClock;
 
-/// Hears a port of 127.0.0.1 over TCP. It tells no links and never ends.
+// Errors of `accept(2)` on Linux that belong to the new connection, which its peer gave up or the
+// network lost before it was taken: ENONET, EPROTO, ENOPROTOOPT, EOPNOTSUPP, ENETDOWN,
+// ENETUNREACH, ECONNABORTED, ECONNRESET, EHOSTDOWN, EHOSTUNREACH.
+const ERRORS_OF_ONE: [i32; 10] = [64, 71, 92, 95, 100, 101, 103, 104, 112, 113];
+
+/// Hears a port of 127.0.0.1 over TCP. It tells no links and never ends. A connection that fails
+/// before it is taken, or that refuses to send small packets at once, is passed over; want of
+/// descriptors or memory is a failure of the door.
 #[derive(Drop)]
 pub struct TcpDoor<R> {
     rt: R,
@@ -18,8 +25,13 @@ pub struct TcpDoor<R> {
 }
 
 impl<R: Net<Listener = TcpListener, Stream = TcpStream> + Drop> TcpDoor<R> {
+    ghost use Rattle.s7_outer.specs.TcpDoor.{port_of, fault_count};
+
     /// A door over this runtime, which hears no port yet.
-    pub fn new(rt: R) -> TcpDoor<R> {
+    pub fn new(rt: R) -> TcpDoor<R>
+        ensures port { port_of result ≡ 0 }
+        ensures faults { fault_count result ≡ 0 }
+    {
         TcpDoor {
             rt,
             listener: None,
@@ -33,7 +45,9 @@ impl<R> Door<RealLink<R>> for TcpDoor<R>
 where
     R: Net<Listener = TcpListener, Stream = TcpStream> + Input + Print + SystemClock + Clone + Drop,
 {
-    ghost shows = { λ d. record { coming = None; heard = d.port; faults = λ _. d.faults } };
+    ghost use Rattle.s7_outer.specs.TcpDoor.{tcp_door_of};
+
+    ghost shows = { tcp_door_of };
 
     fn listen(&mut self, port: u16) -> Result<(), DoorFailed> {
         self.port = port;
@@ -61,22 +75,36 @@ where
     }
 }
 
+// The next stream, as a link.
 fn accept<R>(listener: &Option<TcpListener>, rt: &R) -> Option<RealLink<R>>
 where
     R: Input + Print + SystemClock + Clone + Drop,
 {
+    let rt = rt.clone().ok()?;
     let stream = accepted(listener.as_ref()?).ok()?;
-    RealLink::stream(rt.clone().ok()?, stream).ok()
+    Some(RealLink::of_stream(rt, stream))
 }
 
-// The next stream. One that its peer gave up before it was taken is passed over.
+// The next stream that sends small packets at once.
 fn accepted(listener: &TcpListener) -> io::Result<TcpStream> {
     for _ in 0..u64::MAX {
         match listener.accept() {
-            Ok((stream, _)) => return Ok(stream),
-            Err(error) if error.kind() == ErrorKind::ConnectionAborted => {}
+            Ok((stream, _)) => {
+                if stream.set_nodelay(true).is_ok() {
+                    return Ok(stream);
+                }
+            }
+            Err(error) if is_of_one(&error) => {}
             Err(error) => return Err(error),
         }
     }
     Err(io::Error::from(ErrorKind::ConnectionAborted))
+}
+
+// The error is that of one connection, and not of the door.
+fn is_of_one(error: &io::Error) -> bool {
+    match error.raw_os_error() {
+        Some(code) => ERRORS_OF_ONE.contains(&code),
+        None => false,
+    }
 }

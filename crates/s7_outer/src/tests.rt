@@ -1,5 +1,4 @@
 use super::*;
-use std::fs;
 use std::sync::Wait;
 use std::test::Fail;
 
@@ -69,20 +68,6 @@ fn an_output_keeps_what_fits(rt: HostRuntime) -> Result<(), Fail> {
 }
 
 #[test]
-fn a_real_link_has_the_time(rt: HostRuntime) -> Result<(), Fail> {
-    let mut link = RealLink::standard(rt.clone()?);
-    let Tick::At(moment) = link.now() else {
-        return Err(Fail::from("no time"));
-    };
-    // 2024-01-01, in milliseconds.
-    assert!(rt; moment > 1_704_067_200_000);
-    let mut into = [0u8; 8];
-    assert!(rt; matches!(link.receive(&mut into), Got::End));
-    assert!(rt; matches!(link.receive(&mut into), Got::End));
-    Ok(())
-}
-
-#[test]
 fn a_buffer_is_written_in_place(rt: HostRuntime) -> Result<(), Fail> {
     let mut buffer = Buffer::new(rt.alloc(), 4)?;
     buffer.add(b"abc");
@@ -112,30 +97,6 @@ fn files_in_memory_fail_at_the_call(rt: HostRuntime) -> Result<(), Fail> {
 }
 
 #[test]
-fn the_machines_files(rt: HostRuntime) -> Result<(), Fail> {
-    let path = "s7_outer_scratch";
-    let mut files = StdFiles::new(rt.clone()?);
-    let mut text = Vec::new(rt.alloc());
-    let written = [b'7'; 5000];
-    assert!(rt;
-        files
-            .write(rt.alloc(), path, b"more than is left below")
-            .is_ok()
-    );
-    assert!(rt; files.write(rt.alloc(), path, &written).is_ok());
-    assert!(rt; files.read(rt.alloc(), path, &mut text).is_ok());
-    assert!(rt; text.as_slice() == written.as_slice());
-    fs::remove_file(&rt, path)?;
-
-    let mut text = Vec::new(rt.alloc());
-    assert!(rt; files.read(rt.alloc(), path, &mut text) == Err(FileFault::Failed));
-    assert!(rt; text.is_empty());
-    assert!(rt; files.read(rt.alloc(), ".", &mut text) == Err(FileFault::Failed));
-    assert!(rt; files.write(rt.alloc(), ".", b"x") == Err(FileFault::Failed));
-    Ok(())
-}
-
-#[test]
 fn a_dial_and_a_door_in_memory(rt: HostRuntime) -> Result<(), Fail> {
     let mut dial = MemoryDial::new(Some(b'a'));
     assert!(rt; matches!(dial.call("host", 102), Dialled::Link(b'a')));
@@ -147,49 +108,6 @@ fn a_dial_and_a_door_in_memory(rt: HostRuntime) -> Result<(), Fail> {
     assert!(rt; matches!(door.next(), Arrival::Link(b'b')));
     assert!(rt; matches!(door.next(), Arrival::End));
     assert!(rt; matches!(door.next(), Arrival::End));
-    Ok(())
-}
-
-// The first port from here on that nobody hears is taken.
-const FIRST_PORT: u16 = 47102;
-
-#[test]
-fn a_real_connection(rt: HostRuntime) -> Result<(), Fail> {
-    let mut door = TcpDoor::new(rt.clone()?);
-    let mut dial = TcpDial::new(rt.clone()?);
-    assert!(rt; matches!(door.next(), Arrival::Failed));
-    let mut port = FIRST_PORT;
-    for other in FIRST_PORT + 1..FIRST_PORT + 20 {
-        if door.listen(port).is_ok() {
-            break;
-        }
-        port = other;
-    }
-    let Dialled::Link(mut client) = dial.call("127.0.0.1", port) else {
-        return Err(Fail::from("no link"));
-    };
-    let Arrival::Link(mut server) = door.next() else {
-        return Err(Fail::from("no arrival"));
-    };
-    let mut into = [0u8; 8];
-    assert!(rt; client.transmit(b"abc") == Sent::Bytes(3));
-    assert!(rt; server.receive(&mut into[..2]) == Got::Bytes(2) && into[1] == b'b');
-    assert!(rt; server.receive(&mut into) == Got::Bytes(1) && into[0] == b'c');
-    let Tick::At(before) = client.now() else {
-        return Err(Fail::from("no time"));
-    };
-    assert!(rt; client.receive(&mut into) == Got::NotYet);
-    let Tick::At(after) = client.now() else {
-        return Err(Fail::from("no time"));
-    };
-    assert!(rt; after.saturating_sub(before) >= 50);
-    assert!(rt; server.transmit(b"x") == Sent::Bytes(1));
-    assert!(rt; client.receive(&mut into) == Got::Bytes(1) && into[0] == b'x');
-    drop(server);
-    assert!(rt; client.receive(&mut into) == Got::End);
-    assert!(rt; client.receive(&mut into) == Got::End);
-    drop(door);
-    assert!(rt; matches!(dial.call("127.0.0.1", port), Dialled::Failed));
     Ok(())
 }
 

@@ -11,6 +11,6 @@ cut held whole octets n is count over taken =
     rw is (omega (arith, count, over), taken ∙ ap (λ m. take m whole) all)
 
 pub returns-then-count-gt-FILE_LIMIT-clause-cut : goal.returns-then-count-gt-FILE_LIMIT-clause-cut
-returns-then-count-gt-FILE_LIMIT-clause-cut c = λ _ _.
+returns-then-count-gt-FILE_LIMIT-clause-cut c = λ _.
     let whole = c.in-Some.octets.now in
     cut _ whole c.extend_from_slice.new.self.items c.min-count.result (sym (ap (λ files. octets_at files c.args.path.now) c.fails.ensures.files) ∙ sym c.octets_in.ensures ∙ ap (option_map (λ octets. octets.now)) c.in-Some.is) (grind (arith, common_steps)) c.if-count-gt-FILE_LIMIT.true (grind (arith, common_steps))

@@ -1,7 +1,7 @@
 use Rattle.std.proofs.Common.{ap, sym, ◌-◌, length, take, drop}
 use Rattle.std.specs.Prelude.{Some}
 use Rattle.std.proofs.lemmas.List.{take-append-drop}
-use Rattle.s7_outer.proofs.output.MemoryOutOut.put.Goals as goal
+use Rattle.s7_outer.proofs.memory_out.MemoryOutOut.put.Goals as goal
 
 pub returns-else-piece-free-clause-err : goal.returns-else-piece-free-clause-err
 returns-else-piece-free-clause-err c =

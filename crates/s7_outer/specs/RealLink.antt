@@ -1,0 +1,32 @@
+-- What a link over the machine shows.
+use Rattle.std.specs.Prelude.{None, false}
+use Rattle.s7_outer.specs.Shown.{Shown}
+use Rattle.s7_outer.specs.declared.real_link.RealLink.{RealLink}
+
+-- over a runtime and its reader
+abbrev pub real_of : {R Reader : Type 0} → RealLink R Reader → Shown
+real_of s = record {
+  left = None;
+  written = None;
+  has_ended = s.ended;
+  faults = s.faults;
+  waits = s.waits;
+  moment = None;
+  clock_faults = s.clock_faults;
+  space = None;
+  lent = None;
+}
+
+-- a link that has not been used
+abbrev pub unused_real : Shown
+unused_real = record {
+  left = None;
+  written = None;
+  has_ended = false;
+  faults = 0;
+  waits = 0;
+  moment = None;
+  clock_faults = 0;
+  space = None;
+  lent = None;
+}
