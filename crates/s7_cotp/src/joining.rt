@@ -60,6 +60,16 @@ impl Joiner {
         })
     }
 
+    /// Lets go of all fragments, after a fault too. The buffer stays, and no memory is taken.
+    pub fn restart(&mut self)
+        ensures empty { self.new ≡ empty self.old.limit }
+        ensures holds { HoldsRest [] self.new }
+    {
+        self.buffer.clear();
+        self.count = 0;
+        self.state = Joined::More;
+    }
+
     /// Adds a fragment to the message, or begins the next one where the message is whole.
     ///
     /// `TooManyFragments` comes at the 65th fragment of a message, else `TooLong` where the message passes the

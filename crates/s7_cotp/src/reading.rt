@@ -6,8 +6,9 @@ ghost use Rattle.s7_cotp.specs.Reading.{tpdu_of, connection_in, fragment_in, dis
 
 use crate::parameters::read_parameters;
 use crate::tpdu::{Connection, CotpFault, Tpdu};
+use bytes::Buf;
 
-/// The codes of the five TPDUs of class 0.
+// Each TPDU of class 0 by its code, the second octet of its header (ISO 8073, 13.1).
 pub(crate) const CONNECT: u8 = 0xE0;
 
 pub(crate) const CONFIRM: u8 = 0xD0;
@@ -20,8 +21,8 @@ pub(crate) const REJECT: u8 = 0x70;
 
 /// Reads the one TPDU of a packet's body (ISO 8073, 13.3 to 13.5, 13.7 and 13.12).
 ///
-/// The first that applies: `BadCode` where the body has fewer than two octets, or its code octet isn't CR's
-/// E0, CC's D0, DT's F0, DR's 80 or ER's 70; `ShortHeader` where the length octet passes the body, is below 6
+/// The first that applies: `BadCode` where the body has fewer than two octets, or its code is that of no CR
+/// (0xE0), CC (0xD0), DT (0xF0), DR (0x80) or ER (0x70); `ShortHeader` where the length octet passes the body, is below 6
 /// in a CR, CC or DR, below 4 in an ER, or other than 2 in a DT; `BadParameter` where a parameter of a CR or
 /// CC passes the header, a TPDU size isn't one octet from 07 to 0D, or a TSAP hasn't 1 to 16 octets.
 #[tactic(auto, unfolding(crate::specs::Reading::tpdu_of))]
@@ -108,5 +109,7 @@ fn read_reject(length: usize, rest: &[u8]) -> Result<Tpdu<'_>, CotpFault>
 fn reference(high: u8, low: u8) -> u16
     ensures { result ≡ 256 * high + low }
 {
-    256 * u16::from(high) + u16::from(low)
+    let octets = [high, low];
+    let mut rest = octets.as_slice();
+    rest.get_u16()
 }

@@ -129,5 +129,6 @@ fn high_and_low(reference: u16) -> (u8, u8)
     ensures high { result.0 ≡ reference / 256 }
     ensures low { result.1 ≡ reference % 256 }
 {
-    ((reference / 256) as u8, (reference % 256) as u8)
+    let [high, low] = reference.to_be_bytes();
+    (high, low)
 }

@@ -115,7 +115,8 @@ impl Cutter {
 
     /// How many octets are held of a packet that isn't whole: 0 where it is.
     pub fn held(&self) -> usize
-        ensures { result ≡ (if is_whole (state_of self.now.limit self.now.held) then 0 else length self.now.held) }
+        ensures held { result ≡ (if is_whole (state_of self.now.limit self.now.held) then 0 else length self.now.held) }
+        ensures most { result ≤ 8199 }
     {
         match self.state() {
             FedState::Whole => 0,

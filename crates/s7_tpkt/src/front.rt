@@ -5,6 +5,7 @@ ghost use Rattle.s7_tpkt.specs.Packets.{state_of};
 ghost use Rattle.s7_tpkt.specs.Front.{wanted};
 
 use crate::state::FedState;
+use bytes::Buf;
 
 /// The version octet of RFC 1006, section 6.
 pub(crate) const VERSION: u8 = 3;
@@ -48,8 +49,11 @@ pub(crate) fn wanted(held: &[u8]) -> usize
     }
 }
 
+// The length field.
 fn size_of(high: u8, low: u8) -> usize
     ensures { result ≡ 256 * high + low }
 {
-    256 * high as usize + low as usize
+    let octets = [high, low];
+    let mut rest = octets.as_slice();
+    usize::from(rest.get_u16())
 }

@@ -18,7 +18,8 @@ pub fn write_packet(body: &[u8], into: &mut [u8]) -> usize
     ensures written { into.new ≡ packet_of body.now ++ drop result into.old }
 {
     let size = body.len() + HEADER;
-    let header = [VERSION, RESERVED, (size / 256) as u8, (size % 256) as u8];
+    let [high, low] = (size as u16).to_be_bytes();
+    let header = [VERSION, RESERVED, high, low];
     into[..HEADER].copy_from_slice(&header);
     into[HEADER..size].copy_from_slice(body);
     size
