@@ -5,6 +5,7 @@ use Rattle.std.specs.Prelude.{slice_range}
 use Rattle.std.specs.List.{flat_map, AllByRecursion}
 use Rattle.std.proofs.lemmas.List.{length-take-le, length-drop}
 use Rattle.s7_cotp.specs.Pairs.{pairs_of, pairs_from, fragments_of}
+use Rattle.s7_wire.specs.Bounds.{most_sent, most_packets}
 use Rattle.s7_wire.specs.Sent.{fragment_octets, sent_message}
 
 -- the pair lies in a message of so many octets
@@ -31,13 +32,13 @@ length-pairs m (suc k) room from le =
     let rest = flat_map (fragment_octets m) (pairs_from k room end (length m)) in
     omega (arith, length-append (fragment_octets m (from, end)) rest, length-fragment m (from, end) (omega (arith, le), omega arith), length-pairs m k room end (omega arith), le)
 
-few : (n room : ℕ) → n ≤ 960 → 125 ≤ room → fragments_of n room ≤ 8
+few : (n room : ℕ) → n ≤ most_sent → 125 ≤ room → fragments_of n room ≤ 16
 few n room most least =
-    let below : (max n 1 - 1) / room < 8 = (div-lt_iff_lt-mul {k = room} {x = max n 1 - 1} {y = 8} (omega (arith, least))).1 (omega (arith, most, least)) in
+    let below : (max n 1 - 1) / room < 16 = (div-lt_iff_lt-mul {k = room} {x = max n 1 - 1} {y = 16} (omega (arith, least))).1 (omega (arith, most, least)) in
     omega (arith, below)
 
--- a message of at most 960 octets takes at most 1,016
-pub length-sent : (m : List ℕ) (size : ℕ) → length m ≤ 960 → 128 ≤ size → length (sent_message size m) ≤ 1016
+-- how many octets a message takes at most
+pub length-sent : (m : List ℕ) (size : ℕ) → length m ≤ most_sent → 128 ≤ size → length (sent_message size m) ≤ most_packets
 unfolding pairs_of
 length-sent m size most least =
     let k = fragments_of (length m) (size - 3) in

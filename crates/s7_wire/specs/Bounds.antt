@@ -16,3 +16,19 @@ size_of_code code = 2 ^ code
 -- Some senders count only user data, so a packet may have the header's three octets more than the TPDU size.
 abbrev pub limit_of_size : ℕ → ℕ
 limit_of_size size = size + 7
+
+-- the greatest length of a message that goes out: that of the greatest PDU
+abbrev pub most_sent : ℕ
+most_sent = 1920
+
+-- how many octets such a message takes at most, in the packets of its fragments of the least TPDU size
+abbrev pub most_packets : ℕ
+most_packets = 2032
+
+-- how many octets may wait to be sent
+abbrev pub most_waiting : ℕ
+most_waiting = 4096
+
+-- how many octets one receive takes at most
+abbrev pub most_received : ℕ
+most_received = 8192

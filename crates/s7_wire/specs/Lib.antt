@@ -1,3 +1,5 @@
 pub mod Bounds
 pub mod Outgoing
+pub mod Reading
+pub mod Reads
 pub mod Sent

@@ -2,6 +2,7 @@
 ghost use Rattle.std.specs.Prelude.{◌≡◌, ◌==◌, ◌↔◌, ℕ, ◌<◌, ◌≤◌, [], length, drop, Some, IsTrue, IsSome};
 ghost use Rattle.std.specs.Io.KnownBytes.{prepend_known, IsAtEnd};
 ghost use Rattle.s7_outer.specs.Count.{Rose};
+ghost use Rattle.s7_wire.specs.Bounds.{most_received};
 
 use s7_outer::{Got, Link};
 use std::marker::Model;
@@ -19,12 +20,13 @@ pub struct Inbox {
 
 impl Model for Inbox {
     ghost use Rattle.std.specs.Prelude.{◌≤◌, ℕ, List, take, drop};
+    ghost use Rattle.s7_wire.specs.Bounds.{most_received};
 
     ghost Value = { List ℕ };
 
     ghost view = { λ i. drop i.from (take i.upto i.octets) };
 
-    ghost invariant = { λ i. (i.from ≤ i.upto) × (i.upto ≤ 8192) };
+    ghost invariant = { λ i. (i.from ≤ i.upto) × (i.upto ≤ most_received) };
 }
 
 impl Inbox {
@@ -49,7 +51,7 @@ impl Inbox {
     /// The octets that were read and not used, at most 8,192.
     pub fn as_slice(&self) -> &[u8]
         ensures octets { result.now ≡ self.now }
-        ensures fits { length self.now ≤ 8192 }
+        ensures fits { length self.now ≤ most_received }
     {
         let read = &self.octets[..self.upto];
         &read[self.from..]

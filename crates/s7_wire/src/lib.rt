@@ -1,16 +1,29 @@
-//! The octets of one link, whichever side of it: what was read and not used, what is to be sent, and
-//! messages that go out in fragments.
+//! The octets of one link, whichever side of it: what was read and not used, what octets are read as, what
+//! is to be sent, and messages that go out in fragments.
 #![tactic(auto)]
 
+mod found;
 mod inbox;
+mod laws;
+mod limits;
 mod message;
 mod outbox;
+mod reader;
 mod sizes;
+mod transport;
 
+pub use found::{Found, Opening, ReadFault, Taken};
 pub use inbox::{Inbox, PIECE};
+pub use laws::{
+    fragments_are_joined, limits_of_openings, numbers_of_readings, readers_end, reading_goes_on,
+};
+pub use limits::{FIRST_LIMIT, HEADERS, MESSAGE_LIMIT};
 pub use message::{MOST_MESSAGE, put_message};
 pub use outbox::{OUTGOING, Outbox};
+pub use reader::Reader;
 pub use sizes::tpdu_size;
 
+#[cfg(test)]
+mod reader_tests;
 #[cfg(test)]
 mod tests;

@@ -3,6 +3,7 @@ ghost use Rattle.std.specs.Prelude.{◌≡◌, ◌==◌, ◌↔◌, ℕ, ◌+◌
 ghost use Rattle.std.specs.Io.KnownBytes.{append_known};
 ghost use Rattle.s7_outer.specs.Count.{Rose};
 ghost use Rattle.s7_outer.specs.Link.{octets_sent};
+ghost use Rattle.s7_wire.specs.Bounds.{most_waiting};
 
 use s7_outer::{Link, Sent};
 use s7_tpkt::write_packet;
@@ -21,13 +22,14 @@ pub struct Outbox {
 
 impl Model for Outbox {
     ghost use Rattle.std.specs.Prelude.{◌≤◌, ◌-◌, ℕ, List, take, drop};
+    ghost use Rattle.s7_wire.specs.Bounds.{most_waiting};
     ghost use Rattle.s7_wire.specs.Outgoing.{Outgoing};
 
     ghost Value = { Outgoing };
 
-    ghost view = { λ o. record { unsent = drop o.from (take o.upto o.octets); room = 4096 - o.upto } };
+    ghost view = { λ o. record { unsent = drop o.from (take o.upto o.octets); room = most_waiting - o.upto } };
 
-    ghost invariant = { λ o. (o.from ≤ o.upto) × (o.upto ≤ 4096) };
+    ghost invariant = { λ o. (o.from ≤ o.upto) × (o.upto ≤ most_waiting) };
 }
 
 impl Outbox {
@@ -35,7 +37,7 @@ impl Outbox {
 
     /// Nothing is to be sent.
     pub fn new() -> Outbox
-        ensures { result ≡ record { unsent = []; room = 4096 } }
+        ensures { result ≡ record { unsent = []; room = most_waiting } }
     {
         Outbox {
             octets: [0; OUTGOING],
@@ -61,7 +63,7 @@ impl Outbox {
     /// All room is there again, where nothing is left to send.
     pub fn clear(&mut self)
         requires { self.old.unsent ≡ [] }
-        ensures { self.new ≡ record { unsent = []; room = 4096 } }
+        ensures { self.new ≡ record { unsent = []; room = most_waiting } }
     {
         self.from = 0;
         self.upto = 0;

@@ -1,4 +1,4 @@
-ghost use Rattle.std.specs.Prelude.{◌<◌, ◌≤◌};
+ghost use Rattle.std.specs.Prelude.{◌<◌};
 
 use super::*;
 use s7_outer::{Got, Memory, MemoryLink, Octets, Sent};
@@ -9,15 +9,17 @@ use std::test::Fail;
 const FRONT: &[u8] =
     b"\x32\x03\x00\x00\x00\x05\x00\x02\x00\x74\x00\x00\x04\x01\xFF\x04\x03\x80ABCDEFGHIJKLMNOPQRSTUVWXYZabcdefghijklmnopqrstuvwxyz0123456789NOPQRSTUVWXYZABCDEFGHIJKLMnopqrstuvwxyzabcdef";
 
-/// 85 octets: with seven times the 125 they are a message of 960.
-const BACK: &[u8] =
-    b"ABCDEFGHIJKLMNOPQRSTUVWXYZabcdefghijklmnopqrstuvwxyz0123456789NOPQRSTUVWXYZABCDEFGHIJ";
+/// 45 octets: with fifteen times the 125 they are a message of 1,920.
+const BACK: &[u8] = b"ABCDEFGHIJKLMNOPQRSTUVWXYZabcdefghijklmnopqrs";
+
+const OPEN: &[u8] = b"\x03\x00\x00\x84\x02\xF0\x00";
 
 const REST: &[u8] = b"\xF0\xF1\xF2\xF3\xF4";
 
-/// A message that goes out, and the packets that it goes out in.
+/// A message that goes out at a TPDU size, and the packets that it goes out in.
 #[derive(Drop)]
 struct Row {
+    size_code: u8,
     message: &'static [&'static [u8]],
     packets: &'static [&'static [u8]],
 }
@@ -65,17 +67,14 @@ fn is_advanced(inbox: &mut Inbox, count: usize) -> bool {
 }
 
 /// The message goes out in these packets.
-fn goes_out(alloc: Global, size: u16, row: &Row) -> Result<bool, Memory>
-    requires least { 128 ≤ size }
-    requires most { size ≤ 8192 }
-{
+fn goes_out(alloc: Global, row: &Row) -> Result<bool, Memory> {
     let message = joined(alloc, row.message)?;
-    if message.len() > MOST_MESSAGE {
+    if message.len() > MOST_MESSAGE || row.size_code < 7 || row.size_code > 13 {
         return Ok(false);
     }
     let mut line = line(alloc, b"", 8_192)?;
     let mut outbox = Outbox::new();
-    put_message(&mut outbox, size, &message);
+    put_message(&mut outbox, tpdu_size(row.size_code), &message);
     let sent = flushed(&mut outbox, &mut line);
     let packets = joined(alloc, row.packets)?;
     Ok(
@@ -89,65 +88,82 @@ fn goes_out(alloc: Global, size: u16, row: &Row) -> Result<bool, Memory>
 fn messages_go_out_in_fragments(rt: HostRuntime) -> Result<(), Fail> {
     let rows = [
         Row {
+            size_code: 0x07,
             message: &[FRONT, REST],
-            packets: &[
-                b"\x03\x00\x00\x84\x02\xF0\x00",
-                FRONT,
-                b"\x03\x00\x00\x0C\x02\xF0\x80",
-                REST,
-            ],
+            packets: &[OPEN, FRONT, b"\x03\x00\x00\x0C\x02\xF0\x80", REST],
         },
         Row {
+            size_code: 0x07,
             message: &[FRONT],
             packets: &[b"\x03\x00\x00\x84\x02\xF0\x80", FRONT],
         },
         Row {
-            message: &[REST],
-            packets: &[b"\x03\x00\x00\x0C\x02\xF0\x80", REST],
-        },
-        Row {
+            size_code: 0x07,
             message: &[],
             packets: &[b"\x03\x00\x00\x07\x02\xF0\x80"],
         },
         Row {
-            message: &[FRONT, FRONT, FRONT, FRONT, FRONT, FRONT, FRONT, BACK],
-            packets: &[
-                b"\x03\x00\x00\x84\x02\xF0\x00",
-                FRONT,
-                b"\x03\x00\x00\x84\x02\xF0\x00",
-                FRONT,
-                b"\x03\x00\x00\x84\x02\xF0\x00",
-                FRONT,
-                b"\x03\x00\x00\x84\x02\xF0\x00",
-                FRONT,
-                b"\x03\x00\x00\x84\x02\xF0\x00",
-                FRONT,
-                b"\x03\x00\x00\x84\x02\xF0\x00",
-                FRONT,
-                b"\x03\x00\x00\x84\x02\xF0\x00",
-                FRONT,
-                b"\x03\x00\x00\x5C\x02\xF0\x80",
-                BACK,
-            ],
-        },
-    ];
-    for row in &rows {
-        assert!(rt; goes_out(rt.alloc(), 128, row)?);
-    }
-    Ok(())
-}
-
-#[test]
-fn a_message_that_fits_is_one_fragment(rt: HostRuntime) -> Result<(), Fail> {
-    let rows = [
-        Row {
+            size_code: 0x0A,
             message: &[FRONT, REST],
             packets: &[b"\x03\x00\x00\x89\x02\xF0\x80", FRONT, REST],
         },
         Row {
-            message: &[FRONT, FRONT, FRONT, FRONT, FRONT, FRONT, FRONT, BACK],
+            size_code: 0x07,
+            message: &[
+                FRONT, FRONT, FRONT, FRONT, FRONT, FRONT, FRONT, FRONT, FRONT, FRONT, FRONT, FRONT,
+                FRONT, FRONT, FRONT, BACK,
+            ],
             packets: &[
-                b"\x03\x00\x03\xC7\x02\xF0\x80",
+                OPEN,
+                FRONT,
+                OPEN,
+                FRONT,
+                OPEN,
+                FRONT,
+                OPEN,
+                FRONT,
+                OPEN,
+                FRONT,
+                OPEN,
+                FRONT,
+                OPEN,
+                FRONT,
+                OPEN,
+                FRONT,
+                OPEN,
+                FRONT,
+                OPEN,
+                FRONT,
+                OPEN,
+                FRONT,
+                OPEN,
+                FRONT,
+                OPEN,
+                FRONT,
+                OPEN,
+                FRONT,
+                OPEN,
+                FRONT,
+                b"\x03\x00\x00\x34\x02\xF0\x80",
+                BACK,
+            ],
+        },
+        Row {
+            size_code: 0x0B,
+            message: &[
+                FRONT, FRONT, FRONT, FRONT, FRONT, FRONT, FRONT, FRONT, FRONT, FRONT, FRONT, FRONT,
+                FRONT, FRONT, FRONT, BACK,
+            ],
+            packets: &[
+                b"\x03\x00\x07\x87\x02\xF0\x80",
+                FRONT,
+                FRONT,
+                FRONT,
+                FRONT,
+                FRONT,
+                FRONT,
+                FRONT,
+                FRONT,
                 FRONT,
                 FRONT,
                 FRONT,
@@ -160,7 +176,7 @@ fn a_message_that_fits_is_one_fragment(rt: HostRuntime) -> Result<(), Fail> {
         },
     ];
     for row in &rows {
-        assert!(rt; goes_out(rt.alloc(), 1_024, row)?);
+        assert!(rt; goes_out(rt.alloc(), row)?);
     }
     Ok(())
 }
