@@ -4,7 +4,8 @@ use Rattle.std.specs.Bool.{OnFalse}
 use Rattle.std.proofs.lemmas.Bool.{ltb-false, le-ltb, eqb-true, eq-eqb}
 use Rattle.std.proofs.lemmas.Bool.Decides.{nat_tests}
 use Rattle.std.proofs.lemmas.List.{take-append-drop, length-take-le}
-use Rattle.s7_header.specs.Octets.{AreOctets, number_at}
+use Rattle.s7_outer.specs.Numbers.{AreOctets}
+use Rattle.s7_header.specs.Octets.{number_at}
 use Rattle.s7_header.specs.Header.{type_octet, has_error, header_len, error_octets, header_octets, IsHeader, SpellsHeader, kind_of, fields_of, whole_len, if_adds_up, header_with, header_of}
 use Rattle.s7_header.specs.declared.header.Kind.{Kind}
 use Rattle.s7_header.specs.declared.header.Kind.TheVariants.{Job, Ack, AckData, User}

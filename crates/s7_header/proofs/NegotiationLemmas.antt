@@ -2,7 +2,7 @@
 use Rattle.std.proofs.Common.{◌≡◌, ℕ, eqb, List, [], length, drop, slice_index, Ok, refl, ap, ◌∙◌, subst, arith}
 use Rattle.std.proofs.lemmas.Bool.{eqb-true, and_parts}
 use Rattle.std.proofs.Math.ListN.{drop_of_length-le}
-use Rattle.s7_header.specs.Octets.{AreOctets}
+use Rattle.s7_outer.specs.Numbers.{AreOctets}
 use Rattle.s7_header.specs.Negotiation.{negotiation_octets, SpellsNegotiation, negotiates, asked_of, negotiation_of}
 use Rattle.s7_header.specs.declared.negotiation.Negotiation.{Negotiation}
 use Rattle.s7_header.proofs.Chosen.{passed}

@@ -1,7 +1,8 @@
 -- Numbers in two octets and back, and octets in their places.
 use Rattle.std.proofs.Common.{◌≡◌, ℕ, suc, ◌+◌, ◌/◌, ◌%◌, ◌<◌, ◌≤◌, ◌^◌, List, ◌∷◌, ◌++◌, length, drop, slice_index, arith, drop-cons}
 use Rattle.s7_outer.specs.Numbers.{number_of_two, two_octets}
-use Rattle.s7_header.specs.Octets.{AreOctets, number_at}
+use Rattle.s7_outer.specs.Numbers.{AreOctets}
+use Rattle.s7_header.specs.Octets.{number_at}
 
 high_of_two : (high low : ℕ) → low < 256 → number_of_two high low / 256 ≡ high
 high_of_two high low h = omega arith

@@ -5,7 +5,7 @@ use Rattle.std.proofs.lemmas.Bool.{eqb-true, and_parts}
 use Rattle.std.proofs.lemmas.Bool.Decides.{Decides-eqb}
 use Rattle.std.proofs.lemmas.Slice.Eq.{starts_is}
 use Rattle.std.proofs.Math.ListN.{drop_of_length-le}
-use Rattle.s7_header.specs.Octets.{AreOctets}
+use Rattle.s7_outer.specs.Numbers.{AreOctets}
 use Rattle.s7_header.specs.UserParams.{short_head, long_head, user_spelling, HasForm, IsUserParams, SpellsUser, is_short, is_long, short_of, long_of, user_params_of}
 use Rattle.s7_header.specs.declared.user_params.UserParams.{UserParams}
 use Rattle.s7_header.specs.declared.faults.BadParams.{BadParams}

@@ -4,7 +4,6 @@ use Rattle.std.specs.Prelude.{◌≡◌, ℕ, ◌^◌, ◌<◌, ◌≤◌, Bool,
 use Rattle.s7_outer.specs.Numbers.{two_octets}
 use Rattle.s7_header.specs.Octets.{number_at}
 use Rattle.s7_header.specs.declared.negotiation.Negotiation.{Negotiation}
-use Rattle.s7_header.specs.declared.negotiation.TheConstants.{LEAST_PDU, MOST_PDU, MOST_JOBS}
 use Rattle.s7_header.specs.declared.faults.BadParams.{BadParams}
 use Rattle.s7_header.specs.declared.faults.TooSmall.{TooSmall}
 
@@ -40,20 +39,31 @@ asked_of params = record { calling = number_at params 2; called = number_at para
 unfoldable pub negotiation_of : List ℕ → Result Negotiation BadParams
 negotiation_of params = if negotiates params then Ok (asked_of params) else Err (record {})
 
+-- the least PDU that is granted, the greatest one, which also bounds a message before a negotiation, and how many jobs
+-- are granted at most each way; all three are this profile's own
+abbrev pub least_pdu : ℕ
+least_pdu = 64
+
+abbrev pub most_pdu : ℕ
+most_pdu = 1920
+
+abbrev pub most_jobs : ℕ
+most_jobs = 8
+
 -- how many jobs are granted
 abbrev pub jobs_granted : ℕ → ℕ
-jobs_granted asked = max 1 (min asked MOST_JOBS)
+jobs_granted asked = max 1 (min asked most_jobs)
 
 -- what every grant keeps to
 pub record IsGrant (n : Negotiation) : Type 0 where
-  pub pdu_least : LEAST_PDU ≤ n.pdu
-  pub pdu_most : n.pdu ≤ MOST_PDU
+  pub pdu_least : least_pdu ≤ n.pdu
+  pub pdu_most : n.pdu ≤ most_pdu
   pub calling_least : 1 ≤ n.calling
-  pub calling_most : n.calling ≤ MOST_JOBS
+  pub calling_most : n.calling ≤ most_jobs
   pub called_least : 1 ≤ n.called
-  pub called_most : n.called ≤ MOST_JOBS
+  pub called_most : n.called ≤ most_jobs
 
 -- what is granted
 abbrev pub granted : Negotiation → Result Negotiation TooSmall
 granted asked =
-    if nat_lt asked.pdu LEAST_PDU then Err (record {}) else Ok (record { calling = jobs_granted asked.calling; called = jobs_granted asked.called; pdu = min asked.pdu MOST_PDU })
+    if nat_lt asked.pdu least_pdu then Err (record {}) else Ok (record { calling = jobs_granted asked.calling; called = jobs_granted asked.called; pdu = min asked.pdu most_pdu })

@@ -1,10 +1,6 @@
 -- Octets in their places, and the numbers that stand in two of them.
-use Rattle.std.specs.Prelude.{ℕ, ◌+◌, ◌<◌, List, slice_index}
+use Rattle.std.specs.Prelude.{ℕ, ◌+◌, List, slice_index}
 use Rattle.s7_outer.specs.Numbers.{number_of_two}
-
--- each element is an octet
-abbrev pub AreOctets : List ℕ → Type 0
-AreOctets octets = (k : ℕ) → slice_index octets k < 256
 
 -- the number in the two octets from this place on, the high one first
 abbrev pub number_at : List ℕ → ℕ → ℕ

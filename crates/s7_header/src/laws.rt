@@ -1,6 +1,6 @@
 // Laws of the definitions: what is read is what the octets spell, and what is written is read again.
 ghost use Rattle.std.specs.Prelude.{◌≡◌, ℕ, ◌↔◌, List, ◌++◌, length};
-ghost use Rattle.s7_header.specs.Octets.{AreOctets};
+ghost use Rattle.s7_outer.specs.Numbers.{AreOctets};
 ghost use Rattle.s7_header.specs.Header.{header_of, SpellsHeader, IsHeader, spelling_of, params_of, body_of};
 ghost use Rattle.s7_header.specs.Negotiation.{negotiation_of, SpellsNegotiation, IsNegotiation, negotiation_spelling};
 ghost use Rattle.s7_header.specs.UserParams.{user_params_of, SpellsUser, IsUserParams, user_spelling};

@@ -9,8 +9,8 @@ use crate::octets::{number_at, two_octets};
 /// The least PDU that is granted, in octets.
 pub const LEAST_PDU: u16 = 64;
 
-/// The longest PDU that is granted, in octets.
-pub const MOST_PDU: u16 = 960;
+/// The longest PDU that is granted, in octets. No message before a negotiation is longer either.
+pub const MOST_PDU: u16 = 1_920;
 
 /// The most parallel jobs that are granted each way.
 pub const MOST_JOBS: u16 = 8;
@@ -70,8 +70,9 @@ pub fn write_negotiate(n: &Negotiation, into: &mut [u8]) -> usize
     LEN
 }
 
-/// What is granted of what a client asks for: at most `MOST_PDU` octets, and each way from 1 to
-/// `MOST_JOBS` jobs. `TooSmall` comes where the PDU is below `LEAST_PDU`.
+/// What is granted of what a client asks for: a PDU from `LEAST_PDU` to `MOST_PDU` octets as it is,
+/// `MOST_PDU` of a longer one, and each way from 1 to `MOST_JOBS` jobs. `TooSmall` comes where the
+/// PDU is below `LEAST_PDU`.
 pub fn grant(asked: &Negotiation) -> Result<Negotiation, TooSmall>
     ensures granted { result ≡ granted asked.now }
     ensures within { IfOk result (λ n. IsGrant n) }

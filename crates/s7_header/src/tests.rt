@@ -121,9 +121,10 @@ fn grants_stay_within_the_limits(rt: HostRuntime) {
     let rows = [
         (negotiation(1, 1, 63), Err(TooSmall)),
         (negotiation(0, 8, 64), Ok(negotiation(1, 8, 64))),
-        (negotiation(8, 9, 960), Ok(negotiation(8, 8, 960))),
-        (negotiation(9, 0, 961), Ok(negotiation(8, 1, 960))),
-        (negotiation(0xFFFF, 3, 0xFFFF), Ok(negotiation(8, 3, 960))),
+        (negotiation(1, 1, 480), Ok(negotiation(1, 1, 480))),
+        (negotiation(8, 9, 1_920), Ok(negotiation(8, 8, 1_920))),
+        (negotiation(9, 0, 1_921), Ok(negotiation(8, 1, 1_920))),
+        (negotiation(0xFFFF, 3, 0xFFFF), Ok(negotiation(8, 3, 1_920))),
     ];
     for (asked, want) in rows {
         assert_eq!(rt; grant(&asked), want, "of {asked:?}");
