@@ -8,7 +8,8 @@ use Rattle.std.proofs.lemmas.List.{append-nil, drop_all, drop_at, drop_more, dro
 use Rattle.s7_outer.specs.Numbers.{number_of_two}
 use Rattle.s7_item.proofs.WordLemmas.{is_transport-transport_of, octets_meant-stated_length}
 use Rattle.s7_item.specs.Word.{transport_of, is_transport}
-use Rattle.s7_item.specs.DataItem.{octets_meant, stated_length, padding_of, padding, data_item_octets, place_in, places_in, span_of, with_place, then_places, data_places_of, DataItem, HasOctets, data_octets, place_of, places_of, octets_at, DataItemsReadBack, Begins, SpellsData, DataItemsAreExact, AreAsMany}
+use Rattle.s7_item.specs.DataItem.{octets_meant, stated_length, padding_of, padding, data_item_octets, place_in, places_in, span_of, with_place, then_places, data_places_of, DataItem, data_octets, octets_at}
+use Rattle.s7_item.specs.DataLaws.{HasOctets, place_of, places_of, DataItemsReadBack, Begins, SpellsData, DataItemsAreExact, AreAsMany}
 use Rattle.s7_item.specs.declared.places.DataPlace.{DataPlace}
 use Rattle.s7_item.specs.declared.read_data.DataFault.{DataFault}
 use Rattle.s7_item.specs.declared.read_data.DataFault.TheVariants.{Transport, Short, Rest}

@@ -8,7 +8,8 @@ use Rattle.std.proofs.lemmas.Bool.Decides.{nat_tests}
 use Rattle.std.proofs.lemmas.List.{drop_all, drop_more, get_or-take, get_or-drop, get_or_past, length-drop, length-take, length-take-le, take-append-drop}
 use Rattle.s7_item.proofs.ItemLemmas.{length-spelled}
 use Rattle.s7_item.specs.Item.{item_octets, item_in}
-use Rattle.s7_item.specs.Params.{items_params, items_in, count_of, items_after, items_of, AreOctets, SpellsItems, ItemsReadBack, ItemsAreExact}
+use Rattle.s7_outer.specs.Numbers.{AreOctets}
+use Rattle.s7_item.specs.Params.{items_params, items_in, count_of, items_after, items_of, SpellsItems, ItemsReadBack, ItemsAreExact}
 use Rattle.s7_item.specs.declared.item.Item.{Item}
 use Rattle.s7_item.specs.declared.params.ItemFault.{ItemFault}
 use Rattle.s7_item.specs.declared.params.ItemFault.TheVariants.{Short, Count, Spec}

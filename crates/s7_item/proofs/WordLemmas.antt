@@ -1,5 +1,5 @@
 -- Lemmas on the table of words and on stated lengths.
-use Rattle.std.proofs.Common.{◌≡◌, ℕ, ◌+◌, ◌*◌, ◌/◌, Bool, true, false, ◌&&◌, cond, eqb, Option, Some, None, refl, sym, arith}
+use Rattle.std.proofs.Common.{◌≡◌, ℕ, ◌+◌, ◌*◌, ◌/◌, ◌≤◌, Bool, true, false, ◌&&◌, cond, eqb, Option, Some, None, refl, sym, arith}
 use Rattle.std.specs.Prelude.{is_some, unwrap_or, IfSome, IsSome}
 use Rattle.std.specs.Option.{option_map}
 use Rattle.std.proofs.lemmas.Bool.{cond_both, eqb-true}
@@ -49,3 +49,14 @@ counts_bits-bits transport is = rw is refl
 pub octets_meant-stated_length : (transport n : ℕ) → octets_meant transport (stated_length transport n) ≡ n
 octets_meant-stated_length transport n =
     meant_by_tests n (counts_bits transport) (eqb transport 3) (eqb n 1) (λ e. counts_bits-bits transport (eqb-true transport 3 e)) (λ e. eqb-true n 1 e)
+
+-- no length that is stated is below the number of octets
+pub at_most_stated : (transport n : ℕ) → n ≤ stated_length transport n
+at_most_stated transport n = stated_by_tests n (counts_bits transport) (eqb transport 3) (eqb n 1) (λ e. eqb-true n 1 e)
+  where
+    stated_by_tests : (n : ℕ) (bits three one : Bool) → (one ≡ true → n ≡ 1) → n ≤ cond (three && one) 1 (cond bits (8 * n) n)
+    stated_by_tests n bits true true o = omega (arith, o refl)
+    stated_by_tests n true true false o = omega arith
+    stated_by_tests n false true false o = omega arith
+    stated_by_tests n true false one o = omega arith
+    stated_by_tests n false false one o = omega arith

@@ -3,6 +3,7 @@
 use Rattle.std.specs.Prelude.{◌≡◌, ℕ, zero, suc, ◌+◌, ◌*◌, ◌<◌, ◌≤◌, ◌==◌, ◌||◌, nat_lt, if◌then◌else◌, Option, Some, Result, Ok, Err, List, [], ◌∷◌, length, take, drop, slice_index, ◌↔◌}
 use Rattle.std.specs.Option.{option_map, option_and_then, ok_or}
 use Rattle.std.specs.List.{flat_map}
+use Rattle.s7_outer.specs.Numbers.{AreOctets}
 use Rattle.s7_item.specs.Item.{item_octets, item_in}
 use Rattle.s7_item.specs.declared.item.Item.{Item}
 use Rattle.s7_item.specs.declared.params.ItemFault.{ItemFault}
@@ -35,10 +36,6 @@ items_after params (Err fault) = Err fault
 -- the items of the parameters, or the first refusal that applies
 unfoldable pub items_of : List ℕ → Result (List Item) ItemFault
 items_of params = items_after params (count_of params)
-
--- every octet is below 256
-abbrev pub AreOctets : List ℕ → Type 0
-AreOctets octets = (k : ℕ) → slice_index octets k < 256
 
 -- the parameters spell these items: some function, their number, their octets
 pub record SpellsItems (params : List ℕ) (items : List Item) : Type 0 where

@@ -2,28 +2,30 @@
 -- (Snap7 1.4 reference manual, word lengths of `Cli_ReadArea`, and its public sources).
 use Rattle.std.specs.Prelude.{ℕ, Bool, ◌==◌, ◌||◌, if◌then◌else◌, Option, Some, None, unwrap_or}
 use Rattle.std.specs.Option.{option_map}
+use Rattle.s7_item.specs.Codes.{bits, bytes, characters, words, integers, double_words, double_integers, reals, counters, timers, bit_transport, byte_transport, integer_transport, real_transport, octet_transport}
 
--- one row of the table
+-- one row of the table: how many octets an element has, and its transport size
 pub record Row : Type 0 where
   pub size : ℕ
   pub transport : ℕ
 
-abbrev pub row : ℕ → ℕ → Row
-row size transport = record { size = size; transport = transport }
+-- elements of so many octets, sent with this transport size
+abbrev pub of_size : ℕ → ℕ → Row
+of_size size transport = record { size = size; transport = transport }
 
--- bit, byte, character, word, integer, double word, double integer, real, counter, timer
+-- the row of a word, if it is known
 abbrev pub row_of : ℕ → Option Row
 row_of word =
-    if word == 0x01 then Some (row 1 0x03)
-    else (if word == 0x02 then Some (row 1 0x04)
-    else (if word == 0x03 then Some (row 1 0x09)
-    else (if word == 0x04 then Some (row 2 0x04)
-    else (if word == 0x05 then Some (row 2 0x05)
-    else (if word == 0x06 then Some (row 4 0x04)
-    else (if word == 0x07 then Some (row 4 0x05)
-    else (if word == 0x08 then Some (row 4 0x07)
-    else (if word == 0x1C then Some (row 2 0x09)
-    else (if word == 0x1D then Some (row 2 0x09)
+    if word == bits then Some (of_size 1 bit_transport)
+    else (if word == bytes then Some (of_size 1 byte_transport)
+    else (if word == characters then Some (of_size 1 octet_transport)
+    else (if word == words then Some (of_size 2 byte_transport)
+    else (if word == integers then Some (of_size 2 integer_transport)
+    else (if word == double_words then Some (of_size 4 byte_transport)
+    else (if word == double_integers then Some (of_size 4 integer_transport)
+    else (if word == reals then Some (of_size 4 real_transport)
+    else (if word == counters then Some (of_size 2 octet_transport)
+    else (if word == timers then Some (of_size 2 octet_transport)
     else None)))))))))
 
 -- how many octets an element of the word has, where the word is known
@@ -34,11 +36,12 @@ size_of word = option_map (λ (r : Row). r.size) (row_of word)
 unfoldable pub transport_of : ℕ → ℕ
 transport_of word = unwrap_or (option_map (λ (r : Row). r.transport) (row_of word)) 0x00
 
+-- a stated length counts bits for these, and else octets
+unfoldable pub counts_bits : ℕ → Bool
+counts_bits transport = transport == bit_transport || transport == byte_transport || transport == integer_transport
+
 -- the transport sizes that data items have
 unfoldable pub is_transport : ℕ → Bool
 is_transport transport =
-    transport == 0x03 || transport == 0x04 || transport == 0x05 || transport == 0x07 || transport == 0x09
-
--- a stated length counts bits for these, and else octets
-unfoldable pub counts_bits : ℕ → Bool
-counts_bits transport = transport == 0x03 || transport == 0x04 || transport == 0x05
+    transport == bit_transport || transport == byte_transport || transport == integer_transport
+    || transport == real_transport || transport == octet_transport

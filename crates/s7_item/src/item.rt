@@ -15,7 +15,7 @@ const SPECIFICATION: [u8; 3] = [0x12, 0x0A, 0x10];
 /// An item of a read or write telegram, with its octets as sent: `count` elements of the word
 /// `word` in the area `area`, for data blocks in the block `db`, from `address` on. The address has
 /// three octets in the telegram.
-#[derive(Clone, Copy, Debug, PartialEq, Eq)]
+#[derive(Clone, Copy, Debug, Default, PartialEq, Eq)]
 pub struct Item {
     pub area: u8,
     pub db: u16,

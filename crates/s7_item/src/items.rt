@@ -2,35 +2,27 @@
 ghost use Rattle.std.specs.Prelude.{◌≡◌, ◌<◌, ◌≤◌, [], ◌∷◌, ◌++◌, length, slice_get, ◌↔◌, IsTrue};
 
 use crate::Item;
+use arrayvec::ArrayVec;
 use std::marker::Model;
 
 /// How many items a telegram has at most.
 pub const MOST_ITEMS: usize = 20;
 
-const NO_ITEM: Item = Item {
-    area: 0,
-    db: 0,
-    word: 0,
-    count: 0,
-    address: 0,
-};
-
 /// The items of a telegram, at most twenty, in order.
 #[derive(Drop)]
 pub struct Items {
-    items: [Item; 20],
-    len: usize,
+    list: ArrayVec<Item, 20>,
 }
 
 impl Model for Items {
-    ghost use Rattle.std.specs.Prelude.{List, take, ◌≤◌};
+    ghost use Rattle.std.specs.Prelude.{List, length, ◌≤◌};
     ghost use Rattle.s7_item.specs.declared.item.Item.{Item};
 
     ghost Value = { List Item };
 
-    ghost view = { λ a. take a.len a.items };
+    ghost view = { λ a. a.list.items };
 
-    ghost invariant = { λ a. a.len ≤ 20 };
+    ghost invariant = { λ a. length a.list.items ≤ 20 };
 }
 
 impl Items {
@@ -39,8 +31,7 @@ impl Items {
         ensures { result ≡ [] }
     {
         Items {
-            items: [NO_ITEM; 20],
-            len: 0,
+            list: ArrayVec::new(),
         }
     }
 
@@ -49,14 +40,14 @@ impl Items {
         ensures len { result ≡ length self.now }
         ensures most { result ≤ 20 }
     {
-        self.as_slice().len()
+        self.list.len()
     }
 
     /// There are no items.
     pub fn is_empty(&self) -> bool
         ensures { IsTrue result ↔ (length self.now ≡ 0) }
     {
-        self.as_slice().is_empty()
+        self.list.is_empty()
     }
 
     /// The items in order.
@@ -64,7 +55,7 @@ impl Items {
         ensures items { result.now ≡ self.now }
         ensures most { length self.now ≤ 20 }
     {
-        &self.items[..self.len]
+        self.list.as_slice()
     }
 
     /// The item at place `k`, counted from 0; `None` exactly where `k` is at least the length.
@@ -79,13 +70,12 @@ impl Items {
         requires { length self.old < 20 }
         ensures { self.new ≡ self.old ++ item ∷ [] }
     {
-        self.items[self.len] = item;
-        self.len += 1;
+        self.list.push(item);
     }
 
     pub(crate) fn clear(&mut self)
         ensures { self.new ≡ [] }
     {
-        self.len = 0;
+        self.list.clear();
     }
 }

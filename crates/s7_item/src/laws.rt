@@ -1,6 +1,6 @@
 // Laws of what is read and written.
 ghost use Rattle.s7_item.specs.Params.{ItemsReadBack, ItemsAreExact};
-ghost use Rattle.s7_item.specs.DataItem.{DataItemsReadBack, DataItemsAreExact, AreAsMany};
+ghost use Rattle.s7_item.specs.DataLaws.{DataItemsReadBack, DataItemsAreExact, AreAsMany};
 ghost use Rattle.s7_item.specs.Sizes.{ReadsHaveTheirSize, WritesHaveTheirSize, FullAnswersHaveTheirSize, AnswersFit};
 
 /// A law: what is written of items is read as these items.

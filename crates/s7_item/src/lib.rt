@@ -2,6 +2,8 @@
 //! items, and how items and their octets are written, read and counted.
 #![tactic(auto)]
 
+pub mod codes;
+mod data_item;
 mod item;
 mod items;
 mod laws;
@@ -13,6 +15,7 @@ mod sizes;
 mod word;
 mod write_data;
 
+pub use data_item::{carries, is_good, padding_of, stated_length};
 pub use item::Item;
 pub use items::{Items, MOST_ITEMS};
 pub use laws::{

@@ -1,39 +1,33 @@
 // A list of the places of at most twenty data items.
 ghost use Rattle.std.specs.Prelude.{◌≡◌, ◌<◌, ◌≤◌, [], ◌∷◌, ◌++◌, length, slice_get, ◌↔◌, IsTrue};
 
+use arrayvec::ArrayVec;
 use std::marker::Model;
 
 /// Where the octets of one data item lie: the item's transport size, the place of its first octet
 /// in the octets that were read, counted from 0, and the number of its octets.
-#[derive(Clone, Copy, Debug, PartialEq, Eq)]
+#[derive(Clone, Copy, Debug, Default, PartialEq, Eq)]
 pub struct DataPlace {
     pub transport: u8,
     pub from: usize,
     pub len: usize,
 }
 
-const NO_PLACE: DataPlace = DataPlace {
-    transport: 0,
-    from: 0,
-    len: 0,
-};
-
 /// The places of the data items of a telegram, at most twenty, in order.
 #[derive(Drop)]
 pub struct DataItems {
-    places: [DataPlace; 20],
-    len: usize,
+    list: ArrayVec<DataPlace, 20>,
 }
 
 impl Model for DataItems {
-    ghost use Rattle.std.specs.Prelude.{List, take, ◌≤◌};
+    ghost use Rattle.std.specs.Prelude.{List, length, ◌≤◌};
     ghost use Rattle.s7_item.specs.declared.places.DataPlace.{DataPlace};
 
     ghost Value = { List DataPlace };
 
-    ghost view = { λ a. take a.len a.places };
+    ghost view = { λ a. a.list.items };
 
-    ghost invariant = { λ a. a.len ≤ 20 };
+    ghost invariant = { λ a. length a.list.items ≤ 20 };
 }
 
 impl DataItems {
@@ -42,8 +36,7 @@ impl DataItems {
         ensures { result ≡ [] }
     {
         DataItems {
-            places: [NO_PLACE; 20],
-            len: 0,
+            list: ArrayVec::new(),
         }
     }
 
@@ -52,14 +45,14 @@ impl DataItems {
         ensures len { result ≡ length self.now }
         ensures most { result ≤ 20 }
     {
-        self.as_slice().len()
+        self.list.len()
     }
 
     /// There are no places.
     pub fn is_empty(&self) -> bool
         ensures { IsTrue result ↔ (length self.now ≡ 0) }
     {
-        self.as_slice().is_empty()
+        self.list.is_empty()
     }
 
     /// The places in order.
@@ -67,7 +60,7 @@ impl DataItems {
         ensures places { result.now ≡ self.now }
         ensures most { length self.now ≤ 20 }
     {
-        &self.places[..self.len]
+        self.list.as_slice()
     }
 
     /// The place at `k`, counted from 0; `None` exactly where `k` is at least the length.
@@ -82,13 +75,12 @@ impl DataItems {
         requires { length self.old < 20 }
         ensures { self.new ≡ self.old ++ place ∷ [] }
     {
-        self.places[self.len] = place;
-        self.len += 1;
+        self.list.push(place);
     }
 
     pub(crate) fn clear(&mut self)
         ensures { self.new ≡ [] }
     {
-        self.len = 0;
+        self.list.clear();
     }
 }

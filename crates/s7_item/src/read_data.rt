@@ -3,8 +3,9 @@ ghost use Rattle.std.specs.Prelude.{◌≡◌, ◌+◌, ◌≤◌, length, drop,
 ghost use Rattle.s7_item.specs.Gives.{Gives};
 ghost use Rattle.s7_item.specs.DataItem.{octets_meant, padding_of, place_in, span_of, data_places_of};
 
-use crate::word::{counts_bits, is_transport};
-use crate::{DataItems, DataPlace};
+use crate::data_item::octets_meant;
+use crate::word::is_transport;
+use crate::{DataItems, DataPlace, padding_of};
 
 /// Why octets can't be read as data items.
 #[derive(Clone, Copy, Debug, PartialEq, Eq)]
@@ -80,25 +81,4 @@ fn read_place(octets: &[u8], at: usize, last: bool) -> Result<DataPlace, DataFau
         from: at + 4,
         len,
     })
-}
-
-// How many octets a stated length means.
-fn octets_meant(transport: u8, stated: u16) -> usize
-    ensures meant { result ≡ octets_meant transport stated }
-    ensures most { result ≤ 65535 }
-{
-    let stated = usize::from(stated);
-    if counts_bits(transport) {
-        stated.div_ceil(8)
-    } else {
-        stated
-    }
-}
-
-// How many octets pad the octets of a data item, the last one or not.
-pub(crate) fn padding_of(len: usize, last: bool) -> usize
-    ensures padding { result ≡ padding_of len last }
-    ensures most { result ≤ 1 }
-{
-    if last { 0 } else { len % 2 }
 }

@@ -4,8 +4,7 @@ ghost use Rattle.s7_item.specs.Item.{octet_count};
 ghost use Rattle.s7_item.specs.Sizes.{data_size, answer_size, request_size};
 
 use crate::item::ITEM_LEN;
-use crate::read_data::padding_of;
-use crate::{Item, Items};
+use crate::{Item, Items, padding_of};
 
 /// How many octets the answer to a read of these items has, where every item of a known word has
 /// all its octets; an item of an unknown word has four. The 14 octets before the data items are

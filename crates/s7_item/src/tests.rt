@@ -137,6 +137,23 @@ fn data_items_are_written(rt: HostRuntime) {
 }
 
 #[test]
+fn lengths_are_stated(rt: HostRuntime) {
+    let cases = [
+        (0x03, 1, 1),
+        (0x03, 2, 16),
+        (0x04, 4, 32),
+        (0x05, 2, 16),
+        (0x07, 4, 4),
+        (0x09, 1, 1),
+    ];
+    for (transport, len, stated) in cases {
+        assert_eq!(rt; stated_length(transport, len), stated);
+    }
+    assert!(rt; is_good(0xFF) && !is_good(0x00) && carries(0x00) && !carries(0x0A));
+    assert!(rt; padding_of(3, false) == 1 && padding_of(3, true) == 0 && padding_of(4, false) == 0);
+}
+
+#[test]
 fn sizes_are_foreseen(rt: HostRuntime) {
     let mut items = Items::new();
     for _ in 0..20usize {

@@ -2,6 +2,11 @@
 ghost use Rattle.std.specs.Prelude.{◌≡◌, ◌≤◌, IfSome};
 ghost use Rattle.s7_item.specs.Word.{size_of, transport_of, is_transport, counts_bits};
 
+use crate::codes::{
+    BIT, BIT_TRANSPORT, BYTE, BYTE_TRANSPORT, CHARACTER, COUNTERS, DOUBLE_INTEGER, DOUBLE_WORD,
+    INTEGER, INTEGER_TRANSPORT, OCTET_TRANSPORT, REAL, REAL_TRANSPORT, TIMERS, WORD,
+};
+
 /// How many octets an element of this word has: 1 for bits (01), bytes (02) and characters (03),
 /// 2 for words (04), integers (05), counters (1C) and timers (1D), 4 for double words (06), double
 /// integers (07) and reals (08). `None` for every other word.
@@ -11,9 +16,9 @@ pub fn size_of(word: u8) -> Option<u16>
     ensures most { IfSome result (λ size. size ≤ 4) }
 {
     match word {
-        0x01 | 0x02 | 0x03 => Some(1),
-        0x04 | 0x05 | 0x1C | 0x1D => Some(2),
-        0x06 | 0x07 | 0x08 => Some(4),
+        BIT | BYTE | CHARACTER => Some(1),
+        WORD | INTEGER | COUNTERS | TIMERS => Some(2),
+        DOUBLE_WORD | DOUBLE_INTEGER | REAL => Some(4),
         _ => None,
     }
 }
@@ -26,21 +31,21 @@ pub fn transport_of(word: u8) -> u8
     ensures { result ≡ transport_of word }
 {
     match word {
-        0x01 => 0x03,
-        0x02 | 0x04 | 0x06 => 0x04,
-        0x05 | 0x07 => 0x05,
-        0x08 => 0x07,
-        0x03 | 0x1C | 0x1D => 0x09,
+        BIT => BIT_TRANSPORT,
+        BYTE | WORD | DOUBLE_WORD => BYTE_TRANSPORT,
+        INTEGER | DOUBLE_INTEGER => INTEGER_TRANSPORT,
+        REAL => REAL_TRANSPORT,
+        CHARACTER | COUNTERS | TIMERS => OCTET_TRANSPORT,
         _ => 0x00,
     }
 }
 
 /// A data item may have this transport size.
-#[tactic(auto, unfolding(crate::specs::Word::is_transport))]
+#[tactic(auto, unfolding(crate::specs::Word::is_transport, crate::specs::Word::counts_bits))]
 pub(crate) fn is_transport(transport: u8) -> bool
     ensures { result ≡ is_transport transport }
 {
-    matches!(transport, 0x03 | 0x04 | 0x05 | 0x07 | 0x09)
+    counts_bits(transport) || transport == REAL_TRANSPORT || transport == OCTET_TRANSPORT
 }
 
 /// The stated length of a data item with this transport size counts bits.
@@ -48,5 +53,8 @@ pub(crate) fn is_transport(transport: u8) -> bool
 pub(crate) fn counts_bits(transport: u8) -> bool
     ensures { result ≡ counts_bits transport }
 {
-    matches!(transport, 0x03 | 0x04 | 0x05)
+    matches!(
+        transport,
+        BIT_TRANSPORT | BYTE_TRANSPORT | INTEGER_TRANSPORT
+    )
 }

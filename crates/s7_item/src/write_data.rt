@@ -4,18 +4,7 @@ ghost use Rattle.s7_item.specs.Word.{size_of, transport_of};
 ghost use Rattle.s7_item.specs.DataItem.{head_octets, carries, stated_length, data_item_octets};
 
 use crate::numbers::two_octets;
-use crate::read_data::padding_of;
-use crate::transport_of;
-use crate::word::counts_bits;
-
-/// The code of an item that was read or written.
-const GOOD: u8 = 0xFF;
-
-/// The code that stands in the data items of a write request.
-const REQUESTED: u8 = 0x00;
-
-/// The transport size of bits.
-const BITS: u8 = 0x03;
+use crate::{carries, padding_of, stated_length, transport_of};
 
 /// Writes a data item. With code FF (an answer) or 00 (a write request) it is code, the word's
 /// transport size, length (2), the octets, and one octet 00 where their number is odd and the item
@@ -46,32 +35,12 @@ pub fn write_data_item(code: u8, word: u8, octets: &[u8], last: bool, into: &mut
 }
 
 // The octets before those of the item.
+#[tactic(auto, using(crate::proofs::WordLemmas::at_most_stated))]
 fn head(code: u8, word: u8, len: usize) -> [u8; 4]
     requires { stated_length (transport_of word) len < 65536 }
     ensures { result ≡ head_octets code word len }
 {
     let transport = transport_of(word);
-    let [high, low] = two_octets(stated_length(transport, len));
+    let [high, low] = two_octets(stated_length(transport, len) as u16);
     [code, transport, high, low]
-}
-
-// A data item with this code has octets.
-fn carries(code: u8) -> bool
-    ensures { result ≡ carries code }
-{
-    code == GOOD || code == REQUESTED
-}
-
-// The length that is stated of so many octets.
-fn stated_length(transport: u8, len: usize) -> u16
-    requires { stated_length transport len < 65536 }
-    ensures { result ≡ stated_length transport len }
-{
-    if transport == BITS && len == 1 {
-        1
-    } else if counts_bits(transport) {
-        8 * len as u16
-    } else {
-        len as u16
-    }
 }

@@ -54,6 +54,33 @@ fn no_part_is_empty(rt: HostRuntime) {
 
 #[test]
 #[tactic(auto, unfolding(s7_item::specs::Word::size_of))]
+fn the_greatest_pdu_takes_1902_bytes(rt: HostRuntime) {
+    let most = Item {
+        count: 1902,
+        ..BYTES
+    };
+    let mut parts = parts(&most, 1920, false);
+    assert!(rt; parts.next() == Some(most));
+    assert!(rt; parts.next().is_none());
+    let more = Item {
+        count: 1903,
+        ..BYTES
+    };
+    let mut parts = super::parts(&more, 1920, false);
+    assert!(rt; parts.next() == Some(most));
+    assert!(rt;
+        parts.next()
+            == Some(Item {
+                count: 1,
+                address: 15216,
+                ..BYTES
+            })
+    );
+    assert!(rt; parts.next().is_none());
+}
+
+#[test]
+#[tactic(auto, unfolding(s7_item::specs::Word::size_of))]
 fn counters_and_words_advance_as_their_areas_do(rt: HostRuntime) {
     let counters = Item {
         area: 0x1C,

@@ -1,0 +1,110 @@
+-- The codes of read and write telegrams (Snap7 1.4 sources, s7_types.h: functions, return codes, areas, word lengths
+-- and transport sizes).
+use Rattle.std.specs.Prelude.{ℕ}
+
+-- ---- functions of a job
+
+abbrev pub read_function : ℕ
+read_function = 0x04
+
+abbrev pub write_function : ℕ
+write_function = 0x05
+
+-- ---- return codes of an item
+
+-- the item was read or written
+abbrev pub good : ℕ
+good = 0xFF
+
+-- what stands in a code's place in a write request
+abbrev pub requested : ℕ
+requested = 0x00
+
+-- there is no right to do it
+abbrev pub not_allowed : ℕ
+not_allowed = 0x03
+
+-- the place isn't inside the area
+abbrev pub out_of_range : ℕ
+out_of_range = 0x05
+
+-- word, area and count don't go together
+abbrev pub wrong_word : ℕ
+wrong_word = 0x06
+
+-- the octets aren't as many as the item has
+abbrev pub wrong_size : ℕ
+wrong_size = 0x07
+
+-- there is no such area
+abbrev pub no_area : ℕ
+no_area = 0x0A
+
+-- ---- areas
+
+abbrev pub inputs : ℕ
+inputs = 0x81
+
+abbrev pub outputs : ℕ
+outputs = 0x82
+
+abbrev pub flags : ℕ
+flags = 0x83
+
+abbrev pub data_blocks : ℕ
+data_blocks = 0x84
+
+-- counters and timers are also word lengths
+abbrev pub counters : ℕ
+counters = 0x1C
+
+abbrev pub timers : ℕ
+timers = 0x1D
+
+-- ---- word lengths
+
+abbrev pub bits : ℕ
+bits = 0x01
+
+abbrev pub bytes : ℕ
+bytes = 0x02
+
+abbrev pub characters : ℕ
+characters = 0x03
+
+abbrev pub words : ℕ
+words = 0x04
+
+abbrev pub integers : ℕ
+integers = 0x05
+
+abbrev pub double_words : ℕ
+double_words = 0x06
+
+abbrev pub double_integers : ℕ
+double_integers = 0x07
+
+abbrev pub reals : ℕ
+reals = 0x08
+
+-- ---- transport sizes of data items
+
+-- one bit, whose stated length is 1
+abbrev pub bit_transport : ℕ
+bit_transport = 0x03
+
+-- bytes, words and double words; their stated length counts bits
+abbrev pub byte_transport : ℕ
+byte_transport = 0x04
+
+-- integers; their stated length counts bits
+abbrev pub integer_transport : ℕ
+integer_transport = 0x05
+
+-- reals; their stated length counts octets
+abbrev pub real_transport : ℕ
+real_transport = 0x07
+
+-- characters, counters and timers; their stated length counts octets
+abbrev pub octet_transport : ℕ
+octet_transport = 0x09
