@@ -14,12 +14,16 @@ use Rattle.std.proofs.lemmas.Cmp.{on_total, then_total}
 use Rattle.std.proofs.lemmas.Grind.{common_steps}
 use Rattle.std.proofs.lemmas.Map.{keys-set_value}
 use Rattle.std.proofs.lemmas.Map.Entries.{sum_by-set_value, sum_by-insert_entry, sum_by-remove_entry}
+use Rattle.s7_item.specs.Codes.{data_blocks}
 use Rattle.s7_area.specs.declared.key.AreaKey.{AreaKey}
-use Rattle.s7_area.specs.Memory.{Memory, key_cmp, octets_at, with_octets}
+use Rattle.std.specs.Prelude.{IfSome}
+use Rattle.s7_area.specs.declared.guard.Guard.{Guard}
+use Rattle.s7_area.specs.Guards.{IsGuard}
+use Rattle.s7_area.specs.Memory.{AreaList, Memory, no_areas, key_cmp, octets_at, with_area, without_area, with_octets}
 use Rattle.s7_area.specs.declared.register.RegisterFault.TheVariants.{Key, Size, Exists, TooManyDbs}
 use Rattle.s7_area.specs.Keys.{is_key, is_numbered}
 use Rattle.s7_area.specs.Laws.{IsFaultless}
-use Rattle.s7_area.specs.Registers.{total_of, db_numbers, IsArea, IsMemory, Keeps, is_wrong_size, is_db_too_many, fault_of}
+use Rattle.s7_area.specs.Registers.{most_octets, most_in_all, most_dbs, total_of, db_numbers, IsArea, IsMemory, Keeps, is_wrong_size, is_db_too_many, fault_of}
 
 pub key_cmp_total : IsTotalOrder key_cmp
 key_cmp_total = then_total (on_total (λ k. k.area) nat_cmp_total) (on_total (λ k. k.number) nat_cmp_total)
@@ -59,48 +63,49 @@ all-remove_entry P test (e ∷ es) all = remove_step P (test e.0) e es (remove_e
 abbrev one_if : Bool → ℕ
 one_if b = cond b 1 0
 
-abbrev blocks_of : Memory → ℕ
+abbrev blocks_of : AreaList → ℕ
 blocks_of m = length (db_numbers (keys_of m))
 
-blocks-cons : (key : AreaKey) (octets : List ℕ) (m : Memory) → blocks_of ((key, octets) ∷ m) ≡ one_if (eqb key.area 0x84) + blocks_of m
+blocks-cons : (key : AreaKey) (octets : List ℕ) (m : AreaList) → blocks_of ((key, octets) ∷ m) ≡ one_if (eqb key.area data_blocks) + blocks_of m
 blocks-cons key octets m = grind (arith, common_steps)
 
-blocks_insert_step : (o : Ordering) (key : AreaKey) (octets : List ℕ) (e : AreaKey × List ℕ) (m rest : Memory) → blocks_of rest ≤ one_if (eqb key.area 0x84) + blocks_of m → blocks_of (match_ordering o ((key, octets) ∷ e ∷ m) ((e.0, octets) ∷ m) (e ∷ rest)) ≤ one_if (eqb key.area 0x84) + blocks_of (e ∷ m)
+blocks_insert_step : (o : Ordering) (key : AreaKey) (octets : List ℕ) (e : AreaKey × List ℕ) (m rest : AreaList) → blocks_of rest ≤ one_if (eqb key.area data_blocks) + blocks_of m → blocks_of (match_ordering o ((key, octets) ∷ e ∷ m) ((e.0, octets) ∷ m) (e ∷ rest)) ≤ one_if (eqb key.area data_blocks) + blocks_of (e ∷ m)
 blocks_insert_step Less key octets e m rest more = omega (arith, blocks-cons key octets (e ∷ m))
 blocks_insert_step Equal key octets e m rest more = omega (arith, blocks-cons e.0 octets m, blocks-cons e.0 e.1 m)
 blocks_insert_step Greater key octets e m rest more = omega (arith, blocks-cons e.0 e.1 rest, blocks-cons e.0 e.1 m)
 
-blocks-insert_entry : (m : Memory) (key : AreaKey) (octets : List ℕ) → blocks_of (insert_entry key_cmp m key octets) ≤ one_if (eqb key.area 0x84) + blocks_of m
+blocks-insert_entry : (m : AreaList) (key : AreaKey) (octets : List ℕ) → blocks_of (insert_entry key_cmp m key octets) ≤ one_if (eqb key.area data_blocks) + blocks_of m
 blocks-insert_entry [] key octets = omega (arith, blocks-cons key octets [])
 blocks-insert_entry (e ∷ m) key octets = blocks_insert_step (key_cmp key e.0) key octets e m (insert_entry key_cmp m key octets) (blocks-insert_entry m key octets)
 
-blocks_remove_step : (b : Bool) (e : AreaKey × List ℕ) (m rest : Memory) → blocks_of rest ≤ blocks_of m → blocks_of (cond b m (e ∷ rest)) ≤ blocks_of (e ∷ m)
+blocks_remove_step : (b : Bool) (e : AreaKey × List ℕ) (m rest : AreaList) → blocks_of rest ≤ blocks_of m → blocks_of (cond b m (e ∷ rest)) ≤ blocks_of (e ∷ m)
 blocks_remove_step true e m rest more = omega (arith, blocks-cons e.0 e.1 m)
 blocks_remove_step false e m rest more = omega (arith, blocks-cons e.0 e.1 rest, blocks-cons e.0 e.1 m)
 
-blocks-remove_entry : (test : AreaKey → Bool) (m : Memory) → blocks_of (remove_entry test m) ≤ blocks_of m
+blocks-remove_entry : (test : AreaKey → Bool) (m : AreaList) → blocks_of (remove_entry test m) ≤ blocks_of m
 blocks-remove_entry test [] = omega arith
 blocks-remove_entry test (e ∷ m) = blocks_remove_step (test e.0) e m (remove_entry test m) (blocks-remove_entry test m)
 
 -- the octets of an area change, and not their number
 pub IsMemory-with_octets : (m : Memory) (key : AreaKey) (old new : List ℕ) → octets_at m key ≡ Some old → length new ≡ length old → IsMemory m → IsMemory (with_octets m key new)
 IsMemory-with_octets m key old new found same is =
-    let sums = sum_by-set_value length (is_at (key_cmp key)) m old new found in
+    let sums = sum_by-set_value length (is_at (key_cmp key)) m.areas old new found in
     record {
-      areas = all-set_value IsArea (is_at (key_cmp key)) m old new found (λ k a. record { name = a.name; some = rw same a.some; most = rw same a.most; even = rw same a.even }) is.areas;
-      ordered = rw (keys-set_value (is_at (key_cmp key)) m new) is.ordered;
+      areas = all-set_value IsArea (is_at (key_cmp key)) m.areas old new found (λ k a. record { name = a.name; some = rw same a.some; most = rw same a.most; even = rw same a.even }) is.areas;
+      ordered = rw (keys-set_value (is_at (key_cmp key)) m.areas new) is.ordered;
       total = omega (arith, sums, is.total, same);
-      blocks = rw (keys-set_value (is_at (key_cmp key)) m new) is.blocks;
+      blocks = rw (keys-set_value (is_at (key_cmp key)) m.areas new) is.blocks;
+      guard = is.guard;
     }
 
 pub total-with_octets : (m : Memory) (key : AreaKey) (old new : List ℕ) → octets_at m key ≡ Some old → length new ≡ length old → total_of (with_octets m key new) ≡ total_of m
 total-with_octets m key old new found same =
-    let sums = sum_by-set_value length (is_at (key_cmp key)) m old new found in omega (arith, sums, same)
+    let sums = sum_by-set_value length (is_at (key_cmp key)) m.areas old new found in omega (arith, sums, same)
 
 -- an area joins
-pub total-insert_entry : (m : Memory) (key : AreaKey) (octets : List ℕ) → IsStrictlySortedBy key_cmp (keys_of m) → octets_at m key ≡ None → total_of (insert_entry key_cmp m key octets) ≡ total_of m + length octets
-total-insert_entry m key octets sorted absent =
-    let sums = sum_by-insert_entry length key_cmp_total m key octets sorted in
+pub total-with_area : (m : Memory) (key : AreaKey) (octets : List ℕ) → IsStrictlySortedBy key_cmp (keys_of m.areas) → octets_at m key ≡ None → total_of (with_area m key octets) ≡ total_of m + length octets
+total-with_area m key octets sorted absent =
+    let sums = sum_by-insert_entry length key_cmp_total m.areas key octets sorted in
     let none : unwrap_or (option_map length (octets_at m key)) 0 ≡ 0 = rw absent refl in
     omega (arith, sums, none)
 
@@ -108,7 +113,7 @@ absent_by : (o : Option (List ℕ)) → is_some o ≡ false → o ≡ None
 absent_by None none = refl
 absent_by (Some x) none = cc
 
-sized_by : (total len : ℕ) (pairs : Bool) → (eqb len 0 || ltb 65536 len || (pairs && not (eqb (len % 2) 0)) || ltb 16777216 (total + len)) ≡ false → (0 < len) × (len ≤ 65536) × (pairs ≡ true → len % 2 ≡ 0) × (total + len ≤ 16777216)
+sized_by : (total len : ℕ) (pairs : Bool) → (eqb len 0 || ltb most_octets len || (pairs && not (eqb (len % 2) 0)) || ltb most_in_all (total + len)) ≡ false → (0 < len) × (len ≤ most_octets) × (pairs ≡ true → len % 2 ≡ 0) × (total + len ≤ most_in_all)
 sized_by total len true size = (grind (arith, nat_tests), grind (arith, nat_tests), λ _. grind (arith, nat_tests), grind (arith, nat_tests))
 sized_by total len false size = (grind (arith, nat_tests), grind (arith, nat_tests), λ is. cc, grind (arith, nat_tests))
 
@@ -125,51 +130,57 @@ faultless_by m key len true false false false p q r s none =
 pub faultless : (m : Memory) (key : AreaKey) (len : ℕ) → fault_of m key len ≡ None → IsFaultless m key len
 faultless m key len none = faultless_by m key len _ _ _ _ refl refl refl refl none
 
-few_by : (n : ℕ) (is_db : Bool) → (is_db && leb 2048 n) ≡ false → n ≤ 2048 → one_if is_db + n ≤ 2048
+few_by : (n : ℕ) (is_db : Bool) → (is_db && leb most_dbs n) ≡ false → n ≤ most_dbs → one_if is_db + n ≤ most_dbs
 few_by n true few most = grind (arith, nat_tests)
 few_by n false few most = omega arith
 
-pub IsMemory-insert_entry : (m : Memory) (key : AreaKey) (octets : List ℕ) → IsStrictlySortedBy key_cmp (keys_of (insert_entry key_cmp m key octets)) → fault_of m key (length octets) ≡ None → IsMemory m → IsMemory (insert_entry key_cmp m key octets)
-IsMemory-insert_entry m key octets sorted none is =
+pub IsMemory-with_area : (m : Memory) (key : AreaKey) (octets : List ℕ) → IsStrictlySortedBy key_cmp (keys_of ((with_area m key octets).areas)) → fault_of m key (length octets) ≡ None → IsMemory m → IsMemory (with_area m key octets)
+IsMemory-with_area m key octets sorted none is =
     let no_fault = faultless m key (length octets) none in
     record {
-      areas = all-insert_entry IsArea key_cmp m key octets no_fault.absent (record { name = no_fault.name; some = no_fault.some; most = no_fault.most; even = no_fault.even }) is.areas;
+      areas = all-insert_entry IsArea key_cmp m.areas key octets no_fault.absent (record { name = no_fault.name; some = no_fault.some; most = no_fault.most; even = no_fault.even }) is.areas;
       ordered = sorted;
-      total = omega (arith, total-insert_entry m key octets is.ordered no_fault.absent, no_fault.fits);
-      blocks = omega (arith, blocks-insert_entry m key octets, few_by (blocks_of m) (eqb key.area 0x84) no_fault.few is.blocks);
+      total = omega (arith, total-with_area m key octets is.ordered no_fault.absent, no_fault.fits);
+      blocks = omega (arith, blocks-insert_entry m.areas key octets, few_by (blocks_of m.areas) (eqb key.area data_blocks) no_fault.few is.blocks);
+      guard = is.guard;
     }
 
 -- an area goes
-pub total-remove_entry : (m : Memory) (key : AreaKey) (octets : List ℕ) → octets_at m key ≡ Some octets → total_of (remove_entry (is_at (key_cmp key)) m) + length octets ≡ total_of m
-total-remove_entry m key octets found =
-    let sums = sum_by-remove_entry length (is_at (key_cmp key)) m in
+pub total-without_area : (m : Memory) (key : AreaKey) (octets : List ℕ) → octets_at m key ≡ Some octets → total_of (without_area m key) + length octets ≡ total_of m
+total-without_area m key octets found =
+    let sums = sum_by-remove_entry length (is_at (key_cmp key)) m.areas in
     let some : unwrap_or (option_map length (octets_at m key)) 0 ≡ length octets = rw found refl in
     omega (arith, sums, some)
 
-pub IsMemory-remove_entry : (m : Memory) (key : AreaKey) (octets : List ℕ) → octets_at m key ≡ Some octets → IsStrictlySortedBy key_cmp (keys_of (remove_entry (is_at (key_cmp key)) m)) → IsMemory m → IsMemory (remove_entry (is_at (key_cmp key)) m)
-IsMemory-remove_entry m key octets found sorted is =
-    let sums = total-remove_entry m key octets found in
+pub IsMemory-without_area : (m : Memory) (key : AreaKey) (octets : List ℕ) → octets_at m key ≡ Some octets → IsStrictlySortedBy key_cmp (keys_of ((without_area m key).areas)) → IsMemory m → IsMemory (without_area m key)
+IsMemory-without_area m key octets found sorted is =
+    let sums = total-without_area m key octets found in
     record {
-      areas = all-remove_entry IsArea (is_at (key_cmp key)) m is.areas;
+      areas = all-remove_entry IsArea (is_at (key_cmp key)) m.areas is.areas;
       ordered = sorted;
       total = omega (arith, is.total);
-      blocks = omega (arith, blocks-remove_entry (is_at (key_cmp key)) m, is.blocks);
+      blocks = omega (arith, blocks-remove_entry (is_at (key_cmp key)) m.areas, is.blocks);
+      guard = is.guard;
     }
 
--- what `Areas` keeps, where an area joins, goes or changes
-pub Keeps-none : Keeps [] 0
+-- what `Areas` keeps, where an area joins, goes or changes, and where the guard does
+pub Keeps-none : Keeps no_areas 0
 unfolding IsStrictlySortedBy
-Keeps-none = (record { areas = tt; ordered = tt; total = lit≤ tt; blocks = lit≤ tt }, refl)
+Keeps-none = (record { areas = tt; ordered = tt; total = lit≤ tt; blocks = lit≤ tt; guard = tt }, refl)
+
+pub Keeps-with_guard : (m : Memory) (guard : Option Guard) (total : ℕ) → IfSome guard IsGuard → Keeps m total → Keeps (record m { guard = guard }) total
+Keeps-with_guard m guard total known is =
+    (record { areas = is.0.areas; ordered = is.0.ordered; total = is.0.total; blocks = is.0.blocks; guard = known }, is.1)
 
 pub Keeps-with_octets : (m : Memory) (key : AreaKey) (old new : List ℕ) (total : ℕ) → octets_at m key ≡ Some old → length new ≡ length old → Keeps m total → Keeps (with_octets m key new) total
 Keeps-with_octets m key old new total found same is =
     (IsMemory-with_octets m key old new found same is.0, is.1 ∙ sym (total-with_octets m key old new found same))
 
-pub Keeps-insert_entry : (m : Memory) (key : AreaKey) (octets : List ℕ) (total : ℕ) → IsStrictlySortedBy key_cmp (keys_of (insert_entry key_cmp m key octets)) → fault_of m key (length octets) ≡ None → Keeps m total → Keeps (insert_entry key_cmp m key octets) (total + length octets)
-Keeps-insert_entry m key octets total sorted none is =
-    let joined = total-insert_entry m key octets is.0.ordered ((faultless m key (length octets) none).absent) in
-    (IsMemory-insert_entry m key octets sorted none is.0, omega (arith, joined, is.1))
+pub Keeps-with_area : (m : Memory) (key : AreaKey) (octets : List ℕ) (total : ℕ) → IsStrictlySortedBy key_cmp (keys_of ((with_area m key octets).areas)) → fault_of m key (length octets) ≡ None → Keeps m total → Keeps (with_area m key octets) (total + length octets)
+Keeps-with_area m key octets total sorted none is =
+    let joined = total-with_area m key octets is.0.ordered ((faultless m key (length octets) none).absent) in
+    (IsMemory-with_area m key octets sorted none is.0, omega (arith, joined, is.1))
 
-pub Keeps-remove_entry : (m : Memory) (key : AreaKey) (octets : List ℕ) (total : ℕ) → octets_at m key ≡ Some octets → IsStrictlySortedBy key_cmp (keys_of (remove_entry (is_at (key_cmp key)) m)) → Keeps m total → Keeps (remove_entry (is_at (key_cmp key)) m) (total - length octets)
-Keeps-remove_entry m key octets total found sorted is =
-    (IsMemory-remove_entry m key octets found sorted is.0, omega (arith, total-remove_entry m key octets found, is.1))
+pub Keeps-without_area : (m : Memory) (key : AreaKey) (octets : List ℕ) (total : ℕ) → octets_at m key ≡ Some octets → IsStrictlySortedBy key_cmp (keys_of ((without_area m key).areas)) → Keeps m total → Keeps (without_area m key) (total - length octets)
+Keeps-without_area m key octets total found sorted is =
+    (IsMemory-without_area m key octets found sorted is.0, omega (arith, total-without_area m key octets found, is.1))

@@ -1,15 +1,16 @@
 -- Names of areas (Snap7 1.4 reference manual, areas of `Cli_ReadArea` and `Srv_RegisterArea`).
 use Rattle.std.specs.Prelude.{ℕ, Bool, ◌==◌, ◌&&◌, ◌||◌, not, if◌then◌else◌}
+use Rattle.s7_item.specs.Codes.{inputs, outputs, flags, data_blocks, counters, timers}
 use Rattle.s7_area.specs.declared.key.AreaKey.{AreaKey}
 
 -- counters and timers: their elements have numbers
 abbrev pub is_numbered : ℕ → Bool
-is_numbered area = area == 0x1C || area == 0x1D
+is_numbered area = area == counters || area == timers
 
 -- inputs, outputs, flags, counters, timers: there is one area of each
 abbrev pub is_single : ℕ → Bool
-is_single area = area == 0x81 || area == 0x82 || area == 0x83 || is_numbered area
+is_single area = area == inputs || area == outputs || area == flags || is_numbered area
 
 -- data blocks have numbers from 1 on, and no other area has one
 abbrev pub is_key : AreaKey → Bool
-is_key key = if key.area == 0x84 then not (key.number == 0) else is_single key.area && key.number == 0
+is_key key = if key.area == data_blocks then not (key.number == 0) else is_single key.area && key.number == 0

@@ -1,5 +1,6 @@
 pub mod Keys
 pub mod Places
+pub mod Guards
 pub mod Memory
 pub mod Registers
 pub mod Laws

@@ -1,6 +1,7 @@
 -- The places of items, and the octets there (Snap7 1.4 reference manual, `Cli_ReadArea` and
 -- `Cli_WriteArea`: areas, word lengths, and start addresses).
 use Rattle.std.specs.Prelude.{ℕ, ◌+◌, ◌-◌, ◌*◌, ◌/◌, ◌%◌, ◌^◌, ◌==◌, ◌&&◌, ◌||◌, Bool, not, nat_le, if◌then◌else◌, is_none, List, [], ◌∷◌, ◌++◌, length, take, drop, slice_index, slice_set}
+use Rattle.s7_item.specs.Codes.{bits, counters, data_blocks, timers}
 use Rattle.s7_item.specs.Item.{octet_count}
 use Rattle.s7_item.specs.Word.{size_of}
 use Rattle.s7_item.specs.declared.item.Item.{Item}
@@ -14,12 +15,12 @@ differ a b = if a then not b else b
 -- the word is unknown, a bit's count isn't 1, or exactly one of word and area is counters, or timers
 unfoldable pub is_misfit : Item → Bool
 is_misfit item =
-    is_none (size_of item.word) || (item.word == 0x01 && not (item.count == 1))
-    || differ (item.word == 0x1C) (item.area == 0x1C) || differ (item.word == 0x1D) (item.area == 0x1D)
+    is_none (size_of item.word) || (item.word == bits && not (item.count == 1))
+    || differ (item.word == counters) (item.area == counters) || differ (item.word == timers) (item.area == timers)
 
 -- the number counts for data blocks alone
 abbrev pub key_of : Item → AreaKey
-key_of item = record { area = item.area; number = if item.area == 0x84 then item.db else 0 }
+key_of item = record { area = item.area; number = if item.area == data_blocks then item.db else 0 }
 
 -- counters and timers have two octets each, and other addresses count bits
 abbrev pub start_of : Item → ℕ
@@ -44,14 +45,14 @@ put_at start octets old = take start old ++ octets ++ drop (start + length octet
 -- what the place of the item holds
 unfoldable pub value_at : Item → List ℕ → List ℕ
 value_at item octets =
-    if item.word == 0x01 then bit_of (slice_index octets (start_of item)) (item.address % 8) ∷ []
+    if item.word == bits then bit_of (slice_index octets (start_of item)) (item.address % 8) ∷ []
     else take (octet_count item) (drop (start_of item) octets)
 
 -- the octets of an area after a write of these to the place of the item; any octet but 00 turns a
 -- bit on
 unfoldable pub changed_at : Item → List ℕ → List ℕ → List ℕ
 changed_at item octets old =
-    if item.word == 0x01
+    if item.word == bits
     then slice_set old (start_of item)
     (with_bit (slice_index old (start_of item)) (item.address % 8) (not (slice_index octets 0 == 0x00)))
     else put_at (start_of item) octets old

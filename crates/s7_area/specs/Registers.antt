@@ -1,40 +1,55 @@
 -- What a memory is, and which areas may join it (Snap7 1.4 reference manual, `Srv_RegisterArea`).
-use Rattle.std.specs.Prelude.{◌≡◌, ℕ, ◌+◌, ◌%◌, ◌<◌, ◌≤◌, ◌==◌, ◌&&◌, ◌||◌, not, nat_lt, nat_le, if◌then◌else◌, Option, None, Some, is_some, List, [], length, Bool, true, map, filter, sum_by}
+use Rattle.std.specs.Prelude.{◌≡◌, ℕ, ◌+◌, ◌%◌, ◌<◌, ◌≤◌, ◌==◌, ◌&&◌, ◌||◌, not, nat_lt, nat_le, if◌then◌else◌, Option, None, Some, is_some, IfSome, List, [], length, Bool, true, map, filter, sum_by}
 use Rattle.std.specs.List.{AllByRecursion}
 use Rattle.std.specs.List.Sorted.{IsStrictlySortedBy}
 use Rattle.std.specs.Map.{keys_of, values_of}
+use Rattle.s7_item.specs.Codes.{data_blocks}
 use Rattle.s7_area.specs.declared.key.AreaKey.{AreaKey}
 use Rattle.s7_area.specs.declared.register.RegisterFault.{RegisterFault}
 use Rattle.s7_area.specs.declared.register.RegisterFault.TheVariants as fault
 use Rattle.s7_area.specs.Keys.{is_key, is_numbered}
+use Rattle.s7_area.specs.Guards.{IsGuard}
 use Rattle.s7_area.specs.Memory.{Memory, key_cmp, octets_at}
+
+-- how many octets an area has at most
+abbrev pub most_octets : ℕ
+most_octets = 2097152
+
+-- how many octets all areas have together at most
+abbrev pub most_in_all : ℕ
+most_in_all = 16777216
+
+-- how many data blocks there are at most
+abbrev pub most_dbs : ℕ
+most_dbs = 2048
 
 -- the lengths of all areas together
 abbrev pub total_of : Memory → ℕ
-total_of m = sum_by length (values_of m)
+total_of m = sum_by length (values_of m.areas)
 
 -- the numbers of the data blocks
 abbrev pub db_numbers : List AreaKey → List ℕ
-db_numbers keys = map (λ key. key.number) (filter (λ key. key.area == 0x84) keys)
+db_numbers keys = map (λ key. key.number) (filter (λ key. key.area == data_blocks) keys)
 
 -- the numbers of the data blocks whose names are left, where there is a map
 abbrev pub numbers_left : Option (List AreaKey) → List ℕ
 numbers_left None = []
 numbers_left (Some keys) = db_numbers keys
 
--- an area: a name that there may be, from 1 to 65,536 octets, and two for each counter or timer
+-- an area: a name that there may be, octets, and two of them for each counter or timer
 pub record IsArea (e : AreaKey × List ℕ) : Type 0 where
   pub name : is_key e.0 ≡ true
   pub some : 0 < length e.1
-  pub most : length e.1 ≤ 65536
+  pub most : length e.1 ≤ most_octets
   pub even : is_numbered e.0.area ≡ true → length e.1 % 2 ≡ 0
 
--- areas in the order of their names, with at most 16,777,216 octets together and 2,048 data blocks
+-- areas in the order of their names, and a guard or none
 pub record IsMemory (m : Memory) : Type 0 where
-  pub areas : AllByRecursion IsArea m
-  pub ordered : IsStrictlySortedBy key_cmp (keys_of m)
-  pub total : total_of m ≤ 16777216
-  pub blocks : length (db_numbers (keys_of m)) ≤ 2048
+  pub areas : AllByRecursion IsArea m.areas
+  pub ordered : IsStrictlySortedBy key_cmp (keys_of m.areas)
+  pub total : total_of m ≤ most_in_all
+  pub blocks : length (db_numbers (keys_of m.areas)) ≤ most_dbs
+  pub guard : IfSome m.guard IsGuard
 
 -- what is kept: a memory, and the lengths of all areas together
 abbrev pub Keeps : Memory → ℕ → Type 0
@@ -43,12 +58,12 @@ Keeps m total = IsMemory m × (total ≡ total_of m)
 -- an area of this name may not have so many octets beside the others
 abbrev pub is_wrong_size : Memory → AreaKey → ℕ → Bool
 is_wrong_size m key len =
-    len == 0 || nat_lt 65536 len || (is_numbered key.area && not (len % 2 == 0))
-    || nat_lt 16777216 (total_of m + len)
+    len == 0 || nat_lt most_octets len || (is_numbered key.area && not (len % 2 == 0))
+    || nat_lt most_in_all (total_of m + len)
 
 -- the area would be a data block more than there may be
 abbrev pub is_db_too_many : Memory → AreaKey → Bool
-is_db_too_many m key = key.area == 0x84 && nat_le 2048 (length (db_numbers (keys_of m)))
+is_db_too_many m key = key.area == data_blocks && nat_le most_dbs (length (db_numbers (keys_of m.areas)))
 
 -- the first fault of an area of this name and length that asks to join
 abbrev pub fault_of : Memory → AreaKey → ℕ → Option RegisterFault

@@ -1,22 +1,9 @@
 // The names of areas.
 ghost use Rattle.std.specs.Prelude.{◌≡◌, ◌==◌};
+ghost use Rattle.s7_item.specs.Codes.{data_blocks};
 ghost use Rattle.s7_area.specs.Keys.{is_key, is_numbered};
 
-/// The code of the area of data blocks.
-pub(crate) const DATA_BLOCK: u8 = 0x84;
-
-/// The code of the area of counters.
-pub(crate) const COUNTERS: u8 = 0x1C;
-
-/// The code of the area of timers.
-pub(crate) const TIMERS: u8 = 0x1D;
-
-/// The codes of inputs, outputs and flags.
-const INPUTS: u8 = 0x81;
-
-const OUTPUTS: u8 = 0x82;
-
-const FLAGS: u8 = 0x83;
+use s7_item::codes::{COUNTERS, DATA_BLOCKS, FLAGS, INPUTS, OUTPUTS, TIMERS};
 
 /// The name of an area: the code of its kind, and for data blocks (84) the number of the block,
 /// from 1 to 65,535. Inputs (81), outputs (82), flags (83), counters (1C) and timers (1D) are one
@@ -33,7 +20,7 @@ impl AreaKey {
         ensures { result ≡ is_key self.now }
     {
         match self.area {
-            DATA_BLOCK => self.number != 0,
+            DATA_BLOCKS => self.number != 0,
             INPUTS | OUTPUTS | FLAGS | COUNTERS | TIMERS => self.number == 0,
             _ => false,
         }
@@ -41,9 +28,9 @@ impl AreaKey {
 
     /// The area is a data block.
     pub(crate) fn is_db(&self) -> bool
-        ensures { result ≡ (self.now.area == 0x84) }
+        ensures { result ≡ (self.now.area == data_blocks) }
     {
-        self.area == DATA_BLOCK
+        self.area == DATA_BLOCKS
     }
 }
 

@@ -1,11 +1,11 @@
 //! Areas: the memory of a controller, a map from the names of areas to their octets, which items
-//! read and write.
+//! read and write, and the guard that bars them where there is no right.
 #![tactic(auto)]
 
 mod area;
 mod areas;
-mod codes;
 mod db_numbers;
+mod guard;
 mod key;
 mod laws;
 mod place;
@@ -13,6 +13,7 @@ mod register;
 
 pub use areas::{Areas, ItemAnswer};
 pub use db_numbers::DbNumbers;
+pub use guard::Guard;
 pub use key::AreaKey;
 pub use laws::{areas_join, bits_stand_alone, written_is_read};
 pub use register::{RegisterFault, Unknown};

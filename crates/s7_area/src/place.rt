@@ -3,11 +3,9 @@ ghost use Rattle.std.specs.Prelude.{◌≡◌, ◌+◌, ◌<◌, ◌≤◌, ◌^
 ghost use Rattle.s7_item.specs.Item.{octet_count};
 ghost use Rattle.s7_area.specs.Places.{is_misfit, key_of, start_of, is_inside, value_at, changed_at, put_at, with_bit};
 
-use crate::key::{AreaKey, COUNTERS, DATA_BLOCK, TIMERS, is_numbered};
+use crate::key::{AreaKey, is_numbered};
+use s7_item::codes::{BIT, COUNTERS, DATA_BLOCKS, TIMERS};
 use s7_item::{Item, size_of};
-
-/// The word of a bit.
-const BIT: u8 = 0x01;
 
 /// A bit that is off, as it is read.
 const OFF: [u8; 1] = [0x00];
@@ -32,7 +30,7 @@ pub(crate) fn key_of(item: &Item) -> AreaKey
 {
     AreaKey {
         area: item.area,
-        number: if item.area == DATA_BLOCK { item.db } else { 0 },
+        number: if item.area == DATA_BLOCKS { item.db } else { 0 },
     }
 }
 

@@ -7,7 +7,7 @@ ghost use Rattle.s7_area.specs.Registers.{fault_code};
 pub enum RegisterFault {
     /// No area may have this name.
     Key,
-    /// There are no octets, more than 65,536, an odd number of them for counters or timers, or more
+    /// There are no octets, more than 2,097,152, an odd number of them for counters or timers, or more
     /// than 16,777,216 with those of all areas.
     Size,
     /// An area of this name is registered.

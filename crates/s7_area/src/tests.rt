@@ -1,3 +1,6 @@
+ghost use Rattle.std.specs.Prelude.{IfSome};
+ghost use Rattle.s7_area.specs.Guards.{IsGuard};
+
 use super::*;
 use s7_item::Item;
 use s7_outer::{Memory, Octets};
@@ -40,13 +43,36 @@ fn two_areas(alloc: Global) -> Result<Areas, Memory> {
     Ok(areas)
 }
 
+/// A guard of level 2 or 3; none for another level.
+fn guard(level: u8) -> Option<Guard>
+    ensures { IfSome result IsGuard }
+{
+    if level != 2 && level != 3 {
+        return None;
+    }
+    Some(Guard {
+        level,
+        password: [0x4B, 0x65, 0x79, 0x37, 0x20, 0x20, 0x20, 0x20],
+    })
+}
+
+/// The codes of a read and of a write of the item.
+fn codes(areas: &mut Areas, right: bool, item: &Item) -> (u8, u8) {
+    let mut into = [0xEE; 8];
+    if item.octet_count() > into.len() {
+        return (0, 0);
+    }
+    let read = areas.read(right, item, &mut into).code;
+    (read, areas.write(right, item, &[0x55]))
+}
+
 /// A read of the item gives this code and these octets, of which there are at most eight.
 fn reads(areas: &Areas, item: &Item, code: u8, octets: &[u8]) -> bool {
     let mut into = [0xEE; 8];
     if item.octet_count() > into.len() {
         return false;
     }
-    let answer = areas.read(item, &mut into);
+    let answer = areas.read(true, item, &mut into);
     answer.code == code && answer.len == octets.len() && into.starts_with(octets)
 }
 
@@ -121,8 +147,39 @@ fn items_are_written(rt: HostRuntime) -> Result<(), Fail> {
         ),
     ];
     for (item, octets, code, left) in rows {
-        assert_eq!(rt; areas.write(&item, octets), code, "{item:?}");
+        assert_eq!(rt; areas.write(true, &item, octets), code, "{item:?}");
         assert!(rt; areas.octets_of(DB1) == Some(left), "{item:?}");
+    }
+    Ok(())
+}
+
+#[test]
+fn guards_bar_items(rt: HostRuntime) -> Result<(), Fail> {
+    let good = item(0x84, 1, 0x02, 1, 0);
+    let bad = item(0x84, 1, 0x09, 1, 0);
+    let rows = [
+        (1, false, good, (0xFF, 0xFF)),
+        (2, false, good, (0xFF, 0x03)),
+        (2, false, bad, (0x06, 0x03)),
+        (2, true, good, (0xFF, 0xFF)),
+        (3, false, good, (0x03, 0x03)),
+        (3, false, bad, (0x03, 0x03)),
+        (3, true, good, (0xFF, 0xFF)),
+        (3, true, bad, (0x06, 0x06)),
+    ];
+    for (level, right, item, answers) in rows {
+        let mut areas = two_areas(rt.alloc())?;
+        areas.set_guard(guard(level));
+        let mut copy = areas.copy(rt.alloc())?;
+        assert!(rt; copy.guard() == guard(level));
+        assert!(rt;
+            codes(&mut areas, right, &item) == answers,
+            "{level} {right} {item:?}"
+        );
+        assert!(rt;
+            codes(&mut copy, right, &item) == answers,
+            "{level} {right} {item:?}"
+        );
     }
     Ok(())
 }
@@ -135,9 +192,10 @@ fn areas_are_registered(rt: HostRuntime) -> Result<(), Fail> {
         (key(0x83, 1), 4, RegisterFault::Key, 0x0050_0000),
         (key(0x80, 0), 4, RegisterFault::Key, 0x0050_0000),
         (DB1, 0, RegisterFault::Size, 0x0050_0000),
-        (key(0x84, 2), 65_537, RegisterFault::Size, 0x0050_0000),
+        (key(0x84, 2), 2_097_153, RegisterFault::Size, 0x0050_0000),
         (key(0x1D, 0), 3, RegisterFault::Size, 0x0050_0000),
         (DB1, 4, RegisterFault::Exists, 0x0030_0000),
+        (COUNTERS, 2, RegisterFault::Exists, 0x0030_0000),
     ];
     for (key, len, fault, code) in rows {
         let octets = Octets::of_vec(vec![in rt.alloc(); 7; len]?);
@@ -146,8 +204,10 @@ fn areas_are_registered(rt: HostRuntime) -> Result<(), Fail> {
         };
         assert!(rt; refused == fault && refused.code() == code && back.as_slice().len() == len);
     }
+    let most = Octets::of_vec(vec![in rt.alloc(); 7; 2_097_152]?);
+    assert!(rt; areas.register(rt.alloc(), key(0x84, 3), most).is_ok());
     assert!(rt; areas.unregister(key(0x84, 9)).is_err());
-    assert!(rt; areas.db_numbers().count() == 1);
+    assert!(rt; areas.db_numbers().count() == 2);
     let copy = areas.copy(rt.alloc())?;
     let Ok(octets) = areas.unregister(DB1) else {
         return Err(Fail::from("not registered"));
