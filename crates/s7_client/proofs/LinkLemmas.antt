@@ -18,7 +18,7 @@ use Rattle.s7_client.specs.declared.line.Line.{Line}
 use Rattle.s7_client.specs.declared.under_way.UnderWay.{UnderWay}
 use Rattle.s7_client.specs.declared.steps.Step.{Step}
 use Rattle.s7_client.specs.declared.steps.Step.TheVariants as step
-use Rattle.s7_client.specs.declared.codes.TheConstants.{SEND_FAILED, TIMED_OUT}
+use Rattle.s7_client.specs.Codes.{send_failed, timed_out}
 use Rattle.s7_client.specs.Answer.{Answer, departed}
 use Rattle.s7_client.specs.Dialogue.{ends, End, fault_end, departed_end, dialogue}
 use Rattle.s7_client.specs.Running.{next_of, next_by, Follows, IsOver, IsLeaving}
@@ -397,14 +397,14 @@ pub step_unsent : (l l' : Line) (u u' : UnderWay) (link link' : Shown) (config :
     → link'.written ≡ append_known link.written [] → link'.space ≡ option_map (λ space. space - length {A = ℕ} []) link.space
     → link' ≡ record link { written = link'.written; faults = link'.faults; waits = link'.waits; space = link'.space }
     → link.faults ≤ link'.faults → link.waits ≤ link'.waits → Rose link.faults link'.faults
-    → ((k : Config) → next_of k u'.running ≡ ends (fault_end SEND_FAILED)) → IsOver u'.running.stage → u'.running.job ≡ u.running.job → u'.carried ≡ u.carried → u'.waited ≡ u.waited
+    → ((k : Config) → next_of k u'.running ≡ ends (fault_end send_failed)) → IsOver u'.running.stage → u'.running.job ≡ u.running.job → u'.carried ≡ u.carried → u'.waited ≡ u.waited
     → IsStep l u link l' u' link' config granted step.Over
 unfolding moves_sent
 step_unsent l l' u u' link link' config granted fits some k wrote space same faults waits rose e over job carried waited =
     record {
       moves = moves_sent l l' link link' [] k.inbox wrote space same faults waits;
       fits = λ h. absurd (h refl);
-      left = λ h. absurd (closed_stage config u'.running SEND_FAILED (e config) h);
+      left = λ h. absurd (closed_stage config u'.running send_failed (e config) h);
       waited = waited;
       stood = λ origin b w ec eg s h. absurd (h refl);
       less = λ h. absurd (over_not_went h);
@@ -412,7 +412,7 @@ step_unsent l l' u u' link link' config granted fits some k wrote space same fau
       met = λ origin b w ec eg s h. absurd (over_not_yet h);
       over = λ h. over;
       cause = λ origin b w ec eg s h. same_cause origin link link' l' u' b w (record {
-        end = fault_end SEND_FAILED;
+        end = fault_end send_failed;
         carried = [];
         next = e;
         carries = ap (λ x. x.octets) carried ∙ s.at.silent (λ h'. some_not_none (unsent l) some (fits.quiet h'));
@@ -693,13 +693,13 @@ pub round_tires : (l l' : Line) (u u1 u' : UnderWay) (link link' : Shown) (confi
 round_tires l l' u u1 u' link link' config granted k v = record {
   moves = k.moves;
   over = v.over refl;
-  left = λ h. absurd (closed_stage config u'.running TIMED_OUT (v.fails refl config) h);
+  left = λ h. absurd (closed_stage config u'.running timed_out (v.fails refl config) h);
   ends_by = λ origin b w ec eg s.
       let s' = k.stood origin b w ec eg s not_yet_not_over in
       let met = k.met origin b w ec eg s refl in
       let going = met_goes_on origin l' u1 link' (b ++ k.moves.used) (w ++ k.moves.written) (k.fits not_yet_not_over) s' met in
       record {
-        end = fault_end TIMED_OUT;
+        end = fault_end timed_out;
         carried = [];
         next = v.fails refl;
         carries = ap (λ x. x.octets) v.carried ∙ s'.at.silent going;

@@ -6,7 +6,7 @@ use Rattle.std.proofs.lemmas.List.{append-nil}
 use Rattle.s7_outer.specs.Shown.{Shown}
 use Rattle.s7_outer.specs.Count.{Rose, RoseBy}
 use Rattle.s7_client.specs.declared.config.Config.{Config}
-use Rattle.s7_client.specs.declared.codes.TheConstants.{LINK_ENDED, RECEIVE_FAILED, SEND_FAILED, TIMED_OUT}
+use Rattle.s7_client.specs.Codes.{link_ended, receive_failed, send_failed, timed_out}
 use Rattle.s7_client.specs.declared.grant.Grant.{Grant}
 use Rattle.s7_client.specs.declared.job.Job.{Job}
 use Rattle.s7_client.specs.declared.job.Job.TheVariants as job
@@ -142,14 +142,14 @@ cause_formed : (origin : Origin) (k k' : Shown) (kept : List ℕ) (end : End) (c
     → HasCause origin k k' kept end carried b w → HasForm origin.job end × IsWhole origin.job end
 cause_formed origin k k' kept end carried b w enough (inl h) = (octets_have_form origin b end carried h.over, octets_are_whole origin b end carried enough h.over)
 cause_formed origin k k' kept end carried b w enough (inr (inl h)) = departure_formed origin.job end (departure_has_form origin b (course origin b).answers end h.awaited h.next)
-cause_formed origin k k' kept end carried b w enough (inr (inr (inl h))) = fault_formed origin.job end LINK_ENDED (λ e. absurd (omega (arith, e))) h.fault.0
-cause_formed origin k k' kept end carried b w enough (inr (inr (inr (inl h)))) = fault_formed origin.job end RECEIVE_FAILED (λ e. absurd (omega (arith, e))) h.fault.0
-cause_formed origin k k' kept end carried b w enough (inr (inr (inr (inr h)))) = fault_formed origin.job end SEND_FAILED (λ e. absurd (omega (arith, e))) h.fault.0
+cause_formed origin k k' kept end carried b w enough (inr (inr (inl h))) = fault_formed origin.job end link_ended (λ e. absurd (omega (arith, e))) h.fault.0
+cause_formed origin k k' kept end carried b w enough (inr (inr (inr (inl h)))) = fault_formed origin.job end receive_failed (λ e. absurd (omega (arith, e))) h.fault.0
+cause_formed origin k k' kept end carried b w enough (inr (inr (inr (inr h)))) = fault_formed origin.job end send_failed (λ e. absurd (omega (arith, e))) h.fault.0
 
 end_formed : (origin : Origin) (k k' : Shown) (kept : List ℕ) (end : End) (carried b w : List ℕ) → ForSome origin.granted (λ (grant : Grant). 64 ≤ grant.pdu)
     → HasCause origin k k' kept end carried b w ⊎ IsTired origin k k' kept end carried b w → HasForm origin.job end × IsWhole origin.job end
 end_formed origin k k' kept end carried b w enough (inl h) = cause_formed origin k k' kept end carried b w enough h
-end_formed origin k k' kept end carried b w enough (inr h) = fault_formed origin.job end TIMED_OUT (λ e. absurd (omega (arith, e))) h.fault.0
+end_formed origin k k' kept end carried b w enough (inr h) = fault_formed origin.job end timed_out (λ e. absurd (omega (arith, e))) h.fault.0
 
 granted_enough : (o : Option Grant) → ForSome o (λ (g : Grant). (64 ≤ g.pdu) × (g.pdu ≤ 960)) → ForSome o (λ (g : Grant). 64 ≤ g.pdu)
 granted_enough o h g is = (h g is).0

@@ -15,7 +15,7 @@ use Rattle.s7_client.specs.declared.running.Running.{Running}
 use Rattle.s7_client.specs.declared.line.Line.{Line}
 use Rattle.s7_client.specs.declared.under_way.UnderWay.{UnderWay}
 use Rattle.s7_client.specs.declared.client.Client.{Client}
-use Rattle.s7_client.specs.declared.codes.TheConstants.{NOT_CONNECTED}
+use Rattle.s7_client.specs.Codes.{not_connected}
 use Rattle.s7_client.specs.Dialogue.{End, ends, with_number, dialogue}
 use Rattle.s7_client.specs.Running.{next_of, next_by, Follows, IsOver}
 use Rattle.s7_client.specs.Course.{Origin, begun, limits, begins_anew, size_at, sequence_at, sequence_by, octets_of, awaits_by, nothing_unfinished}
@@ -135,7 +135,7 @@ none_unfinished j h = ap (λ o. record { octets = o; count = j.count }) h.octets
 
 -- ---- a client that isn't connected
 
-turned_by : (config : Config) (done : Job) (granted : Option Grant) → granted ≡ None → begins_anew granted done ≡ false → dialogue done config granted [] ≡ with_number NOT_CONNECTED Disconnected
+turned_by : (config : Config) (done : Job) (granted : Option Grant) → granted ≡ None → begins_anew granted done ≡ false → dialogue done config granted [] ≡ with_number not_connected Disconnected
 turned_by config job.Connect None none anew = absurd (cc)
 turned_by config (job.ReadArea item) None none anew = refl
 turned_by config (job.WriteArea item octets) None none anew = refl
@@ -150,7 +150,7 @@ over_by config done found codes (stage.Asking asked left from is_first) end e = 
 over_by config done found codes stage.Leaving end e = absurd (cc)
 over_by config done found codes (stage.Over code leaves) end e = tt
 
-shut_by : (config : Config) (done : Job) (found codes : List ℕ) (s : Stage) → next_by config done found codes s ≡ with_number NOT_CONNECTED Disconnected → LeavesOpen s → ⊥
+shut_by : (config : Config) (done : Job) (found codes : List ℕ) (s : Stage) → next_by config done found codes s ≡ with_number not_connected Disconnected → LeavesOpen s → ⊥
 shut_by config done found codes stage.Opening e h = h
 shut_by config done found codes (stage.Asking asked left from is_first) e h = h
 shut_by config done found codes stage.Leaving e h = h

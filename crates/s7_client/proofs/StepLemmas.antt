@@ -5,9 +5,9 @@ use Rattle.std.proofs.lemmas.List.{append-nil}
 use Rattle.s7_tpkt.specs.Packets.{HoldsRest, packets_of, state_of, GoesOn, EndsPacket}
 use Rattle.s7_tpkt.specs.declared.state.FedState.{FedState}
 use Rattle.s7_tpkt.specs.declared.state.FedState.TheVariants as fed
-use Rattle.s7_client.specs.declared.codes.TheConstants.{BAD_PACKET}
+use Rattle.s7_client.specs.Codes.{bad_packet}
 use Rattle.s7_cotp.specs.Gathered.{is_fault}
-use Rattle.s7_wire.specs.Bounds.{limit_of_size}
+use Rattle.s7_wire.specs.Bounds.{limit_of_size, most_packets}
 use Rattle.s7_client.specs.declared.config.Config.{Config}
 use Rattle.s7_client.specs.declared.job.Job.{Job}
 use Rattle.s7_client.specs.declared.talk.Talk.{Talk}
@@ -185,7 +185,7 @@ left_over (stage.Asking asked left from is_first) h = h
 left_over stage.Leaving h = h
 left_over (stage.Over code leaves) h = tt
 
-less_whole : (fresh now before out out' : ℕ) → fresh < before → now ≡ fresh → out ≡ 0 → out' ≤ 1016 → now * 2048 + out' < before * 2048 + out
+less_whole : (fresh now before out out' : ℕ) → fresh < before → now ≡ fresh → out ≡ 0 → out' ≤ most_packets → now * 2048 + out' < before * 2048 + out
 less_whole fresh now before out out' less same none few = omega (arith, less, same, none, few)
 
 sent_cases : (origin : Origin) (b w : List ℕ) (bodies : List (List ℕ)) (body : List ℕ) → (course origin b ≡ packets_run origin b) → (course origin b).out ≡ w
@@ -268,6 +268,6 @@ pub bad_not_whole : (state : FedState) → (state ≡ fed.BadVersion) ⊎ (state
 bad_not_whole state (inl e) f = cc
 bad_not_whole state (inr e) f = cc
 
-pub bad_faults : (c : Course) (state : FedState) → (state ≡ fed.BadVersion) ⊎ (state ≡ fed.BadLength) → by_state c state ≡ with_fault c BAD_PACKET
+pub bad_faults : (c : Course) (state : FedState) → (state ≡ fed.BadVersion) ⊎ (state ≡ fed.BadLength) → by_state c state ≡ with_fault c bad_packet
 bad_faults c state (inl e) = ap (by_state c) e
 bad_faults c state (inr e) = ap (by_state c) e

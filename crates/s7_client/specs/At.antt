@@ -2,7 +2,7 @@
 use Rattle.std.specs.Prelude.{◌≡◌, ℕ, ◌+◌, ◌-◌, ◌*◌, ◌<◌, ◌≤◌, false, [], ◌++◌, length}
 use Rattle.s7_cotp.specs.Gathered.{Gathered, is_fault}
 use Rattle.s7_cotp.specs.Messages.{open_octets}
-use Rattle.s7_wire.specs.Bounds.{first_limit, limit_of_size}
+use Rattle.s7_wire.specs.Bounds.{first_limit, limit_of_size, most_packets}
 use Rattle.s7_client.specs.declared.grant.Leaves.{Leaves}
 use Rattle.s7_client.specs.declared.grant.Leaves.TheVariants as leaving
 use Rattle.s7_client.specs.declared.running.Stage.{Stage}
@@ -77,7 +77,7 @@ budget stage fragments held = answers_left stage * octets_of_message - (fragment
 -- what a packet leaves, whatever the course
 pub record Settles (t : Talk) (u : UnderWay) : Type 0 where
   pub going : (IsOver u.running.stage → ⊥) → is_fault t.joiner.state ≡ false
-  pub few : length t.outbox.unsent ≤ 1016
+  pub few : length t.outbox.unsent ≤ most_packets
   pub quiet : IsOver u.running.stage → t.outbox.unsent ≡ []
   pub clear : LeavesOpen u.running.stage → IsClear t.joiner
   pub opening : IsOpening u.running.stage → IsClear t.joiner

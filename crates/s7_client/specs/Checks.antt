@@ -7,7 +7,7 @@ use Rattle.s7_item.specs.Item.{octet_count}
 use Rattle.s7_split.specs.Parts.{range_end}
 use Rattle.s7_split.specs.Groups.{packed_of}
 use Rattle.s7_split.specs.declared.packing.PackFault.{PackFault}
-use Rattle.s7_client.specs.declared.codes.TheConstants.{GOOD, INVALID_PARAMETERS, TOO_MANY_ITEMS, INVALID_WORD, OVER_PDU}
+use Rattle.s7_client.specs.Codes.{no_fault, invalid_parameters, too_many_items, invalid_word, over_pdu}
 
 abbrev pub is_known : Item → Bool
 is_known item = is_some (size_of item.word)
@@ -23,20 +23,20 @@ octet_count_of [] = 0
 octet_count_of (item ∷ items) = octet_count item + octet_count_of items
 
 abbrev pub pack_check : Result Unit PackFault → ℕ
-pack_check (Ok packed) = GOOD
-pack_check (Err fault) = OVER_PDU
+pack_check (Ok packed) = no_fault
+pack_check (Err fault) = over_pdu
 
 -- of a read or write of one item
 abbrev pub check_item : Item → Bool → ℕ
 check_item item has_octets =
-    if not (is_known item) then INVALID_WORD
-    else (if not (is_placed item && has_octets) then INVALID_PARAMETERS
-    else GOOD)
+    if not (is_known item) then invalid_word
+    else (if not (is_placed item && has_octets) then invalid_parameters
+    else no_fault)
 
 -- of a read or write of several
 abbrev pub check_items : List Item → Bool → ℕ → Bool → ℕ
 check_items items has_octets pdu write =
-    if nat_lt 20 (length items) then TOO_MANY_ITEMS
-    else (if not (list_all is_known items) then INVALID_WORD
-    else (if not (list_all is_placed items && has_octets) then INVALID_PARAMETERS
+    if nat_lt 20 (length items) then too_many_items
+    else (if not (list_all is_known items) then invalid_word
+    else (if not (list_all is_placed items && has_octets) then invalid_parameters
     else pack_check (packed_of pdu write items)))

@@ -16,7 +16,7 @@ use Rattle.s7_client.specs.declared.config.Config.{Config}
 use Rattle.s7_client.specs.declared.job.Job.{Job}
 use Rattle.s7_client.specs.declared.job.Job.TheVariants as job
 use Rattle.s7_client.specs.declared.grant.Grant.{Grant}
-use Rattle.s7_client.specs.declared.codes.TheConstants.{NOT_CONNECTED, LINK_ENDED, BAD_PACKET, SHORT_MESSAGE, TOO_MANY_FRAGMENTS, TOO_LONG, INVALID_ANSWER}
+use Rattle.s7_client.specs.Codes.{not_connected, link_ended, bad_packet, short_message, message_too_fragmented, message_too_long, invalid_answer}
 use Rattle.s7_client.specs.Question.{Question, question_octets}
 use Rattle.s7_client.specs.Answer.{Answer, confirms, answer_of}
 use Rattle.s7_client.specs.Dialogue.{Telegram, connect_request, numbered, disconnect_request, End, Next, sends, ends, fault_end, dialogue}
@@ -136,13 +136,13 @@ abbrev pub with_fault : Course → ℕ → Course
 with_fault course code = record course { awaits = for_nothing (fault_end code) [] }
 
 abbrev pub by_answer : Origin → Course → List ℕ → Option Answer → Course
-by_answer origin course message None = record course { awaits = for_nothing (fault_end INVALID_ANSWER) message }
+by_answer origin course message None = record course { awaits = for_nothing (fault_end invalid_answer) message }
 by_answer origin course message (Some answer) = with_answer origin course answer
 
 -- a whole message
 abbrev pub with_message : Origin → Course → Question → List ℕ → Course
 with_message origin course question message =
-    if nat_lt (length message) 10 then with_fault course SHORT_MESSAGE
+    if nat_lt (length message) 10 then with_fault course short_message
     else by_answer origin course message (answer_of question course.sequence message)
 
 abbrev pub by_joining : Origin → Course → Question → Step → Course
@@ -150,29 +150,29 @@ by_joining origin course question (more octets count) =
     record course { unfinished = record { octets = octets; count = count } }
 by_joining origin course question (whole message) =
     with_message origin (record course { unfinished = nothing_unfinished }) question message
-by_joining origin course question too_many_fragments = with_fault course TOO_MANY_FRAGMENTS
-by_joining origin course question too_long = with_fault course TOO_LONG
+by_joining origin course question too_many_fragments = with_fault course message_too_fragmented
+by_joining origin course question too_long = with_fault course message_too_long
 
 -- a TPDU where an answer is awaited: fragments, and a disconnect request ends the link
 abbrev pub connected : Origin → Course → Question → Result Told CotpFault → Course
 connected origin course question (Ok (fragment last user)) =
     by_joining origin course question
     (joined_with message_limit course.unfinished.octets course.unfinished.count (record { last = last; user = user }))
-connected origin course question (Ok (disconnect reason)) = with_fault course LINK_ENDED
-connected origin course question (Ok (connect c)) = with_fault course BAD_PACKET
-connected origin course question (Ok (confirm c)) = with_fault course BAD_PACKET
-connected origin course question (Ok (reject cause)) = with_fault course BAD_PACKET
-connected origin course question (Err fault) = with_fault course BAD_PACKET
+connected origin course question (Ok (disconnect reason)) = with_fault course link_ended
+connected origin course question (Ok (connect c)) = with_fault course bad_packet
+connected origin course question (Ok (confirm c)) = with_fault course bad_packet
+connected origin course question (Ok (reject cause)) = with_fault course bad_packet
+connected origin course question (Err fault) = with_fault course bad_packet
 
 -- a TPDU where the confirm is awaited
 abbrev pub confirming : Origin → Course → Result Told CotpFault → Course
 confirming origin course (Ok (confirm c)) =
     with_answer origin (record course { size = size_of_code c.size_code }) confirms
-confirming origin course (Ok (connect c)) = with_fault course NOT_CONNECTED
-confirming origin course (Ok (fragment last user)) = with_fault course NOT_CONNECTED
-confirming origin course (Ok (disconnect reason)) = with_fault course NOT_CONNECTED
-confirming origin course (Ok (reject cause)) = with_fault course NOT_CONNECTED
-confirming origin course (Err fault) = with_fault course BAD_PACKET
+confirming origin course (Ok (connect c)) = with_fault course not_connected
+confirming origin course (Ok (fragment last user)) = with_fault course not_connected
+confirming origin course (Ok (disconnect reason)) = with_fault course not_connected
+confirming origin course (Ok (reject cause)) = with_fault course not_connected
+confirming origin course (Err fault) = with_fault course bad_packet
 
 -- a packet with this body: a job that awaits no octets uses none
 abbrev pub by_awaits : Origin → Course → List ℕ → Awaits → Course
@@ -242,9 +242,9 @@ limits origin bodies = limit_in (run origin (begun origin) bodies)
 
 -- a packet that can't be one ends a job that isn't over
 abbrev pub by_state : Course → FedState → Course
-by_state course fed.BadVersion = with_fault course BAD_PACKET
-by_state course fed.BadLength = with_fault course BAD_PACKET
-by_state course fed.TooLong = with_fault course TOO_LONG
+by_state course fed.BadVersion = with_fault course bad_packet
+by_state course fed.BadLength = with_fault course bad_packet
+by_state course fed.TooLong = with_fault course message_too_long
 by_state course fed.More = course
 by_state course fed.Whole = course
 

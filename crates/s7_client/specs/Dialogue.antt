@@ -3,7 +3,7 @@
 use Rattle.std.specs.Prelude.{ℕ, ◌+◌, true, false, ◌==◌, ◌||◌, nat_lt, min, max, List, [], ◌∷◌, length, take, drop, map, slice_get, Option, None, Some, if◌then◌else◌}
 use Rattle.std.specs.List.{flat_map}
 use Rattle.s7_header.specs.declared.negotiation.Negotiation.{Negotiation}
-use Rattle.s7_header.specs.declared.negotiation.TheConstants.{LEAST_PDU}
+use Rattle.s7_header.specs.Negotiation.{least_pdu}
 use Rattle.s7_item.specs.declared.item.Item.{Item}
 use Rattle.s7_item.specs.Item.{octet_count}
 use Rattle.s7_split.specs.Parts.{parts_of}
@@ -14,7 +14,7 @@ use Rattle.s7_client.specs.declared.grant.Leaves.{Leaves}
 use Rattle.s7_client.specs.declared.grant.Leaves.TheVariants.{AsItWas, Connected, Disconnected, Closed}
 use Rattle.s7_client.specs.declared.job.Job.{Job}
 use Rattle.s7_client.specs.declared.job.Job.TheVariants as job
-use Rattle.s7_client.specs.declared.codes.TheConstants.{GOOD, NOT_CONNECTED, NEGOTIATION_FAILED, PARTLY_WRITTEN}
+use Rattle.s7_client.specs.Codes.{no_fault, not_connected, negotiation_failed, partly_written}
 use Rattle.s7_client.specs.Question.{Question, negotiates, reads, writes}
 use Rattle.s7_client.specs.Answer.{Answer, confirms, grants, tells, notes, refuses, departed, ItemAnswer}
 use Rattle.s7_client.specs.Refusals.{telegram_refusal, part_refusal}
@@ -52,21 +52,21 @@ fault_end code = record { code = code; octets = []; codes = []; leaves = Closed 
 -- the grant that is taken: a PDU from 64 to the one asked for, and jobs up to those asked for
 abbrev pub taken_grant : Config → Negotiation → Option Grant
 taken_grant config n =
-    if nat_lt n.pdu LEAST_PDU || nat_lt config.pdu n.pdu then None
+    if nat_lt n.pdu least_pdu || nat_lt config.pdu n.pdu then None
     else Some (record { pdu = n.pdu; jobs = max 1 (min (min n.calling n.called) config.jobs) })
 
 abbrev pub by_grant : Option Grant → Next
-by_grant None = with_number NEGOTIATION_FAILED Closed
-by_grant (Some granted) = with_number GOOD (Connected granted)
+by_grant None = with_number negotiation_failed Closed
+by_grant (Some granted) = with_number no_fault (Connected granted)
 
 -- what the negotiation is answered
 abbrev pub negotiated : Config → Answer → Next
 negotiated config (grants n) = by_grant (taken_grant config n)
-negotiated config (refuses error) = with_number NEGOTIATION_FAILED Closed
-negotiated config confirms = with_number NEGOTIATION_FAILED Closed
-negotiated config (tells items) = with_number NEGOTIATION_FAILED Closed
-negotiated config (notes codes) = with_number NEGOTIATION_FAILED Closed
-negotiated config departed = with_number NEGOTIATION_FAILED Closed
+negotiated config (refuses error) = with_number negotiation_failed Closed
+negotiated config confirms = with_number negotiation_failed Closed
+negotiated config (tells items) = with_number negotiation_failed Closed
+negotiated config (notes codes) = with_number negotiation_failed Closed
+negotiated config departed = with_number negotiation_failed Closed
 
 abbrev pub asked_by : Config → Negotiation
 asked_by config = record { calling = config.jobs; called = config.jobs; pdu = config.pdu }
@@ -79,7 +79,7 @@ connecting config (first ∷ answer ∷ answers) = negotiated config answer
 
 -- the end of a link that the client leaves
 abbrev pub departed_end : End
-departed_end = record { code = GOOD; octets = []; codes = []; leaves = Disconnected }
+departed_end = record { code = no_fault; octets = []; codes = []; leaves = Disconnected }
 
 -- a disconnect request, and the job ends once it was transmitted
 abbrev pub disconnecting : List Answer → Next
@@ -124,7 +124,7 @@ abbrev pub plain_number : ℕ → ℕ → ℕ
 plain_number place number = number
 
 abbrev pub write_number : ℕ → ℕ → ℕ
-write_number place number = if place == 0 then number else PARTLY_WRITTEN
+write_number place number = if place == 0 then number else partly_written
 
 -- what answers tell of items
 abbrev pub items_told : Answer → List ItemAnswer
@@ -152,7 +152,7 @@ abbrev pub codes_told : List Answer → List ℕ
 codes_told answers = flat_map codes_in answers
 
 abbrev pub all_read : List ℕ → List ℕ → Next
-all_read octets codes = ends (record { code = GOOD; octets = octets; codes = codes; leaves = AsItWas })
+all_read octets codes = ends (record { code = no_fault; octets = octets; codes = codes; leaves = AsItWas })
 
 -- each item alone
 abbrev pub alone : List Item → List (List Item)
@@ -161,11 +161,11 @@ alone items = map (λ item. item ∷ []) items
 -- ---- each job, once it was checked
 
 abbrev pub if_good : ℕ → Next → Next
-if_good check next = if check == 0 then next else with_number check AsItWas
+if_good check next = if check == no_fault then next else with_number check AsItWas
 
 -- the dialogue of each job on a connected client
 abbrev pub conversing : Job → Config → Grant → List Answer → Next
-conversing job.Connect config granted answers = with_number GOOD AsItWas
+conversing job.Connect config granted answers = with_number no_fault AsItWas
 conversing (job.ReadArea item) config granted answers =
     if_good (check_item item true)
     (asking (read_questions (alone (parts_of item granted.pdu false))) plain_number
@@ -186,11 +186,11 @@ conversing job.Disconnect config granted answers = disconnecting answers
 
 abbrev pub unconnected : Job → Config → List Answer → Next
 unconnected job.Connect config answers = connecting config answers
-unconnected (job.ReadArea item) config answers = with_number NOT_CONNECTED Disconnected
-unconnected (job.WriteArea item octets) config answers = with_number NOT_CONNECTED Disconnected
-unconnected (job.ReadMany items) config answers = with_number NOT_CONNECTED Disconnected
-unconnected (job.WriteMany items octets) config answers = with_number NOT_CONNECTED Disconnected
-unconnected job.Disconnect config answers = with_number NOT_CONNECTED Disconnected
+unconnected (job.ReadArea item) config answers = with_number not_connected Disconnected
+unconnected (job.WriteArea item octets) config answers = with_number not_connected Disconnected
+unconnected (job.ReadMany items) config answers = with_number not_connected Disconnected
+unconnected (job.WriteMany items octets) config answers = with_number not_connected Disconnected
+unconnected job.Disconnect config answers = with_number not_connected Disconnected
 
 -- THE DIALOGUE of a job by what was granted before it and the answers so far, in the order of their
 -- telegrams: the telegram that may be sent now, or the end

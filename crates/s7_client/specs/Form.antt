@@ -6,6 +6,8 @@ use Rattle.s7_item.specs.Item.{octet_count}
 use Rattle.s7_client.specs.declared.grant.Grant.{Grant}
 use Rattle.s7_client.specs.declared.job.Job.{Job}
 use Rattle.s7_client.specs.declared.job.Job.TheVariants as job
+use Rattle.s7_header.specs.Negotiation.{least_pdu}
+use Rattle.s7_client.specs.Codes.{no_fault}
 use Rattle.s7_client.specs.Answer.{Answer, departed}
 use Rattle.s7_client.specs.Dialogue.{End, ends, fault_end, dialogue}
 use Rattle.s7_client.specs.Course.{Origin, for_departure, for_nothing, course}
@@ -35,12 +37,13 @@ FormOf job.Disconnect octets codes = (octets ≡ []) × (codes ≡ [])
 -- the end has the form of the job where it came off, and else neither octets nor codes
 abbrev pub HasForm : Job → End → Type 0
 HasForm job end =
-    (end.code ≡ 0 → FormOf job end.octets end.codes) × (end.code ≢ 0 → (end.octets ≡ []) × (end.codes ≡ []))
+    (end.code ≡ no_fault → FormOf job end.octets end.codes)
+    × (end.code ≢ no_fault → (end.octets ≡ []) × (end.codes ≡ []))
 
 -- a read of one item has as many octets as the item
 abbrev pub IsWhole : Job → End → Type 0
 IsWhole job.Connect end = Unit {0}
-IsWhole (job.ReadArea item) end = end.code ≡ 0 → length end.octets ≡ octet_count item
+IsWhole (job.ReadArea item) end = end.code ≡ no_fault → length end.octets ≡ octet_count item
 IsWhole (job.WriteArea item written) end = Unit {0}
 IsWhole (job.ReadMany items) end = Unit {0}
 IsWhole (job.WriteMany items written) end = Unit {0}
@@ -53,7 +56,7 @@ pub record EndsHaveForm : Type 0 where
       → (course origin b).awaits ≡ for_nothing end carried → HasForm origin.job end
   -- and where a PDU of at least 64 was granted, one item is read whole
   pub whole : (origin : Origin) (b : List ℕ) (end : End) (carried : List ℕ)
-      → ForSome origin.granted (λ (grant : Grant). 64 ≤ grant.pdu)
+      → ForSome origin.granted (λ (grant : Grant). least_pdu ≤ grant.pdu)
       → (course origin b).awaits ≡ for_nothing end carried → IsWhole origin.job end
   -- the end once a disconnect request was transmitted, which only a disconnect transmits
   pub departure : (origin : Origin) (b : List ℕ) (answers : List Answer) (end : End)
@@ -61,4 +64,4 @@ pub record EndsHaveForm : Type 0 where
       → dialogue origin.job origin.config origin.granted (answers ++ departed ∷ []) ≡ ends end
       → (origin.job ≡ job.Disconnect) × HasForm origin.job end
   -- the end by a fault of the link
-  pub fault : (done : Job) (code : ℕ) → code ≢ 0 → HasForm done (fault_end code)
+  pub fault : (done : Job) (code : ℕ) → code ≢ no_fault → HasForm done (fault_end code)

@@ -11,6 +11,7 @@ use Rattle.s7_client.specs.declared.answer.Asked.{Asked}
 use Rattle.s7_client.specs.declared.answer.Asked.TheVariants as asked
 use Rattle.s7_client.specs.declared.running.Stage.{Stage}
 use Rattle.s7_client.specs.declared.running.Stage.TheVariants as stage
+use Rattle.s7_client.specs.Codes.{no_fault}
 use Rattle.s7_client.specs.Question.{Question}
 use Rattle.s7_client.specs.Answer.{Answer}
 use Rattle.s7_client.specs.Checks.{octet_count_of}
@@ -109,4 +110,4 @@ Moves write groups from first (stage.Asking (asked.Read items) left at is_first)
 Moves write groups from first (stage.Asking (asked.Write items) left at is_first) =
     (write ≡ true) × (groups ≡ items ∷ groups_left left) × (at ≡ from) × (is_first ≡ first)
 Moves write groups from first stage.Leaving = ⊥
-Moves write groups from first (stage.Over code leaves) = (groups ≡ []) × (code ≡ 0) × (leaves ≡ AsItWas)
+Moves write groups from first (stage.Over code leaves) = (groups ≡ []) × (code ≡ no_fault) × (leaves ≡ AsItWas)

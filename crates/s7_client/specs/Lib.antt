@@ -1,3 +1,4 @@
+pub mod Codes
 pub mod Question
 pub mod Answer
 pub mod DataItems

@@ -10,11 +10,11 @@ use Rattle.s7_client.specs.declared.job.Polled.TheVariants as polled
 use Rattle.s7_client.specs.declared.grant.Grant.{Grant}
 use Rattle.s7_client.specs.declared.grant.Leaves.{Leaves}
 use Rattle.s7_client.specs.declared.grant.Leaves.TheVariants as leaving
-use Rattle.s7_client.specs.declared.codes.TheConstants.{TIMED_OUT}
+use Rattle.s7_client.specs.Codes.{timed_out}
 use Rattle.s7_client.specs.declared.under_way.UnderWay.{UnderWay}
 use Rattle.s7_client.specs.declared.client.Client.{Client}
 use Rattle.s7_cotp.specs.Gathered.{empty}
-use Rattle.s7_wire.specs.Bounds.{first_limit, message_limit, size_of_code}
+use Rattle.s7_wire.specs.Bounds.{first_limit, message_limit, size_of_code, most_packets}
 use Rattle.s7_client.specs.declared.line.Line.{Line}
 use Rattle.s7_client.specs.declared.running.Running.{Running}
 use Rattle.s7_client.specs.Dialogue.{End, ends, fault_end}
@@ -111,7 +111,7 @@ pub record IsByPatience (origin : Origin) (link link' : Shown) (kept : List ℕ)
   pub rose : Rose link.waits link'.waits
   pub met : HasMetNotYet origin kept link' b written
   pub under_way : IsUnderWay origin b written
-  pub fault : IsFault TIMED_OUT end carried
+  pub fault : IsFault timed_out end carried
 
 -- why a job is done
 abbrev pub IsDoneBy : Origin → Shown → Shown → List ℕ → End → List ℕ → List ℕ → List ℕ → Option ℕ → Type 0
@@ -180,7 +180,7 @@ pub record IsNew (l : Line) : Type 0 where
 pub record BeginsLine (l l' : Line) (r : Running) (config : Config) : Type 0 where
   pub sent : unsent l' ≡ octets_of config l.talk.size l'.talk.sequence (next_of config r)
   pub sequence : l'.talk.sequence ≡ sequence_by l.talk.sequence (next_of config r)
-  pub few : length (unsent l') ≤ 1016
+  pub few : length (unsent l') ≤ most_packets
   pub size : l'.talk.size ≡ l.talk.size
   pub joiner : l'.talk.joiner ≡ l.talk.joiner
   pub inbox : l'.inbox ≡ l.inbox
@@ -195,7 +195,7 @@ pub record Waits (u u' : UnderWay) (polls : ℕ) (goes_on : Bool) : Type 0 where
   pub same : goes_on ≡ true → u' ≡ record u { waited = u.waited + 1 }
   pub patient : goes_on ≡ true → u.waited + 1 < polls
   pub last : goes_on ≡ false → u.waited + 1 ≡ polls
-  pub fails : goes_on ≡ false → (config : Config) → next_of config u'.running ≡ ends (fault_end TIMED_OUT)
+  pub fails : goes_on ≡ false → (config : Config) → next_of config u'.running ≡ ends (fault_end timed_out)
   pub over : goes_on ≡ false → IsOver u'.running.stage
   pub job : u'.running.job ≡ u.running.job
   pub carried : u'.carried ≡ u.carried

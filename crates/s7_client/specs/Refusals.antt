@@ -1,28 +1,28 @@
 -- The numbers of errors that refusals end a job with (Snap7 1.4 sources, `CpuError`).
 use Rattle.std.specs.Prelude.{ℕ, ◌==◌, ◌||◌, [], ◌∷◌, Option, None, Some, if◌then◌else◌}
-use Rattle.s7_client.specs.declared.codes.TheConstants.{OVER_PDU, OUT_OF_RANGE, INVALID_TRANSPORT, SIZE_MISMATCH, NOT_AVAILABLE, INVALID_VALUE, NO_SUCH_FUNCTION, PASSWORD_NEEDED, WRONG_PASSWORD, NO_PASSWORD, REFUSED}
+use Rattle.s7_client.specs.Codes.{over_pdu, address_out_of_range, invalid_transport, size_mismatch, not_available, invalid_value, no_such_function, password_needed, wrong_password, no_password, refused_otherwise}
 use Rattle.s7_client.specs.Answer.{Answer, confirms, grants, tells, notes, refuses, departed}
 
 -- by the error word of a header
 abbrev pub number_of_error : ℕ → ℕ
 number_of_error error =
-    if error == 0x8500 then OVER_PDU
-    else (if error == 0xD209 then NOT_AVAILABLE
-    else (if error == 0xDC01 then INVALID_VALUE
-    else (if error == 0x8104 then NO_SUCH_FUNCTION
-    else (if error == 0xD241 then PASSWORD_NEEDED
-    else (if error == 0xD602 then WRONG_PASSWORD
-    else (if error == 0xD604 || error == 0xD605 then NO_PASSWORD
-    else REFUSED))))))
+    if error == 0x8500 then over_pdu
+    else (if error == 0xD209 then not_available
+    else (if error == 0xDC01 then invalid_value
+    else (if error == 0x8104 then no_such_function
+    else (if error == 0xD241 then password_needed
+    else (if error == 0xD602 then wrong_password
+    else (if error == 0xD604 || error == 0xD605 then no_password
+    else refused_otherwise))))))
 
 -- by the return code of an item
 abbrev pub number_of_code : ℕ → ℕ
 number_of_code code =
-    if code == 0x05 then OUT_OF_RANGE
-    else (if code == 0x06 then INVALID_TRANSPORT
-    else (if code == 0x07 then SIZE_MISMATCH
-    else (if code == 0x0A then NOT_AVAILABLE
-    else REFUSED)))
+    if code == 0x05 then address_out_of_range
+    else (if code == 0x06 then invalid_transport
+    else (if code == 0x07 then size_mismatch
+    else (if code == 0x0A then not_available
+    else refused_otherwise)))
 
 -- a return code that isn't FF
 abbrev pub code_refusal : ℕ → Option ℕ

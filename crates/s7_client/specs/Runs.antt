@@ -7,7 +7,7 @@ use Rattle.s7_client.specs.declared.config.Config.{Config}
 use Rattle.s7_client.specs.declared.job.Job.{Job}
 use Rattle.s7_client.specs.declared.job.JobResult.{JobResult}
 use Rattle.s7_client.specs.declared.grant.Grant.{Grant}
-use Rattle.s7_client.specs.declared.codes.TheConstants.{TIMED_OUT}
+use Rattle.s7_client.specs.Codes.{timed_out}
 use Rattle.s7_client.specs.declared.client.Client.{Client}
 use Rattle.s7_client.specs.Dialogue.{End}
 use Rattle.s7_client.specs.Running.{IsResult}
@@ -53,7 +53,7 @@ pub record IsTired (origin : Origin) (link link' : Shown) (kept : List ℕ) (end
   pub rose : RoseBy origin.config.polls link.waits link'.waits
   pub met : HasMetNotYet origin kept link' b written
   pub under_way : IsUnderWay origin b written
-  pub fault : IsFault TIMED_OUT end carried
+  pub fault : IsFault timed_out end carried
 
 -- One job from its start to its end, by the octets that it used and transmitted.
 pub record JobRun (config : Config) (before : Between) (asked : Job) (link link' : Shown) (told : JobResult) (after : Between) : Type 0 where

@@ -6,10 +6,10 @@ use Rattle.s7_outer.specs.Count.{Rose}
 use Rattle.s7_tpkt.specs.Packets.{HoldsRest, packets_of, state_of}
 use Rattle.s7_tpkt.specs.declared.state.FedState.TheVariants as fed
 use Rattle.s7_cotp.specs.Gathered.{is_fault}
-use Rattle.s7_wire.specs.Bounds.{limit_of_size}
+use Rattle.s7_wire.specs.Bounds.{limit_of_size, most_packets}
 use Rattle.s7_client.specs.declared.config.Config.{Config}
 use Rattle.s7_client.specs.declared.grant.Grant.{Grant}
-use Rattle.s7_client.specs.declared.codes.TheConstants.{LINK_ENDED, SEND_FAILED, RECEIVE_FAILED}
+use Rattle.s7_client.specs.Codes.{link_ended, send_failed, receive_failed}
 use Rattle.s7_client.specs.declared.line.Line.{Line}
 use Rattle.s7_client.specs.declared.under_way.UnderWay.{UnderWay}
 use Rattle.s7_client.specs.declared.steps.Step.{Step}
@@ -70,7 +70,7 @@ pub record Fits (l : Line) (u : UnderWay) : Type 0 where
   pub opening : IsOpening u.running.stage → IsClear l.talk.joiner
   pub between : LeavesOpen u.running.stage → IsBetween l
   pub many : (IsOver u.running.stage → ⊥) → l.talk.joiner.count ≤ 64
-  pub few : length (unsent l) ≤ 1016
+  pub few : length (unsent l) ≤ most_packets
   pub quiet : IsOver u.running.stage → unsent l ≡ []
   pub carried : u.carried.room ≡ 8192
 
@@ -105,13 +105,13 @@ pub record IsByEnd (origin : Origin) (link' : Shown) (kept : List ℕ) (end : En
   pub waiting : IsWaiting origin kept b written
   pub at_end : IsAtEnd link'.left
   pub has_ended : IsTrue link'.has_ended
-  pub fault : IsFault LINK_ENDED end carried
+  pub fault : IsFault link_ended end carried
 
 -- the link failed at a receive
 pub record IsByReceive (origin : Origin) (link link' : Shown) (kept : List ℕ) (end : End) (carried b written : List ℕ) : Type 0 where
   pub waiting : IsWaiting origin kept b written
   pub rose : Rose link.faults link'.faults
-  pub fault : IsFault RECEIVE_FAILED end carried
+  pub fault : IsFault receive_failed end carried
 
 -- the link failed at a transmit
 pub record IsBySend (origin : Origin) (link link' : Shown) (end : End) (carried b written : List ℕ) : Type 0 where
@@ -121,7 +121,7 @@ pub record IsBySend (origin : Origin) (link link' : Shown) (end : End) (carried 
   pub sent_first : SentFirst origin b written
   pub all_awaited : AllAwaited origin b
   pub rose : Rose link.faults link'.faults
-  pub fault : IsFault SEND_FAILED end carried
+  pub fault : IsFault send_failed end carried
 
 -- of these, by the octets that were read and are kept unused
 abbrev pub HasCause : Origin → Shown → Shown → List ℕ → End → List ℕ → List ℕ → List ℕ → Type 0

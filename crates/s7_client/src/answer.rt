@@ -7,9 +7,9 @@ ghost use Rattle.s7_client.specs.Answered.{IsTold};
 ghost use Rattle.s7_client.specs.Told.{IsAsked, TellsSome};
 
 use crate::data_items::are_answers;
-use crate::message::{READ, WRITE};
 use s7_header::{Header, Kind, Negotiation, parts, read_header, read_negotiate};
 use s7_item::Items;
+use s7_item::codes::{READ_FUNCTION, WRITE_FUNCTION};
 
 /// What an outstanding telegram asks, as far as its answer depends on it.
 #[derive(Drop)]
@@ -107,7 +107,7 @@ fn read_grant<'a>(params: &[u8], body: &[u8]) -> Option<Answer<'a>>
 fn read_data<'a>(items: &Items, params: &[u8], body: &'a [u8]) -> Option<Answer<'a>>
     ensures { IsTold (reads items.now) result (acknowledged (reads items.now) params.now body.now) }
 {
-    if counts_items(READ, items, params) && are_answers(items, body) {
+    if counts_items(READ_FUNCTION, items, params) && are_answers(items, body) {
         Some(Answer::Items(body))
     } else {
         None
@@ -120,7 +120,7 @@ fn read_codes<'a>(items: &Items, params: &[u8], body: &'a [u8]) -> Option<Answer
         → IsTold (writes items.now octets) result
         (acknowledged (writes items.now octets) params.now body.now) }
 {
-    if counts_items(WRITE, items, params) && body.len() == items.len() {
+    if counts_items(WRITE_FUNCTION, items, params) && body.len() == items.len() {
         Some(Answer::Codes(body))
     } else {
         None

@@ -6,17 +6,9 @@ ghost use Rattle.s7_split.specs.Groups.{groups_of, ends_of};
 ghost use Rattle.s7_client.specs.Checks.{is_known, is_placed, octet_count_of, check_item, check_items};
 
 use crate::codes::{GOOD, INVALID_PARAMETERS, INVALID_WORD, OVER_PDU, TOO_MANY_ITEMS};
+use s7_item::codes::{BIT, COUNTERS, TIMERS};
 use s7_item::{Item, MOST_ITEMS, size_of};
 use s7_split::{Groups, pack};
-
-/// The area of counters, which are addressed by number.
-const COUNTERS: u8 = 0x1C;
-
-/// The area of timers, which are addressed by number.
-const TIMERS: u8 = 0x1D;
-
-/// The word of bits.
-const BIT: u8 = 0x01;
 
 /// One more than the highest address.
 const ADDRESSES: u64 = 0x0100_0000;

@@ -2,17 +2,12 @@
 ghost use Rattle.std.specs.Prelude.{◌≡◌, ◌+◌, ◌≤◌, IsTrue, length, is_some, option_map};
 ghost use Rattle.s7_item.specs.Item.{octet_count};
 ghost use Rattle.s7_header.specs.Octets.{number_at};
-ghost use Rattle.s7_item.specs.DataItem.{stated_length, padding_of};
+ghost use Rattle.s7_item.specs.DataItem.{padding_of};
 ghost use Rattle.s7_client.specs.Answer.{begins_read, begins_refused, item_answers};
 ghost use Rattle.s7_client.specs.DataItems.{first_of, first_told};
 
-use s7_item::{Item, Items, transport_of};
-
-/// The code of an item that was read.
-const GOOD: u8 = 0xFF;
-
-/// The transport size of bits.
-const BITS: u8 = 0x03;
+use s7_item::codes::GOOD;
+use s7_item::{Item, Items, is_good, padding_of, stated_length, transport_of};
 
 /// The octets before those of an item: code, transport size and length.
 const HEAD: usize = 4;
@@ -74,7 +69,7 @@ fn begins_read(item: &Item, last: bool, octets: &[u8]) -> bool
     let count = item.octet_count();
     let transport = transport_of(item.word);
     octets.len() >= HEAD + count + padding_of(count, last)
-        && octets[0] == GOOD
+        && is_good(octets[0])
         && octets[1] == transport
         && stated_by(octets) == stated_length(transport, count)
 }
@@ -84,7 +79,7 @@ fn begins_refused(octets: &[u8]) -> bool
     ensures begins { result ≡ begins_refused octets.now }
     ensures fits { IsTrue result → 4 ≤ length octets.now }
 {
-    octets.len() >= HEAD && octets[0] != GOOD && octets[1] == 0x00 && stated_by(octets) == 0
+    octets.len() >= HEAD && !is_good(octets[0]) && octets[1] == 0x00 && stated_by(octets) == 0
 }
 
 // The length that a data item states.
@@ -93,26 +88,4 @@ fn stated_by(octets: &[u8]) -> usize
     ensures { result ≡ number_at octets.now 2 }
 {
     usize::from(u16::from_be_bytes([octets[2], octets[3]]))
-}
-
-// The length that is stated of so many octets: 1 for one octet of bits; else it counts bits for the
-// transport sizes 03, 04 and 05, and octets for 07 and 09.
-#[tactic(auto, unfolding(s7_item::specs::Word::counts_bits))]
-fn stated_length(transport: u8, len: usize) -> usize
-    requires { len ≤ 262140 }
-    ensures { result ≡ stated_length transport len }
-{
-    match transport {
-        BITS if len == 1 => 1,
-        BITS | 0x04 | 0x05 => 8 * len,
-        _ => len,
-    }
-}
-
-// How many octets pad the octets of an item, the last one or not.
-fn padding_of(len: usize, last: bool) -> usize
-    ensures padding { result ≡ padding_of len last }
-    ensures most { result ≤ 1 }
-{
-    if last { 0 } else { len % 2 }
 }

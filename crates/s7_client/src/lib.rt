@@ -33,12 +33,3 @@ pub use config::Config;
 pub use item_list::ItemList;
 pub use job::{Job, JobResult, Polled, StartCause, StartFault};
 pub use laws::{ends_have_form, telegrams_fit};
-
-#[cfg(test)]
-mod client_fault_tests;
-#[cfg(test)]
-mod client_tests;
-#[cfg(test)]
-mod test_client;
-#[cfg(test)]
-mod tests;

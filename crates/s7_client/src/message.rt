@@ -10,17 +10,9 @@ ghost use Rattle.s7_client.specs.Front.{job_front};
 ghost use Rattle.s7_client.specs.Checks.{octet_count_of, is_known};
 
 use s7_header::{Header, Kind, Negotiation, write_header, write_negotiate};
+use s7_item::codes::{READ_FUNCTION, REQUESTED, WRITE_FUNCTION};
 use s7_item::{Item, Items, request_size, write_data_item, write_items};
 use s7_outer::Buffer;
-
-/// The function of a job that reads items.
-pub(crate) const READ: u8 = 0x04;
-
-/// The function of a job that writes items.
-pub(crate) const WRITE: u8 = 0x05;
-
-/// The code that stands in the data items of a write.
-const REQUESTED: u8 = 0x00;
 
 /// The longest message that a client sends, in octets.
 pub(crate) const MOST_MESSAGE: usize = 960;
@@ -45,7 +37,7 @@ pub(crate) fn write_read(items: &Items, sequence: u16, message: &mut Buffer)
     ensures octets { message.new.octets ≡ question_octets sequence (reads items.now) }
     ensures room { message.new.room ≡ 960 }
 {
-    begin_items(READ, items, sequence, 0, message);
+    begin_items(READ_FUNCTION, items, sequence, 0, message);
 }
 
 /// Writes the write of these items, whose words are known, with the octets of all of them joined, as
@@ -61,7 +53,7 @@ pub(crate) fn write_write(items: &Items, octets: &[u8], sequence: u16, message: 
     ensures room { message.new.room ≡ 960 }
 {
     let data = request_size(items, true) - request_size(items, false);
-    begin_items(WRITE, items, sequence, data as u16, message);
+    begin_items(WRITE_FUNCTION, items, sequence, data as u16, message);
     add_data_items(items.as_slice(), octets, message);
 }
 

@@ -4,6 +4,7 @@ ghost use Rattle.s7_outer.specs.Numbers.{two_octets};
 ghost use Rattle.s7_cotp.specs.Told.{told_of, tsap_of, CanBeWrittenAgain, fragment};
 ghost use Rattle.s7_cotp.specs.declared.joining.Joined.{Joined};
 ghost use Rattle.s7_cotp.specs.Gathered.{is_fault};
+ghost use Rattle.s7_wire.specs.Bounds.{most_packets};
 ghost use Rattle.s7_client.specs.Question.{Question};
 ghost use Rattle.s7_client.specs.Dialogue.{sends, numbered};
 ghost use Rattle.s7_client.specs.Running.{next_of, IsAsking, IsOpening, answers_left};
@@ -40,7 +41,7 @@ impl Talk {
         requires sent { self.old.outbox.unsent ≡ [] }
         ensures unsent { self.new.outbox.unsent ≡ octets_of config.now self.old.size self.new.sequence (next_of config.now running.now) }
         ensures sequence { self.new.sequence ≡ sequence_by self.old.sequence (next_of config.now running.now) }
-        ensures most { length self.new.outbox.unsent ≤ 1016 }
+        ensures most { length self.new.outbox.unsent ≤ most_packets }
         ensures size { self.new.size ≡ self.old.size }
         ensures joiner { self.new.joiner ≡ self.old.joiner }
     {

@@ -13,6 +13,7 @@ use crate::config::Config;
 use crate::grant::{Grant, Leaves};
 use crate::job::{Job, JobResult, Polled, StartCause, StartFault};
 use crate::line::Line;
+use crate::message::MOST_MESSAGE;
 use crate::running::Running;
 use crate::steps::{Step, packet_limit};
 use crate::talk::Talk;
@@ -20,11 +21,8 @@ use crate::under_way::UnderWay;
 use s7_cotp::Joiner;
 use s7_outer::{Buffer, Link, Memory};
 use s7_tpkt::Cutter;
-use s7_wire::{Inbox, MOST_MESSAGE, Outbox};
+use s7_wire::{Inbox, MESSAGE_LIMIT, Outbox};
 use std::alloc::Global;
-
-/// How many octets a message has at most.
-const MESSAGE: usize = 8_192;
 
 /// The TPDU size that is asked for.
 const ASKED_SIZE: u16 = 1_024;
@@ -89,7 +87,7 @@ impl Client {
             Ok(running) => running,
             Err(job) => return Err(wants_memory(job)),
         };
-        let Ok(carried) = Buffer::new(alloc, MESSAGE) else {
+        let Ok(carried) = Buffer::new(alloc, MESSAGE_LIMIT) else {
             return Err(wants_memory(running.job));
         };
         let job = UnderWay {
@@ -273,7 +271,7 @@ impl Line {
             cutter: Cutter::new(),
             inbox: Inbox::new(),
             talk: Talk {
-                joiner: Joiner::new(alloc, MESSAGE)?,
+                joiner: Joiner::new(alloc, MESSAGE_LIMIT)?,
                 size: ASKED_SIZE,
                 sequence: 0,
                 message: Buffer::new(alloc, MOST_MESSAGE)?,

@@ -11,13 +11,7 @@ use crate::running::Stage;
 use crate::under_way::UnderWay;
 use s7_outer::{Got, Link, Sent};
 use s7_tpkt::FedState;
-use s7_wire::PIECE;
-
-/// The length that no packet passes before the confirm, and how much more than the TPDU size one may
-/// have after it.
-const FIRST_LIMIT: u16 = 8_199;
-
-const HEADERS: u16 = 7;
+use s7_wire::{FIRST_LIMIT, HEADERS, PIECE};
 
 /// What one step comes to.
 #[derive(Clone, Copy, Debug, PartialEq, Eq)]

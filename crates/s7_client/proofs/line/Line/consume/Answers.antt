@@ -1,7 +1,7 @@
 use Rattle.std.proofs.Common.{◌≡◌, ◌<◌, ◌++◌, length, take, refl, sym, ap, ◌∙◌, arith}
 use Rattle.std.proofs.lemmas.Grind.{common_steps}
 use Rattle.std.proofs.lemmas.List.{take-append-drop}
-use Rattle.s7_client.specs.declared.codes.TheConstants.{BAD_PACKET, TOO_LONG}
+use Rattle.s7_client.specs.Codes.{bad_packet, message_too_long}
 use Rattle.s7_client.specs.Course.{by_state}
 use Rattle.s7_client.proofs.FrontLemmas.{earliest_of}
 use Rattle.s7_client.proofs.StepLemmas.{consumes_more, consumes_fault, consumes_whole, more_not_whole, bad_not_whole, too_long_not_whole, bad_faults}
@@ -22,7 +22,7 @@ returns-in-BadVersion c =
     let used = take c.feed-fed.result.taken c.as_slice.result.now in
     let some : 0 < length used = grind (arith, common_steps) in
     let inbox : c.args.self.now.inbox ≡ used ++ c.advance.new.self = grind (arith, common_steps, take-append-drop) in
-    consumes_fault c.args.self.now _ c.args.job.now _ used c.args.config.now c.args.granted BAD_PACKET c.requires.fits c.requires.awaiting c.requires.sent some inbox refl
+    consumes_fault c.args.self.now _ c.args.job.now _ used c.args.config.now c.args.granted bad_packet c.requires.fits c.requires.awaiting c.requires.sent some inbox refl
     c.feed-fed.ensures.held c.feed-fed.ensures.limit (λ x. ap (by_state x) (sym c.feed-fed.ensures.state) ∙ bad_faults x c.feed-fed.result.state c.in-BadVersion.is)
     (λ limits b h. c.feed-fed.ensures.goes_on limits b h (bad_not_whole _ c.in-BadVersion.is))
     (earliest_of c.args.self.now.cutter.limit c.args.self.now.cutter.held c.as_slice.result.now c.feed-fed.result.taken c.feed-fed.ensures.taken c.feed-fed.ensures.earliest)
@@ -33,7 +33,7 @@ returns-in-TooLong c =
     let used = take c.feed-fed.result.taken c.as_slice.result.now in
     let some : 0 < length used = grind (arith, common_steps) in
     let inbox : c.args.self.now.inbox ≡ used ++ c.advance.new.self = grind (arith, common_steps, take-append-drop) in
-    consumes_fault c.args.self.now _ c.args.job.now _ used c.args.config.now c.args.granted TOO_LONG c.requires.fits c.requires.awaiting c.requires.sent some inbox refl
+    consumes_fault c.args.self.now _ c.args.job.now _ used c.args.config.now c.args.granted message_too_long c.requires.fits c.requires.awaiting c.requires.sent some inbox refl
     c.feed-fed.ensures.held c.feed-fed.ensures.limit (λ x. ap (by_state x) (sym c.feed-fed.ensures.state ∙ c.in-TooLong.is))
     (λ limits b h. c.feed-fed.ensures.goes_on limits b h (too_long_not_whole _ c.in-TooLong.is))
     (earliest_of c.args.self.now.cutter.limit c.args.self.now.cutter.held c.as_slice.result.now c.feed-fed.result.taken c.feed-fed.ensures.taken c.feed-fed.ensures.earliest)

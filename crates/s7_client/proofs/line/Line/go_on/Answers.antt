@@ -1,5 +1,5 @@
 use Rattle.std.proofs.Common.{refl, inl, inr}
-use Rattle.s7_client.specs.declared.codes.TheConstants.{LINK_ENDED, RECEIVE_FAILED}
+use Rattle.s7_client.specs.Codes.{link_ended, receive_failed}
 use Rattle.s7_client.proofs.LinkLemmas.{step_used, step_taken, step_waiting, step_broken, empty_of}
 use Rattle.s7_client.proofs.line.Line.go_on.Goals as goal
 
@@ -23,7 +23,7 @@ returns-in-NotYet g c =
 pub returns-in-Failed : goal.returns-in-Failed
 returns-in-Failed g c =
     let met = c.in-Failed.ensures.failed refl in
-    step_broken c.args.self.now c.refill.new.self c.args.job.now _ (g.L.Link.shows c.args.link.now) (g.L.Link.shows c.refill.new.line) c.args.config.now c.args.granted RECEIVE_FAILED c.requires.awaiting c.requires.sent
+    step_broken c.args.self.now c.refill.new.self c.args.job.now _ (g.L.Link.shows c.args.link.now) (g.L.Link.shows c.refill.new.line) c.args.config.now c.args.granted receive_failed c.requires.awaiting c.requires.sent
     (empty_of c.args.self.now.inbox c.is_empty.result c.is_empty.ensures c.if-not-is_empty.false) met.0
     c.refill.ensures.took c.refill.ensures.same c.refill.ensures.faults c.refill.ensures.waits c.fail.ensures.fails c.fail.ensures.over c.fail.ensures.job refl refl
     (λ origin b w waiting. inr (inr (inr (inl (record { waiting = waiting; rose = met.1; fault = (refl, refl) })))))
@@ -31,7 +31,7 @@ returns-in-Failed g c =
 pub returns-in-End : goal.returns-in-End
 returns-in-End g c =
     let met = c.in-End.ensures.end refl in
-    step_broken c.args.self.now c.refill.new.self c.args.job.now _ (g.L.Link.shows c.args.link.now) (g.L.Link.shows c.refill.new.line) c.args.config.now c.args.granted LINK_ENDED c.requires.awaiting c.requires.sent
+    step_broken c.args.self.now c.refill.new.self c.args.job.now _ (g.L.Link.shows c.args.link.now) (g.L.Link.shows c.refill.new.line) c.args.config.now c.args.granted link_ended c.requires.awaiting c.requires.sent
     (empty_of c.args.self.now.inbox c.is_empty.result c.is_empty.ensures c.if-not-is_empty.false) met.0
     c.refill.ensures.took c.refill.ensures.same c.refill.ensures.faults c.refill.ensures.waits c.fail-in-End.ensures.fails c.fail-in-End.ensures.over c.fail-in-End.ensures.job refl refl
     (λ origin b w waiting. inr (inr (inl (record { waiting = waiting; at_end = met.1; has_ended = met.2; fault = (refl, refl) }))))

@@ -1,5 +1,5 @@
 use Rattle.std.proofs.Common.{◌≡◌, arith, refl, ap, sym, ◌∙◌, subst}
-use Rattle.s7_client.specs.declared.codes.TheConstants.{TOO_MANY_FRAGMENTS, TOO_LONG}
+use Rattle.s7_client.specs.Codes.{message_too_fragmented, message_too_long}
 use Rattle.s7_cotp.specs.Messages.{Step, Fragment, whole, joined_with}
 use Rattle.s7_cotp.specs.Gathered.{is_fault}
 use Rattle.s7_wire.specs.Bounds.{message_limit}
@@ -32,10 +32,10 @@ returns-in-Whole-clause-reaches c = λ origin course question ec eg at awaits.
 
 pub returns-in-TooManyFragments-clause-takes : goal.returns-in-TooManyFragments-clause-takes
 returns-in-TooManyFragments-clause-takes c =
-    takes_fault c.args.config.now TOO_MANY_FRAGMENTS c.args.self.now _ c.args.job.now _ (asking_awaits _ c.requires.asking) (c.fail.ensures.fails c.args.config.now) c.fail.ensures.over c.requires.sent
+    takes_fault c.args.config.now message_too_fragmented c.args.self.now _ c.args.job.now _ (asking_awaits _ c.requires.asking) (c.fail.ensures.fails c.args.config.now) c.fail.ensures.over c.requires.sent
     (omega (arith, fault_count c.args.self.now.joiner c.add.new.self _ c.requires.going c.args.self.now.joins c.add.ensures.value (ap is_fault (sym c.add.ensures.answer ∙ c.in-TooManyFragments.is))))
 
 pub returns-in-TooLong-clause-takes : goal.returns-in-TooLong-clause-takes
 returns-in-TooLong-clause-takes c =
-    takes_fault c.args.config.now TOO_LONG c.args.self.now _ c.args.job.now _ (asking_awaits _ c.requires.asking) (c.fail-in-TooLong.ensures.fails c.args.config.now) c.fail-in-TooLong.ensures.over c.requires.sent
+    takes_fault c.args.config.now message_too_long c.args.self.now _ c.args.job.now _ (asking_awaits _ c.requires.asking) (c.fail-in-TooLong.ensures.fails c.args.config.now) c.fail-in-TooLong.ensures.over c.requires.sent
     (omega (arith, fault_count c.args.self.now.joiner c.add.new.self _ c.requires.going c.args.self.now.joins c.add.ensures.value (ap is_fault (sym c.add.ensures.answer ∙ c.in-TooLong.is))))

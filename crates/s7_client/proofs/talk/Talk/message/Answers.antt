@@ -1,7 +1,7 @@
 use Rattle.std.proofs.Common.{◌≡◌, Bool, false, cond, length, arith, ap, sym, ◌∙◌, subst}
 use Rattle.std.specs.Prelude.{Option, Some, nat_lt}
 use Rattle.std.proofs.lemmas.Bool.Decides.{nat_tests}
-use Rattle.s7_client.specs.declared.codes.TheConstants.{SHORT_MESSAGE}
+use Rattle.s7_client.specs.Codes.{short_message}
 use Rattle.s7_client.specs.declared.under_way.UnderWay.{UnderWay}
 use Rattle.s7_client.specs.Answer.{Answer, answer_of}
 use Rattle.s7_client.specs.Running.{next_of}
@@ -26,7 +26,7 @@ returns-in-Some-clause-reaches c = λ origin course question ec eg at awaits.
     let job : UnderWay = record c.args.job.now { running = c.take.new.self } in
     let long : nat_lt (length m) 10 ≡ false = grind (arith, nat_tests, c.if-message-lt-LEAST_MESSAGE.false, c.message-message.ensures) in
     let P : Option Answer → Type 0 = λ o. Reaches origin course (by_answer origin course m o) c.put_telegram.new.self job in
-    let Q : Bool → Type 0 = λ b. Reaches origin course (cond b (with_fault course SHORT_MESSAGE) (by_answer origin course m (answer_of question course.sequence m))) c.put_telegram.new.self job in
+    let Q : Bool → Type 0 = λ b. Reaches origin course (cond b (with_fault course short_message) (by_answer origin course m (answer_of question course.sequence m))) c.put_telegram.new.self job in
     subst Q (sym long) (subst P (sym read)
     (reached_with origin course c.args.self.now c.put_telegram.new.self c.args.job.now job x c.args.config.now c.args.granted
     ec eg c.take.ensures.job at.job (put.size ∙ at.size) at.sequence (ap unfinished_of put.joiner ∙ at.unfinished going)

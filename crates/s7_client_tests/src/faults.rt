@@ -1,9 +1,9 @@
-use crate::test_client::{
+use crate::steps::{
     ASKED, Ask, CONFIRM, CONNECT, DISCONNECT, FOUR, FRAGMENT, GRANTED, READ, READ_AGAIN_ANSWER,
     READ_ANSWER, Row, SETUP, Step, all_end, client, connect_fails, does_in_pieces, ends,
-    has_written, holds_in_pieces, joined, link, read_fails,
+    has_written, holds_in_pieces, joined, link, polled, read_fails, starts,
 };
-use crate::{Client, Config, Job, Polled, StartCause};
+use s7_client::{Client, Config, Job, Polled, StartCause};
 use s7_item::Item;
 use s7_outer::{FailingLink, Fate, Got, Link, MemoryLink, Octets, PipeEnd, Pipes, Sent, Side};
 use std::alloc::Global;
@@ -309,6 +309,17 @@ fn a_link_without_room_fails(rt: HostRuntime) -> Result<(), Fail> {
     Ok(())
 }
 
+/// A second job is handed back while the first is outstanding.
+fn is_pending(alloc: Global, client: &mut Client) -> bool {
+    match client.start(alloc, Job::ReadArea { item: FOUR }) {
+        Ok(()) => false,
+        Err(fault) => {
+            fault.cause == StartCause::Pending
+                && matches!(fault.job, Job::ReadArea { item } if item == FOUR)
+        }
+    }
+}
+
 #[test]
 fn a_client_waits_so_often(rt: HostRuntime) -> Result<(), Fail> {
     let alloc = rt.alloc();
@@ -322,21 +333,16 @@ fn a_client_waits_so_often(rt: HostRuntime) -> Result<(), Fail> {
         pipes: &mut pipes,
         side: Side::Client,
     };
-    assert!(rt; matches!(client.poll(&mut end), Polled::Idle));
-    assert!(rt; client.start(alloc, Job::Connect).is_ok());
-    assert!(rt; matches!(client.poll(&mut end), Polled::Pending));
-    let read = Job::ReadArea { item: FOUR };
-    let Err(fault) = client.start(alloc, read) else {
-        return Err(Fail::from("two jobs"));
-    };
-    assert!(rt; fault.cause == StartCause::Pending);
-    assert!(rt; matches!(fault.job, Job::ReadArea { item } if item == FOUR));
-    let Polled::Done(result) = client.poll(&mut end) else {
+    assert!(rt; matches!(polled(&mut client, &mut end), Polled::Idle));
+    assert!(rt; starts(alloc, &mut client, Job::Connect));
+    assert!(rt; matches!(polled(&mut client, &mut end), Polled::Pending));
+    assert!(rt; is_pending(alloc, &mut client));
+    let Polled::Done(result) = polled(&mut client, &mut end) else {
         return Err(Fail::from("no result"));
     };
     assert!(rt; matches!(result.job, Job::Connect) && result.code == 0x0200_0000);
     assert!(rt; client.closed() && client.granted().is_none());
-    assert!(rt; matches!(client.poll(&mut end), Polled::Idle));
+    assert!(rt; matches!(polled(&mut client, &mut end), Polled::Idle));
     assert!(rt; pipes.held(Side::Server) == 22);
     Ok(())
 }
@@ -348,13 +354,13 @@ fn a_job_goes_on_when_octets_come(rt: HostRuntime) -> Result<(), Fail> {
     let mut pipes = Pipes::new(alloc, 16, 7)?;
     let mut read = Vec::new(alloc);
     let mut input = joined(alloc, &[CONFIRM, GRANTED])?;
-    assert!(rt; client.start(alloc, Job::Connect).is_ok());
+    assert!(rt; starts(alloc, &mut client, Job::Connect));
     for _ in 0..9 {
         let mut end = PipeEnd {
             pipes: &mut pipes,
             side: Side::Client,
         };
-        if matches!(client.poll(&mut end), Polled::Done(_)) {
+        if matches!(polled(&mut client, &mut end), Polled::Done(_)) {
             break;
         }
         let mut server = PipeEnd {

@@ -1,5 +1,5 @@
 // A client whose jobs, links and octets are given as texts in hex.
-use crate::{Client, Config, ItemList, Job, JobResult, Polled, StartCause};
+use s7_client::{Client, Config, ItemList, Job, JobResult, Polled, StartCause};
 use s7_item::Item;
 use s7_outer::{
     FailingLink, Fate, Got, Link, Memory, MemoryLink, Octets, PipeEnd, Pipes, Sent, Side,
@@ -96,6 +96,16 @@ pub(crate) fn job_of(alloc: Global, ask: Ask<'_>) -> Result<Job, Fail> {
     })
 }
 
+/// Starts a job, and says whether it was taken. Calls of a client stand in functions without clauses of their own, so
+/// that no test reads its contracts more than once.
+pub(crate) fn starts(alloc: Global, client: &mut Client, job: Job) -> bool {
+    client.start(alloc, job).is_ok()
+}
+
+pub(crate) fn polled<L: Link>(client: &mut Client, link: &mut L) -> Polled {
+    client.poll(link)
+}
+
 /// What one poll after its start makes of a job, which nothing may turn away.
 pub(crate) fn done<L: Link>(
     alloc: Global,
@@ -104,10 +114,10 @@ pub(crate) fn done<L: Link>(
     ask: Ask<'_>,
 ) -> Result<Option<JobResult>, Fail> {
     let job = job_of(alloc, ask)?;
-    if client.start(alloc, job).is_err() {
+    if !starts(alloc, client, job) {
         return Ok(None);
     }
-    match client.poll(link) {
+    match polled(client, link) {
         Polled::Done(result) => Ok(Some(result)),
         Polled::Pending | Polled::Idle => Ok(None),
     }

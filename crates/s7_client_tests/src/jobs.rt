@@ -1,4 +1,4 @@
-use crate::test_client::{
+use crate::steps::{
     Ask, CONFIRM, CONNECT, DISCONNECT, FOUR, GRANTED, READ, READ_AGAIN, READ_AGAIN_ANSWER,
     READ_ANSWER, Row, SETUP, holds_in_pieces, is_refused, is_turned_down,
 };

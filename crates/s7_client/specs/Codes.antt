@@ -1,0 +1,124 @@
+-- The numbers of errors that a job ends with (Snap7 1.4 sources: snap_tcpsocket.h, s7_isotcp.h, s7_micro_client.h).
+use Rattle.std.specs.Prelude.{ℕ}
+
+-- all went well
+abbrev pub no_fault : ℕ
+no_fault = 0
+
+-- ---- the link
+
+-- the client isn't connected, or something else than a confirm answered its connect request
+abbrev pub not_connected : ℕ
+not_connected = 0x00010000
+
+-- the server ended the link before the answer
+abbrev pub link_ended : ℕ
+link_ended = 0x00020000
+
+-- a packet or a TPDU that can't be read, or that doesn't belong there
+abbrev pub bad_packet : ℕ
+bad_packet = 0x00030000
+
+-- a message of fewer than ten octets
+abbrev pub short_message : ℕ
+short_message = 0x00060000
+
+-- the 65th fragment of a message
+abbrev pub message_too_fragmented : ℕ
+message_too_fragmented = 0x00070000
+
+-- a packet or a message that is too long
+abbrev pub message_too_long : ℕ
+message_too_long = 0x00080000
+
+-- the link failed at a transmit
+abbrev pub send_failed : ℕ
+send_failed = 0x00090000
+
+-- the link failed at a receive
+abbrev pub receive_failed : ℕ
+receive_failed = 0x000A0000
+
+-- ---- the client
+
+-- the negotiation was refused, or granted a PDU that is too small or above the one asked for
+abbrev pub negotiation_failed : ℕ
+negotiation_failed = 0x00100000
+
+-- parameters that no telegram can have
+abbrev pub invalid_parameters : ℕ
+invalid_parameters = 0x00200000
+
+-- more than twenty items
+abbrev pub too_many_items : ℕ
+too_many_items = 0x00400000
+
+-- a word that is unknown
+abbrev pub invalid_word : ℕ
+invalid_word = 0x00500000
+
+-- a write of several parts was refused after its first part
+abbrev pub partly_written : ℕ
+partly_written = 0x00600000
+
+-- an item that fits no telegram, or a telegram that the server finds too long
+abbrev pub over_pdu : ℕ
+over_pdu = 0x00700000
+
+-- a message that is no answer to what was asked
+abbrev pub invalid_answer : ℕ
+invalid_answer = 0x00800000
+
+-- the job met too many polls in which the link had nothing to give, or no room
+abbrev pub timed_out : ℕ
+timed_out = 0x02000000
+
+-- ---- the server's refusals
+
+-- the item's range isn't inside the area
+abbrev pub address_out_of_range : ℕ
+address_out_of_range = 0x00900000
+
+-- the word doesn't go with the area
+abbrev pub invalid_transport : ℕ
+invalid_transport = 0x00A00000
+
+-- the octets aren't as many as the item has
+abbrev pub size_mismatch : ℕ
+size_mismatch = 0x00B00000
+
+-- there is no such area or block
+abbrev pub not_available : ℕ
+not_available = 0x00C00000
+
+-- a value that the server doesn't take
+abbrev pub invalid_value : ℕ
+invalid_value = 0x00D00000
+
+-- the CPU runs already
+abbrev pub already_runs : ℕ
+already_runs = 0x00F00000
+
+-- the CPU is stopped already
+abbrev pub already_stopped : ℕ
+already_stopped = 0x01300000
+
+-- the server doesn't have the function
+abbrev pub no_such_function : ℕ
+no_such_function = 0x01400000
+
+-- a password is needed
+abbrev pub password_needed : ℕ
+password_needed = 0x01D00000
+
+-- the password is wrong
+abbrev pub wrong_password : ℕ
+wrong_password = 0x01E00000
+
+-- there is no password to set or to clear
+abbrev pub no_password : ℕ
+no_password = 0x01F00000
+
+-- the server refused for another reason
+abbrev pub refused_otherwise : ℕ
+refused_otherwise = 0x02300000

@@ -1,0 +1,12 @@
+//! Tests of `s7_client` by its public surface alone. They stand in a crate of their own, so that the client is proved
+//! once and not once more together with them.
+#![tactic(auto)]
+
+#[cfg(test)]
+mod answers;
+#[cfg(test)]
+mod faults;
+#[cfg(test)]
+mod jobs;
+#[cfg(test)]
+mod steps;
