@@ -11,7 +11,7 @@ use Rattle.s7_item.specs.declared.item.Item.{Item}
 use Rattle.s7_item.specs.declared.places.DataPlace.{DataPlace}
 use Rattle.s7_area.specs.declared.key.AreaKey.{AreaKey}
 use Rattle.s7_area.specs.Places.{is_misfit, is_inside, key_of, changed_at}
-use Rattle.s7_area.specs.Memory.{Memory, key_cmp, octets_at, with_octets, code_in, read_code, write_code, written}
+use Rattle.s7_area.specs.Memory.{Memory, key_cmp, octets_at, with_octets, code_in, write_code, written}
 use Rattle.s7_plant.specs.Answers.{write_codes}
 
 option_length-cond : (b : Bool) (o : Option (List ℕ)) (x y : List ℕ) → length x ≡ length y → option_map length (cond b (Some x) o) ≡ option_map length (cond b (Some y) o)
@@ -46,7 +46,7 @@ same_by_parts : (m : Memory) (item : Item) (octets : List ℕ) (key : AreaKey) (
 same_by_parts m item octets key old false counts found a b = refl
 same_by_parts m item octets key old true false found a b = refl
 same_by_parts m item octets key old true true found a b =
-    length-set_value (is_at (key_cmp (key_of item))) (is_at (key_cmp key)) m old _ found (length-changed_at item octets old (sym a) (eqb-true (length octets) (octet_count item) (sym b)))
+    length-set_value (is_at (key_cmp (key_of item))) (is_at (key_cmp key)) m.areas old _ found (length-changed_at item octets old (sym a) (eqb-true (length octets) (octet_count item) (sym b)))
 
 by_parts : (m : Memory) (item : Item) (octets : List ℕ) (key : AreaKey) (misfit : Bool) (found : Option (List ℕ)) → octets_at m (key_of item) ≡ found → option_map length (octets_at (cond (eqb (code_by misfit found item octets) 255) (with_octets m (key_of item) (changed_at item octets (unwrap_or found []))) m) key) ≡ option_map length (octets_at m key)
 by_parts m item octets key true found is = refl
@@ -54,8 +54,8 @@ by_parts m item octets key false None is = refl
 by_parts m item octets key false (Some old) is = same_by_parts m item octets key old _ _ is refl refl
 
 -- the areas after a write have the lengths that they had
-length-written : (m : Memory) (item : Item) (octets : List ℕ) (key : AreaKey) → option_map length (octets_at (written m item octets) key) ≡ option_map length (octets_at m key)
-unfolding written write_code read_code
+length-written : (m : Memory) (item : Item) (octets : List ℕ) (key : AreaKey) → option_map length (octets_at (written m true item octets) key) ≡ option_map length (octets_at m key)
+unfolding written write_code
 length-written m item octets key = by_parts m item octets key (is_misfit item) (octets_at m (key_of item)) refl
 
 code_in-length : (a b : Option (List ℕ)) (item : Item) → option_map length a ≡ option_map length b → code_in a item ≡ code_in b item
@@ -68,8 +68,8 @@ code_in-length (Some a) (Some b) item same = let is : length a ≡ length b = cc
 abbrev SameLengths : Memory → Memory → Type 0
 SameLengths m n = (key : AreaKey) → option_map length (octets_at m key) ≡ option_map length (octets_at n key)
 
-code-same : (m n : Memory) (item : Item) (octets : List ℕ) → SameLengths m n → write_code m item octets ≡ write_code n item octets
-unfolding write_code read_code
+code-same : (m n : Memory) (item : Item) (octets : List ℕ) → SameLengths m n → write_code m true item octets ≡ write_code n true item octets
+unfolding write_code
 code-same m n item octets same =
     ap (λ c. let code = cond (is_misfit item) 6 c in cond (eqb code 255 && not (eqb (length octets) (octet_count item))) 7 code) (code_in-length _ _ item (same (key_of item)))
 
@@ -78,9 +78,9 @@ codes-same m n [] places all same = refl
 codes-same m n (i ∷ is) [] all same = refl
 codes-same m n (i ∷ is) (p ∷ ps) all same =
     let head = code-same m n i (octets_in all p) same in
-    let tail = codes-same (written m i (octets_in all p)) (written n i (octets_in all p)) is ps all (λ key. length-written m i (octets_in all p) key ∙ same key ∙ sym (length-written n i (octets_in all p) key)) in
+    let tail = codes-same (written m true i (octets_in all p)) (written n true i (octets_in all p)) is ps all (λ key. length-written m i (octets_in all p) key ∙ same key ∙ sym (length-written n i (octets_in all p) key)) in
     rw (head, tail) refl
 
 -- no write changes the codes of those that follow
-pub codes_in_turn : (m : Memory) (item : Item) (octets : List ℕ) (items : List Item) (places : List DataPlace) (all : List ℕ) → write_codes (written m item octets) items places all ≡ write_codes m items places all
+pub codes_in_turn : (m : Memory) (item : Item) (octets : List ℕ) (items : List Item) (places : List DataPlace) (all : List ℕ) → write_codes (written m true item octets) items places all ≡ write_codes m items places all
 codes_in_turn m item octets items places all = codes-same _ m items places all (length-written m item octets)

@@ -1,6 +1,7 @@
 -- What a plant answers to a request, and the memory that it leaves (Snap7 1.4 reference manual,
 -- `Cli_ReadMultiVars` and `Cli_WriteMultiVars`).
-use Rattle.std.specs.Prelude.{◌≡◌, ℕ, ◌+◌, ◌≤◌, Bool, List, [], ◌∷◌, length, map}
+use Rattle.std.specs.Prelude.{◌≡◌, ℕ, ◌+◌, ◌≤◌, Bool, true, List, [], ◌∷◌, length, map}
+use Rattle.s7_item.specs.Codes.{read_function, write_function}
 use Rattle.s7_item.specs.DataItem.{DataItem, padding_of, data_octets, octets_at}
 use Rattle.s7_item.specs.declared.item.Item.{Item}
 use Rattle.s7_item.specs.declared.places.DataPlace.{DataPlace}
@@ -11,9 +12,9 @@ use Rattle.s7_plant.specs.declared.reply.Reply.{Reply}
 use Rattle.s7_plant.specs.Requests.{full_size}
 use Rattle.s7_plant.specs.Replies.{Said, said, said_of}
 
--- the data item that answers the read of an item
+-- the data item that answers the read of an item, which every request has a right to
 abbrev pub read_item : Memory → Item → DataItem
-read_item m item = record { code = read_code m item; word = item.word; octets = read_octets m item }
+read_item m item = record { code = read_code m true item; word = item.word; octets = read_octets m true item }
 
 -- how many octets a data item takes that has n octets, the last one or not
 abbrev pub item_size : ℕ → Bool → ℕ
@@ -24,22 +25,23 @@ abbrev pub write_all : Memory → List Item → List DataPlace → List ℕ → 
 write_all m [] places octets = m
 write_all m (item ∷ items) [] octets = m
 write_all m (item ∷ items) (place ∷ places) octets =
-    write_all (written m item (octets_at octets place)) items places octets
+    write_all (written m true item (octets_at octets place)) items places octets
 
 -- their codes
 abbrev pub write_codes : Memory → List Item → List DataPlace → List ℕ → List ℕ
 write_codes m [] places octets = []
 write_codes m (item ∷ items) [] octets = []
 write_codes m (item ∷ items) (place ∷ places) octets =
-    write_code m item (octets_at octets place)
-    ∷ write_codes (written m item (octets_at octets place)) items places octets
+    write_code m true item (octets_at octets place)
+    ∷ write_codes (written m true item (octets_at octets place)) items places octets
 
--- 04, the number of items and a data item for each; or 05, the number of items and the code of each
+-- the function of a read, the number of items and a data item for each; or the function of a write, the
+-- number of items and the code of each
 abbrev pub answer_of : Memory → Request → Said
 answer_of m (Read items) =
-    said 0 (0x04 ∷ length items ∷ []) (data_octets (map (read_item m) items))
+    said 0 (read_function ∷ length items ∷ []) (data_octets (map (read_item m) items))
 answer_of m (Write items places octets) =
-    said 0 (0x05 ∷ length items ∷ []) (write_codes m items places octets)
+    said 0 (write_function ∷ length items ∷ []) (write_codes m items places octets)
 
 -- a read changes nothing
 abbrev pub after : Memory → Request → Memory

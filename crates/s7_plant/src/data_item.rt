@@ -1,19 +1,15 @@
 // The data items that answer a read.
 ghost use Rattle.std.specs.Prelude.{◌≡◌, ◌+◌, ◌≤◌, ◌++◌, length, map};
 ghost use Rattle.s7_item.specs.Item.{octet_count};
-ghost use Rattle.s7_item.specs.DataItem.{head_octets, stated_length, data_item_octets, data_octets};
+ghost use Rattle.s7_item.specs.Codes.{good};
+ghost use Rattle.s7_item.specs.DataItem.{head_octets, data_item_octets, data_octets};
 ghost use Rattle.s7_item.specs.Sizes.{data_size};
 ghost use Rattle.s7_plant.specs.Answers.{read_item, item_size};
 
 use s7_area::Areas;
-use s7_item::{Item, transport_of};
+use s7_item::codes::GOOD;
+use s7_item::{Item, padding_of, stated_length, transport_of};
 use s7_outer::Buffer;
-
-/// The code of an item that was read.
-const GOOD: u8 = 0xFF;
-
-/// The transport size of bits.
-const BITS: u8 = 0x03;
 
 /// Adds a data item for each item, from left to right.
 pub(crate) fn add_data_items(areas: &Areas, items: &[Item], body: &mut Buffer)
@@ -42,7 +38,7 @@ fn add_data_item(areas: &Areas, item: &Item, last: bool, body: &mut Buffer)
         ≤ length body.old.octets + item_size (octet_count item.now) last }
     ensures room { body.new.room ≡ body.old.room }
 {
-    match areas.look_up(item) {
+    match areas.look_up(true, item) {
         Ok(octets) => add_octets(item.word, octets, last, body),
         Err(code) => body.add(&[code, 0x00, 0x00, 0x00]),
     }
@@ -53,14 +49,14 @@ fn add_octets(word: u8, octets: &[u8], last: bool, body: &mut Buffer)
     requires few { length octets.now ≤ 8178 }
     requires room { length body.old.octets + item_size (length octets.now) last ≤ body.old.room }
     ensures octets { body.new.octets
-        ≡ body.old.octets ++ data_item_octets 0xFF word octets.now last }
+        ≡ body.old.octets ++ data_item_octets good word octets.now last }
     ensures len { length body.new.octets
         ≡ length body.old.octets + item_size (length octets.now) last }
     ensures room { body.new.room ≡ body.old.room }
 {
     body.add(&head(word, octets.len()));
     body.add(octets);
-    if !last && octets.len() % 2 != 0 {
+    if padding_of(octets.len(), last) != 0 {
         body.add(&[0x00]);
     }
 }
@@ -68,23 +64,10 @@ fn add_octets(word: u8, octets: &[u8], last: bool, body: &mut Buffer)
 /// The octets before those of an item that was read: code, transport size and length.
 fn head(word: u8, len: usize) -> [u8; 4]
     requires { len ≤ 8178 }
-    ensures { result ≡ head_octets 0xFF word len }
+    ensures { result ≡ head_octets good word len }
 {
     let transport = transport_of(word);
-    let [high, low] = stated_length(transport, len as u16).to_be_bytes();
+    let stated = stated_length(transport, len) as u16;
+    let [high, low] = stated.to_be_bytes();
     [GOOD, transport, high, low]
-}
-
-/// The length that is stated of so many octets: 1 for one octet of bits; else it counts bits for the
-/// transport sizes 03, 04 and 05, and octets for 07 and 09.
-#[tactic(auto, unfolding(s7_item::specs::Word::counts_bits))]
-fn stated_length(transport: u8, len: u16) -> u16
-    requires { len ≤ 8178 }
-    ensures { result ≡ stated_length transport len }
-{
-    match transport {
-        BITS if len == 1 => 1,
-        BITS | 0x04 | 0x05 => 8 * len,
-        _ => len,
-    }
 }

@@ -8,14 +8,9 @@ use crate::reply::Reply;
 use crate::request::Request;
 use crate::write::{judge_items, write_items};
 use s7_area::Areas;
+use s7_item::codes::{READ_FUNCTION, WRITE_FUNCTION};
 
-/// The function code of a read and of its answer.
-const READ: u8 = 0x04;
-
-/// The function code of a write and of its answer.
-const WRITE: u8 = 0x05;
-
-/// A controller: its areas.
+/// A controller: its areas. Each request has a right to all items.
 #[derive(Drop)]
 pub struct Plant {
     pub areas: Areas,
@@ -49,7 +44,7 @@ impl Plant {
         match r {
             Request::Read { items } => {
                 let items = items.as_slice();
-                reply.params.add(&[READ, items.len() as u8]);
+                reply.params.add(&[READ_FUNCTION, items.len() as u8]);
                 add_data_items(&self.areas, items, &mut reply.body);
             }
             Request::Write {
@@ -58,7 +53,7 @@ impl Plant {
                 octets,
             } => {
                 let items = items.as_slice();
-                reply.params.add(&[WRITE, items.len() as u8]);
+                reply.params.add(&[WRITE_FUNCTION, items.len() as u8]);
                 judge_items(
                     &self.areas,
                     items,
@@ -105,7 +100,7 @@ impl Plant {
             } => {
                 reply.clear();
                 let items = items.as_slice();
-                reply.params.add(&[WRITE, items.len() as u8]);
+                reply.params.add(&[WRITE_FUNCTION, items.len() as u8]);
                 write_items(
                     &mut self.areas,
                     items,

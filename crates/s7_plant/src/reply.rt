@@ -27,7 +27,7 @@ impl Reply {
     /// taken here. `Memory` comes where there is none for it.
     pub fn new(alloc: Global, room: usize) -> Result<Reply, Memory>
         ensures empty { IfOk result (λ reply. said_of reply ≡ said 0 [] []) }
-        ensures params { IfOk result (λ reply. reply.params.room ≡ PARAMS_ROOM) }
+        ensures params { IfOk result (λ reply. reply.params.room ≡ 16) }
         ensures body { IfOk result (λ reply. reply.body.room ≡ room) }
     {
         Ok(Reply {

@@ -245,15 +245,15 @@ fn images_are_replayed(rt: HostRuntime) -> Result<(), Fail> {
         let request = a_request(rt.alloc(), params, data)?.ok_or("no request")?;
         assert!(rt; book.step(7, request, &mut reply).is_ok());
     }
-    let rows = [
-        (0, [0x11, 0x22, 0x33, 0x44]),
-        (1, [0xAA, 0x22, 0x33, 0x44]),
-        (2, [0xAA, 0x22, 0x33, 0x44]),
-        (3, [0xAA, 0x22, 0x33, 0xCC]),
+    let rows: [(u64, &[u8]); 4] = [
+        (0, &[0x11, 0x22, 0x33, 0x44]),
+        (1, &[0xAA, 0x22, 0x33, 0x44]),
+        (2, &[0xAA, 0x22, 0x33, 0x44]),
+        (3, &[0xAA, 0x22, 0x33, 0xCC]),
     ];
     for (n, octets) in rows {
         let image = image_of::<Brand>(rt.alloc(), &book, n, Blank::new(1))?.ok_or("no image")?;
-        assert!(rt; image.areas.octets_of(DB1) == Some(&octets), "{n}");
+        assert!(rt; image.areas.octets_of(DB1) == Some(octets), "{n}");
     }
     Ok(())
 }

@@ -1,17 +1,12 @@
 // The writes of a request.
-ghost use Rattle.std.specs.Prelude.{◌≡◌, ◌+◌, ◌≤◌, ◌++◌, length, All};
+ghost use Rattle.std.specs.Prelude.{◌≡◌, true, ◌+◌, ◌≤◌, ◌++◌, length, All};
 ghost use Rattle.s7_area.specs.Memory.{write_code};
 ghost use Rattle.s7_plant.specs.Answers.{write_all, write_codes};
 
 use s7_area::Areas;
+use s7_item::codes::{GOOD, WRONG_SIZE};
 use s7_item::{DataPlace, Item};
 use s7_outer::Buffer;
-
-/// The code of an item that was written.
-const GOOD: u8 = 0xFF;
-
-/// The code of an item that has another number of octets.
-const WRONG_SIZE: u8 = 0x07;
 
 /// Makes the writes from left to right, each on what the one before left, and adds their codes.
 pub(crate) fn write_items(
@@ -32,7 +27,7 @@ pub(crate) fn write_items(
 {
     for k in 0..items.len() {
         let place = places[k];
-        let code = areas.write(&items[k], &octets[place.from..place.from + place.len]);
+        let code = areas.write(true, &items[k], &octets[place.from..place.from + place.len]);
         codes.add(&[code]);
     }
 }
@@ -66,11 +61,11 @@ pub(crate) fn judge_items(
 }
 
 /// The code that a write of these octets would have.
-#[tactic(auto, unfolding(s7_area::specs::Memory::write_code))]
+#[tactic(auto, unfolding(s7_area::specs::Memory::write_code, s7_area::specs::Memory::read_code))]
 fn judge_item(areas: &Areas, item: &Item, octets: &[u8]) -> u8
-    ensures { result ≡ write_code areas.now item.now octets.now }
+    ensures { result ≡ write_code areas.now true item.now octets.now }
 {
-    match areas.look_up(item) {
+    match areas.look_up(true, item) {
         Ok(held) if held.len() == octets.len() => GOOD,
         Ok(_) => WRONG_SIZE,
         Err(code) => code,

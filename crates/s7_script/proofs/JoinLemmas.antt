@@ -3,9 +3,8 @@ use Rattle.std.proofs.Common.{◌≡◌, ◌∙◌, ◌≤◌, ◌+◌, ℕ, ref
 use Rattle.std.specs.Prelude.{IfSome, IfNone}
 use Rattle.std.specs.List.Sorted.{IsStrictlySortedBy}
 use Rattle.std.specs.Map.{keys_of}
-use Rattle.std.specs.BTreeMap.{insert_entry}
-use Rattle.s7_area.specs.Memory.{Memory, key_cmp}
-use Rattle.s7_area.specs.Registers.{total_of, fault_of}
+use Rattle.s7_area.specs.Memory.{Memory, key_cmp, with_area}
+use Rattle.s7_area.specs.Registers.{most_in_all, total_of, fault_of}
 use Rattle.s7_area.specs.declared.key.AreaKey.{AreaKey}
 use Rattle.s7_area.specs.declared.register.RegisterFault.{RegisterFault}
 use Rattle.s7_area.specs.declared.register.RegisterFault.TheVariants as fault
@@ -17,16 +16,16 @@ use Rattle.s7_script.proofs.KeptLemmas.{sorted-insert}
 
 pub record Joins (new : Memory) (total : ℕ) : Type 0 where
   pub is_total : total ≡ total_of new
-  pub fits : total ≤ 16777216
-  pub ordered : IsStrictlySortedBy key_cmp (keys_of new)
+  pub fits : total ≤ most_in_all
+  pub ordered : IsStrictlySortedBy key_cmp (keys_of new.areas)
 
-pub joins : AreasJoin → (m new : Memory) (key : AreaKey) (octets : List ℕ) (total len : ℕ) → IsStrictlySortedBy key_cmp (keys_of m) → total ≡ total_of m → fault_of m key (length octets) ≡ None → new ≡ insert_entry key_cmp m key octets → len ≡ length octets → Joins new (total + len)
+pub joins : AreasJoin → (m new : Memory) (key : AreaKey) (octets : List ℕ) (total len : ℕ) → IsStrictlySortedBy key_cmp (keys_of m.areas) → total ≡ total_of m → fault_of m key (length octets) ≡ None → new ≡ with_area m key octets → len ≡ length octets → Joins new (total + len)
 joins law m new key octets total len sorted is none made long =
     let no = law.faultless m key (length octets) none in
     subst (λ x. Joins x (total + len)) (sym made) (record {
       is_total = omega (arith, is, long, law.total m key octets sorted no.absent);
       fits = omega (arith, is, long, no.fits);
-      ordered = sorted-insert key_cmp law.ordered m key octets sorted;
+      ordered = sorted-insert key_cmp law.ordered m.areas key octets sorted;
     })
 
 abbrev Same : Result (Unit {0}) (RegisterFault × List ℕ) → Result (Unit {0}) (RegisterFault × List ℕ) → Type 0
@@ -41,10 +40,10 @@ taken_by None u octets new made refused taken = (refl, taken)
 taken_by (Some fault) u octets new made refused taken = cc
 
 -- an area that is taken joins the others
-pub registers : (m new : Memory) (a : Open) (octets : List ℕ) → octets ≡ a.octets → fault_of m a.key (length octets) ≡ None → new ≡ insert_entry key_cmp m a.key octets → registered m a ≡ Ok (record { areas = new; current = None })
+pub registers : (m new : Memory) (a : Open) (octets : List ℕ) → octets ≡ a.octets → fault_of m a.key (length octets) ≡ None → new ≡ with_area m a.key octets → registered m a ≡ Ok (record { areas = new; current = None })
 registers m new a octets same none made =
     let fits : fault_of m a.key (length a.octets) ≡ None = ap (λ o. fault_of m a.key (length o)) (sym same) ∙ none in
-    ap (joined m a) fits ∙ ap (λ o. Ok (record { areas = insert_entry key_cmp m a.key o; current = None })) (sym same) ∙ ap (λ x. Ok (record { areas = x; current = None })) (sym made)
+    ap (joined m a) fits ∙ ap (λ o. Ok (record { areas = with_area m a.key o; current = None })) (sym same) ∙ ap (λ x. Ok (record { areas = x; current = None })) (sym made)
 
 abbrev pub fault_of_kind : ℕ → AreasKind → AreasFault
 fault_of_kind line kind = record { line = line; kind = kind }

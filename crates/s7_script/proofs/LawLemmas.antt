@@ -11,10 +11,9 @@ use Rattle.std.proofs.lemmas.Fmt.{decimal_is_IsNumeral, length-decimal-le}
 use Rattle.std.proofs.lemmas.List.{take-append-drop}
 use Rattle.hex.specs.Hex.{IsBytes, encode_lower, is_hex_digit, lower_digits}
 use Rattle.hex.proofs.HexLemmas.{decode_of-encode_lower, length-encode_with, decode_of-ok}
-use Rattle.s7_area.specs.Memory.{Memory, key_cmp}
-use Rattle.s7_area.specs.Registers.{fault_of, is_wrong_size}
+use Rattle.s7_area.specs.Memory.{Memory, with_area}
+use Rattle.s7_area.specs.Registers.{most_octets, fault_of, is_wrong_size}
 use Rattle.s7_area.specs.declared.key.AreaKey.{AreaKey}
-use Rattle.std.specs.BTreeMap.{insert_entry}
 use Rattle.s7_script.specs.Lines.{Text, lines, with_first}
 use Rattle.s7_script.specs.Fields.{fields_after, first_field, is_space, number_of}
 use Rattle.s7_script.specs.Reading.{State, area_line, area_named, block_line, named_line, filled, is_passed, next_line, read_lines, with_line, with_size}
@@ -108,13 +107,13 @@ position_none : (ds : Text) → AllDigits 10 ds → position is_space ds ≡ Non
 position_none ds h = rw (space_none ds h, le-ltb (length ds) (length ds) (omega arith)) refl
 
 -- the last field of a line is the length
-size-written : (line : ℕ) (key : AreaKey) (n : ℕ) → n ≤ 65536 → with_size line key (Some (decimal n)) ≡ Ok (key, n)
+size-written : (line : ℕ) (key : AreaKey) (n : ℕ) → n ≤ most_octets → with_size line key (Some (decimal n)) ≡ Ok (key, n)
 size-written line key n most =
     let num = decimal_is_IsNumeral n (omega arith) in
     let below : n < 10 ^ 10 = omega arith in
     rw (position_none (decimal n) num.0.1) (rw (number_of-decimal n below, le-leb 0 n (omega arith), le-leb n 9999999999 (omega arith)) refl)
 
-block-written : (line number n : ℕ) → 0 < number → number < 65536 → n ≤ 65536 → block_line line (Some (decimal number ++ 32 ∷ decimal n)) ≡ Ok (record { area = 0x84; number = number }, n)
+block-written : (line number n : ℕ) → 0 < number → number < 65536 → n ≤ most_octets → block_line line (Some (decimal number ++ 32 ∷ decimal n)) ≡ Ok (record { area = 0x84; number = number }, n)
 block-written line number n some few most =
     let num = decimal_is_IsNumeral number (omega arith) in
     let below : number < 10 ^ 10 = omega arith in
@@ -136,11 +135,11 @@ named line a b rest p q =
 
 -- a name that may stand in an area line
 pub record IsWritten (key : AreaKey) : Type 0 where
-  pub reads : (line n : ℕ) → n ≤ 65536 → area_line line (head_text key n) ≡ Ok (key, n)
-  pub plain : (n : ℕ) → n ≤ 65536 → AllPlain (head_text key n)
+  pub reads : (line n : ℕ) → n ≤ most_octets → area_line line (head_text key n) ≡ Ok (key, n)
+  pub plain : (n : ℕ) → n ≤ most_octets → AllPlain (head_text key n)
   pub begins : (n : ℕ) → is_passed (head_text key n) ≡ false
 
-size_plain : (n : ℕ) → n ≤ 65536 → AllPlain (decimal n)
+size_plain : (n : ℕ) → n ≤ most_octets → AllPlain (decimal n)
 size_plain n most = digits_plain (decimal n) (decimal_is_IsNumeral n (omega arith)).0.1
 
 pub block_written : (number : ℕ) → 0 < number → number < 65536 → IsWritten (record { area = 0x84; number = number })
@@ -186,7 +185,7 @@ between m = record { areas = m; current = None }
 abbrev pub inside : Memory → ℕ → AreaKey × List ℕ → List ℕ → State
 inside m line a octets = record { areas = m; current = Some (record { line = line; key = a.0; size = length a.1; octets = octets }) }
 
-pub opens : (line : ℕ) (m : Memory) (a : AreaKey × List ℕ) → IsWritten a.0 → length a.1 ≤ 65536 → is_wrong_size m a.0 (length a.1) ≡ false
+pub opens : (line : ℕ) (m : Memory) (a : AreaKey × List ℕ) → IsWritten a.0 → length a.1 ≤ most_octets → is_wrong_size m a.0 (length a.1) ≡ false
     → with_line line (between m) (head_text a.0 (length a.1)) ≡ Ok (inside m line a [])
 unfolding with_line
 opens line m a is most fits = rw (is.begins (length a.1), is.reads line (length a.1) most, fits) refl
@@ -253,7 +252,7 @@ hex_lines_more k (b ∷ bs) text some = append_assoc (encode_lower (take 32 (b �
 -- the lines of an area's octets register it
 pub record Registers (line at : ℕ) (m : Memory) (a : AreaKey × List ℕ) (done : List ℕ) (from text : Text) : Type 0 where
   pub next : ℕ
-  pub reads : read_lines line (inside m at a done) (lines from) ≡ read_lines next (between (insert_entry key_cmp m a.0 a.1)) (lines text)
+  pub reads : read_lines line (inside m at a done) (lines from) ≡ read_lines next (between (with_area m a.0 a.1)) (lines text)
 
 module _ (k line at : ℕ) (m : Memory) (a : AreaKey × List ℕ) (done rest text : List ℕ) (some : 0 < length rest) (whole : done ++ rest ≡ a.1) (bytes : AllBytes rest) where
   abbrev piece : List ℕ
@@ -288,12 +287,12 @@ module _ (k line at : ℕ) (m : Memory) (a : AreaKey × List ℕ) (done rest tex
   hex_last is new =
       let all : done ++ piece ≡ a.1 = ap (λ p. done ++ p) (sym (append-nil piece) ∙ ap (λ d. piece ++ d) (sym is) ∙ cut) ∙ whole in
       let same : (length a.1 == length a.1) ≡ true = eq-eqb (length a.1) (length a.1) refl in
-      let done_with : with_line line (inside m at a done) (encode_lower piece) ≡ Ok (between (insert_entry key_cmp m a.0 a.1)) =
+      let done_with : with_line line (inside m at a done) (encode_lower piece) ≡ Ok (between (with_area m a.0 a.1)) =
       first ∙ ap (λ octets. filled m (record { line = at; key = a.0; size = length a.1; octets = octets })) all ∙ rw (same, new) refl in
       let none : hex_lines k more ++ text ≡ text = rw (is, hex_lines_end k) refl in
       record {
         next = next_line line;
-        reads = from_here (between (insert_entry key_cmp m a.0 a.1)) done_with ∙ ap (λ t. read_lines (next_line line) (between (insert_entry key_cmp m a.0 a.1)) (lines t)) none;
+        reads = from_here (between (with_area m a.0 a.1)) done_with ∙ ap (λ t. read_lines (next_line line) (between (with_area m a.0 a.1)) (lines t)) none;
       }
 
   hex_next : 0 < length more → Registers (next_line line) at m a (done ++ piece) (hex_lines k more ++ text) text → Registers line at m a done (hex_lines (suc k) rest ++ text) text

@@ -2,7 +2,7 @@
 use Rattle.std.proofs.Common.{◌≡◌, ◌∙◌, ◌<◌, ℕ, Bool, true, false, refl, sym, ap, arith, List, [], ◌∷◌, ◌++◌, Result, Ok, Err, append_assoc, append-nil, cond, None, Some, option_map}
 use Rattle.std.specs.Prelude.{◌==◌, unwrap_or}
 use Rattle.s7_item.specs.declared.item.Item.{Item}
-use Rattle.s7_item.specs.Word.{Row, row, size_of}
+use Rattle.s7_item.specs.Word.{Row, of_size, size_of}
 use Rattle.s7_script.specs.Lines.{Text}
 use Rattle.s7_script.specs.Reading.{next_line}
 use Rattle.s7_script.specs.Script.{FailsAs, LineFails, Written, element_size, line_jobs, read_item, read_items, script_lines, written_item, written_items, ◌>>=◌}
@@ -96,7 +96,7 @@ lines-fail found line text rest e h =
 
 -- no element is empty
 some_size : (a b c d e f g h i j : Bool)
-    → 0 < unwrap_or (option_map (λ (r : Row). r.size) (cond a (Some (row 1 0x03)) (cond b (Some (row 1 0x04)) (cond c (Some (row 1 0x09)) (cond d (Some (row 2 0x04)) (cond e (Some (row 2 0x05)) (cond f (Some (row 4 0x04)) (cond g (Some (row 4 0x05)) (cond h (Some (row 4 0x07)) (cond i (Some (row 2 0x09)) (cond j (Some (row 2 0x09)) None))))))))))) 1
+    → 0 < unwrap_or (option_map (λ (r : Row). r.size) (cond a (Some (of_size 1 0x03)) (cond b (Some (of_size 1 0x04)) (cond c (Some (of_size 1 0x09)) (cond d (Some (of_size 2 0x04)) (cond e (Some (of_size 2 0x05)) (cond f (Some (of_size 4 0x04)) (cond g (Some (of_size 4 0x05)) (cond h (Some (of_size 4 0x07)) (cond i (Some (of_size 2 0x09)) (cond j (Some (of_size 2 0x09)) None))))))))))) 1
 some_size true b c d e f g h i j = omega arith
 some_size false true c d e f g h i j = omega arith
 some_size false false true d e f g h i j = omega arith

@@ -3,8 +3,8 @@ use Rattle.std.proofs.Common.{◌≡◌, ◌∙◌, ◌<◌, ◌≤◌, ◌+◌,
 use Rattle.std.specs.Prelude.{◌==◌, nat_lt, nat_le, IfSome}
 use Rattle.std.specs.List.{AllByRecursion, filter, flat_map}
 use Rattle.std.specs.List.Sorted.{IsStrictlySortedBy}
-use Rattle.std.specs.Map.{keys_of}
-use Rattle.std.specs.BTreeMap.{insert_entry}
+use Rattle.std.specs.Map.{keys_of, lookup}
+use Rattle.std.specs.BTreeMap.{insert_entry, is_at}
 use Rattle.std.specs.Ordering.{is_eq, match_ordering, nat_cmp}
 use Rattle.std.specs.declared.cmp.Ordering.{Ordering}
 use Rattle.std.specs.declared.cmp.Ordering.TheVariants.{Less, Equal, Greater}
@@ -15,8 +15,8 @@ use Rattle.std.proofs.lemmas.Map.Keys.{sorted_head, sorted_tail}
 use Rattle.std.proofs.lemmas.Map.Lookups.{CmpEqualImpliesEq, exact_pairs, exact_unsigned}
 use Rattle.hex.specs.Hex.{IsBytes}
 use Rattle.s7_area.specs.Keys.{is_key, is_single}
-use Rattle.s7_area.specs.Memory.{Memory, key_cmp, octets_at}
-use Rattle.s7_area.specs.Registers.{IsArea, IsMemory, db_numbers, fault_of, total_of}
+use Rattle.s7_area.specs.Memory.{AreaList, Memory, key_cmp, octets_at}
+use Rattle.s7_area.specs.Registers.{IsArea, IsMemory, most_octets, most_in_all, most_dbs, db_numbers, fault_of, total_of}
 use Rattle.s7_area.specs.declared.key.AreaKey.{AreaKey}
 use Rattle.s7_area.specs.Laws.{AreasJoin}
 use Rattle.s7_script.specs.Lines.{Text, lines}
@@ -83,48 +83,58 @@ written_by key is few =
 abbrev one_if : Bool → ℕ
 one_if b = cond b 1 0
 
-abbrev blocks_of : Memory → ℕ
+abbrev blocks_of : AreaList → ℕ
 blocks_of m = length (db_numbers (keys_of m))
 
-blocks-cons : (key : AreaKey) (octets : List ℕ) (m : Memory) → blocks_of ((key, octets) ∷ m) ≡ one_if (eqb key.area 0x84) + blocks_of m
+blocks-cons : (key : AreaKey) (octets : List ℕ) (m : AreaList) → blocks_of ((key, octets) ∷ m) ≡ one_if (eqb key.area 0x84) + blocks_of m
 blocks-cons key octets m = grind (arith, common_steps)
 
-more_step : (o : Ordering) (key : AreaKey) (octets : List ℕ) (e : AreaKey × List ℕ) (m rest : Memory) → cond (is_eq o) (Some e.1) (octets_at m key) ≡ None → (octets_at m key ≡ None → blocks_of rest ≡ one_if (eqb key.area 0x84) + blocks_of m)
+more_step : (o : Ordering) (key : AreaKey) (octets : List ℕ) (e : AreaKey × List ℕ) (m rest : AreaList) → cond (is_eq o) (Some e.1) (lookup (is_at (key_cmp key)) m) ≡ None → (lookup (is_at (key_cmp key)) m ≡ None → blocks_of rest ≡ one_if (eqb key.area 0x84) + blocks_of m)
     → blocks_of (match_ordering o ((key, octets) ∷ e ∷ m) ((e.0, octets) ∷ m) (e ∷ rest)) ≡ one_if (eqb key.area 0x84) + blocks_of (e ∷ m)
 more_step Less key octets e m rest none more = blocks-cons key octets (e ∷ m)
 more_step Equal key octets e m rest none more = cc
 more_step Greater key octets e m rest none more = let ih = more none in omega (arith, ih, blocks-cons e.0 e.1 rest, blocks-cons e.0 e.1 m)
 
-more-blocks : (m : Memory) (key : AreaKey) (octets : List ℕ) → octets_at m key ≡ None → blocks_of (insert_entry key_cmp m key octets) ≡ one_if (eqb key.area 0x84) + blocks_of m
+more-blocks : (m : AreaList) (key : AreaKey) (octets : List ℕ) → lookup (is_at (key_cmp key)) m ≡ None → blocks_of (insert_entry key_cmp m key octets) ≡ one_if (eqb key.area 0x84) + blocks_of m
 more-blocks [] key octets none = blocks-cons key octets []
 more-blocks (e ∷ m) key octets none = more_step (key_cmp key e.0) key octets e m (insert_entry key_cmp m key octets) none (more-blocks m key octets)
 
-fewer_step : (b : Bool) (e : AreaKey × List ℕ) (m rest : Memory) → blocks_of rest ≤ blocks_of m → blocks_of (cond b (e ∷ rest) rest) ≤ blocks_of (e ∷ m)
+fewer_step : (b : Bool) (e : AreaKey × List ℕ) (m rest : AreaList) → blocks_of rest ≤ blocks_of m → blocks_of (cond b (e ∷ rest) rest) ≤ blocks_of (e ∷ m)
 fewer_step true e m rest less = omega (arith, less, blocks-cons e.0 e.1 rest, blocks-cons e.0 e.1 m)
 fewer_step false e m rest less = omega (arith, less, blocks-cons e.0 e.1 m)
 
-fewer-blocks : (p : AreaKey → Bool) (m : Memory) → blocks_of (kept key_cmp p m) ≤ blocks_of m
+fewer-blocks : (p : AreaKey → Bool) (m : AreaList) → blocks_of (kept key_cmp p m) ≤ blocks_of m
 fewer-blocks p [] = omega arith
 fewer-blocks p (e ∷ m) = fewer_step (p e.0) e m (kept key_cmp p m) (fewer-blocks p m)
 
-size_ok : (total len : ℕ) (pairs : Bool) → 0 < len → len ≤ 65536 → (pairs ≡ true → len % 2 ≡ 0) → total + len ≤ 16777216
-    → (len == 0 || nat_lt 65536 len || (pairs && not (len % 2 == 0)) || nat_lt 16777216 (total + len)) ≡ false
-size_ok total len true some most even fits = rw (isn't len 0 (λ e. omega (arith, some, e)), le-ltb 65536 len most, eq-eqb (len % 2) 0 (even refl), le-ltb 16777216 (total + len) fits) refl
-size_ok total len false some most even fits = rw (isn't len 0 (λ e. omega (arith, some, e)), le-ltb 65536 len most, le-ltb 16777216 (total + len) fits) refl
+abbrev unguarded : AreaList → Memory
+unguarded areas = record { areas = areas; guard = None }
 
-few_ok : (n : ℕ) (b : Bool) → one_if b + n ≤ 2048 → (b && nat_le 2048 n) ≡ false
+abbrev list_total : AreaList → ℕ
+list_total areas = total_of (unguarded areas)
+
+size_ok : (total len : ℕ) (pairs : Bool) → 0 < len → len ≤ most_octets → (pairs ≡ true → len % 2 ≡ 0) → total + len ≤ most_in_all
+    → (len == 0 || nat_lt most_octets len || (pairs && not (len % 2 == 0)) || nat_lt most_in_all (total + len)) ≡ false
+size_ok total len true some most even fits = rw (isn't len 0 (λ e. omega (arith, some, e)), le-ltb most_octets len most, eq-eqb (len % 2) 0 (even refl), le-ltb most_in_all (total + len) fits) refl
+size_ok total len false some most even fits = rw (isn't len 0 (λ e. omega (arith, some, e)), le-ltb most_octets len most, le-ltb most_in_all (total + len) fits) refl
+
+few_ok : (n : ℕ) (b : Bool) → one_if b + n ≤ most_dbs → (b && nat_le most_dbs n) ≡ false
 few_ok n true h = grind (arith, nat_tests)
 few_ok n false h = refl
 
-no_fault : AreasJoin → (m : Memory) (p : AreaKey → Bool) (key : AreaKey) (octets : List ℕ) → IsMemory m → octets_at m key ≡ Some octets → p key ≡ false → fault_of (kept key_cmp p m) key (length octets) ≡ None
+-- the areas whose names have a property, without a guard
+abbrev kept_of : (AreaKey → Bool) → Memory → Memory
+kept_of p m = unguarded (kept key_cmp p m.areas)
+
+no_fault : AreasJoin → (m : Memory) (p : AreaKey → Bool) (key : AreaKey) (octets : List ℕ) → IsMemory m → octets_at m key ≡ Some octets → p key ≡ false → fault_of (kept_of p m) key (length octets) ≡ None
 no_fault law m p key octets is found out =
-    let area = all-found key_cmp IsArea exact key octets m is.areas found in
-    let absent = lookup-kept key_cmp exact p key m out in
-    let joined = insert-kept key_cmp exact law.ordered p key octets m is.ordered found out in
-    let sum = law.total (kept key_cmp p m) key octets (sorted-kept key_cmp p m is.ordered) absent in
-    let fits : total_of (kept key_cmp p m) + length octets ≤ 16777216 = omega (arith, sum, ap total_of joined, sum-kept key_cmp length (added key_cmp p key) m, is.total) in
-    let few : one_if (eqb key.area 0x84) + blocks_of (kept key_cmp p m) ≤ 2048 = omega (arith, more-blocks (kept key_cmp p m) key octets absent, ap blocks_of joined, fewer-blocks (added key_cmp p key) m, is.blocks) in
-    rw (area.name, size_ok (total_of (kept key_cmp p m)) (length octets) (key.area == 0x1C || key.area == 0x1D) area.some area.most area.even fits, absent, few_ok (blocks_of (kept key_cmp p m)) (eqb key.area 0x84) few) refl
+    let area = all-found key_cmp IsArea exact key octets m.areas is.areas found in
+    let absent = lookup-kept key_cmp exact p key m.areas out in
+    let joined = insert-kept key_cmp exact law.ordered p key octets m.areas is.ordered found out in
+    let sum = law.total (kept_of p m) key octets (sorted-kept key_cmp p m.areas is.ordered) absent in
+    let fits : total_of (kept_of p m) + length octets ≤ most_in_all = omega (arith, sum, ap list_total joined, sum-kept key_cmp length (added key_cmp p key) m.areas, is.total) in
+    let few : one_if (eqb key.area 0x84) + blocks_of (kept key_cmp p m.areas) ≤ most_dbs = omega (arith, more-blocks (kept key_cmp p m.areas) key octets absent, ap blocks_of joined, fewer-blocks (added key_cmp p key) m.areas, is.blocks) in
+    rw (area.name, size_ok (total_of (kept_of p m)) (length octets) (key.area == 0x1C || key.area == 0x1D) area.some area.most area.even fits, absent, few_ok (blocks_of (kept key_cmp p m.areas)) (eqb key.area 0x84) few) refl
 
 -- ---- names one after another
 
@@ -145,7 +155,7 @@ area_parts : (key : AreaKey) (octets : List ℕ) (text : Text) → area_text key
 area_parts key octets text = append_assoc (head_text key (length octets)) (10 ∷ hex_lines (length octets) octets) text
 
 abbrev Reads : Memory → (AreaKey → Bool) → List AreaKey → ℕ → Type 0
-Reads m p ks line = read_lines line (between (kept key_cmp p m)) (lines (flat_map (part m) ks)) ≡ Ok (kept key_cmp (all_added p ks) m)
+Reads m p ks line = read_lines line (between (kept_of p m)) (lines (flat_map (part m) ks)) ≡ Ok (kept_of (all_added p ks) m)
 
 reads_part : AreasJoin → (m : Memory) (p : AreaKey → Bool) (key : AreaKey) (ks : List AreaKey) (line : ℕ) → IsMemory m → IsInRange m key → p key ≡ false → ((n : ℕ) → Reads m (added key_cmp p key) ks n) → Reads m p (key ∷ ks) line
 reads_part law m p key ks line is range out more = go (octets_at m key) refl range.1
@@ -155,25 +165,25 @@ reads_part law m p key ks line is range out more = go (octets_at m key) refl ran
 
     go : (o : Option (List ℕ)) → octets_at m key ≡ o → IfSome o IsBytes → Reads m p (key ∷ ks) line
     go None found bytes =
-        ap (λ t. read_lines line (between (kept key_cmp p m)) (lines (t ++ flat_map (part m) ks))) (part-is m key None found)
-        ∙ ap (λ (a : Memory). read_lines line (between a) (lines (flat_map (part m) ks))) (sym (kept-none key_cmp p key m found))
+        ap (λ t. read_lines line (between (kept_of p m)) (lines (t ++ flat_map (part m) ks))) (part-is m key None found)
+        ∙ ap (λ (a : AreaList). read_lines line (between (unguarded a)) (lines (flat_map (part m) ks))) (sym (kept-none key_cmp p key m.areas found))
         ∙ more line
     go (Some octets) found bytes =
-        let area = all-found key_cmp IsArea exact key octets m is.areas found in
+        let area = all-found key_cmp IsArea exact key octets m.areas is.areas found in
         let written = written_by key area.name range.0 in
         let none = no_fault law m p key octets is found out in
-        let r = hexes (length octets) (next_line line) line (kept key_cmp p m) (key, octets) [] octets (flat_map (part m) ks) area.some (omega arith) refl (bytes_of octets bytes) none in
-        ap (λ t. read_lines line (between (kept key_cmp p m)) (lines (t ++ flat_map (part m) ks))) (part-is m key (Some octets) found)
-        ∙ ap (λ t. read_lines line (between (kept key_cmp p m)) (lines t)) (area_parts key octets (flat_map (part m) ks))
-        ∙ ap (λ ls. read_lines line (between (kept key_cmp p m)) ls) (line_then (head_text key (length octets)) (hex_lines (length octets) octets ++ flat_map (part m) ks) (written.plain (length octets) area.most))
-        ∙ line_passes line (between (kept key_cmp p m)) (inside (kept key_cmp p m) line (key, octets) []) (head_text key (length octets)) (lines (hex_lines (length octets) octets ++ flat_map (part m) ks))
-        (opens line (kept key_cmp p m) (key, octets) written area.most ((law.faultless (kept key_cmp p m) key (length octets) none).size))
+        let r = hexes (length octets) (next_line line) line (kept_of p m) (key, octets) [] octets (flat_map (part m) ks) area.some (omega arith) refl (bytes_of octets bytes) none in
+        ap (λ t. read_lines line (between (kept_of p m)) (lines (t ++ flat_map (part m) ks))) (part-is m key (Some octets) found)
+        ∙ ap (λ t. read_lines line (between (kept_of p m)) (lines t)) (area_parts key octets (flat_map (part m) ks))
+        ∙ ap (λ ls. read_lines line (between (kept_of p m)) ls) (line_then (head_text key (length octets)) (hex_lines (length octets) octets ++ flat_map (part m) ks) (written.plain (length octets) area.most))
+        ∙ line_passes line (between (kept_of p m)) (inside (kept_of p m) line (key, octets) []) (head_text key (length octets)) (lines (hex_lines (length octets) octets ++ flat_map (part m) ks))
+        (opens line (kept_of p m) (key, octets) written area.most ((law.faultless (kept_of p m) key (length octets) none).size))
         ∙ r.reads
-        ∙ ap (λ (x : Memory). read_lines r.next (between x) (lines (flat_map (part m) ks))) (insert-kept key_cmp exact law.ordered p key octets m is.ordered found out)
+        ∙ ap (λ (x : AreaList). read_lines r.next (between (unguarded x)) (lines (flat_map (part m) ks))) (insert-kept key_cmp exact law.ordered p key octets m.areas is.ordered found out)
         ∙ more r.next
 
 read_all : AreasJoin → (m : Memory) (ks : List AreaKey) (p : AreaKey → Bool) (line : ℕ) → IsMemory m → AllByRecursion (IsInRange m) ks → Fresh p ks → Reads m p ks line
-read_all law m [] p line is range fresh = ends line (between (kept key_cmp p m))
+read_all law m [] p line is range fresh = ends line (between (kept_of p m))
 read_all law m (k ∷ ks) p line is range fresh = reads_part law m p k ks line is range.0 fresh.0 (λ n. read_all law m ks (added key_cmp p k) n is range.1 fresh.1)
 
 -- ---- all names
@@ -258,35 +268,35 @@ has_turn ks key is block_is =
     (λ h. stays ks after_singles (single 0x81) refl) (λ h. stays ks after_singles (single 0x82) refl) (λ h. stays ks after_singles (single 0x83) refl)
     (λ h. stays ks after_singles (single 0x1C) refl) (λ h. stays ks after_singles (single 0x1D) refl) block_is
 
-all_turns : (ks : List AreaKey) (m : Memory) → AllByRecursion IsArea m → AllByRecursion (IsAdded after_singles ks) (keys_of m) → AllByRecursion (λ k. all_added after_singles ks k ≡ true) (keys_of m)
+all_turns : (ks : List AreaKey) (m : AreaList) → AllByRecursion IsArea m → AllByRecursion (IsAdded after_singles ks) (keys_of m) → AllByRecursion (λ k. all_added after_singles ks k ≡ true) (keys_of m)
 all_turns ks [] areas turns = tt
 all_turns ks (e ∷ m) areas turns = (has_turn ks e.0 areas.0.name turns.0, all_turns ks m areas.1 turns.1)
 
-none_kept : (m : Memory) → kept key_cmp none m ≡ []
+none_kept : (m : AreaList) → kept key_cmp none m ≡ []
 none_kept [] = refl
 none_kept (e ∷ m) = none_kept m
 
--- what is written for areas names them
-pub areas-spelling : AreasJoin → (m : Memory) → IsMemory m → AllByRecursion (IsInRange m) (order m) → areas (spelling m) ≡ Ok m
+-- what is written for areas names them, without their guard
+pub areas-spelling : AreasJoin → (m : Memory) → IsMemory m → AllByRecursion (IsInRange m) (order m) → areas (spelling m) ≡ Ok (record m { guard = None })
 areas-spelling law m is range =
-    let keys = keys_of m in
+    let keys = keys_of m.areas in
     let fresh = fresh-append (map single singles) (blocks (dbs keys)) none (refl, (refl, (refl, (refl, (refl, tt))))) (fresh_blocks keys after_singles is.ordered (all_of (IsFresh after_singles) keys no_block)) in
-    let whole : kept key_cmp (all_added none (order m)) m ≡ m =
-    ap (λ q. kept key_cmp q m) (added-append (map single singles) (blocks (dbs keys)) none)
-    ∙ all_kept key_cmp (all_added after_singles (blocks (dbs keys))) m (all_turns (blocks (dbs keys)) m is.areas (in_blocks law keys after_singles)) in
+    let whole : kept key_cmp (all_added none (order m)) m.areas ≡ m.areas =
+    ap (λ q. kept key_cmp q m.areas) (added-append (map single singles) (blocks (dbs keys)) none)
+    ∙ all_kept key_cmp (all_added after_singles (blocks (dbs keys))) m.areas (all_turns (blocks (dbs keys)) m.areas is.areas (in_blocks law keys after_singles)) in
     ap after_header (line_then header (flat_map (part m) (order m)) (plain_by_test header refl))
-    ∙ ap (λ (x : Memory). read_lines 2 (between x) (lines (flat_map (part m) (order m)))) (sym (none_kept m))
+    ∙ ap (λ (x : AreaList). read_lines 2 (between (unguarded x)) (lines (flat_map (part m) (order m)))) (sym (none_kept m.areas))
     ∙ read_all law m (order m) none 2 is range fresh
-    ∙ ap Ok whole
+    ∙ ap (λ (x : AreaList). Ok (unguarded x)) whole
 
 flat-append : (f : AreaKey → Text) (xs ys : List AreaKey) → flat_map f (xs ++ ys) ≡ flat_map f xs ++ flat_map f ys
 flat-append f [] ys = refl
 flat-append f (x ∷ xs) ys = ap (λ t. f x ++ t) (flat-append f xs ys) ∙ sym (append_assoc (f x) (flat_map f xs) (flat_map f ys))
 
 -- the text is written in three parts
-pub spelled_by : (m : Memory) (first singly whole : Text) → first ≡ header ++ 10 ∷ [] → singly ≡ first ++ flat_map (part m) (map single singles) → whole ≡ singly ++ flat_map (part m) (map block (db_numbers (keys_of m))) → whole ≡ spelling m
+pub spelled_by : (m : Memory) (first singly whole : Text) → first ≡ header ++ 10 ∷ [] → singly ≡ first ++ flat_map (part m) (map single singles) → whole ≡ singly ++ flat_map (part m) (map block (db_numbers (keys_of m.areas))) → whole ≡ spelling m
 spelled_by m first singly whole a b c =
-    c ∙ ap (λ t. t ++ flat_map (part m) (map block (db_numbers (keys_of m)))) (b ∙ ap (λ t. t ++ flat_map (part m) (map single singles)) a)
-    ∙ append_assoc (header ++ 10 ∷ []) (flat_map (part m) (map single singles)) (flat_map (part m) (map block (db_numbers (keys_of m))))
-    ∙ append_assoc header (10 ∷ []) (flat_map (part m) (map single singles) ++ flat_map (part m) (map block (db_numbers (keys_of m))))
-    ∙ ap (λ t. header ++ 10 ∷ t) (sym (flat-append (part m) (map single singles) (map block (db_numbers (keys_of m)))))
+    c ∙ ap (λ t. t ++ flat_map (part m) (map block (db_numbers (keys_of m.areas)))) (b ∙ ap (λ t. t ++ flat_map (part m) (map single singles)) a)
+    ∙ append_assoc (header ++ 10 ∷ []) (flat_map (part m) (map single singles)) (flat_map (part m) (map block (db_numbers (keys_of m.areas))))
+    ∙ append_assoc header (10 ∷ []) (flat_map (part m) (map single singles) ++ flat_map (part m) (map block (db_numbers (keys_of m.areas))))
+    ∙ ap (λ t. header ++ 10 ∷ t) (sym (flat-append (part m) (map single singles) (map block (db_numbers (keys_of m.areas)))))

@@ -1,9 +1,10 @@
 -- The areas that a word names, as far as they are told.
-use Rattle.std.specs.Prelude.{◌≡◌, ◌≢◌, ℕ, nat_lt, List, [], ◌∷◌, length, Option, Some, None, Result, Ok, Err, IsTrue, if◌then◌else◌}
+use Rattle.std.specs.Prelude.{◌≡◌, ◌≢◌, ℕ, nat_lt, List, length, Option, Some, None, Result, Ok, Err, IsTrue, if◌then◌else◌}
 use Rattle.s7_outer.specs.Count.{Rose}
 use Rattle.s7_outer.specs.FilesShown.{FilesShown}
 use Rattle.s7_outer.specs.Files.{file_limit, NonePathFell}
-use Rattle.s7_area.specs.Memory.{Memory}
+use Rattle.s7_item.specs.Codes.{data_blocks}
+use Rattle.s7_area.specs.Memory.{Memory, no_areas, with_area}
 use Rattle.s7_script.specs.Lines.{Text}
 use Rattle.s7_script.specs.Reading.{areas}
 use Rattle.s7_script.specs.Naming.{Named, path, block, faulty}
@@ -11,9 +12,9 @@ use Rattle.s7_script.specs.declared.fault.AreasFault.{AreasFault}
 use Rattle.s7_script.specs.declared.load.LoadFault.{LoadFault}
 use Rattle.s7_script.specs.declared.load.LoadFault.TheVariants as fault
 
--- the data block of this number alone
+-- the data block of this number alone, without a guard
 abbrev pub opening : ℕ → List ℕ → Memory
-opening number octets = (record { area = 0x84; number = number }, octets) ∷ []
+opening number octets = with_area no_areas (record { area = data_blocks; number = number }) octets
 
 -- the first faulty line
 abbrev pub with_line_fault : Result Memory AreasFault → Result Memory LoadFault

@@ -5,6 +5,7 @@ use Rattle.std.specs.List.{position}
 use Rattle.std.specs.Str.{bytes_eq}
 use Rattle.hex.specs.Hex.{decode_of}
 use Rattle.hex.specs.declared.error.FromHexError.{FromHexError}
+use Rattle.s7_area.specs.Registers.{most_octets}
 use Rattle.s7_script.specs.Lines.{Text}
 use Rattle.s7_script.specs.Fields.{number_of}
 
@@ -20,10 +21,10 @@ abbrev pub block_number : Option ℕ → Option ℕ
 block_number None = None
 block_number (Some n) = if nat_le 1 n && nat_le n 65535 then Some n else None
 
--- 1 to 65,536 octets
+-- as many octets as an area may have
 abbrev pub block_octets : Result (List ℕ) FromHexError → Option (List ℕ)
 block_octets (Err e) = None
-block_octets (Ok octets) = if nat_le 1 (length octets) && nat_le (length octets) 65536 then Some octets else None
+block_octets (Ok octets) = if nat_le 1 (length octets) && nat_le (length octets) most_octets then Some octets else None
 
 abbrev pub block_with : ℕ → Option (List ℕ) → Named
 block_with number None = faulty

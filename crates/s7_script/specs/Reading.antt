@@ -1,11 +1,11 @@
 -- What an area file says: its areas, or the first faulty line.
 use Rattle.std.specs.Prelude.{ℕ, Bool, true, ◌==◌, ◌+◌, ◌≡◌, nat_lt, List, [], ◌∷◌, ◌++◌, length, min, codes, Option, Some, None, Result, Ok, Err, if◌then◌else◌}
 use Rattle.std.specs.List.{position}
-use Rattle.std.specs.BTreeMap.{insert_entry}
 use Rattle.std.specs.Str.{bytes_eq}
 use Rattle.hex.specs.Hex.{decode_of}
 use Rattle.hex.specs.declared.error.FromHexError.{FromHexError}
-use Rattle.s7_area.specs.Memory.{Memory, key_cmp}
+use Rattle.s7_item.specs.Codes.{inputs, outputs, flags, data_blocks, counters, timers}
+use Rattle.s7_area.specs.Memory.{Memory, no_areas, with_area}
 use Rattle.s7_area.specs.Registers.{fault_of, is_wrong_size}
 use Rattle.s7_area.specs.declared.key.AreaKey.{AreaKey}
 use Rattle.s7_area.specs.declared.register.RegisterFault.{RegisterFault}
@@ -28,12 +28,12 @@ header = codes "s7 areas 1"
 
 abbrev pub area_named : Text → Option ℕ
 area_named name =
-    if bytes_eq name (codes "PE") then Some 0x81
-    else (if bytes_eq name (codes "PA") then Some 0x82
-    else (if bytes_eq name (codes "MK") then Some 0x83
-    else (if bytes_eq name (codes "CT") then Some 0x1C
-    else (if bytes_eq name (codes "TM") then Some 0x1D
-    else (if bytes_eq name (codes "DB") then Some 0x84
+    if bytes_eq name (codes "PE") then Some inputs
+    else (if bytes_eq name (codes "PA") then Some outputs
+    else (if bytes_eq name (codes "MK") then Some flags
+    else (if bytes_eq name (codes "CT") then Some counters
+    else (if bytes_eq name (codes "TM") then Some timers
+    else (if bytes_eq name (codes "DB") then Some data_blocks
     else None)))))
 
 -- there are no more fields
@@ -53,12 +53,12 @@ abbrev pub block_line : ℕ → Option Text → Result (AreaKey × ℕ) AreasFau
 block_line line None = fault_at line kind.Line
 block_line line (Some text) = do
   number ← number_within 1 65535 (number_of (first_field text (position is_space text))) line
-  with_size line (record { area = 0x84; number = number }) (fields_after text (position is_space text))
+  with_size line (record { area = data_blocks; number = number }) (fields_after text (position is_space text))
 
 abbrev pub named_line : ℕ → Option ℕ → Option Text → Result (AreaKey × ℕ) AreasFault
 named_line line None rest = fault_at line kind.Line
 named_line line (Some area) rest =
-    if area == 0x84 then block_line line rest
+    if area == data_blocks then block_line line rest
     else with_size line (record { area = area; number = 0 }) rest
 
 -- the name and the length of an area
@@ -93,7 +93,7 @@ kind_of refusal.Exists = kind.Register refusal.Exists
 kind_of refusal.TooManyDbs = kind.Register refusal.TooManyDbs
 
 abbrev pub joined : Memory → Open → Option RegisterFault → Result State AreasFault
-joined areas a None = Ok (record { areas = insert_entry key_cmp areas a.key a.octets; current = None })
+joined areas a None = Ok (record { areas = with_area areas a.key a.octets; current = None })
 joined areas a (Some fault) = fault_at a.line (kind.Register fault)
 
 -- an area that is whole joins the others
@@ -145,14 +145,14 @@ read_lines line s (text ∷ rest) = do
   read_lines (next_line line) next rest
 
 abbrev pub nothing_read : State
-nothing_read = record { areas = []; current = None }
+nothing_read = record { areas = no_areas; current = None }
 
 abbrev pub after_header : List Text → Result Memory AreasFault
 after_header [] = fault_at 1 kind.Head
 after_header (text ∷ rest) =
     if bytes_eq text header then read_lines 2 nothing_read rest else fault_at 1 kind.Head
 
--- the areas that an area file names, or its first faulty line
+-- the areas that an area file names, without a guard, or its first faulty line
 abbrev pub areas : Text → Result Memory AreasFault
 areas text = after_header (lines text)
 

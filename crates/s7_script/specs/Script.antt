@@ -4,6 +4,7 @@ use Rattle.std.specs.List.{position}
 use Rattle.std.specs.Str.{bytes_eq}
 use Rattle.hex.specs.Hex.{decode_of}
 use Rattle.hex.specs.declared.error.FromHexError.{FromHexError}
+use Rattle.s7_item.specs.Codes.{data_blocks, counters, timers, bits, bytes, characters, words, integers, double_words, double_integers, reals}
 use Rattle.s7_area.specs.declared.key.AreaKey.{AreaKey}
 use Rattle.s7_item.specs.Word.{size_of}
 use Rattle.s7_item.specs.declared.item.Item.{Item}
@@ -51,22 +52,22 @@ key_of field =
     if bytes_eq (take 2 field) (codes "DB")
     then (do
       number ← within 1 65535 (number_of (drop 2 field))
-      Ok (record { area = 0x84; number = number }))
+      Ok (record { area = data_blocks; number = number }))
     else named_key (area_named field)
 
 -- the code of the word of this name
 abbrev pub word_named : Text → Option ℕ
 word_named name =
-    if bytes_eq name (codes "bit") then Some 0x01
-    else (if bytes_eq name (codes "byte") then Some 0x02
-    else (if bytes_eq name (codes "char") then Some 0x03
-    else (if bytes_eq name (codes "word") then Some 0x04
-    else (if bytes_eq name (codes "int") then Some 0x05
-    else (if bytes_eq name (codes "dword") then Some 0x06
-    else (if bytes_eq name (codes "dint") then Some 0x07
-    else (if bytes_eq name (codes "real") then Some 0x08
-    else (if bytes_eq name (codes "counter") then Some 0x1C
-    else (if bytes_eq name (codes "timer") then Some 0x1D
+    if bytes_eq name (codes "bit") then Some bits
+    else (if bytes_eq name (codes "byte") then Some bytes
+    else (if bytes_eq name (codes "char") then Some characters
+    else (if bytes_eq name (codes "word") then Some words
+    else (if bytes_eq name (codes "int") then Some integers
+    else (if bytes_eq name (codes "dword") then Some double_words
+    else (if bytes_eq name (codes "dint") then Some double_integers
+    else (if bytes_eq name (codes "real") then Some reals
+    else (if bytes_eq name (codes "counter") then Some counters
+    else (if bytes_eq name (codes "timer") then Some timers
     else None)))))))))
 
 abbrev pub word_of : Option ℕ → Result ℕ ScriptKind
@@ -92,8 +93,8 @@ octet_place field = do
 -- the address that a start names: counters and timers have numbers
 abbrev pub address_of : AreaKey → ℕ → Text → Result ℕ ScriptKind
 address_of key word field =
-    if key.area == 0x1C || key.area == 0x1D then within 0 16777215 (number_of field)
-    else (if word == 0x01 then bit_place field (position is_point field)
+    if key.area == counters || key.area == timers then within 0 16777215 (number_of field)
+    else (if word == bits then bit_place field (position is_point field)
     else octet_place field)
 
 -- ---- items

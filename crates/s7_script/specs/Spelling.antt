@@ -4,6 +4,7 @@ use Rattle.std.specs.List.{flat_map}
 use Rattle.std.specs.Map.{keys_of}
 use Rattle.std.specs.Fmt.{decimal}
 use Rattle.hex.specs.Hex.{IsBytes, encode_lower}
+use Rattle.s7_item.specs.Codes.{inputs, outputs, flags, data_blocks, counters, timers}
 use Rattle.s7_area.specs.Memory.{Memory, octets_at}
 use Rattle.s7_area.specs.Registers.{db_numbers}
 use Rattle.s7_area.specs.declared.key.AreaKey.{AreaKey}
@@ -18,16 +19,16 @@ hex_lines (suc k) (b ∷ bs) = encode_lower (take 32 (b ∷ bs)) ++ 10 ∷ hex_l
 
 abbrev pub name_of : ℕ → Text
 name_of area =
-    if area == 0x81 then codes "PE"
-    else (if area == 0x82 then codes "PA"
-    else (if area == 0x83 then codes "MK"
-    else (if area == 0x1C then codes "CT"
+    if area == inputs then codes "PE"
+    else (if area == outputs then codes "PA"
+    else (if area == flags then codes "MK"
+    else (if area == counters then codes "CT"
     else codes "TM")))
 
 -- the line that begins an area
 abbrev pub head_text : AreaKey → ℕ → Text
 head_text key size =
-    if key.area == 0x84 then codes "DB " ++ (decimal key.number ++ 32 ∷ decimal size)
+    if key.area == data_blocks then codes "DB " ++ (decimal key.number ++ 32 ∷ decimal size)
     else name_of key.area ++ 32 ∷ decimal size
 
 abbrev pub area_text : AreaKey → List ℕ → Text
@@ -47,17 +48,17 @@ IsInRange m key = (key.number < 65536) × IfSome (octets_at m key) IsBytes
 
 -- inputs, outputs, flags, counters and timers
 abbrev pub singles : List ℕ
-singles = 0x81 ∷ 0x82 ∷ 0x83 ∷ 0x1C ∷ 0x1D ∷ []
+singles = inputs ∷ outputs ∷ flags ∷ counters ∷ timers ∷ []
 
 abbrev pub single : ℕ → AreaKey
 single area = record { area = area; number = 0 }
 
 abbrev pub block : ℕ → AreaKey
-block number = record { area = 0x84; number = number }
+block number = record { area = data_blocks; number = number }
 
--- the names in the order in which their areas are written
+-- the names in the order in which their areas are written; a guard isn't written
 abbrev pub order : Memory → List AreaKey
-order m = map single singles ++ map block (db_numbers (keys_of m))
+order m = map single singles ++ map block (db_numbers (keys_of m.areas))
 
 abbrev pub spelling : Memory → Text
 spelling m = header ++ 10 ∷ flat_map (part m) (order m)

@@ -7,9 +7,7 @@ ghost use Rattle.s7_script.specs.Reading.{area_line, area_named, block_line, wit
 use crate::lines::{number, split_field};
 use crate::{AreasFault, AreasKind};
 use s7_area::AreaKey;
-
-/// The code of the area of data blocks.
-pub(crate) const DATA_BLOCK: u8 = 0x84;
+use s7_item::codes::{COUNTERS, DATA_BLOCKS, FLAGS, INPUTS, OUTPUTS, TIMERS};
 
 pub(crate) fn fault(line: u32, kind: AreasKind) -> AreasFault
     ensures { result ≡ record { line = line; kind = kind } }
@@ -23,7 +21,7 @@ pub(crate) fn area_line(line: u32, text: &[u8]) -> Result<(AreaKey, u64), AreasF
 {
     let (name, rest) = split_field(text);
     match area_named(name) {
-        Some(DATA_BLOCK) => block_line(line, rest),
+        Some(DATA_BLOCKS) => block_line(line, rest),
         Some(area) => with_size(line, AreaKey { area, number: 0 }, rest),
         None => Err(fault(line, AreasKind::Line)),
     }
@@ -34,17 +32,17 @@ pub(crate) fn area_named(name: &[u8]) -> Option<u8>
     ensures { result ≡ area_named name.now }
 {
     if name == b"PE".as_slice() {
-        Some(0x81)
+        Some(INPUTS)
     } else if name == b"PA".as_slice() {
-        Some(0x82)
+        Some(OUTPUTS)
     } else if name == b"MK".as_slice() {
-        Some(0x83)
+        Some(FLAGS)
     } else if name == b"CT".as_slice() {
-        Some(0x1C)
+        Some(COUNTERS)
     } else if name == b"TM".as_slice() {
-        Some(0x1D)
+        Some(TIMERS)
     } else if name == b"DB".as_slice() {
-        Some(DATA_BLOCK)
+        Some(DATA_BLOCKS)
     } else {
         None
     }
@@ -60,7 +58,7 @@ fn block_line(line: u32, rest: Option<&[u8]>) -> Result<(AreaKey, u64), AreasFau
     let (field, rest) = split_field(text);
     let number = number_within(1, 65_535, number(field), line)?;
     let key = AreaKey {
-        area: DATA_BLOCK,
+        area: DATA_BLOCKS,
         number: number as u16,
     };
     with_size(line, key, rest)

@@ -6,18 +6,14 @@ ghost use Rattle.s7_script.specs.Script.{address_of, bit_place, ended, is_point,
 ghost use Rattle.s7_script.specs.ScriptShown.{place_of};
 
 use crate::ScriptKind;
-use crate::area_line::{DATA_BLOCK, area_named};
+use crate::area_line::area_named;
 use crate::lines::{number, split_field};
 use s7_area::AreaKey;
 use s7_item::Item;
-
-/// The codes of counters and timers, whose places are numbers.
-const COUNTERS: u8 = 0x1C;
-
-const TIMERS: u8 = 0x1D;
-
-/// The word of bits.
-const BIT: u8 = 0x01;
+use s7_item::codes::{
+    BIT, BYTE, CHARACTER, COUNTERS, DATA_BLOCKS, DOUBLE_INTEGER, DOUBLE_WORD, INTEGER, REAL,
+    TIMERS, WORD,
+};
 
 /// The last octet that an address reaches.
 const LAST_OCTET: u64 = 2_097_151;
@@ -119,7 +115,7 @@ fn key_of(field: &[u8]) -> Result<AreaKey, ScriptKind>
     if let Some(digits) = field.strip_prefix(b"DB".as_slice()) {
         let number = within(1, 65_535, number(digits))?;
         return Ok(AreaKey {
-            area: DATA_BLOCK,
+            area: DATA_BLOCKS,
             number: number as u16,
         });
     }
@@ -208,23 +204,23 @@ fn word_named(name: &[u8]) -> Option<u8>
     if name == b"bit".as_slice() {
         Some(BIT)
     } else if name == b"byte".as_slice() {
-        Some(0x02)
+        Some(BYTE)
     } else if name == b"char".as_slice() {
-        Some(0x03)
+        Some(CHARACTER)
     } else if name == b"word".as_slice() {
-        Some(0x04)
+        Some(WORD)
     } else if name == b"int".as_slice() {
-        Some(0x05)
+        Some(INTEGER)
     } else if name == b"dword".as_slice() {
-        Some(0x06)
+        Some(DOUBLE_WORD)
     } else if name == b"dint".as_slice() {
-        Some(0x07)
+        Some(DOUBLE_INTEGER)
     } else if name == b"real".as_slice() {
-        Some(0x08)
+        Some(REAL)
     } else if name == b"counter".as_slice() {
-        Some(0x1C)
+        Some(COUNTERS)
     } else if name == b"timer".as_slice() {
-        Some(0x1D)
+        Some(TIMERS)
     } else {
         None
     }

@@ -7,17 +7,17 @@ ghost use Rattle.s7_script.specs.Reading.{areas as areas_by};
 ghost use Rattle.s7_script.specs.Naming.{naming, path, inline_parts, parts_at, is_equals, block_number, block_octets, block_named, block_with};
 ghost use Rattle.s7_script.specs.Loading.{Loads, LoadsBlock, Answers, opening, with_line_fault};
 
-use crate::area_line::DATA_BLOCK;
 use crate::lines::number;
 use crate::read::read_areas;
 use crate::{AreasFault, AreasKind};
 use hex::FromHexError;
 use s7_area::{AreaKey, Areas, RegisterFault};
+use s7_item::codes::DATA_BLOCKS;
 use s7_outer::{FileFault, Files, Octets};
 use std::alloc::Global;
 
 /// How many octets a data block has at most.
-const MOST_OCTETS: usize = 65_536;
+const MOST_OCTETS: usize = 2_097_152;
 
 /// Why areas were not loaded.
 #[derive(Clone, Copy, Debug, PartialEq, Eq)]
@@ -33,11 +33,11 @@ pub enum LoadFault {
     Memory,
 }
 
-/// The areas that a word names. No path changes.
+/// The areas that a word names, without a guard. No path changes.
 ///
 /// A word that begins with `DB` and holds `=` is inline: `DBn=HEX`, where `n` is a decimal number
 /// of at most ten digits from 1 to 65,535, and `HEX` an even number of hexadecimal digits in either
-/// case for 1 to 65,536 octets. It names the data block `n` alone, with these octets; where it
+/// case for 1 to 2,097,152 octets. It names the data block `n` alone, with these octets; where it
 /// can't be read, the answer is `Line(1)`. It touches no file.
 ///
 /// Every other word is a path, and the file under it is read as `read_areas` has it. `Failed` comes
@@ -109,7 +109,7 @@ fn open_block(alloc: Global, number: u16, octets: Vec<u8>) -> Result<Areas, Load
         return Err(LoadFault::Line(1));
     }
     let key = AreaKey {
-        area: DATA_BLOCK,
+        area: DATA_BLOCKS,
         number,
     };
     let mut areas = Areas::new();

@@ -3,7 +3,7 @@ ghost use Rattle.std.specs.Prelude.{◌≡◌, ◌≤◌, vec_len};
 ghost use Rattle.std.specs.List.Sorted.{IsStrictlySortedBy, IsStrictlySortedBy-prop};
 ghost use Rattle.std.specs.Map.{keys_of};
 ghost use Rattle.s7_area.specs.Memory.{key_cmp};
-ghost use Rattle.s7_area.specs.Registers.{total_of};
+ghost use Rattle.s7_area.specs.Registers.{most_in_all, total_of};
 
 use s7_area::{AreaKey, Areas};
 
@@ -24,6 +24,6 @@ pub(crate) struct State {
     pub total: usize,
     pub current: Option<Open>,
     ghost is_total: { total ≡ total_of areas },
-    ghost fits: { total ≤ 16777216 },
-    ghost ordered: { IsStrictlySortedBy key_cmp (keys_of areas) } by { IsStrictlySortedBy-prop key_cmp (keys_of areas) },
+    ghost fits: { total ≤ most_in_all },
+    ghost ordered: { IsStrictlySortedBy key_cmp (keys_of areas.areas) } by { IsStrictlySortedBy-prop key_cmp (keys_of areas.areas) },
 }

@@ -8,11 +8,9 @@ ghost use Rattle.s7_script.specs.Printing.{IsPrintable, IsPrintableOf, code_text
 
 use s7_client::{Job, JobResult};
 use s7_item::Item;
+use s7_item::codes::GOOD;
 use s7_outer::{Memory, Octets};
 use std::alloc::Global;
-
-/// The return code of an item that was read.
-const GOOD: u8 = 0xFF;
 
 /// The line that tells what came of the job of a line: the line's number, the job's word, its code in
 /// eight upper-case hexadecimal digits, and the value, with one space between them and LF at the end.

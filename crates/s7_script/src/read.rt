@@ -12,6 +12,7 @@ use crate::opening::{Open, State};
 use crate::{AreasFault, AreasKind};
 use hex::FromHexError;
 use s7_area::{AreaKey, Areas, RegisterFault, areas_join};
+use s7_item::codes::{COUNTERS, TIMERS};
 use s7_outer::Octets;
 use std::alloc::Global;
 
@@ -19,7 +20,7 @@ use std::alloc::Global;
 const HEADER: &[u8] = b"s7 areas 1";
 
 /// How many octets an area has at most.
-const MOST_OCTETS: u64 = 65_536;
+const MOST_OCTETS: u64 = 2_097_152;
 
 /// How many octets all areas have together at most.
 const MOST_IN_ALL: u64 = 16_777_216;
@@ -31,7 +32,8 @@ const MOST_IN_ALL: u64 = 16_777_216;
 /// begins with the line `PE`, `PA`, `MK`, `CT` or `TM` and its length, or `DB`, the number of the
 /// data block from 1 to 65,535, and its length: decimal numbers of at most ten digits, with one
 /// space between fields. Lines of hexadecimal digits in either case follow, until the area has as
-/// many octets as its length says. Each area is registered as `Areas::register` has it.
+/// many octets as its length says. Each area is registered as `Areas::register` has it, and there is
+/// no guard.
 ///
 /// `AreasKind` says what each fault is. `Memory` comes where there is none.
 pub fn read_areas(alloc: Global, text: &[u8]) -> Result<Areas, AreasFault>
@@ -111,7 +113,7 @@ impl State {
     {
         size == 0
             || size > MOST_OCTETS
-            || (key.area == 0x1C || key.area == 0x1D) && size % 2 != 0
+            || (key.area == COUNTERS || key.area == TIMERS) && size % 2 != 0
             || size > MOST_IN_ALL - self.total as u64
     }
 

@@ -33,6 +33,8 @@ fn first_wrong_line(rt: HostRuntime) -> Result<(), Fail> {
             register(RegisterFault::Size),
         ),
         ("s7 areas 1\nPE 0\n", 2, register(RegisterFault::Size)),
+        ("s7 areas 1\nPE 2097152\n", 3, AreasKind::Ended),
+        ("s7 areas 1\nPE 2097153\n", 2, register(RegisterFault::Size)),
         (
             "s7 areas 1\nCT 3\n001122\n",
             2,

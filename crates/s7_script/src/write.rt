@@ -1,5 +1,5 @@
 // Writing area files.
-ghost use Rattle.std.specs.Prelude.{◌≡◌, ◌++◌, Ok, IfOk, OnOk, length, map};
+ghost use Rattle.std.specs.Prelude.{◌≡◌, ◌++◌, None, Ok, IfOk, OnOk, length, map};
 ghost use Rattle.std.specs.List.{AllByRecursion, flat_map};
 ghost use Rattle.std.specs.Map.{keys_of};
 ghost use Rattle.hex.specs.Hex.{IsBytes};
@@ -7,22 +7,28 @@ ghost use Rattle.s7_area.specs.Registers.{IsMemory, db_numbers};
 ghost use Rattle.s7_script.specs.Reading.{areas as areas_by};
 ghost use Rattle.s7_script.specs.Spelling.{IsInRange, area_text, block, hex_lines, name_of, part, single, singles, spelling};
 
-use crate::area_line::DATA_BLOCK;
 use s7_area::{AreaKey, Areas, areas_join};
+use s7_item::codes::{COUNTERS, DATA_BLOCKS, FLAGS, INPUTS, OUTPUTS, TIMERS};
 use s7_outer::{Memory, Octets};
 use std::alloc::Global;
 
 /// The area file of areas: the first line, then inputs, outputs, flags, counters, timers and the
 /// data blocks in ascending order of their numbers, with 32 octets in lower case on a line. Every
-/// line ends with LF. `read_areas` reads the same areas again. `Memory` comes where there is none.
+/// line ends with LF. The guard isn't written; `read_areas` reads the same areas again, without one.
+/// `Memory` comes where there is none.
 pub fn write_areas(alloc: Global, areas: &Areas) -> Result<Octets, Memory>
     ensures spelled { IfOk result (λ text. text ≡ spelling areas.now) }
-    ensures law { IfOk result (λ text. areas_by text ≡ Ok areas.now) }
+    ensures law { IfOk result (λ text. areas_by text ≡ Ok (record areas.now { guard = None })) }
 {
     areas_join();
     let mut text = Vec::new(alloc);
     text.extend_from_slice(b"s7 areas 1\n")?;
-    write_singles(alloc, &mut text, areas, &[0x81, 0x82, 0x83, 0x1C, 0x1D])?;
+    write_singles(
+        alloc,
+        &mut text,
+        areas,
+        &[INPUTS, OUTPUTS, FLAGS, COUNTERS, TIMERS],
+    )?;
     write_blocks(alloc, &mut text, areas)?;
     Ok(Octets::of_vec(text))
 }
@@ -55,13 +61,13 @@ fn write_singles(
 /// Appends the data blocks.
 fn write_blocks(alloc: Global, text: &mut Vec<u8>, areas: &Areas) -> Result<(), Memory>
     ensures ok { OnOk result (text.new.items
-        ≡ text.old.items ++ flat_map (part areas.now) (map block (db_numbers (keys_of areas.now)))) }
+        ≡ text.old.items ++ flat_map (part areas.now) (map block (db_numbers (keys_of areas.now.areas)))) }
     ensures range { OnOk result
-        (AllByRecursion (IsInRange areas.now) (map block (db_numbers (keys_of areas.now)))) }
+        (AllByRecursion (IsInRange areas.now) (map block (db_numbers (keys_of areas.now.areas)))) }
     ensures memory { OnOk result (IsMemory areas.now) }
 {
     for number in areas.db_numbers() {
-        let area = DATA_BLOCK;
+        let area = DATA_BLOCKS;
         write_part(alloc, text, areas, AreaKey { area, number })?;
     }
     Ok(())
@@ -86,7 +92,7 @@ fn write_area(alloc: Global, text: &mut Vec<u8>, key: AreaKey, octets: &[u8]) ->
     let size = octets.len();
     let number = key.number;
     let name = name_of(key.area);
-    let line = if key.area == DATA_BLOCK {
+    let line = if key.area == DATA_BLOCKS {
         format!(in alloc; "DB {number} {size}\n")?
     } else {
         format!(in alloc; "{name} {size}\n")?
@@ -99,10 +105,10 @@ fn name_of(area: u8) -> &'static str
     ensures { result.now ≡ name_of area }
 {
     match area {
-        0x81 => "PE",
-        0x82 => "PA",
-        0x83 => "MK",
-        0x1C => "CT",
+        INPUTS => "PE",
+        OUTPUTS => "PA",
+        FLAGS => "MK",
+        COUNTERS => "CT",
         _ => "TM",
     }
 }

@@ -7,6 +7,6 @@ use Rattle.s7_script.proofs.write.write_blocks.Given as goal
 
 abbrev pub invariant-loop-number : goal.invariant-loop-number
 invariant-loop-number l = record {
-  text : l.text.items ++ flat_map (part l.areas) (map block l.number-iterator) ≡ l.fn.text.items ++ flat_map (part l.areas) (map block (db_numbers (keys_of l.areas)));
-  octets : AllByRecursion (IsInRange l.areas) (map block l.number-iterator) → AllByRecursion (IsInRange l.areas) (map block (db_numbers (keys_of l.areas)));
+  text : l.text.items ++ flat_map (part l.areas) (map block l.number-iterator) ≡ l.fn.text.items ++ flat_map (part l.areas) (map block (db_numbers (keys_of l.areas.areas)));
+  octets : AllByRecursion (IsInRange l.areas) (map block l.number-iterator) → AllByRecursion (IsInRange l.areas) (map block (db_numbers (keys_of l.areas.areas)));
 }
