@@ -2,7 +2,8 @@
 use Rattle.std.proofs.Common.{◌≡◌, ℕ, ◌+◌, ◌≤◌, List, [], ◌∷◌, ◌++◌, length, Ok, ◌==◌, ap, ◌∙◌, arith, length-append}
 use Rattle.std.specs.Prelude.{All}
 use Rattle.std.proofs.lemmas.List.Elements.{All-nil, All-cons}
-use Rattle.s7_item.specs.DataItem.{SpellsData, Begins, span_of, data_places_of}
+use Rattle.s7_item.specs.DataItem.{span_of, data_places_of}
+use Rattle.s7_item.specs.DataLaws.{SpellsData, Begins}
 use Rattle.s7_item.specs.declared.places.DataPlace.{DataPlace}
 use Rattle.s7_item.proofs.DataLaws.{data_are_exact, are_as_many}
 

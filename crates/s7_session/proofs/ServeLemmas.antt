@@ -227,11 +227,6 @@ served_after u s0 s1 s2 k0 k1 k2 d0 d1 d2 f0 f1 f2 o m live t = record {
       (t.cause o refl (live l) (b ++ m.used) (js ++ m.verdicts) (w ++ m.written) (m.stood b js w h))));
 }
 
-pub not_closed : (t : Turn) → ((o : Outcome) → t ≡ turn.Closed o → ⊥) → closed_by t ≡ None
-not_closed turn.Went h = refl
-not_closed turn.NotYet h = refl
-not_closed (turn.Closed o) h = absurd (h o refl)
-
 pub bad_not_whole : (s : FedState) → (s ≡ fed.BadVersion) ⊎ (s ≡ fed.BadLength) → s ≡ fed.Whole → ⊥
 bad_not_whole s (inl h) e = cc
 bad_not_whole s (inr h) e = cc

@@ -10,12 +10,13 @@ use Rattle.s7_header.specs.declared.user_params.UserParams.{UserParams}
 use Rattle.s7_header.specs.declared.faults.BadParams.{BadParams}
 use Rattle.s7_header.specs.Octets.{number_at}
 use Rattle.s7_header.specs.Header.{header_of, spelling_of, refusal_of, params_of, body_of}
-use Rattle.s7_header.specs.Negotiation.{negotiation_of, granted, negotiation_spelling}
+use Rattle.s7_header.specs.Negotiation.{negotiation_of, granted, negotiation_spelling, most_pdu}
 use Rattle.s7_header.specs.UserParams.{user_params_of}
 use Rattle.s7_item.specs.declared.item.Item.{Item}
 use Rattle.s7_item.specs.declared.places.DataPlace.{DataPlace}
 use Rattle.s7_item.specs.declared.params.ItemFault.{ItemFault}
 use Rattle.s7_item.specs.declared.read_data.DataFault.{DataFault}
+use Rattle.s7_item.specs.Codes.{read_function, write_function}
 use Rattle.s7_item.specs.Params.{items_of}
 use Rattle.s7_item.specs.DataItem.{data_places_of}
 use Rattle.s7_item.specs.Sizes.{answer_size}
@@ -102,8 +103,8 @@ write link pdu sequence body (Ok items) = write_of link pdu sequence items body 
 -- control, which aren't served.
 abbrev pub function : LinkState → ℕ → ℕ → ℕ → List ℕ → List ℕ → Judgement
 function link pdu code sequence params body =
-    if code == 0x04 then read link pdu sequence body (items_of params)
-    else (if code == 0x05 then write link pdu sequence body (items_of params)
+    if code == read_function then read link pdu sequence body (items_of params)
+    else (if code == write_function then write link pdu sequence body (items_of params)
     else refuse UnknownFunction)
 
 abbrev pub function_at : LinkState → Option ℕ → ℕ → ℕ → List ℕ → List ℕ → Judgement
@@ -131,7 +132,7 @@ user_at (Some pdu) (x ∷ params) = group (user_params_of (x ∷ params))
 
 -- the greatest length of a message: before the negotiation that of the greatest PDU
 abbrev pub pdu_limit : Option ℕ → ℕ
-pdu_limit None = 960
+pdu_limit None = most_pdu
 pdu_limit (Some pdu) = pdu
 
 abbrev pub kinds : LinkState → Kind → ℕ → List ℕ → List ℕ → Judgement

@@ -2,6 +2,8 @@
 ghost use Rattle.std.specs.Prelude.{◌≡◌, ◌==◌, ◌&&◌, ℕ, ◌+◌, ◌≤◌, List, [], length, slice_index, nat_le, false, IfOk, None, Some};
 ghost use Rattle.s7_cotp.specs.Told.{told_of, CanBeWrittenAgain, fragment};
 ghost use Rattle.s7_cotp.specs.Gathered.{is_fault};
+ghost use Rattle.s7_header.specs.Negotiation.{most_pdu};
+ghost use Rattle.s7_wire.specs.Bounds.{most_waiting};
 ghost use Rattle.s7_plant.specs.declared.request.Request.{Request};
 ghost use Rattle.s7_plant.specs.Requests.{IsReady, full_size};
 ghost use Rattle.s7_plant.specs.Replies.{IsReadyReply};
@@ -21,11 +23,8 @@ use crate::sender::Sender;
 use s7_cotp::{Connection, Joined, Joiner, Tpdu, read_tpdu};
 use s7_outer::{Memory, Octets};
 use s7_plant::{BODY_ROOM, Reply, Request};
-use s7_wire::tpdu_size;
+use s7_wire::{MESSAGE_LIMIT, tpdu_size};
 use std::alloc::Global;
-
-/// How many octets a message has at most.
-const MESSAGE: usize = 8_192;
 
 /// The server's reference in a confirm.
 const REFERENCE: u16 = 1;
@@ -54,7 +53,7 @@ impl Conversation {
         ensures joiner { IfOk result (λ c. is_fault c.joiner.state ≡ false) }
     {
         Ok(Conversation {
-            joiner: Joiner::new(alloc, MESSAGE)?,
+            joiner: Joiner::new(alloc, MESSAGE_LIMIT)?,
             tpdu_size: None,
             granted: None,
             reply: Reply::new(alloc, BODY_ROOM)?,
@@ -78,7 +77,7 @@ impl Conversation {
     pub(crate) fn connect(&mut self, at: u64, tpdu: &Tpdu<'_>) -> Handled
         requires sent { sends self.old ≡ [] }
         requires fresh { self.old.tpdu_size ≡ None }
-        requires room { self.old.sender.outbox.room ≡ 4096 }
+        requires room { self.old.sender.outbox.room ≡ most_waiting }
         requires writable { CanBeWrittenAgain tpdu.now }
         ensures settled { (body : List ℕ) → IsSettled (unconnected (between_of at self.old) body (told_of tpdu.now)) (between_of (after_packet at body) self.new) (sends self.new) result }
         ensures joiner { self.new.joiner ≡ self.old.joiner }
@@ -142,7 +141,7 @@ impl Conversation {
         requires least { 128 ≤ size }
         requires most { size ≤ 8192 }
         requires sent { sends self.old ≡ [] }
-        requires room { self.old.sender.outbox.room ≡ 4096 }
+        requires room { self.old.sender.outbox.room ≡ most_waiting }
         ensures answers { (after : ℕ) → Answers ((d : D) (r q : Request) → D.is_full d r → D.is_full d q)
             (D.stands doer.old) (D.stands doer.new) (D.is_full doer.old) (D.is_full doer.new)
             (message_handling (between_of after self.old) at size self.old.joiner.octets) (between_of after self.new) (sends self.new) result }
@@ -213,11 +212,11 @@ fn carry_out<D: Doer>(
 ) -> Handled
     requires request { IsReady request }
     requires reply { IsReadyReply reply.old }
-    requires fits { full_size request ≤ 960 }
+    requires fits { full_size request ≤ most_pdu }
     requires least { 128 ≤ size }
     requires most { size ≤ 8192 }
     requires sent { sender.old.outbox.unsent ≡ [] }
-    requires room { sender.old.outbox.room ≡ 4096 }
+    requires room { sender.old.outbox.room ≡ most_waiting }
     ensures answers { (between : Between) (failed : List ℕ) → Answers ((d : D) (r q : Request) → D.is_full d r → D.is_full d q)
         (D.stands doer.old) (D.stands doer.new) (D.is_full doer.old) (D.is_full doer.new)
         (asking between size sequence request failed) between sender.new.outbox.unsent result }
@@ -273,7 +272,7 @@ impl Conversation {
         requires least { 128 ≤ size }
         requires most { size ≤ 8192 }
         requires sent { sends self.old ≡ [] }
-        requires room { self.old.sender.outbox.room ≡ 4096 }
+        requires room { self.old.sender.outbox.room ≡ most_waiting }
         ensures answers { (body : List ℕ) → Answers ((d : D) (r q : Request) → D.is_full d r → D.is_full d q)
             (D.stands doer.old) (D.stands doer.new) (D.is_full doer.old) (D.is_full doer.new)
             (connected (between_of at self.old) size body (told_of tpdu.now)) (between_of (after_packet at body) self.new) (sends self.new) result }
@@ -303,7 +302,7 @@ impl Conversation {
         requires least { 128 ≤ size }
         requires most { size ≤ 8192 }
         requires sent { sends self.old ≡ [] }
-        requires room { self.old.sender.outbox.room ≡ 4096 }
+        requires room { self.old.sender.outbox.room ≡ most_waiting }
         ensures answers { (body : List ℕ) → Answers ((d : D) (r q : Request) → D.is_full d r → D.is_full d q)
             (D.stands doer.old) (D.stands doer.new) (D.is_full doer.old) (D.is_full doer.new)
             (connected (between_of at self.old) size body (fragment last user.now)) (between_of (after_packet at body) self.new) (sends self.new) result }

@@ -10,13 +10,10 @@ ghost use Rattle.s7_session.specs.Judged.{judgement_of, IsWithin};
 use s7_header::{
     Kind, MOST_PDU, Negotiation, grant, parts, read_header, read_negotiate, read_user,
 };
+use s7_item::codes::{READ_FUNCTION, WRITE_FUNCTION};
 use s7_item::{DataItems, Items, answer_size, read_data_items, read_items};
 
-/// The functions of a job that are served.
-const READ: u8 = 0x04;
-
-const WRITE: u8 = 0x05;
-
+/// The function of a job that negotiates.
 const NEGOTIATE: u8 = 0xF0;
 
 /// Why a message is refused.
@@ -128,8 +125,8 @@ fn judge_function<'a>(
         return Judgement::Refuse(Refusal::NotNegotiated);
     };
     match code {
-        READ => judge_read(pdu, params, body),
-        WRITE => judge_write(pdu, params, body),
+        READ_FUNCTION => judge_read(pdu, params, body),
+        WRITE_FUNCTION => judge_write(pdu, params, body),
         _ => Judgement::Refuse(Refusal::UnknownFunction),
     }
 }

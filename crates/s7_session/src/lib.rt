@@ -18,4 +18,6 @@ pub use outcome::{Outcome, Turn};
 pub use session::Session;
 
 #[cfg(test)]
+mod pdu_tests;
+#[cfg(test)]
 mod tests;

@@ -3,9 +3,10 @@ ghost use Rattle.std.specs.Prelude.{◌≡◌, ℕ, ◌+◌, ◌≤◌, List, []
 ghost use Rattle.s7_cotp.specs.Told.{connection_of};
 ghost use Rattle.s7_cotp.specs.Spelling.{spelling_of_confirm};
 ghost use Rattle.s7_tpkt.specs.Packets.{packet_of};
-ghost use Rattle.s7_header.specs.Negotiation.{negotiation_spelling};
+ghost use Rattle.s7_header.specs.Negotiation.{negotiation_spelling, most_pdu};
 ghost use Rattle.s7_plant.specs.Replies.{said_of};
 ghost use Rattle.s7_session.specs.Judgement.{answer_octets, refusal_octets, reply_octets};
+ghost use Rattle.s7_wire.specs.Bounds.{most_packets, most_waiting};
 ghost use Rattle.s7_wire.specs.Sent.{sent_message};
 
 use s7_cotp::{Connection, write_confirm};
@@ -28,13 +29,13 @@ const CONFIRM: usize = 64;
 pub(crate) struct Sender {
     message: Buffer,
     pub(crate) outbox: Outbox,
-    ghost room: { message.room ≡ 960 },
+    ghost room: { message.room ≡ most_pdu },
 }
 
 impl Sender {
     /// Nothing is to be sent. `Memory` comes where there is none for the longest message.
     pub(crate) fn new(alloc: Global) -> Result<Sender, Memory>
-        ensures { IfOk result (λ s. s.outbox ≡ record { unsent = []; room = 4096 }) }
+        ensures { IfOk result (λ s. s.outbox ≡ record { unsent = []; room = most_waiting }) }
     {
         Ok(Sender {
             message: Buffer::new(alloc, MOST)?,
@@ -42,12 +43,12 @@ impl Sender {
         })
     }
 
-    /// Puts the answer to a job, of at most 960 octets.
+    /// Puts the answer to a job, of at most 1,920 octets.
     pub(crate) fn put_answer(&mut self, size: u16, sequence: u16, params: &[u8], body: &[u8])
         requires least { 128 ≤ size }
         requires most { size ≤ 8192 }
-        requires fits { 12 + length params.now + length body.now ≤ 960 }
-        requires room { 1016 ≤ self.old.outbox.room }
+        requires fits { 12 + length params.now + length body.now ≤ most_pdu }
+        requires room { most_packets ≤ self.old.outbox.room }
         ensures { self.new.outbox.unsent ≡ self.old.outbox.unsent ++ sent_message size (answer_octets sequence params.now body.now) }
     {
         let header = Header {
@@ -70,7 +71,7 @@ impl Sender {
     pub(crate) fn put_refusal(&mut self, size: u16, sequence: u16, error: u16)
         requires least { 128 ≤ size }
         requires most { size ≤ 8192 }
-        requires room { 1016 ≤ self.old.outbox.room }
+        requires room { most_packets ≤ self.old.outbox.room }
         ensures { self.new.outbox.unsent ≡ self.old.outbox.unsent ++ sent_message size (refusal_octets sequence error) }
     {
         let mut octets = [0u8; 12];
@@ -82,8 +83,8 @@ impl Sender {
     pub(crate) fn put_reply(&mut self, size: u16, sequence: u16, reply: &Reply)
         requires least { 128 ≤ size }
         requires most { size ≤ 8192 }
-        requires fits { reply.now.error ≡ 0 → 12 + length reply.now.params.octets + length reply.now.body.octets ≤ 960 }
-        requires room { 1016 ≤ self.old.outbox.room }
+        requires fits { reply.now.error ≡ 0 → 12 + length reply.now.params.octets + length reply.now.body.octets ≤ most_pdu }
+        requires room { most_packets ≤ self.old.outbox.room }
         ensures { self.new.outbox.unsent ≡ self.old.outbox.unsent ++ sent_message size (reply_octets sequence (said_of reply.now)) }
     {
         if reply.error == 0 {
@@ -102,7 +103,7 @@ impl Sender {
     pub(crate) fn put_grant(&mut self, size: u16, sequence: u16, granted: &Negotiation)
         requires least { 128 ≤ size }
         requires most { size ≤ 8192 }
-        requires room { 1016 ≤ self.old.outbox.room }
+        requires room { most_packets ≤ self.old.outbox.room }
         ensures { self.new.outbox.unsent ≡ self.old.outbox.unsent ++ sent_message size (answer_octets sequence (negotiation_spelling granted.now) []) }
     {
         let mut params = [0u8; 8];
@@ -116,7 +117,7 @@ impl Sender {
         requires most_size { c.now.size_code ≤ 13 }
         requires calling { c.now.calling.len ≤ 16 }
         requires called { c.now.called.len ≤ 16 }
-        requires room { 1016 ≤ self.old.outbox.room }
+        requires room { most_packets ≤ self.old.outbox.room }
         ensures { self.new.outbox.unsent ≡ self.old.outbox.unsent ++ packet_of (spelling_of_confirm (connection_of c.now)) }
     {
         let mut octets = [0u8; CONFIRM];

@@ -7,37 +7,50 @@ use s7_plant::{Book, Plant, Reply, Request};
 use std::alloc::Global;
 use std::sync::Wait;
 use std::test::Fail;
+use std::time::Clock;
 
 /// A plant with data block 1, `11 22 33 44`, that carries out so many requests and is full then.
 #[derive(Drop)]
-struct Desk {
+pub(crate) struct Desk {
     plant: Plant,
     count: u64,
     room: u64,
     ghost fits: { count ≤ room },
 }
 
-/// Data block 1, `11 22 33 44`.
-fn some_areas(alloc: Global) -> Result<Areas, Memory> {
+/// Data block 1 with these octets.
+pub(crate) fn block(alloc: Global, octets: &[u8]) -> Result<Areas, Memory> {
     let key = AreaKey {
         area: 0x84,
         number: 1,
     };
-    let octets = Octets::copy_of(alloc, &[0x11, 0x22, 0x33, 0x44])?;
     let mut areas = Areas::new();
-    if areas.register(alloc, key, octets).is_err() {
+    if areas
+        .register(alloc, key, Octets::copy_of(alloc, octets)?)
+        .is_err()
+    {
         return Err(Memory);
     }
     Ok(areas)
 }
 
+/// Data block 1, `11 22 33 44`.
+fn some_areas(alloc: Global) -> Result<Areas, Memory> {
+    block(alloc, &[0x11, 0x22, 0x33, 0x44])
+}
+
 impl Desk {
     fn new(alloc: Global, room: u64) -> Result<Desk, Memory> {
-        Ok(Desk {
-            plant: Plant::new(some_areas(alloc)?),
+        Ok(Desk::over(some_areas(alloc)?, room))
+    }
+
+    /// The same with these areas.
+    pub(crate) fn over(areas: Areas, room: u64) -> Desk {
+        Desk {
+            plant: Plant::new(areas),
             count: 0,
             room,
-        })
+        }
     }
 }
 
@@ -63,10 +76,10 @@ impl Doer for Desk {
     }
 }
 
-const CONNECT: &[u8] =
+pub(crate) const CONNECT: &[u8] =
     b"\x03\x00\x00\x16\x11\xE0\x00\x00\x00\x01\x00\xC0\x01\x0A\xC1\x02\x01\x00\xC2\x02\x01\x02";
 
-const CONFIRM: &[u8] =
+pub(crate) const CONFIRM: &[u8] =
     b"\x03\x00\x00\x16\x11\xD0\x00\x01\x00\x01\x00\xC0\x01\x0A\xC1\x02\x01\x00\xC2\x02\x01\x02";
 
 const SETUP: &[u8] =
@@ -130,7 +143,7 @@ struct Row {
     entries: u64,
 }
 
-fn joined(alloc: Global, parts: &[&[u8]]) -> Result<Vec<u8>, Memory> {
+pub(crate) fn joined(alloc: Global, parts: &[&[u8]]) -> Result<Vec<u8>, Memory> {
     let mut all = Vec::new(alloc);
     for part in parts {
         all.extend_from_slice(part)?;
@@ -139,7 +152,7 @@ fn joined(alloc: Global, parts: &[&[u8]]) -> Result<Vec<u8>, Memory> {
 }
 
 /// A link that gives this input in pieces of at most `most` octets is served as the row says.
-fn is_served<R: Wait>(
+fn is_served<R: Wait + Clock>(
     rt: &R,
     alloc: Global,
     row: &Row,
@@ -168,7 +181,7 @@ fn is_served<R: Wait>(
 }
 
 /// The row holds however the octets are cut.
-fn is_served_in_pieces<R: Wait>(
+fn is_served_in_pieces<R: Wait + Clock>(
     rt: &R,
     alloc: Global,
     row: &Row,

@@ -15,18 +15,14 @@ use crate::outcome::{Outcome, Turn};
 use crate::session::Session;
 use s7_outer::{Clock, Got, Link, Memory, Sent};
 use s7_tpkt::{Cutter, FedState};
-use s7_wire::{Inbox, PIECE};
+use s7_wire::{FIRST_LIMIT, HEADERS, Inbox, PIECE};
 use std::alloc::Global;
 use std::sync::Wait;
+use std::thread;
+use std::time::{self, Duration};
 
 /// So many octets are taken from a link at most.
 const SPENT: u64 = 4_294_967_295;
-
-/// The length that no packet passes before the connect request, and how much more than the TPDU size
-/// one may have after it.
-const FIRST_LIMIT: u16 = 8_199;
-
-const HEADERS: u16 = 7;
 
 impl Session {
     /// The session of a link of this number, which has taken nothing. All buffers of the link are
@@ -212,8 +208,9 @@ impl Session {
     }
 
     /// Takes turns until one closes. The link's octets and the doer's entries are then one run from
-    /// beginning to end. Gives why the link closed.
-    pub fn serve<R: Wait, L: Link + Clock, D: Doer>(
+    /// beginning to end. Gives why the link closed. Behind a turn that answered `NotYet` it sleeps for a
+    /// millisecond, so that a link that doesn't wait by itself leaves the processor to others.
+    pub fn serve<R: Wait + time::Clock, L: Link + Clock, D: Doer>(
         &mut self,
         rt: &R,
         alloc: Global,
@@ -232,8 +229,10 @@ impl Session {
         ensures kept { D.keeps doer.old doer.new }
     {
         for _ in rt.forever() {
-            if let Turn::Closed(outcome) = self.turn(alloc, line, doer) {
-                return outcome;
+            match self.turn(alloc, line, doer) {
+                Turn::Closed(outcome) => return outcome,
+                Turn::NotYet => thread::sleep(rt, Duration::from_millis(1)),
+                Turn::Went => {}
             }
         }
         unreachable!()

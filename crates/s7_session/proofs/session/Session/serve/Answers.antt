@@ -1,6 +1,7 @@
-use Rattle.std.proofs.Common.{refl, ◌∙◌}
+use Rattle.std.proofs.Common.{refl, ap, ◌∙◌}
+use Rattle.s7_session.specs.Stands.{closed_by}
 use Rattle.s7_session.proofs.TurnLemmas.{moves_none, moves_both}
-use Rattle.s7_session.proofs.ServeLemmas.{served_after, not_closed}
+use Rattle.s7_session.proofs.ServeLemmas.{served_after}
 use Rattle.s7_session.proofs.RunLemmas.{link_run}
 use Rattle.s7_session.proofs.session.Session.serve.Goals as goal
 
@@ -37,5 +38,16 @@ loop-preserved g c = record {
       c.loop.invariant.moves c.turn.ensures.turn.moves;
   number = c.turn.ensures.number ∙ c.loop.invariant.number;
   kept = g.met.D.Doer.keeps_both c.args.doer.now c.loop.doer c.turn.new.doer c.loop.invariant.kept c.turn.ensures.kept;
-  going = λ e. c.turn.ensures.turn.closed ∙ not_closed c.turn.result c.in_default.not-Closed;
+  going = λ e. c.turn.ensures.turn.closed ∙ ap closed_by c.in-Went.is;
+}
+
+pub loop-preserved-in-NotYet : goal.loop-preserved-in-NotYet
+loop-preserved-in-NotYet g c = record {
+  moves =
+      moves_both _ c.args.self.now c.loop.self c.turn.new.self (g.L.Link.shows c.args.line.now) (g.L.Link.shows c.loop.line) (g.L.Link.shows c.turn.new.line)
+      (g.D.Doer.stands c.args.doer.now) (g.D.Doer.stands c.loop.doer) (g.D.Doer.stands c.turn.new.doer) (g.D.Doer.is_full c.args.doer.now) (g.D.Doer.is_full c.loop.doer) (g.D.Doer.is_full c.turn.new.doer)
+      c.loop.invariant.moves c.turn.ensures.turn.moves;
+  number = c.turn.ensures.number ∙ c.loop.invariant.number;
+  kept = g.met.D.Doer.keeps_both c.args.doer.now c.loop.doer c.turn.new.doer c.loop.invariant.kept c.turn.ensures.kept;
+  going = λ e. c.turn.ensures.turn.closed ∙ ap closed_by c.in-NotYet.is;
 }
