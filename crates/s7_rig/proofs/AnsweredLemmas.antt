@@ -101,7 +101,7 @@ pub length-write_codes : (m : Memory) (items : List Item) (places : List DataPla
 length-write_codes m [] places octets many = refl
 length-write_codes m (item ∷ items) [] octets many = absurd (omega (arith, many))
 length-write_codes m (item ∷ items) (place ∷ places) octets many =
-    omega (arith, length-write_codes (written m item (octets_at octets place)) items places octets (omega (arith, many)))
+    omega (arith, length-write_codes (written m true item (octets_at octets place)) items places octets (omega (arith, many)))
 
 pub length-write : (m : Memory) (items : List Item) (places : List DataPlace) (octets : List ℕ) (s : ℕ)
     → length (reply_octets s (plant.answer_of m (Write items places octets))) ≡ 14 + length (write_codes m items places octets)

@@ -7,7 +7,7 @@ use Rattle.s7_outer.specs.Shown.{Shown}
 use Rattle.s7_outer.specs.PipesHeld.{PipesHeld}
 use Rattle.s7_area.specs.Memory.{Memory}
 use Rattle.s7_client.specs.declared.client.Client.{Client}
-use Rattle.s7_client.specs.declared.codes.TheConstants.{LINK_ENDED, SEND_FAILED, RECEIVE_FAILED, TIMED_OUT}
+use Rattle.s7_client.specs.Codes.{link_ended, send_failed, receive_failed, timed_out}
 use Rattle.s7_client.specs.declared.config.Config.{Config}
 use Rattle.s7_client.specs.declared.job.Job.{Job}
 use Rattle.s7_client.specs.declared.job.JobResult.{JobResult}
@@ -35,14 +35,14 @@ cause_formed : EndsHaveForm → (origin : Origin) (k k' : Shown) (kept : List �
     → HasCause origin k k' kept end carried b w → HasForm origin.job end
 cause_formed law origin k k' kept end carried b w (inl h) = law.octets origin b end carried h.over
 cause_formed law origin k k' kept end carried b w (inr (inl h)) = (law.departure origin b (course origin b).answers end h.awaited h.next).1
-cause_formed law origin k k' kept end carried b w (inr (inr (inl h))) = fault_formed law origin.job end LINK_ENDED (λ e. absurd (omega (arith, e))) h.fault.0
-cause_formed law origin k k' kept end carried b w (inr (inr (inr (inl h)))) = fault_formed law origin.job end RECEIVE_FAILED (λ e. absurd (omega (arith, e))) h.fault.0
-cause_formed law origin k k' kept end carried b w (inr (inr (inr (inr h)))) = fault_formed law origin.job end SEND_FAILED (λ e. absurd (omega (arith, e))) h.fault.0
+cause_formed law origin k k' kept end carried b w (inr (inr (inl h))) = fault_formed law origin.job end link_ended (λ e. absurd (omega (arith, e))) h.fault.0
+cause_formed law origin k k' kept end carried b w (inr (inr (inr (inl h)))) = fault_formed law origin.job end receive_failed (λ e. absurd (omega (arith, e))) h.fault.0
+cause_formed law origin k k' kept end carried b w (inr (inr (inr (inr h)))) = fault_formed law origin.job end send_failed (λ e. absurd (omega (arith, e))) h.fault.0
 
 done_by_formed : EndsHaveForm → (origin : Origin) (k k' : Shown) (kept : List ℕ) (end : End) (carried b w : List ℕ) (waited : Option ℕ)
     → IsDoneBy origin k k' kept end carried b w waited → HasForm origin.job end
 done_by_formed law origin k k' kept end carried b w waited (inl h) = cause_formed law origin k k' kept end carried b w h
-done_by_formed law origin k k' kept end carried b w waited (inr h) = fault_formed law origin.job end TIMED_OUT (λ e. absurd (omega (arith, e))) h.fault.0
+done_by_formed law origin k k' kept end carried b w waited (inr h) = fault_formed law origin.job end timed_out (λ e. absurd (omega (arith, e))) h.fault.0
 
 -- ---- polls
 

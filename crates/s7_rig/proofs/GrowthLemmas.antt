@@ -11,7 +11,7 @@ use Rattle.s7_cotp.specs.declared.tpdu.CotpFault.{CotpFault}
 use Rattle.s7_wire.specs.Bounds.{message_limit}
 use Rattle.s7_plant.specs.declared.request.Request.{Request}
 use Rattle.s7_plant.specs.Replies.{Said}
-use Rattle.s7_client.specs.declared.codes.TheConstants.{SHORT_MESSAGE}
+use Rattle.s7_client.specs.Codes.{short_message}
 use Rattle.s7_client.specs.Question.{Question}
 use Rattle.s7_client.specs.Answer.{Answer, answer_of}
 use Rattle.s7_client.specs.Course.{Origin, Course, Awaits, for_confirm, for_answer, for_departure, for_nothing, nothing_unfinished, by_answer, with_fault, with_message, by_joining, connected, confirming, by_awaits, with_packet, begun, run, by_state, unless_over, packets_run, course, limits}
@@ -42,7 +42,7 @@ answer_out origin c m (Some a) = (_, refl)
 
 message_out : (origin : Origin) (c : Course) (q : Question) (m : List ℕ) → OutGrows c (with_message origin c q m)
 message_out origin c q m =
-    if_out (ltb (length m) 10) c (with_fault c SHORT_MESSAGE) (by_answer origin c m (answer_of q c.sequence m)) (same_out c) (answer_out origin c m (answer_of q c.sequence m))
+    if_out (ltb (length m) 10) c (with_fault c short_message) (by_answer origin c m (answer_of q c.sequence m)) (same_out c) (answer_out origin c m (answer_of q c.sequence m))
 
 joining_out : (origin : Origin) (c : Course) (q : Question) (s : Step) → OutGrows c (by_joining origin c q s)
 joining_out origin c q (more octets count) = same_out c

@@ -16,7 +16,7 @@ use Rattle.s7_wire.specs.Bounds.{message_limit, limit_of_size}
 use Rattle.s7_client.specs.Question.{Question, question_octets}
 use Rattle.s7_client.specs.Answer.{Answer, answer_of}
 use Rattle.s7_client.specs.Dialogue.{End, Next, sends, ends, numbered, fault_end, dialogue}
-use Rattle.s7_client.specs.declared.codes.TheConstants.{SHORT_MESSAGE, INVALID_ANSWER}
+use Rattle.s7_client.specs.Codes.{short_message, invalid_answer}
 use Rattle.s7_client.specs.Course.{Origin, Course, Unfinished, for_answer, nothing_unfinished, next_sequence, with_next, with_answer, with_fault, by_awaits, by_answer, by_joining, with_message, connected, with_packet, course, limits, limit_in, limit_where}
 use Rattle.s7_client.proofs.CourseLemmas.{course_held, course_on_more, course_ends}
 use Rattle.s7_rig.specs.Awaiting.{Awaiting, AsksOn, EndsBy}
@@ -109,7 +109,7 @@ one_fragment origin c q m h most =
 long_message : (origin : Origin) (c : Course) (q : Question) (s : ℕ) (m : List ℕ) → c.sequence ≡ s → 10 ≤ length m
     → with_message origin c q m ≡ by_answer origin c m (answer_of q s m)
 long_message origin c q s m e least =
-    ap (λ b. cond b (with_fault c SHORT_MESSAGE) (by_answer origin c m (answer_of q c.sequence m))) (le-ltb (length m) 10 least)
+    ap (λ b. cond b (with_fault c short_message) (by_answer origin c m (answer_of q c.sequence m))) (le-ltb (length m) 10 least)
     ∙ ap (λ n. by_answer origin c m (answer_of q n m)) e
 
 packet_awaited : (origin : Origin) (c : Course) (q : Question) (body : List ℕ) → c.awaits ≡ for_answer q → with_packet origin c body ≡ connected origin c q (tpdu_of body)
@@ -134,7 +134,7 @@ heard_answer origin b m q s a h least most e =
 
 -- no answer ends the job
 pub heard_nothing : (origin : Origin) (b m : List ℕ) (q : Question) (s : ℕ) → Awaiting origin b q s → 10 ≤ length m → length m ≤ 1021
-    → answer_of q s m ≡ None → EndsBy origin b (packet_of (spelling_of_data true m)) (fault_end INVALID_ANSWER) m
+    → answer_of q s m ≡ None → EndsBy origin b (packet_of (spelling_of_data true m)) (fault_end invalid_answer) m
 heard_nothing origin b m q s h least most e =
     let is = heard_message origin b m q s h least most ∙ ap (by_answer origin (course origin b) m) e in
     record {

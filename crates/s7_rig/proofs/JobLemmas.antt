@@ -7,7 +7,7 @@ use Rattle.s7_cotp.specs.Spelling.{spelling_of_data}
 use Rattle.s7_plant.specs.declared.request.Request.{Request}
 use Rattle.s7_plant.specs.Replies.{Said}
 use Rattle.s7_wire.specs.Sent.{sent_message}
-use Rattle.s7_client.specs.declared.codes.TheConstants.{INVALID_ANSWER}
+use Rattle.s7_client.specs.Codes.{invalid_answer}
 use Rattle.s7_client.specs.Question.{Question, question_octets}
 use Rattle.s7_client.specs.Answer.{Answer, answer_of}
 use Rattle.s7_client.specs.Dialogue.{End, Next, sends, ends, numbered, disconnect_request, fault_end, conversing, dialogue}
@@ -55,7 +55,7 @@ awaits_nothing w p k end carried i h awaits =
 unanswered : (w : Whole) (p : Place) (k : IsReplied w p) → IsWhole w → IsAt w p → answer_of p.question p.number k.reply.message ≡ None → ⊥
 unanswered w p k i h none =
     let e = heard_nothing w.origin p.heard k.reply.message p.question p.number h.awaiting k.least k.most none in
-    not_closed w.end INVALID_ANSWER i.leaves (awaits_nothing w p k (fault_end INVALID_ANSWER) k.reply.message i h e.awaits).1
+    not_closed w.end invalid_answer i.leaves (awaits_nothing w p k (fault_end invalid_answer) k.reply.message i h e.awaits).1
 
 -- ---- an answer after which the client would leave
 

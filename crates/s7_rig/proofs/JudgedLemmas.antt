@@ -8,7 +8,7 @@ use Rattle.s7_header.specs.declared.header.Header.{Header}
 use Rattle.s7_header.specs.declared.negotiation.Negotiation.{Negotiation}
 use Rattle.s7_header.specs.Header.{header_of}
 use Rattle.s7_header.specs.Header as header
-use Rattle.s7_header.specs.Negotiation.{negotiation_spelling, granted, jobs_granted}
+use Rattle.s7_header.specs.Negotiation.{negotiation_spelling, granted, jobs_granted, most_pdu}
 use Rattle.s7_header.proofs.HeaderLemmas.{spelled}
 use Rattle.s7_header.proofs.NegotiationLemmas.{spelled_negotiation}
 use Rattle.s7_header.proofs.OctetLemmas.{two_of_number}
@@ -115,8 +115,8 @@ judged_negotiation held sequence asked n low room is =
     judged_job link sequence (negotiation_spelling asked) [] low (omega arith) (omega (arith, room))
     ∙ (ap (negotiation link sequence) (spelled_negotiation 0 asked) ∙ ap (negotiated link sequence) is)
 
--- from 64 octets on a PDU is granted, up to 960
-pub is_granted : (asked : Negotiation) → 64 ≤ asked.pdu → granted asked ≡ Ok (record { calling = jobs_granted asked.calling; called = jobs_granted asked.called; pdu = min asked.pdu 960 })
+-- from 64 octets on a PDU is granted, up to the greatest
+pub is_granted : (asked : Negotiation) → 64 ≤ asked.pdu → granted asked ≡ Ok (record { calling = jobs_granted asked.calling; called = jobs_granted asked.called; pdu = min asked.pdu most_pdu })
 is_granted asked least =
-    let n : Negotiation = record { calling = jobs_granted asked.calling; called = jobs_granted asked.called; pdu = min asked.pdu 960 } in
+    let n : Negotiation = record { calling = jobs_granted asked.calling; called = jobs_granted asked.called; pdu = min asked.pdu most_pdu } in
     ap (λ t. cond t (Err (record {})) (Ok n)) (le-ltb asked.pdu 64 least)

@@ -7,7 +7,7 @@ use Rattle.s7_tpkt.specs.Packets.{packet_of}
 use Rattle.s7_cotp.specs.Told.{ConnectionTold}
 use Rattle.s7_cotp.specs.Spelling.{IsWritable, spelling_of_confirm}
 use Rattle.s7_header.specs.declared.negotiation.Negotiation.{Negotiation}
-use Rattle.s7_header.specs.Negotiation.{negotiation_spelling, jobs_granted}
+use Rattle.s7_header.specs.Negotiation.{negotiation_spelling, jobs_granted, most_pdu}
 use Rattle.s7_wire.specs.Sent.{sent_message}
 use Rattle.s7_session.specs.Judgement.{answer_octets}
 use Rattle.s7_session.specs.Verdict.{Verdict}
@@ -57,7 +57,7 @@ negotiation_octets config = sent_message 1024 (negotiation_of config)
 
 -- the grant that answers it
 abbrev granted_of : Config → Negotiation
-granted_of config = record { calling = jobs_granted config.jobs; called = jobs_granted config.jobs; pdu = min config.pdu 960 }
+granted_of config = record { calling = jobs_granted config.jobs; called = jobs_granted config.jobs; pdu = min config.pdu most_pdu }
 
 abbrev grant_of : Config → List ℕ
 grant_of config = answer_octets 1 (negotiation_spelling (granted_of config)) []

@@ -265,8 +265,8 @@ read_at_stays m journal more link part number octets is =
     let same = at_grows m journal more number less in
     record {
       entry = slice_get-grows journal more number (entered link (Read (part ∷ []))) less is.entry;
-      good = subst (λ s. read_code s part ≡ 0xFF) same is.good;
-      octets_are = subst (λ s. octets ≡ read_octets s part) same is.octets_are;
+      good = subst (λ s. read_code s true part ≡ 0xFF) same is.good;
+      octets_are = subst (λ s. octets ≡ read_octets s true part) same is.octets_are;
     }
 
 reads_at_stay : (m : Memory) (journal more : List JournalEntry) (link : ℕ) (parts : List Item) (numbers octets : List ℕ) → AreReadAt m journal link parts numbers octets → AreReadAt m (journal ++ more) link parts numbers octets

@@ -38,7 +38,7 @@ judged_fit : (m : Memory) (item : Item) (misfit : Bool) → is_misfit item ≡ m
 judged_fit m item true fits = inr (record { other = refl; carried = refl })
 judged_fit m item false fits = judged_found m item (octets_at m (key_of item)) fits refl
 
-judged : (m : Memory) (item : Item) → Judged m item (read_code m item)
+judged : (m : Memory) (item : Item) → Judged m item (read_code m true item)
 unfolding read_code
 judged m item = judged_fit m item (is_misfit item) refl
 
@@ -62,20 +62,20 @@ given_whole m item good =
     ap (λ (found : Option (List ℕ)). length (value_at item (unwrap_or found []))) good.found
     ∙ count_at item good.octets (eqb item.word 1) refl good.fits good.inside
 
-whole_by : (m : Memory) (item : Item) → read_code m item ≡ 0xFF → Judged m item (read_code m item) → length (read_octets m item) ≡ octet_count item
+whole_by : (m : Memory) (item : Item) → read_code m true item ≡ 0xFF → Judged m item (read_code m true item) → length (read_octets m true item) ≡ octet_count item
 unfolding read_octets
 whole_by m item code (inl good) = ap (λ c. length (given m item (eqb c 0xFF))) code ∙ given_whole m item good.1
-whole_by m item code (inr refused) = absurd (absurd_code (read_code m item) code refused.other)
+whole_by m item code (inr refused) = absurd (absurd_code (read_code m true item) code refused.other)
   where
     absurd_code : (c : ℕ) → c ≡ 0xFF → eqb c 0xFF ≡ false → ⊥
     absurd_code c is other = cc
 
 -- an item that is read has all its octets
-pub read_whole : (m : Memory) (item : Item) → read_code m item ≡ 0xFF → length (read_octets m item) ≡ octet_count item
+pub read_whole : (m : Memory) (item : Item) → read_code m true item ≡ 0xFF → length (read_octets m true item) ≡ octet_count item
 read_whole m item code = whole_by m item code (judged m item)
 
 -- an item that is refused has none
-pub read_nothing : (m : Memory) (item : Item) → IsRefusing (read_code m item) → read_octets m item ≡ []
+pub read_nothing : (m : Memory) (item : Item) → IsRefusing (read_code m true item) → read_octets m true item ≡ []
 unfolding read_octets
 read_nothing m item refused = ap (given m item) refused.other
 
@@ -83,5 +83,5 @@ read_or_refused_by : (m : Memory) (item : Item) (code : ℕ) → Judged m item c
 read_or_refused_by m item code (inl good) = inl good.0
 read_or_refused_by m item code (inr refused) = inr refused
 
-pub read_or_refused : (m : Memory) (item : Item) → (read_code m item ≡ 0xFF) ⊎ IsRefusing (read_code m item)
-read_or_refused m item = read_or_refused_by m item (read_code m item) (judged m item)
+pub read_or_refused : (m : Memory) (item : Item) → (read_code m true item ≡ 0xFF) ⊎ IsRefusing (read_code m true item)
+read_or_refused m item = read_or_refused_by m item (read_code m true item) (judged m item)

@@ -129,7 +129,7 @@ read_replies b js vs pdu s items low room (is_full rest is serves) = record {
 few_codes : (m : Memory) (items : List Item) (places : List DataPlace) (octets : List ℕ) → length (write_codes m items places octets) ≤ length items
 few_codes m [] places octets = omega arith
 few_codes m (item ∷ items) [] octets = omega arith
-few_codes m (item ∷ items) (place ∷ places) octets = omega (arith, few_codes (written m item (octets_at octets place)) items places octets)
+few_codes m (item ∷ items) (place ∷ places) octets = omega (arith, few_codes (written m true item (octets_at octets place)) items places octets)
 
 asked_replies : (b : List ℕ) (js vs : List Verdict) (pdu s : ℕ) (items : List Item) (octets found : List ℕ) (places : List DataPlace) → length items ≤ 20
     → IsAnswered b js (question_octets s (writes items octets)) vs (Some pdu) s (Write items places found) → Replies b js vs pdu (writes items octets) s

@@ -1,10 +1,11 @@
 -- A job that is over, as both ends of its link have it.
-use Rattle.std.specs.Prelude.{◌≡◌, ℕ, ◌<◌, ◌≤◌, false, List, [], ◌∷◌, ◌++◌, None, Some}
+use Rattle.std.specs.Prelude.{◌≡◌, ℕ, ◌<◌, ◌≤◌, true, false, List, [], ◌∷◌, ◌++◌, None, Some}
 use Rattle.std.specs.List.{AllByRecursion}
 use Rattle.s7_area.specs.Memory.{Memory, read_code, read_octets}
 use Rattle.s7_client.specs.declared.grant.Grant.{Grant}
 use Rattle.s7_client.specs.declared.grant.Leaves.TheVariants.{AsItWas, Connected}
 use Rattle.s7_client.specs.declared.job.Job.TheVariants as job
+use Rattle.s7_client.specs.Codes.{no_fault}
 use Rattle.s7_client.specs.Course.{Origin, course}
 use Rattle.s7_client.specs.Dialogue.{End}
 use Rattle.s7_client.specs.Standing.{IsByOctets}
@@ -30,7 +31,7 @@ ReadsParts [] (e ∷ entries) octets = ⊥
 ReadsParts (part ∷ parts) [] octets = ⊥
 ReadsParts (part ∷ parts) (e ∷ entries) octets =
     (front : List ℕ) × (rest : List ℕ) × (octets ≡ front ++ rest) × (e.0 ≡ Read (part ∷ []))
-    × ((m : Memory) → e.1 ≡ plant.answer_of m (Read (part ∷ [])) → (read_code m part ≡ 0xFF) × (front ≡ read_octets m part))
+    × ((m : Memory) → e.1 ≡ plant.answer_of m (Read (part ∷ [])) → (read_code m true part ≡ 0xFF) × (front ≡ read_octets m true part))
     × ReadsParts parts entries rest
 
 -- A job is over that left the client connected. The client used and transmitted these octets for it. The session stood
@@ -61,7 +62,7 @@ pub record IsJobSettled (origin : Origin) (pdu : ℕ) (heard sent : List ℕ) (e
   pub owed_is : owed (b ++ sent) (js ++ verdicts) ≡ owed b js ++ heard
   pub size : (course origin heard).size ≡ 1024
   pub sequence : (course origin heard).sequence < 65536
-  pub read : (item : Item) → origin.job ≡ job.ReadArea item → end.code ≡ 0
+  pub read : (item : Item) → origin.job ≡ job.ReadArea item → end.code ≡ no_fault
       → (entries : List (Request × Said)) × (entered (b ++ sent) (js ++ verdicts) ≡ entered b js ++ entries) × ReadsParts (parts_of item pdu false) entries end.octets
 
 -- The first connect of a client came off, on a link of which the session has used these octets.

@@ -1,17 +1,17 @@
 -- What a client hears of a read and of a connect that come off.
-use Rattle.std.specs.Prelude.{[]}
+use Rattle.std.specs.Prelude.{true, []}
 use Rattle.s7_item.specs.declared.item.Item.{Item}
 use Rattle.s7_area.specs.Memory.{Memory, read_code, read_octets}
 use Rattle.s7_client.specs.declared.grant.Grant.{Grant}
 use Rattle.s7_client.specs.declared.grant.Leaves.TheVariants.{Connected}
-use Rattle.s7_client.specs.declared.codes.TheConstants.{GOOD}
+use Rattle.s7_client.specs.Codes.{no_fault}
 use Rattle.s7_client.specs.Answer.{ItemAnswer}
 use Rattle.s7_client.specs.Dialogue.{End}
 
 -- what is told of an item: its return code, and the octets that the memory gives, none where the code refuses it
 abbrev pub told_of : Memory → Item → ItemAnswer
-told_of m item = record { code = read_code m item; octets = read_octets m item }
+told_of m item = record { code = read_code m true item; octets = read_octets m true item }
 
 -- the end of a connect
 abbrev pub connected_end : Grant → End
-connected_end granted = record { code = GOOD; octets = []; codes = []; leaves = Connected granted }
+connected_end granted = record { code = no_fault; octets = []; codes = []; leaves = Connected granted }

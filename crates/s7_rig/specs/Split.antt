@@ -1,8 +1,9 @@
 -- A read of one item that came off, by the entries of a journal.
-use Rattle.std.specs.Prelude.{◌≡◌, ℕ, ◌<◌, false, List, [], ◌∷◌, ◌++◌, slice_get, Some}
+use Rattle.std.specs.Prelude.{◌≡◌, ℕ, ◌<◌, true, false, List, [], ◌∷◌, ◌++◌, slice_get, Some}
 use Rattle.s7_area.specs.Memory.{Memory, read_code, read_octets}
 use Rattle.s7_client.specs.declared.job.Job.TheVariants as job
 use Rattle.s7_client.specs.declared.job.JobResult.{JobResult}
+use Rattle.s7_client.specs.Codes.{no_fault}
 use Rattle.s7_item.specs.declared.item.Item.{Item}
 use Rattle.s7_plant.specs.declared.journal.Entry.{Entry}
 use Rattle.s7_plant.specs.declared.request.Request.TheVariants.{Read}
@@ -13,8 +14,8 @@ use Rattle.s7_split.specs.Parts.{parts_of}
 -- part, and these are the octets there
 pub record IsReadAt (opening : Memory) (journal : List Entry) (link : ℕ) (part : Item) (number : ℕ) (octets : List ℕ) : Type 0 where
   pub entry : slice_get journal number ≡ Some (entered link (Read (part ∷ [])))
-  pub good : read_code (at opening journal number) part ≡ 0xFF
-  pub octets_are : octets ≡ read_octets (at opening journal number) part
+  pub good : read_code (at opening journal number) true part ≡ 0xFF
+  pub octets_are : octets ≡ read_octets (at opening journal number) true part
 
 -- each number is greater than the one before
 unfoldable pub Rise : List ℕ → Type 0
@@ -39,7 +40,7 @@ pub record SplitRead (opening : Memory) (journal : List Entry) (numbers : List �
 -- a result with code 0 of a read is the split read at its places
 abbrev pub StandsAtPlaces : Memory → List Entry → ℕ → ℕ → JobResult → List ℕ → Type 0
 StandsAtPlaces opening journal link pdu told places =
-    (item : Item) → told.job ≡ job.ReadArea item → told.code ≡ 0 → SplitRead opening journal places link item pdu told.octets
+    (item : Item) → told.job ≡ job.ReadArea item → told.code ≡ no_fault → SplitRead opening journal places link item pdu told.octets
 
 -- each result has its places
 unfoldable pub AllStand : Memory → List Entry → ℕ → ℕ → List JobResult → List (List ℕ) → Type 0

@@ -2,4 +2,5 @@ pub mod End
 pub mod Link
 pub mod Report
 pub mod Saving
+pub mod Statuses
 pub mod Told

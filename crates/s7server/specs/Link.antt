@@ -16,6 +16,10 @@ use Rattle.s7_session.specs.Answers.{AnyFull, FullStays, AllAt, clock_failures}
 use Rattle.s7_session.specs.LinkRun.{IsWritten, IsEnd}
 use Rattle.s7_session.specs.Books.{own, AreOf}
 
+-- the number of the one link that `pipe` serves
+abbrev pub piped_link : ℕ
+piped_link = 1
+
 -- a served link as contracts see it: its number, what it shows, how it ended, how many telegrams were entered, and the
 -- number of the newest entry
 pub record ServedTold : Type 0 where
@@ -81,6 +85,6 @@ IsServed opening limit pipe served book =
 pub record IsOneServed (opening : Memory) (limit : ℕ) (pipe : Shown) (book : Book) (links : List ServedTold) (door_failed : Bool) : Type 0 where
   pub served : ServedTold
   pub one : links ≡ served ∷ []
-  pub number : served.link ≡ 1
+  pub number : served.link ≡ piped_link
   pub is_served : IsServed opening limit pipe served book
   pub door : door_failed ≡ false

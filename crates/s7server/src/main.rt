@@ -24,7 +24,9 @@ fn main(rt: HostRuntime) -> io::Result<ExitCode> {
         return Ok(no_memory(&mut StdOut::new(rt.stderr())));
     };
     let words = words.as_slice();
-    let pipe = RealLink::standard(streams);
+    let Ok(pipe) = RealLink::standard(alloc, streams) else {
+        return Ok(no_memory(&mut StdOut::new(rt.stderr())));
+    };
     let mut files = StdFiles::new(files);
     let status = if words.first() == Some(&"pipe") {
         server_main(

@@ -7,10 +7,11 @@ ghost use Rattle.std.specs.Io.KnownBytes.{append_known};
 ghost use Rattle.s7_script.specs.Spelling.{spelling};
 ghost use Rattle.s7_words.specs.Server.{server_words, pipe as piped};
 ghost use Rattle.s7server.specs.End.{Serves, Refuses, path_at};
+ghost use Rattle.s7server.specs.Statuses as status;
 ghost use Rattle.s7server.specs.Saving.{KeepsBut, HoldsAreas};
 ghost use Rattle.s7_session.specs.LinkRun.{IsFresh};
 ghost use Rattle.s7_session.specs.Stands.{entry_count, newest};
-ghost use Rattle.s7server.specs.Link.{IsServed, IsServedLink, IsOneServed, served_told};
+ghost use Rattle.s7server.specs.Link.{IsServed, IsServedLink, IsOneServed, piped_link, served_told};
 ghost use Rattle.s7server.specs.Told.{told_of, all_told};
 ghost use Rattle.s7server.specs.Report.{Prints, usage_line, refusal_line, file_line, memory_line, report_of};
 
@@ -24,6 +25,7 @@ use s7_session::{BookDoer, Outcome, Session};
 use s7_words::{ServerWords, read_server_words};
 use std::alloc::Global;
 use std::sync::Wait;
+use std::time;
 
 /// All went well.
 pub const DONE: u8 = 0;
@@ -60,7 +62,7 @@ const LINK: u32 = 1;
 /// door that failed. All room of the journal is taken before the link is read. Else the link comes
 /// back as it was, and no path changes. Where a run is there, no path changes but the one to save to.
 /// With status 0 or 5 the areas that are left lie there; with 3 or 9 it may hold anything.
-pub fn server_main<R: Wait, F: Files, L: Link + Clock + Drop, O: Out>(
+pub fn server_main<R: Wait + time::Clock, F: Files, L: Link + Clock + Drop, O: Out>(
     rt: &R,
     alloc: Global,
     words: &[&str],
@@ -69,29 +71,31 @@ pub fn server_main<R: Wait, F: Files, L: Link + Clock + Drop, O: Out>(
     out: &mut O,
 ) -> ServerEnd<L>
     // The status.
-    ensures usage { result.status ≡ USAGE → (server_words (map (λ w. w.now) words.now)) ≡ None }
-    ensures usage_words { (server_words (map (λ w. w.now) words.now)) ≡ None → (result.status ≡ USAGE) ⊎ (result.status ≡ MEMORY) }
-    ensures statuses { (result.status ≡ DONE) ⊎ (result.status ≡ USAGE) ⊎ (result.status ≡ AREAS) ⊎ (result.status ≡ FILE) ⊎ (result.status ≡ OUTPUT) ⊎ (result.status ≡ MEMORY) }
-    ensures refused { result.status ≡ AREAS → Refuses (server_words (map (λ w. w.now) words.now)) (F.shows files.old) (Prints (O.text out.old) (O.text out.new) (O.out_faults out.old) (O.out_faults out.new)) }
-    ensures file_failed { result.status ≡ FILE → IsSomeAnd (path_at (is_some result.run) (server_words (map (λ w. w.now) words.now))) (λ path. Rose ((F.shows files.old).faults path) ((F.shows files.new).faults path) × Prints (O.text out.old) (O.text out.new) (O.out_faults out.old) (O.out_faults out.new) (file_line path)) }
-    ensures output_failed { result.status ≡ OUTPUT → Rose (O.out_faults out.old) (O.out_faults out.new) }
+    ensures usage { result.status ≡ status.usage → (server_words (map (λ w. w.now) words.now)) ≡ None }
+    ensures usage_words { (server_words (map (λ w. w.now) words.now)) ≡ None → (result.status ≡ status.usage)
+        ⊎ (result.status ≡ status.memory) }
+    ensures statuses { (result.status ≡ status.done) ⊎ (result.status ≡ status.usage) ⊎ (result.status ≡ status.areas)
+        ⊎ (result.status ≡ status.file) ⊎ (result.status ≡ status.output) ⊎ (result.status ≡ status.memory) }
+    ensures refused { result.status ≡ status.areas → Refuses (server_words (map (λ w. w.now) words.now)) (F.shows files.old) (Prints (O.shows out.old).text (O.shows out.new).text (O.shows out.old).faults (O.shows out.new).faults) }
+    ensures file_failed { result.status ≡ status.file → IsSomeAnd (path_at (is_some result.run) (server_words (map (λ w. w.now) words.now))) (λ path. Rose ((F.shows files.old).faults path) ((F.shows files.new).faults path) × Prints (O.shows out.old).text (O.shows out.new).text (O.shows out.old).faults (O.shows out.new).faults (file_line path)) }
+    ensures output_failed { result.status ≡ status.output → Rose (O.shows out.old).faults (O.shows out.new).faults }
 
     // The link was served, over the areas that the words name, or is handed back as it was.
     ensures served { IfSome result.run (λ run. Serves (server_words (map (λ w. w.now) words.now)) (F.shows files.old) (L.shows pipe) run.book (all_told L.shows run.links.items) run.door_failed) }
     ensures unserved { result.pipe ≡ (if is_none result.run then Some pipe else None) }
-    ensures run { (result.status ≡ DONE) ⊎ (result.status ≡ OUTPUT) → IsSome result.run }
-    ensures no_run { (result.status ≡ USAGE) ⊎ (result.status ≡ AREAS) → IsNone result.run }
+    ensures run { (result.status ≡ status.done) ⊎ (result.status ≡ status.output) → IsSome result.run }
+    ensures no_run { (result.status ≡ status.usage) ⊎ (result.status ≡ status.areas) → IsNone result.run }
 
     // What the files hold.
-    ensures saved { (result.status ≡ DONE) ⊎ (result.status ≡ OUTPUT) → IfSome result.run (λ run. HoldsAreas (path_at true (server_words (map (λ w. w.now) words.now))) (F.shows files.old) (F.shows files.new) run.book.plant.areas) }
+    ensures saved { (result.status ≡ status.done) ⊎ (result.status ≡ status.output) → IfSome result.run (λ run. HoldsAreas (path_at true (server_words (map (λ w. w.now) words.now))) (F.shows files.old) (F.shows files.new) run.book.plant.areas) }
     ensures paths { KeepsBut (if is_some result.run then path_at true (server_words (map (λ w. w.now) words.now)) else None) (F.shows files.old) (F.shows files.new) }
     ensures file_faults { NonePathFell (F.shows files.old).faults (F.shows files.new).faults }
 
     // What was printed.
-    ensures done { result.status ≡ DONE → IfSome result.run (λ run. O.text out.new ≡ append_known (O.text out.old) (report_of (all_told L.shows run.links.items) (length run.book.journal.entries))) }
-    ensures broken_off { result.status ≡ OUTPUT → IfSome result.run (λ run. AppendsPrefix (O.text out.old) (O.text out.new) (report_of (all_told L.shows run.links.items) (length run.book.journal.entries))) }
-    ensures usage_line { result.status ≡ USAGE → Prints (O.text out.old) (O.text out.new) (O.out_faults out.old) (O.out_faults out.new) usage_line }
-    ensures memory_line { result.status ≡ MEMORY → Prints (O.text out.old) (O.text out.new) (O.out_faults out.old) (O.out_faults out.new) memory_line }
+    ensures done { result.status ≡ status.done → IfSome result.run (λ run. (O.shows out.new).text ≡ append_known (O.shows out.old).text (report_of (all_told L.shows run.links.items) (length run.book.journal.entries))) }
+    ensures broken_off { result.status ≡ status.output → IfSome result.run (λ run. AppendsPrefix (O.shows out.old).text (O.shows out.new).text (report_of (all_told L.shows run.links.items) (length run.book.journal.entries))) }
+    ensures usage_line { result.status ≡ status.usage → Prints (O.shows out.old).text (O.shows out.new).text (O.shows out.old).faults (O.shows out.new).faults usage_line }
+    ensures memory_line { result.status ≡ status.memory → Prints (O.shows out.old).text (O.shows out.new).text (O.shows out.old).faults (O.shows out.new).faults memory_line }
 {
     match read_server_words(alloc, words) {
         Ok(
@@ -114,7 +118,7 @@ pub fn server_main<R: Wait, F: Files, L: Link + Clock + Drop, O: Out>(
 }
 
 // Serves the link over the areas that a word names.
-fn serve_named<R: Wait, F: Files, L: Link + Clock + Drop, O: Out>(
+fn serve_named<R: Wait + time::Clock, F: Files, L: Link + Clock + Drop, O: Out>(
     rt: &R,
     alloc: Global,
     areas: &str,
@@ -128,26 +132,27 @@ fn serve_named<R: Wait, F: Files, L: Link + Clock + Drop, O: Out>(
     requires few { journal ≤ 262144 }
 
     // The status.
-    ensures statuses { (result.status ≡ DONE) ⊎ (result.status ≡ AREAS) ⊎ (result.status ≡ FILE) ⊎ (result.status ≡ OUTPUT) ⊎ (result.status ≡ MEMORY) }
-    ensures refused { result.status ≡ AREAS → Refuses (Some (piped areas.now (option_map (λ s. s.now) save.entry) journal)) (F.shows files.old) (Prints (O.text out.old) (O.text out.new) (O.out_faults out.old) (O.out_faults out.new)) }
-    ensures file_failed { result.status ≡ FILE → IsSomeAnd (path_at (is_some result.run) (Some (piped areas.now (option_map (λ s. s.now) save.entry) journal))) (λ path. Rose ((F.shows files.old).faults path) ((F.shows files.new).faults path) × Prints (O.text out.old) (O.text out.new) (O.out_faults out.old) (O.out_faults out.new) (file_line path)) }
-    ensures output_failed { result.status ≡ OUTPUT → Rose (O.out_faults out.old) (O.out_faults out.new) }
+    ensures statuses { (result.status ≡ status.done) ⊎ (result.status ≡ status.areas) ⊎ (result.status ≡ status.file)
+        ⊎ (result.status ≡ status.output) ⊎ (result.status ≡ status.memory) }
+    ensures refused { result.status ≡ status.areas → Refuses (Some (piped areas.now (option_map (λ s. s.now) save.entry) journal)) (F.shows files.old) (Prints (O.shows out.old).text (O.shows out.new).text (O.shows out.old).faults (O.shows out.new).faults) }
+    ensures file_failed { result.status ≡ status.file → IsSomeAnd (path_at (is_some result.run) (Some (piped areas.now (option_map (λ s. s.now) save.entry) journal))) (λ path. Rose ((F.shows files.old).faults path) ((F.shows files.new).faults path) × Prints (O.shows out.old).text (O.shows out.new).text (O.shows out.old).faults (O.shows out.new).faults (file_line path)) }
+    ensures output_failed { result.status ≡ status.output → Rose (O.shows out.old).faults (O.shows out.new).faults }
 
     // The link was served, over the areas that the words name, or is handed back as it was.
     ensures served { IfSome result.run (λ run. Serves (Some (piped areas.now (option_map (λ s. s.now) save.entry) journal)) (F.shows files.old) (L.shows pipe) run.book (all_told L.shows run.links.items) run.door_failed) }
     ensures unserved { result.pipe ≡ (if is_none result.run then Some pipe else None) }
-    ensures run { (result.status ≡ DONE) ⊎ (result.status ≡ OUTPUT) → IsSome result.run }
-    ensures no_run { result.status ≡ AREAS → IsNone result.run }
+    ensures run { (result.status ≡ status.done) ⊎ (result.status ≡ status.output) → IsSome result.run }
+    ensures no_run { result.status ≡ status.areas → IsNone result.run }
 
     // What the files hold.
-    ensures saved { (result.status ≡ DONE) ⊎ (result.status ≡ OUTPUT) → IfSome result.run (λ run. HoldsAreas (path_at true (Some (piped areas.now (option_map (λ s. s.now) save.entry) journal))) (F.shows files.old) (F.shows files.new) run.book.plant.areas) }
+    ensures saved { (result.status ≡ status.done) ⊎ (result.status ≡ status.output) → IfSome result.run (λ run. HoldsAreas (path_at true (Some (piped areas.now (option_map (λ s. s.now) save.entry) journal))) (F.shows files.old) (F.shows files.new) run.book.plant.areas) }
     ensures paths { KeepsBut (if is_some result.run then path_at true (Some (piped areas.now (option_map (λ s. s.now) save.entry) journal)) else None) (F.shows files.old) (F.shows files.new) }
     ensures file_faults { NonePathFell (F.shows files.old).faults (F.shows files.new).faults }
 
     // What was printed.
-    ensures done { result.status ≡ DONE → IfSome result.run (λ run. O.text out.new ≡ append_known (O.text out.old) (report_of (all_told L.shows run.links.items) (length run.book.journal.entries))) }
-    ensures broken_off { result.status ≡ OUTPUT → IfSome result.run (λ run. AppendsPrefix (O.text out.old) (O.text out.new) (report_of (all_told L.shows run.links.items) (length run.book.journal.entries))) }
-    ensures memory_line { result.status ≡ MEMORY → Prints (O.text out.old) (O.text out.new) (O.out_faults out.old) (O.out_faults out.new) memory_line }
+    ensures done { result.status ≡ status.done → IfSome result.run (λ run. (O.shows out.new).text ≡ append_known (O.shows out.old).text (report_of (all_told L.shows run.links.items) (length run.book.journal.entries))) }
+    ensures broken_off { result.status ≡ status.output → IfSome result.run (λ run. AppendsPrefix (O.shows out.old).text (O.shows out.new).text (report_of (all_told L.shows run.links.items) (length run.book.journal.entries))) }
+    ensures memory_line { result.status ≡ status.memory → Prints (O.shows out.old).text (O.shows out.new).text (O.shows out.old).faults (O.shows out.new).faults memory_line }
 {
     match load_areas(alloc, files, areas) {
         Ok(opening) => serve_areas(rt, alloc, opening, save, journal, files, pipe, out),
@@ -161,11 +166,11 @@ fn serve_named<R: Wait, F: Files, L: Link + Clock + Drop, O: Out>(
 
 // Prints why the areas weren't loaded, and says the status.
 fn print_refusal<O: Out>(alloc: Global, fault: LoadFault, path: &str, out: &mut O) -> u8
-    ensures statuses { (result ≡ AREAS) ⊎ (result ≡ FILE) ⊎ (result ≡ MEMORY) }
-    ensures areas { result ≡ AREAS → IsSomeAnd (refusal_line fault) (Prints (O.text out.old) (O.text out.new) (O.out_faults out.old) (O.out_faults out.new)) }
-    ensures file { result ≡ FILE → fault ≡ LoadFault.Failed }
-    ensures file_line { result ≡ FILE → Prints (O.text out.old) (O.text out.new) (O.out_faults out.old) (O.out_faults out.new) (file_line path.now) }
-    ensures memory_line { result ≡ MEMORY → Prints (O.text out.old) (O.text out.new) (O.out_faults out.old) (O.out_faults out.new) memory_line }
+    ensures statuses { (result ≡ status.areas) ⊎ (result ≡ status.file) ⊎ (result ≡ status.memory) }
+    ensures areas { result ≡ status.areas → IsSomeAnd (refusal_line fault) (Prints (O.shows out.old).text (O.shows out.new).text (O.shows out.old).faults (O.shows out.new).faults) }
+    ensures file { result ≡ status.file → fault ≡ LoadFault.Failed }
+    ensures file_line { result ≡ status.file → Prints (O.shows out.old).text (O.shows out.new).text (O.shows out.old).faults (O.shows out.new).faults (file_line path.now) }
+    ensures memory_line { result ≡ status.memory → Prints (O.shows out.old).text (O.shows out.new).text (O.shows out.old).faults (O.shows out.new).faults memory_line }
 {
     match fault {
         LoadFault::Failed => print_failed(alloc, path, out),
@@ -180,9 +185,9 @@ fn print_refusal<O: Out>(alloc: Global, fault: LoadFault, path: &str, out: &mut 
 
 // Prints that a file failed, and says the status.
 fn print_failed<O: Out>(alloc: Global, path: &str, out: &mut O) -> u8
-    ensures statuses { (result ≡ FILE) ⊎ (result ≡ MEMORY) }
-    ensures file_line { result ≡ FILE → Prints (O.text out.old) (O.text out.new) (O.out_faults out.old) (O.out_faults out.new) (file_line path.now) }
-    ensures memory_line { result ≡ MEMORY → Prints (O.text out.old) (O.text out.new) (O.out_faults out.old) (O.out_faults out.new) memory_line }
+    ensures statuses { (result ≡ status.file) ⊎ (result ≡ status.memory) }
+    ensures file_line { result ≡ status.file → Prints (O.shows out.old).text (O.shows out.new).text (O.shows out.old).faults (O.shows out.new).faults (file_line path.now) }
+    ensures memory_line { result ≡ status.memory → Prints (O.shows out.old).text (O.shows out.new).text (O.shows out.old).faults (O.shows out.new).faults memory_line }
 {
     match file_line(alloc, path) {
         Ok(text) => print_status(FILE, text.as_bytes(), out),
@@ -193,14 +198,14 @@ fn print_failed<O: Out>(alloc: Global, path: &str, out: &mut O) -> u8
 // Prints a line for a status.
 fn print_status<O: Out>(status: u8, line: &[u8], out: &mut O) -> u8
     ensures status { result ≡ status }
-    ensures line { Prints (O.text out.old) (O.text out.new) (O.out_faults out.old) (O.out_faults out.new) line.now }
+    ensures line { Prints (O.shows out.old).text (O.shows out.new).text (O.shows out.old).faults (O.shows out.new).faults line.now }
 {
     print_line(line, out);
     status
 }
 
 // Serves the link over areas, saves those that are left, and prints the report.
-fn serve_areas<R: Wait, F: Files, L: Link + Clock + Drop, O: Out>(
+fn serve_areas<R: Wait + time::Clock, F: Files, L: Link + Clock + Drop, O: Out>(
     rt: &R,
     alloc: Global,
     opening: Areas,
@@ -212,18 +217,19 @@ fn serve_areas<R: Wait, F: Files, L: Link + Clock + Drop, O: Out>(
 ) -> ServerEnd<L>
     requires some { 1 ≤ journal }
     requires few { journal ≤ 262144 }
-    ensures statuses { (result.status ≡ DONE) ⊎ (result.status ≡ FILE) ⊎ (result.status ≡ OUTPUT) ⊎ (result.status ≡ MEMORY) }
-    ensures run { (result.status ≢ MEMORY) → IsSome result.run }
+    ensures statuses { (result.status ≡ status.done) ⊎ (result.status ≡ status.file) ⊎ (result.status ≡ status.output)
+        ⊎ (result.status ≡ status.memory) }
+    ensures run { (result.status ≢ status.memory) → IsSome result.run }
     ensures served { IfSome result.run (λ run. IsOneServed opening journal (L.shows pipe) run.book (all_told L.shows run.links.items) run.door_failed) }
     ensures unserved { result.pipe ≡ (if is_none result.run then Some pipe else None) }
-    ensures file_failed { result.status ≡ FILE → IsSomeAnd (option_map (λ s. s.now) save.entry) (λ path. Rose ((F.shows files.old).faults path) ((F.shows files.new).faults path) × Prints (O.text out.old) (O.text out.new) (O.out_faults out.old) (O.out_faults out.new) (file_line path)) }
-    ensures output_failed { result.status ≡ OUTPUT → Rose (O.out_faults out.old) (O.out_faults out.new) }
-    ensures saved { (result.status ≡ DONE) ⊎ (result.status ≡ OUTPUT) → IfSome result.run (λ run. HoldsAreas (option_map (λ s. s.now) save.entry) (F.shows files.old) (F.shows files.new) run.book.plant.areas) }
+    ensures file_failed { result.status ≡ status.file → IsSomeAnd (option_map (λ s. s.now) save.entry) (λ path. Rose ((F.shows files.old).faults path) ((F.shows files.new).faults path) × Prints (O.shows out.old).text (O.shows out.new).text (O.shows out.old).faults (O.shows out.new).faults (file_line path)) }
+    ensures output_failed { result.status ≡ status.output → Rose (O.shows out.old).faults (O.shows out.new).faults }
+    ensures saved { (result.status ≡ status.done) ⊎ (result.status ≡ status.output) → IfSome result.run (λ run. HoldsAreas (option_map (λ s. s.now) save.entry) (F.shows files.old) (F.shows files.new) run.book.plant.areas) }
     ensures paths { KeepsBut (if is_some result.run then option_map (λ s. s.now) save.entry else None) (F.shows files.old) (F.shows files.new) }
     ensures file_faults { NonePathFell (F.shows files.old).faults (F.shows files.new).faults }
-    ensures done { result.status ≡ DONE → IfSome result.run (λ run. O.text out.new ≡ append_known (O.text out.old) (report_of (all_told L.shows run.links.items) (length run.book.journal.entries))) }
-    ensures broken_off { result.status ≡ OUTPUT → IfSome result.run (λ run. AppendsPrefix (O.text out.old) (O.text out.new) (report_of (all_told L.shows run.links.items) (length run.book.journal.entries))) }
-    ensures memory_line { result.status ≡ MEMORY → Prints (O.text out.old) (O.text out.new) (O.out_faults out.old) (O.out_faults out.new) memory_line }
+    ensures done { result.status ≡ status.done → IfSome result.run (λ run. (O.shows out.new).text ≡ append_known (O.shows out.old).text (report_of (all_told L.shows run.links.items) (length run.book.journal.entries))) }
+    ensures broken_off { result.status ≡ status.output → IfSome result.run (λ run. AppendsPrefix (O.shows out.old).text (O.shows out.new).text (report_of (all_told L.shows run.links.items) (length run.book.journal.entries))) }
+    ensures memory_line { result.status ≡ status.memory → Prints (O.shows out.old).text (O.shows out.new).text (O.shows out.old).faults (O.shows out.new).faults memory_line }
 {
     let Ok(mut book) = Book::new(alloc, opening, journal) else {
         return unserved(MEMORY, b"memory\n", pipe, out);
@@ -254,15 +260,16 @@ fn close<F: Files, L: Link + Drop, O: Out>(
     files: &mut F,
     out: &mut O,
 ) -> u8
-    ensures statuses { (result ≡ DONE) ⊎ (result ≡ FILE) ⊎ (result ≡ OUTPUT) ⊎ (result ≡ MEMORY) }
-    ensures file_failed { result ≡ FILE → IsSomeAnd (option_map (λ s. s.now) save.entry) (λ path. Rose ((F.shows files.old).faults path) ((F.shows files.new).faults path) × Prints (O.text out.old) (O.text out.new) (O.out_faults out.old) (O.out_faults out.new) (file_line path)) }
-    ensures output_failed { result ≡ OUTPUT → Rose (O.out_faults out.old) (O.out_faults out.new) }
-    ensures saved { (result ≡ DONE) ⊎ (result ≡ OUTPUT) → HoldsAreas (option_map (λ s. s.now) save.entry) (F.shows files.old) (F.shows files.new) book.now.plant.areas }
+    ensures statuses { (result ≡ status.done) ⊎ (result ≡ status.file) ⊎ (result ≡ status.output)
+        ⊎ (result ≡ status.memory) }
+    ensures file_failed { result ≡ status.file → IsSomeAnd (option_map (λ s. s.now) save.entry) (λ path. Rose ((F.shows files.old).faults path) ((F.shows files.new).faults path) × Prints (O.shows out.old).text (O.shows out.new).text (O.shows out.old).faults (O.shows out.new).faults (file_line path)) }
+    ensures output_failed { result ≡ status.output → Rose (O.shows out.old).faults (O.shows out.new).faults }
+    ensures saved { (result ≡ status.done) ⊎ (result ≡ status.output) → HoldsAreas (option_map (λ s. s.now) save.entry) (F.shows files.old) (F.shows files.new) book.now.plant.areas }
     ensures paths { KeepsBut (option_map (λ s. s.now) save.entry) (F.shows files.old) (F.shows files.new) }
     ensures file_faults { NonePathFell (F.shows files.old).faults (F.shows files.new).faults }
-    ensures done { result ≡ DONE → O.text out.new ≡ append_known (O.text out.old) (report_of (told_of L.shows served.now ∷ []) (length book.now.journal.entries)) }
-    ensures broken_off { result ≡ OUTPUT → AppendsPrefix (O.text out.old) (O.text out.new) (report_of (told_of L.shows served.now ∷ []) (length book.now.journal.entries)) }
-    ensures memory_line { result ≡ MEMORY → Prints (O.text out.old) (O.text out.new) (O.out_faults out.old) (O.out_faults out.new) memory_line }
+    ensures done { result ≡ status.done → (O.shows out.new).text ≡ append_known (O.shows out.old).text (report_of (told_of L.shows served.now ∷ []) (length book.now.journal.entries)) }
+    ensures broken_off { result ≡ status.output → AppendsPrefix (O.shows out.old).text (O.shows out.new).text (report_of (told_of L.shows served.now ∷ []) (length book.now.journal.entries)) }
+    ensures memory_line { result ≡ status.memory → Prints (O.shows out.old).text (O.shows out.new).text (O.shows out.old).faults (O.shows out.new).faults memory_line }
 {
     let Some(path) = save else {
         return print_report(alloc, served, book.journal.len(), out);
@@ -293,7 +300,7 @@ fn save_areas<F: Files>(
 }
 
 // Serves a link over a fresh book.
-fn serve_link<R: Wait, L: Link + Clock + Drop>(
+fn serve_link<R: Wait + time::Clock, L: Link + Clock + Drop>(
     rt: &R,
     alloc: Global,
     pipe: L,
@@ -301,7 +308,7 @@ fn serve_link<R: Wait, L: Link + Clock + Drop>(
 ) -> Served<L>
     requires empty { book.old.journal.entries ≡ [] }
     requires plant { book.old.plant.areas ≡ book.old.opening.areas }
-    ensures number { result.link ≡ LINK }
+    ensures number { result.link ≡ piped_link }
     ensures served { IsServed book.old.opening.areas book.old.journal.limit (L.shows pipe) (told_of L.shows result) book.new }
 {
     let mut line = pipe;
@@ -325,7 +332,7 @@ fn serve_link<R: Wait, L: Link + Clock + Drop>(
 }
 
 // Serves a link over a fresh book by a fresh session.
-fn serve_book<R: Wait, L: Link + Clock>(
+fn serve_book<R: Wait + time::Clock, L: Link + Clock>(
     rt: &R,
     alloc: Global,
     session: &mut Session,
@@ -335,7 +342,7 @@ fn serve_book<R: Wait, L: Link + Clock>(
     requires fresh { IsFresh session.old }
     requires empty { book.old.journal.entries ≡ [] }
     ensures { IsServedLink book.old.opening.areas book.old.journal.limit (L.shows line.old)
-        (served_told LINK (L.shows line.new) result (entry_count session.new) (newest session.new)) book.new }
+        (served_told piped_link (L.shows line.new) result (entry_count session.new) (newest session.new)) book.new }
 {
     let mut doer = BookDoer { book, link: LINK };
     session.serve(rt, alloc, line, &mut doer)
@@ -346,7 +353,7 @@ fn unserved<L: Link + Drop, O: Out>(status: u8, line: &[u8], pipe: L, out: &mut 
     ensures status { result.status ≡ status }
     ensures run { result.run ≡ None }
     ensures pipe { result.pipe ≡ Some pipe }
-    ensures line { Prints (O.text out.old) (O.text out.new) (O.out_faults out.old) (O.out_faults out.new) line.now }
+    ensures line { Prints (O.shows out.old).text (O.shows out.new).text (O.shows out.old).faults (O.shows out.new).faults line.now }
 {
     print_line(line, out);
     ServerEnd {
@@ -358,7 +365,7 @@ fn unserved<L: Link + Drop, O: Out>(status: u8, line: &[u8], pipe: L, out: &mut 
 
 // Prints a line, whose failure changes nothing.
 fn print_line<O: Out>(line: &[u8], out: &mut O)
-    ensures { Prints (O.text out.old) (O.text out.new) (O.out_faults out.old) (O.out_faults out.new) line.now }
+    ensures { Prints (O.shows out.old).text (O.shows out.new).text (O.shows out.old).faults (O.shows out.new).faults line.now }
 {
     match out.put(line) {
         Ok(()) => {}
@@ -373,11 +380,11 @@ fn print_report<L: Link + Drop, O: Out>(
     journal: u64,
     out: &mut O,
 ) -> u8
-    ensures statuses { (result ≡ DONE) ⊎ (result ≡ OUTPUT) ⊎ (result ≡ MEMORY) }
-    ensures done { result ≡ DONE → O.text out.new ≡ append_known (O.text out.old) (report_of (told_of L.shows served.now ∷ []) journal) }
-    ensures broken_off { result ≡ OUTPUT → AppendsPrefix (O.text out.old) (O.text out.new) (report_of (told_of L.shows served.now ∷ []) journal) }
-    ensures output_failed { result ≡ OUTPUT → Rose (O.out_faults out.old) (O.out_faults out.new) }
-    ensures memory_line { result ≡ MEMORY → Prints (O.text out.old) (O.text out.new) (O.out_faults out.old) (O.out_faults out.new) memory_line }
+    ensures statuses { (result ≡ status.done) ⊎ (result ≡ status.output) ⊎ (result ≡ status.memory) }
+    ensures done { result ≡ status.done → (O.shows out.new).text ≡ append_known (O.shows out.old).text (report_of (told_of L.shows served.now ∷ []) journal) }
+    ensures broken_off { result ≡ status.output → AppendsPrefix (O.shows out.old).text (O.shows out.new).text (report_of (told_of L.shows served.now ∷ []) journal) }
+    ensures output_failed { result ≡ status.output → Rose (O.shows out.old).faults (O.shows out.new).faults }
+    ensures memory_line { result ≡ status.memory → Prints (O.shows out.old).text (O.shows out.new).text (O.shows out.old).faults (O.shows out.new).faults memory_line }
 {
     let Ok(text) = report(alloc, served.link, served.outcome, served.entries, journal) else {
         print_line(b"memory\n", out);

@@ -10,6 +10,7 @@ use std::alloc::Global;
 use std::process::Abort;
 use std::sync::Wait;
 use std::test::Fail;
+use std::time::Clock;
 
 const BLOCK: &str = "DB1=11223344";
 
@@ -59,7 +60,7 @@ const MESSAGES: &str =
 3201000000110001000099|320200000011000000008104|0
 320100000012000D00000401120A10020001000184000000|320200000012000000008500|0
 32010000001300080000F00000010001003F|320200000013000000008500|0
-32010000001400080000F00000090000FFFF|320300000014000800000000F0000008000103C0|0
+32010000001400080000F00000090000FFFF|320300000014000800000000F000000800010780|0
 32010000001500070000F0000001000101|320200000015000000008404|0
 320100000016000E00000401120A100201CE000184000000|320300000016000200040000040105000000|1
 320100000017000E00000401120A100201CF000184000000|320200000017000000008500|0
@@ -112,7 +113,7 @@ fn with_message(alloc: Global, text: &str, message: &str) -> Result<Vec<u8>, Fai
 
 // Serves a link over the data block of a word with this input, which moves so many octets a call,
 // compares what is written on it and printed, and gives the book.
-fn serves<R: Wait + Abort>(
+fn serves<R: Wait + Clock + Abort>(
     rt: &R,
     alloc: Global,
     word: &str,
@@ -156,7 +157,7 @@ fn report(alloc: Global, outcome: &str, entries: &str) -> Result<String, Fail> {
 }
 
 // Serves a link for a line of input, octets written, outcome and entries.
-fn serves_line<R: Wait + Abort>(
+fn serves_line<R: Wait + Clock + Abort>(
     rt: &R,
     alloc: Global,
     word: &str,
@@ -182,7 +183,7 @@ fn serves_line<R: Wait + Abort>(
 }
 
 // Serves a link for a line of message, answer and entries.
-fn answers_line<R: Wait + Abort>(rt: &R, alloc: Global, line: &str) -> Result<(), Fail> {
+fn answers_line<R: Wait + Clock + Abort>(rt: &R, alloc: Global, line: &str) -> Result<(), Fail> {
     let mut fields = line.split('|');
     let input = with_message(alloc, CONNECT, fields.next().ok_or("no message")?)?;
     let written = with_message(alloc, CONFIRM, fields.next().ok_or("no answer")?)?;
@@ -324,7 +325,7 @@ fn files_with(alloc: Global, octets: Vec<u8>) -> Result<MemoryFiles, Fail> {
 }
 
 // Calls the server with these words and files, on a link that has ended.
-fn files_give<R: Wait + Abort>(
+fn files_give<R: Wait + Clock + Abort>(
     rt: &R,
     alloc: Global,
     words: &[&str],
@@ -342,7 +343,7 @@ fn files_give<R: Wait + Abort>(
 }
 
 // The same without files: a run is there exactly with status 0.
-fn words_give<R: Wait + Abort>(
+fn words_give<R: Wait + Clock + Abort>(
     rt: &R,
     alloc: Global,
     words: &[&str],
@@ -392,7 +393,7 @@ fn words_are_read(rt: HostRuntime) -> Result<(), Fail> {
 }
 
 // What comes of a link whose k-th call, from 0, meets a fate.
-fn served_with<R: Wait>(
+fn served_with<R: Wait + Clock>(
     rt: &R,
     alloc: Global,
     k: usize,
@@ -418,7 +419,7 @@ fn served_with<R: Wait>(
 }
 
 // So many octets of the answers are written where the k-th call meets a fate, and the report ends so.
-fn fate_gives<R: Wait + Abort>(
+fn fate_gives<R: Wait + Clock + Abort>(
     rt: &R,
     alloc: Global,
     k: usize,
@@ -521,7 +522,7 @@ fn an_output_may_fail(rt: HostRuntime) -> Result<(), Fail> {
 const AREA_FILE: &str = "s7 areas 1\nDB 1 4\n11223344\n";
 
 // The words of a run that saves, with a write of two octets.
-fn saves<R: Wait + Abort>(
+fn saves<R: Wait + Clock + Abort>(
     rt: &R,
     alloc: Global,
     words: &[&str],
@@ -542,7 +543,7 @@ fn saves<R: Wait + Abort>(
 }
 
 // The areas that are left are saved under the path.
-fn saves_under<R: Wait + Abort>(
+fn saves_under<R: Wait + Clock + Abort>(
     rt: &R,
     alloc: Global,
     words: &[&str],

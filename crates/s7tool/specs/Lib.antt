@@ -5,3 +5,4 @@ pub mod RigText
 pub mod Rigging
 pub mod Run
 pub mod Scripts
+pub mod Statuses

@@ -7,6 +7,7 @@ use Rattle.s7_client.specs.declared.config.Config.{Config}
 use Rattle.s7_client.specs.declared.job.Job.{Job}
 use Rattle.s7_client.specs.declared.job.Job.TheVariants as job
 use Rattle.s7_client.specs.declared.job.JobResult.{JobResult}
+use Rattle.s7_client.specs.Codes.{no_fault}
 use Rattle.s7_client.specs.Runs.{Between, JobRun}
 use Rattle.s7_script.specs.Printing.{print}
 use Rattle.s7_script.specs.declared.script_list.ScriptLine.{ScriptLine}
@@ -33,7 +34,7 @@ jobs_of lines = job.Connect ∷ (map job_in lines ++ job.Disconnect ∷ [])
 
 -- the job came off
 abbrev pub is_good : JobResult → Bool
-is_good told = told.code == 0
+is_good told = told.code == no_fault
 
 -- where a run stands: the link, what the client has, the results so far, and the output's text
 pub record Place : Type 0 where

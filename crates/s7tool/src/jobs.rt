@@ -37,10 +37,10 @@ pub fn do_all<L: Link, O: Out>(
 ) -> Result<(), Stop>
     requires idle { job_of client.old ≡ None }
     requires room { vec_len results.old + vec_len lines + 2 ≤ vec_capacity results.old }
-    ensures ok { OnOk result (DoesAll (config_of client.old) lines.items (place (L.shows link.old) (between_of client.old) results.old.items (O.text out.old)) (place (L.shows link.new) (between_of client.new) results.new.items (O.text out.new))) }
-    ensures err { OnErr result (BreaksOff (config_of client.old) (connect_line ∷ lines.items) (place (L.shows link.old) (between_of client.old) results.old.items (O.text out.old)) (place (L.shows link.new) (between_of client.new) results.new.items (O.text out.new))) }
-    ensures output { IsErrOf result Stop.Output → Rose (O.out_faults out.old) (O.out_faults out.new) }
-    ensures faults { O.out_faults out.old ≤ O.out_faults out.new }
+    ensures ok { OnOk result (DoesAll (config_of client.old) lines.items (place (L.shows link.old) (between_of client.old) results.old.items (O.shows out.old).text) (place (L.shows link.new) (between_of client.new) results.new.items (O.shows out.new).text)) }
+    ensures err { OnErr result (BreaksOff (config_of client.old) (connect_line ∷ lines.items) (place (L.shows link.old) (between_of client.old) results.old.items (O.shows out.old).text) (place (L.shows link.new) (between_of client.new) results.new.items (O.shows out.new).text)) }
+    ensures output { IsErrOf result Stop.Output → Rose (O.shows out.old).faults (O.shows out.new).faults }
+    ensures faults { (O.shows out.old).faults ≤ (O.shows out.new).faults }
 {
     let connect = ScriptLine {
         line: 0,
@@ -62,10 +62,10 @@ fn do_lines<L: Link, O: Out>(
 ) -> Result<(), Stop>
     requires idle { job_of client.old ≡ None }
     requires room { vec_len results.old + vec_len lines ≤ vec_capacity results.old }
-    ensures ok { OnOk result (DoesLines (config_of client.old) lines.items (place (L.shows link.old) (between_of client.old) results.old.items (O.text out.old)) (place (L.shows link.new) (between_of client.new) results.new.items (O.text out.new))) }
-    ensures err { OnErr result (BreaksOff (config_of client.old) lines.items (place (L.shows link.old) (between_of client.old) results.old.items (O.text out.old)) (place (L.shows link.new) (between_of client.new) results.new.items (O.text out.new))) }
-    ensures output { IsErrOf result Stop.Output → Rose (O.out_faults out.old) (O.out_faults out.new) }
-    ensures faults { O.out_faults out.old ≤ O.out_faults out.new }
+    ensures ok { OnOk result (DoesLines (config_of client.old) lines.items (place (L.shows link.old) (between_of client.old) results.old.items (O.shows out.old).text) (place (L.shows link.new) (between_of client.new) results.new.items (O.shows out.new).text)) }
+    ensures err { OnErr result (BreaksOff (config_of client.old) lines.items (place (L.shows link.old) (between_of client.old) results.old.items (O.shows out.old).text) (place (L.shows link.new) (between_of client.new) results.new.items (O.shows out.new).text)) }
+    ensures output { IsErrOf result Stop.Output → Rose (O.shows out.old).faults (O.shows out.new).faults }
+    ensures faults { (O.shows out.old).faults ≤ (O.shows out.new).faults }
     ensures idle { job_of client.new ≡ None }
     ensures config { config_of client.new ≡ config_of client.old }
     ensures len { OnOk result (vec_len results.new ≡ vec_len results.old + vec_len lines) }
@@ -88,10 +88,10 @@ fn do_job<L: Link, O: Out>(
 ) -> Result<(), Stop>
     requires idle { job_of client.old ≡ None }
     requires room { vec_len results.old < vec_capacity results.old }
-    ensures ok { OnOk result (DoesLines (config_of client.old) (next ∷ []) (place (L.shows link.old) (between_of client.old) results.old.items (O.text out.old)) (place (L.shows link.new) (between_of client.new) results.new.items (O.text out.new))) }
-    ensures err { OnErr result (BreaksOff (config_of client.old) (next ∷ []) (place (L.shows link.old) (between_of client.old) results.old.items (O.text out.old)) (place (L.shows link.new) (between_of client.new) results.new.items (O.text out.new))) }
-    ensures output { IsErrOf result Stop.Output → Rose (O.out_faults out.old) (O.out_faults out.new) }
-    ensures faults { O.out_faults out.old ≤ O.out_faults out.new }
+    ensures ok { OnOk result (DoesLines (config_of client.old) (next ∷ []) (place (L.shows link.old) (between_of client.old) results.old.items (O.shows out.old).text) (place (L.shows link.new) (between_of client.new) results.new.items (O.shows out.new).text)) }
+    ensures err { OnErr result (BreaksOff (config_of client.old) (next ∷ []) (place (L.shows link.old) (between_of client.old) results.old.items (O.shows out.old).text) (place (L.shows link.new) (between_of client.new) results.new.items (O.shows out.new).text)) }
+    ensures output { IsErrOf result Stop.Output → Rose (O.shows out.old).faults (O.shows out.new).faults }
+    ensures faults { (O.shows out.old).faults ≤ (O.shows out.new).faults }
     ensures idle { job_of client.new ≡ None }
     ensures config { config_of client.new ≡ config_of client.old }
     ensures len { OnOk result (vec_len results.new ≡ vec_len results.old + 1) }
@@ -161,10 +161,10 @@ fn keep(results: &mut Vec<JobResult>, told: JobResult)
 // Prints what came of the job of a line.
 fn print<O: Out>(alloc: Global, line: u32, told: &JobResult, out: &mut O) -> Result<(), Stop>
     requires { IsPrintable told.now }
-    ensures ok { OnOk result (O.text out.new ≡ append_known (O.text out.old) (print line told.now)) }
-    ensures err { OnErr result (AppendsPrefix (O.text out.old) (O.text out.new) (print line told.now)) }
-    ensures output { IsErrOf result Stop.Output → Rose (O.out_faults out.old) (O.out_faults out.new) }
-    ensures faults { O.out_faults out.old ≤ O.out_faults out.new }
+    ensures ok { OnOk result ((O.shows out.new).text ≡ append_known (O.shows out.old).text (print line told.now)) }
+    ensures err { OnErr result (AppendsPrefix (O.shows out.old).text (O.shows out.new).text (print line told.now)) }
+    ensures output { IsErrOf result Stop.Output → Rose (O.shows out.old).faults (O.shows out.new).faults }
+    ensures faults { (O.shows out.old).faults ≤ (O.shows out.new).faults }
 {
     let Ok(text) = print_result(alloc, line, told) else {
         return Err(Stop::Memory);

@@ -15,6 +15,7 @@ ghost use Rattle.s7tool.specs.RigText.{ArePrintable, are_clients_good, numbers_o
 ghost use Rattle.s7tool.specs.Loading.{Refuses};
 ghost use Rattle.s7tool.specs.Rigging.{FailsOneFile, Opens, RanRig, RefusesFile, RefusesOneScript, areas_refusal_line, rig_config};
 ghost use Rattle.s7tool.specs.Scripts.{AddsScript, ReadsScripts, StopsAt};
+ghost use Rattle.s7tool.specs.Statuses as status;
 ghost use Rattle.s7tool.specs.Run.{jobs_of};
 
 use crate::load::{LoadFault, load_script};
@@ -53,16 +54,19 @@ pub fn run_rigging<F: Files, L: Link + Drop, O: Out>(
     files: &mut F,
     out: &mut O,
 ) -> ToolEnd<L>
-    ensures statuses { (result.status ≡ DONE) ⊎ (result.status ≡ SCRIPT) ⊎ (result.status ≡ FILE) ⊎ (result.status ≡ OUTPUT) ⊎ (result.status ≡ JOBS) ⊎ (result.status ≡ MEMORY) }
-    ensures refused { result.status ≡ SCRIPT → RefusesFile (rig_told_of words.entry) (F.shows files.old) (Prints (O.text out.old) (O.text out.new) (O.out_faults out.old) (O.out_faults out.new)) }
-    ensures file_failed { result.status ≡ FILE → FailsOneFile (rig_told_of words.entry) (F.shows files.old) (F.shows files.new) (Prints (O.text out.old) (O.text out.new) (O.out_faults out.old) (O.out_faults out.new)) }
-    ensures output_failed { result.status ≡ OUTPUT → Rose (O.out_faults out.old) (O.out_faults out.new) }
+    ensures statuses { (result.status ≡ status.done) ⊎ (result.status ≡ status.script) ⊎ (result.status ≡ status.file)
+        ⊎ (result.status ≡ status.output) ⊎ (result.status ≡ status.jobs) ⊎ (result.status ≡ status.memory) }
+    ensures refused { result.status ≡ status.script → RefusesFile (rig_told_of words.entry) (F.shows files.old) (Prints (O.shows out.old).text (O.shows out.new).text (O.shows out.old).faults (O.shows out.new).faults) }
+    ensures file_failed { result.status ≡ status.file → FailsOneFile (rig_told_of words.entry) (F.shows files.old) (F.shows files.new) (Prints (O.shows out.old).text (O.shows out.new).text (O.shows out.old).faults (O.shows out.new).faults) }
+    ensures output_failed { result.status ≡ status.output → Rose (O.shows out.old).faults (O.shows out.new).faults }
     ensures no_run { result.run ≡ None }
-    ensures rig { (result.status ≡ DONE) ⊎ (result.status ≡ JOBS) ⊎ (result.status ≡ OUTPUT) → IsSome result.rig }
-    ensures no_rig { (result.status ≡ SCRIPT) ⊎ (result.status ≡ FILE) ⊎ (result.status ≡ MEMORY) → result.rig ≡ None }
-    ensures done { (result.status ≡ DONE) ⊎ (result.status ≡ JOBS) → IfSome result.rig (λ end. RanRig (rig_told_of words.entry) (F.shows files.old) (end_told end) (λ scripts. (O.text out.new ≡ append_known (O.text out.old) (rig_text scripts (end_told end))) × (are_clients_good scripts (end_told end).clients ≡ (result.status == DONE)))) }
-    ensures broken_off { result.status ≡ OUTPUT → IfSome result.rig (λ end. RanRig (rig_told_of words.entry) (F.shows files.old) (end_told end) (λ scripts. AppendsPrefix (O.text out.old) (O.text out.new) (rig_text scripts (end_told end)))) }
-    ensures memory_line { result.status ≡ MEMORY → Prints (O.text out.old) (O.text out.new) (O.out_faults out.old) (O.out_faults out.new) memory_line }
+    ensures rig { (result.status ≡ status.done) ⊎ (result.status ≡ status.jobs) ⊎ (result.status ≡ status.output)
+        → IsSome result.rig }
+    ensures no_rig { (result.status ≡ status.script) ⊎ (result.status ≡ status.file) ⊎ (result.status ≡ status.memory)
+        → result.rig ≡ None }
+    ensures done { (result.status ≡ status.done) ⊎ (result.status ≡ status.jobs) → IfSome result.rig (λ end. RanRig (rig_told_of words.entry) (F.shows files.old) (end_told end) (λ scripts. ((O.shows out.new).text ≡ append_known (O.shows out.old).text (rig_text scripts (end_told end))) × (are_clients_good scripts (end_told end).clients ≡ (result.status == status.done)))) }
+    ensures broken_off { result.status ≡ status.output → IfSome result.rig (λ end. RanRig (rig_told_of words.entry) (F.shows files.old) (end_told end) (λ scripts. AppendsPrefix (O.shows out.old).text (O.shows out.new).text (rig_text scripts (end_told end)))) }
+    ensures memory_line { result.status ≡ status.memory → Prints (O.shows out.old).text (O.shows out.new).text (O.shows out.old).faults (O.shows out.new).faults memory_line }
     ensures paths { F.shows files.new ≡ record (F.shows files.old) { faults = (F.shows files.new).faults } }
     ensures file_faults { NonePathFell (F.shows files.old).faults (F.shows files.new).faults }
 {
@@ -78,11 +82,11 @@ pub fn run_rigging<F: Files, L: Link + Drop, O: Out>(
 
 // Prints why the areas weren't loaded, and says the status.
 fn print_areas_refusal<O: Out>(alloc: Global, fault: AreasFault, path: &str, out: &mut O) -> u8
-    ensures statuses { (result ≡ SCRIPT) ⊎ (result ≡ FILE) ⊎ (result ≡ MEMORY) }
-    ensures refused { result ≡ SCRIPT → IsSomeAnd (areas_refusal_line fault) (Prints (O.text out.old) (O.text out.new) (O.out_faults out.old) (O.out_faults out.new)) }
-    ensures file { result ≡ FILE → fault ≡ AreasFault.Failed }
-    ensures file_line { result ≡ FILE → Prints (O.text out.old) (O.text out.new) (O.out_faults out.old) (O.out_faults out.new) (file_line path.now) }
-    ensures memory_line { result ≡ MEMORY → Prints (O.text out.old) (O.text out.new) (O.out_faults out.old) (O.out_faults out.new) memory_line }
+    ensures statuses { (result ≡ status.script) ⊎ (result ≡ status.file) ⊎ (result ≡ status.memory) }
+    ensures refused { result ≡ status.script → IsSomeAnd (areas_refusal_line fault) (Prints (O.shows out.old).text (O.shows out.new).text (O.shows out.old).faults (O.shows out.new).faults) }
+    ensures file { result ≡ status.file → fault ≡ AreasFault.Failed }
+    ensures file_line { result ≡ status.file → Prints (O.shows out.old).text (O.shows out.new).text (O.shows out.old).faults (O.shows out.new).faults (file_line path.now) }
+    ensures memory_line { result ≡ status.memory → Prints (O.shows out.old).text (O.shows out.new).text (O.shows out.old).faults (O.shows out.new).faults memory_line }
 {
     match fault {
         AreasFault::Failed => match file_line(alloc, path) {
@@ -107,16 +111,19 @@ fn run_on<F: Files, L: Link + Drop, O: Out>(
     out: &mut O,
 ) -> ToolEnd<L>
     requires { Opens (naming words.areas.now) (F.shows files.old) areas }
-    ensures statuses { (result.status ≡ DONE) ⊎ (result.status ≡ SCRIPT) ⊎ (result.status ≡ FILE) ⊎ (result.status ≡ OUTPUT) ⊎ (result.status ≡ JOBS) ⊎ (result.status ≡ MEMORY) }
-    ensures refused { result.status ≡ SCRIPT → RefusesOneScript (rig_told_of words.entry) (F.shows files.old) (Prints (O.text out.old) (O.text out.new) (O.out_faults out.old) (O.out_faults out.new)) }
-    ensures file_failed { result.status ≡ FILE → FailsOneFile (rig_told_of words.entry) (F.shows files.old) (F.shows files.new) (Prints (O.text out.old) (O.text out.new) (O.out_faults out.old) (O.out_faults out.new)) }
-    ensures output_failed { result.status ≡ OUTPUT → Rose (O.out_faults out.old) (O.out_faults out.new) }
+    ensures statuses { (result.status ≡ status.done) ⊎ (result.status ≡ status.script) ⊎ (result.status ≡ status.file)
+        ⊎ (result.status ≡ status.output) ⊎ (result.status ≡ status.jobs) ⊎ (result.status ≡ status.memory) }
+    ensures refused { result.status ≡ status.script → RefusesOneScript (rig_told_of words.entry) (F.shows files.old) (Prints (O.shows out.old).text (O.shows out.new).text (O.shows out.old).faults (O.shows out.new).faults) }
+    ensures file_failed { result.status ≡ status.file → FailsOneFile (rig_told_of words.entry) (F.shows files.old) (F.shows files.new) (Prints (O.shows out.old).text (O.shows out.new).text (O.shows out.old).faults (O.shows out.new).faults) }
+    ensures output_failed { result.status ≡ status.output → Rose (O.shows out.old).faults (O.shows out.new).faults }
     ensures no_run { result.run ≡ None }
-    ensures rig { (result.status ≡ DONE) ⊎ (result.status ≡ JOBS) ⊎ (result.status ≡ OUTPUT) → IsSome result.rig }
-    ensures no_rig { (result.status ≡ SCRIPT) ⊎ (result.status ≡ FILE) ⊎ (result.status ≡ MEMORY) → result.rig ≡ None }
-    ensures done { (result.status ≡ DONE) ⊎ (result.status ≡ JOBS) → IfSome result.rig (λ end. RanRig (rig_told_of words.entry) (F.shows files.old) (end_told end) (λ scripts. (O.text out.new ≡ append_known (O.text out.old) (rig_text scripts (end_told end))) × (are_clients_good scripts (end_told end).clients ≡ (result.status == DONE)))) }
-    ensures broken_off { result.status ≡ OUTPUT → IfSome result.rig (λ end. RanRig (rig_told_of words.entry) (F.shows files.old) (end_told end) (λ scripts. AppendsPrefix (O.text out.old) (O.text out.new) (rig_text scripts (end_told end)))) }
-    ensures memory_line { result.status ≡ MEMORY → Prints (O.text out.old) (O.text out.new) (O.out_faults out.old) (O.out_faults out.new) memory_line }
+    ensures rig { (result.status ≡ status.done) ⊎ (result.status ≡ status.jobs) ⊎ (result.status ≡ status.output)
+        → IsSome result.rig }
+    ensures no_rig { (result.status ≡ status.script) ⊎ (result.status ≡ status.file) ⊎ (result.status ≡ status.memory)
+        → result.rig ≡ None }
+    ensures done { (result.status ≡ status.done) ⊎ (result.status ≡ status.jobs) → IfSome result.rig (λ end. RanRig (rig_told_of words.entry) (F.shows files.old) (end_told end) (λ scripts. ((O.shows out.new).text ≡ append_known (O.shows out.old).text (rig_text scripts (end_told end))) × (are_clients_good scripts (end_told end).clients ≡ (result.status == status.done)))) }
+    ensures broken_off { result.status ≡ status.output → IfSome result.rig (λ end. RanRig (rig_told_of words.entry) (F.shows files.old) (end_told end) (λ scripts. AppendsPrefix (O.shows out.old).text (O.shows out.new).text (rig_text scripts (end_told end)))) }
+    ensures memory_line { result.status ≡ status.memory → Prints (O.shows out.old).text (O.shows out.new).text (O.shows out.old).faults (O.shows out.new).faults memory_line }
     ensures paths { F.shows files.new ≡ record (F.shows files.old) { faults = (F.shows files.new).faults } }
     ensures file_faults { NonePathFell (F.shows files.old).faults (F.shows files.new).faults }
 {
@@ -184,16 +191,18 @@ fn run_scripts<L: Link + Drop, O: Out>(
 ) -> ToolEnd<L>
     requires len { vec_len scripts ≡ vec_len words.scripts }
     requires connects { AllByRecursion ConnectsFirst (map jobs_of scripts.items) }
-    ensures statuses { (result.status ≡ DONE) ⊎ (result.status ≡ OUTPUT) ⊎ (result.status ≡ JOBS) ⊎ (result.status ≡ MEMORY) }
-    ensures output_failed { result.status ≡ OUTPUT → Rose (O.out_faults out.old) (O.out_faults out.new) }
+    ensures statuses { (result.status ≡ status.done) ⊎ (result.status ≡ status.output) ⊎ (result.status ≡ status.jobs)
+        ⊎ (result.status ≡ status.memory) }
+    ensures output_failed { result.status ≡ status.output → Rose (O.shows out.old).faults (O.shows out.new).faults }
     ensures no_run { result.run ≡ None }
-    ensures rig { (result.status ≡ DONE) ⊎ (result.status ≡ JOBS) ⊎ (result.status ≡ OUTPUT) → IsSome result.rig }
-    ensures no_rig { result.status ≡ MEMORY → result.rig ≡ None }
+    ensures rig { (result.status ≡ status.done) ⊎ (result.status ≡ status.jobs) ⊎ (result.status ≡ status.output)
+        → IsSome result.rig }
+    ensures no_rig { result.status ≡ status.memory → result.rig ≡ None }
     ensures ran { IfSome result.rig (λ end. RigRan areas words.entry.journal (rig_config words.entry.pdu) (map jobs_of scripts.items) (record { turns = words.entry.turns.items; seed = words.entry.seed; steps = words.entry.steps }) (end_told end)) }
-    ensures done { (result.status ≡ DONE) ⊎ (result.status ≡ JOBS) → IfSome result.rig (λ end. O.text out.new ≡ append_known (O.text out.old) (rig_text scripts.items (end_told end))) }
-    ensures good { (result.status ≡ DONE) ⊎ (result.status ≡ JOBS) → IfSome result.rig (λ end. are_clients_good scripts.items (end_told end).clients ≡ (result.status == DONE)) }
-    ensures broken_off { result.status ≡ OUTPUT → IfSome result.rig (λ end. AppendsPrefix (O.text out.old) (O.text out.new) (rig_text scripts.items (end_told end))) }
-    ensures memory_line { result.status ≡ MEMORY → Prints (O.text out.old) (O.text out.new) (O.out_faults out.old) (O.out_faults out.new) memory_line }
+    ensures done { (result.status ≡ status.done) ⊎ (result.status ≡ status.jobs) → IfSome result.rig (λ end. (O.shows out.new).text ≡ append_known (O.shows out.old).text (rig_text scripts.items (end_told end))) }
+    ensures good { (result.status ≡ status.done) ⊎ (result.status ≡ status.jobs) → IfSome result.rig (λ end. are_clients_good scripts.items (end_told end).clients ≡ (result.status == status.done)) }
+    ensures broken_off { result.status ≡ status.output → IfSome result.rig (λ end. AppendsPrefix (O.shows out.old).text (O.shows out.new).text (rig_text scripts.items (end_told end))) }
+    ensures memory_line { result.status ≡ status.memory → Prints (O.shows out.old).text (O.shows out.new).text (O.shows out.old).faults (O.shows out.new).faults memory_line }
 {
     match run_and_tell(alloc, &words, areas, scripts) {
         Ok(rigged) => ToolEnd {
@@ -207,11 +216,11 @@ fn run_scripts<L: Link + Drop, O: Out>(
 
 // Prints the text of a rig, and says the status.
 fn print_rig<O: Out>(rigged: &Rigged, out: &mut O) -> u8
-    ensures statuses { (result ≡ DONE) ⊎ (result ≡ OUTPUT) ⊎ (result ≡ JOBS) }
-    ensures done { (result ≡ DONE) ⊎ (result ≡ JOBS) → O.text out.new ≡ append_known (O.text out.old) rigged.now.text.items }
-    ensures good { (result ≡ DONE) ⊎ (result ≡ JOBS) → rigged.now.is_good ≡ (result == DONE) }
-    ensures broken_off { result ≡ OUTPUT → AppendsPrefix (O.text out.old) (O.text out.new) rigged.now.text.items }
-    ensures output_failed { result ≡ OUTPUT → Rose (O.out_faults out.old) (O.out_faults out.new) }
+    ensures statuses { (result ≡ status.done) ⊎ (result ≡ status.output) ⊎ (result ≡ status.jobs) }
+    ensures done { (result ≡ status.done) ⊎ (result ≡ status.jobs) → (O.shows out.new).text ≡ append_known (O.shows out.old).text rigged.now.text.items }
+    ensures good { (result ≡ status.done) ⊎ (result ≡ status.jobs) → rigged.now.is_good ≡ (result == status.done) }
+    ensures broken_off { result ≡ status.output → AppendsPrefix (O.shows out.old).text (O.shows out.new).text rigged.now.text.items }
+    ensures output_failed { result ≡ status.output → Rose (O.shows out.old).faults (O.shows out.new).faults }
 {
     match out.put(rigged.text.as_slice()) {
         Ok(()) if rigged.is_good => DONE,

@@ -16,6 +16,7 @@ ghost use Rattle.s7tool.specs.Ran.{ByCommand, ForRun, ForRig, IsRig, Ran, ReadsS
 ghost use Rattle.s7tool.specs.RigText.{are_clients_good, rig_text};
 ghost use Rattle.s7tool.specs.Rigging.{FailsOneFile, RanRig, RefusesFile};
 ghost use Rattle.s7tool.specs.Report.{Prints, usage_line, file_line, dial_line, memory_line};
+ghost use Rattle.s7tool.specs.Statuses as status;
 ghost use Rattle.s7tool.specs.Run.{BreaksOff, DoesAll, WantsMemory, connect_line, is_good, place};
 
 use crate::jobs::{Stop, do_all};
@@ -96,39 +97,45 @@ pub fn tool_main<F: Files, L: Link + Drop, K: Dial<L>, O: Out>(
     out: &mut O,
 ) -> ToolEnd<L>
     // The status.
-    ensures statuses { (result.status ≡ DONE) ⊎ (result.status ≡ USAGE) ⊎ (result.status ≡ SCRIPT) ⊎ (result.status ≡ FILE) ⊎ (result.status ≡ DIAL) ⊎ (result.status ≡ OUTPUT) ⊎ (result.status ≡ JOBS) ⊎ (result.status ≡ MEMORY) }
-    ensures usage { result.status ≡ USAGE → tool_words (map (λ w. w.now) words.now) ≡ None }
-    ensures usage_words { tool_words (map (λ w. w.now) words.now) ≡ None → (result.status ≡ USAGE) ⊎ (result.status ≡ MEMORY) }
-    ensures refused { result.status ≡ SCRIPT → ByCommand (tool_words (map (λ w. w.now) words.now)) (λ run. RefusesScript run.script (F.shows files.old) (Prints (O.text out.old) (O.text out.new) (O.out_faults out.old) (O.out_faults out.new))) (λ rig. RefusesFile rig (F.shows files.old) (Prints (O.text out.old) (O.text out.new) (O.out_faults out.old) (O.out_faults out.new))) }
-    ensures file_failed { result.status ≡ FILE → ByCommand (tool_words (map (λ w. w.now) words.now)) (λ run. FileFails run.script (F.shows files.old) (F.shows files.new) (Prints (O.text out.old) (O.text out.new) (O.out_faults out.old) (O.out_faults out.new))) (λ rig. FailsOneFile rig (F.shows files.old) (F.shows files.new) (Prints (O.text out.old) (O.text out.new) (O.out_faults out.old) (O.out_faults out.new))) }
-    ensures dial_failed { result.status ≡ DIAL → ForRun (tool_words (map (λ w. w.now) words.now)) (λ told. ReadsScript told.script (F.shows files.old) (λ lines. Rose ((K.shows dial.old).faults told.host told.port) ((K.shows dial.new).faults told.host told.port))) }
-    ensures output_failed { result.status ≡ OUTPUT → Rose (O.out_faults out.old) (O.out_faults out.new) }
+    ensures statuses { (result.status ≡ status.done) ⊎ (result.status ≡ status.usage)
+        ⊎ (result.status ≡ status.script) ⊎ (result.status ≡ status.file) ⊎ (result.status ≡ status.dial)
+        ⊎ (result.status ≡ status.output) ⊎ (result.status ≡ status.jobs) ⊎ (result.status ≡ status.memory) }
+    ensures usage { result.status ≡ status.usage → tool_words (map (λ w. w.now) words.now) ≡ None }
+    ensures usage_words { tool_words (map (λ w. w.now) words.now) ≡ None → (result.status ≡ status.usage)
+        ⊎ (result.status ≡ status.memory) }
+    ensures refused { result.status ≡ status.script → ByCommand (tool_words (map (λ w. w.now) words.now)) (λ run. RefusesScript run.script (F.shows files.old) (Prints (O.shows out.old).text (O.shows out.new).text (O.shows out.old).faults (O.shows out.new).faults)) (λ rig. RefusesFile rig (F.shows files.old) (Prints (O.shows out.old).text (O.shows out.new).text (O.shows out.old).faults (O.shows out.new).faults)) }
+    ensures file_failed { result.status ≡ status.file → ByCommand (tool_words (map (λ w. w.now) words.now)) (λ run. FileFails run.script (F.shows files.old) (F.shows files.new) (Prints (O.shows out.old).text (O.shows out.new).text (O.shows out.old).faults (O.shows out.new).faults)) (λ rig. FailsOneFile rig (F.shows files.old) (F.shows files.new) (Prints (O.shows out.old).text (O.shows out.new).text (O.shows out.old).faults (O.shows out.new).faults)) }
+    ensures dial_failed { result.status ≡ status.dial → ForRun (tool_words (map (λ w. w.now) words.now)) (λ told. ReadsScript told.script (F.shows files.old) (λ lines. Rose ((K.shows dial.old).faults told.host told.port) ((K.shows dial.new).faults told.host told.port))) }
+    ensures output_failed { result.status ≡ status.output → Rose (O.shows out.old).faults (O.shows out.new).faults }
 
     // The run.
-    ensures ran { (result.status ≡ DONE) ⊎ (result.status ≡ JOBS) ⊎ (result.status ≡ OUTPUT) → ByCommand (tool_words (map (λ w. w.now) words.now)) (λ run. IsSome result.run) (λ rig. IsSome result.rig) }
-    ensures no_run { (result.status ≡ USAGE) ⊎ (result.status ≡ SCRIPT) ⊎ (result.status ≡ FILE) ⊎ (result.status ≡ DIAL) → IsNone result.run }
-    ensures done { (result.status ≡ DONE) ⊎ (result.status ≡ JOBS) → IfSome result.run (λ run. ForRun (tool_words (map (λ w. w.now) words.now)) (Ran (F.shows files.old) (λ host port. option_map L.shows ((K.shows dial.old).next host port)) (λ config lines link after. DoesAll config lines (place link fresh [] (O.text out.old)) (place (L.shows run.line) after run.results.items (O.text out.new))))) }
-    ensures good { result.status ≡ DONE → IfSome result.run (λ run. list_all is_good run.results.items ≡ true) }
-    ensures bad { result.status ≡ JOBS → IfSome result.run (λ run. list_all is_good run.results.items ≡ false) }
-    ensures broken_off { result.status ≡ OUTPUT → IfSome result.run (λ run. ForRun (tool_words (map (λ w. w.now) words.now)) (Ran (F.shows files.old) (λ host port. option_map L.shows ((K.shows dial.old).next host port)) (λ config lines link after. BreaksOff config (connect_line ∷ lines) (place link fresh [] (O.text out.old)) (place (L.shows run.line) after run.results.items (O.text out.new))))) }
-    ensures wanting { result.status ≡ MEMORY → IfSome result.run (λ run. ForRun (tool_words (map (λ w. w.now) words.now)) (Ran (F.shows files.old) (λ host port. option_map L.shows ((K.shows dial.old).next host port)) (λ config lines link after. WantsMemory config (connect_line ∷ lines) (place link fresh [] (O.text out.old)) (place (L.shows run.line) after run.results.items (O.text out.new)) (O.out_faults out.old) (O.out_faults out.new)))) }
+    ensures ran { (result.status ≡ status.done) ⊎ (result.status ≡ status.jobs) ⊎ (result.status ≡ status.output) → ByCommand (tool_words (map (λ w. w.now) words.now)) (λ run. IsSome result.run) (λ rig. IsSome result.rig) }
+    ensures no_run { (result.status ≡ status.usage) ⊎ (result.status ≡ status.script) ⊎ (result.status ≡ status.file)
+        ⊎ (result.status ≡ status.dial) → IsNone result.run }
+    ensures done { (result.status ≡ status.done) ⊎ (result.status ≡ status.jobs) → IfSome result.run (λ run. ForRun (tool_words (map (λ w. w.now) words.now)) (Ran (F.shows files.old) (λ host port. option_map L.shows ((K.shows dial.old).next host port)) (λ config lines link after. DoesAll config lines (place link fresh [] (O.shows out.old).text) (place (L.shows run.line) after run.results.items (O.shows out.new).text)))) }
+    ensures good { result.status ≡ status.done → IfSome result.run (λ run. list_all is_good run.results.items ≡ true) }
+    ensures bad { result.status ≡ status.jobs → IfSome result.run (λ run. list_all is_good run.results.items ≡ false) }
+    ensures broken_off { result.status ≡ status.output → IfSome result.run (λ run. ForRun (tool_words (map (λ w. w.now) words.now)) (Ran (F.shows files.old) (λ host port. option_map L.shows ((K.shows dial.old).next host port)) (λ config lines link after. BreaksOff config (connect_line ∷ lines) (place link fresh [] (O.shows out.old).text) (place (L.shows run.line) after run.results.items (O.shows out.new).text)))) }
+    ensures wanting { result.status ≡ status.memory → IfSome result.run (λ run. ForRun (tool_words (map (λ w. w.now) words.now)) (Ran (F.shows files.old) (λ host port. option_map L.shows ((K.shows dial.old).next host port)) (λ config lines link after. WantsMemory config (connect_line ∷ lines) (place link fresh [] (O.shows out.old).text) (place (L.shows run.line) after run.results.items (O.shows out.new).text) (O.shows out.old).faults (O.shows out.new).faults))) }
 
     // The rig.
-    ensures no_rig { (result.status ≡ USAGE) ⊎ (result.status ≡ SCRIPT) ⊎ (result.status ≡ FILE) ⊎ (result.status ≡ DIAL) ⊎ (result.status ≡ MEMORY) → IsNone result.rig }
-    ensures rig_done { (result.status ≡ DONE) ⊎ (result.status ≡ JOBS) → IfSome result.rig (λ end. ForRig (tool_words (map (λ w. w.now) words.now)) (λ rig. RanRig rig (F.shows files.old) (end_told end) (λ scripts. (O.text out.new ≡ append_known (O.text out.old) (rig_text scripts (end_told end))) × (are_clients_good scripts (end_told end).clients ≡ (result.status == DONE))))) }
-    ensures rig_broken_off { result.status ≡ OUTPUT → IfSome result.rig (λ end. ForRig (tool_words (map (λ w. w.now) words.now)) (λ rig. RanRig rig (F.shows files.old) (end_told end) (λ scripts. AppendsPrefix (O.text out.old) (O.text out.new) (rig_text scripts (end_told end))))) }
+    ensures no_rig { (result.status ≡ status.usage) ⊎ (result.status ≡ status.script) ⊎ (result.status ≡ status.file)
+        ⊎ (result.status ≡ status.dial) ⊎ (result.status ≡ status.memory) → IsNone result.rig }
+    ensures rig_done { (result.status ≡ status.done) ⊎ (result.status ≡ status.jobs) → IfSome result.rig (λ end. ForRig (tool_words (map (λ w. w.now) words.now)) (λ rig. RanRig rig (F.shows files.old) (end_told end) (λ scripts. ((O.shows out.new).text ≡ append_known (O.shows out.old).text (rig_text scripts (end_told end))) × (are_clients_good scripts (end_told end).clients ≡ (result.status == status.done))))) }
+    ensures rig_broken_off { result.status ≡ status.output → IfSome result.rig (λ end. ForRig (tool_words (map (λ w. w.now) words.now)) (λ rig. RanRig rig (F.shows files.old) (end_told end) (λ scripts. AppendsPrefix (O.shows out.old).text (O.shows out.new).text (rig_text scripts (end_told end))))) }
 
     // What else was printed.
-    ensures usage_line { result.status ≡ USAGE → Prints (O.text out.old) (O.text out.new) (O.out_faults out.old) (O.out_faults out.new) usage_line }
-    ensures dial_line { result.status ≡ DIAL → Prints (O.text out.old) (O.text out.new) (O.out_faults out.old) (O.out_faults out.new) dial_line }
-    ensures memory_line { result.status ≡ MEMORY → IsNone result.run → Prints (O.text out.old) (O.text out.new) (O.out_faults out.old) (O.out_faults out.new) memory_line }
+    ensures usage_line { result.status ≡ status.usage → Prints (O.shows out.old).text (O.shows out.new).text (O.shows out.old).faults (O.shows out.new).faults usage_line }
+    ensures dial_line { result.status ≡ status.dial → Prints (O.shows out.old).text (O.shows out.new).text (O.shows out.old).faults (O.shows out.new).faults dial_line }
+    ensures memory_line { result.status ≡ status.memory → IsNone result.run → Prints (O.shows out.old).text (O.shows out.new).text (O.shows out.old).faults (O.shows out.new).faults memory_line }
 
     // No path changes, and no count falls.
     ensures paths { F.shows files.new ≡ record (F.shows files.old) { faults = (F.shows files.new).faults } }
     ensures file_faults { NonePathFell (F.shows files.old).faults (F.shows files.new).faults }
     ensures dial_faults { NoHostFell (K.shows dial.old).faults (K.shows dial.new).faults }
     ensures rig_undialled { IsRig (tool_words (map (λ w. w.now) words.now)) → dial.new ≡ dial.old }
-    ensures undialled { (result.status ≡ USAGE) ⊎ (result.status ≡ SCRIPT) ⊎ (result.status ≡ FILE) → dial.new ≡ dial.old }
+    ensures undialled { (result.status ≡ status.usage) ⊎ (result.status ≡ status.script)
+        ⊎ (result.status ≡ status.file) → dial.new ≡ dial.old }
 {
     match read_tool_words(alloc, words) {
         Ok(Some(ToolWords::Run(words))) => run_script(alloc, words, files, dial, out),
@@ -151,32 +158,36 @@ fn run_script<F: Files, L: Link + Drop, K: Dial<L>, O: Out>(
     out: &mut O,
 ) -> ToolEnd<L>
     // The status.
-    ensures statuses { (result.status ≡ DONE) ⊎ (result.status ≡ SCRIPT) ⊎ (result.status ≡ FILE) ⊎ (result.status ≡ DIAL) ⊎ (result.status ≡ OUTPUT) ⊎ (result.status ≡ JOBS) ⊎ (result.status ≡ MEMORY) }
-    ensures refused { result.status ≡ SCRIPT → RefusesScript (run_told_of words.entry).script (F.shows files.old) (Prints (O.text out.old) (O.text out.new) (O.out_faults out.old) (O.out_faults out.new)) }
-    ensures file_failed { result.status ≡ FILE → Rose ((F.shows files.old).faults (run_told_of words.entry).script) ((F.shows files.new).faults (run_told_of words.entry).script) }
-    ensures dial_failed { result.status ≡ DIAL → ReadsScript (run_told_of words.entry).script (F.shows files.old) (λ lines. Rose ((K.shows dial.old).faults (run_told_of words.entry).host (run_told_of words.entry).port) ((K.shows dial.new).faults (run_told_of words.entry).host (run_told_of words.entry).port)) }
-    ensures output_failed { result.status ≡ OUTPUT → Rose (O.out_faults out.old) (O.out_faults out.new) }
+    ensures statuses { (result.status ≡ status.done) ⊎ (result.status ≡ status.script) ⊎ (result.status ≡ status.file)
+        ⊎ (result.status ≡ status.dial) ⊎ (result.status ≡ status.output) ⊎ (result.status ≡ status.jobs)
+        ⊎ (result.status ≡ status.memory) }
+    ensures refused { result.status ≡ status.script → RefusesScript (run_told_of words.entry).script (F.shows files.old) (Prints (O.shows out.old).text (O.shows out.new).text (O.shows out.old).faults (O.shows out.new).faults) }
+    ensures file_failed { result.status ≡ status.file → Rose ((F.shows files.old).faults (run_told_of words.entry).script) ((F.shows files.new).faults (run_told_of words.entry).script) }
+    ensures dial_failed { result.status ≡ status.dial → ReadsScript (run_told_of words.entry).script (F.shows files.old) (λ lines. Rose ((K.shows dial.old).faults (run_told_of words.entry).host (run_told_of words.entry).port) ((K.shows dial.new).faults (run_told_of words.entry).host (run_told_of words.entry).port)) }
+    ensures output_failed { result.status ≡ status.output → Rose (O.shows out.old).faults (O.shows out.new).faults }
 
     // The run.
-    ensures run { (result.status ≡ DONE) ⊎ (result.status ≡ JOBS) ⊎ (result.status ≡ OUTPUT) → IsSome result.run }
-    ensures no_run { (result.status ≡ SCRIPT) ⊎ (result.status ≡ FILE) ⊎ (result.status ≡ DIAL) → IsNone result.run }
+    ensures run { (result.status ≡ status.done) ⊎ (result.status ≡ status.jobs) ⊎ (result.status ≡ status.output)
+        → IsSome result.run }
+    ensures no_run { (result.status ≡ status.script) ⊎ (result.status ≡ status.file) ⊎ (result.status ≡ status.dial)
+        → IsNone result.run }
     ensures no_rig { result.rig ≡ None }
-    ensures done { (result.status ≡ DONE) ⊎ (result.status ≡ JOBS) → IfSome result.run (λ run. Ran (F.shows files.old) (λ host port. option_map L.shows ((K.shows dial.old).next host port)) (λ config lines link after. DoesAll config lines (place link fresh [] (O.text out.old)) (place (L.shows run.line) after run.results.items (O.text out.new))) (run_told_of words.entry)) }
-    ensures good { result.status ≡ DONE → IfSome result.run (λ run. list_all is_good run.results.items ≡ true) }
-    ensures bad { result.status ≡ JOBS → IfSome result.run (λ run. list_all is_good run.results.items ≡ false) }
-    ensures broken_off { result.status ≡ OUTPUT → IfSome result.run (λ run. Ran (F.shows files.old) (λ host port. option_map L.shows ((K.shows dial.old).next host port)) (λ config lines link after. BreaksOff config (connect_line ∷ lines) (place link fresh [] (O.text out.old)) (place (L.shows run.line) after run.results.items (O.text out.new))) (run_told_of words.entry)) }
-    ensures wanting { result.status ≡ MEMORY → IfSome result.run (λ run. Ran (F.shows files.old) (λ host port. option_map L.shows ((K.shows dial.old).next host port)) (λ config lines link after. WantsMemory config (connect_line ∷ lines) (place link fresh [] (O.text out.old)) (place (L.shows run.line) after run.results.items (O.text out.new)) (O.out_faults out.old) (O.out_faults out.new)) (run_told_of words.entry)) }
+    ensures done { (result.status ≡ status.done) ⊎ (result.status ≡ status.jobs) → IfSome result.run (λ run. Ran (F.shows files.old) (λ host port. option_map L.shows ((K.shows dial.old).next host port)) (λ config lines link after. DoesAll config lines (place link fresh [] (O.shows out.old).text) (place (L.shows run.line) after run.results.items (O.shows out.new).text)) (run_told_of words.entry)) }
+    ensures good { result.status ≡ status.done → IfSome result.run (λ run. list_all is_good run.results.items ≡ true) }
+    ensures bad { result.status ≡ status.jobs → IfSome result.run (λ run. list_all is_good run.results.items ≡ false) }
+    ensures broken_off { result.status ≡ status.output → IfSome result.run (λ run. Ran (F.shows files.old) (λ host port. option_map L.shows ((K.shows dial.old).next host port)) (λ config lines link after. BreaksOff config (connect_line ∷ lines) (place link fresh [] (O.shows out.old).text) (place (L.shows run.line) after run.results.items (O.shows out.new).text)) (run_told_of words.entry)) }
+    ensures wanting { result.status ≡ status.memory → IfSome result.run (λ run. Ran (F.shows files.old) (λ host port. option_map L.shows ((K.shows dial.old).next host port)) (λ config lines link after. WantsMemory config (connect_line ∷ lines) (place link fresh [] (O.shows out.old).text) (place (L.shows run.line) after run.results.items (O.shows out.new).text) (O.shows out.old).faults (O.shows out.new).faults) (run_told_of words.entry)) }
 
     // What else was printed.
-    ensures file_line { result.status ≡ FILE → Prints (O.text out.old) (O.text out.new) (O.out_faults out.old) (O.out_faults out.new) (file_line (run_told_of words.entry).script) }
-    ensures dial_line { result.status ≡ DIAL → Prints (O.text out.old) (O.text out.new) (O.out_faults out.old) (O.out_faults out.new) dial_line }
-    ensures memory_line { result.status ≡ MEMORY → IsNone result.run → Prints (O.text out.old) (O.text out.new) (O.out_faults out.old) (O.out_faults out.new) memory_line }
+    ensures file_line { result.status ≡ status.file → Prints (O.shows out.old).text (O.shows out.new).text (O.shows out.old).faults (O.shows out.new).faults (file_line (run_told_of words.entry).script) }
+    ensures dial_line { result.status ≡ status.dial → Prints (O.shows out.old).text (O.shows out.new).text (O.shows out.old).faults (O.shows out.new).faults dial_line }
+    ensures memory_line { result.status ≡ status.memory → IsNone result.run → Prints (O.shows out.old).text (O.shows out.new).text (O.shows out.old).faults (O.shows out.new).faults memory_line }
 
     // No path changes, and no count falls.
     ensures paths { F.shows files.new ≡ record (F.shows files.old) { faults = (F.shows files.new).faults } }
     ensures file_faults { NonePathFell (F.shows files.old).faults (F.shows files.new).faults }
     ensures dial_faults { NoHostFell (K.shows dial.old).faults (K.shows dial.new).faults }
-    ensures undialled { (result.status ≡ SCRIPT) ⊎ (result.status ≡ FILE) → dial.new ≡ dial.old }
+    ensures undialled { (result.status ≡ status.script) ⊎ (result.status ≡ status.file) → dial.new ≡ dial.old }
 {
     match load_script(alloc, files, words.script) {
         Ok(script) => run_lines(alloc, words, script, dial, out),
@@ -190,11 +201,11 @@ fn run_script<F: Files, L: Link + Drop, K: Dial<L>, O: Out>(
 
 /// Prints why the script wasn't loaded, and says the status.
 pub fn print_refusal<O: Out>(alloc: Global, fault: LoadFault, path: &str, out: &mut O) -> u8
-    ensures statuses { (result ≡ SCRIPT) ⊎ (result ≡ FILE) ⊎ (result ≡ MEMORY) }
-    ensures refused { result ≡ SCRIPT → IsSomeAnd (refusal_line fault) (Prints (O.text out.old) (O.text out.new) (O.out_faults out.old) (O.out_faults out.new)) }
-    ensures file { result ≡ FILE → fault ≡ LoadFault.Failed }
-    ensures file_line { result ≡ FILE → Prints (O.text out.old) (O.text out.new) (O.out_faults out.old) (O.out_faults out.new) (file_line path.now) }
-    ensures memory_line { result ≡ MEMORY → Prints (O.text out.old) (O.text out.new) (O.out_faults out.old) (O.out_faults out.new) memory_line }
+    ensures statuses { (result ≡ status.script) ⊎ (result ≡ status.file) ⊎ (result ≡ status.memory) }
+    ensures refused { result ≡ status.script → IsSomeAnd (refusal_line fault) (Prints (O.shows out.old).text (O.shows out.new).text (O.shows out.old).faults (O.shows out.new).faults) }
+    ensures file { result ≡ status.file → fault ≡ LoadFault.Failed }
+    ensures file_line { result ≡ status.file → Prints (O.shows out.old).text (O.shows out.new).text (O.shows out.old).faults (O.shows out.new).faults (file_line path.now) }
+    ensures memory_line { result ≡ status.memory → Prints (O.shows out.old).text (O.shows out.new).text (O.shows out.old).faults (O.shows out.new).faults memory_line }
 {
     match fault {
         LoadFault::Failed => match file_line(alloc, path) {
@@ -219,23 +230,25 @@ fn run_lines<L: Link + Drop, K: Dial<L>, O: Out>(
     out: &mut O,
 ) -> ToolEnd<L>
     // The status.
-    ensures statuses { (result.status ≡ DONE) ⊎ (result.status ≡ DIAL) ⊎ (result.status ≡ OUTPUT) ⊎ (result.status ≡ JOBS) ⊎ (result.status ≡ MEMORY) }
-    ensures dial_failed { result.status ≡ DIAL → Rose ((K.shows dial.old).faults words.entry.host.now words.entry.port) ((K.shows dial.new).faults words.entry.host.now words.entry.port) }
-    ensures output_failed { result.status ≡ OUTPUT → Rose (O.out_faults out.old) (O.out_faults out.new) }
+    ensures statuses { (result.status ≡ status.done) ⊎ (result.status ≡ status.dial) ⊎ (result.status ≡ status.output)
+        ⊎ (result.status ≡ status.jobs) ⊎ (result.status ≡ status.memory) }
+    ensures dial_failed { result.status ≡ status.dial → Rose ((K.shows dial.old).faults words.entry.host.now words.entry.port) ((K.shows dial.new).faults words.entry.host.now words.entry.port) }
+    ensures output_failed { result.status ≡ status.output → Rose (O.shows out.old).faults (O.shows out.new).faults }
 
     // The run.
-    ensures run { (result.status ≡ DONE) ⊎ (result.status ≡ JOBS) ⊎ (result.status ≡ OUTPUT) → IsSome result.run }
-    ensures no_run { result.status ≡ DIAL → IsNone result.run }
+    ensures run { (result.status ≡ status.done) ⊎ (result.status ≡ status.jobs) ⊎ (result.status ≡ status.output)
+        → IsSome result.run }
+    ensures no_run { result.status ≡ status.dial → IsNone result.run }
     ensures no_rig { result.rig ≡ None }
-    ensures done { (result.status ≡ DONE) ⊎ (result.status ≡ JOBS) → IfSome result.run (λ run. Dials (option_map L.shows ((K.shows dial.old).next words.entry.host.now words.entry.port)) (λ link after. DoesAll (config_by (run_told_of words.entry)) script (place link fresh [] (O.text out.old)) (place (L.shows run.line) after run.results.items (O.text out.new)))) }
-    ensures good { result.status ≡ DONE → IfSome result.run (λ run. list_all is_good run.results.items ≡ true) }
-    ensures bad { result.status ≡ JOBS → IfSome result.run (λ run. list_all is_good run.results.items ≡ false) }
-    ensures broken_off { result.status ≡ OUTPUT → IfSome result.run (λ run. Dials (option_map L.shows ((K.shows dial.old).next words.entry.host.now words.entry.port)) (λ link after. BreaksOff (config_by (run_told_of words.entry)) (connect_line ∷ script) (place link fresh [] (O.text out.old)) (place (L.shows run.line) after run.results.items (O.text out.new)))) }
-    ensures wanting { result.status ≡ MEMORY → IfSome result.run (λ run. Dials (option_map L.shows ((K.shows dial.old).next words.entry.host.now words.entry.port)) (λ link after. WantsMemory (config_by (run_told_of words.entry)) (connect_line ∷ script) (place link fresh [] (O.text out.old)) (place (L.shows run.line) after run.results.items (O.text out.new)) (O.out_faults out.old) (O.out_faults out.new))) }
+    ensures done { (result.status ≡ status.done) ⊎ (result.status ≡ status.jobs) → IfSome result.run (λ run. Dials (option_map L.shows ((K.shows dial.old).next words.entry.host.now words.entry.port)) (λ link after. DoesAll (config_by (run_told_of words.entry)) script (place link fresh [] (O.shows out.old).text) (place (L.shows run.line) after run.results.items (O.shows out.new).text))) }
+    ensures good { result.status ≡ status.done → IfSome result.run (λ run. list_all is_good run.results.items ≡ true) }
+    ensures bad { result.status ≡ status.jobs → IfSome result.run (λ run. list_all is_good run.results.items ≡ false) }
+    ensures broken_off { result.status ≡ status.output → IfSome result.run (λ run. Dials (option_map L.shows ((K.shows dial.old).next words.entry.host.now words.entry.port)) (λ link after. BreaksOff (config_by (run_told_of words.entry)) (connect_line ∷ script) (place link fresh [] (O.shows out.old).text) (place (L.shows run.line) after run.results.items (O.shows out.new).text))) }
+    ensures wanting { result.status ≡ status.memory → IfSome result.run (λ run. Dials (option_map L.shows ((K.shows dial.old).next words.entry.host.now words.entry.port)) (λ link after. WantsMemory (config_by (run_told_of words.entry)) (connect_line ∷ script) (place link fresh [] (O.shows out.old).text) (place (L.shows run.line) after run.results.items (O.shows out.new).text) (O.shows out.old).faults (O.shows out.new).faults)) }
 
     // What else was printed.
-    ensures dial_line { result.status ≡ DIAL → Prints (O.text out.old) (O.text out.new) (O.out_faults out.old) (O.out_faults out.new) dial_line }
-    ensures memory_line { result.status ≡ MEMORY → IsNone result.run → Prints (O.text out.old) (O.text out.new) (O.out_faults out.old) (O.out_faults out.new) memory_line }
+    ensures dial_line { result.status ≡ status.dial → Prints (O.shows out.old).text (O.shows out.new).text (O.shows out.old).faults (O.shows out.new).faults dial_line }
+    ensures memory_line { result.status ≡ status.memory → IsNone result.run → Prints (O.shows out.old).text (O.shows out.new).text (O.shows out.old).faults (O.shows out.new).faults memory_line }
     ensures dial_faults { NoHostFell (K.shows dial.old).faults (K.shows dial.new).faults }
 {
     let lines = script.into_vec();
@@ -292,15 +305,16 @@ fn run_over<L: Link + Drop, O: Out>(
     requires fresh { between_of client ≡ fresh }
     requires none { results.items ≡ [] }
     requires room { vec_len results + vec_len lines + 2 ≤ vec_capacity results }
-    ensures statuses { (result.status ≡ DONE) ⊎ (result.status ≡ OUTPUT) ⊎ (result.status ≡ JOBS) ⊎ (result.status ≡ MEMORY) }
+    ensures statuses { (result.status ≡ status.done) ⊎ (result.status ≡ status.output) ⊎ (result.status ≡ status.jobs)
+        ⊎ (result.status ≡ status.memory) }
     ensures run { IsSome result.run }
     ensures no_rig { result.rig ≡ None }
-    ensures output_failed { result.status ≡ OUTPUT → Rose (O.out_faults out.old) (O.out_faults out.new) }
-    ensures done { (result.status ≡ DONE) ⊎ (result.status ≡ JOBS) → IfSome result.run (λ run. (after : Between) × DoesAll (config_of client) lines.items (place (L.shows link) fresh [] (O.text out.old)) (place (L.shows run.line) after run.results.items (O.text out.new))) }
-    ensures good { result.status ≡ DONE → IfSome result.run (λ run. list_all is_good run.results.items ≡ true) }
-    ensures bad { result.status ≡ JOBS → IfSome result.run (λ run. list_all is_good run.results.items ≡ false) }
-    ensures broken_off { result.status ≡ OUTPUT → IfSome result.run (λ run. (after : Between) × BreaksOff (config_of client) (connect_line ∷ lines.items) (place (L.shows link) fresh [] (O.text out.old)) (place (L.shows run.line) after run.results.items (O.text out.new))) }
-    ensures wanting { result.status ≡ MEMORY → IfSome result.run (λ run. (after : Between) × WantsMemory (config_of client) (connect_line ∷ lines.items) (place (L.shows link) fresh [] (O.text out.old)) (place (L.shows run.line) after run.results.items (O.text out.new)) (O.out_faults out.old) (O.out_faults out.new)) }
+    ensures output_failed { result.status ≡ status.output → Rose (O.shows out.old).faults (O.shows out.new).faults }
+    ensures done { (result.status ≡ status.done) ⊎ (result.status ≡ status.jobs) → IfSome result.run (λ run. (after : Between) × DoesAll (config_of client) lines.items (place (L.shows link) fresh [] (O.shows out.old).text) (place (L.shows run.line) after run.results.items (O.shows out.new).text)) }
+    ensures good { result.status ≡ status.done → IfSome result.run (λ run. list_all is_good run.results.items ≡ true) }
+    ensures bad { result.status ≡ status.jobs → IfSome result.run (λ run. list_all is_good run.results.items ≡ false) }
+    ensures broken_off { result.status ≡ status.output → IfSome result.run (λ run. (after : Between) × BreaksOff (config_of client) (connect_line ∷ lines.items) (place (L.shows link) fresh [] (O.shows out.old).text) (place (L.shows run.line) after run.results.items (O.shows out.new).text)) }
+    ensures wanting { result.status ≡ status.memory → IfSome result.run (λ run. (after : Between) × WantsMemory (config_of client) (connect_line ∷ lines.items) (place (L.shows link) fresh [] (O.shows out.old).text) (place (L.shows run.line) after run.results.items (O.shows out.new).text) (O.shows out.old).faults (O.shows out.new).faults) }
 {
     let mut client = client;
     let mut line = link;
@@ -324,13 +338,14 @@ fn run_jobs<L: Link, O: Out>(
 ) -> u8
     requires idle { job_of client.old ≡ None }
     requires room { vec_len results.old + vec_len lines + 2 ≤ vec_capacity results.old }
-    ensures statuses { (result ≡ DONE) ⊎ (result ≡ OUTPUT) ⊎ (result ≡ JOBS) ⊎ (result ≡ MEMORY) }
-    ensures output_failed { result ≡ OUTPUT → Rose (O.out_faults out.old) (O.out_faults out.new) }
-    ensures done { (result ≡ DONE) ⊎ (result ≡ JOBS) → DoesAll (config_of client.old) lines.items (place (L.shows link.old) (between_of client.old) results.old.items (O.text out.old)) (place (L.shows link.new) (between_of client.new) results.new.items (O.text out.new)) }
-    ensures good { result ≡ DONE → list_all is_good results.new.items ≡ true }
-    ensures bad { result ≡ JOBS → list_all is_good results.new.items ≡ false }
-    ensures broken_off { result ≡ OUTPUT → BreaksOff (config_of client.old) (connect_line ∷ lines.items) (place (L.shows link.old) (between_of client.old) results.old.items (O.text out.old)) (place (L.shows link.new) (between_of client.new) results.new.items (O.text out.new)) }
-    ensures wanting { result ≡ MEMORY → WantsMemory (config_of client.old) (connect_line ∷ lines.items) (place (L.shows link.old) (between_of client.old) results.old.items (O.text out.old)) (place (L.shows link.new) (between_of client.new) results.new.items (O.text out.new)) (O.out_faults out.old) (O.out_faults out.new) }
+    ensures statuses { (result ≡ status.done) ⊎ (result ≡ status.output) ⊎ (result ≡ status.jobs)
+        ⊎ (result ≡ status.memory) }
+    ensures output_failed { result ≡ status.output → Rose (O.shows out.old).faults (O.shows out.new).faults }
+    ensures done { (result ≡ status.done) ⊎ (result ≡ status.jobs) → DoesAll (config_of client.old) lines.items (place (L.shows link.old) (between_of client.old) results.old.items (O.shows out.old).text) (place (L.shows link.new) (between_of client.new) results.new.items (O.shows out.new).text) }
+    ensures good { result ≡ status.done → list_all is_good results.new.items ≡ true }
+    ensures bad { result ≡ status.jobs → list_all is_good results.new.items ≡ false }
+    ensures broken_off { result ≡ status.output → BreaksOff (config_of client.old) (connect_line ∷ lines.items) (place (L.shows link.old) (between_of client.old) results.old.items (O.shows out.old).text) (place (L.shows link.new) (between_of client.new) results.new.items (O.shows out.new).text) }
+    ensures wanting { result ≡ status.memory → WantsMemory (config_of client.old) (connect_line ∷ lines.items) (place (L.shows link.old) (between_of client.old) results.old.items (O.shows out.old).text) (place (L.shows link.new) (between_of client.new) results.new.items (O.shows out.new).text) (O.shows out.old).faults (O.shows out.new).faults }
 {
     match do_all(alloc, lines, client, link, results, out) {
         Ok(()) => status_of(results.as_slice()),
@@ -341,7 +356,7 @@ fn run_jobs<L: Link, O: Out>(
 
 // The status where all jobs were done.
 fn status_of(results: &[JobResult]) -> u8
-    ensures { result ≡ (if list_all is_good results.now then DONE else JOBS) }
+    ensures { result ≡ (if list_all is_good results.now then status.done else status.jobs) }
 {
     if all_good(results) { DONE } else { JOBS }
 }
@@ -364,7 +379,7 @@ pub fn unrun<L: Link + Drop, O: Out>(status: u8, line: &[u8], out: &mut O) -> To
     ensures status { result.status ≡ status }
     ensures rig { result.rig ≡ None }
     ensures run { result.run ≡ None }
-    ensures line { Prints (O.text out.old) (O.text out.new) (O.out_faults out.old) (O.out_faults out.new) line.now }
+    ensures line { Prints (O.shows out.old).text (O.shows out.new).text (O.shows out.old).faults (O.shows out.new).faults line.now }
 {
     print_line(line, out);
     ToolEnd {

@@ -11,11 +11,11 @@ invariant-loop-next g l = record {
   items : l.yielded ++ into_iter_items l.next-iterator ≡ into_iter_items l.initial.next-iterator;
   count : into_iter_len l.next-iterator ≡ length (into_iter_items l.next-iterator);
   does : DoesLines (config_of l.initial.client) l.yielded
-      (place (g.L.Link.shows l.initial.link) (between_of l.initial.client) l.initial.results.items (g.O.Out.text l.initial.out))
-      (place (g.L.Link.shows l.link) (between_of l.client) l.results.items (g.O.Out.text l.out));
+      (place (g.L.Link.shows l.initial.link) (between_of l.initial.client) l.initial.results.items (g.O.Out.shows l.initial.out).text)
+      (place (g.L.Link.shows l.link) (between_of l.client) l.results.items (g.O.Out.shows l.out).text);
   idle : job_of l.client ≡ None;
   config : config_of l.client ≡ config_of l.initial.client;
-  faults : g.O.Out.out_faults l.initial.out ≤ g.O.Out.out_faults l.out;
+  faults : (g.O.Out.shows l.initial.out).faults ≤ (g.O.Out.shows l.out).faults;
   len : vec_len l.results + into_iter_len l.next-iterator ≡ vec_len l.initial.results + into_iter_len l.initial.next-iterator;
   capacity : vec_capacity l.initial.results ≤ vec_capacity l.results;
 }

@@ -1,0 +1,34 @@
+-- The exit statuses of the program.
+use Rattle.std.specs.Prelude.{ℕ}
+
+-- all went well
+abbrev pub done : ℕ
+done = 0
+
+-- the words are no command
+abbrev pub usage : ℕ
+usage = 1
+
+-- the script or the areas can't be read
+abbrev pub script : ℕ
+script = 2
+
+-- a file failed
+abbrev pub file : ℕ
+file = 3
+
+-- the dial failed
+abbrev pub dial : ℕ
+dial = 4
+
+-- the output failed
+abbrev pub output : ℕ
+output = 5
+
+-- all jobs were done, and a result's code isn't 0
+abbrev pub jobs : ℕ
+jobs = 6
+
+-- memory was wanting
+abbrev pub memory : ℕ
+memory = 9
