@@ -1,0 +1,6 @@
+pub mod EntryLemmas
+pub mod StoreLemmas
+pub mod SliceLemmas
+pub mod AssemblyLemmas
+pub mod NameLemmas
+pub mod HeadLemmas

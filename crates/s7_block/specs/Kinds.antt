@@ -1,0 +1,19 @@
+-- Kinds of blocks (Snap7 1.4 reference manual, block types of `Cli_ListBlocksOfType`; the types in heads are
+-- those of `TS7BlockInfo`).
+use Rattle.std.specs.Prelude.{ℕ, ◌==◌, ◌||◌, Bool, if◌then◌else◌, Option, None, Some}
+
+-- organization blocks, functions and function blocks: the kinds that a store of blocks has
+abbrev pub is_stored_kind : ℕ → Bool
+is_stored_kind kind = kind == 0x38 || kind == 0x43 || kind == 0x45
+
+-- what a head has for the kind: OB, DB, SDB, FC, SFC, FB, SFB
+abbrev pub head_code : ℕ → Option ℕ
+head_code kind =
+    if kind == 0x38 then Some 0x08
+    else (if kind == 0x41 then Some 0x0A
+    else (if kind == 0x42 then Some 0x0B
+    else (if kind == 0x43 then Some 0x0C
+    else (if kind == 0x44 then Some 0x0D
+    else (if kind == 0x45 then Some 0x0E
+    else (if kind == 0x46 then Some 0x0F
+    else None))))))

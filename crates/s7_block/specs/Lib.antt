@@ -1,0 +1,11 @@
+pub mod Kinds
+pub mod Heads
+pub mod Store
+pub mod StoreView
+pub mod StorePlaces
+pub mod Slices
+pub mod Sides
+pub mod UploadView
+pub mod Assembly
+pub mod AssemblyView
+pub mod Laws

@@ -1,0 +1,36 @@
+-- An image cut into slices (Snap7 1.4 reference manual, block upload and download).
+use Rattle.std.specs.Prelude.{◌≡◌, ℕ, ◌+◌, Bool, true, nat_lt, if◌then◌else◌, Option, None, Some, List, [], ◌∷◌, length, take, drop, flat_map, ⊤}
+
+-- octets that come together, and whether others follow them
+pub record Piece : Type 0 where
+  pub more : Bool
+  pub octets : List ℕ
+
+-- the first octets, at most so many, of which others follow where there are some
+abbrev pub first_piece : ℕ → List ℕ → Piece
+first_piece room octets = record { more = nat_lt room (length octets); octets = take room octets }
+
+-- what is left behind them: none where they were the last
+abbrev pub left_behind : ℕ → List ℕ → Option (List ℕ)
+left_behind room octets = if nat_lt room (length octets) then Some (drop room octets) else None
+
+-- all rooms together
+abbrev pub total_of : List ℕ → ℕ
+total_of [] = 0
+total_of (room ∷ rooms) = room + total_of rooms
+
+-- octets cut in order into pieces of these rooms, for as long as octets are left
+abbrev pub pieces_of : List ℕ → List ℕ → List Piece
+pieces_of [] octets = []
+pieces_of (room ∷ rooms) octets =
+    first_piece room octets ∷ (if nat_lt room (length octets) then pieces_of rooms (drop room octets) else [])
+
+-- the octets of pieces, one after another
+abbrev pub joined : List Piece → List ℕ
+joined ps = flat_map (λ p. p.octets) ps
+
+-- others follow each piece but the last, and the last where this is true
+abbrev pub AreMarked : Bool → List Piece → Type 0
+AreMarked more [] = ⊤
+AreMarked more (p ∷ []) = p.more ≡ more
+AreMarked more (p ∷ q ∷ ps) = (p.more ≡ true) × AreMarked more (q ∷ ps)

@@ -1,0 +1,27 @@
+//! Blocks of a controller and their transfers: heads, a store of blocks, and the sides of an upload
+//! and of a download.
+#![tactic(auto)]
+
+mod assembly;
+mod block;
+mod blocks;
+mod client;
+mod download;
+mod head;
+pub mod kinds;
+mod laws;
+mod numbers;
+mod upload;
+
+pub use assembly::Added;
+pub use block::{Block, BlockFault, BlockName};
+pub use blocks::Blocks;
+pub use client::BlockClient;
+pub use download::DownloadSide;
+pub use head::{db_head, head_agrees};
+pub use laws::{heads_are_read, one_name_changes, pieces_are_joined, slices_join};
+pub use numbers::Numbers;
+pub use upload::{Slice, UploadSide};
+
+#[cfg(test)]
+mod tests;

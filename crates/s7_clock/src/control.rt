@@ -1,0 +1,181 @@
+// The control of a PLC, as in the Snap7 1.4 sources (`s7_types.h`: `TReqFunPlcHotStart`,
+// `TReqFunPlcColdStart`, `TReqFunPlcStop`, `TReqFunCompress`, `TReqFunCopyRamToRom`).
+ghost use Rattle.std.specs.Prelude.{◌≡◌, ◌≤◌, ◌-◌, ◌∷◌, ◌++◌, length, take, drop};
+ghost use Rattle.s7_clock.specs.Control.{NamesKind, block_control_of, control_of, control_spelling, five_digits, is_kind, number_named};
+
+use crate::faults::BadParams;
+
+/// What a PLC is told to do by a job of function 28 or 29.
+#[derive(Clone, Copy, Debug, PartialEq, Eq)]
+pub enum Control {
+    /// Run on, with what the memory has.
+    Start,
+    /// Run from the beginning.
+    ColdStart,
+    /// Stop.
+    Stop,
+    /// Compress the memory.
+    Compress,
+    /// Copy RAM to ROM.
+    CopyRam,
+    /// Put a downloaded block to use.
+    Insert {
+        /// The block's kind: 38 OB, 41 DB, 42 SDB, 43 FC, 44 SFC, 45 FB, 46 SFB.
+        kind: u8,
+        /// The block's number.
+        number: u16,
+    },
+    /// Delete a block.
+    Delete {
+        /// The block's kind, as of `Insert`.
+        kind: u8,
+        /// The block's number.
+        number: u16,
+    },
+}
+
+// The parameters of the controls that name no block.
+const START: &[u8] = b"\x28\0\0\0\0\0\0\xFD\0\0\x09P_PROGRAM";
+
+const COLD_START: &[u8] = b"\x28\0\0\0\0\0\0\xFD\0\x02C \x09P_PROGRAM";
+
+const STOP: &[u8] = b"\x29\0\0\0\0\0\x09P_PROGRAM";
+
+const COMPRESS: &[u8] = b"\x28\0\0\0\0\0\0\xFD\0\0\x05_GARB";
+
+const COPY_RAM: &[u8] = b"\x28\0\0\0\0\0\0\xFD\0\x02EP\x05_MODU";
+
+// The parameters of an insert and of a delete, with 00 for the kind and the digits of the number.
+const INSERT: [u8; 26] = *b"\x28\0\0\0\0\0\0\xFD\0\x0A\x01\x000\0\0\0\0\0\0P\x05_INSE";
+
+const DELETE: [u8; 26] = *b"\x28\0\0\0\0\0\0\xFD\0\x0A\x01\x000\0\0\0\0\0\0B\x05_DELE";
+
+// The octets of either.
+const BLOCK_LEN: usize = 26;
+
+// Where the kind stands in them; the five digits of the number follow.
+const KIND: usize = 13;
+
+/// Reads the parameters of a control. `BadParams` comes for octets that are none of the seven, for
+/// another kind of block and for a number above 65,535.
+#[tactic(auto, unfolding(crate::specs::Control::control_of))]
+pub fn read_control(params: &[u8]) -> Result<Control, BadParams>
+    ensures { result ≡ control_of params.now }
+{
+    if params == START {
+        return Ok(Control::Start);
+    }
+    if params == COLD_START {
+        return Ok(Control::ColdStart);
+    }
+    if params == STOP {
+        return Ok(Control::Stop);
+    }
+    if params == COMPRESS {
+        return Ok(Control::Compress);
+    }
+    if params == COPY_RAM {
+        return Ok(Control::CopyRam);
+    }
+    read_block_control(params)
+}
+
+/// Writes the parameters of a control at the front, and answers how many octets they have, from 16 to
+/// 26. There must be room for them, and a block's kind must be one that `Control::Insert` lists.
+pub fn write_control(c: &Control, into: &mut [u8]) -> usize
+    requires room { length (control_spelling c.now) ≤ length into.old }
+    requires kind { NamesKind c.now }
+    ensures written { into.new ≡ control_spelling c.now ++ drop result into.old }
+    ensures len { result ≡ length (control_spelling c.now) }
+{
+    match *c {
+        Control::Start => put(START, into),
+        Control::ColdStart => put(COLD_START, into),
+        Control::Stop => put(STOP, into),
+        Control::Compress => put(COMPRESS, into),
+        Control::CopyRam => put(COPY_RAM, into),
+        Control::Insert { kind, number } => put(&block_octets(&INSERT, kind, number), into),
+        Control::Delete { kind, number } => put(&block_octets(&DELETE, kind, number), into),
+    }
+}
+
+// Reads an insert or a delete. The octets that would be written are compared, so that each fixed octet
+// is looked at and what is taken for digits are digits.
+fn read_block_control(params: &[u8]) -> Result<Control, BadParams>
+    ensures { result ≡ block_control_of params.now }
+{
+    if params.len() != BLOCK_LEN {
+        return Err(BadParams);
+    }
+    let kind = params[KIND];
+    let Ok(number) = u16::try_from(number_named(params)) else {
+        return Err(BadParams);
+    };
+    if !is_kind(kind) {
+        return Err(BadParams);
+    }
+    if params == block_octets(&INSERT, kind, number).as_slice() {
+        return Ok(Control::Insert { kind, number });
+    }
+    if params == block_octets(&DELETE, kind, number).as_slice() {
+        return Ok(Control::Delete { kind, number });
+    }
+    Err(BadParams)
+}
+
+// The number of the block, if its five octets are digits.
+fn number_named(params: &[u8]) -> u32
+    requires { length params.now ≡ 26 }
+    ensures { result ≡ number_named params.now }
+{
+    digit(params[KIND + 1]) * 10_000
+        + digit(params[KIND + 2]) * 1_000
+        + digit(params[KIND + 3]) * 100
+        + digit(params[KIND + 4]) * 10
+        + digit(params[KIND + 5])
+}
+
+fn digit(octet: u8) -> u32
+    ensures { result ≡ octet - 0x30 }
+{
+    u32::from(octet.saturating_sub(b'0'))
+}
+
+// Whether it is the kind of OB, DB, SDB, FC, SFC, FB or SFB.
+fn is_kind(kind: u8) -> bool
+    ensures { result ≡ is_kind kind }
+{
+    matches!(kind, 0x38 | 0x41 | 0x42 | 0x43 | 0x44 | 0x45 | 0x46)
+}
+
+// An insert's or a delete's parameters for a block.
+fn block_octets(form: &[u8; BLOCK_LEN], kind: u8, number: u16) -> [u8; BLOCK_LEN]
+    ensures { result ≡ take 13 form.now ++ (kind ∷ (five_digits number ++ drop 19 form.now)) }
+{
+    let mut octets = *form;
+    octets[KIND] = kind;
+    octets[KIND + 1..KIND + 6].copy_from_slice(&five_digits(number));
+    octets
+}
+
+fn five_digits(number: u16) -> [u8; 5]
+    ensures { result ≡ five_digits number }
+{
+    [
+        b'0' + (number / 10_000) as u8,
+        b'0' + (number / 1_000 % 10) as u8,
+        b'0' + (number / 100 % 10) as u8,
+        b'0' + (number / 10 % 10) as u8,
+        b'0' + (number % 10) as u8,
+    ]
+}
+
+// Puts the octets at the front, and answers how many there are.
+fn put(octets: &[u8], into: &mut [u8]) -> usize
+    requires { length octets.now ≤ length into.old }
+    ensures written { into.new ≡ octets.now ++ drop result into.old }
+    ensures len { result ≡ length octets.now }
+{
+    into[..octets.len()].copy_from_slice(octets);
+    octets.len()
+}

@@ -1,0 +1,4 @@
+pub mod RecordLemmas
+pub mod WriteLemmas
+pub mod TableLemmas
+pub mod JoinLemmas
