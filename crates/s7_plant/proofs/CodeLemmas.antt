@@ -10,6 +10,7 @@ use Rattle.s7_item.specs.DataItem.{octets_at as octets_in}
 use Rattle.s7_item.specs.declared.item.Item.{Item}
 use Rattle.s7_item.specs.declared.places.DataPlace.{DataPlace}
 use Rattle.s7_area.specs.declared.key.AreaKey.{AreaKey}
+use Rattle.s7_area.specs.Guards.{is_write_barred}
 use Rattle.s7_area.specs.Places.{is_misfit, is_inside, key_of, changed_at}
 use Rattle.s7_area.specs.Memory.{Memory, key_cmp, octets_at, with_octets, code_in, write_code, written}
 use Rattle.s7_plant.specs.Answers.{write_codes}
@@ -53,10 +54,16 @@ by_parts m item octets key true found is = refl
 by_parts m item octets key false None is = refl
 by_parts m item octets key false (Some old) is = same_by_parts m item octets key old _ _ is refl refl
 
+-- without a right a write that is barred changes nothing
+barred : (b : Bool) (m : Memory) (item : Item) (octets : List ℕ) (key : AreaKey)
+    → option_map length (octets_at (cond (eqb (cond b 3 (code_by (is_misfit item) (octets_at m (key_of item)) item octets)) 255) (with_octets m (key_of item) (changed_at item octets (unwrap_or (octets_at m (key_of item)) []))) m) key) ≡ option_map length (octets_at m key)
+barred true m item octets key = refl
+barred false m item octets key = by_parts m item octets key (is_misfit item) (octets_at m (key_of item)) refl
+
 -- the areas after a write have the lengths that they had
-length-written : (m : Memory) (item : Item) (octets : List ℕ) (key : AreaKey) → option_map length (octets_at (written m true item octets) key) ≡ option_map length (octets_at m key)
+length-written : (m : Memory) (right : Bool) (item : Item) (octets : List ℕ) (key : AreaKey) → option_map length (octets_at (written m right item octets) key) ≡ option_map length (octets_at m key)
 unfolding written write_code
-length-written m item octets key = by_parts m item octets key (is_misfit item) (octets_at m (key_of item)) refl
+length-written m right item octets key = barred (is_write_barred m.guard right) m item octets key
 
 code_in-length : (a b : Option (List ℕ)) (item : Item) → option_map length a ≡ option_map length b → code_in a item ≡ code_in b item
 code_in-length None None item same = refl
@@ -64,23 +71,43 @@ code_in-length None (Some b) item same = cc
 code_in-length (Some a) None item same = cc
 code_in-length (Some a) (Some b) item same = let is : length a ≡ length b = cc in ap (λ n. cond (is_inside item n) 255 5) is
 
--- two memories have the same areas, of the same lengths
-abbrev SameLengths : Memory → Memory → Type 0
-SameLengths m n = (key : AreaKey) → option_map length (octets_at m key) ≡ option_map length (octets_at n key)
+-- two memories have the same guard, and the same areas, of the same lengths
+record SameLengths (m n : Memory) : Type 0 where
+  guard : m.guard ≡ n.guard
+  areas : (key : AreaKey) → option_map length (octets_at m key) ≡ option_map length (octets_at n key)
 
-code-same : (m n : Memory) (item : Item) (octets : List ℕ) → SameLengths m n → write_code m true item octets ≡ write_code n true item octets
+code-same : (m n : Memory) (right : Bool) (item : Item) (octets : List ℕ) → SameLengths m n → write_code m right item octets ≡ write_code n right item octets
 unfolding write_code
-code-same m n item octets same =
-    ap (λ c. let code = cond (is_misfit item) 6 c in cond (eqb code 255 && not (eqb (length octets) (octet_count item))) 7 code) (code_in-length _ _ item (same (key_of item)))
+code-same m n right item octets same =
+    let places = ap (λ c. let code = cond (is_misfit item) 6 c in cond (eqb code 255 && not (eqb (length octets) (octet_count item))) 7 code) (code_in-length _ _ item (same.areas (key_of item))) in
+    ap (λ g. cond (is_write_barred g right) 3 (code_by (is_misfit item) (octets_at m (key_of item)) item octets)) same.guard
+    ∙ ap (cond (is_write_barred n.guard right) 3) places
 
-codes-same : (m n : Memory) (items : List Item) (places : List DataPlace) (all : List ℕ) → SameLengths m n → write_codes m items places all ≡ write_codes n items places all
-codes-same m n [] places all same = refl
-codes-same m n (i ∷ is) [] all same = refl
-codes-same m n (i ∷ is) (p ∷ ps) all same =
-    let head = code-same m n i (octets_in all p) same in
-    let tail = codes-same (written m true i (octets_in all p)) (written n true i (octets_in all p)) is ps all (λ key. length-written m i (octets_in all p) key ∙ same key ∙ sym (length-written n i (octets_in all p) key)) in
+kept_guard : (b : Bool) (m n : Memory) → n.guard ≡ m.guard → (cond b n m).guard ≡ m.guard
+kept_guard true m n same = same
+kept_guard false m n same = refl
+
+guard-written : (m : Memory) (right : Bool) (item : Item) (octets : List ℕ) → (written m right item octets).guard ≡ m.guard
+unfolding written
+guard-written m right item octets = kept_guard _ m _ refl
+
+same-written : (m n : Memory) (right : Bool) (item : Item) (octets : List ℕ) → SameLengths m n → SameLengths (written m right item octets) (written n right item octets)
+same-written m n right item octets same = record {
+  guard = guard-written m right item octets ∙ same.guard ∙ sym (guard-written n right item octets);
+  areas = λ key. length-written m right item octets key ∙ same.areas key ∙ sym (length-written n right item octets key);
+}
+
+codes-same : (m n : Memory) (right : Bool) (items : List Item) (places : List DataPlace) (all : List ℕ) → SameLengths m n → write_codes m right items places all ≡ write_codes n right items places all
+codes-same m n right [] places all same = refl
+codes-same m n right (i ∷ is) [] all same = refl
+codes-same m n right (i ∷ is) (p ∷ ps) all same =
+    let head = code-same m n right i (octets_in all p) same in
+    let tail = codes-same (written m right i (octets_in all p)) (written n right i (octets_in all p)) right is ps all (same-written m n right i (octets_in all p) same) in
     rw (head, tail) refl
 
 -- no write changes the codes of those that follow
-pub codes_in_turn : (m : Memory) (item : Item) (octets : List ℕ) (items : List Item) (places : List DataPlace) (all : List ℕ) → write_codes (written m true item octets) items places all ≡ write_codes m items places all
-codes_in_turn m item octets items places all = codes-same _ m items places all (length-written m item octets)
+pub codes_in_turn : (m : Memory) (right : Bool) (item : Item) (octets : List ℕ) (items : List Item) (places : List DataPlace) (all : List ℕ) → write_codes (written m right item octets) right items places all ≡ write_codes m right items places all
+codes_in_turn m right item octets items places all = codes-same _ m right items places all (record {
+  guard = guard-written m right item octets;
+  areas = length-written m right item octets;
+})

@@ -1,27 +1,27 @@
 -- Requests one after another.
 use Rattle.std.specs.Prelude.{◌≡◌, List, [], ◌∷◌, ◌++◌, map, fold}
-use Rattle.s7_area.specs.Memory.{Memory}
-use Rattle.s7_plant.specs.declared.request.Request.{Request}
+use Rattle.s7_plant.specs.declared.request.Ask.{Ask}
 use Rattle.s7_plant.specs.Requests.{kept}
 use Rattle.s7_plant.specs.Answers.{answer_of, after}
+use Rattle.s7_plant.specs.State.{State}
 
--- the memory after all requests in order
-abbrev pub replay : Memory → List Request → Memory
-replay m requests = fold after m requests
+-- the state after all that was asked, in order
+abbrev pub replay : State → List Ask → State
+replay s asks = fold after s asks
 
--- what a history keeps of a request changes a memory and is answered as the request is
+-- what a history keeps of what was asked changes a state and is answered as that is
 abbrev pub KeptIsTheSame : Type 0
 KeptIsTheSame =
-    (m : Memory) (r : Request)
-    → (after m (kept r) ≡ after m r) × (answer_of m (kept r) ≡ answer_of m r)
+    (s : State) (ask : Ask)
+    → (after s (kept ask) ≡ after s ask) × (answer_of s (kept ask) ≡ answer_of s ask)
 
--- a history of kept requests leaves the memory that the requests leave
+-- a history of what was kept leaves the state that what was asked leaves
 abbrev pub KeptHistoriesAreTheSame : Type 0
 KeptHistoriesAreTheSame =
-    (m : Memory) (requests : List Request) → replay m (map kept requests) ≡ replay m requests
+    (s : State) (asks : List Ask) → replay s (map kept asks) ≡ replay s asks
 
--- one more request acts on the memory that those before it left
+-- one more acts on the state that those before it left
 abbrev pub GoesOn : Type 0
 GoesOn =
-    (m : Memory) (requests : List Request) (r : Request)
-    → replay m (requests ++ r ∷ []) ≡ after (replay m requests) r
+    (s : State) (asks : List Ask) (ask : Ask)
+    → replay s (asks ++ ask ∷ []) ≡ after (replay s asks) ask

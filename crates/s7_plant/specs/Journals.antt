@@ -1,13 +1,13 @@
--- Journals: entries one after another, and the memory that they lead to.
+-- Journals: entries one after another, and the state that they lead to.
 use Rattle.std.specs.Prelude.{◌≡◌, ℕ, ◌≤◌, List, All, map, take}
 use Rattle.s7_turn.specs.declared.view.Entry.{Entry as Call}
 use Rattle.s7_turn.specs.Histories.{entry, replay as replay_calls}
-use Rattle.s7_area.specs.Memory.{Memory}
 use Rattle.s7_plant.specs.declared.journal.Entry.{Entry}
-use Rattle.s7_plant.specs.declared.request.Request.{Request}
+use Rattle.s7_plant.specs.declared.request.Ask.{Ask}
 use Rattle.s7_plant.specs.Requests.{IsReady}
 use Rattle.s7_plant.specs.Answers.{after}
 use Rattle.s7_plant.specs.Histories.{replay}
+use Rattle.s7_plant.specs.State.{State}
 
 -- the entries in order, and how many there may be
 pub record Entries : Type 0 where
@@ -17,39 +17,43 @@ pub record Entries : Type 0 where
 abbrev pub entries_of : List Entry → ℕ → Entries
 entries_of entries limit = record { entries = entries; limit = limit }
 
--- an entry of this link with this request
-abbrev pub entered : ℕ → Request → Entry
-entered link request = record { link = link; request = request }
+-- an entry of this link that asks this
+abbrev pub entered : ℕ → Ask → Entry
+entered link ask = record { link = link; ask = ask }
 
 -- what the entries ask, in order
-abbrev pub requests_of : List Entry → List Request
-requests_of entries = map (λ (e : Entry). e.request) entries
+abbrev pub asks_of : List Entry → List Ask
+asks_of entries = map (λ (e : Entry). e.ask) entries
 
--- the memory after all entries
-abbrev pub replay_entries : Memory → List Entry → Memory
-replay_entries m entries = replay m (requests_of entries)
+-- the state after all entries
+abbrev pub replay_entries : State → List Entry → State
+replay_entries s entries = replay s (asks_of entries)
 
--- the memory after the first n entries
-abbrev pub at : Memory → List Entry → ℕ → Memory
-at m entries n = replay_entries m (take n entries)
+-- the state after the first n entries
+abbrev pub at : State → List Entry → ℕ → State
+at s entries n = replay_entries s (take n entries)
+
+-- how many steps it takes to come to that state
+abbrev pub steps_to : ℕ → ℕ
+steps_to n = n
 
 -- the entries as a history of calls, whose callers are the links
-abbrev pub calls_of : List Entry → List (Call Request)
-calls_of entries = map (λ (e : Entry). entry e.link e.request) entries
+abbrev pub calls_of : List Entry → List (Call Ask)
+calls_of entries = map (λ (e : Entry). entry e.link e.ask) entries
 
--- what a call makes of a memory
-abbrev pub after_call : Memory → Call Request → Memory
-after_call m call = after m call.request
+-- what a call makes of a state
+abbrev pub after_call : State → Call Ask → State
+after_call s call = after s call.request
 
--- as calls the entries lead to the same memory
+-- as calls the entries lead to the same state
 abbrev pub CallsLeadTheSame : Type 0
 CallsLeadTheSame =
-    (m : Memory) (entries : List Entry)
-    → replay_calls after_call m (calls_of entries) ≡ replay_entries m entries
+    (s : State) (entries : List Entry)
+    → replay_calls after_call s (calls_of entries) ≡ replay_entries s entries
 
 -- each entry's request can be carried out again
 abbrev pub AreReady : List Entry → Type 0
-AreReady entries = All (λ (e : Entry). IsReady e.request) entries
+AreReady entries = All (λ (e : Entry). IsReady e.ask.request) entries
 
 -- the entries fit the limit, and there is room for so many
 pub record IsJournal (entries : List Entry) (len limit capacity : ℕ) : Type 0 where

@@ -1,9 +1,26 @@
 -- Requests: which of them are ready to be carried out, and what of them a history keeps.
-use Rattle.std.specs.Prelude.{◌≡◌, ℕ, ◌+◌, ◌≤◌, length, All}
+use Rattle.std.specs.Prelude.{◌≡◌, ℕ, ◌+◌, ◌≤◌, Bool, length, All}
 use Rattle.s7_item.specs.declared.places.DataPlace.{DataPlace}
 use Rattle.s7_item.specs.Sizes.{answer_size}
+use Rattle.s7_plant.specs.declared.request.Ask.{Ask}
 use Rattle.s7_plant.specs.declared.request.Request.{Request}
 use Rattle.s7_plant.specs.declared.request.Request.TheVariants.{Read, Write}
+use Rattle.s7_plant.specs.Replies.{Said}
+
+-- ---- what a link asks with
+
+abbrev pub asked : Bool → Request → Ask
+asked right request = record { right = right; request = request }
+
+-- the request as it stands in a history
+abbrev pub kept_request : Request → Request
+kept_request (Read items) = Read items
+kept_request (Write items places octets) = Write items places octets
+
+abbrev pub kept : Ask → Ask
+kept ask = asked ask.right (kept_request ask.request)
+
+-- ---- what can be carried out
 
 -- A read's answer has at most 8,192 octets. A write has one place for each item, inside its octets.
 abbrev pub IsReady : Request → Type 0
@@ -12,12 +29,23 @@ IsReady (Write items places octets) =
     (length places ≡ length items)
     × All (λ (place : DataPlace). place.from + place.len ≤ length octets) places
 
--- the request as it stands in a history
-abbrev pub kept : Request → Request
-kept (Read items) = Read items
-kept (Write items places octets) = Write items places octets
+-- it brings the room that its change takes up: neither a read nor a write takes up any
+abbrev pub HasSpare : Request → Type 0
+HasSpare (Read items) = Unit {0}
+HasSpare (Write items places octets) = Unit {0}
 
--- how many octets the answer to a request has at most, where its reply has no error
-abbrev pub full_size : Request → ℕ
-full_size (Read items) = answer_size items
-full_size (Write items places octets) = 14 + length items
+-- what a step needs; of a history it needs readiness alone
+pub record CanBeDone (request : Request) : Type 0 where
+  pub ready : IsReady request
+  pub spare : HasSpare request
+
+-- ---- how long its answer is
+
+-- where the reply has no error, its answer has at most so many octets
+abbrev pub HasAtMost : ℕ → Said → Type 0
+HasAtMost most reply = reply.error ≡ 0 → 12 + length reply.params + length reply.body ≤ most
+
+-- the answer that is made of the reply has at most the full size of answers to the request
+abbrev pub Fits : Request → Said → Type 0
+Fits (Read items) reply = HasAtMost (answer_size items) reply
+Fits (Write items places octets) reply = HasAtMost (14 + length items) reply

@@ -2,11 +2,12 @@
 ghost use Rattle.std.specs.Prelude.{◌≡◌, ◌≤◌, ◌<◌, ◌+◌, ◌++◌, ◌∷◌, ◌↔◌, [], length};
 ghost use Rattle.std.specs.Prelude.{IsErr, IfErr, MatchResult, IfOk, OnOk};
 ghost use Rattle.s7_plant.specs.Journals.{replay_entries};
+ghost use Rattle.s7_plant.specs.State.{state_of};
 
 use crate::journal::{Entry, Journal};
 use crate::plant::Plant;
 use crate::reply::{BODY_ROOM, Reply};
-use crate::request::Request;
+use crate::request::Ask;
 use crate::steps::Steps;
 use s7_area::Areas;
 use s7_outer::Memory;
@@ -23,14 +24,15 @@ pub struct Book {
     /// The plant after the last one.
     pub plant: Plant,
     pub journal: Journal,
-    pub ghost replayed: { plant.areas ≡ replay_entries opening.areas journal.entries },
+    pub ghost replayed: { state_of plant ≡ replay_entries (state_of opening) journal.entries },
 }
 
 impl Book {
-    ghost use Rattle.s7_plant.specs.Requests.{IsReady, kept, full_size};
+    ghost use Rattle.s7_plant.specs.Requests.{CanBeDone, Fits, kept};
     ghost use Rattle.s7_plant.specs.Replies.{IsReadyReply, said_of};
     ghost use Rattle.s7_plant.specs.Answers.{answer_of, after};
-    ghost use Rattle.s7_plant.specs.Journals.{entries_of, entered, at};
+    ghost use Rattle.s7_plant.specs.Journals.{entries_of, entered, at, steps_to};
+    ghost use Rattle.s7_plant.specs.State.{begins_with};
 
     /// A plant with these areas and nothing in its journal, which takes `limit` entries, from 1 to
     /// 262,144. Their room and a copy of the areas are taken here; `Memory` comes where there is none
@@ -38,8 +40,8 @@ impl Book {
     pub fn new(alloc: Global, areas: Areas, limit: u64) -> Result<Book, Memory>
         requires some { 1 ≤ limit }
         requires few { limit ≤ 262144 }
-        ensures opening { IfOk result (λ book. book.opening.areas ≡ areas) }
-        ensures plant { IfOk result (λ book. book.plant.areas ≡ areas) }
+        ensures opening { IfOk result (λ book. state_of book.opening ≡ begins_with areas) }
+        ensures plant { IfOk result (λ book. state_of book.plant ≡ begins_with areas) }
         ensures journal { IfOk result (λ book. book.journal ≡ entries_of [] limit) }
     {
         Ok(Book {
@@ -49,41 +51,35 @@ impl Book {
         })
     }
 
-    /// Carries a request out and enters it under its link, and answers the entry's number, from 0. The
-    /// reply is the one of the plant that all earlier entries led to, as `Plant::reply` has it. The
-    /// request comes back exactly where the journal has its limit's length, and nothing changes then,
-    /// not even the reply. Needs a ready request and a ready reply, and leaves the reply ready. It
-    /// takes no memory.
-    pub fn step(
-        &mut self,
-        link: u32,
-        mut request: Request,
-        reply: &mut Reply,
-    ) -> Result<u64, Request>
-        requires request { IsReady request }
+    /// Carries out what a link asks and enters it under its number, and answers the entry's number, from
+    /// 0. The reply is the one of the plant that all earlier entries led to, as `Plant::reply` has it.
+    /// What was asked comes back exactly where the journal has its limit's length, and nothing changes
+    /// then, not even the reply. Needs a request that can be done and a ready reply, and leaves the reply
+    /// ready. It takes no memory.
+    pub fn step(&mut self, link: u32, mut ask: Ask, reply: &mut Reply) -> Result<u64, Ask>
+        requires request { CanBeDone ask.request }
         requires reply { IsReadyReply reply.old }
         ensures full { IsErr result ↔ (length self.old.journal.entries ≡ self.old.journal.limit) }
         ensures err { IfErr result
-            (λ back. (back ≡ request) × (self.new ≡ self.old) × (reply.new ≡ reply.old)) }
+            (λ back. (back ≡ ask) × (self.new ≡ self.old) × (reply.new ≡ reply.old)) }
         ensures number { IfOk result (λ number. number ≡ length self.old.journal.entries) }
         ensures below { OnOk result (length self.old.journal.entries < self.old.journal.limit) }
         ensures entered { OnOk result (self.new.journal ≡ entries_of
-            (self.old.journal.entries ++ entered link (kept request) ∷ []) self.old.journal.limit) }
+            (self.old.journal.entries ++ entered link (kept ask) ∷ []) self.old.journal.limit) }
         ensures said { OnOk result (said_of reply.new ≡ answer_of
-            (replay_entries self.old.opening.areas self.old.journal.entries) (kept request)) }
-        ensures after { OnOk result (self.new.plant.areas ≡ after self.old.plant.areas request) }
-        ensures fits { OnOk result (12 + length reply.new.params.octets + length reply.new.body.octets
-            ≤ full_size request) }
+            (replay_entries (state_of self.old.opening) self.old.journal.entries) (kept ask)) }
+        ensures after { OnOk result (state_of self.new.plant ≡ after (state_of self.old.plant) ask) }
+        ensures fits { OnOk result (Fits ask.request (said_of reply.new)) }
         ensures ready { IsReadyReply reply.new }
         ensures opening { self.new.opening ≡ self.old.opening }
         ensures limit { self.new.journal.limit ≡ self.old.journal.limit }
     {
         if self.journal.is_full() {
-            return Err(request);
+            return Err(ask);
         }
         let number = self.journal.len();
-        self.plant.step(&mut request, reply);
-        self.journal.push(Entry { link, request });
+        self.plant.step(ask.right, &mut ask.request, reply);
+        self.journal.push(Entry { link, ask });
         Ok(number)
     }
 
@@ -98,9 +94,9 @@ impl Book {
     ) -> Result<Plant, Memory>
         requires { n ≤ length self.now.journal.entries }
         ensures image { IfOk result
-            (λ image. image.areas ≡ at self.now.opening.areas self.now.journal.entries n) }
+            (λ image. state_of image ≡ at (state_of self.now.opening) self.now.journal.entries n) }
         ensures counted { MatchResult result
-            (λ _. steps.new ≡ steps.old + n) (λ _. steps.new ≡ steps.old) }
+            (λ _. steps.new ≡ steps.old + steps_to n) (λ _. steps.new ≡ steps.old) }
         ensures most { steps.new ≤ steps.old + n }
     {
         let mut image = Plant::new(self.opening.areas.copy(alloc)?);
@@ -108,48 +104,48 @@ impl Book {
         let entries = &self.journal.as_slice()[..n as usize];
         for entry in entries {
             steps.tick();
-            image.act(&entry.request, &mut reply);
+            image.act(entry.ask.right, &entry.ask.request, &mut reply);
         }
         Ok(image)
     }
 }
 
 impl Machine for Book {
-    ghost use Rattle.s7_area.specs.Memory.{Memory};
     ghost use Rattle.s7_plant.specs.Answers.{IsReplyOf};
-    ghost use Rattle.s7_plant.specs.Requests.{IsReady, kept};
+    ghost use Rattle.s7_plant.specs.Requests.{CanBeDone, kept};
     ghost use Rattle.s7_plant.specs.Replies.{IsReadyReply};
     ghost use Rattle.s7_plant.specs.Journals.{calls_of, after_call};
+    ghost use Rattle.s7_plant.specs.State.{State};
 
-    type Request = Request;
+    type Request = Ask;
 
     type Reply = Reply;
 
-    ghost State = { Memory };
+    ghost State = { State };
 
-    ghost opening = { λ book. book.opening.areas };
+    ghost opening = { λ book. state_of book.opening };
 
     ghost history = { λ book. calls_of book.journal.entries };
 
     ghost limit = { λ book. book.journal.limit };
 
-    ghost state = { λ book. book.plant.areas };
+    ghost state = { λ book. state_of book.plant };
 
     ghost after = { after_call };
 
     ghost kept = { kept };
 
-    ghost request_ready = { IsReady };
+    ghost request_ready = { λ ask. CanBeDone ask.request };
 
     ghost reply_ready = { IsReadyReply };
 
-    ghost gives = { λ m _ r reply. IsReplyOf m r reply };
+    ghost gives = { λ s _ ask reply. IsReplyOf s ask reply };
 
     fn len(&self) -> u64 {
         self.journal.len()
     }
 
-    fn step(&mut self, caller: u32, request: Request, reply: &mut Reply) -> Result<u64, Request> {
-        Book::step(self, caller, request, reply)
+    fn step(&mut self, caller: u32, ask: Ask, reply: &mut Reply) -> Result<u64, Ask> {
+        Book::step(self, caller, ask, reply)
     }
 }

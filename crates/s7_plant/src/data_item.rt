@@ -12,33 +12,33 @@ use s7_item::{Item, padding_of, stated_length, transport_of};
 use s7_outer::Buffer;
 
 /// Adds a data item for each item, from left to right.
-pub(crate) fn add_data_items(areas: &Areas, items: &[Item], body: &mut Buffer)
+pub(crate) fn add_data_items(areas: &Areas, right: bool, items: &[Item], body: &mut Buffer)
     requires few { data_size (map octet_count items.now) ≤ 8178 }
     requires room { length body.old.octets + data_size (map octet_count items.now) ≤ body.old.room }
     ensures octets { body.new.octets
-        ≡ body.old.octets ++ data_octets (map (read_item areas.now) items.now) }
+        ≡ body.old.octets ++ data_octets (map (read_item areas.now right) items.now) }
     ensures most { length body.new.octets
         ≤ length body.old.octets + data_size (map octet_count items.now) }
     ensures room { body.new.room ≡ body.old.room }
 {
     for (k, item) in items.iter().enumerate() {
-        add_data_item(areas, item, k + 1 == items.len(), body);
+        add_data_item(areas, right, item, k + 1 == items.len(), body);
     }
 }
 
 /// Adds the data item that answers the read of an item, the last one or not: code, transport size,
 /// length, octets, and a padding octet after an odd number of them where another item follows; with
 /// a code that refuses the item, the code and `00 00 00`.
-fn add_data_item(areas: &Areas, item: &Item, last: bool, body: &mut Buffer)
+fn add_data_item(areas: &Areas, right: bool, item: &Item, last: bool, body: &mut Buffer)
     requires few { octet_count item.now ≤ 8178 }
     requires room { length body.old.octets + item_size (octet_count item.now) last ≤ body.old.room }
-    ensures octets { let read = read_item areas.now item.now in
+    ensures octets { let read = read_item areas.now right item.now in
         body.new.octets ≡ body.old.octets ++ data_item_octets read.code read.word read.octets last }
     ensures most { length body.new.octets
         ≤ length body.old.octets + item_size (octet_count item.now) last }
     ensures room { body.new.room ≡ body.old.room }
 {
-    match areas.look_up(true, item) {
+    match areas.look_up(right, item) {
         Ok(octets) => add_octets(item.word, octets, last, body),
         Err(code) => body.add(&[code, 0x00, 0x00, 0x00]),
     }

@@ -4,16 +4,16 @@ ghost use Rattle.std.specs.Prelude.{IsTrue, IfOk};
 ghost use Rattle.s7_plant.specs.Journals.{entries_of, AreReady};
 ghost use Rattle.s7_plant.specs.Requests.{IsReady};
 
-use crate::request::Request;
+use crate::request::Ask;
 use s7_outer::Memory;
 use std::alloc::Global;
 use std::marker::Model;
 
-/// A request that was carried out, with the link that it came on.
+/// A request that was carried out with its link's right or without, and the link that it came on.
 #[derive(Drop)]
 pub struct Entry {
     pub link: u32,
-    pub request: Request,
+    pub ask: Ask,
 }
 
 /// Entries in order, with room for all that may come. Contracts see the list and the limit of its
@@ -75,7 +75,7 @@ impl Journal {
     /// Adds an entry at the end, which takes no memory.
     pub(crate) fn push(&mut self, entry: Entry)
         requires room { length self.old.entries < self.old.limit }
-        requires ready { IsReady entry.request }
+        requires ready { IsReady entry.ask.request }
         ensures { self.new ≡ entries_of (self.old.entries ++ entry ∷ []) self.old.limit }
     {
         self.entries.push_reserved(entry);

@@ -2,19 +2,19 @@
 ghost use Rattle.s7_plant.specs.Histories.{KeptIsTheSame, KeptHistoriesAreTheSame, GoesOn};
 ghost use Rattle.s7_plant.specs.Journals.{CallsLeadTheSame};
 
-/// A law: what a history keeps of a request is answered and changes a memory as the request does,
-/// and so does a history of kept requests.
+/// A law: what a history keeps of what was asked is answered and changes a state as that does, and so
+/// does a history of what was kept.
 pub fn kept_requests_are_the_same()
     ensures requests { KeptIsTheSame }
     ensures histories { KeptHistoriesAreTheSame }
 {}
 
-/// A law: one more request acts on the memory that those before it left.
+/// A law: one more request acts on the state that those before it left.
 pub fn replay_goes_on()
     ensures { GoesOn }
 {}
 
-/// A law: a journal's entries lead to the memory that they lead to as a history of calls.
+/// A law: a journal's entries lead to the state that they lead to as a history of calls.
 pub fn calls_lead_the_same()
     ensures { CallsLeadTheSame }
 {}

@@ -17,7 +17,7 @@ pub use journal::{Entry, Journal};
 pub use laws::{calls_lead_the_same, kept_requests_are_the_same, replay_goes_on};
 pub use plant::Plant;
 pub use reply::{BODY_ROOM, PARAMS_ROOM, Reply};
-pub use request::Request;
+pub use request::{Ask, Request};
 pub use steps::Steps;
 
 #[cfg(test)]

@@ -2,6 +2,14 @@
 use s7_item::{DataItems, Items};
 use s7_outer::Octets;
 
+/// What a link asks with.
+#[derive(Drop)]
+pub struct Ask {
+    /// Whether the link has the right that the guard's password gives.
+    pub right: bool,
+    pub request: Request,
+}
+
 /// What is asked of a plant.
 #[derive(Drop)]
 pub enum Request {

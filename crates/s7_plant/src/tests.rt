@@ -122,9 +122,9 @@ fn reads_are_answered(rt: HostRuntime) -> Result<(), Fail> {
         let Some(mut request) = a_read(params) else {
             return Err(Fail::from("no request"));
         };
-        plant.reply(&request, &mut reply);
+        plant.reply(true, &request, &mut reply);
         assert!(rt; says(&reply, &params[..2], body), "{params:?}");
-        plant.step(&mut request, &mut reply);
+        plant.step(true, &mut request, &mut reply);
         assert!(rt; says(&reply, &params[..2], body), "{params:?}");
     }
     Ok(())
@@ -140,10 +140,10 @@ fn writes_are_answered(rt: HostRuntime) -> Result<(), Fail> {
     let Some(mut request) = a_write(rt.alloc(), params, data)? else {
         return Err(Fail::from("no request"));
     };
-    plant.reply(&request, &mut reply);
+    plant.reply(true, &request, &mut reply);
     assert!(rt; says(&reply, b"\x05\x03", b"\xFF\x05\xFF"));
     assert!(rt; plant.areas.octets_of(DB1) == Some(&[0x11, 0x22, 0x33, 0x44]));
-    plant.step(&mut request, &mut reply);
+    plant.step(true, &mut request, &mut reply);
     assert!(rt; says(&reply, b"\x05\x03", b"\xFF\x05\xFF"));
     assert!(rt; plant.areas.octets_of(DB1) == Some(&[0xAA, 0x22, 0x33, 0xCC]));
     Ok(())
@@ -157,6 +157,16 @@ fn a_request(alloc: Global, params: &[u8], data: &[u8]) -> Result<Option<Request
         Ok(a_read(params))
     } else {
         a_write(alloc, params, data)
+    }
+}
+
+/// The request, asked with a right.
+fn with_right(request: Request) -> Ask
+    ensures { result.request ≡ request }
+{
+    Ask {
+        right: true,
+        request,
     }
 }
 
@@ -189,7 +199,10 @@ fn steps_are_entered(rt: HostRuntime) -> Result<(), Fail> {
     ];
     for (link, (params, data), number, body) in rows {
         let request = a_request(rt.alloc(), params, data)?.ok_or("no request")?;
-        assert_eq!(rt; book.step(link, request, &mut reply).ok(), Some(number));
+        assert_eq!(rt;
+            book.step(link, with_right(request), &mut reply).ok(),
+            Some(number)
+        );
         assert!(rt; says(&reply, &params[..2], body), "{link}");
     }
     assert_eq!(rt; book.journal.len(), 3);
@@ -206,9 +219,15 @@ fn a_full_book_hands_back(rt: HostRuntime) -> Result<(), Fail> {
     let mut book = Book::new(rt.alloc(), some_areas(rt.alloc())?, 1)?;
     let mut reply = a_reply(rt.alloc())?;
     let read = a_read(READ_ALL.0).ok_or("no request")?;
-    assert_eq!(rt; book.step(7, read, &mut reply).ok(), Some(0));
+    assert_eq!(rt; book.step(7, with_right(read), &mut reply).ok(), Some(0));
     let write = a_write(rt.alloc(), WRITE_AA.0, WRITE_AA.1)?.ok_or("no request")?;
-    let Err(Request::Write { items, octets, .. }) = book.step(7, write, &mut reply) else {
+    let Err(
+        Ask {
+            right: true,
+            request: Request::Write { items, octets, .. },
+        },
+    ) = book.step(7, with_right(write), &mut reply)
+    else {
         return Err(Fail::from("not handed back"));
     };
     assert_eq!(rt; items.len(), 1);
@@ -243,7 +262,7 @@ fn images_are_replayed(rt: HostRuntime) -> Result<(), Fail> {
     let mut reply = a_reply(rt.alloc())?;
     for (params, data) in [WRITE_AA, READ_ALL, WRITE_CC] {
         let request = a_request(rt.alloc(), params, data)?.ok_or("no request")?;
-        assert!(rt; book.step(7, request, &mut reply).is_ok());
+        assert!(rt; book.step(7, with_right(request), &mut reply).is_ok());
     }
     let rows: [(u64, &[u8]); 4] = [
         (0, &[0x11, 0x22, 0x33, 0x44]),
@@ -264,7 +283,7 @@ fn a_hall_serves_a_book(rt: HostRuntime) -> Result<(), Fail> {
     let mut reply = a_reply(rt.alloc())?;
     let (hall, mut seat) = Hall::new(rt.alloc(), book).ok().ok_or("memory")?;
     let write = a_write(rt.alloc(), WRITE_AA.0, WRITE_AA.1)?.ok_or("no request")?;
-    let done = hall.act(&rt, &mut seat, write, &mut reply);
+    let done = hall.act(&rt, &mut seat, with_right(write), &mut reply);
     assert_eq!(rt; done.ok().ok_or("full")?.number, 0);
     assert!(rt; says(&reply, b"\x05\x01", b"\xFF"));
     let book = hall.close(&rt, seat);

@@ -1,16 +1,18 @@
 // The writes of a request.
-ghost use Rattle.std.specs.Prelude.{◌≡◌, true, ◌+◌, ◌≤◌, ◌++◌, length, All};
+ghost use Rattle.std.specs.Prelude.{◌≡◌, ◌+◌, ◌≤◌, ◌++◌, length, All};
+ghost use Rattle.s7_area.specs.Guards.{is_write_barred};
 ghost use Rattle.s7_area.specs.Memory.{write_code};
 ghost use Rattle.s7_plant.specs.Answers.{write_all, write_codes};
 
-use s7_area::Areas;
-use s7_item::codes::{GOOD, WRONG_SIZE};
+use s7_area::{Areas, Guard};
+use s7_item::codes::{GOOD, NOT_ALLOWED, WRONG_SIZE};
 use s7_item::{DataPlace, Item};
 use s7_outer::Buffer;
 
 /// Makes the writes from left to right, each on what the one before left, and adds their codes.
 pub(crate) fn write_items(
     areas: &mut Areas,
+    right: bool,
     items: &[Item],
     places: &[DataPlace],
     octets: &[u8],
@@ -19,15 +21,16 @@ pub(crate) fn write_items(
     requires places { length places.now ≡ length items.now }
     requires inside { All (λ place. place.from + place.len ≤ length octets.now) places.now }
     requires room { length codes.old.octets + length items.now ≤ codes.old.room }
-    ensures areas { areas.new ≡ write_all areas.old items.now places.now octets.now }
+    ensures areas { areas.new ≡ write_all areas.old right items.now places.now octets.now }
     ensures codes { codes.new.octets
-        ≡ codes.old.octets ++ write_codes areas.old items.now places.now octets.now }
+        ≡ codes.old.octets ++ write_codes areas.old right items.now places.now octets.now }
     ensures many { length codes.new.octets ≡ length codes.old.octets + length items.now }
     ensures room { codes.new.room ≡ codes.old.room }
 {
     for k in 0..items.len() {
         let place = places[k];
-        let code = areas.write(true, &items[k], &octets[place.from..place.from + place.len]);
+        let written = &octets[place.from..place.from + place.len];
+        let code = areas.write(right, &items[k], written);
         codes.add(&[code]);
     }
 }
@@ -36,6 +39,7 @@ pub(crate) fn write_items(
 #[tactic(auto, using(std::proofs::lemmas::Grind::common_steps, crate::proofs::CodeLemmas::codes_in_turn))]
 pub(crate) fn judge_items(
     areas: &Areas,
+    right: bool,
     items: &[Item],
     places: &[DataPlace],
     octets: &[u8],
@@ -45,7 +49,7 @@ pub(crate) fn judge_items(
     requires inside { All (λ place. place.from + place.len ≤ length octets.now) places.now }
     requires room { length codes.old.octets + length items.now ≤ codes.old.room }
     ensures codes { codes.new.octets
-        ≡ codes.old.octets ++ write_codes areas.now items.now places.now octets.now }
+        ≡ codes.old.octets ++ write_codes areas.now right items.now places.now octets.now }
     ensures many { length codes.new.octets ≡ length codes.old.octets + length items.now }
     ensures room { codes.new.room ≡ codes.old.room }
 {
@@ -53,6 +57,7 @@ pub(crate) fn judge_items(
         let place = places[k];
         let code = judge_item(
             areas,
+            right,
             &items[k],
             &octets[place.from..place.from + place.len],
         );
@@ -62,12 +67,25 @@ pub(crate) fn judge_items(
 
 /// The code that a write of these octets would have.
 #[tactic(auto, unfolding(s7_area::specs::Memory::write_code, s7_area::specs::Memory::read_code))]
-fn judge_item(areas: &Areas, item: &Item, octets: &[u8]) -> u8
-    ensures { result ≡ write_code areas.now true item.now octets.now }
+fn judge_item(areas: &Areas, right: bool, item: &Item, octets: &[u8]) -> u8
+    ensures { result ≡ write_code areas.now right item.now octets.now }
 {
+    if is_write_barred(areas.guard(), right) {
+        return NOT_ALLOWED;
+    }
     match areas.look_up(true, item) {
         Ok(held) if held.len() == octets.len() => GOOD,
         Ok(_) => WRONG_SIZE,
         Err(code) => code,
+    }
+}
+
+/// There is no right, and the guard asks for one.
+fn is_write_barred(guard: Option<Guard>, right: bool) -> bool
+    ensures { result ≡ is_write_barred guard right }
+{
+    match guard {
+        None => false,
+        Some(guard) => !right && (guard.level == 2 || guard.level == 3),
     }
 }
