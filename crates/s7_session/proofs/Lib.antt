@@ -1,10 +1,10 @@
 pub mod PlaceLemmas
 pub mod PastLemmas
-pub mod SizeLemmas
-pub mod TurnLemmas
+pub mod DoerLemmas
+pub mod AnswerLemmas
 pub mod ConsumeLemmas
+pub mod TurnLemmas
 pub mod ServeLemmas
 pub mod RunLemmas
-pub mod AnswerLemmas
-pub mod JoinLemmas
 pub mod BookLemmas
+pub mod SumLemmas

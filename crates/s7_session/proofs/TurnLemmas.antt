@@ -1,21 +1,24 @@
 -- Laws of what calls do to a session.
-use Rattle.std.proofs.Common.{◌≡◌, ℕ, ◌+◌, ◌-◌, ◌≤◌, List, [], ◌∷◌, ◌++◌, length, map, ◌⊎◌, inl, inr, refl, ap, sym, ◌∙◌, subst, append_assoc, arith, length-append}
+use Rattle.std.proofs.Common.{◌≡◌, ℕ, ◌+◌, ◌-◌, ◌≤◌, List, [], ◌∷◌, ◌++◌, length, map, refl, ap, sym, ◌∙◌, subst, append_assoc, arith, length-append}
 use Rattle.std.specs.Prelude.{Option, None, Some, option_map, IfSome}
 use Rattle.std.proofs.lemmas.List.{append-nil}
 use Rattle.std.specs.Io.KnownBytes.{prepend_known, append_known}
 use Rattle.s7_outer.specs.Shown.{Shown}
 use Rattle.s7_outer.specs.Count.{RoseBy}
-use Rattle.s7_plant.specs.declared.request.Request.{Request}
+use Rattle.s7_plant.specs.declared.request.Ask.{Ask}
+use Rattle.s7_wire.specs.Reads.{HasRead}
 use Rattle.s7_session.specs.declared.session.Session.{Session}
 use Rattle.s7_session.specs.declared.outcome.Outcome.{Outcome}
 use Rattle.s7_session.specs.declared.outcome.Outcome.TheVariants as outcome
-use Rattle.s7_session.specs.Entry.{Entry, asked}
+use Rattle.s7_session.specs.Conversing.{link_of, size_of, sends}
+use Rattle.s7_session.specs.Entry.{Entry, answered}
+use Rattle.s7_session.specs.LinkState.{LinkState}
+use Rattle.s7_session.specs.Owed.{telegrams, owed}
+use Rattle.s7_session.specs.Stands.{Stands, AllButOne, Moves, HasCause, closed_with}
+use Rattle.s7_session.specs.Telegrams.{Met, verdicts_of, entered_of, NoneTimed, AllAt, clock_failures, last_number}
 use Rattle.s7_session.specs.Verdict.{Verdict, Entered, Full, ClockFailed, NoMemory}
-use Rattle.s7_session.specs.Owed.{entered}
-use Rattle.s7_session.specs.Answers.{AnyFull, NoneEntered, FullStays, AllAt, clock_failures, last_number}
-use Rattle.s7_cotp.specs.Messages.{open_octets}
-use Rattle.s7_session.specs.Conversing.{between_of, link_of, sends}
-use Rattle.s7_session.specs.Stands.{Stands, Moves, HasCause, closed_with}
+use Rattle.s7_session.proofs.ConsumeLemmas.{entered-append}
+use Rattle.s7_session.proofs.DoerLemmas.{stays_same, trail-append}
 
 pub prepend_twice : (a b : List ℕ) (o : Option (List ℕ)) → prepend_known a (prepend_known b o) ≡ prepend_known (a ++ b) o
 prepend_twice a b None = refl
@@ -102,38 +105,6 @@ moved_by_transmit k k' written wrote fits space faults waits same = record {
   waits = waits;
 }
 
-pub AnyFull-append : (xs ys : List Verdict) → AnyFull (xs ++ ys) → AnyFull xs ⊎ AnyFull ys
-AnyFull-append [] ys h = inr h
-AnyFull-append (Entered reply moment ∷ xs) ys h = AnyFull-append xs ys h
-AnyFull-append (ClockFailed ∷ xs) ys h = AnyFull-append xs ys h
-AnyFull-append (Full ∷ xs) ys h = inl tt
-AnyFull-append (NoMemory ∷ xs) ys h = AnyFull-append xs ys h
-
-pub NoneEntered-append : (xs ys : List Verdict) → NoneEntered xs → NoneEntered ys → NoneEntered (xs ++ ys)
-NoneEntered-append [] ys p q = q
-NoneEntered-append (Entered reply moment ∷ xs) ys p q = absurd p
-NoneEntered-append (ClockFailed ∷ xs) ys p q = NoneEntered-append xs ys p q
-NoneEntered-append (Full ∷ xs) ys p q = NoneEntered-append xs ys p q
-NoneEntered-append (NoMemory ∷ xs) ys p q = NoneEntered-append xs ys p q
-
-pub FullStays-append : (xs ys : List Verdict) → FullStays xs → FullStays ys → (AnyFull xs → NoneEntered ys) → FullStays (xs ++ ys)
-FullStays-append [] ys p q h = q
-FullStays-append (Entered reply moment ∷ xs) ys p q h = FullStays-append xs ys p q h
-FullStays-append (ClockFailed ∷ xs) ys p q h = FullStays-append xs ys p q h
-FullStays-append (Full ∷ xs) ys p q h = NoneEntered-append xs ys p (h tt)
-FullStays-append (NoMemory ∷ xs) ys p q h = FullStays-append xs ys p q h
-
-pub one_stays : (xs : List Verdict) → length xs ≤ 1 → FullStays xs
-one_stays [] h = tt
-one_stays (Full ∷ []) h = tt
-one_stays (Full ∷ y ∷ xs) h = absurd (omega (arith, h))
-one_stays (Entered reply moment ∷ []) h = tt
-one_stays (Entered reply moment ∷ y ∷ xs) h = absurd (omega (arith, h))
-one_stays (ClockFailed ∷ []) h = tt
-one_stays (ClockFailed ∷ y ∷ xs) h = absurd (omega (arith, h))
-one_stays (NoMemory ∷ []) h = tt
-one_stays (NoMemory ∷ y ∷ xs) h = absurd (omega (arith, h))
-
 pub clock_failures-append : (xs ys : List Verdict) → clock_failures (xs ++ ys) ≡ clock_failures xs + clock_failures ys
 clock_failures-append [] ys = omega arith
 clock_failures-append (Entered reply moment ∷ xs) ys = clock_failures-append xs ys
@@ -152,59 +123,77 @@ last_number-append before (x ∷ xs) ys = last_number-append (Some x.number) xs 
 pub rose_both : (m n a b c : ℕ) → RoseBy m a b → RoseBy n b c → RoseBy (m + n) a c
 rose_both m n a b c p q = omega (arith, p, q)
 
-pub map-append : (xs ys : List Entry) → map asked (xs ++ ys) ≡ map asked xs ++ map asked ys
+pub map-append : (xs ys : List Entry) → map answered (xs ++ ys) ≡ map answered xs ++ map answered ys
 map-append [] ys = refl
-map-append (x ∷ xs) ys = ap (λ zs. asked x ∷ zs) (map-append xs ys)
+map-append (x ∷ xs) ys = ap (λ zs. answered x ∷ zs) (map-append xs ys)
+
+pub verdicts-append : (xs ys : List Met) → verdicts_of (xs ++ ys) ≡ verdicts_of xs ++ verdicts_of ys
+verdicts-append [] ys = refl
+verdicts-append (x ∷ xs) ys = ap (λ vs. x.verdict ∷ vs) (verdicts-append xs ys)
+
+pub NoneTimed-front : (xs ys : List Met) → NoneTimed (xs ++ ys) → NoneTimed xs
+NoneTimed-front [] ys h = tt
+NoneTimed-front (x ∷ xs) ys h = (h.0, NoneTimed-front xs ys h.1)
+
+pub NoneTimed-back : (xs ys : List Met) → NoneTimed (xs ++ ys) → NoneTimed ys
+NoneTimed-back [] ys h = h
+NoneTimed-back (x ∷ xs) ys h = NoneTimed-back xs ys h.1
 
 -- what a session stands for, with nothing more
-pub stands_nothing : (s : Session) (b : List ℕ) (js : List Verdict) (w : List ℕ) → Stands s b js w → Stands s (b ++ []) (js ++ []) w
-stands_nothing s b js w h =
-    let P : List ℕ → Type 0 = λ x. Stands s x (js ++ []) w in
-    let Q : List Verdict → Type 0 = λ x. Stands s b x w in
+pub stands_nothing : (first : LinkState) (s : Session) (b : List ℕ) (js : List Verdict) (w : List ℕ) → Stands first s b js w → Stands first s (b ++ []) (js ++ []) w
+stands_nothing first s b js w h =
+    let P : List ℕ → Type 0 = λ x. Stands first s x (js ++ []) w in
+    let Q : List Verdict → Type 0 = λ x. Stands first s b x w in
     subst P (sym (append-nil b)) (subst Q (sym (append-nil js)) h)
 
 -- a session whose parts are as they were
 pub record Keeps (old new : Session) : Type 0 where
-  pub cutter : new.cutter ≡ old.cutter
+  pub reader : new.reader ≡ old.reader
   pub used : new.used ≡ old.used
-  pub at : new.at ≡ old.at
   pub count : new.count ≡ old.count
   pub newest : new.newest ≡ old.newest
-  pub joiner : new.conversation.joiner ≡ old.conversation.joiner
-  pub size : new.conversation.tpdu_size ≡ old.conversation.tpdu_size
-  pub granted : new.conversation.granted ≡ old.conversation.granted
+  pub held : new.conversation.held ≡ old.conversation.held
+  pub size : new.conversation.size ≡ old.conversation.size
 
-same_between : (old new : Session) → Keeps old new → between_of new.at new.conversation ≡ between_of old.at old.conversation
-same_between old new k =
-    ap (λ n. between_of n new.conversation) k.at
-    ∙ (ap (λ j. record (between_of old.at new.conversation) { unfinished = record { octets = open_octets j; count = j.count } }) k.joiner
-    ∙ (ap (λ o. record (between_of old.at old.conversation) { size = o; link = link_of new.conversation.granted }) k.size
-    ∙ ap (λ o. record (between_of old.at old.conversation) { link = link_of o }) k.granted))
+-- more was written
+whole_more : (first : LinkState) (b : List ℕ) (js : List Verdict) (w written : List ℕ) → AllButOne first b js w → AllButOne first b js (w ++ written)
+whole_more first b js w written a = record {
+  front = a.front;
+  behind = a.behind;
+  octets = a.octets;
+  met = a.met;
+  later = a.later;
+  verdicts = a.verdicts;
+  part = a.part ++ written;
+  whole = ap (λ x. x ++ written) a.whole ∙ append_assoc (owed first a.front a.met) a.part written;
+  all_but_one = a.all_but_one;
+}
 
 -- a session that used nothing
-pub stood_plain : (old new : Session) (written : List ℕ) → Keeps old new → sends old.conversation ≡ written ++ sends new.conversation
-    → (closed_with new ≡ None → closed_with old ≡ None) → (b : List ℕ) (js : List Verdict) (w : List ℕ) → Stands old b js w → Stands new b js (w ++ written)
-stood_plain old new written k outbox closed b js w h = record {
-  rest = λ l. record { held = (h.rest l).held ∙ ap (λ c. c.held) (sym k.cutter); limit = (h.rest l).limit ∙ ap (λ c. c.limit) (sym k.cutter) };
+pub stood_plain : (first : LinkState) (old new : Session) (written : List ℕ) → Keeps old new → sends old.conversation ≡ written ++ sends new.conversation
+    → (closed_with new ≡ None → closed_with old ≡ None) → (b : List ℕ) (js : List Verdict) (w : List ℕ) → Stands first old b js w → Stands first new b js (w ++ written)
+stood_plain first old new written k outbox closed b js w h = record {
+  read = subst (λ r. HasRead r b) (sym k.reader) h.read;
   used = h.used ∙ sym k.used;
   met = h.met;
   owed = h.owed ∙ (ap (λ x. w ++ x) outbox ∙ sym (append_assoc w written (sends new.conversation)));
+  whole = whole_more first b js w written h.whole;
   lives = λ e. h.lives (closed e);
-  between = λ e. h.between (closed e) ∙ sym (same_between old new k);
-  more = new.between_packets;
+  link = λ e. h.link (closed e) ∙ ap link_of (sym k.held);
+  size = λ e. h.size (closed e) ∙ ap size_of (sym k.size);
 }
 
 -- a session that only received and sent
-unfoldable pub moves_plain : (u : Type 0) (old new : Session) (link link' : Shown) (stands : List Entry → Type 0) (is_full : Request → Type 0) (received written : List ℕ)
+unfoldable pub moves_plain : {D : Type 0} (stands : D → List Entry → Type 0) (full lack : D → Ask → Type 0) (old new : Session) (link link' : Shown) (d : D) (received written : List ℕ)
     → Keeps old new → sends old.conversation ≡ written ++ sends new.conversation → old.inbox ++ received ≡ new.inbox
     → (closed_with new ≡ None → closed_with old ≡ None)
     → Moved link link' received written
-    → Moves u old link stands is_full new link' stands is_full
-moves_plain u old new link link' stands is_full received written k outbox inbox closed moved = record {
+    → Moves stands full lack old link d new link' d
+moves_plain stands full lack old new link link' d received written k outbox inbox closed moved = record {
   received = received;
   used = [];
   written = written;
-  verdicts = [];
+  mets = [];
   entries = [];
   took = moved.took;
   wrote = moved.wrote;
@@ -212,16 +201,15 @@ moves_plain u old new link link' stands is_full received written k outbox inbox 
   space = moved.space;
   lent = moved.lent;
   inbox = inbox;
-  stood = λ b js w h. stands_nothing new b js (w ++ written) (stood_plain old new written k outbox closed b js w h);
-  asked = λ b js w h. ap (λ x. entered x (js ++ [])) (append-nil b) ∙ (ap (λ x. entered b x) (append-nil js) ∙ sym (append-nil (entered b js)));
+  stood = λ first b js w h. stands_nothing first new b js (w ++ written) (stood_plain first old new written k outbox closed b js w h);
+  asked = λ first b js w h. ap (λ x. telegrams first x (js ++ [])) (append-nil b) ∙ (ap (λ x. telegrams first b x) (append-nil js) ∙ sym (append-nil (telegrams first b js)));
+  entered = refl;
   count = omega (arith, k.count);
   newest = k.newest;
-  doer = λ es h. subst stands (sym (append-nil es)) h;
-  still_full = λ r h. h;
-  full = λ h. absurd h;
-  none_entered = λ i h. tt;
-  full_stays = λ i. tt;
+  doer = λ es h. subst (stands d) (sym (append-nil es)) h;
+  trail = stays_same full d;
   clock = omega (arith, moved.clock_faults);
+  unasked = λ h. moved.clock_faults;
   moment = moved.moment;
   moments = tt;
   faults = moved.faults;
@@ -229,72 +217,75 @@ moves_plain u old new link link' stands is_full received written k outbox inbox 
 }
 
 -- calls one after another
-unfoldable pub moves_both : (u : Type 0) (s0 s1 s2 : Session) (k0 k1 k2 : Shown) (d0 d1 d2 : List Entry → Type 0) (f0 f1 f2 : Request → Type 0)
-    → Moves u s0 k0 d0 f0 s1 k1 d1 f1 → Moves u s1 k1 d1 f1 s2 k2 d2 f2 → Moves u s0 k0 d0 f0 s2 k2 d2 f2
-moves_both u s0 s1 s2 k0 k1 k2 d0 d1 d2 f0 f1 f2 m n = record {
-  received = m.received ++ n.received;
-  used = m.used ++ n.used;
-  written = m.written ++ n.written;
-  verdicts = m.verdicts ++ n.verdicts;
-  entries = m.entries ++ n.entries;
-  took = m.took ∙ (ap (prepend_known m.received) n.took ∙ prepend_twice m.received n.received k2.left);
-  wrote = n.wrote ∙ (ap (λ o. append_known o n.written) m.wrote ∙ append_twice k0.written m.written n.written);
-  fits = fits_twice k0.space m.written n.written m.fits (subst (λ (x : Option ℕ). IfSome x (λ s. length n.written ≤ s)) m.space n.fits);
-  space = n.space ∙ (ap (option_map (λ s. s - length n.written)) m.space ∙ space_twice k0.space m.written n.written);
-  lent = n.lent ∙ m.lent;
-  inbox = sym (append_assoc s0.inbox m.received n.received)
-      ∙ ap (λ x. x ++ n.received) m.inbox
-      ∙ append_assoc m.used s1.inbox n.received
-      ∙ ap (λ x. m.used ++ x) n.inbox
-      ∙ sym (append_assoc m.used n.used s2.inbox);
-  stood = λ b js w h.
-      let P : List ℕ → Type 0 = λ x. Stands s2 x (js ++ (m.verdicts ++ n.verdicts)) (w ++ (m.written ++ n.written)) in
-      let Q : List Verdict → Type 0 = λ x. Stands s2 ((b ++ m.used) ++ n.used) x (w ++ (m.written ++ n.written)) in
-      let R : List ℕ → Type 0 = λ x. Stands s2 ((b ++ m.used) ++ n.used) ((js ++ m.verdicts) ++ n.verdicts) x in
-      subst P (append_assoc b m.used n.used) (subst Q (append_assoc js m.verdicts n.verdicts) (subst R (append_assoc w m.written n.written)
-      (n.stood (b ++ m.used) (js ++ m.verdicts) (w ++ m.written) (m.stood b js w h))));
-  asked = λ b js w h.
-      ap (λ x. entered x (js ++ (m.verdicts ++ n.verdicts))) (sym (append_assoc b m.used n.used))
-      ∙ ap (λ x. entered ((b ++ m.used) ++ n.used) x) (sym (append_assoc js m.verdicts n.verdicts))
-      ∙ n.asked (b ++ m.used) (js ++ m.verdicts) (w ++ m.written) (m.stood b js w h)
-      ∙ ap (λ x. x ++ map asked n.entries) (m.asked b js w h)
-      ∙ append_assoc (entered b js) (map asked m.entries) (map asked n.entries)
-      ∙ ap (λ x. entered b js ++ x) (sym (map-append m.entries n.entries));
-  count = omega (arith, m.count, n.count, length-append m.entries n.entries);
-  newest = n.newest ∙ (ap (λ x. last_number x n.entries) m.newest ∙ sym (last_number-append s0.newest m.entries n.entries));
-  doer = λ es h. subst d2 (append_assoc es m.entries n.entries) (n.doer (es ++ m.entries) (m.doer es h));
-  still_full = λ r h. n.still_full r (m.still_full r h);
-  full = λ h. elim (AnyFull-append m.verdicts n.verdicts h) [ inl x ↦ ((m.full x).0, n.still_full (m.full x).0 (m.full x).1) | inr y ↦ n.full y ];
-  none_entered = λ i h. NoneEntered-append m.verdicts n.verdicts (m.none_entered i h) (n.none_entered i (h.0, m.still_full h.0 h.1));
-  full_stays = λ i. FullStays-append m.verdicts n.verdicts (m.full_stays i) (n.full_stays i) (λ h. n.none_entered i (m.full h));
-  clock =
-      subst (λ (x : ℕ). RoseBy x k0.clock_faults k2.clock_faults) (sym (clock_failures-append m.verdicts n.verdicts))
-      (rose_both (clock_failures m.verdicts) (clock_failures n.verdicts) k0.clock_faults k1.clock_faults k2.clock_faults m.clock n.clock);
-  moment = n.moment ∙ m.moment;
-  moments = AllAt-append k0.moment m.entries n.entries m.moments (subst (λ (x : Option ℕ). AllAt x n.entries) m.moment n.moments);
-  faults = omega (arith, m.faults, n.faults);
-  waits = omega (arith, m.waits, n.waits);
-}
+unfoldable pub moves_both : {D : Type 0} (stands : D → List Entry → Type 0) (full lack : D → Ask → Type 0) (s0 s1 s2 : Session) (k0 k1 k2 : Shown) (d0 d1 d2 : D)
+    → Moves stands full lack s0 k0 d0 s1 k1 d1 → Moves stands full lack s1 k1 d1 s2 k2 d2 → Moves stands full lack s0 k0 d0 s2 k2 d2
+moves_both stands full lack s0 s1 s2 k0 k1 k2 d0 d1 d2 m n =
+    let vs = verdicts-append m.mets n.mets in
+    record {
+      received = m.received ++ n.received;
+      used = m.used ++ n.used;
+      written = m.written ++ n.written;
+      mets = m.mets ++ n.mets;
+      entries = m.entries ++ n.entries;
+      took = m.took ∙ (ap (prepend_known m.received) n.took ∙ prepend_twice m.received n.received k2.left);
+      wrote = n.wrote ∙ (ap (λ o. append_known o n.written) m.wrote ∙ append_twice k0.written m.written n.written);
+      fits = fits_twice k0.space m.written n.written m.fits (subst (λ (x : Option ℕ). IfSome x (λ s. length n.written ≤ s)) m.space n.fits);
+      space = n.space ∙ (ap (option_map (λ s. s - length n.written)) m.space ∙ space_twice k0.space m.written n.written);
+      lent = n.lent ∙ m.lent;
+      inbox = sym (append_assoc s0.inbox m.received n.received)
+          ∙ ap (λ x. x ++ n.received) m.inbox
+          ∙ append_assoc m.used s1.inbox n.received
+          ∙ ap (λ x. m.used ++ x) n.inbox
+          ∙ sym (append_assoc m.used n.used s2.inbox);
+      stood = λ first b js w h.
+          let P : List ℕ → Type 0 = λ x. Stands first s2 x (js ++ verdicts_of (m.mets ++ n.mets)) (w ++ (m.written ++ n.written)) in
+          let Q : List Verdict → Type 0 = λ x. Stands first s2 ((b ++ m.used) ++ n.used) x (w ++ (m.written ++ n.written)) in
+          let R : List ℕ → Type 0 = λ x. Stands first s2 ((b ++ m.used) ++ n.used) ((js ++ verdicts_of m.mets) ++ verdicts_of n.mets) x in
+          subst P (append_assoc b m.used n.used)
+          (subst Q (append_assoc js (verdicts_of m.mets) (verdicts_of n.mets) ∙ ap (λ x. js ++ x) (sym vs))
+          (subst R (append_assoc w m.written n.written)
+          (n.stood first (b ++ m.used) (js ++ verdicts_of m.mets) (w ++ m.written) (m.stood first b js w h))));
+      asked = λ first b js w h.
+          ap (λ x. telegrams first x (js ++ verdicts_of (m.mets ++ n.mets))) (sym (append_assoc b m.used n.used))
+          ∙ ap (λ x. telegrams first ((b ++ m.used) ++ n.used) x) (ap (λ x. js ++ x) vs ∙ sym (append_assoc js (verdicts_of m.mets) (verdicts_of n.mets)))
+          ∙ n.asked first (b ++ m.used) (js ++ verdicts_of m.mets) (w ++ m.written) (m.stood first b js w h)
+          ∙ ap (λ x. x ++ n.mets) (m.asked first b js w h)
+          ∙ append_assoc (telegrams first b js) m.mets n.mets;
+      entered = map-append m.entries n.entries
+          ∙ (ap (λ x. x ++ map answered n.entries) m.entered ∙ (ap (λ x. entered_of m.mets ++ x) n.entered ∙ sym (entered-append m.mets n.mets)));
+      count = omega (arith, m.count, n.count, length-append m.entries n.entries);
+      newest = n.newest ∙ (ap (λ x. last_number x n.entries) m.newest ∙ sym (last_number-append s0.newest m.entries n.entries));
+      doer = λ es h. subst (stands d2) (append_assoc es m.entries n.entries) (n.doer (es ++ m.entries) (m.doer es h));
+      trail = trail-append full lack d0 d1 d2 m.mets n.mets m.trail n.trail;
+      clock =
+          subst (λ (x : ℕ). RoseBy x k0.clock_faults k2.clock_faults) (sym (ap clock_failures vs ∙ clock_failures-append (verdicts_of m.mets) (verdicts_of n.mets)))
+          (rose_both (clock_failures (verdicts_of m.mets)) (clock_failures (verdicts_of n.mets)) k0.clock_faults k1.clock_faults k2.clock_faults m.clock n.clock);
+      unasked = λ h. n.unasked (NoneTimed-back m.mets n.mets h) ∙ m.unasked (NoneTimed-front m.mets n.mets h);
+      moment = n.moment ∙ m.moment;
+      moments = AllAt-append k0.moment m.entries n.entries m.moments (subst (λ (x : Option ℕ). AllAt x n.entries) m.moment n.moments);
+      faults = omega (arith, m.faults, n.faults);
+      waits = omega (arith, m.waits, n.waits);
+    }
 
 pub keeps_same : (s : Session) → Keeps s s
-keeps_same s = record { cutter = refl; used = refl; at = refl; count = refl; newest = refl; joiner = refl; size = refl; granted = refl }
+keeps_same s = record { reader = refl; used = refl; count = refl; newest = refl; held = refl; size = refl }
 
-unfoldable pub moves_none : (u : Type 0) (s : Session) (k : Shown) (d : List Entry → Type 0) (f : Request → Type 0) → Moves u s k d f s k d f
-moves_none u s k d f =
-    moves_plain u s s k k d f [] [] (keeps_same s) refl (append-nil s.inbox) (λ h. h) (moved_nothing k)
+unfoldable pub moves_none : {D : Type 0} (stands : D → List Entry → Type 0) (full lack : D → Ask → Type 0) (s : Session) (k : Shown) (d : D) → Moves stands full lack s k d s k d
+moves_none stands full lack s k d =
+    moves_plain stands full lack s s k k d [] [] (keeps_same s) refl (append-nil s.inbox) (λ h. h) (moved_nothing k)
 
 -- a cause in a later part is one in the whole
-pub cause_earlier : (k0 k1 k2 : Shown) (s : Session) (b : List ℕ) (js : List Verdict) (o : Outcome) → k0.faults ≤ k1.faults → HasCause k1 k2 s b js o → HasCause k0 k2 s b js o
-cause_earlier k0 k1 k2 s b js outcome.Ended le h = h
-cause_earlier k0 k1 k2 s b js (outcome.Torn n) le h = h
-cause_earlier k0 k1 k2 s b js (outcome.BadFrame at) le h = h
-cause_earlier k0 k1 k2 s b js (outcome.FrameTooLong at) le h = h
-cause_earlier k0 k1 k2 s b js (outcome.BadTpdu at) le h = h
-cause_earlier k0 k1 k2 s b js (outcome.Unexpected at) le h = h
-cause_earlier k0 k1 k2 s b js (outcome.TooManyFragments at) le h = h
-cause_earlier k0 k1 k2 s b js (outcome.TooLong at) le h = h
-cause_earlier k0 k1 k2 s b js (outcome.NotS7 at) le h = h
-cause_earlier k0 k1 k2 s b js outcome.ReadFault le h = (omega (arith, h.0), h.1, h.2)
-cause_earlier k0 k1 k2 s b js outcome.WriteFault le h = (omega (arith, h.0), h.1, h.2)
-cause_earlier k0 k1 k2 s b js outcome.Spent le h = h
-cause_earlier k0 k1 k2 s b js outcome.Memory le h = h
+pub cause_earlier : (k0 k1 k2 : Shown) (first : LinkState) (s : Session) (b : List ℕ) (js : List Verdict) (o : Outcome) → k0.faults ≤ k1.faults → HasCause k1 k2 first s b js o → HasCause k0 k2 first s b js o
+cause_earlier k0 k1 k2 first s b js outcome.Ended le h = h
+cause_earlier k0 k1 k2 first s b js (outcome.Torn n) le h = h
+cause_earlier k0 k1 k2 first s b js (outcome.BadFrame at) le h = h
+cause_earlier k0 k1 k2 first s b js (outcome.FrameTooLong at) le h = h
+cause_earlier k0 k1 k2 first s b js (outcome.BadTpdu at) le h = h
+cause_earlier k0 k1 k2 first s b js (outcome.Unexpected at) le h = h
+cause_earlier k0 k1 k2 first s b js (outcome.TooManyFragments at) le h = h
+cause_earlier k0 k1 k2 first s b js (outcome.TooLong at) le h = h
+cause_earlier k0 k1 k2 first s b js (outcome.NotS7 at) le h = h
+cause_earlier k0 k1 k2 first s b js outcome.ReadFault le h = (omega (arith, h.0), h.1, h.2)
+cause_earlier k0 k1 k2 first s b js outcome.WriteFault le h = (omega (arith, h.0), h.1, h.2)
+cause_earlier k0 k1 k2 first s b js outcome.Spent le h = h
+cause_earlier k0 k1 k2 first s b js outcome.Memory le h = h

@@ -1,38 +1,48 @@
--- What a link has of a book: its own entries among those of all links.
+-- What a link has of a history: its own calls among those of all links.
 use Rattle.std.specs.Prelude.{◌≡◌, ℕ, ◌+◌, ◌==◌, List, [], ◌∷◌, ◌++◌, if◌then◌else◌}
 use Rattle.std.specs.List.{AllByRecursion}
-use Rattle.s7_area.specs.Memory.{Memory}
+use Rattle.s7_turn.specs.declared.view.Entry.{Entry as Call}
 use Rattle.s7_plant.specs.declared.book.Book.{Book}
-use Rattle.s7_plant.specs.declared.journal.Entry.{Entry as JournalEntry}
-use Rattle.s7_plant.specs.declared.request.Request.{Request}
+use Rattle.s7_plant.specs.declared.request.Ask.{Ask}
 use Rattle.s7_plant.specs.Answers.{answer_of, after}
+use Rattle.s7_plant.specs.Journals.{calls_of}
+use Rattle.s7_plant.specs.State.{State}
 use Rattle.s7_session.specs.Entry.{Entry}
 
--- an entry of this number, with the answer that this memory gives
-abbrev pub entry_at : ℕ → Memory → Request → Entry
-entry_at number m r = record { number = number; request = r; reply = answer_of m r }
+-- what links asked one after another, in the order in which it was carried out; a caller is the number of a link
+abbrev pub History : Type 0
+History = List (Call Ask)
 
--- the entries of a link in a journal, each with its number in the journal, and each answered by the memory that all
--- entries before it left
-abbrev pub own_from : ℕ → Memory → ℕ → List JournalEntry → List Entry
-own_from number m link [] = []
-own_from number m link (e ∷ entries) =
-    if e.link == link then entry_at number m e.request ∷ own_from (number + 1) (after m e.request) link entries
-    else own_from (number + 1) (after m e.request) link entries
+-- that of a book
+abbrev pub history_of : Book → History
+history_of book = calls_of book.journal.entries
 
--- a journal that begins at a memory has them
-abbrev pub own : Memory → ℕ → List JournalEntry → List Entry
-own m link entries = own_from 0 m link entries
+-- an entry of this number, with the answer that this state gives
+abbrev pub entry_at : ℕ → State → Ask → Entry
+entry_at number s ask = record { number = number; ask = ask; reply = answer_of s ask }
 
--- the entries are all of this link
-abbrev pub AreOf : ℕ → List JournalEntry → Type 0
-AreOf link entries = AllByRecursion (λ (e : JournalEntry). e.link ≡ link) entries
+-- the calls of a link in a history, each with its number there, and each answered by the state that all calls before it
+-- left
+abbrev pub own_from : ℕ → State → ℕ → History → List Entry
+own_from number s link [] = []
+own_from number s link (call ∷ history) =
+    if call.caller == link
+    then entry_at number s call.request ∷ own_from (number + 1) (after s call.request) link history
+    else own_from (number + 1) (after s call.request) link history
 
--- A book goes on by entries of one link: it begins where it began, has the room that it had, and nothing that was
--- entered is lost.
+-- a history that begins at a state has them
+abbrev pub own : State → ℕ → History → List Entry
+own s link history = own_from 0 s link history
+
+-- the calls are all of this link
+abbrev pub AreOf : ℕ → History → Type 0
+AreOf link history = AllByRecursion (λ (call : Call Ask). call.caller ≡ link) history
+
+-- A book goes on by calls of one link: it begins where it began, has the room that it had, and nothing that was entered
+-- is lost.
 pub record GoesOnBy (link : ℕ) (old new : Book) : Type 0 where
   pub opening : new.opening ≡ old.opening
   pub limit : new.journal.limit ≡ old.journal.limit
-  pub entries : List JournalEntry
-  pub journal : new.journal.entries ≡ old.journal.entries ++ entries
-  pub own : AreOf link entries
+  pub calls : History
+  pub history : history_of new ≡ history_of old ++ calls
+  pub own : AreOf link calls

@@ -16,3 +16,15 @@ FULL = 0x8F01
 -- the clock failed
 abbrev pub CLOCK_FAILED : ℕ
 CLOCK_FAILED = 0x8F02
+
+-- no password can be set or cleared, since nothing guards the areas
+abbrev pub NO_GUARD : ℕ
+NO_GUARD = 0xD605
+
+-- a right is cleared that the link hasn't
+abbrev pub NO_RIGHT : ℕ
+NO_RIGHT = 0xD604
+
+-- a password is set that isn't the guard's
+abbrev pub WRONG_PASSWORD : ℕ
+WRONG_PASSWORD = 0xD602

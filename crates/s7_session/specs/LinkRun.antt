@@ -1,84 +1,89 @@
 -- What a whole run of a link is, from outside.
-use Rattle.std.specs.Prelude.{◌≡◌, ℕ, ◌-◌, ◌≤◌, List, [], ◌++◌, length, map, Option, None, option_map, IfSome, IsTrue}
+use Rattle.std.specs.Prelude.{◌≡◌, ◌≢◌, ℕ, ◌-◌, ◌<◌, ◌≤◌, List, [], ◌++◌, length, map}
+use Rattle.std.specs.Prelude.{Option, None, option_map, IfSome, IsTrue}
 use Rattle.std.specs.Io.KnownBytes.{prepend_known, append_known, IsAtEnd}
 use Rattle.s7_outer.specs.Shown.{Shown}
 use Rattle.s7_outer.specs.Count.{Rose, RoseBy}
-use Rattle.s7_tpkt.specs.Packets.{packets_of, rest_of, state_of}
-use Rattle.s7_tpkt.specs.declared.state.FedState.TheVariants as fed
-use Rattle.s7_plant.specs.declared.request.Request.{Request}
+use Rattle.s7_plant.specs.declared.request.Ask.{Ask}
 use Rattle.s7_session.specs.declared.session.Session.{Session}
 use Rattle.s7_session.specs.declared.outcome.Outcome.{Outcome}
 use Rattle.s7_session.specs.declared.outcome.Outcome.TheVariants as outcome
-use Rattle.s7_session.specs.Entry.{Entry, asked}
+use Rattle.s7_session.specs.Bounds.{spent}
+use Rattle.s7_session.specs.Doers.{Trail}
+use Rattle.s7_session.specs.Entry.{Entry, answered}
+use Rattle.s7_session.specs.Events.{lives, stops}
+use Rattle.s7_session.specs.LinkState.{LinkState}
+use Rattle.s7_session.specs.Owed.{past, owed, telegrams, end_of}
+use Rattle.s7_session.specs.Stands.{Stands, AllButOne, closed_with, unread, entry_count, newest}
+use Rattle.s7_session.specs.Telegrams.{Met, verdicts_of, entered_of, NoneTimed, AllAt, clock_failures, last_number}
 use Rattle.s7_session.specs.Verdict.{Verdict}
-use Rattle.s7_session.specs.Handling.{lives, stops}
-use Rattle.s7_session.specs.Owed.{past, owed, entered, end_of}
-use Rattle.s7_session.specs.Answers.{AnyFull, FullStays, AllAt, clock_failures, last_number}
-use Rattle.s7_session.specs.Bounds.{limits, spent}
-use Rattle.s7_session.specs.Stands.{Stands, closed_with, unread, entry_count, newest}
 
--- a session that has taken nothing
-pub record IsFresh (s : Session) : Type 0 where
-  pub stands : Stands s [] [] []
+-- a session that has taken nothing, of a link that begins in this state
+pub record IsFresh (first : LinkState) (s : Session) : Type 0 where
+  pub stands : Stands first s [] [] []
   pub going : closed_with s ≡ None
   pub unread : unread s ≡ []
   pub count : entry_count s ≡ 0
   pub newest : newest s ≡ None
 
-abbrev pub IsPrefixOf : List ℕ → List ℕ → Type 0
-IsPrefixOf front all = (rest : List ℕ) × (all ≡ front ++ rest)
+-- The link failed at a transmit: a front of what is owed was written that is not all of it, with the whole answers of
+-- all but at most one of the telegrams that were entered.
+pub record IsBrokenOff (first : LinkState) (b : List ℕ) (js : List Verdict) (written : List ℕ) : Type 0 where
+  pub left : List ℕ
+  pub front : owed first b js ≡ written ++ left
+  pub some : 0 < length left
+  pub whole : AllButOne first b js written
 
 -- all that is owed was written
-abbrev pub IsAllWritten : List ℕ → List ℕ → Type 0
-IsAllWritten written owed = written ≡ owed
+abbrev pub IsAllWritten : LinkState → List ℕ → List Verdict → List ℕ → Type 0
+IsAllWritten first b js written = written ≡ owed first b js
 
--- all that is owed was written, or a prefix of it where the link failed at a transmit
-abbrev pub IsWritten : Outcome → List ℕ → List ℕ → Type 0
-IsWritten outcome.Ended written owed = IsAllWritten written owed
-IsWritten (outcome.Torn n) written owed = IsAllWritten written owed
-IsWritten (outcome.BadFrame at) written owed = IsAllWritten written owed
-IsWritten (outcome.FrameTooLong at) written owed = IsAllWritten written owed
-IsWritten (outcome.BadTpdu at) written owed = IsAllWritten written owed
-IsWritten (outcome.Unexpected at) written owed = IsAllWritten written owed
-IsWritten (outcome.TooManyFragments at) written owed = IsAllWritten written owed
-IsWritten (outcome.TooLong at) written owed = IsAllWritten written owed
-IsWritten (outcome.NotS7 at) written owed = IsAllWritten written owed
-IsWritten outcome.ReadFault written owed = IsAllWritten written owed
-IsWritten outcome.WriteFault written owed = IsPrefixOf written owed
-IsWritten outcome.Spent written owed = IsAllWritten written owed
-IsWritten outcome.Memory written owed = IsAllWritten written owed
+-- what was written, by the outcome
+abbrev pub IsWritten : LinkState → Outcome → List ℕ → List Verdict → List ℕ → Type 0
+IsWritten first outcome.Ended b js written = IsAllWritten first b js written
+IsWritten first (outcome.Torn n) b js written = IsAllWritten first b js written
+IsWritten first (outcome.BadFrame at) b js written = IsAllWritten first b js written
+IsWritten first (outcome.FrameTooLong at) b js written = IsAllWritten first b js written
+IsWritten first (outcome.BadTpdu at) b js written = IsAllWritten first b js written
+IsWritten first (outcome.Unexpected at) b js written = IsAllWritten first b js written
+IsWritten first (outcome.TooManyFragments at) b js written = IsAllWritten first b js written
+IsWritten first (outcome.TooLong at) b js written = IsAllWritten first b js written
+IsWritten first (outcome.NotS7 at) b js written = IsAllWritten first b js written
+IsWritten first outcome.ReadFault b js written = IsAllWritten first b js written
+IsWritten first outcome.WriteFault b js written = IsBrokenOff first b js written
+IsWritten first outcome.Spent b js written = IsAllWritten first b js written
+IsWritten first outcome.Memory b js written = IsAllWritten first b js written
 
 -- the client ended the link, where no disconnect request came
-abbrev pub IsLeft : Shown → List ℕ → List Verdict → Type 0
-IsLeft link' b js = (past b js).standing ≡ lives → IsAtEnd link'.left × IsTrue link'.has_ended
-
--- nothing in the octets ends the link, and no packet of them is faulty
-pub record IsOpen (b : List ℕ) (js : List Verdict) : Type 0 where
-  pub lives : (past b js).standing ≡ lives
-  pub more : state_of (limits (packets_of limits b)) (rest_of limits b) ≡ fed.More
+abbrev pub IsLeft : Shown → LinkState → List ℕ → List Verdict → Type 0
+IsLeft link' first b js = (past first b js).standing ≡ lives → IsAtEnd link'.left × IsTrue link'.has_ended
 
 -- why the link ended, by the octets taken from it and the verdicts
-abbrev pub IsEnd : Shown → Shown → List ℕ → List Verdict → Outcome → Type 0
-IsEnd link link' b js outcome.Ended = (end_of b js ≡ outcome.Ended) × IsLeft link' b js
-IsEnd link link' b js (outcome.Torn n) = (end_of b js ≡ outcome.Torn n) × IsLeft link' b js
-IsEnd link link' b js (outcome.BadFrame at) = end_of b js ≡ outcome.BadFrame at
-IsEnd link link' b js (outcome.FrameTooLong at) = end_of b js ≡ outcome.FrameTooLong at
-IsEnd link link' b js (outcome.BadTpdu at) = end_of b js ≡ outcome.BadTpdu at
-IsEnd link link' b js (outcome.Unexpected at) = end_of b js ≡ outcome.Unexpected at
-IsEnd link link' b js (outcome.TooManyFragments at) = end_of b js ≡ outcome.TooManyFragments at
-IsEnd link link' b js (outcome.TooLong at) = end_of b js ≡ outcome.TooLong at
-IsEnd link link' b js (outcome.NotS7 at) = end_of b js ≡ outcome.NotS7 at
-IsEnd link link' b js outcome.ReadFault = Rose link.faults link'.faults × IsOpen b js
-IsEnd link link' b js outcome.WriteFault = Rose link.faults link'.faults
-IsEnd link link' b js outcome.Spent = (length b ≡ spent) × IsOpen b js
-IsEnd link link' b js outcome.Memory = (past b js).standing ≡ stops
+abbrev pub IsEnd : Shown → Shown → LinkState → List ℕ → List Verdict → Outcome → Type 0
+IsEnd link link' first b js outcome.Ended = (end_of first b js ≡ outcome.Ended) × IsLeft link' first b js
+IsEnd link link' first b js (outcome.Torn n) = (end_of first b js ≡ outcome.Torn n) × IsLeft link' first b js
+IsEnd link link' first b js (outcome.BadFrame at) = end_of first b js ≡ outcome.BadFrame at
+IsEnd link link' first b js (outcome.FrameTooLong at) = end_of first b js ≡ outcome.FrameTooLong at
+IsEnd link link' first b js (outcome.BadTpdu at) = end_of first b js ≡ outcome.BadTpdu at
+IsEnd link link' first b js (outcome.Unexpected at) = end_of first b js ≡ outcome.Unexpected at
+IsEnd link link' first b js (outcome.TooManyFragments at) = end_of first b js ≡ outcome.TooManyFragments at
+IsEnd link link' first b js (outcome.TooLong at) = end_of first b js ≡ outcome.TooLong at
+IsEnd link link' first b js (outcome.NotS7 at) = end_of first b js ≡ outcome.NotS7 at
+IsEnd link link' first b js outcome.ReadFault = Rose link.faults link'.faults × ((past first b js).standing ≡ lives)
+IsEnd link link' first b js outcome.WriteFault = Rose link.faults link'.faults × ((past first b js).standing ≢ stops)
+IsEnd link link' first b js outcome.Spent = (length b ≡ spent) × ((past first b js).standing ≡ lives)
+IsEnd link link' first b js outcome.Memory = (past first b js).standing ≡ stops
 
-pub record IsLinkRun (uniform : Type 0) (link link' : Shown) (stands stands' : List Entry → Type 0) (is_full is_full' : Request → Type 0) (result : Outcome) (accepted : ℕ) (last : Option ℕ) : Type 0 where
+-- A WHOLE RUN of a link that begins in this state
+pub record IsLinkRun {D : Type 0} (stands : D → List Entry → Type 0) (is_full may_lack : D → Ask → Type 0)
+    (first : LinkState) (link : Shown) (d : D) (link' : Shown) (d' : D)
+    (result : Outcome) (accepted : ℕ) (last : Option ℕ)
+    : Type 0 where
   -- the octets taken from the link, and those written
   pub taken : List ℕ
   pub written : List ℕ
-  -- the verdicts of the telegrams, and the doer's new entries
-  pub verdicts : List Verdict
+  -- the telegrams that asked, with their verdicts, and the doer's new entries
+  pub mets : List Met
   pub entries : List Entry
   pub took : link.left ≡ prepend_known taken link'.left
   pub wrote : link'.written ≡ append_known link.written written
@@ -87,15 +92,16 @@ pub record IsLinkRun (uniform : Type 0) (link link' : Shown) (stands stands' : L
   pub space : link'.space ≡ option_map (λ s. s - length written) link.space
   pub lent : link'.lent ≡ link.lent
   pub moment : link'.moment ≡ link.moment
-  pub owed : IsWritten result written (owed taken verdicts)
+  pub owed : IsWritten first result taken (verdicts_of mets) written
+  -- the octets ask this, and each met its verdict
+  pub asked : telegrams first taken (verdicts_of mets) ≡ mets
   -- the doer entered what was asked and entered, in order and nothing else, with these replies
-  pub asked : map asked entries ≡ entered taken verdicts
-  pub doer : (es : List Entry) → stands es → stands' (es ++ entries)
+  pub entered : map answered entries ≡ entered_of mets
+  pub doer : (es : List Entry) → stands d es → stands d' (es ++ entries)
+  pub trail : Trail is_full may_lack d mets d'
   pub count : accepted ≡ length entries
   pub last_is : last ≡ last_number None entries
-  pub still_full : (r : Request) → is_full r → is_full' r
-  pub full : AnyFull verdicts → (r : Request) × is_full' r
-  pub full_stays : uniform → FullStays verdicts
-  pub clock : RoseBy (clock_failures verdicts) link.clock_faults link'.clock_faults
+  pub clock : RoseBy (clock_failures (verdicts_of mets)) link.clock_faults link'.clock_faults
+  pub unasked : NoneTimed mets → link'.clock_faults ≡ link.clock_faults
   pub moments : AllAt link.moment entries
-  pub end : IsEnd link link' taken verdicts result
+  pub end : IsEnd link link' first taken (verdicts_of mets) result

@@ -1,6 +1,6 @@
--- What a link's earlier messages and their verdicts leave. Of the telegrams that are served, the negotiation alone
--- leaves something.
-use Rattle.std.specs.Prelude.{ℕ, Bool, List, Option, None}
+-- What a link's earlier messages and their verdicts leave.
+use Rattle.std.specs.Prelude.{ℕ, Bool, false, List, Option, None}
+use Rattle.s7_area.specs.declared.guard.Guard.{Guard}
 
 -- an answer to user data whose further slices may be asked for
 pub record Sliced : Type 0 where
@@ -30,6 +30,10 @@ pub record ServerJob : Type 0 where
 pub record LinkState : Type 0 where
   -- the PDU that was granted last, and none before
   pub granted : Option ℕ
+  -- whether the link has the right that the guard's password gives
+  pub right : Bool
+  -- the guard of the areas at the opening, which no message changes
+  pub guard : Option Guard
   -- the last sequence octet of an answer to user data, 0 before the first
   pub user_sequence : ℕ
   pub sliced : Option Sliced
@@ -41,10 +45,12 @@ pub record LinkState : Type 0 where
   pub download : Option Download
   pub server_job : Option ServerJob
 
--- a link on which nothing came
-abbrev pub new_link : LinkState
-new_link = record {
+-- a link on which nothing came, to areas with this guard
+abbrev pub first_link : Option Guard → LinkState
+first_link guard = record {
   granted = None;
+  right = false;
+  guard = guard;
   user_sequence = 0;
   sliced = None;
   upload_id = 0;

@@ -1,91 +1,115 @@
--- What a link is owed for the octets taken from it, and how it ends.
-use Rattle.std.specs.Prelude.{ℕ, ◌+◌, ◌==◌, ◌&&◌, if◌then◌else◌, List, [], ◌∷◌, ◌++◌, length, None}
-use Rattle.s7_tpkt.specs.Packets.{packets_of, rest_of, state_of}
-use Rattle.s7_tpkt.specs.declared.state.FedState.{FedState}
-use Rattle.s7_tpkt.specs.declared.state.FedState.TheVariants as fed
-use Rattle.s7_plant.specs.declared.request.Request.{Request}
+-- What a link is owed for the octets taken from it, and how it ends. It begins with a state that is given.
+use Rattle.std.specs.Prelude.{ℕ, List, [], ◌∷◌, ◌++◌, Option, None, Some}
+use Rattle.s7_plant.specs.declared.request.Ask.{Ask}
 use Rattle.s7_plant.specs.Replies.{Said}
+use Rattle.s7_wire.specs.Reading.{Event, Ending, disconnected, faulted, reading, torn_of}
+use Rattle.s7_wire.specs.declared.found.Opening.TheVariants.{Request}
+use Rattle.s7_wire.specs.declared.found.ReadFault.{ReadFault}
+use Rattle.s7_wire.specs.declared.found.ReadFault.TheVariants as fault
 use Rattle.s7_session.specs.declared.outcome.Outcome.{Outcome}
 use Rattle.s7_session.specs.declared.outcome.Outcome.TheVariants as outcome
+use Rattle.s7_session.specs.Events.{Standing, lives, stops, unjudged, closes, Made, made}
+use Rattle.s7_session.specs.LinkState.{LinkState}
+use Rattle.s7_session.specs.Telegrams.{Met, entered_of}
 use Rattle.s7_session.specs.Verdict.{Verdict}
-use Rattle.s7_session.specs.LinkState.{new_link}
-use Rattle.s7_session.specs.Bounds.{limits}
-use Rattle.s7_session.specs.Handling.{Between, Unfinished, nothing_unfinished, Standing, lives, stops, closes, Met, handling, met}
 
--- what became of the packets so far
+-- what became of the events so far
 pub record Past : Type 0 where
-  pub between : Between
+  -- the TPDU size, and none before the connect request
+  pub size : Option ℕ
+  pub link : LinkState
   -- all octets that are owed
   pub owed : List ℕ
-  -- what was entered, with the replies
-  pub entered : List (Request × Said)
+  -- the telegrams that asked the plant, with their verdicts
+  pub mets : List Met
   -- the verdicts of the telegrams to come
   pub verdicts : List Verdict
   pub standing : Standing
 
-abbrev pub start : List Verdict → Past
-start verdicts = record {
-  between = record { at = 0; unfinished = nothing_unfinished; size = None; link = new_link };
-  owed = [];
-  entered = [];
-  verdicts = verdicts;
-  standing = lives;
-}
+abbrev pub start : LinkState → List Verdict → Past
+start first verdicts =
+    record { size = None; link = first; owed = []; mets = []; verdicts = verdicts; standing = lives }
 
-abbrev pub with_step : Past → Met → Past
-with_step past step = record {
-  between = step.between;
-  owed = past.owed ++ step.out;
-  entered = past.entered ++ step.entered;
-  verdicts = step.verdicts;
-  standing = step.standing;
+abbrev pub with_made : Past → Made → Past
+with_made p m = record {
+  size = m.size;
+  link = m.link;
+  owed = p.owed ++ m.out;
+  mets = p.mets ++ m.mets;
+  verdicts = m.verdicts;
+  standing = m.standing;
 }
 
 -- only a link that lives goes on
 abbrev pub if_lives : Standing → Past → Past → Past
-if_lives lives next past = next
-if_lives stops next past = past
-if_lives (closes end) next past = past
+if_lives lives next p = next
+if_lives stops next p = p
+if_lives unjudged next p = p
+if_lives (closes end) next p = p
 
--- the next packet is handled
-abbrev pub next : Past → List ℕ → Past
-next past body = if_lives past.standing (with_step past (met (handling past.between body) past.verdicts)) past
+-- the next event
+abbrev pub next : Past → Event → Past
+next p event = if_lives p.standing (with_made p (made p.size p.link event p.verdicts)) p
 
-abbrev pub run : Past → List (List ℕ) → Past
-run past [] = past
-run past (body ∷ bodies) = run (next past body) bodies
+abbrev pub run : Past → List Event → Past
+run p [] = p
+run p (event ∷ events) = run (next p event) events
 
--- what became of the packets in these octets
-unfoldable pub past : List ℕ → List Verdict → Past
-past b verdicts = run (start verdicts) (packets_of limits b)
+-- ---- how a link ends
 
--- THE OCTETS OWED for the octets taken from a link, and the verdicts of its telegrams in order
-abbrev pub owed : List ℕ → List Verdict → List ℕ
-owed b verdicts = (past b verdicts).owed
+-- a packet that can't be read, at its place
+abbrev pub outcome_of : ReadFault → ℕ → Outcome
+outcome_of fault.BadFrame at = outcome.BadFrame at
+outcome_of fault.FrameTooLong at = outcome.FrameTooLong at
+outcome_of fault.BadTpdu at = outcome.BadTpdu at
+outcome_of fault.Unexpected at = outcome.Unexpected at
+outcome_of fault.TooManyFragments at = outcome.TooManyFragments at
+outcome_of fault.TooLong at = outcome.TooLong at
 
--- the requests that were entered, in order, with the replies
-abbrev pub entered : List ℕ → List Verdict → List (Request × Said)
-entered b verdicts = (past b verdicts).entered
+-- the client's end between messages, or in a packet or a message of which so many octets came
+abbrev pub torn_or_ended : Option ℕ → Outcome
+torn_or_ended None = outcome.Ended
+torn_or_ended (Some octets) = outcome.Torn octets
 
--- the end between packets or in one, with so many octets of it
-abbrev pub torn_or_ended : ℕ → Unfinished → Outcome
-torn_or_ended held unfinished =
-    if held == 0 && unfinished.count == 0 then outcome.Ended else outcome.Torn (held + length unfinished.octets)
+abbrev pub ended_by : Option ℕ → Ending → Outcome
+ended_by torn disconnected = torn_or_ended torn
+ended_by torn (faulted fault at) = outcome_of fault at
 
-abbrev pub end_by_state : FedState → Between → ℕ → Outcome
-end_by_state fed.BadVersion between held = outcome.BadFrame between.at
-end_by_state fed.BadLength between held = outcome.BadFrame between.at
-end_by_state fed.TooLong between held = outcome.FrameTooLong between.at
-end_by_state fed.More between held = torn_or_ended held between.unfinished
-end_by_state fed.Whole between held = torn_or_ended held between.unfinished
+-- what the octets end, where the messages ended nothing
+abbrev pub standing_with : Option ℕ → Standing → Option Ending → Standing
+standing_with torn lives None = lives
+standing_with torn lives (Some ending) = closes (ended_by torn ending)
+standing_with torn stops ending = stops
+standing_with torn unjudged ending = unjudged
+standing_with torn (closes end) ending = closes end
 
-abbrev pub end_by : Standing → FedState → Between → ℕ → Outcome
-end_by lives state between held = end_by_state state between held
-end_by stops state between held = outcome.Memory
-end_by (closes end) state between held = end
+abbrev pub with_ending : Option ℕ → Option Ending → Past → Past
+with_ending torn ending p = record p { standing = standing_with torn p.standing ending }
+
+-- WHAT BECAME OF THESE OCTETS, with the verdicts of their telegrams in order
+unfoldable pub past : LinkState → List ℕ → List Verdict → Past
+past first b verdicts =
+    with_ending (torn_of Request b) (reading Request b).ending (run (start first verdicts) (reading Request b).events)
+
+-- THE OCTETS OWED for the octets taken from a link
+abbrev pub owed : LinkState → List ℕ → List Verdict → List ℕ
+owed first b verdicts = (past first b verdicts).owed
+
+-- what asked the plant, in order, with the verdicts
+abbrev pub telegrams : LinkState → List ℕ → List Verdict → List Met
+telegrams first b verdicts = (past first b verdicts).mets
+
+-- what was entered, in order, with the replies
+abbrev pub entered : LinkState → List ℕ → List Verdict → List (Ask × Said)
+entered first b verdicts = entered_of (telegrams first b verdicts)
+
+-- A telegram has no verdict only where a transmit failed, or a link isn't at its end.
+abbrev pub end_by : Standing → Option ℕ → Outcome
+end_by lives torn = torn_or_ended torn
+end_by stops torn = outcome.Memory
+end_by unjudged torn = outcome.WriteFault
+end_by (closes end) torn = end
 
 -- THE OUTCOME that the octets give where no more come
-abbrev pub end_of : List ℕ → List Verdict → Outcome
-end_of b verdicts =
-    let rest = rest_of limits b in
-    end_by (past b verdicts).standing (state_of (limits (packets_of limits b)) rest) (past b verdicts).between (length rest)
+abbrev pub end_of : LinkState → List ℕ → List Verdict → Outcome
+end_of first b verdicts = end_by (past first b verdicts).standing (torn_of Request b)

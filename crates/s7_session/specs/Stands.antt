@@ -1,23 +1,29 @@
 -- What a session stands for, and what its turns do.
-use Rattle.std.specs.Prelude.{◌≡◌, ℕ, ◌+◌, ◌-◌, ◌<◌, ◌≤◌, List, [], ◌++◌, length, map, Option, None, Some, option_map, IfSome, IsTrue}
+use Rattle.std.specs.Prelude.{◌≡◌, ◌≢◌, ℕ, ◌+◌, ◌-◌, ◌<◌, ◌≤◌, List, [], ◌++◌, length, map}
+use Rattle.std.specs.Prelude.{Option, None, Some, option_map, IfSome, IsTrue}
 use Rattle.std.specs.Io.KnownBytes.{prepend_known, append_known, IsAtEnd}
 use Rattle.s7_outer.specs.Shown.{Shown}
 use Rattle.s7_outer.specs.Count.{Rose, RoseBy}
-use Rattle.s7_tpkt.specs.Packets.{HoldsRest, state_of}
-use Rattle.s7_tpkt.specs.declared.state.FedState.TheVariants as fed
-use Rattle.s7_plant.specs.declared.request.Request.{Request}
+use Rattle.s7_plant.specs.declared.request.Ask.{Ask}
+use Rattle.s7_wire.specs.Reading.{message}
+use Rattle.s7_wire.specs.Reads.{HasRead, message_at, place_at}
+use Rattle.s7_session.specs.declared.handled.Handled.{Handled}
+use Rattle.s7_session.specs.declared.handled.Handled.TheVariants as handled
 use Rattle.s7_session.specs.declared.session.Session.{Session}
 use Rattle.s7_session.specs.declared.outcome.Outcome.{Outcome}
 use Rattle.s7_session.specs.declared.outcome.Outcome.TheVariants as outcome
 use Rattle.s7_session.specs.declared.outcome.Turn.{Turn}
 use Rattle.s7_session.specs.declared.outcome.Turn.TheVariants as turn
-use Rattle.s7_session.specs.Entry.{Entry, asked}
+use Rattle.s7_session.specs.Answers.{Answers, entries_by, last_after}
+use Rattle.s7_session.specs.Bounds.{spent}
+use Rattle.s7_session.specs.Conversing.{link_of, size_of, sends}
+use Rattle.s7_session.specs.Doers.{Trail}
+use Rattle.s7_session.specs.Entry.{Entry, answered}
+use Rattle.s7_session.specs.Events.{lives, stops, made}
+use Rattle.s7_session.specs.LinkState.{LinkState}
+use Rattle.s7_session.specs.Owed.{past, owed, telegrams, entered, end_of}
+use Rattle.s7_session.specs.Telegrams.{Met, verdicts_of, entered_of, NoneTimed, AllAt, clock_failures, last_number}
 use Rattle.s7_session.specs.Verdict.{Verdict}
-use Rattle.s7_session.specs.Conversing.{between_of, sends}
-use Rattle.s7_session.specs.Handling.{lives, stops}
-use Rattle.s7_session.specs.Owed.{past, owed, entered, end_of}
-use Rattle.s7_session.specs.Answers.{AnyFull, NoneEntered, FullStays, AllAt, clock_failures, last_number}
-use Rattle.s7_session.specs.Bounds.{limits, spent}
 
 -- the number of its link
 abbrev pub number_of : Session → ℕ
@@ -45,31 +51,57 @@ entry_count s = s.count
 abbrev pub newest : Session → Option ℕ
 newest s = s.newest
 
+-- what the link's earlier messages left
+abbrev pub link_at : Session → LinkState
+link_at s = link_of s.conversation.held
+
+-- what a turn answers that handled a message at this place
+abbrev pub turn_by : ℕ → Handled → Turn
+turn_by at handled.Answered = turn.Went
+turn_by at (handled.Entered number) = turn.Went
+turn_by at handled.NoMemory = turn.Closed outcome.Memory
+turn_by at handled.NotS7 = turn.Closed (outcome.NotS7 at)
+
 -- nothing is left to send, and no octet that was read is unused
 abbrev pub IsIdle : Session → Type 0
 IsIdle s = (unsent s ≡ []) × (unread s ≡ [])
 
--- The session stands for the octets that were used, the verdicts of their telegrams and the octets that were
--- written: it holds their open packet and message, what their telegrams left, and what of the octets owed is still
--- to be sent.
-pub record Stands (s : Session) (b : List ℕ) (verdicts : List Verdict) (written : List ℕ) : Type 0 where
-  pub rest : (past b verdicts).standing ≡ lives → HoldsRest limits b s.cutter
+-- All but at most one of the telegrams that were entered have their whole answers among the octets written: those of a
+-- front of the octets and of the verdicts.
+pub record AllButOne (first : LinkState) (b : List ℕ) (js : List Verdict) (written : List ℕ) : Type 0 where
+  pub front : List ℕ
+  pub behind : List ℕ
+  pub octets : b ≡ front ++ behind
+  pub met : List Verdict
+  pub later : List Verdict
+  pub verdicts : js ≡ met ++ later
+  pub part : List ℕ
+  pub whole : written ≡ owed first front met ++ part
+  pub all_but_one : length (entered first b js) ≤ length (entered first front met) + 1
+
+-- The session stands for the octets that were used on a link that began in this state, the verdicts of their telegrams
+-- and the octets that were written: it holds their open packet and message, what their telegrams left, and what of the
+-- octets owed is still to be sent.
+pub record Stands (first : LinkState) (s : Session) (b : List ℕ) (js : List Verdict) (written : List ℕ) : Type 0 where
+  pub read : HasRead s.reader b
   pub used : length b ≡ used_of s
-  pub met : (past b verdicts).verdicts ≡ []
-  pub owed : owed b verdicts ≡ written ++ unsent s
-  pub lives : closed_with s ≡ None → (past b verdicts).standing ≡ lives
-  pub between : closed_with s ≡ None → (past b verdicts).between ≡ between_of s.at s.conversation
-  -- a session on which a faulty packet shows has closed
-  pub more : closed_with s ≡ None → state_of s.cutter.limit s.cutter.held ≡ fed.More
+  pub met : (past first b js).verdicts ≡ []
+  pub owed : owed first b js ≡ written ++ unsent s
+  pub whole : AllButOne first b js written
+  pub lives : closed_with s ≡ None → (past first b js).standing ≡ lives
+  pub link : closed_with s ≡ None → (past first b js).link ≡ link_at s
+  pub size : closed_with s ≡ None → (past first b js).size ≡ size_of s.conversation.size
 
 -- What calls did to a session, its link and its doer, however many they were.
-pub record Moves (uniform : Type 0) (old : Session) (link : Shown) (stands : List Entry → Type 0) (is_full : Request → Type 0) (new : Session) (link' : Shown) (stands' : List Entry → Type 0) (is_full' : Request → Type 0) : Type 0 where
+pub record Moves {D : Type 0} (stands : D → List Entry → Type 0) (is_full may_lack : D → Ask → Type 0)
+    (old : Session) (link : Shown) (d : D) (new : Session) (link' : Shown) (d' : D)
+    : Type 0 where
   -- the octets that came, those that were used and those that were written
   pub received : List ℕ
   pub used : List ℕ
   pub written : List ℕ
-  -- the verdicts of the telegrams, and the doer's new entries
-  pub verdicts : List Verdict
+  -- the telegrams that asked, with their verdicts, and the doer's new entries
+  pub mets : List Met
   pub entries : List Entry
   pub took : link.left ≡ prepend_known received link'.left
   pub wrote : link'.written ≡ append_known link.written written
@@ -79,54 +111,55 @@ pub record Moves (uniform : Type 0) (old : Session) (link : Shown) (stands : Lis
   pub lent : link'.lent ≡ link.lent
   pub inbox : unread old ++ received ≡ used ++ unread new
   -- whatever the session stands for
-  pub stood : (b : List ℕ) (js : List Verdict) (w : List ℕ) → Stands old b js w → Stands new (b ++ used) (js ++ verdicts) (w ++ written)
+  pub stood : (first : LinkState) (b : List ℕ) (js : List Verdict) (w : List ℕ) → Stands first old b js w
+      → Stands first new (b ++ used) (js ++ verdicts_of mets) (w ++ written)
+  pub asked : (first : LinkState) (b : List ℕ) (js : List Verdict) (w : List ℕ) → Stands first old b js w
+      → telegrams first (b ++ used) (js ++ verdicts_of mets) ≡ telegrams first b js ++ mets
   -- the doer's new entries are what was asked and entered, with the replies
-  pub asked : (b : List ℕ) (js : List Verdict) (w : List ℕ) → Stands old b js w → entered (b ++ used) (js ++ verdicts) ≡ entered b js ++ map asked entries
+  pub entered : map answered entries ≡ entered_of mets
   pub count : entry_count new ≡ entry_count old + length entries
   pub newest : newest new ≡ last_number (newest old) entries
-  pub doer : (es : List Entry) → stands es → stands' (es ++ entries)
-  pub still_full : (r : Request) → is_full r → is_full' r
-  pub full : AnyFull verdicts → (r : Request) × is_full' r
-  pub none_entered : uniform → (r : Request) × is_full r → NoneEntered verdicts
-  pub full_stays : uniform → FullStays verdicts
-  -- the clock failed as often as it was told, and told one moment
-  pub clock : RoseBy (clock_failures verdicts) link.clock_faults link'.clock_faults
+  pub doer : (es : List Entry) → stands d es → stands d' (es ++ entries)
+  pub trail : Trail is_full may_lack d mets d'
+  -- the clock failed as often as it was told, told one moment, and was asked only where a telegram asks for one
+  pub clock : RoseBy (clock_failures (verdicts_of mets)) link.clock_faults link'.clock_faults
+  pub unasked : NoneTimed mets → link'.clock_faults ≡ link.clock_faults
   pub moment : link'.moment ≡ link.moment
   pub moments : AllAt link.moment entries
   pub faults : link.faults ≤ link'.faults
   pub waits : link.waits ≤ link'.waits
 
 -- the octets end because the client ended the link, and where no disconnect request came nothing is left on it
-pub record HasEnded (link' : Shown) (s : Session) (b : List ℕ) (js : List Verdict) (o : Outcome) : Type 0 where
-  pub end : end_of b js ≡ o
+pub record HasEnded (link' : Shown) (first : LinkState) (s : Session) (b : List ℕ) (js : List Verdict) (o : Outcome)
+    : Type 0 where
+  pub end : end_of first b js ≡ o
   pub sent : unsent s ≡ []
-  pub at_end : (past b js).standing ≡ lives → IsAtEnd link'.left × IsTrue link'.has_ended × (unread s ≡ [])
+  pub at_end : (past first b js).standing ≡ lives → IsAtEnd link'.left × IsTrue link'.has_ended × (unread s ≡ [])
 
 -- the octets end at a fault
-pub record HasFaulted (s : Session) (b : List ℕ) (js : List Verdict) (o : Outcome) : Type 0 where
-  pub end : end_of b js ≡ o
+pub record HasFaulted (first : LinkState) (s : Session) (b : List ℕ) (js : List Verdict) (o : Outcome) : Type 0 where
+  pub end : end_of first b js ≡ o
+  pub over : (past first b js).standing ≡ lives → ⊥
   pub sent : unsent s ≡ []
 
--- nothing in the octets ends the link
-pub record IsUnended (s : Session) (b : List ℕ) (js : List Verdict) : Type 0 where
-  pub lives : (past b js).standing ≡ lives
-  pub more : state_of s.cutter.limit s.cutter.held ≡ fed.More
-
 -- why a session closed
-abbrev pub HasCause : Shown → Shown → Session → List ℕ → List Verdict → Outcome → Type 0
-HasCause link link' s b js outcome.Ended = HasEnded link' s b js outcome.Ended
-HasCause link link' s b js (outcome.Torn n) = HasEnded link' s b js (outcome.Torn n)
-HasCause link link' s b js (outcome.BadFrame at) = HasFaulted s b js (outcome.BadFrame at)
-HasCause link link' s b js (outcome.FrameTooLong at) = HasFaulted s b js (outcome.FrameTooLong at)
-HasCause link link' s b js (outcome.BadTpdu at) = HasFaulted s b js (outcome.BadTpdu at)
-HasCause link link' s b js (outcome.Unexpected at) = HasFaulted s b js (outcome.Unexpected at)
-HasCause link link' s b js (outcome.TooManyFragments at) = HasFaulted s b js (outcome.TooManyFragments at)
-HasCause link link' s b js (outcome.TooLong at) = HasFaulted s b js (outcome.TooLong at)
-HasCause link link' s b js (outcome.NotS7 at) = HasFaulted s b js (outcome.NotS7 at)
-HasCause link link' s b js outcome.ReadFault = Rose link.faults link'.faults × IsIdle s × IsUnended s b js
-HasCause link link' s b js outcome.WriteFault = Rose link.faults link'.faults × (0 < length (unsent s)) × IsUnended s b js
-HasCause link link' s b js outcome.Spent = (length b ≡ spent) × IsIdle s × IsUnended s b js
-HasCause link link' s b js outcome.Memory = ((past b js).standing ≡ stops) × (unsent s ≡ [])
+abbrev pub HasCause : Shown → Shown → LinkState → Session → List ℕ → List Verdict → Outcome → Type 0
+HasCause link link' first s b js outcome.Ended = HasEnded link' first s b js outcome.Ended
+HasCause link link' first s b js (outcome.Torn n) = HasEnded link' first s b js (outcome.Torn n)
+HasCause link link' first s b js (outcome.BadFrame at) = HasFaulted first s b js (outcome.BadFrame at)
+HasCause link link' first s b js (outcome.FrameTooLong at) = HasFaulted first s b js (outcome.FrameTooLong at)
+HasCause link link' first s b js (outcome.BadTpdu at) = HasFaulted first s b js (outcome.BadTpdu at)
+HasCause link link' first s b js (outcome.Unexpected at) = HasFaulted first s b js (outcome.Unexpected at)
+HasCause link link' first s b js (outcome.TooManyFragments at) = HasFaulted first s b js (outcome.TooManyFragments at)
+HasCause link link' first s b js (outcome.TooLong at) = HasFaulted first s b js (outcome.TooLong at)
+HasCause link link' first s b js (outcome.NotS7 at) = HasFaulted first s b js (outcome.NotS7 at)
+HasCause link link' first s b js outcome.ReadFault =
+    Rose link.faults link'.faults × IsIdle s × ((past first b js).standing ≡ lives)
+HasCause link link' first s b js outcome.WriteFault =
+    Rose link.faults link'.faults × (0 < length (unsent s)) × ((past first b js).standing ≡ lives)
+HasCause link link' first s b js outcome.Spent =
+    (length b ≡ spent) × IsIdle s × ((past first b js).standing ≡ lives)
+HasCause link link' first s b js outcome.Memory = ((past first b js).standing ≡ stops) × (unsent s ≡ [])
 
 abbrev pub closed_by : Turn → Option Outcome
 closed_by turn.Went = None
@@ -140,45 +173,82 @@ pub record HasMetNotYet (old : Session) (link : Shown) : Type 0 where
   pub full : (space : ℕ) → link.space ≡ Some space → (unsent old ≡ [] → ⊥) → space ≡ 0
   pub empty : (space : ℕ) → link.space ≡ Some space → unsent old ≡ [] → link.left ≡ Some []
 
-pub record IsTurn (uniform : Type 0) (old : Session) (link : Shown) (stands : List Entry → Type 0) (is_full : Request → Type 0) (new : Session) (link' : Shown) (stands' : List Entry → Type 0) (is_full' : Request → Type 0) (result : Turn) : Type 0 where
-  pub moves : Moves uniform old link stands is_full new link' stands' is_full'
+pub record IsTurn {D : Type 0} (stands : D → List Entry → Type 0) (is_full may_lack : D → Ask → Type 0)
+    (old : Session) (link : Shown) (d : D) (new : Session) (link' : Shown) (d' : D) (result : Turn)
+    : Type 0 where
+  pub moves : Moves stands is_full may_lack old link d new link' d'
   -- at most one telegram met its verdict
-  pub one : length moves.verdicts ≤ 1
+  pub one : length moves.mets ≤ 1
   pub went : result ≡ turn.Went → 0 < length moves.received + length moves.used + length moves.written
-  pub not_yet : result ≡ turn.NotYet → (moves.received ≡ []) × (moves.used ≡ []) × (moves.written ≡ []) × Rose link.waits link'.waits × HasMetNotYet old link × (unsent new ≡ unsent old)
-  -- it receives only where nothing is left to send or to use
+  pub not_yet : result ≡ turn.NotYet
+      → (moves.received ≡ []) × (moves.used ≡ []) × (moves.written ≡ []) × Rose link.waits link'.waits
+      × HasMetNotYet old link × (unsent new ≡ unsent old)
+  -- it receives only where nothing is left to send or to use, and uses octets only where nothing is left to send
   pub receives : 0 < length moves.received → IsIdle old
+  pub uses : 0 < length moves.used → unsent old ≡ []
+  -- so it fails to receive only there, and to transmit only where something is left to send
+  pub read_fails : result ≡ turn.Closed outcome.ReadFault → closed_with old ≡ None → IsIdle old × (moves.used ≡ [])
+  pub write_fails : result ≡ turn.Closed outcome.WriteFault → closed_with old ≡ None
+      → (0 < length (unsent old)) × (moves.used ≡ [])
   pub closed : closed_with new ≡ closed_by result
-  pub cause : (o : Outcome) → result ≡ turn.Closed o → closed_with old ≡ None → (b : List ℕ) (js : List Verdict) (w : List ℕ) → Stands old b js w
-      → HasCause link link' new (b ++ moves.used) (js ++ moves.verdicts) o
+  pub cause : (o : Outcome) → result ≡ turn.Closed o → closed_with old ≡ None
+      → (first : LinkState) (b : List ℕ) (js : List Verdict) (w : List ℕ) → Stands first old b js w
+      → HasCause link link' first new (b ++ moves.used) (js ++ verdicts_of moves.mets) o
 
 -- what turns do, up to the one that closed
-pub record IsServed (uniform : Type 0) (old : Session) (link : Shown) (stands : List Entry → Type 0) (is_full : Request → Type 0) (new : Session) (link' : Shown) (stands' : List Entry → Type 0) (is_full' : Request → Type 0) (result : Outcome) : Type 0 where
-  pub moves : Moves uniform old link stands is_full new link' stands' is_full'
+pub record IsServed {D : Type 0} (stands : D → List Entry → Type 0) (is_full may_lack : D → Ask → Type 0)
+    (old : Session) (link : Shown) (d : D) (new : Session) (link' : Shown) (d' : D) (result : Outcome)
+    : Type 0 where
+  pub moves : Moves stands is_full may_lack old link d new link' d'
   pub closed : closed_with new ≡ Some result
-  pub cause : closed_with old ≡ None → (b : List ℕ) (js : List Verdict) (w : List ℕ) → Stands old b js w
-      → HasCause link link' new (b ++ moves.used) (js ++ moves.verdicts) result
+  pub cause : closed_with old ≡ None
+      → (first : LinkState) (b : List ℕ) (js : List Verdict) (w : List ℕ) → Stands first old b js w
+      → HasCause link link' first new (b ++ moves.used) (js ++ verdicts_of moves.mets) result
+
+-- What a session makes of the message that its reader holds: it answers it, and ends where that ends the link. Nothing
+-- else of it changes.
+pub record Handles {D : Type 0} (stands : D → List Entry → Type 0) (is_full may_lack : D → Ask → Type 0)
+    (old : Session) (d : D) (new : Session) (d' : D) (result : Turn)
+    : Type 0 where
+  pub handled : Handled
+  pub answers : Answers stands is_full may_lack d d'
+      (made (size_of old.conversation.size) (link_at old) (message (message_at old.reader) (place_at old.reader)))
+      (place_at old.reader)
+      (size_of new.conversation.size) (link_at new) (unsent new) handled
+  pub result_is : result ≡ turn_by (place_at old.reader) handled
+  pub closed : closed_with new ≡ closed_by result
+  pub reader : new.reader ≡ old.reader
+  pub inbox : new.inbox ≡ old.inbox
+  pub used : new.used ≡ old.used
+  pub count : entry_count new ≡ entry_count old + entries_by handled
+  pub newest : newest new ≡ last_after (newest old) handled
 
 -- what one turn does with octets that were read
-pub record Consumes (uniform : Type 0) (old : Session) (link : Shown) (stands : List Entry → Type 0) (is_full : Request → Type 0) (new : Session) (link' : Shown) (stands' : List Entry → Type 0) (is_full' : Request → Type 0) (result : Turn) : Type 0 where
+pub record Consumes {D : Type 0} (stands : D → List Entry → Type 0) (is_full may_lack : D → Ask → Type 0)
+    (old : Session) (link : Shown) (d : D) (new : Session) (link' : Shown) (d' : D) (result : Turn)
+    : Type 0 where
   pub used : List ℕ
-  pub some : 0 < length used
-  pub verdicts : List Verdict
-  pub one : length verdicts ≤ 1
+  pub some : result ≡ turn.Went → 0 < length used
+  pub mets : List Met
+  pub one : length mets ≤ 1
   pub entries : List Entry
   pub inbox : unread old ≡ used ++ unread new
-  pub stood : (b : List ℕ) (js : List Verdict) (w : List ℕ) → Stands old b js w → Stands new (b ++ used) (js ++ verdicts) w
-  pub asked : (b : List ℕ) (js : List Verdict) (w : List ℕ) → Stands old b js w → entered (b ++ used) (js ++ verdicts) ≡ entered b js ++ map asked entries
+  pub stood : (first : LinkState) (b : List ℕ) (js : List Verdict) (w : List ℕ) → Stands first old b js w
+      → Stands first new (b ++ used) (js ++ verdicts_of mets) w
+  pub asked : (first : LinkState) (b : List ℕ) (js : List Verdict) (w : List ℕ) → Stands first old b js w
+      → telegrams first (b ++ used) (js ++ verdicts_of mets) ≡ telegrams first b js ++ mets
+  pub entered : map answered entries ≡ entered_of mets
   pub count : entry_count new ≡ entry_count old + length entries
   pub newest : newest new ≡ last_number (newest old) entries
-  pub doer : (es : List Entry) → stands es → stands' (es ++ entries)
-  pub still_full : (r : Request) → is_full r → is_full' r
-  pub full : AnyFull verdicts → (r : Request) × is_full' r
-  pub none_entered : uniform → (r : Request) × is_full r → NoneEntered verdicts
+  pub doer : (es : List Entry) → stands d es → stands d' (es ++ entries)
+  pub trail : Trail is_full may_lack d mets d'
   pub closed : closed_with new ≡ closed_by result
   pub waits : result ≡ turn.NotYet → ⊥
+  pub by_octets : (o : Outcome) → result ≡ turn.Closed o → (o ≢ outcome.ReadFault) × (o ≢ outcome.WriteFault)
   pub line : link' ≡ record link { clock_faults = link'.clock_faults }
-  pub clock : RoseBy (clock_failures verdicts) link.clock_faults link'.clock_faults
+  pub clock : RoseBy (clock_failures (verdicts_of mets)) link.clock_faults link'.clock_faults
+  pub unasked : NoneTimed mets → link'.clock_faults ≡ link.clock_faults
   pub moments : AllAt link.moment entries
-  pub cause : (o : Outcome) → result ≡ turn.Closed o → (k k' : Shown) (b : List ℕ) (js : List Verdict) (w : List ℕ) → Stands old b js w
-      → HasCause k k' new (b ++ used) (js ++ verdicts) o
+  pub cause : (o : Outcome) → result ≡ turn.Closed o → (k k' : Shown)
+      → (first : LinkState) (b : List ℕ) (js : List Verdict) (w : List ℕ) → Stands first old b js w
+      → HasCause k k' first new (b ++ used) (js ++ verdicts_of mets) o

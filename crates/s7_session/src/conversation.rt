@@ -1,26 +1,260 @@
 // What a link holds of its messages, and what it has to send.
-ghost use Rattle.std.specs.Prelude.{◌≡◌, ◌≤◌};
-ghost use Rattle.std.specs.Option.{ForSome};
-ghost use Rattle.s7_header.specs.Negotiation.{most_pdu as greatest_pdu};
+ghost use Rattle.std.specs.Prelude.{◌≡◌, ◌≤◌, length};
+ghost use Rattle.s7_session.specs.Events.{is_s7};
+ghost use Rattle.s7_session.specs.Judgement.{sequence_of};
 
+use crate::doer::{Doer, NotDone};
+use crate::handled::Handled;
+use crate::held::Held;
+use crate::judge::{Judgement, Refusal, judge};
+use crate::password::NO_DATA;
 use crate::sender::Sender;
-use s7_cotp::Joiner;
-use s7_plant::Reply;
+use crate::size::TpduSize;
+use s7_area::Guard;
+use s7_cotp::Connection;
+use s7_header::UserParams;
+use s7_outer::{Memory, Octets};
+use s7_plant::{Ask, BODY_ROOM, Reply, Request};
+use std::alloc::Global;
 
-/// The messages of one link.
+/// The server's reference in a confirm.
+const REFERENCE: u16 = 1;
+
+/// The error word of a refusal where the history is full.
+const FULL: u16 = 0x8F01;
+
+/// The group of answers about passwords.
+const SECURITY_ANSWER: u8 = 0x85;
+
+/// The messages of one link: what its earlier ones left, and what is still to be sent.
 #[derive(Drop)]
 pub(crate) struct Conversation {
-    pub(crate) joiner: Joiner,
-    /// The TPDU size of the connect request, from 128 to 8,192, and none before it.
-    pub(crate) tpdu_size: Option<u16>,
-    /// The PDU that was granted last, at most 1,920, and none before.
-    pub(crate) granted: Option<u16>,
-    pub(crate) reply: Reply,
+    /// The TPDU size of the connect request, and none before it.
+    pub(crate) size: Option<TpduSize>,
+    pub(crate) held: Held,
+    reply: Reply,
     pub(crate) sender: Sender,
-    ghost joins: { joiner.limit ≡ 8192 },
-    ghost least_size: { ForSome tpdu_size (λ size. 128 ≤ size) },
-    ghost most_size: { ForSome tpdu_size (λ size. size ≤ 8192) },
-    ghost most_pdu: { ForSome granted (λ pdu. pdu ≤ greatest_pdu) },
     ghost params_room: { reply.params.room ≡ 16 },
     ghost body_room: { reply.body.room ≡ 65572 },
+}
+
+impl Conversation {
+    ghost use Rattle.std.specs.Prelude.{◌≡◌, ℕ, [], IfOk, None, Some};
+    ghost use Rattle.s7_cotp.specs.Told.{connection_of, CanBeWritten};
+    ghost use Rattle.s7_header.specs.Negotiation.{most_pdu};
+    ghost use Rattle.s7_plant.specs.Replies.{Said};
+    ghost use Rattle.s7_plant.specs.Requests.{CanBeDone, Fits, HasAtMost};
+    ghost use Rattle.s7_wire.specs.Bounds.{most_waiting};
+    ghost use Rattle.s7_wire.specs.Sent.{sent_message};
+    ghost use Rattle.s7_wire.specs.Reading.{opened, message};
+    ghost use Rattle.s7_session.specs.Answers.{Answers};
+    ghost use Rattle.s7_session.specs.Conversing.{link_of, size_of, sends};
+    ghost use Rattle.s7_session.specs.Events.{made, settled, by_judgement, asks};
+    ghost use Rattle.s7_session.specs.Judged.{judgement_of, IsWithin};
+    ghost use Rattle.s7_session.specs.Judgement.{plainly, user_octets, user_answer, next_octet, secured};
+    ghost use Rattle.s7_session.specs.LinkState.{first_link};
+    ghost use Rattle.s7_session.specs.Passwords.{no_data};
+
+    /// A link on which nothing came, to areas with this guard. All its buffers are taken here.
+    pub(crate) fn new(alloc: Global, guard: Option<Guard>) -> Result<Conversation, Memory>
+        ensures size { IfOk result (λ c. size_of c.size ≡ None) }
+        ensures link { IfOk result (λ c. link_of c.held ≡ first_link guard) }
+        ensures sends { IfOk result (λ c. sends c ≡ []) }
+    {
+        Ok(Conversation {
+            size: None,
+            held: Held::new(guard),
+            reply: Reply::new(alloc, BODY_ROOM)?,
+            sender: Sender::new(alloc)?,
+        })
+    }
+
+    /// Confirms a connect request.
+    pub(crate) fn open(&mut self, request: &Connection)
+        requires sent { sends self.old ≡ [] }
+        requires writable { CanBeWritten request.now }
+        ensures { made (size_of self.old.size) (link_of self.old.held) (opened (connection_of request.now)) []
+            ≡ settled (size_of self.new.size) (link_of self.new.held) (sends self.new) [] }
+    {
+        self.sender.outbox.clear();
+        let confirm = Connection {
+            dst_ref: request.src_ref,
+            src_ref: REFERENCE,
+            class: 0,
+            size_code: request.size_code,
+            calling: request.calling,
+            called: request.called,
+        };
+        self.sender.put_confirm(&confirm);
+        self.size = Some(TpduSize::of(request.size_code));
+    }
+
+    /// Handles a whole message.
+    pub(crate) fn message<D: Doer>(&mut self, alloc: Global, octets: &[u8], doer: &mut D) -> Handled
+        requires sent { sends self.old ≡ [] }
+        ensures answers { (at : ℕ) → Answers D.stands D.is_full D.may_lack doer.old doer.new
+            (made (size_of self.old.size) (link_of self.old.held) (message octets.now at)) at
+            (size_of self.new.size) (link_of self.new.held) (sends self.new) result }
+        ensures kept { D.keeps doer.old doer.new }
+    {
+        self.sender.outbox.clear();
+        let Some(size) = self.size else {
+            return Handled::Answered;
+        };
+        if !is_s7(octets) {
+            return Handled::NotS7;
+        }
+        let judgement = judge(&self.held, octets);
+        self.answer(alloc, size, sequence_of(octets), judgement, doer)
+    }
+
+    // Answers a message of this sequence by its judgement. There is no copy but that of a write's octets.
+    fn answer<D: Doer>(
+        &mut self,
+        alloc: Global,
+        size: TpduSize,
+        sequence: u16,
+        judgement: Judgement<'_>,
+        doer: &mut D,
+    ) -> Handled
+        requires within { IsWithin self.old.held.granted judgement }
+        requires size { self.old.size ≡ Some size }
+        requires sent { sends self.old ≡ [] }
+        requires room { self.old.sender.outbox.room ≡ most_waiting }
+        ensures answers { (at : ℕ) → Answers D.stands D.is_full D.may_lack doer.old doer.new
+            (λ verdicts. by_judgement size.octets (link_of self.old.held) sequence verdicts
+            (judgement_of (link_of self.old.held) sequence judgement.entry)) at
+            (size_of self.new.size) (link_of self.new.held) (sends self.new) result }
+        ensures kept { D.keeps doer.old doer.new }
+    {
+        match judgement {
+            Judgement::Refuse(refusal) => {
+                self.sender.put_refusal(size, sequence, refusal.error());
+                Handled::Answered
+            }
+            Judgement::Grant(granted) => {
+                self.sender.put_grant(size, sequence, &granted);
+                self.held.granted = Some(granted.pdu);
+                Handled::Answered
+            }
+            Judgement::Security {
+                subfunction,
+                error,
+                right,
+            } => {
+                self.secure(size, sequence, subfunction, error, right);
+                Handled::Answered
+            }
+            Judgement::Read(items) => {
+                self.ask(alloc, size, sequence, Request::Read { items }, doer)
+            }
+            Judgement::Write {
+                items,
+                places,
+                body,
+            } => {
+                let Ok(octets) = Octets::copy_of(alloc, body) else {
+                    return Handled::NoMemory;
+                };
+                let request = Request::Write {
+                    items,
+                    places,
+                    octets,
+                };
+                self.ask(alloc, size, sequence, request, doer)
+            }
+        }
+    }
+
+    // Answers a telegram about a password, after which the link has this right.
+    fn secure(&mut self, size: TpduSize, sequence: u16, subfunction: u8, error: u16, right: bool)
+        requires sent { sends self.old ≡ [] }
+        requires room { self.old.sender.outbox.room ≡ most_waiting }
+        ensures sends { sends self.new ≡ sent_message size.octets (user_octets sequence
+            (user_answer 0x85 subfunction (next_octet (link_of self.old.held).user_sequence) error) no_data) }
+        ensures link { link_of self.new.held ≡ secured (link_of self.old.held) right }
+        ensures size { self.new.size ≡ self.old.size }
+    {
+        self.held.secure(right);
+        let params = UserParams {
+            answer: true,
+            group: SECURITY_ANSWER,
+            sub: subfunction,
+            sequence: self.held.user_sequence,
+            unit: 0,
+            more: 0,
+            error,
+        };
+        self.sender.put_user(size, sequence, &params, &NO_DATA);
+    }
+
+    // Has a request carried out with the link's right and puts its answer, or the refusal where the doer is
+    // full for it.
+    fn ask<D: Doer>(
+        &mut self,
+        alloc: Global,
+        size: TpduSize,
+        sequence: u16,
+        request: Request,
+        doer: &mut D,
+    ) -> Handled
+        requires request { CanBeDone request }
+        requires fits { (said : Said) → Fits request said → HasAtMost most_pdu said }
+        requires sent { sends self.old ≡ [] }
+        requires room { self.old.sender.outbox.room ≡ most_waiting }
+        ensures answers { (at : ℕ) → Answers D.stands D.is_full D.may_lack doer.old doer.new
+            (asks size.octets (link_of self.old.held) sequence
+            (plainly (link_of self.old.held) sequence request)) at
+            (Some size.octets) (link_of self.new.held) (sends self.new) result }
+        ensures size { self.new.size ≡ self.old.size }
+        ensures kept { D.keeps doer.old doer.new }
+    {
+        let ask = Ask {
+            right: self.held.right,
+            request,
+        };
+        match doer.act(alloc, ask, &mut self.reply) {
+            Ok(number) => {
+                self.sender.put_reply(size, sequence, &self.reply);
+                Handled::Entered(number)
+            }
+            Err(NotDone::Full(_)) => {
+                self.sender.put_refusal(size, sequence, FULL);
+                Handled::Answered
+            }
+            Err(NotDone::Memory(_)) => Handled::NoMemory,
+        }
+    }
+}
+
+impl Refusal {
+    ghost use Rattle.std.specs.Prelude.{◌≡◌};
+    ghost use Rattle.s7_session.specs.Errors.{error_of};
+
+    // Its error word.
+    fn error(self) -> u16
+        ensures { result ≡ error_of self }
+    {
+        match self {
+            Refusal::UnknownFunction => 0x8104,
+            Refusal::NotNegotiated => 0x8403,
+            Refusal::Unreadable => 0x8404,
+            Refusal::OverPdu => 0x8500,
+        }
+    }
+}
+
+// A message of this protocol.
+fn is_s7(message: &[u8]) -> bool
+    ensures { result ≡ is_s7 message.now }
+{
+    message.len() >= 10 && message[0] == 0x32
+}
+
+// The sequence of a message.
+fn sequence_of(message: &[u8]) -> u16
+    requires { 10 ≤ length message.now }
+    ensures { result ≡ sequence_of message.now }
+{
+    u16::from(message[4]) * 256 + u16::from(message[5])
 }

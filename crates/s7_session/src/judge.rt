@@ -3,18 +3,32 @@ ghost use Rattle.std.specs.Prelude.{◌≡◌, ◌≤◌, ◌<◌, ℕ, ◌+◌,
 ghost use Rattle.s7_header.specs.Negotiation.{negotiation_of, granted as granted_of, IsGrant};
 ghost use Rattle.s7_item.specs.Params.{items_of};
 ghost use Rattle.s7_item.specs.DataItem.{data_places_of};
+ghost use Rattle.s7_header.specs.UserParams.{user_params_of};
+ghost use Rattle.s7_session.specs.Conversing.{link_of};
 ghost use Rattle.s7_session.specs.LinkState.{LinkState};
-ghost use Rattle.s7_session.specs.Judgement.{judge, job, function, function_at, negotiation, read, write, write_of, user_at, group, pdu_limit, is_request, sequence_of, refuse};
+ghost use Rattle.s7_session.specs.Judgement.{judge, job, function, function_at, negotiation, read, write};
+ghost use Rattle.s7_session.specs.Judgement.{user_at, group, security, password_set, password_cleared};
+ghost use Rattle.s7_session.specs.Judgement.{pdu_limit, is_request, sequence_of};
 ghost use Rattle.s7_session.specs.Judged.{judgement_of, IsWithin};
 
+use crate::held::Held;
+use crate::password::{NO_DATA, clear_error, decode, password_in, set_error};
 use s7_header::{
-    Kind, MOST_PDU, Negotiation, grant, parts, read_header, read_negotiate, read_user,
+    Kind, MOST_PDU, Negotiation, UserParams, grant, parts, read_header, read_negotiate, read_user,
 };
 use s7_item::codes::{READ_FUNCTION, WRITE_FUNCTION};
 use s7_item::{DataItems, Items, answer_size, read_data_items, read_items};
 
 /// The function of a job that negotiates.
 const NEGOTIATE: u8 = 0xF0;
+
+/// The group of user data that sets and clears passwords.
+const SECURITY: u8 = 0x45;
+
+/// Its subfunctions.
+const SET_PASSWORD: u8 = 0x01;
+
+const CLEAR_PASSWORD: u8 = 0x02;
 
 /// Why a message is refused.
 #[derive(Clone, Copy, Debug, PartialEq, Eq)]
@@ -44,14 +58,21 @@ pub(crate) enum Judgement<'a> {
         places: DataItems,
         body: &'a [u8],
     },
+    /// An answer to a telegram about a password, after which the link has this right.
+    Security {
+        subfunction: u8,
+        error: u16,
+        right: bool,
+    },
 }
 
-/// Judges a message of ten octets or more that begins with 32, on a link with this PDU.
+/// Judges a message of ten octets or more that begins with 32, by what the link's earlier ones left.
 #[tactic(auto, unfolding(crate::specs::Judgement::judge))]
-pub(crate) fn judge(granted: Option<u16>, message: &[u8]) -> Judgement<'_>
+pub(crate) fn judge<'a>(held: &Held, message: &'a [u8]) -> Judgement<'a>
     requires { 10 ≤ length message.now }
-    ensures judged { (link : LinkState) → link.granted ≡ granted → judgement_of link (sequence_of message.now) result ≡ judge link message.now }
-    ensures within { IsWithin granted result }
+    ensures judged { judgement_of (link_of held.now) (sequence_of message.now) result
+        ≡ judge (link_of held.now) message.now }
+    ensures within { IsWithin held.now.granted result }
 {
     if !is_request(message) {
         return Judgement::Refuse(Refusal::UnknownFunction);
@@ -59,13 +80,13 @@ pub(crate) fn judge(granted: Option<u16>, message: &[u8]) -> Judgement<'_>
     let Ok(header) = read_header(message) else {
         return Judgement::Refuse(Refusal::OverPdu);
     };
-    if message.len() > pdu_limit(granted) {
+    if message.len() > pdu_limit(held.granted) {
         return Judgement::Refuse(Refusal::OverPdu);
     }
     let (params, body) = parts(message, &header);
     match header.kind {
-        Kind::Job => judge_job(granted, params, body),
-        Kind::User => Judgement::Refuse(judge_user(granted, params)),
+        Kind::Job => judge_job(held.granted, params, body),
+        Kind::User => judge_user(held, params, body),
         Kind::Ack | Kind::AckData => Judgement::Refuse(Refusal::UnknownFunction),
     }
 }
@@ -84,7 +105,8 @@ fn pdu_limit(granted: Option<u16>) -> usize
 }
 
 fn judge_job<'a>(granted: Option<u16>, params: &[u8], body: &'a [u8]) -> Judgement<'a>
-    ensures judged { (link : LinkState) (sequence : ℕ) → link.granted ≡ granted → judgement_of link sequence result ≡ job link sequence params.now body.now }
+    ensures judged { (link : LinkState) (sequence : ℕ) → link.granted ≡ granted
+        → judgement_of link sequence result ≡ job link sequence params.now body.now }
     ensures within { IsWithin granted result }
 {
     match params {
@@ -100,7 +122,8 @@ fn judge_job<'a>(granted: Option<u16>, params: &[u8], body: &'a [u8]) -> Judgeme
 }
 
 fn judge_negotiation<'a>(params: &[u8]) -> Judgement<'a>
-    ensures judged { (link : LinkState) (sequence : ℕ) → judgement_of link sequence result ≡ negotiation link sequence (negotiation_of params.now) }
+    ensures judged { (link : LinkState) (sequence : ℕ) → judgement_of link sequence result
+        ≡ negotiation link sequence (negotiation_of params.now) }
     ensures within { (granted : _) → IsWithin granted result }
 {
     let Ok(asked) = read_negotiate(params) else {
@@ -118,7 +141,8 @@ fn judge_function<'a>(
     params: &[u8],
     body: &'a [u8],
 ) -> Judgement<'a>
-    ensures judged { (link : LinkState) (sequence : ℕ) → judgement_of link sequence result ≡ function_at link granted code sequence params.now body.now }
+    ensures judged { (link : LinkState) (sequence : ℕ) → judgement_of link sequence result
+        ≡ function_at link granted code sequence params.now body.now }
     ensures within { IsWithin granted result }
 {
     let Some(pdu) = granted else {
@@ -132,7 +156,8 @@ fn judge_function<'a>(
 }
 
 fn judge_read<'a>(pdu: u16, params: &[u8], body: &[u8]) -> Judgement<'a>
-    ensures judged { (link : LinkState) (sequence : ℕ) → judgement_of link sequence result ≡ read link pdu sequence body.now (items_of params.now) }
+    ensures judged { (link : LinkState) (sequence : ℕ) → judgement_of link sequence result
+        ≡ read link pdu sequence body.now (items_of params.now) }
     ensures within { IsWithin (Some pdu) result }
 {
     let mut items = Items::new();
@@ -146,7 +171,8 @@ fn judge_read<'a>(pdu: u16, params: &[u8], body: &[u8]) -> Judgement<'a>
 }
 
 fn judge_write<'a>(pdu: u16, params: &[u8], body: &'a [u8]) -> Judgement<'a>
-    ensures judged { (link : LinkState) (sequence : ℕ) → judgement_of link sequence result ≡ write link pdu sequence body.now (items_of params.now) }
+    ensures judged { (link : LinkState) (sequence : ℕ) → judgement_of link sequence result
+        ≡ write link pdu sequence body.now (items_of params.now) }
     ensures within { IsWithin (Some pdu) result }
 {
     let mut items = Items::new();
@@ -167,17 +193,66 @@ fn judge_write<'a>(pdu: u16, params: &[u8], body: &'a [u8]) -> Judgement<'a>
     }
 }
 
-fn judge_user(granted: Option<u16>, params: &[u8]) -> Refusal
-    ensures { refuse result ≡ user_at granted params.now }
+fn judge_user<'a>(held: &Held, params: &[u8], body: &[u8]) -> Judgement<'a>
+    ensures judged { (sequence : ℕ) → judgement_of (link_of held.now) sequence result
+        ≡ user_at (link_of held.now) held.now.granted sequence params.now body.now }
+    ensures within { IsWithin held.now.granted result }
 {
-    if granted.is_none() {
-        return Refusal::NotNegotiated;
+    if held.granted.is_none() {
+        return Judgement::Refuse(Refusal::NotNegotiated);
     }
     if params.is_empty() {
-        return Refusal::UnknownFunction;
+        return Judgement::Refuse(Refusal::UnknownFunction);
     }
     match read_user(params) {
-        Ok(_) => Refusal::UnknownFunction,
-        Err(_) => Refusal::Unreadable,
+        Ok(asked) if asked.group == SECURITY => judge_security(held, &asked, body),
+        Ok(_) => Judgement::Refuse(Refusal::UnknownFunction),
+        Err(_) => Judgement::Refuse(Refusal::Unreadable),
+    }
+}
+
+// The long form of parameters asks for a further slice of an answer, which no answer of this group has.
+fn judge_security<'a>(held: &Held, asked: &UserParams, body: &[u8]) -> Judgement<'a>
+    ensures judged { (sequence : ℕ) → judgement_of (link_of held.now) sequence result
+        ≡ security (link_of held.now) sequence asked.now body.now }
+    ensures within { (granted : _) → IsWithin granted result }
+{
+    match asked.sub {
+        SET_PASSWORD | CLEAR_PASSWORD if asked.answer => Judgement::Refuse(Refusal::Unreadable),
+        SET_PASSWORD => judge_password(held, body),
+        CLEAR_PASSWORD => judge_clearing(held, body),
+        _ => Judgement::Refuse(Refusal::UnknownFunction),
+    }
+}
+
+fn judge_password<'a>(held: &Held, body: &[u8]) -> Judgement<'a>
+    ensures judged { (sequence : ℕ) → judgement_of (link_of held.now) sequence result
+        ≡ password_set (link_of held.now) sequence body.now }
+    ensures within { (granted : _) → IsWithin granted result }
+{
+    let Some(octets) = password_in(body) else {
+        return Judgement::Refuse(Refusal::Unreadable);
+    };
+    let error = set_error(held.guard, &decode(&octets));
+    Judgement::Security {
+        subfunction: SET_PASSWORD,
+        error,
+        right: held.right || error == 0,
+    }
+}
+
+fn judge_clearing<'a>(held: &Held, body: &[u8]) -> Judgement<'a>
+    ensures judged { (sequence : ℕ) → judgement_of (link_of held.now) sequence result
+        ≡ password_cleared (link_of held.now) sequence body.now }
+    ensures within { (granted : _) → IsWithin granted result }
+{
+    if body != NO_DATA.as_slice() {
+        return Judgement::Refuse(Refusal::Unreadable);
+    }
+    let error = clear_error(held.guard, held.right);
+    Judgement::Security {
+        subfunction: CLEAR_PASSWORD,
+        error,
+        right: held.right && error != 0,
     }
 }

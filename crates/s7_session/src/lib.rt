@@ -2,18 +2,20 @@
 //! verdicts of the doer that it asks.
 #![tactic(auto)]
 
-mod answer;
 mod book_doer;
 mod conversation;
 mod doer;
+mod handled;
+mod held;
 mod judge;
 mod outcome;
+mod password;
 mod sender;
 mod session;
-mod turns;
+mod size;
 
 pub use book_doer::BookDoer;
-pub use doer::Doer;
+pub use doer::{Doer, NotDone};
 pub use outcome::{Outcome, Turn};
 pub use session::Session;
 

@@ -1,4 +1,8 @@
 // How a link ends, and what one turn does.
+ghost use Rattle.std.specs.Prelude.{◌≡◌};
+ghost use Rattle.s7_session.specs.Owed.{outcome_of, torn_or_ended};
+
+use s7_wire::ReadFault;
 
 /// How a link ended. The places count the octets taken before the packet in question.
 #[derive(Clone, Copy, Debug, PartialEq, Eq)]
@@ -29,6 +33,32 @@ pub enum Outcome {
     Spent,
     /// Memory was wanting for the session, or for a telegram, which wasn't accepted.
     Memory,
+}
+
+impl Outcome {
+    /// The end of a link on which a packet at this place can't be read.
+    pub(crate) fn of_fault(fault: ReadFault, at: u64) -> Outcome
+        ensures { result ≡ outcome_of fault at }
+    {
+        match fault {
+            ReadFault::BadFrame => Outcome::BadFrame { at },
+            ReadFault::FrameTooLong => Outcome::FrameTooLong { at },
+            ReadFault::BadTpdu => Outcome::BadTpdu { at },
+            ReadFault::Unexpected => Outcome::Unexpected { at },
+            ReadFault::TooManyFragments => Outcome::TooManyFragments { at },
+            ReadFault::TooLong => Outcome::TooLong { at },
+        }
+    }
+
+    /// The client's end between messages, or with so many octets of an unfinished packet and message.
+    pub(crate) fn of_torn(torn: Option<usize>) -> Outcome
+        ensures { result ≡ torn_or_ended torn }
+    {
+        match torn {
+            None => Outcome::Ended,
+            Some(octets) => Outcome::Torn(octets),
+        }
+    }
 }
 
 /// What one turn did.

@@ -24,11 +24,13 @@ const GRANTED: &[u8] =
     b"\x03\x00\x00\x1B\x02\xF0\x80\x32\x03\x00\x00\x00\x04\x00\x08\x00\x00\x00\x00\xF0\x00\x00\x01\x00\x01\x07\x80";
 
 /// Reads of 1,902 and of 1,903 bytes.
-const READ_1902: &[u8] =
-    b"\x03\x00\x00\x1F\x02\xF0\x80\x32\x01\x00\x00\x00\x05\x00\x0E\x00\x00\x04\x01\x12\x0A\x10\x02\x07\x6E\x00\x01\x84\x00\x00\x00";
+const READ_1902: &[u8] = b"\
+    \x03\x00\x00\x1F\x02\xF0\x80\x32\x01\x00\x00\x00\x05\x00\x0E\x00\x00\
+    \x04\x01\x12\x0A\x10\x02\x07\x6E\x00\x01\x84\x00\x00\x00";
 
-const READ_1903: &[u8] =
-    b"\x03\x00\x00\x1F\x02\xF0\x80\x32\x01\x00\x00\x00\x05\x00\x0E\x00\x00\x04\x01\x12\x0A\x10\x02\x07\x6F\x00\x01\x84\x00\x00\x00";
+const READ_1903: &[u8] = b"\
+    \x03\x00\x00\x1F\x02\xF0\x80\x32\x01\x00\x00\x00\x05\x00\x0E\x00\x00\
+    \x04\x01\x12\x0A\x10\x02\x07\x6F\x00\x01\x84\x00\x00\x00";
 
 /// The answer to the first up to its octets, of which it states 15,216 bits: a message of 1,920.
 const ANSWER_HEAD: &[u8] =
@@ -83,7 +85,7 @@ fn is_answered<R: Wait + Clock>(
     let mut line = MemoryLink::new(alloc, input, 8_192, 4_096, 7)?;
     let octets = pattern(alloc, 1_903)?;
     let mut desk = Desk::over(block(alloc, octets.as_slice())?, 9);
-    let mut session = Session::new(alloc, 1)?;
+    let mut session = Session::new(alloc, 1, None)?;
     let outcome = session.serve(rt, alloc, &mut line, &mut desk);
     let output = joined(alloc, answered)?;
     Ok(outcome == Outcome::Ended && line.written() == output.as_slice())
@@ -122,5 +124,29 @@ fn the_greatest_pdu_is_used_whole(rt: HostRuntime) -> Result<(), Fail> {
     );
     let asked = [CONNECT, SETUP, READ_1903];
     assert!(rt; is_answered(&rt, alloc, &asked, &[CONFIRM, GRANTED, OVER_PDU])?);
+    Ok(())
+}
+
+/// A write of 1,892 bytes up to its octets, of which it states 15,136 bits: a message of 1,920.
+const WRITE_HEAD: &[u8] =
+    b"\x32\x01\x00\x00\x00\x06\x00\x0E\x07\x68\x05\x01\x12\x0A\x10\x02\x07\x64\x00\x01\x84\x00\x00\x00\x00\x04\x3B\x20";
+
+const WRITTEN: &[u8] =
+    b"\x03\x00\x00\x16\x02\xF0\x80\x32\x03\x00\x00\x00\x06\x00\x02\x00\x01\x00\x00\x05\x01\xFF";
+
+#[test]
+fn a_write_fills_the_greatest_pdu(rt: HostRuntime) -> Result<(), Fail> {
+    let alloc = rt.alloc();
+    let octets = pattern(alloc, 1_892)?;
+    let message = joined(alloc, &[WRITE_HEAD, octets.as_slice()])?;
+    let write = in_fragments(
+        alloc,
+        &message,
+        1_021,
+        b"\x03\x00\x04\x04\x02\xF0\x00",
+        b"\x03\x00\x03\x8A\x02\xF0\x80",
+    )?;
+    let asked = [CONNECT, SETUP, write.as_slice()];
+    assert!(rt; is_answered(&rt, alloc, &asked, &[CONFIRM, GRANTED, WRITTEN])?);
     Ok(())
 }

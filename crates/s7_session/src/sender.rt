@@ -1,17 +1,21 @@
 // Messages and confirms that go out.
-ghost use Rattle.std.specs.Prelude.{◌≡◌, ℕ, ◌+◌, ◌≤◌, List, [], ◌∷◌, ◌++◌, length, IfOk};
+ghost use Rattle.std.specs.Prelude.{◌≡◌, ◌+◌, ◌≤◌, [], ◌++◌, length, true, IfOk};
 ghost use Rattle.s7_cotp.specs.Told.{connection_of};
 ghost use Rattle.s7_cotp.specs.Spelling.{spelling_of_confirm};
 ghost use Rattle.s7_tpkt.specs.Packets.{packet_of};
+ghost use Rattle.s7_header.specs.Header.{IsHeader, spelling_of};
 ghost use Rattle.s7_header.specs.Negotiation.{negotiation_spelling, most_pdu};
+ghost use Rattle.s7_plant.specs.Requests.{HasAtMost};
 ghost use Rattle.s7_plant.specs.Replies.{said_of};
-ghost use Rattle.s7_session.specs.Judgement.{answer_octets, refusal_octets, reply_octets};
+ghost use Rattle.s7_session.specs.Judgement.{answer_octets, refusal_octets, reply_octets, user_octets};
 ghost use Rattle.s7_wire.specs.Bounds.{most_packets, most_waiting};
 ghost use Rattle.s7_wire.specs.Sent.{sent_message};
 
+use crate::size::TpduSize;
 use s7_cotp::{Connection, write_confirm};
 use s7_header::{
-    Header, Kind, MOST_PDU, Negotiation, write_header, write_negotiate, write_refusal,
+    Header, Kind, MOST_PDU, Negotiation, UserParams, write_header, write_negotiate, write_refusal,
+    write_user,
 };
 use s7_outer::{Buffer, Memory};
 use s7_plant::Reply;
@@ -43,13 +47,29 @@ impl Sender {
         })
     }
 
+    /// Puts a message of a header, parameters and data, of at most 1,920 octets.
+    fn put(&mut self, size: TpduSize, header: &Header, params: &[u8], body: &[u8])
+        requires header { IsHeader header.now }
+        requires fits { length (spelling_of header.now) + length params.now + length body.now ≤ most_pdu }
+        requires room { most_packets ≤ self.old.outbox.room }
+        ensures { self.new.outbox.unsent ≡ self.old.outbox.unsent
+            ++ sent_message size.octets (spelling_of header.now ++ params.now ++ body.now) }
+    {
+        let mut octets = [0u8; 12];
+        let len = write_header(header, &mut octets);
+        self.message.clear();
+        self.message.add(&octets[..len]);
+        self.message.add(params);
+        self.message.add(body);
+        put_message(&mut self.outbox, size.octets, self.message.as_slice());
+    }
+
     /// Puts the answer to a job, of at most 1,920 octets.
-    pub(crate) fn put_answer(&mut self, size: u16, sequence: u16, params: &[u8], body: &[u8])
-        requires least { 128 ≤ size }
-        requires most { size ≤ 8192 }
+    pub(crate) fn put_answer(&mut self, size: TpduSize, sequence: u16, params: &[u8], body: &[u8])
         requires fits { 12 + length params.now + length body.now ≤ most_pdu }
         requires room { most_packets ≤ self.old.outbox.room }
-        ensures { self.new.outbox.unsent ≡ self.old.outbox.unsent ++ sent_message size (answer_octets sequence params.now body.now) }
+        ensures { self.new.outbox.unsent ≡ self.old.outbox.unsent
+            ++ sent_message size.octets (answer_octets sequence params.now body.now) }
     {
         let header = Header {
             kind: Kind::AckData,
@@ -58,34 +78,52 @@ impl Sender {
             body_len: body.len() as u16,
             error: 0,
         };
+        self.put(size, &header, params, body);
+    }
+
+    /// Puts the answer to user data, whose parameters have the long form, with at most 1,898 octets of data.
+    pub(crate) fn put_user(
+        &mut self,
+        size: TpduSize,
+        sequence: u16,
+        params: &UserParams,
+        body: &[u8],
+    )
+        requires form { params.now.answer ≡ true }
+        requires fits { 22 + length body.now ≤ most_pdu }
+        requires room { most_packets ≤ self.old.outbox.room }
+        ensures { self.new.outbox.unsent ≡ self.old.outbox.unsent
+            ++ sent_message size.octets (user_octets sequence params.now body.now) }
+    {
+        let header = Header {
+            kind: Kind::User,
+            sequence,
+            param_len: 12,
+            body_len: body.len() as u16,
+            error: 0,
+        };
         let mut octets = [0u8; 12];
-        let len = write_header(&header, &mut octets);
-        self.message.clear();
-        self.message.add(&octets[..len]);
-        self.message.add(params);
-        self.message.add(body);
-        put_message(&mut self.outbox, size, self.message.as_slice());
+        let len = write_user(params, &mut octets);
+        self.put(size, &header, &octets[..len], body);
     }
 
     /// Puts the refusal of a message with this sequence.
-    pub(crate) fn put_refusal(&mut self, size: u16, sequence: u16, error: u16)
-        requires least { 128 ≤ size }
-        requires most { size ≤ 8192 }
+    pub(crate) fn put_refusal(&mut self, size: TpduSize, sequence: u16, error: u16)
         requires room { most_packets ≤ self.old.outbox.room }
-        ensures { self.new.outbox.unsent ≡ self.old.outbox.unsent ++ sent_message size (refusal_octets sequence error) }
+        ensures { self.new.outbox.unsent ≡ self.old.outbox.unsent
+            ++ sent_message size.octets (refusal_octets sequence error) }
     {
         let mut octets = [0u8; 12];
         write_refusal(sequence, error, &mut octets);
-        put_message(&mut self.outbox, size, &octets);
+        put_message(&mut self.outbox, size.octets, &octets);
     }
 
     /// Puts the answer of a reply: a refusal where it has an error.
-    pub(crate) fn put_reply(&mut self, size: u16, sequence: u16, reply: &Reply)
-        requires least { 128 ≤ size }
-        requires most { size ≤ 8192 }
-        requires fits { reply.now.error ≡ 0 → 12 + length reply.now.params.octets + length reply.now.body.octets ≤ most_pdu }
+    pub(crate) fn put_reply(&mut self, size: TpduSize, sequence: u16, reply: &Reply)
+        requires fits { HasAtMost most_pdu (said_of reply.now) }
         requires room { most_packets ≤ self.old.outbox.room }
-        ensures { self.new.outbox.unsent ≡ self.old.outbox.unsent ++ sent_message size (reply_octets sequence (said_of reply.now)) }
+        ensures { self.new.outbox.unsent ≡ self.old.outbox.unsent
+            ++ sent_message size.octets (reply_octets sequence (said_of reply.now)) }
     {
         if reply.error == 0 {
             self.put_answer(
@@ -100,11 +138,10 @@ impl Sender {
     }
 
     /// Puts the answer to a negotiation.
-    pub(crate) fn put_grant(&mut self, size: u16, sequence: u16, granted: &Negotiation)
-        requires least { 128 ≤ size }
-        requires most { size ≤ 8192 }
+    pub(crate) fn put_grant(&mut self, size: TpduSize, sequence: u16, granted: &Negotiation)
         requires room { most_packets ≤ self.old.outbox.room }
-        ensures { self.new.outbox.unsent ≡ self.old.outbox.unsent ++ sent_message size (answer_octets sequence (negotiation_spelling granted.now) []) }
+        ensures { self.new.outbox.unsent ≡ self.old.outbox.unsent
+            ++ sent_message size.octets (answer_octets sequence (negotiation_spelling granted.now) []) }
     {
         let mut params = [0u8; 8];
         write_negotiate(granted, &mut params);
@@ -118,7 +155,8 @@ impl Sender {
         requires calling { c.now.calling.len ≤ 16 }
         requires called { c.now.called.len ≤ 16 }
         requires room { most_packets ≤ self.old.outbox.room }
-        ensures { self.new.outbox.unsent ≡ self.old.outbox.unsent ++ packet_of (spelling_of_confirm (connection_of c.now)) }
+        ensures { self.new.outbox.unsent ≡ self.old.outbox.unsent
+            ++ packet_of (spelling_of_confirm (connection_of c.now)) }
     {
         let mut octets = [0u8; CONFIRM];
         let len = write_confirm(c, &mut octets);

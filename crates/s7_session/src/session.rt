@@ -1,36 +1,250 @@
 // One served link.
-ghost use Rattle.std.specs.Prelude.{◌≡◌, ◌+◌, ◌≤◌, None, length, false};
-ghost use Rattle.s7_tpkt.specs.Packets.{state_of};
-ghost use Rattle.s7_tpkt.specs.declared.state.FedState.TheVariants.{More};
-ghost use Rattle.s7_cotp.specs.Gathered.{is_fault};
+ghost use Rattle.std.specs.Prelude.{◌≡◌, ◌+◌, ◌≤◌, length};
+ghost use Rattle.s7_wire.specs.Reads.{opens_by};
+ghost use Rattle.s7_wire.specs.declared.found.Opening.TheVariants.{Request as OpensByRequest};
 ghost use Rattle.s7_session.specs.Bounds.{spent};
 
 use crate::conversation::Conversation;
-use crate::outcome::Outcome;
-use s7_tpkt::Cutter;
-use s7_wire::Inbox;
+use crate::doer::Doer;
+use crate::handled::Handled;
+use crate::outcome::{Outcome, Turn};
+use s7_area::Guard;
+use s7_outer::{Clock, Got, Link, Memory, Sent};
+use s7_wire::{Found, Inbox, Opening, PIECE, Reader};
+use std::alloc::Global;
+use std::sync::Wait;
+use std::thread;
+use std::time::{self, Duration};
+
+/// So many octets are taken from a link at most.
+const SPENT: u64 = 4_294_967_295;
 
 /// The server's side of one link: packets of RFC 1006, TPDUs of class 0 (ISO 8073), and messages.
 /// It begins with a connect request, and holds what was read and not used, and what is still to be
 /// sent.
 #[derive(Drop)]
 pub struct Session {
-    pub(crate) link: u32,
-    pub(crate) cutter: Cutter,
-    pub(crate) inbox: Inbox,
-    pub(crate) conversation: Conversation,
-    /// How many octets the packets have that were handled.
-    pub(crate) at: u64,
+    link: u32,
+    reader: Reader,
+    inbox: Inbox,
+    conversation: Conversation,
     /// How many octets were used.
-    pub(crate) used: u64,
+    used: u64,
     /// How many telegrams were accepted.
-    pub(crate) count: u64,
+    count: u64,
     /// The number of the newest entry.
-    pub(crate) newest: Option<u64>,
-    pub(crate) closed: Option<Outcome>,
+    newest: Option<u64>,
+    closed: Option<Outcome>,
+    ghost opens: { opens_by reader ≡ OpensByRequest },
     ghost fits: { used + length inbox ≤ spent },
     ghost count_fits: { count ≤ used },
-    ghost at_packet: { closed ≡ None → at + length cutter.held ≡ used },
-    ghost between_packets: { closed ≡ None → state_of cutter.limit cutter.held ≡ More },
-    ghost joins: { closed ≡ None → is_fault conversation.joiner.state ≡ false },
+}
+
+impl Session {
+    ghost use Rattle.std.specs.Prelude.{◌≡◌, ℕ, ◌+◌, ◌<◌, ◌≤◌, List, [], Option, None, Some, length, IfOk};
+    ghost use Rattle.s7_outer.specs.Shown.{Shown};
+    ghost use Rattle.s7_wire.specs.Reads.{HasRead, HasMessage, opens_by};
+    ghost use Rattle.s7_wire.specs.Reading.{torn_of};
+    ghost use Rattle.s7_wire.specs.declared.found.Opening.TheVariants.{Request as OpensByRequest};
+    ghost use Rattle.s7_session.specs.LinkState.{LinkState, first_link};
+    ghost use Rattle.s7_session.specs.Owed.{torn_or_ended};
+    ghost use Rattle.s7_session.specs.Stands.{IsTurn, IsServed, Handles, Consumes, number_of, closed_with};
+    ghost use Rattle.s7_session.specs.Stands.{entry_count, newest, used_of, unread, unsent};
+    ghost use Rattle.s7_session.specs.LinkRun.{IsFresh, IsLinkRun};
+
+    /// The session of a link of this number to areas with this guard, which has taken nothing and has no
+    /// right. All buffers of the link are taken here; `Memory` comes where there is none for them.
+    pub fn new(alloc: Global, link: u32, guard: Option<Guard>) -> Result<Session, Memory>
+        ensures fresh { IfOk result (IsFresh (first_link guard)) }
+        ensures number { IfOk result (λ s. number_of s ≡ link) }
+    {
+        Ok(Session {
+            link,
+            reader: Reader::new(alloc, Opening::Request)?,
+            inbox: Inbox::new(),
+            conversation: Conversation::new(alloc, guard)?,
+            used: 0,
+            count: 0,
+            newest: None,
+            closed: None,
+        })
+    }
+
+    /// How many telegrams were accepted.
+    pub fn entries(&self) -> u64
+        ensures { result ≡ entry_count self.now }
+    {
+        self.count
+    }
+
+    /// The number of the newest entry, and none before the first.
+    pub fn last(&self) -> Option<u64>
+        ensures { result ≡ newest self.now }
+    {
+        self.newest
+    }
+
+    /// How many octets were used.
+    pub fn used(&self) -> u64
+        ensures { result ≡ used_of self.now }
+    {
+        self.used
+    }
+
+    /// Takes turns until one closes. The link's octets and the doer's entries are then one run from
+    /// beginning to end. Gives why the link closed. Behind a turn that answered `NotYet` it sleeps for a
+    /// millisecond, so that a link that doesn't wait by itself leaves the processor to others.
+    pub fn serve<R: Wait + time::Clock, L: Link + Clock, D: Doer>(
+        &mut self,
+        rt: &R,
+        alloc: Global,
+        line: &mut L,
+        doer: &mut D,
+    ) -> Outcome
+        ensures served { IsServed D.stands D.is_full D.may_lack
+            self.old (L.shows line.old) doer.old self.new (L.shows line.new) doer.new result }
+
+        // A fresh session serves a link from its beginning.
+        ensures run { (first : LinkState) → IsFresh first self.old → IsLinkRun D.stands D.is_full D.may_lack first
+            (L.shows line.old) doer.old (L.shows line.new) doer.new result (entry_count self.new) (newest self.new) }
+        ensures number { number_of self.new ≡ number_of self.old }
+        ensures kept { D.keeps doer.old doer.new }
+    {
+        for _ in rt.forever() {
+            match self.turn(alloc, line, doer) {
+                Turn::Closed(outcome) => return outcome,
+                Turn::NotYet => thread::sleep(rt, Duration::from_millis(1)),
+                Turn::Went => {}
+            }
+        }
+        unreachable!()
+    }
+
+    /// Sends what is left to send, or else uses octets that were read, or else receives and uses
+    /// octets, up to the end of one packet.
+    ///
+    /// `Went` comes only where the turn moved an octet on the link or used one that was read,
+    /// `NotYet` only where it did neither and the link's `waits` rose. `Closed` stays for all later
+    /// turns. The link is read only where everything owed was written and every octet that was read is
+    /// used, and octets are used only where everything owed was written.
+    pub fn turn<L: Link + Clock, D: Doer>(
+        &mut self,
+        alloc: Global,
+        line: &mut L,
+        doer: &mut D,
+    ) -> Turn
+        ensures turn { IsTurn D.stands D.is_full D.may_lack
+            self.old (L.shows line.old) doer.old self.new (L.shows line.new) doer.new result }
+        ensures number { number_of self.new ≡ number_of self.old }
+        ensures kept { D.keeps doer.old doer.new }
+        ensures stays { (o : Outcome) → closed_with self.old ≡ Some o
+            → (result ≡ Turn.Closed o) × (self.new ≡ self.old) }
+    {
+        if let Some(outcome) = self.closed {
+            return Turn::Closed(outcome);
+        }
+        if !self.conversation.sender.outbox.is_empty() {
+            return match self.conversation.sender.outbox.flush(line) {
+                Sent::Bytes(_) => Turn::Went,
+                Sent::NotYet => Turn::NotYet,
+                Sent::Failed => self.close(Outcome::WriteFault),
+            };
+        }
+        if !self.inbox.is_empty() {
+            return self.consume(alloc, doer);
+        }
+        if self.used == SPENT {
+            return self.close(Outcome::Spent);
+        }
+        let most = PIECE.min((SPENT - self.used) as usize);
+        match self.inbox.refill(line, most) {
+            Got::Bytes(_) => self.consume(alloc, doer),
+            Got::NotYet => Turn::NotYet,
+            Got::Failed => self.close(Outcome::ReadFault),
+            Got::End => {
+                let outcome = self.end();
+                self.close(outcome)
+            }
+        }
+    }
+
+    // Uses octets that were read, up to the end of one packet.
+    fn consume<D: Doer>(&mut self, alloc: Global, doer: &mut D) -> Turn
+        requires going { closed_with self.old ≡ None }
+        requires sent { unsent self.old ≡ [] }
+        requires read { 0 < length (unread self.old) }
+        ensures consumes { (k : Shown) → Consumes D.stands D.is_full D.may_lack
+            self.old k doer.old self.new k doer.new result }
+        ensures number { number_of self.new ≡ number_of self.old }
+        ensures kept { D.keeps doer.old doer.new }
+    {
+        let taken = self.reader.read(self.inbox.as_slice());
+        self.inbox.advance(taken.octets);
+        self.used += taken.octets as u64;
+        match taken.found {
+            Found::More => Turn::Went,
+            Found::Opened(request) => {
+                self.conversation.open(&request);
+                Turn::Went
+            }
+            Found::Message => self.handle(alloc, doer),
+            Found::Disconnected => {
+                let outcome = self.end();
+                self.close(outcome)
+            }
+            Found::Fault(fault) => {
+                let at = self.reader.place();
+                self.close(Outcome::of_fault(fault, at))
+            }
+        }
+    }
+
+    // Handles the message that is whole.
+    fn handle<D: Doer>(&mut self, alloc: Global, doer: &mut D) -> Turn
+        requires going { closed_with self.old ≡ None }
+        requires sent { unsent self.old ≡ [] }
+        requires whole { HasMessage self.old.reader }
+        requires some { entry_count self.old < used_of self.old }
+        ensures handles { Handles D.stands D.is_full D.may_lack self.old doer.old self.new doer.new result }
+        ensures number { number_of self.new ≡ number_of self.old }
+        ensures kept { D.keeps doer.old doer.new }
+    {
+        let at = self.reader.place();
+        match self
+            .conversation
+            .message(alloc, self.reader.message(), doer)
+        {
+            Handled::Answered => Turn::Went,
+            Handled::Entered(number) => {
+                self.count += 1;
+                self.newest = Some(number);
+                Turn::Went
+            }
+            Handled::NoMemory => self.close(Outcome::Memory),
+            Handled::NotS7 => self.close(Outcome::NotS7 { at }),
+        }
+    }
+
+    // How the link ends where no more octets come.
+    fn end(&self) -> Outcome
+        ensures torn { (b : List ℕ) → HasRead self.now.reader b → result ≡ torn_or_ended (torn_of OpensByRequest b) }
+        ensures octets { (torn : Option ℕ) × (result ≡ torn_or_ended torn) }
+    {
+        Outcome::of_torn(self.reader.torn())
+    }
+
+    fn close(&mut self, outcome: Outcome) -> Turn
+        ensures result { result ≡ Turn.Closed outcome }
+        ensures closed { closed_with self.new ≡ Some outcome }
+        ensures number { number_of self.new ≡ number_of self.old }
+        ensures reader { self.new.reader ≡ self.old.reader }
+        ensures inbox { self.new.inbox ≡ self.old.inbox }
+        ensures conversation { self.new.conversation ≡ self.old.conversation }
+        ensures used { self.new.used ≡ self.old.used }
+        ensures count { self.new.count ≡ self.old.count }
+        ensures newest { self.new.newest ≡ self.old.newest }
+    {
+        self.closed = Some(outcome);
+        Turn::Closed(outcome)
+    }
 }

@@ -1,9 +1,10 @@
-ghost use Rattle.std.specs.Prelude.{◌<◌, ◌≤◌};
+ghost use Rattle.std.specs.Prelude.{◌<◌, ◌≤◌, IfSome};
+ghost use Rattle.s7_area.specs.Guards.{IsGuard};
 
 use super::*;
-use s7_area::{AreaKey, Areas};
+use s7_area::{AreaKey, Areas, Guard};
 use s7_outer::{FailingLink, Fate, Memory, MemoryLink, Octets};
-use s7_plant::{Book, Plant, Reply, Request};
+use s7_plant::{Ask, Book, Plant, Reply};
 use std::alloc::Global;
 use std::sync::Wait;
 use std::test::Fail;
@@ -39,6 +40,19 @@ fn some_areas(alloc: Global) -> Result<Areas, Memory> {
     block(alloc, &[0x11, 0x22, 0x33, 0x44])
 }
 
+/// A guard of level 2 or 3 with the password ABCDEFGH; none for another level.
+fn guard(level: u8) -> Option<Guard>
+    ensures { IfSome result IsGuard }
+{
+    if level != 2 && level != 3 {
+        return None;
+    }
+    Some(Guard {
+        level,
+        password: [0x41, 0x42, 0x43, 0x44, 0x45, 0x46, 0x47, 0x48],
+    })
+}
+
 impl Desk {
     fn new(alloc: Global, room: u64) -> Result<Desk, Memory> {
         Ok(Desk::over(some_areas(alloc)?, room))
@@ -57,7 +71,9 @@ impl Desk {
 impl Doer for Desk {
     ghost stands = { λ d entries. Unit {0} };
 
-    ghost is_full = { λ d r. d.room ≤ d.count };
+    ghost is_full = { λ d _. d.room ≤ d.count };
+
+    ghost may_lack = { λ d _. ⊥ };
 
     ghost keeps = { λ d e. Unit {0} };
 
@@ -65,12 +81,12 @@ impl Doer for Desk {
 
     ghost keeps_both = { λ a b c p q. tt };
 
-    fn act(&mut self, request: Request, reply: &mut Reply) -> Result<u64, Request> {
+    fn act(&mut self, _alloc: Global, ask: Ask, reply: &mut Reply) -> Result<u64, NotDone> {
         if self.count == self.room {
-            return Err(request);
+            return Err(NotDone::Full(ask));
         }
-        let mut request = request;
-        self.plant.step(&mut request, reply);
+        let mut ask = ask;
+        self.plant.step(ask.right, &mut ask.request, reply);
         self.count += 1;
         Ok(self.count)
     }
@@ -88,11 +104,13 @@ const SETUP: &[u8] =
 const GRANTED: &[u8] =
     b"\x03\x00\x00\x1B\x02\xF0\x80\x32\x03\x00\x00\x00\x04\x00\x08\x00\x00\x00\x00\xF0\x00\x00\x01\x00\x01\x01\xE0";
 
-const READ: &[u8] =
-    b"\x03\x00\x00\x1F\x02\xF0\x80\x32\x01\x00\x00\x00\x05\x00\x0E\x00\x00\x04\x01\x12\x0A\x10\x02\x00\x04\x00\x01\x84\x00\x00\x00";
+const READ: &[u8] = b"\
+    \x03\x00\x00\x1F\x02\xF0\x80\x32\x01\x00\x00\x00\x05\x00\x0E\x00\x00\
+    \x04\x01\x12\x0A\x10\x02\x00\x04\x00\x01\x84\x00\x00\x00";
 
-const READ_ANSWER: &[u8] =
-    b"\x03\x00\x00\x1D\x02\xF0\x80\x32\x03\x00\x00\x00\x05\x00\x02\x00\x08\x00\x00\x04\x01\xFF\x04\x00\x20\x11\x22\x33\x44";
+const READ_ANSWER: &[u8] = b"\
+    \x03\x00\x00\x1D\x02\xF0\x80\x32\x03\x00\x00\x00\x05\x00\x02\x00\x08\x00\x00\
+    \x04\x01\xFF\x04\x00\x20\x11\x22\x33\x44";
 
 /// The read's message in two fragments.
 const READ_FRONT: &[u8] = b"\x03\x00\x00\x0C\x02\xF0\x00\x32\x01\x00\x00\x00";
@@ -101,14 +119,19 @@ const READ_REST: &[u8] =
     b"\x03\x00\x00\x1A\x02\xF0\x80\x05\x00\x0E\x00\x00\x04\x01\x12\x0A\x10\x02\x00\x04\x00\x01\x84\x00\x00\x00";
 
 /// The write of three items, whose second lies outside of its data block.
-const WRITE: &[u8] =
-    b"\x03\x00\x00\x48\x02\xF0\x80\x32\x01\x00\x00\x00\x0A\x00\x26\x00\x11\x05\x03\x12\x0A\x10\x02\x00\x01\x00\x01\x84\x00\x00\x00\x12\x0A\x10\x02\x00\x01\x00\x01\x84\x00\x00\x20\x12\x0A\x10\x02\x00\x01\x00\x01\x84\x00\x00\x18\x00\x04\x00\x08\xAA\x00\x00\x04\x00\x08\xBB\x00\x00\x04\x00\x08\xCC";
+const WRITE: &[u8] = b"\
+    \x03\x00\x00\x48\x02\xF0\x80\x32\x01\x00\x00\x00\x0A\x00\x26\x00\x11\
+    \x05\x03\x12\x0A\x10\x02\x00\x01\x00\x01\x84\x00\x00\x00\
+    \x12\x0A\x10\x02\x00\x01\x00\x01\x84\x00\x00\x20\
+    \x12\x0A\x10\x02\x00\x01\x00\x01\x84\x00\x00\x18\
+    \x00\x04\x00\x08\xAA\x00\x00\x04\x00\x08\xBB\x00\x00\x04\x00\x08\xCC";
 
 const WRITE_ANSWER: &[u8] =
     b"\x03\x00\x00\x18\x02\xF0\x80\x32\x03\x00\x00\x00\x0A\x00\x02\x00\x03\x00\x00\x05\x03\xFF\x05\xFF";
 
-const READ_AFTER_WRITE: &[u8] =
-    b"\x03\x00\x00\x1D\x02\xF0\x80\x32\x03\x00\x00\x00\x05\x00\x02\x00\x08\x00\x00\x04\x01\xFF\x04\x00\x20\xAA\x22\x33\xCC";
+const READ_AFTER_WRITE: &[u8] = b"\
+    \x03\x00\x00\x1D\x02\xF0\x80\x32\x03\x00\x00\x00\x05\x00\x02\x00\x08\x00\x00\
+    \x04\x01\xFF\x04\x00\x20\xAA\x22\x33\xCC";
 
 /// The refusal of a read for which there is no room.
 const NO_ROOM: &[u8] =
@@ -126,17 +149,21 @@ const CONFIRM_8192: &[u8] =
 /// A fragment of one octet that isn't the last of its message, and eight of them.
 const FRAGMENT: &[u8] = b"\x03\x00\x00\x08\x02\xF0\x00\x32";
 
-const EIGHT_FRAGMENTS: &[u8] =
-    b"\x03\x00\x00\x08\x02\xF0\x00\x32\x03\x00\x00\x08\x02\xF0\x00\x32\x03\x00\x00\x08\x02\xF0\x00\x32\x03\x00\x00\x08\x02\xF0\x00\x32\x03\x00\x00\x08\x02\xF0\x00\x32\x03\x00\x00\x08\x02\xF0\x00\x32\x03\x00\x00\x08\x02\xF0\x00\x32\x03\x00\x00\x08\x02\xF0\x00\x32";
+const EIGHT_FRAGMENTS: &[u8] = b"\
+    \x03\x00\x00\x08\x02\xF0\x00\x32\x03\x00\x00\x08\x02\xF0\x00\x32\
+    \x03\x00\x00\x08\x02\xF0\x00\x32\x03\x00\x00\x08\x02\xF0\x00\x32\
+    \x03\x00\x00\x08\x02\xF0\x00\x32\x03\x00\x00\x08\x02\xF0\x00\x32\
+    \x03\x00\x00\x08\x02\xF0\x00\x32\x03\x00\x00\x08\x02\xF0\x00\x32";
 
 /// The head of a fragment of 8,192 octets that isn't the last of its message, and its octets.
 const LONG_HEAD: &[u8] = b"\x03\x00\x20\x07\x02\xF0\x00";
 
 const LONG: &[u8] = &[0x32; 8_192];
 
-/// What comes in on a link, and what becomes of it.
+/// What comes in on a link to areas that are guarded at this level, and what becomes of it.
 #[derive(Drop)]
 struct Row {
+    level: u8,
     input: &'static [&'static [u8]],
     output: &'static [&'static [u8]],
     outcome: Outcome,
@@ -161,10 +188,13 @@ fn is_served<R: Wait + Clock>(
 ) -> Result<bool, Memory>
     requires { 0 < most }
 {
+    let guard = guard(row.level);
     let input = Octets::of_vec(joined(alloc, row.input)?);
     let mut line = MemoryLink::new(alloc, input, most, 4_096, 7)?;
-    let mut desk = Desk::new(alloc, room)?;
-    let mut session = Session::new(alloc, 1)?;
+    let mut areas = some_areas(alloc)?;
+    areas.set_guard(guard);
+    let mut desk = Desk::over(areas, room);
+    let mut session = Session::new(alloc, 1, guard)?;
     let outcome = session.serve(rt, alloc, &mut line, &mut desk);
     let output = joined(alloc, row.output)?;
     let last = if row.entries == 0 {
@@ -198,12 +228,14 @@ fn is_served_in_pieces<R: Wait + Clock>(
 fn telegrams_are_answered(rt: HostRuntime) -> Result<(), Fail> {
     let rows = [
         Row {
+            level: 1,
             input: &[CONNECT, SETUP, READ],
             output: &[CONFIRM, GRANTED, READ_ANSWER],
             outcome: Outcome::Ended,
             entries: 1,
         },
         Row {
+            level: 1,
             input: &[
                 CONNECT, SETUP, READ_FRONT, READ_REST, READ, DISCONNECT, READ,
             ],
@@ -212,6 +244,7 @@ fn telegrams_are_answered(rt: HostRuntime) -> Result<(), Fail> {
             entries: 2,
         },
         Row {
+            level: 1,
             input: &[CONNECT, SETUP, WRITE, READ],
             output: &[CONFIRM, GRANTED, WRITE_ANSWER, READ_AFTER_WRITE],
             outcome: Outcome::Ended,
@@ -229,6 +262,7 @@ fn refused_telegrams_leave_the_link(rt: HostRuntime) -> Result<(), Fail> {
     let rows = [
         // A PDU of 63 is asked for, and then a read without any.
         Row {
+            level: 1,
             input: &[
                 CONNECT,
                 b"\x03\x00\x00\x19\x02\xF0\x80\x32\x01\x00\x00\x00\x01\x00\x08\x00\x00\xF0\x00\x00\x01\x00\x01\x00\x3F",
@@ -244,6 +278,7 @@ fn refused_telegrams_leave_the_link(rt: HostRuntime) -> Result<(), Fail> {
         },
         // A function that isn't served, lengths that disagree, and a read of no items.
         Row {
+            level: 1,
             input: &[
                 CONNECT,
                 SETUP,
@@ -263,6 +298,7 @@ fn refused_telegrams_leave_the_link(rt: HostRuntime) -> Result<(), Fail> {
         },
         // A history with room for one telegram.
         Row {
+            level: 1,
             input: &[CONNECT, SETUP, READ, READ],
             output: &[CONFIRM, GRANTED, READ_ANSWER, NO_ROOM],
             outcome: Outcome::Ended,
@@ -327,6 +363,7 @@ fn a_link_ends_with_its_reason(rt: HostRuntime) -> Result<(), Fail> {
     ];
     for (input, output, outcome) in rows {
         let row = Row {
+            level: 1,
             input,
             output,
             outcome,
@@ -342,6 +379,7 @@ fn a_message_has_its_bounds(rt: HostRuntime) -> Result<(), Fail> {
     let rows = [
         // 64 fragments, and a 65th.
         Row {
+            level: 1,
             input: &[
                 CONNECT,
                 EIGHT_FRAGMENTS,
@@ -358,6 +396,7 @@ fn a_message_has_its_bounds(rt: HostRuntime) -> Result<(), Fail> {
             entries: 0,
         },
         Row {
+            level: 1,
             input: &[
                 CONNECT,
                 EIGHT_FRAGMENTS,
@@ -377,12 +416,14 @@ fn a_message_has_its_bounds(rt: HostRuntime) -> Result<(), Fail> {
         },
         // 8,192 octets, and one more.
         Row {
+            level: 1,
             input: &[CONNECT_8192, LONG_HEAD, LONG],
             output: &[CONFIRM_8192],
             outcome: Outcome::Torn(8_192),
             entries: 0,
         },
         Row {
+            level: 1,
             input: &[CONNECT_8192, LONG_HEAD, LONG, FRAGMENT, FRAGMENT],
             output: &[CONFIRM_8192],
             outcome: Outcome::TooLong { at: 8_221 },
@@ -395,12 +436,212 @@ fn a_message_has_its_bounds(rt: HostRuntime) -> Result<(), Fail> {
     Ok(())
 }
 
+/// The guard's password is set, and another one that begins as it does.
+const SET: &[u8] = b"\
+    \x03\x00\x00\x25\x02\xF0\x80\x32\x07\x00\x00\x00\x20\x00\x08\x00\x0C\
+    \x00\x01\x12\x04\x11\x45\x01\x00\xFF\x09\x00\x08\x14\x17\x02\x06\x12\x15\x00\x08";
+
+const SET_WRONG: &[u8] = b"\
+    \x03\x00\x00\x25\x02\xF0\x80\x32\x07\x00\x00\x00\x20\x00\x08\x00\x0C\
+    \x00\x01\x12\x04\x11\x45\x01\x00\xFF\x09\x00\x08\x14\x17\x02\x06\x12\x15\x00\x18";
+
+const CLEAR: &[u8] = b"\
+    \x03\x00\x00\x1D\x02\xF0\x80\x32\x07\x00\x00\x00\x21\x00\x08\x00\x04\
+    \x00\x01\x12\x04\x11\x45\x02\x00\x0A\x00\x00\x00";
+
+/// The read and the write of three items without a right.
+const READ_BARRED: &[u8] =
+    b"\x03\x00\x00\x19\x02\xF0\x80\x32\x03\x00\x00\x00\x05\x00\x02\x00\x04\x00\x00\x04\x01\x03\x00\x00\x00";
+
+const WRITE_BARRED: &[u8] =
+    b"\x03\x00\x00\x18\x02\xF0\x80\x32\x03\x00\x00\x00\x0A\x00\x02\x00\x03\x00\x00\x05\x03\x03\x03\x03";
+
+#[test]
+fn passwords_give_the_right(rt: HostRuntime) -> Result<(), Fail> {
+    let rows = [
+        Row {
+            level: 2,
+            input: &[CONNECT, SETUP, READ, WRITE, SET, WRITE],
+            output: &[
+                CONFIRM,
+                GRANTED,
+                READ_ANSWER,
+                WRITE_BARRED,
+                b"\
+                    \x03\x00\x00\x21\x02\xF0\x80\x32\x07\x00\x00\x00\x20\x00\x0C\x00\x04\
+                    \x00\x01\x12\x08\x12\x85\x01\x01\x00\x00\x00\x00\x0A\x00\x00\x00",
+                WRITE_ANSWER,
+            ],
+            outcome: Outcome::Ended,
+            entries: 3,
+        },
+        // Without a guard.
+        Row {
+            level: 1,
+            input: &[CONNECT, SETUP, SET, CLEAR],
+            output: &[
+                CONFIRM,
+                GRANTED,
+                b"\
+                    \x03\x00\x00\x21\x02\xF0\x80\x32\x07\x00\x00\x00\x20\x00\x0C\x00\x04\
+                    \x00\x01\x12\x08\x12\x85\x01\x01\x00\x00\xD6\x05\x0A\x00\x00\x00",
+                b"\
+                    \x03\x00\x00\x21\x02\xF0\x80\x32\x07\x00\x00\x00\x21\x00\x0C\x00\x04\
+                    \x00\x01\x12\x08\x12\x85\x02\x02\x00\x00\xD6\x05\x0A\x00\x00\x00",
+            ],
+            outcome: Outcome::Ended,
+            entries: 0,
+        },
+        // A wrong password, a right that isn't there, the right, a wrong password again, and no right.
+        Row {
+            level: 3,
+            input: &[
+                CONNECT, SETUP, READ, SET_WRONG, CLEAR, SET, SET_WRONG, READ, CLEAR, READ,
+            ],
+            output: &[
+                CONFIRM,
+                GRANTED,
+                READ_BARRED,
+                b"\
+                    \x03\x00\x00\x21\x02\xF0\x80\x32\x07\x00\x00\x00\x20\x00\x0C\x00\x04\
+                    \x00\x01\x12\x08\x12\x85\x01\x01\x00\x00\xD6\x02\x0A\x00\x00\x00",
+                b"\
+                    \x03\x00\x00\x21\x02\xF0\x80\x32\x07\x00\x00\x00\x21\x00\x0C\x00\x04\
+                    \x00\x01\x12\x08\x12\x85\x02\x02\x00\x00\xD6\x04\x0A\x00\x00\x00",
+                b"\
+                    \x03\x00\x00\x21\x02\xF0\x80\x32\x07\x00\x00\x00\x20\x00\x0C\x00\x04\
+                    \x00\x01\x12\x08\x12\x85\x01\x03\x00\x00\x00\x00\x0A\x00\x00\x00",
+                b"\
+                    \x03\x00\x00\x21\x02\xF0\x80\x32\x07\x00\x00\x00\x20\x00\x0C\x00\x04\
+                    \x00\x01\x12\x08\x12\x85\x01\x04\x00\x00\xD6\x02\x0A\x00\x00\x00",
+                READ_ANSWER,
+                b"\
+                    \x03\x00\x00\x21\x02\xF0\x80\x32\x07\x00\x00\x00\x21\x00\x0C\x00\x04\
+                    \x00\x01\x12\x08\x12\x85\x02\x05\x00\x00\x00\x00\x0A\x00\x00\x00",
+                READ_BARRED,
+            ],
+            outcome: Outcome::Ended,
+            entries: 3,
+        },
+    ];
+    for row in &rows {
+        assert!(rt; is_served_in_pieces(&rt, rt.alloc(), row, 9)?);
+    }
+    Ok(())
+}
+
+/// The refusals of user data that can't be read, and of user data that isn't served.
+const UNREADABLE: &[u8] =
+    b"\x03\x00\x00\x13\x02\xF0\x80\x32\x02\x00\x00\x00\x30\x00\x00\x00\x00\x84\x04";
+
+const UNKNOWN: &[u8] =
+    b"\x03\x00\x00\x13\x02\xF0\x80\x32\x02\x00\x00\x00\x30\x00\x00\x00\x00\x81\x04";
+
+#[test]
+fn wrong_user_data_is_refused(rt: HostRuntime) -> Result<(), Fail> {
+    let rows: [(&'static [&'static [u8]], &'static [&'static [u8]]); 8] = [
+        // Seven octets of a password, and other data of a clear.
+        (
+            &[
+                CONNECT,
+                SETUP,
+                b"\
+                    \x03\x00\x00\x24\x02\xF0\x80\x32\x07\x00\x00\x00\x30\x00\x08\x00\x0B\
+                    \x00\x01\x12\x04\x11\x45\x01\x00\xFF\x09\x00\x08\x14\x17\x02\x06\x12\x15\x00",
+            ],
+            &[CONFIRM, GRANTED, UNREADABLE],
+        ),
+        (
+            &[
+                CONNECT,
+                SETUP,
+                b"\
+                    \x03\x00\x00\x1D\x02\xF0\x80\x32\x07\x00\x00\x00\x30\x00\x08\x00\x04\
+                    \x00\x01\x12\x04\x11\x45\x02\x00\x0A\x00\x00\x01",
+            ],
+            &[CONFIRM, GRANTED, UNREADABLE],
+        ),
+        // The subfunction 03, and the group 46.
+        (
+            &[
+                CONNECT,
+                SETUP,
+                b"\
+                    \x03\x00\x00\x1D\x02\xF0\x80\x32\x07\x00\x00\x00\x30\x00\x08\x00\x04\
+                    \x00\x01\x12\x04\x11\x45\x03\x00\x0A\x00\x00\x00",
+            ],
+            &[CONFIRM, GRANTED, UNKNOWN],
+        ),
+        (
+            &[
+                CONNECT,
+                SETUP,
+                b"\
+                    \x03\x00\x00\x1D\x02\xF0\x80\x32\x07\x00\x00\x00\x30\x00\x08\x00\x04\
+                    \x00\x01\x12\x04\x11\x46\x01\x00\x0A\x00\x00\x00",
+            ],
+            &[CONFIRM, GRANTED, UNKNOWN],
+        ),
+        // A further slice is asked for.
+        (
+            &[
+                CONNECT,
+                SETUP,
+                b"\
+                    \x03\x00\x00\x21\x02\xF0\x80\x32\x07\x00\x00\x00\x30\x00\x0C\x00\x04\
+                    \x00\x01\x12\x08\x12\x45\x01\x01\x00\x00\x00\x00\x0A\x00\x00\x00",
+            ],
+            &[CONFIRM, GRANTED, UNREADABLE],
+        ),
+        (
+            &[
+                CONNECT,
+                SETUP,
+                b"\
+                    \x03\x00\x00\x21\x02\xF0\x80\x32\x07\x00\x00\x00\x30\x00\x0C\x00\x04\
+                    \x00\x01\x12\x08\x12\x45\x03\x01\x00\x00\x00\x00\x0A\x00\x00\x00",
+            ],
+            &[CONFIRM, GRANTED, UNKNOWN],
+        ),
+        // Parameters of another form, and none.
+        (
+            &[
+                CONNECT,
+                SETUP,
+                b"\
+                    \x03\x00\x00\x1D\x02\xF0\x80\x32\x07\x00\x00\x00\x30\x00\x08\x00\x04\
+                    \x00\x01\x12\x04\x12\x45\x02\x00\x0A\x00\x00\x00",
+            ],
+            &[CONFIRM, GRANTED, UNREADABLE],
+        ),
+        (
+            &[
+                CONNECT,
+                SETUP,
+                b"\x03\x00\x00\x15\x02\xF0\x80\x32\x07\x00\x00\x00\x30\x00\x00\x00\x04\x0A\x00\x00\x00",
+            ],
+            &[CONFIRM, GRANTED, UNKNOWN],
+        ),
+    ];
+    for (input, output) in rows {
+        let row = Row {
+            level: 2,
+            input,
+            output,
+            outcome: Outcome::Ended,
+            entries: 0,
+        };
+        assert!(rt; is_served_in_pieces(&rt, rt.alloc(), &row, 9)?);
+    }
+    Ok(())
+}
+
 #[test]
 fn a_link_without_room_fails(rt: HostRuntime) -> Result<(), Fail> {
     let input = Octets::copy_of(rt.alloc(), CONNECT)?;
     let mut line = MemoryLink::new(rt.alloc(), input, 8_192, 10, 7)?;
     let mut desk = Desk::new(rt.alloc(), 9)?;
-    let mut session = Session::new(rt.alloc(), 1)?;
+    let mut session = Session::new(rt.alloc(), 1, None)?;
     let outcome = session.serve(&rt, rt.alloc(), &mut line, &mut desk);
     assert!(rt; outcome == Outcome::WriteFault);
     assert!(rt; line.written() == &CONFIRM[..10]);
@@ -421,7 +662,7 @@ fn a_turn_tells_what_it_did(rt: HostRuntime) -> Result<(), Fail> {
     .to_vec(rt.alloc())?;
     let mut line = FailingLink::new(inner, fates);
     let mut desk = Desk::new(rt.alloc(), 9)?;
-    let mut session = Session::new(rt.alloc(), 1)?;
+    let mut session = Session::new(rt.alloc(), 1, None)?;
     let turns = [
         Turn::NotYet,
         Turn::Went,
@@ -443,7 +684,7 @@ fn a_book_is_full_at_its_limit(rt: HostRuntime) -> Result<(), Fail> {
     let mut book = Book::new(alloc, some_areas(alloc)?, 1)?;
     let input = Octets::of_vec(joined(alloc, &[CONNECT, SETUP, READ, READ])?);
     let mut line = MemoryLink::new(alloc, input, 8_192, 4_096, 7)?;
-    let mut session = Session::new(alloc, 7)?;
+    let mut session = Session::new(alloc, 7, None)?;
     let mut doer = BookDoer {
         book: &mut book,
         link: 7,

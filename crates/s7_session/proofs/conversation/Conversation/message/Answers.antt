@@ -1,96 +1,62 @@
-use Rattle.std.proofs.Common.{refl, sym, ap, ◌∙◌, List, ℕ, [], ◌∷◌, false}
-use Rattle.s7_plant.specs.declared.request.Request.TheVariants.{Read, Write}
-use Rattle.s7_header.specs.Negotiation.{negotiation_spelling}
-use Rattle.s7_session.specs.declared.judge.Judgement.TheVariants as code
-use Rattle.s7_session.specs.declared.outcome.Outcome.TheVariants as outcome
-use Rattle.s7_session.specs.Errors.{error_of, FULL, CLOCK_FAILED}
-use Rattle.s7_wire.specs.Sent.{sent_message, sent_messages}
+use Rattle.std.proofs.Common.{◌≡◌, sym, ap, ◌∙◌, ℕ, List, [], Bool, true, false, cond, Option, None, Some}
+use Rattle.s7_wire.specs.Reading.{message}
+use Rattle.s7_session.specs.Conversing.{link_of, size_of}
+use Rattle.s7_session.specs.Events.{Made, closes, settled, made, is_s7, by_judgement}
 use Rattle.s7_session.specs.Judged.{judgement_of}
-use Rattle.s7_session.specs.Judgement.{answer_octets, refusal_octets, reply_octets, sequence_of}
-use Rattle.s7_session.specs.Handling.{message_handling}
-use Rattle.s7_session.specs.Conversing.{between_of}
-use Rattle.s7_session.specs.Asking.{asking}
-use Rattle.s7_session.proofs.AnswerLemmas.{answers_settled, answers_memory, settled_silent, settled_sent, other_message, judged_message, same_handling, one_message, after_nothing}
+use Rattle.s7_session.specs.Judgement.{Judgement, judge, sequence_of}
+use Rattle.s7_session.specs.LinkState.{LinkState}
+use Rattle.s7_session.specs.Verdict.{Verdict}
+use Rattle.s7_session.specs.declared.outcome.Outcome.TheVariants.{NotS7}
+use Rattle.s7_session.proofs.AnswerLemmas.{answers_settled, answers_closing, same_made}
 use Rattle.s7_session.proofs.conversation.Conversation.message.Goals as goal
 
-pub returns-then-not-is_s7-clause-answers : goal.returns-then-not-is_s7-clause-answers
-returns-then-not-is_s7-clause-answers g c = λ after.
-    let b = between_of after c.args.self.now in
-    let octets = c.args.self.now.joiner.octets in
-    answers_settled _ (g.D.Doer.stands c.args.doer.now) (g.D.Doer.is_full c.args.doer.now) (message_handling b c.args.at c.args.size octets) b _ _
-    (settled_silent _ b b (outcome.NotS7 c.args.at) _
-    (other_message b c.args.at c.args.size c.message-message.result.now octets c.is_s7.result c.message-message.ensures c.is_s7.ensures c.if-not-is_s7.true) tt c.requires.sent)
+-- before the connect request
+made_before : (size : Option ℕ) (link : LinkState) (m : List ℕ) (at : ℕ) (sent : List ℕ) → size ≡ None → sent ≡ [] → made size link (message m at) [] ≡ settled size link sent []
+unfolding made
+made_before size link m at sent none unsent =
+    ap (λ (s : Option ℕ). made s link (message m at) []) none
+    ∙ (ap (λ (x : List ℕ). settled None link x []) (sym unsent) ∙ ap (λ (s : Option ℕ). settled s link sent []) (sym none))
+
+-- a message of another protocol
+made_other : (size : Option ℕ) (n : ℕ) (link : LinkState) (m : List ℕ) (at : ℕ) (b : Bool) → size ≡ Some n → b ≡ is_s7 m → b ≡ false
+    → made size link (message m at) [] ≡ record { size = size; link = link; out = []; mets = []; verdicts = []; standing = closes (NotS7 at) }
+unfolding made
+made_other size n link m at b is test other =
+    let closing : Option ℕ → Made = λ s. record { size = s; link = link; out = []; mets = []; verdicts = []; standing = closes (NotS7 at) } in
+    ap (λ (s : Option ℕ). made s link (message m at) []) is
+    ∙ (ap (λ (t : Bool). cond t (by_judgement n link (sequence_of m) [] (judge link m)) (closing (Some n))) (sym test ∙ other)
+    ∙ ap closing (sym is))
+
+-- a message that is judged
+made_judged : (size : Option ℕ) (n : ℕ) (link : LinkState) (m : List ℕ) (at sequence : ℕ) (b : Bool) (j : Judgement) (vs : List Verdict) → size ≡ Some n → b ≡ is_s7 m → b ≡ true
+    → sequence ≡ sequence_of m → j ≡ judge link m → made size link (message m at) vs ≡ by_judgement n link sequence vs j
+unfolding made
+made_judged size n link m at sequence b j vs is test this sequence_is judged =
+    let closing : Made = record { size = Some n; link = link; out = []; mets = []; verdicts = vs; standing = closes (NotS7 at) } in
+    ap (λ (s : Option ℕ). made s link (message m at) vs) is
+    ∙ (ap (λ (t : Bool). cond t (by_judgement n link (sequence_of m) vs (judge link m)) closing) (sym test ∙ this)
+    ∙ (ap (λ (k : ℕ). by_judgement n link k vs (judge link m)) (sym sequence_is)
+    ∙ ap (by_judgement n link sequence vs) (sym judged)))
 
 pub returns-in_default-clause-answers : goal.returns-in_default-clause-answers
-returns-in_default-clause-answers g c = λ after.
-    let b = between_of after c.args.self.now in
-    let m = c.message-message.result.now in
-    let octets = c.args.self.now.joiner.octets in
-    let size = c.args.size in
-    let asked = Write c.in-Write.items c.in-Write.places c.in-Write.body.now in
-    answers_memory _ (g.D.Doer.stands c.args.doer.now) (g.D.Doer.is_full c.args.doer.now) (message_handling b c.args.at size octets) b _
-    (λ moment. asked) false b (λ reply. b) (λ reply. sent_messages size (reply_octets (sequence_of m) reply ∷ [])) (sent_message size (refusal_octets (sequence_of m) FULL)) (sent_message size (refusal_octets (sequence_of m) CLOCK_FAILED))
-    (judged_message b c.args.at size m octets c.is_s7.result (judgement_of b.link (sequence_of m) (code.Write c.in-Write.items c.in-Write.places c.in-Write.body)) c.message-message.ensures c.is_s7.ensures c.if-not-is_s7.false
-    (c.in-Write.ensures.judged b.link refl)) c.requires.sent
+returns-in_default-clause-answers g c = λ at.
+    let link = link_of c.args.self.now.held in
+    answers_settled g.D.Doer.stands g.D.Doer.is_full g.D.Doer.may_lack c.args.doer.now (made (size_of c.args.self.now.size) link (message c.args.octets.now at)) at (size_of c.args.self.now.size) link _
+    (made_before (size_of c.args.self.now.size) link c.args.octets.now at _ (ap size_of c.in_default.is) (ap (λ o. o.unsent) c.clear.ensures))
 
-pub returns-in-Refuse-clause-answers : goal.returns-in-Refuse-clause-answers
-returns-in-Refuse-clause-answers g c = λ after.
-    let b = between_of after c.args.self.now in
-    let m = c.message-message.result.now in
-    let octets = c.args.self.now.joiner.octets in
-    let size = c.args.size in
-    let out = sent_message size (refusal_octets (sequence_of m) (error_of c.in-Refuse.refusal)) in
-    answers_settled _ (g.D.Doer.stands c.args.doer.now) (g.D.Doer.is_full c.args.doer.now) (message_handling b c.args.at size octets) b _ _
-    (settled_sent _ b b out _
-    (judged_message b c.args.at size m octets c.is_s7.result (judgement_of b.link (sequence_of m) (code.Refuse c.in-Refuse.refusal)) c.message-message.ensures c.is_s7.ensures c.if-not-is_s7.false
-    (c.in-Refuse.ensures.judged b.link refl)) refl
-    (ap (λ n. sent_message size (refusal_octets n (error_of c.in-Refuse.refusal))) (sym c.sequence_of-sequence.ensures)
-    ∙ (ap (λ n. sent_message size (refusal_octets c.sequence_of-sequence.result n)) (sym c.error.ensures)
-    ∙ after_nothing c.args.self.now.sender.outbox.unsent _ c.put_refusal.new.self.outbox.unsent c.put_refusal.ensures c.requires.sent)))
+pub returns-then-not-is_s7-clause-answers : goal.returns-then-not-is_s7-clause-answers
+returns-then-not-is_s7-clause-answers g c = λ at.
+    let link = link_of c.args.self.now.held in
+    answers_closing g.D.Doer.stands g.D.Doer.is_full g.D.Doer.may_lack c.args.doer.now (made (size_of c.args.self.now.size) link (message c.args.octets.now at)) at (size_of c.args.self.now.size) link _
+    (made_other (size_of c.args.self.now.size) c.in-Some.size.octets link c.args.octets.now at c.is_s7.result (ap size_of c.in-Some.is) c.is_s7.ensures c.if-not-is_s7.true)
+    (ap (λ o. o.unsent) c.clear.ensures)
 
-pub returns-in-Grant-clause-answers : goal.returns-in-Grant-clause-answers
-returns-in-Grant-clause-answers g c = λ after.
-    let b = between_of after c.args.self.now in
-    let m = c.message-message.result.now in
-    let octets = c.args.self.now.joiner.octets in
-    let size = c.args.size in
-    let granted = c.in-Grant.granted in
-    let out = sent_messages size (answer_octets (sequence_of m) (negotiation_spelling granted) [] ∷ []) in
-    answers_settled _ (g.D.Doer.stands c.args.doer.now) (g.D.Doer.is_full c.args.doer.now) (message_handling b c.args.at size octets) _ _ _
-    (settled_sent _ _ _ out _
-    (judged_message b c.args.at size m octets c.is_s7.result (judgement_of b.link (sequence_of m) (code.Grant granted)) c.message-message.ensures c.is_s7.ensures c.if-not-is_s7.false
-    (c.in-Grant.ensures.judged b.link refl)) refl
-    (one_message size (answer_octets (sequence_of m) (negotiation_spelling granted) []) _
-    (ap (λ n. sent_message size (answer_octets n (negotiation_spelling granted) [])) (sym c.sequence_of-sequence.ensures)
-    ∙ after_nothing c.args.self.now.sender.outbox.unsent _ c.put_grant.new.self.outbox.unsent c.put_grant.ensures c.requires.sent)))
-
-pub returns-in-Read-clause-answers : goal.returns-in-Read-clause-answers
-returns-in-Read-clause-answers g c = λ after.
-    let b = between_of after c.args.self.now in
-    let m = c.message-message.result.now in
-    let octets = c.args.self.now.joiner.octets in
-    let size = c.args.size in
-    let request = Read c.in-Read.items in
-    let failed : ℕ → List ℕ = λ n. sent_message size (refusal_octets n CLOCK_FAILED) in
-    same_handling _ (g.D.Doer.stands c.args.doer.now) (g.D.Doer.stands c.carry_out.new.doer) (g.D.Doer.is_full c.args.doer.now) (g.D.Doer.is_full c.carry_out.new.doer)
-    (message_handling b c.args.at size octets) (asking b size c.sequence_of-sequence.result request (failed c.sequence_of-sequence.result)) _ _ _
-    (judged_message b c.args.at size m octets c.is_s7.result (judgement_of b.link (sequence_of m) (code.Read c.in-Read.items)) c.message-message.ensures c.is_s7.ensures c.if-not-is_s7.false
-    (c.in-Read.ensures.judged b.link refl)
-    ∙ ap (λ n. asking b size n request (failed n)) (sym c.sequence_of-sequence.ensures))
-    (c.carry_out.ensures.answers b (failed c.sequence_of-sequence.result))
-
-pub returns-in-Ok-clause-answers : goal.returns-in-Ok-clause-answers
-returns-in-Ok-clause-answers g c = λ after.
-    let b = between_of after c.args.self.now in
-    let m = c.message-message.result.now in
-    let octets = c.args.self.now.joiner.octets in
-    let size = c.args.size in
-    let request : List ℕ → _ = λ xs. Write c.in-Write.items c.in-Write.places xs in
-    let failed : ℕ → List ℕ = λ n. sent_message size (refusal_octets n CLOCK_FAILED) in
-    same_handling _ (g.D.Doer.stands c.args.doer.now) (g.D.Doer.stands c.carry_out-in-Write.new.doer) (g.D.Doer.is_full c.args.doer.now) (g.D.Doer.is_full c.carry_out-in-Write.new.doer)
-    (message_handling b c.args.at size octets) (asking b size c.sequence_of-sequence.result (request c.in-Ok.octets) (failed c.sequence_of-sequence.result)) _ _ _
-    (judged_message b c.args.at size m octets c.is_s7.result (judgement_of b.link (sequence_of m) (code.Write c.in-Write.items c.in-Write.places c.in-Write.body)) c.message-message.ensures c.is_s7.ensures c.if-not-is_s7.false
-    (c.in-Write.ensures.judged b.link refl)
-    ∙ (ap (λ n. asking b size n (request c.in-Write.body.now) (failed n)) (sym c.sequence_of-sequence.ensures)
-    ∙ ap (λ xs. asking b size c.sequence_of-sequence.result (request xs) (failed c.sequence_of-sequence.result)) (sym c.in-Ok.ensures)))
-    (c.carry_out-in-Write.ensures.answers b (failed c.sequence_of-sequence.result))
+pub returns-clause-answers : goal.returns-clause-answers
+returns-clause-answers g c = λ at.
+    let link = link_of c.args.self.now.held in
+    let m = c.args.octets.now in
+    same_made g.D.Doer.stands g.D.Doer.is_full g.D.Doer.may_lack c.args.doer.now c.answer.new.doer (made (size_of c.args.self.now.size) link (message m at)) _ at _ _ _ c.answer.result
+    (λ vs. made_judged (size_of c.args.self.now.size) c.in-Some.size.octets link m at c.sequence_of.result c.is_s7.result
+    (judgement_of link c.sequence_of.result c.judge-judgement.result) vs (ap size_of c.in-Some.is) c.is_s7.ensures c.if-not-is_s7.false c.sequence_of.ensures
+    (ap (λ k. judgement_of link k c.judge-judgement.result) c.sequence_of.ensures ∙ c.judge-judgement.ensures.judged))
+    (c.answer.ensures.answers at)

@@ -7,7 +7,7 @@ use Rattle.s7_session.proofs.session.Session.serve.Goals as goal
 
 pub loop-init : goal.loop-init
 loop-init g c = record {
-  moves = moves_none _ c.args.self.now (g.L.Link.shows c.args.line.now) (g.D.Doer.stands c.args.doer.now) (g.D.Doer.is_full c.args.doer.now);
+  moves = moves_none g.D.Doer.stands g.D.Doer.is_full g.D.Doer.may_lack c.args.self.now (g.L.Link.shows c.args.line.now) c.args.doer.now;
   number = refl;
   kept = g.met.D.Doer.keeps_same c.args.doer.now;
   going = λ e. e;
@@ -16,16 +16,14 @@ loop-init g c = record {
 pub returns-in-Closed : goal.returns-in-Closed
 returns-in-Closed g c =
     let served =
-    served_after _ c.args.self.now c.loop.self c.turn.new.self (g.L.Link.shows c.args.line.now) (g.L.Link.shows c.loop.line) (g.L.Link.shows c.turn.new.line)
-    (g.D.Doer.stands c.args.doer.now) (g.D.Doer.stands c.loop.doer) (g.D.Doer.stands c.turn.new.doer) (g.D.Doer.is_full c.args.doer.now) (g.D.Doer.is_full c.loop.doer) (g.D.Doer.is_full c.turn.new.doer)
-    c.in-Closed.outcome c.loop.invariant.moves c.loop.invariant.going c.in-Closed.ensures.turn
+    served_after g.D.Doer.stands g.D.Doer.is_full g.D.Doer.may_lack c.args.self.now c.loop.self c.turn.new.self (g.L.Link.shows c.args.line.now) (g.L.Link.shows c.loop.line) (g.L.Link.shows c.turn.new.line)
+    c.args.doer.now c.loop.doer c.turn.new.doer c.in-Closed.outcome c.loop.invariant.moves c.loop.invariant.going c.in-Closed.ensures.turn
     in
     record {
       served = served;
-      run =
-          link_run _ c.args.self.now c.turn.new.self (g.L.Link.shows c.args.line.now) (g.L.Link.shows c.turn.new.line)
-          (g.D.Doer.stands c.args.doer.now) (g.D.Doer.stands c.turn.new.doer) (g.D.Doer.is_full c.args.doer.now) (g.D.Doer.is_full c.turn.new.doer)
-          c.in-Closed.outcome served;
+      run = λ first fresh.
+          link_run g.D.Doer.stands g.D.Doer.is_full g.D.Doer.may_lack first c.args.self.now c.turn.new.self (g.L.Link.shows c.args.line.now) (g.L.Link.shows c.turn.new.line)
+          c.args.doer.now c.turn.new.doer c.in-Closed.outcome served fresh;
       number = c.turn.ensures.number ∙ c.loop.invariant.number;
       kept = g.met.D.Doer.keeps_both c.args.doer.now c.loop.doer c.turn.new.doer c.loop.invariant.kept c.turn.ensures.kept;
     }
@@ -33,9 +31,8 @@ returns-in-Closed g c =
 pub loop-preserved : goal.loop-preserved
 loop-preserved g c = record {
   moves =
-      moves_both _ c.args.self.now c.loop.self c.turn.new.self (g.L.Link.shows c.args.line.now) (g.L.Link.shows c.loop.line) (g.L.Link.shows c.turn.new.line)
-      (g.D.Doer.stands c.args.doer.now) (g.D.Doer.stands c.loop.doer) (g.D.Doer.stands c.turn.new.doer) (g.D.Doer.is_full c.args.doer.now) (g.D.Doer.is_full c.loop.doer) (g.D.Doer.is_full c.turn.new.doer)
-      c.loop.invariant.moves c.turn.ensures.turn.moves;
+      moves_both g.D.Doer.stands g.D.Doer.is_full g.D.Doer.may_lack c.args.self.now c.loop.self c.turn.new.self (g.L.Link.shows c.args.line.now) (g.L.Link.shows c.loop.line) (g.L.Link.shows c.turn.new.line)
+      c.args.doer.now c.loop.doer c.turn.new.doer c.loop.invariant.moves c.turn.ensures.turn.moves;
   number = c.turn.ensures.number ∙ c.loop.invariant.number;
   kept = g.met.D.Doer.keeps_both c.args.doer.now c.loop.doer c.turn.new.doer c.loop.invariant.kept c.turn.ensures.kept;
   going = λ e. c.turn.ensures.turn.closed ∙ ap closed_by c.in-Went.is;
@@ -44,9 +41,8 @@ loop-preserved g c = record {
 pub loop-preserved-in-NotYet : goal.loop-preserved-in-NotYet
 loop-preserved-in-NotYet g c = record {
   moves =
-      moves_both _ c.args.self.now c.loop.self c.turn.new.self (g.L.Link.shows c.args.line.now) (g.L.Link.shows c.loop.line) (g.L.Link.shows c.turn.new.line)
-      (g.D.Doer.stands c.args.doer.now) (g.D.Doer.stands c.loop.doer) (g.D.Doer.stands c.turn.new.doer) (g.D.Doer.is_full c.args.doer.now) (g.D.Doer.is_full c.loop.doer) (g.D.Doer.is_full c.turn.new.doer)
-      c.loop.invariant.moves c.turn.ensures.turn.moves;
+      moves_both g.D.Doer.stands g.D.Doer.is_full g.D.Doer.may_lack c.args.self.now c.loop.self c.turn.new.self (g.L.Link.shows c.args.line.now) (g.L.Link.shows c.loop.line) (g.L.Link.shows c.turn.new.line)
+      c.args.doer.now c.loop.doer c.turn.new.doer c.loop.invariant.moves c.turn.ensures.turn.moves;
   number = c.turn.ensures.number ∙ c.loop.invariant.number;
   kept = g.met.D.Doer.keeps_both c.args.doer.now c.loop.doer c.turn.new.doer c.loop.invariant.kept c.turn.ensures.kept;
   going = λ e. c.turn.ensures.turn.closed ∙ ap closed_by c.in-NotYet.is;

@@ -1,12 +1,11 @@
 use Rattle.std.proofs.Common.{◌≡◌}
 use Rattle.std.specs.Prelude.{None}
-use Rattle.s7_plant.specs.declared.request.Request.{Request}
 use Rattle.s7_session.specs.Stands.{Moves, number_of, closed_with}
 use Rattle.s7_session.proofs.session.Session.serve.Given as goal
 
 abbrev pub invariant-loop : goal.invariant-loop
 invariant-loop g l = record {
-  moves : Moves ((d : g.row.D.Denot) (r q : Request) → g.D.Doer.is_full d r → g.D.Doer.is_full d q) l.fn.self (g.L.Link.shows l.fn.line) (g.D.Doer.stands l.fn.doer) (g.D.Doer.is_full l.fn.doer) l.self (g.L.Link.shows l.line) (g.D.Doer.stands l.doer) (g.D.Doer.is_full l.doer);
+  moves : Moves g.D.Doer.stands g.D.Doer.is_full g.D.Doer.may_lack l.fn.self (g.L.Link.shows l.fn.line) l.fn.doer l.self (g.L.Link.shows l.line) l.doer;
   number : number_of l.self ≡ number_of l.fn.self;
   kept : g.D.Doer.keeps l.fn.doer l.doer;
   going : closed_with l.fn.self ≡ None → closed_with l.self ≡ None;

@@ -1,0 +1,38 @@
+-- Passwords on their way (Snap7 1.4 sources, `TSnap7MicroClient::opSetPassword`), and what becomes of the right that
+-- they give.
+use Rattle.std.specs.Prelude.{ℕ, Bool, ◌==◌, ◌&&◌, nat_eq, bit_xor, List, []}
+use Rattle.std.specs.Prelude.{◌∷◌, length, Option, None, Some, if◌then◌else◌}
+use Rattle.std.specs.List.{starts_with}
+use Rattle.std.specs.Str.{bytes_eq}
+use Rattle.s7_area.specs.declared.guard.Guard.{Guard}
+use Rattle.s7_session.specs.Errors.{NO_GUARD, NO_RIGHT, WRONG_PASSWORD}
+
+-- the text of octets, by the octets two and one before them: each is masked with 55 and with the octet two before it
+abbrev pub decoded_after : ℕ → ℕ → List ℕ → List ℕ
+decoded_after second first [] = []
+decoded_after second first (octet ∷ octets) =
+    bit_xor (bit_xor octet 0x55) second ∷ decoded_after first octet octets
+
+-- THE TEXT of a password that came: no octet comes two before the first two
+unfoldable pub decoded : List ℕ → List ℕ
+decoded [] = []
+decoded (a ∷ []) = bit_xor a 0x55 ∷ []
+decoded (a ∷ b ∷ octets) = bit_xor a 0x55 ∷ bit_xor b 0x55 ∷ decoded_after a b octets
+
+-- the data that sets a password: `FF 09 00 08` and eight octets
+abbrev pub is_password : List ℕ → Bool
+is_password octets = (length octets == 12) && starts_with nat_eq octets (0xFF ∷ 0x09 ∷ 0x00 ∷ 0x08 ∷ [])
+
+-- the data of a telegram without data
+abbrev pub no_data : List ℕ
+no_data = 0x0A ∷ 0x00 ∷ 0x00 ∷ 0x00 ∷ []
+
+-- the error word of a password that is set
+abbrev pub set_error : Option Guard → List ℕ → ℕ
+set_error None text = NO_GUARD
+set_error (Some guard) text = if bytes_eq text guard.password then 0 else WRONG_PASSWORD
+
+-- the error word of a right that is cleared
+abbrev pub clear_error : Option Guard → Bool → ℕ
+clear_error None right = NO_GUARD
+clear_error (Some guard) right = if right then 0 else NO_RIGHT
