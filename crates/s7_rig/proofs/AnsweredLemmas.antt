@@ -1,5 +1,5 @@
 -- What a client hears of the answers that a session gives.
-use Rattle.std.proofs.Common.{◌≡◌, ℕ, ◌+◌, ◌<◌, ◌≤◌, ◌^◌, true, cond, eqb, List, [], ◌∷◌, ◌++◌, length, map, drop, Option, None, Some, option_map, Ok, refl, ap, ◌∙◌, arith, length-append}
+use Rattle.std.proofs.Common.{◌≡◌, ℕ, ◌+◌, ◌<◌, ◌≤◌, ◌^◌, Bool, true, cond, eqb, List, [], ◌∷◌, ◌++◌, length, map, drop, Option, None, Some, option_map, Ok, refl, ap, ◌∙◌, arith, length-append}
 use Rattle.std.proofs.Math.Seq.{take-append_seam, drop-append_seam}
 use Rattle.std.proofs.lemmas.Bool.{and_from, eq-eqb}
 use Rattle.s7_header.specs.Header.{header_of, refusal_of}
@@ -17,6 +17,8 @@ use Rattle.s7_area.specs.Memory.{Memory, written}
 use Rattle.s7_plant.specs.declared.request.Request.TheVariants.{Read, Write}
 use Rattle.s7_plant.specs.Answers.{read_item, write_codes}
 use Rattle.s7_plant.specs.Answers as plant
+use Rattle.s7_plant.specs.Requests.{asked}
+use Rattle.s7_plant.specs.State.{State}
 use Rattle.s7_client.specs.Question.{Question, negotiates, reads, writes}
 use Rattle.s7_client.specs.Answer.{Answer, refuses, grants, tells, notes, item_answers, counts_items, grant_in, acknowledged, by_header, by_kind, answer_of}
 use Rattle.s7_session.specs.Judgement.{answer_octets, refusal_octets, reply_octets}
@@ -55,9 +57,9 @@ answer_is_heard q s params body fits few short =
     ∙ ap (acknowledged q params) (drop-append_seam params body))
 
 -- a grant is heard
-pub negotiation_is_heard : (asked n : Negotiation) (s : ℕ) → s < 2 ^ 16 → answer_of (negotiates asked) s (answer_octets s (negotiation_spelling n) []) ≡ Some (grants n)
-negotiation_is_heard asked n s fits =
-    answer_is_heard (negotiates asked) s (negotiation_spelling n) [] fits (omega arith) (omega arith)
+pub negotiation_is_heard : (wanted n : Negotiation) (s : ℕ) → s < 2 ^ 16 → answer_of (negotiates wanted) s (answer_octets s (negotiation_spelling n) []) ≡ Some (grants n)
+negotiation_is_heard wanted n s fits =
+    answer_is_heard (negotiates wanted) s (negotiation_spelling n) [] fits (omega arith) (omega arith)
     ∙ ap grant_in (spelled_negotiation 0 n)
 
 -- ---- lengths
@@ -80,39 +82,44 @@ counted : (function : ℕ) (items : List Item) → counts_items function items (
 counted function items = and_from _ _ refl (and_from _ _ (eq-eqb function function refl) (eq-eqb (length items) (length items) refl))
 
 -- the reply to a read is heard as codes and octets of its items
-pub read_is_heard : (m : Memory) (items : List Item) (s : ℕ) → s < 2 ^ 16 → answer_size items ≤ 65535
-    → answer_of (reads items) s (reply_octets s (plant.answer_of m (Read items))) ≡ Some (tells (map (told_of m) items))
-read_is_heard m items s fits most =
+pub read_is_heard : (state : State) (right : Bool) (items : List Item) (s : ℕ) → s < 2 ^ 16 → answer_size items ≤ 65535
+    → answer_of (reads items) s (reply_octets s (plant.answer_of state (asked right (Read items)))) ≡ Some (tells (map (told_of state.memory right) items))
+read_is_heard state right items s fits most =
+    let m = state.memory in
     let params : List ℕ = items_params 0x04 (length items) in
-    let body : List ℕ = data_octets (map (read_item m) items) in
-    answer_is_heard (reads items) s params body fits (omega arith) (omega (arith, read_fits m items, most))
+    let body : List ℕ = data_octets (map (read_item m right) items) in
+    answer_is_heard (reads items) s params body fits (omega arith) (omega (arith, read_fits m right items, most))
     ∙ (ap (λ b. cond b (option_map tells (item_answers items body)) None) (counted 0x04 items)
-    ∙ ap (option_map tells) (items_are_told m items))
+    ∙ ap (option_map tells) (items_are_told m right items))
 
 -- it is no longer than was foreseen
-pub length-read : (m : Memory) (items : List Item) (s : ℕ) → length (reply_octets s (plant.answer_of m (Read items))) ≤ answer_size items
-length-read m items s = omega (arith, length-answer s (items_params 0x04 (length items)) (data_octets (map (read_item m) items)), read_fits m items)
+pub length-read : (state : State) (right : Bool) (items : List Item) (s : ℕ) → length (reply_octets s (plant.answer_of state (asked right (Read items)))) ≤ answer_size items
+length-read state right items s =
+    let m = state.memory in
+    omega (arith, length-answer s (items_params 0x04 (length items)) (data_octets (map (read_item m right) items)), read_fits m right items)
 
-pub least-read : (m : Memory) (items : List Item) (s : ℕ) → 14 ≤ length (reply_octets s (plant.answer_of m (Read items)))
-least-read m items s = omega (arith, length-answer s (items_params 0x04 (length items)) (data_octets (map (read_item m) items)))
+pub least-read : (state : State) (right : Bool) (items : List Item) (s : ℕ) → 14 ≤ length (reply_octets s (plant.answer_of state (asked right (Read items))))
+least-read state right items s = omega (arith, length-answer s (items_params 0x04 (length items)) (data_octets (map (read_item state.memory right) items)))
 
 -- each item has a code
-pub length-write_codes : (m : Memory) (items : List Item) (places : List DataPlace) (octets : List ℕ) → length places ≡ length items → length (write_codes m items places octets) ≡ length items
-length-write_codes m [] places octets many = refl
-length-write_codes m (item ∷ items) [] octets many = absurd (omega (arith, many))
-length-write_codes m (item ∷ items) (place ∷ places) octets many =
-    omega (arith, length-write_codes (written m true item (octets_at octets place)) items places octets (omega (arith, many)))
+pub length-write_codes : (m : Memory) (right : Bool) (items : List Item) (places : List DataPlace) (octets : List ℕ) → length places ≡ length items
+    → length (write_codes m right items places octets) ≡ length items
+length-write_codes m right [] places octets many = refl
+length-write_codes m right (item ∷ items) [] octets many = absurd (omega (arith, many))
+length-write_codes m right (item ∷ items) (place ∷ places) octets many =
+    omega (arith, length-write_codes (written m right item (octets_at octets place)) right items places octets (omega (arith, many)))
 
-pub length-write : (m : Memory) (items : List Item) (places : List DataPlace) (octets : List ℕ) (s : ℕ)
-    → length (reply_octets s (plant.answer_of m (Write items places octets))) ≡ 14 + length (write_codes m items places octets)
-length-write m items places octets s = omega (arith, length-answer s (items_params 0x05 (length items)) (write_codes m items places octets))
+pub length-write : (state : State) (right : Bool) (items : List Item) (places : List DataPlace) (octets : List ℕ) (s : ℕ)
+    → length (reply_octets s (plant.answer_of state (asked right (Write items places octets)))) ≡ 14 + length (write_codes state.memory right items places octets)
+length-write state right items places octets s =
+    omega (arith, length-answer s (items_params 0x05 (length items)) (write_codes state.memory right items places octets))
 
 -- the reply to a write is heard as the codes of its items
-pub write_is_heard : (m : Memory) (items : List Item) (places : List DataPlace) (octets found : List ℕ) (s : ℕ) → s < 2 ^ 16 → length places ≡ length items → length items < 2 ^ 16
-    → answer_of (writes items found) s (reply_octets s (plant.answer_of m (Write items places octets))) ≡ Some (notes (write_codes m items places octets))
-write_is_heard m items places octets found s fits many few =
+pub write_is_heard : (state : State) (right : Bool) (items : List Item) (places : List DataPlace) (octets found : List ℕ) (s : ℕ) → s < 2 ^ 16 → length places ≡ length items → length items < 2 ^ 16
+    → answer_of (writes items found) s (reply_octets s (plant.answer_of state (asked right (Write items places octets)))) ≡ Some (notes (write_codes state.memory right items places octets))
+write_is_heard state right items places octets found s fits many few =
     let params : List ℕ = items_params 0x05 (length items) in
-    let codes : List ℕ = write_codes m items places octets in
-    let all : length codes ≡ length items = length-write_codes m items places octets many in
+    let codes : List ℕ = write_codes state.memory right items places octets in
+    let all : length codes ≡ length items = length-write_codes state.memory right items places octets many in
     answer_is_heard (writes items found) s params codes fits (omega arith) (omega (arith, all, few))
     ∙ ap (λ b. cond b (Some (notes codes)) None) (and_from _ _ (counted 0x05 items) (eq-eqb (length codes) (length items) all))

@@ -22,8 +22,11 @@ use Rattle.s7_client.specs.Course.{begins_anew}
 use Rattle.s7_client.specs.Standing.{Moves, IsByOctets}
 use Rattle.s7_client.specs.Polling as client
 use Rattle.s7_plant.specs.declared.book.Book.{Book}
-use Rattle.s7_session.specs.Books.{own}
-use Rattle.s7_session.specs.Entry.{asked}
+use Rattle.s7_plant.specs.State.{begins_with}
+use Rattle.s7_session.specs.Books.{own, history_of}
+use Rattle.s7_session.specs.Entry.{answered}
+use Rattle.s7_session.specs.LinkState.{LinkState, first_link}
+use Rattle.s7_session.specs.Telegrams.{entered_of}
 use Rattle.s7_session.specs.Stands.{unread}
 use Rattle.s7_split.specs.Parts.{parts_of}
 use Rattle.s7_rig.specs.State.{Post}
@@ -75,6 +78,15 @@ left_as_it_was leaves grant is gone = absurd (no_grant grant (sym (ap (λ l. cli
 -- ---- starting
 
 module _ (opening : Memory) (limit : ℕ) (config : Config) (book : Book) where
+  -- the state with which the link began
+  abbrev first : LinkState
+  first = first_link opening.guard
+
+  -- what the octets have entered is what the history has of the link
+  entered_is : (p : Post) (o : Octets) → Joint opening limit config book p o
+      → entered first o.used o.verdicts ≡ map answered (own (begins_with opening) p.link (history_of book))
+  entered_is p o j = ap entered_of j.asked ∙ j.legal
+
   -- the client alone is another, with the same octets unread
   joint_started : (p : Post) (rest : List Job) (c : Client) (o : Octets) → Joint opening limit config book p o
       → client.unread_of c ≡ client.unread_of p.client → client.config_of c ≡ config
@@ -86,12 +98,16 @@ module _ (opening : Memory) (limit : ℕ) (config : Config) (book : Book) where
     stands = j.stands;
     taken = j.taken;
     given = j.given ∙ ap (λ x. o.heard ++ (x ++ p.pipes.to_client)) (sym unread);
+    asked = j.asked;
+    met = j.met;
     legal = j.legal;
-    full = j.full;
-    full_stays = j.full_stays;
+    begun = j.begun;
+    trail = j.trail;
     clock = j.clock;
     moment_is = j.moment_is;
     moments = j.moments;
+    count = j.count;
+    last = j.last;
     config_is = conf;
     done = j.done;
     mode = mode;
@@ -104,16 +120,16 @@ module _ (opening : Memory) (limit : ℕ) (config : Config) (book : Book) where
       → client.job_of p.client ≡ None → p.rest ≡ j ∷ rest → client.IsStarted p.client c j → Mode opening config book p o
       → Joint opening limit config book (record p { rest = rest; client = c; noted = Some [] }) o
   start_mode p j rest c o joint idle left s (untouched u) =
-      let first = connects_first j rest (subst ConnectsFirst left u.jobs) in
+      let jobs = connects_first j rest (subst ConnectsFirst left u.jobs) in
       let none : client.unread_of c ≡ [] =
-      s.unread ∙ ap (λ x. if begins_anew x j then [] else client.unread_of p.client) u.fresh.granted ∙ ap (λ x. if begins_anew None x then [] else client.unread_of p.client) first.0 in
+      s.unread ∙ ap (λ x. if begins_anew x j then [] else client.unread_of p.client) u.fresh.granted ∙ ap (λ x. if begins_anew None x then [] else client.unread_of p.client) jobs.0 in
       joint_started p rest c o joint (none ∙ sym u.fresh.unread) (s.config ∙ joint.config_is) (connecting (record {
         origin = client.origin_at p.client j;
         stands = subst (λ x. client.StandsFor c (client.origin_at p.client j) x o.sent) (sym u.heard) (subst (λ x. client.StandsFor c (client.origin_at p.client j) [] x) (sym u.sent) s.stands);
-        job = first.0;
+        job = jobs.0;
         config_is = u.fresh.config;
         granted = u.fresh.granted;
-        jobs = first.1;
+        jobs = jobs.1;
       }))
   start_mode p j rest c o joint idle left s (connecting k) = absurd (has_job p.client k.origin o.heard o.sent k.stands idle)
   start_mode p j rest c o joint idle left s (connected k) =
@@ -138,10 +154,10 @@ module _ (opening : Memory) (limit : ℕ) (config : Config) (book : Book) where
         heard_is = sym k.all_heard ∙ sym (append-nil _);
         used_is = sym (append-nil o.used);
         verdicts_are = sym (append-nil o.verdicts);
-        earlier = own opening p.link book.journal.entries;
+        earlier = own (begins_with opening) p.link (history_of book);
         mine = [];
         entries_are = sym (append-nil _);
-        earlier_are = joint.legal;
+        earlier_are = entered_is p o joint;
         noted = refl;
         jobs = jobs.1;
       }))
@@ -179,7 +195,7 @@ module _ (opening : Memory) (limit : ℕ) (config : Config) (book : Book) where
       → Joint opening limit config book p o
       → (m : Moves (client.unread_of p.client) (end_of loan p.pipes side.Client) (client.unread_of c) (end_of loan pipes side.Client))
       → client.config_of c ≡ client.config_of p.client
-      → AllStand opening book.journal.entries p.link config.pdu results places
+      → AllStand (begins_with opening) (history_of book) p.link config.pdu results places
       → Mode opening config book (polled_post p c pipes results places noted) (after o m.used m.written)
       → Joint opening limit config book (polled_post p c pipes results places noted) (after o m.used m.written)
   joint_polled p c pipes results places noted loan o j m same done mode = record {
@@ -188,12 +204,16 @@ module _ (opening : Memory) (limit : ℕ) (config : Config) (book : Book) where
     stands = j.stands;
     taken = taken_on o.sent o.used (unread p.session) p.pipes.to_server m.written pipes.to_server j.taken (wrote loan p.pipes pipes m.written m.wrote);
     given = given_on o.answered o.heard (client.unread_of p.client) p.pipes.to_client m.received m.used (client.unread_of c) pipes.to_client j.given (took loan p.pipes pipes m.received m.took) m.inbox;
+    asked = j.asked;
+    met = j.met;
     legal = j.legal;
-    full = j.full;
-    full_stays = j.full_stays;
+    begun = j.begun;
+    trail = j.trail;
     clock = j.clock;
     moment_is = same_moment loan p.pipes pipes m.moment ∙ j.moment_is;
     moments = j.moments;
+    count = j.count;
+    last = j.last;
     config_is = same ∙ j.config_is;
     done = done;
     mode = mode;
@@ -293,12 +313,16 @@ module _ (opening : Memory) (limit : ℕ) (config : Config) (book : Book) where
         stands = j.stands;
         taken = j.taken ∙ ap (λ x. o.used ++ (unread p.session ++ x)) to_server;
         given = j.given ∙ ap (λ x. o.heard ++ (client.unread_of p.client ++ x)) to_client;
+        asked = j.asked;
+        met = j.met;
         legal = j.legal;
-        full = j.full;
-        full_stays = j.full_stays;
+        begun = j.begun;
+        trail = j.trail;
         clock = j.clock;
         moment_is = ap (λ (k : Shown). unwrap_or k.moment 0) comes.2 ∙ j.moment_is;
         moments = j.moments;
+        count = j.count;
+        last = j.last;
         config_is = j.config_is;
         done = j.done;
         mode = idle_mode p pipes o comes.0 j.mode;
@@ -312,13 +336,13 @@ module _ (opening : Memory) (limit : ℕ) (config : Config) (book : Book) where
   -- ---- a job that is done
 
   pub record Ends (p : Post) (c : Client) (pipes : PipesHeld) (told : JobResult) (o' : Octets) : Type 0 where
-    pub stands : StandsAtPlaces opening book.journal.entries p.link config.pdu told (unwrap_or p.noted [])
+    pub stands : StandsAtPlaces (begins_with opening) (history_of book) p.link config.pdu told (unwrap_or p.noted [])
     pub mode : Mode opening config book (polled_post p c pipes (p.results ++ told ∷ []) (p.places ++ unwrap_or p.noted [] ∷ []) None) o'
 
   -- the session owes what the client used, and more that is on its way
   owes : (p : Post) (c : Client) (pipes : PipesHeld) (o : Octets) (heard : List ℕ) → Joint opening limit config book p o
       → o.answered ≡ heard ++ (client.unread_of c ++ pipes.to_client)
-      → owed o.used o.verdicts ≡ heard ++ ((client.unread_of c ++ pipes.to_client) ++ unsent p.session)
+      → owed first o.used o.verdicts ≡ heard ++ ((client.unread_of c ++ pipes.to_client) ++ unsent p.session)
   owes p c pipes o heard j given =
       j.stands.owed ∙ ap (λ x. x ++ unsent p.session) given ∙ append_assoc heard (client.unread_of c ++ pipes.to_client) (unsent p.session)
 
@@ -332,7 +356,7 @@ module _ (opening : Memory) (limit : ℕ) (config : Config) (book : Book) where
   connect_done least most p c pipes link link' used written o told j taken given idle k d =
       by (connect_ends k.origin link link' (client.unread_of c) d.end d.carried (o.heard ++ used) (o.sent ++ written) (client.waited_of p.client) d.cause)
     where
-      nothing : StandsAtPlaces opening book.journal.entries p.link config.pdu told (unwrap_or p.noted [])
+      nothing : StandsAtPlaces (begins_with opening) (history_of book) p.link config.pdu told (unwrap_or p.noted [])
       nothing = λ item is good. absurd (not_connect told.job item is (d.result.job ∙ k.job))
 
       ungranted : client.grant_of p.client ≡ None
@@ -350,7 +374,7 @@ module _ (opening : Memory) (limit : ℕ) (config : Config) (book : Book) where
       }
       by (inl well) =
           let behind = (client.unread_of c ++ pipes.to_client) ++ unsent p.session in
-          let over : IsConnectOver k.origin (o.heard ++ used) (o.sent ++ written) d.end d.carried o.used o.verdicts behind = record {
+          let over : IsConnectOver opening.guard k.origin (o.heard ++ used) (o.sent ++ written) d.end d.carried o.used o.verdicts behind = record {
             unconnected = k.granted;
             connects = k.job;
             least = subst (λ (x : Config). 64 ≤ x.pdu) (sym k.config_is) least;
@@ -363,7 +387,7 @@ module _ (opening : Memory) (limit : ℕ) (config : Config) (book : Book) where
             met = j.stands.met;
             owed_is = owes p c pipes o (o.heard ++ used) j given;
           } in
-          let s = connect_is_settled k.origin (o.heard ++ used) (o.sent ++ written) d.end d.carried o.used o.verdicts behind over in
+          let s = connect_is_settled opening.guard k.origin (o.heard ++ used) (o.sent ++ written) d.end d.carried o.used o.verdicts behind over in
           let pdu : well.0.pdu ≡ config.pdu = s.granted ∙ ap (λ (x : Config). x.pdu) k.config_is in
           record {
             stands = nothing;
@@ -374,9 +398,9 @@ module _ (opening : Memory) (limit : ℕ) (config : Config) (book : Book) where
               pdu = pdu;
               size = d.size ∙ s.size;
               sequence = subst (λ n. n < 65536) (sym d.sequence) s.sequence;
-              settled = subst (λ x. Settled x o.verdicts (Some config.pdu)) (sym s.all_used) (subst (λ n. Settled (o.sent ++ written) o.verdicts (Some n)) pdu s.settled);
+              settled = subst (λ x. Settled first x o.verdicts (Some config.pdu)) (sym s.all_used) (subst (λ n. Settled first (o.sent ++ written) o.verdicts (Some n)) pdu s.settled);
               all_used = s.all_used;
-              all_heard = ap (λ x. owed x o.verdicts) s.all_used ∙ s.owed_is;
+              all_heard = ap (λ x. owed first x o.verdicts) s.all_used ∙ s.owed_is;
               jobs = k.jobs;
             });
           }
@@ -405,14 +429,14 @@ module _ (opening : Memory) (limit : ℕ) (config : Config) (book : Book) where
     sent_all : o.sent ++ written ≡ w.before ++ sent
     sent_all = ap (λ x. x ++ written) w.sent_is ∙ append_assoc w.before w.sent written
 
-    heard_all : o.heard ++ used ≡ owed w.before w.judged ++ heard
-    heard_all = ap (λ x. x ++ used) w.heard_is ∙ append_assoc (owed w.before w.judged) w.heard used
+    heard_all : o.heard ++ used ≡ owed first w.before w.judged ++ heard
+    heard_all = ap (λ x. x ++ used) w.heard_is ∙ append_assoc (owed first w.before w.judged) w.heard used
 
     -- a fact about the session's octets, in the two parts that they have
     parted : (P : List ℕ → List Verdict → Type 0) → P o.used o.verdicts → P (w.before ++ w.used) (w.judged ++ w.verdicts)
     parted P h = subst (λ x. P x (w.judged ++ w.verdicts)) w.used_is (subst (λ y. P o.used y) w.verdicts_are h)
 
-    abbrev over : IsByOctets w.origin d.end d.carried heard sent → d.end.leaves ≡ AsItWas → IsJobOver w.origin config.pdu heard sent d.end d.carried w.before w.used w.judged w.verdicts behind
+    abbrev over : IsByOctets w.origin d.end d.carried heard sent → d.end.leaves ≡ AsItWas → IsJobOver first w.origin config.pdu heard sent d.end d.carried w.before w.used w.judged w.verdicts behind
     over octets leaves = record {
       grant = w.grant;
       granted = w.granted;
@@ -426,9 +450,9 @@ module _ (opening : Memory) (limit : ℕ) (config : Config) (book : Book) where
       settled = w.settled;
       unused = waits;
       taken = append_cancel_left w.before sent (w.used ++ waits) (sym sent_all ∙ taken ∙ ap (λ x. x ++ waits) w.used_is ∙ append_assoc w.before w.used waits);
-      met = parted (λ x y. (past x y).verdicts ≡ []) j.stands.met;
-      replies = parted (λ x y. AreReplies (entered x y)) (subst AreReplies (sym j.legal) (own_replies opening p.link book.journal.entries));
-      owed_is = parted (λ x y. owed x y ≡ (owed w.before w.judged ++ heard) ++ behind) (owes p c pipes o (o.heard ++ used) j given ∙ ap (λ x. x ++ behind) heard_all);
+      met = parted (λ x y. (past first x y).verdicts ≡ []) j.stands.met;
+      replies = parted (λ x y. AreReplies (entered first x y)) (subst AreReplies (sym (entered_is p o j)) (own_replies (begins_with opening) p.link (history_of book)));
+      owed_is = parted (λ x y. owed first x y ≡ (owed first w.before w.judged ++ heard) ++ behind) (owes p c pipes o (o.heard ++ used) j given ∙ ap (λ x. x ++ behind) heard_all);
     }
 
     job_ends : ((d.end.leaves ≡ AsItWas) × IsByOctets w.origin d.end d.carried heard sent) ⊎ (client.grant_after d.end.leaves (Some w.grant) ≡ None) → Ends p c pipes told (after o used written)
@@ -442,18 +466,18 @@ module _ (opening : Memory) (limit : ℕ) (config : Config) (book : Book) where
       });
     }
     job_ends (inl well) =
-        let s = job_is_settled w.origin config.pdu heard sent d.end d.carried w.before w.used w.judged w.verdicts behind (over well.1 well.0) in
+        let s = job_is_settled first w.origin config.pdu heard sent d.end d.carried w.before w.used w.judged w.verdicts behind (over well.1 well.0) in
         let used_all : o.used ≡ w.before ++ sent = w.used_is ∙ ap (λ x. w.before ++ x) s.all_used in
-        let entries : (x : List ℕ) → x ≡ w.before ++ sent → entered (w.before ++ sent) (w.judged ++ w.verdicts) ≡ entered x o.verdicts =
-        λ x e. ap (λ y. entered (w.before ++ sent) y) (sym w.verdicts_are) ∙ ap (λ y. entered y o.verdicts) (sym e) in
+        let entries : (x : List ℕ) → x ≡ w.before ++ sent → entered first (w.before ++ sent) (w.judged ++ w.verdicts) ≡ entered first x o.verdicts =
+        λ x e. ap (λ y. entered first (w.before ++ sent) y) (sym w.verdicts_are) ∙ ap (λ y. entered first y o.verdicts) (sym e) in
         record {
-          stands = stands_at opening book.journal.entries p.link config.pdu told w.earlier w.mine (unwrap_or p.noted []) w.entries_are (ap (λ n. unwrap_or n []) (sym w.noted))
+          stands = stands_at (begins_with opening) (history_of book) p.link config.pdu told w.earlier w.mine (unwrap_or p.noted []) w.entries_are (ap (λ n. unwrap_or n []) (sym w.noted))
               (λ item is good.
               let read = s.read item (sym d.result.job ∙ is) (sym d.result.code ∙ good) in
-              let all : entered (w.before ++ sent) (w.judged ++ w.verdicts) ≡ entered w.before w.judged ++ map asked w.mine =
-              entries o.used used_all ∙ j.legal ∙ ap (map asked) w.entries_are ∙ map-append asked w.earlier w.mine ∙ ap (λ x. x ++ map asked w.mine) (sym w.earlier_are) in
-              subst (λ x. ReadsParts (parts_of item config.pdu false) (map asked w.mine) x) (sym d.result.octets)
-              (reads_own (entered (w.before ++ sent) (w.judged ++ w.verdicts)) (entered w.before w.judged) read.0 w.mine (parts_of item config.pdu false) d.end.octets all read.1 read.2));
+              let all : entered first (w.before ++ sent) (w.judged ++ w.verdicts) ≡ entered first w.before w.judged ++ map answered w.mine =
+              entries o.used used_all ∙ entered_is p o j ∙ ap (map answered) w.entries_are ∙ map-append answered w.earlier w.mine ∙ ap (λ x. x ++ map answered w.mine) (sym w.earlier_are) in
+              subst (λ x. ReadsParts (parts_of item config.pdu false) (map answered w.mine) x) (sym d.result.octets)
+              (reads_own (entered first (w.before ++ sent) (w.judged ++ w.verdicts)) (entered first w.before w.judged) read.0 w.mine (parts_of item config.pdu false) d.end.octets all read.1 read.2));
           mode = connected (record {
             idle = idle;
             grant = w.grant;
@@ -461,9 +485,9 @@ module _ (opening : Memory) (limit : ℕ) (config : Config) (book : Book) where
             pdu = w.pdu;
             size = d.size ∙ s.size;
             sequence = subst (λ n. n < 65536) (sym d.sequence) s.sequence;
-            settled = subst (λ x. Settled x o.verdicts (Some config.pdu)) (sym used_all) (subst (λ y. Settled (w.before ++ sent) y (Some config.pdu)) (sym w.verdicts_are) s.settled);
+            settled = subst (λ x. Settled first x o.verdicts (Some config.pdu)) (sym used_all) (subst (λ y. Settled first (w.before ++ sent) y (Some config.pdu)) (sym w.verdicts_are) s.settled);
             all_used = used_all ∙ sym sent_all;
-            all_heard = ap (λ x. owed x o.verdicts) used_all ∙ ap (λ y. owed (w.before ++ sent) y) w.verdicts_are ∙ s.owed_is ∙ sym heard_all;
+            all_heard = ap (λ x. owed first x o.verdicts) used_all ∙ ap (λ y. owed first (w.before ++ sent) y) w.verdicts_are ∙ s.owed_is ∙ sym heard_all;
             jobs = w.jobs;
           });
         }
@@ -531,7 +555,7 @@ module _ (opening : Memory) (limit : ℕ) (config : Config) (book : Book) where
         refl,
         refl,
         joint_polled p c pipes (p.results ++ told ∷ []) (p.places ++ unwrap_or p.noted [] ∷ []) None loan o j m same
-            (all_stand_more opening book.journal.entries p.link config.pdu p.results p.places told (unwrap_or p.noted []) j.done ends.stands)
+            (all_stand_more (begins_with opening) (history_of book) p.link config.pdu p.results p.places told (unwrap_or p.noted []) j.done ends.stands)
             ends.mode,
       )
 

@@ -75,50 +75,50 @@ refused_first item items code rest other =
 
 -- ---- the data items of a memory
 
-first_good : (m : Memory) (item : Item) (items : List Item) (rest : List ℕ) → read_code m true item ≡ 0xFF
-    → item_answers (item ∷ items) (data_item_octets (read_code m true item) item.word (read_octets m true item) (eqb (length items) 0) ++ rest)
-    ≡ option_map (item_first (told_of m item)) (item_answers items rest)
-first_good m item items rest good =
-    let octets : List ℕ = read_octets m true item in
+first_good : (m : Memory) (right : Bool) (item : Item) (items : List Item) (rest : List ℕ) → read_code m right item ≡ 0xFF
+    → item_answers (item ∷ items) (data_item_octets (read_code m right item) item.word (read_octets m right item) (eqb (length items) 0) ++ rest)
+    ≡ option_map (item_first (told_of m right item)) (item_answers items rest)
+first_good m right item items rest good =
+    let octets : List ℕ = read_octets m right item in
     ap (λ code. item_answers (item ∷ items) (data_item_octets code item.word octets (eqb (length items) 0) ++ rest)) good
-    ∙ (full_first item items octets rest (read_whole m item good)
+    ∙ (full_first item items octets rest (read_whole m right item good)
     ∙ ap (λ code. option_map (item_first (told code octets)) (item_answers items rest)) (sym good))
 
-first_refused : (m : Memory) (item : Item) (items : List Item) (rest : List ℕ) → IsRefusing (read_code m true item)
-    → item_answers (item ∷ items) (data_item_octets (read_code m true item) item.word (read_octets m true item) (eqb (length items) 0) ++ rest)
-    ≡ option_map (item_first (told_of m item)) (item_answers items rest)
-first_refused m item items rest refused =
-    let code : ℕ = read_code m true item in
-    ap (λ b. item_answers (item ∷ items) (cond b (head_octets code item.word (length (read_octets m true item)) ++ read_octets m true item ++ padding (length (read_octets m true item)) (eqb (length items) 0)) (code ∷ 0 ∷ 0 ∷ 0 ∷ []) ++ rest)) refused.carried
+first_refused : (m : Memory) (right : Bool) (item : Item) (items : List Item) (rest : List ℕ) → IsRefusing (read_code m right item)
+    → item_answers (item ∷ items) (data_item_octets (read_code m right item) item.word (read_octets m right item) (eqb (length items) 0) ++ rest)
+    ≡ option_map (item_first (told_of m right item)) (item_answers items rest)
+first_refused m right item items rest refused =
+    let code : ℕ = read_code m right item in
+    ap (λ b. item_answers (item ∷ items) (cond b (head_octets code item.word (length (read_octets m right item)) ++ read_octets m right item ++ padding (length (read_octets m right item)) (eqb (length items) 0)) (code ∷ 0 ∷ 0 ∷ 0 ∷ []) ++ rest)) refused.carried
     ∙ (refused_first item items code rest refused.other
-    ∙ ap (λ octets. option_map (item_first (told code octets)) (item_answers items rest)) (sym (read_nothing m item refused)))
+    ∙ ap (λ octets. option_map (item_first (told code octets)) (item_answers items rest)) (sym (read_nothing m right item refused)))
 
-first_by : (m : Memory) (item : Item) (items : List Item) (rest : List ℕ) → (read_code m true item ≡ 0xFF) ⊎ IsRefusing (read_code m true item)
-    → item_answers (item ∷ items) (data_item_octets (read_code m true item) item.word (read_octets m true item) (eqb (length items) 0) ++ rest)
-    ≡ option_map (item_first (told_of m item)) (item_answers items rest)
-first_by m item items rest (inl good) = first_good m item items rest good
-first_by m item items rest (inr refused) = first_refused m item items rest refused
+first_by : (m : Memory) (right : Bool) (item : Item) (items : List Item) (rest : List ℕ) → (read_code m right item ≡ 0xFF) ⊎ IsRefusing (read_code m right item)
+    → item_answers (item ∷ items) (data_item_octets (read_code m right item) item.word (read_octets m right item) (eqb (length items) 0) ++ rest)
+    ≡ option_map (item_first (told_of m right item)) (item_answers items rest)
+first_by m right item items rest (inl good) = first_good m right item items rest good
+first_by m right item items rest (inr refused) = first_refused m right item items rest refused
 
 -- Each item is told with its code and its octets.
-pub items_are_told : (m : Memory) (items : List Item) → item_answers items (data_octets (map (read_item m) items)) ≡ Some (map (told_of m) items)
-items_are_told m [] = refl
-items_are_told m (item ∷ items) =
-    let others : List ℕ = data_octets (map (read_item m) items) in
-    ap (λ n. item_answers (item ∷ items) (data_item_octets (read_code m true item) item.word (read_octets m true item) (eqb n 0) ++ others)) (length-map items (read_item m))
-    ∙ (first_by m item items others (read_or_refused m item)
-    ∙ ap (option_map (item_first (told_of m item))) (items_are_told m items))
+pub items_are_told : (m : Memory) (right : Bool) (items : List Item) → item_answers items (data_octets (map (read_item m right) items)) ≡ Some (map (told_of m right) items)
+items_are_told m right [] = refl
+items_are_told m right (item ∷ items) =
+    let others : List ℕ = data_octets (map (read_item m right) items) in
+    ap (λ n. item_answers (item ∷ items) (data_item_octets (read_code m right item) item.word (read_octets m right item) (eqb n 0) ++ others)) (length-map items (read_item m right))
+    ∙ (first_by m right item items others (read_or_refused m right item)
+    ∙ ap (option_map (item_first (told_of m right item))) (items_are_told m right items))
 
 -- ---- their size
 
-sent_by : (m : Memory) (item : Item) → (read_code m true item ≡ 0xFF) ⊎ IsRefusing (read_code m true item) → sent_count (read_item m item) ≤ octet_count item
-sent_by m item (inl good) =
-    omega (arith, ap (λ code. cond (carries code) (length (read_octets m true item)) 0) good, read_whole m item good)
-sent_by m item (inr refused) = omega (arith, ap (λ b. cond b (length (read_octets m true item)) 0) refused.carried)
+sent_by : (m : Memory) (right : Bool) (item : Item) → (read_code m right item ≡ 0xFF) ⊎ IsRefusing (read_code m right item) → sent_count (read_item m right item) ≤ octet_count item
+sent_by m right item (inl good) =
+    omega (arith, ap (λ code. cond (carries code) (length (read_octets m right item)) 0) good, read_whole m right item good)
+sent_by m right item (inr refused) = omega (arith, ap (λ b. cond b (length (read_octets m right item)) 0) refused.carried)
 
-sent_at_most : (m : Memory) (items : List Item) → AreAtMost (map sent_count (map (read_item m) items)) (map octet_count items)
-sent_at_most m [] = tt
-sent_at_most m (item ∷ items) = (sent_by m item (read_or_refused m item), sent_at_most m items)
+sent_at_most : (m : Memory) (right : Bool) (items : List Item) → AreAtMost (map sent_count (map (read_item m right) items)) (map octet_count items)
+sent_at_most m right [] = tt
+sent_at_most m right (item ∷ items) = (sent_by m right item (read_or_refused m right item), sent_at_most m right items)
 
 -- an answer has at most its full size
-pub read_fits : (m : Memory) (items : List Item) → 14 + length (data_octets (map (read_item m) items)) ≤ answer_size items
-read_fits m items = answers_fit items (map (read_item m) items) (sent_at_most m items)
+pub read_fits : (m : Memory) (right : Bool) (items : List Item) → 14 + length (data_octets (map (read_item m right) items)) ≤ answer_size items
+read_fits m right items = answers_fit items (map (read_item m right) items) (sent_at_most m right items)

@@ -3,7 +3,7 @@ use Rattle.std.proofs.Common.{◌≡◌, inl, inr, true, ℕ, ◌<◌, ◌≤◌
 use Rattle.std.proofs.lemmas.List.{append_cancel_left}
 use Rattle.s7_tpkt.specs.Packets.{packet_of}
 use Rattle.s7_cotp.specs.Spelling.{spelling_of_data}
-use Rattle.s7_plant.specs.declared.request.Request.{Request}
+use Rattle.s7_plant.specs.declared.request.Ask.{Ask}
 use Rattle.s7_plant.specs.Replies.{Said}
 use Rattle.s7_wire.specs.Sent.{sent_message}
 use Rattle.s7_client.specs.declared.grant.Grant.{Grant}
@@ -14,19 +14,21 @@ use Rattle.s7_client.specs.Dialogue.{End, Next, sends, numbered, fault_end, conv
 use Rattle.s7_client.specs.Course.{Origin, Course, Awaits, for_answer, for_departure, for_nothing, course}
 use Rattle.s7_client.specs.Standing.{IsByOctets}
 use Rattle.s7_client.proofs.FitLemmas.{sent_short}
+use Rattle.s7_session.specs.LinkState.{LinkState}
+use Rattle.s7_session.specs.Telegrams.{entered_of}
 use Rattle.s7_session.specs.Verdict.{Verdict}
 use Rattle.s7_session.specs.Owed.{Past, past, owed, entered}
-use Rattle.s7_session.proofs.PastLemmas.{with_more}
-use Rattle.s7_session.proofs.RunLemmas.{past_grows}
+use Rattle.s7_session.proofs.PastLemmas.{with_more, past_grows}
 use Rattle.s7_rig.specs.Settled.{Settled}
 use Rattle.s7_rig.specs.Awaiting.{Awaiting}
 use Rattle.s7_rig.specs.Dialogues.{AreReplies}
 use Rattle.s7_rig.specs.Exchanges.{IsAskable, Replies, Exchange, entries_of, Converses}
 use Rattle.s7_rig.proofs.OneFragment.{message_is_one_packet}
-use Rattle.s7_rig.proofs.FrontLemmas.{past_with, served_front}
+use Rattle.s7_rig.proofs.FrontLemmas.{served_front}
 use Rattle.s7_rig.proofs.JudgedLemmas.{question_is_s7}
 use Rattle.s7_rig.proofs.HeardLemmas.{heard_front}
-use Rattle.s7_rig.proofs.GrowthLemmas.{course_grows, entered_grows}
+use Rattle.s7_rig.proofs.GrowthLemmas.{course_grows}
+use Rattle.s7_rig.proofs.PastFacts.{past_with, entered_grows}
 use Rattle.s7_rig.proofs.ListFacts.{Parts, parts, some_of}
 use Rattle.s7_rig.proofs.ReplyLemmas.{lives_on, replied}
 use Rattle.s7_rig.proofs.AskableLemmas.{askable}
@@ -35,6 +37,8 @@ use Rattle.s7_rig.proofs.AskableLemmas.{askable}
 
 -- What both ends have of a job in the end: the octets that the session used and its verdicts are those of the whole link.
 pub record Whole : Type 0 where
+  -- the state with which the link began
+  pub first : LinkState
   pub origin : Origin
   pub pdu : ℕ
   pub heard : List ℕ
@@ -57,9 +61,9 @@ pub record IsWhole (w : Whole) : Type 0 where
   pub most : w.pdu ≤ 960
   pub over : IsByOctets w.origin w.end w.carried w.heard w.sent
   pub leaves : w.end.leaves ≡ AsItWas
-  pub met : (past w.used w.verdicts).verdicts ≡ []
-  pub replies : AreReplies (entered w.used w.verdicts)
-  pub owed_is : owed w.used w.verdicts ≡ (w.before ++ w.heard) ++ w.behind
+  pub met : (past w.first w.used w.verdicts).verdicts ≡ []
+  pub replies : AreReplies (entered w.first w.used w.verdicts)
+  pub owed_is : owed w.first w.used w.verdicts ≡ (w.before ++ w.heard) ++ w.behind
 
 -- between two messages, once a question is asked
 pub record Place : Type 0 where
@@ -79,23 +83,23 @@ pub record IsAt (w : Whole) (p : Place) : Type 0 where
   pub awaiting : Awaiting w.origin p.heard p.question p.number
   pub asked : dialogue w.origin.job w.origin.config w.origin.granted (course w.origin p.heard).answers ≡ sends (numbered p.question)
   pub low : p.number < 65536
-  pub settled : Settled p.used p.verdicts (Some w.pdu)
+  pub settled : Settled w.first p.used p.verdicts (Some w.pdu)
   pub heard_is : w.heard ≡ p.heard ++ p.more
   pub out_is : (course w.origin p.heard).out ≡ p.out ++ sent_message 1024 (question_octets p.number p.question)
   pub sent_is : w.sent ≡ p.out ++ (p.taken ++ w.unused)
   pub used_is : w.used ≡ p.used ++ p.taken
   pub verdicts_are : w.verdicts ≡ p.verdicts ++ p.left
-  pub owed_is : owed p.used p.verdicts ≡ w.before ++ p.heard
+  pub owed_is : owed w.first p.used p.verdicts ≡ w.before ++ p.heard
 
 -- Both stand between two messages again, and from these answers and entries on the job went by exchanges.
-pub record IsDone (w : Whole) (answers : List Answer) (entries : List (Request × Said)) : Type 0 where
+pub record IsDone (w : Whole) (answers : List Answer) (entries : List (Ask × Said)) : Type 0 where
   pub none_unused : w.unused ≡ []
   pub nothing_behind : w.behind ≡ []
-  pub settled : Settled w.used w.verdicts (Some w.pdu)
+  pub settled : Settled w.first w.used w.verdicts (Some w.pdu)
   pub size : (course w.origin w.heard).size ≡ 1024
   pub sequence : (course w.origin w.heard).sequence < 65536
   pub exchanges : List Exchange
-  pub entered_is : entered w.used w.verdicts ≡ entries ++ entries_of exchanges
+  pub entered_is : entered w.first w.used w.verdicts ≡ entries ++ entries_of exchanges
   pub converses : Converses w.origin answers w.end exchanges
 
 -- ---- small lemmas
@@ -146,7 +150,7 @@ not_over w p i h same =
 pub some_more : (w : Whole) (p : Place) → IsWhole w → IsAt w p → 0 < length p.more
 some_more w p i h = some_of p.more (λ none. not_over w p i h (ap (course w.origin) (ap (λ x. p.heard ++ x) none ∙ append-nil p.heard)))
 
-pub owes_more : (w : Whole) (p : Place) → IsWhole w → IsAt w p → owed w.used w.verdicts ≡ owed p.used p.verdicts ++ (p.more ++ w.behind)
+pub owes_more : (w : Whole) (p : Place) → IsWhole w → IsAt w p → owed w.first w.used w.verdicts ≡ owed w.first p.used p.verdicts ++ (p.more ++ w.behind)
 owes_more w p i h =
     i.owed_is ∙ (regrouped w.before w.heard p.heard p.more w.behind h.heard_is ∙ ap (λ x. x ++ (p.more ++ w.behind)) (sym h.owed_is))
 
@@ -160,8 +164,8 @@ taken_by : (w : Whole) (p : Place) → IsWhole w → IsAt w p → (rest : List �
 taken_by w p i h rest (inr k) = (k.0, k.1)
 taken_by w p i h rest (inl k) =
     let waits = served_front p.used p.taken k.0 (question_octets p.number p.question) p.verdicts p.left (Some w.pdu) h.settled (omega (arith, fits_pdu w p i h, i.most)) k.1 k.2 in
-    let same : owed w.used w.verdicts ≡ owed p.used p.verdicts = ap₂ owed h.used_is h.verdicts_are ∙ waits.owed in
-    absurd (omega (arith, ap length (sym same ∙ owes_more w p i h), length-append (owed p.used p.verdicts) (p.more ++ w.behind), length-append p.more w.behind, some_more w p i h))
+    let same : owed w.first w.used w.verdicts ≡ owed w.first p.used p.verdicts = ap₂ (owed w.first) h.used_is h.verdicts_are ∙ waits.owed in
+    absurd (omega (arith, ap length (sym same ∙ owes_more w p i h), length-append (owed w.first p.used p.verdicts) (p.more ++ w.behind), length-append p.more w.behind, some_more w p i h))
 
 -- the session used the whole question
 whole_taken : (w : Whole) (p : Place) → IsWhole w → IsAt w p → (z : List ℕ) × (p.taken ≡ packet_at p ++ z)
@@ -175,18 +179,18 @@ whole_taken w p i h =
 pub used_past : (w : Whole) (p : Place) (z : List ℕ) → IsAt w p → p.taken ≡ packet_at p ++ z → w.used ≡ (p.used ++ packet_at p) ++ z
 used_past w p z h is = h.used_is ∙ (ap (λ x. p.used ++ x) is ∙ sym (append_assoc p.used (packet_at p) z))
 
-reply_at : (w : Whole) (p : Place) (z : List ℕ) → IsWhole w → IsAt w p → p.taken ≡ packet_at p ++ z → Replies p.used p.verdicts p.left w.pdu p.question p.number
+reply_at : (w : Whole) (p : Place) (z : List ℕ) → IsWhole w → IsAt w p → p.taken ≡ packet_at p ++ z → Replies w.first p.used p.verdicts p.left w.pdu p.question p.number
 reply_at w p z i h is =
     let fits = fits_pdu w p i h in
     let m = question_octets p.number p.question in
     replied p.used p.verdicts p.left w.pdu p.question p.number h.settled h.low i.most fits (can_ask w p i h)
     (lives_on p.used m z (p.more ++ w.behind) p.verdicts p.left (Some w.pdu) h.settled (omega (arith, fits, i.most)) (question_is_s7 p.number p.question)
-    (ap₂ owed (sym (used_past w p z h is)) (sym h.verdicts_are) ∙ owes_more w p i h)
+    (ap₂ (owed w.first) (sym (used_past w p z h is)) (sym h.verdicts_are) ∙ owes_more w p i h)
     (omega (arith, length-append p.more w.behind, some_more w p i h)))
 
 -- The session used the question and gave this reply, and the client heard the reply whole.
 pub record IsReplied (w : Whole) (p : Place) : Type 0 where
-  pub reply : Replies p.used p.verdicts p.left w.pdu p.question p.number
+  pub reply : Replies w.first p.used p.verdicts p.left w.pdu p.question p.number
   pub taken : List ℕ
   pub taken_is : p.taken ≡ packet_at p ++ taken
   pub least : 10 ≤ length reply.message
@@ -194,39 +198,39 @@ pub record IsReplied (w : Whole) (p : Place) : Type 0 where
   pub more : List ℕ
   pub more_is : p.more ≡ packet_of (spelling_of_data true reply.message) ++ more
 
-replies_front : (new es : List (Request × Said)) → AreReplies (new ++ es) → AreReplies new
+replies_front : (new es : List (Ask × Said)) → AreReplies (new ++ es) → AreReplies new
 replies_front [] es h = tt
 replies_front (e ∷ new) es h = (h.0, replies_front new es h.1)
 
-replies_in : (xs new es : List (Request × Said)) → AreReplies ((xs ++ new) ++ es) → AreReplies new
+replies_in : (xs new es : List (Ask × Said)) → AreReplies ((xs ++ new) ++ es) → AreReplies new
 replies_in [] new es h = replies_front new es h
 replies_in (x ∷ xs) new es h = replies_in xs new es h.1
 
 -- what the session has after the reply, with the verdicts to come
-pub past_replied : (w : Whole) (p : Place) (r : Replies p.used p.verdicts p.left w.pdu p.question p.number) → past (p.used ++ packet_at p) (r.met ++ r.left) ≡ with_more (past (p.used ++ packet_at p) r.met) r.left
-past_replied w p r = past_with (p.used ++ packet_at p) r.met r.left r.serves.settled.lives
+pub past_replied : (w : Whole) (p : Place) (r : Replies w.first p.used p.verdicts p.left w.pdu p.question p.number) → past w.first (p.used ++ packet_at p) (r.met ++ r.left) ≡ with_more (past w.first (p.used ++ packet_at p) r.met) r.left
+past_replied w p r = past_with w.first (p.used ++ packet_at p) r.met r.left r.serves.settled.lives
 
-pub past_whole : (w : Whole) (p : Place) (z : List ℕ) (r : Replies p.used p.verdicts p.left w.pdu p.question p.number) → IsAt w p → p.taken ≡ packet_at p ++ z
-    → past w.used w.verdicts ≡ past ((p.used ++ packet_at p) ++ z) (r.met ++ r.left)
-past_whole w p z r h is = ap₂ past (used_past w p z h is) (h.verdicts_are ∙ r.split)
+pub past_whole : (w : Whole) (p : Place) (z : List ℕ) (r : Replies w.first p.used p.verdicts p.left w.pdu p.question p.number) → IsAt w p → p.taken ≡ packet_at p ++ z
+    → past w.first w.used w.verdicts ≡ past w.first ((p.used ++ packet_at p) ++ z) (r.met ++ r.left)
+past_whole w p z r h is = ap₂ (past w.first) (used_past w p z h is) (h.verdicts_are ∙ r.split)
 
-new_replies : (w : Whole) (p : Place) (z : List ℕ) (r : Replies p.used p.verdicts p.left w.pdu p.question p.number) → IsWhole w → IsAt w p → p.taken ≡ packet_at p ++ z → AreReplies r.new
+new_replies : (w : Whole) (p : Place) (z : List ℕ) (r : Replies w.first p.used p.verdicts p.left w.pdu p.question p.number) → IsWhole w → IsAt w p → p.taken ≡ packet_at p ++ z → AreReplies r.new
 new_replies w p z r i h is =
-    let g = entered_grows (p.used ++ packet_at p) z (r.met ++ r.left) in
-    let same : entered w.used w.verdicts ≡ (entered p.used p.verdicts ++ r.new) ++ g.0 =
-    ap (λ (q : Past). q.entered) (past_whole w p z r h is)
-    ∙ (g.1 ∙ ap (λ x. x ++ g.0) (ap (λ (q : Past). q.entered) (past_replied w p r) ∙ r.serves.entered)) in
-    replies_in (entered p.used p.verdicts) r.new g.0 (subst AreReplies same i.replies)
+    let g = entered_grows w.first (p.used ++ packet_at p) z (r.met ++ r.left) in
+    let same : entered w.first w.used w.verdicts ≡ (entered w.first p.used p.verdicts ++ r.new) ++ g.0 =
+    ap (λ (q : Past). entered_of q.mets) (past_whole w p z r h is)
+    ∙ (g.1 ∙ ap (λ x. x ++ g.0) (ap (λ (q : Past). entered_of q.mets) (past_replied w p r) ∙ r.serves.entered)) in
+    replies_in (entered w.first p.used p.verdicts) r.new g.0 (subst AreReplies same i.replies)
 
-more_front : (w : Whole) (p : Place) (z : List ℕ) (r : Replies p.used p.verdicts p.left w.pdu p.question p.number) → IsWhole w → IsAt w p → p.taken ≡ packet_at p ++ z
+more_front : (w : Whole) (p : Place) (z : List ℕ) (r : Replies w.first p.used p.verdicts p.left w.pdu p.question p.number) → IsWhole w → IsAt w p → p.taken ≡ packet_at p ++ z
     → (rest : List ℕ) × (sent_message 1024 r.message ++ rest ≡ p.more ++ w.behind)
 more_front w p z r i h is =
-    let g = past_grows (p.used ++ packet_at p) z (r.met ++ r.left) in
+    let g = past_grows w.first (p.used ++ packet_at p) z (r.met ++ r.left) in
     let a = sent_message 1024 r.message in
-    let same : owed w.used w.verdicts ≡ (owed p.used p.verdicts ++ a) ++ g.tail =
+    let same : owed w.first w.used w.verdicts ≡ (owed w.first p.used p.verdicts ++ a) ++ g.tail =
     ap (λ (q : Past). q.owed) (past_whole w p z r h is)
     ∙ (g.owed ∙ ap (λ x. x ++ g.tail) (ap (λ (q : Past). q.owed) (past_replied w p r) ∙ r.serves.owed)) in
-    (g.tail, append_cancel_left (owed p.used p.verdicts) (a ++ g.tail) (p.more ++ w.behind) (sym (append_assoc (owed p.used p.verdicts) a g.tail) ∙ (sym same ∙ owes_more w p i h)))
+    (g.tail, append_cancel_left (owed w.first p.used p.verdicts) (a ++ g.tail) (p.more ++ w.behind) (sym (append_assoc (owed w.first p.used p.verdicts) a g.tail) ∙ (sym same ∙ owes_more w p i h)))
 
 heard_by : (w : Whole) (p : Place) (m rest : List ℕ) → IsWhole w → IsAt w p → length m ≤ 1021 → Parts (packet_of (spelling_of_data true m)) rest p.more w.behind
     → (more : List ℕ) × (p.more ≡ packet_of (spelling_of_data true m) ++ more)
@@ -234,7 +238,7 @@ heard_by w p m rest i h most (inr k) = (k.0, k.1)
 heard_by w p m rest i h most (inl k) =
     absurd (not_over w p i h (heard_front w.origin p.heard m p.more k.0 p.question p.number h.awaiting most k.1 k.2))
 
-reply_heard : (w : Whole) (p : Place) (z : List ℕ) (r : Replies p.used p.verdicts p.left w.pdu p.question p.number) → IsWhole w → IsAt w p → p.taken ≡ packet_at p ++ z
+reply_heard : (w : Whole) (p : Place) (z : List ℕ) (r : Replies w.first p.used p.verdicts p.left w.pdu p.question p.number) → IsWhole w → IsAt w p → p.taken ≡ packet_at p ++ z
     → AreReplies r.new → IsReplied w p
 reply_heard w p z r i h is given =
     let front = more_front w p z r i h is in

@@ -6,6 +6,7 @@ use Rattle.std.proofs.lemmas.Option.{slice_get_within, get_or_from_slice_get}
 use Rattle.s7_outer.specs.Shown.{Shown}
 use Rattle.s7_outer.specs.PipesHeld.{PipesHeld}
 use Rattle.s7_area.specs.Memory.{Memory}
+use Rattle.s7_area.specs.declared.guard.Guard.{Guard}
 use Rattle.s7_client.specs.declared.client.Client.{Client}
 use Rattle.s7_client.specs.Codes.{link_ended, send_failed, receive_failed, timed_out}
 use Rattle.s7_client.specs.declared.config.Config.{Config}
@@ -128,21 +129,21 @@ rounds_go law (suc more) old new g (inr (busy, middle, stirs, turns, inl h)) =
 rounds_go law (suc more) old new g (inr (busy, middle, stirs, turns, inr h)) =
     rounds_go law more middle new (turns_go law _ old middle stirs g turns) h.1
 
-fresh_goes : (config : Config) (link : ℕ) (scripts : List (List Job)) (posts : List Post) → AreFresh config link scripts posts → All IsGoing posts
+fresh_goes : (guard : Option Guard) (config : Config) (link : ℕ) (scripts : List (List Job)) (posts : List Post) → AreFresh guard config link scripts posts → All IsGoing posts
 unfolding AreFresh
-fresh_goes config link [] [] h = All-nil IsGoing
-fresh_goes config link [] (p ∷ posts) h = absurd h
-fresh_goes config link (jobs ∷ scripts) [] h = absurd h
-fresh_goes config link (jobs ∷ scripts) (p ∷ posts) h =
+fresh_goes guard config link [] [] h = All-nil IsGoing
+fresh_goes guard config link [] (p ∷ posts) h = absurd h
+fresh_goes guard config link (jobs ∷ scripts) [] h = absurd h
+fresh_goes guard config link (jobs ∷ scripts) (p ∷ posts) h =
     All-cons IsGoing p posts
     (record { standing = inl h.0.client.job; formed = subst (All IsFormed) (sym h.0.results) (All-nil IsFormed) })
-    (fresh_goes config (link + 1) scripts posts h.1)
+    (fresh_goes guard config (link + 1) scripts posts h.1)
 
 -- each result that a rig tells has its form
 pub rig_formed : EndsHaveForm → (opening : Memory) (limit : ℕ) (config : Config) (scripts : List (List Job)) (turning : Turning) (end : EndTold)
     → RigRan opening limit config scripts turning end → All AreFormed end.clients
 rig_formed law opening limit config scripts turning end h =
-    let begun = fresh_goes config 1 scripts h.start.posts h.fresh in
+    let begun = fresh_goes opening.guard config 1 scripts h.start.posts h.fresh in
     let turned = turns_go law _ h.start h.run.middle h.run.stirred begun h.run.turned in
     let gone = rounds_go law most_rounds h.run.middle h.last turned h.run.rounds in
     subst (λ (e : EndTold). All AreFormed e.clients) (sym h.ends)

@@ -1,35 +1,36 @@
 -- One more fresh client at the end.
-use Rattle.std.proofs.Common.{◌≡◌, ℕ, ◌+◌, List, [], ◌∷◌, ◌++◌, length, map, Vec, Global, sym, ap, ◌∙◌, subst, arith}
+use Rattle.std.proofs.Common.{◌≡◌, ℕ, ◌+◌, List, [], ◌∷◌, ◌++◌, length, map, Option, Vec, Global, sym, ap, ◌∙◌, subst, arith}
 use Rattle.std.proofs.lemmas.List.{length-map, map-append}
+use Rattle.s7_area.specs.declared.guard.Guard.{Guard}
 use Rattle.s7_client.specs.declared.config.Config.{Config}
 use Rattle.s7_client.specs.declared.job.Job.{Job}
 use Rattle.s7_rig.specs.State.{Post}
 use Rattle.s7_rig.specs.Runs.{IsFreshPost, AreFresh}
 
-pub AreFresh-none : (config : Config) (link : ℕ) → AreFresh config link [] []
+pub AreFresh-none : (guard : Option Guard) (config : Config) (link : ℕ) → AreFresh guard config link [] []
 unfolding AreFresh
-AreFresh-none config link = tt {0}
+AreFresh-none guard config link = tt {0}
 
-pub AreFresh-push : (config : Config) (link at : ℕ) (scripts : List (List Job)) (posts : List Post) (jobs : List Job) (p : Post)
-    → at ≡ link + length scripts → AreFresh config link scripts posts → IsFreshPost config at jobs p → AreFresh config link (scripts ++ jobs ∷ []) (posts ++ p ∷ [])
+pub AreFresh-push : (guard : Option Guard) (config : Config) (link at : ℕ) (scripts : List (List Job)) (posts : List Post) (jobs : List Job) (p : Post)
+    → at ≡ link + length scripts → AreFresh guard config link scripts posts → IsFreshPost guard config at jobs p → AreFresh guard config link (scripts ++ jobs ∷ []) (posts ++ p ∷ [])
 unfolding AreFresh
-AreFresh-push config link at [] [] jobs p e h f =
+AreFresh-push guard config link at [] [] jobs p e h f =
     let k : at ≡ link = omega (arith, e) in
-    (subst (λ n. IsFreshPost config n jobs p) k f, tt {0})
-AreFresh-push config link at [] (q ∷ posts) jobs p e h f = absurd h
-AreFresh-push config link at (s ∷ scripts) [] jobs p e h f = absurd h
-AreFresh-push config link at (s ∷ scripts) (q ∷ posts) jobs p e h f =
+    (subst (λ n. IsFreshPost guard config n jobs p) k f, tt {0})
+AreFresh-push guard config link at [] (q ∷ posts) jobs p e h f = absurd h
+AreFresh-push guard config link at (s ∷ scripts) [] jobs p e h f = absurd h
+AreFresh-push guard config link at (s ∷ scripts) (q ∷ posts) jobs p e h f =
     let k : at ≡ link + 1 + length scripts = omega (arith, e) in
-    (h.0, AreFresh-push config (link + 1) at scripts posts jobs p k h.1 f)
+    (h.0, AreFresh-push guard config (link + 1) at scripts posts jobs p k h.1 f)
 
 -- the same of what stands for them
-pub AreFresh-more : {S : Type 0} (config : Config) (at : ℕ) (post : S → Post) (scripts : List (Vec Job Global)) (jobs : Vec Job Global) (xs xs' : List S) (x : S)
-    → at ≡ 1 + length scripts → xs' ≡ xs ++ x ∷ [] → AreFresh config 1 (map (λ s. s.items) scripts) (map post xs) → IsFreshPost config at jobs.items (post x)
-    → AreFresh config 1 (map (λ s. s.items) (scripts ++ jobs ∷ [])) (map post xs')
-AreFresh-more config at post scripts jobs xs xs' x n e h f =
+pub AreFresh-more : {S : Type 0} (guard : Option Guard) (config : Config) (at : ℕ) (post : S → Post) (scripts : List (Vec Job Global)) (jobs : Vec Job Global) (xs xs' : List S) (x : S)
+    → at ≡ 1 + length scripts → xs' ≡ xs ++ x ∷ [] → AreFresh guard config 1 (map (λ s. s.items) scripts) (map post xs) → IsFreshPost guard config at jobs.items (post x)
+    → AreFresh guard config 1 (map (λ s. s.items) (scripts ++ jobs ∷ [])) (map post xs')
+AreFresh-more guard config at post scripts jobs xs xs' x n e h f =
     let all = map-append (λ (s : Vec Job Global). s.items) scripts (jobs ∷ []) in
     let posts = ap (map post) e ∙ map-append post xs (x ∷ []) in
     let k : at ≡ 1 + length (map (λ (s : Vec Job Global). s.items) scripts) = n ∙ ap (λ m. 1 + m) (sym (length-map scripts (λ (s : Vec Job Global). s.items))) in
-    subst (λ ps. AreFresh config 1 (map (λ s. s.items) (scripts ++ jobs ∷ [])) ps) (sym posts)
-    (subst (λ ss. AreFresh config 1 ss (map post xs ++ post x ∷ [])) (sym all)
-    (AreFresh-push config 1 at _ _ jobs.items (post x) k h f))
+    subst (λ ps. AreFresh guard config 1 (map (λ s. s.items) (scripts ++ jobs ∷ [])) ps) (sym posts)
+    (subst (λ ss. AreFresh guard config 1 ss (map post xs ++ post x ∷ [])) (sym all)
+    (AreFresh-push guard config 1 at _ _ jobs.items (post x) k h f))

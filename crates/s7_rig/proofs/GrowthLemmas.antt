@@ -1,4 +1,4 @@
--- What only grows with octets: what a client may send, and what a session has entered.
+-- What a client may send only grows with octets.
 use Rattle.std.proofs.Common.{◌≡◌, ℕ, Bool, true, false, cond, ltb, List, [], ◌∷◌, ◌++◌, length, None, Some, Ok, Err, Option, Result, refl, ap, sym, ◌∙◌, append_assoc, append-nil}
 use Rattle.s7_tpkt.specs.Packets.{packets_of, rest_of, state_of}
 use Rattle.s7_tpkt.specs.declared.state.FedState.{FedState}
@@ -9,22 +9,12 @@ use Rattle.s7_cotp.specs.Reading.{tpdu_of}
 use Rattle.s7_cotp.specs.Messages.{Step, more, whole, too_many_fragments, too_long, joined_with}
 use Rattle.s7_cotp.specs.declared.tpdu.CotpFault.{CotpFault}
 use Rattle.s7_wire.specs.Bounds.{message_limit}
-use Rattle.s7_plant.specs.declared.request.Request.{Request}
-use Rattle.s7_plant.specs.Replies.{Said}
 use Rattle.s7_client.specs.Codes.{short_message}
 use Rattle.s7_client.specs.Question.{Question}
 use Rattle.s7_client.specs.Answer.{Answer, answer_of}
 use Rattle.s7_client.specs.Course.{Origin, Course, Awaits, for_confirm, for_answer, for_departure, for_nothing, nothing_unfinished, by_answer, with_fault, with_message, by_joining, connected, confirming, by_awaits, with_packet, begun, run, by_state, unless_over, packets_run, course, limits}
 use Rattle.s7_client.specs.Standing.{IsPrefixOf}
 use Rattle.s7_client.proofs.CourseLemmas as client
-use Rattle.s7_session.specs.Verdict.{Verdict}
-use Rattle.s7_session.specs.Handling.{Standing, lives, stops, closes, met, handling}
-use Rattle.s7_session.specs.Owed as session
-use Rattle.s7_session.specs.Owed.{Past, start, with_step, if_lives, next, past}
-use Rattle.s7_session.specs.Bounds as session_bounds
-use Rattle.s7_session.proofs.PastLemmas as pasts
-
--- ---- what a client may send
 
 abbrev pub OutGrows : Course → Course → Type 0
 OutGrows c d = IsPrefixOf c.out d.out
@@ -116,34 +106,3 @@ course_grows origin b xs =
           ∙ (ap (λ (c : Course). c.out) (client.run-append origin (begun origin) (packets_of (limits origin) b) f.tail)
           ∙ (g.1 ∙ ap (λ x. x ++ g.0) (sym (course_out origin b))))),
     )
-
--- ---- what a session has entered
-
-abbrev pub EnteredGrows : Past → Past → Type 0
-EnteredGrows p q = (new : List (Request × Said)) × (q.entered ≡ p.entered ++ new)
-
-none_entered : (p : Past) → EnteredGrows p p
-none_entered p = ([], sym (append-nil p.entered))
-
-next_entered : (s : Standing) (p q : Past) → EnteredGrows p q → EnteredGrows p (if_lives s q p)
-next_entered lives p q h = h
-next_entered stops p q h = none_entered p
-next_entered (closes end) p q h = none_entered p
-
-entered_further : (p q r : Past) → EnteredGrows p q → EnteredGrows q r → EnteredGrows p r
-entered_further p q r h k = (h.0 ++ k.0, k.1 ∙ (ap (λ x. x ++ k.0) h.1 ∙ append_assoc p.entered h.0 k.0))
-
-run_entered : (p : Past) (bodies : List (List ℕ)) → EnteredGrows p (session.run p bodies)
-run_entered p [] = none_entered p
-run_entered p (body ∷ bodies) =
-    entered_further p (next p body) (session.run (next p body) bodies)
-    (next_entered p.standing p (with_step p (met (handling p.between body) p.verdicts)) (_, refl)) (run_entered (next p body) bodies)
-
--- with more octets more is entered
-pub entered_grows : (b xs : List ℕ) (js : List Verdict) → EnteredGrows (past b js) (past (b ++ xs) js)
-unfolding past
-entered_grows b xs js =
-    let f = goes_further session_bounds.limits b xs in
-    let ps = packets_of session_bounds.limits b in
-    let g = run_entered (session.run (start js) ps) f.tail in
-    (g.0, ap (λ (p : Past). p.entered) (ap (session.run (start js)) f.packets ∙ pasts.run-append (start js) ps f.tail) ∙ g.1)

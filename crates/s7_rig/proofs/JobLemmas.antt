@@ -4,7 +4,7 @@ use Rattle.std.proofs.lemmas.List.{append_cancel_left, nil_from_length}
 use Rattle.std.proofs.lemmas.Bool.{eqb-false}
 use Rattle.s7_tpkt.specs.Packets.{packet_of}
 use Rattle.s7_cotp.specs.Spelling.{spelling_of_data}
-use Rattle.s7_plant.specs.declared.request.Request.{Request}
+use Rattle.s7_plant.specs.declared.request.Ask.{Ask}
 use Rattle.s7_plant.specs.Replies.{Said}
 use Rattle.s7_wire.specs.Sent.{sent_message}
 use Rattle.s7_client.specs.Codes.{invalid_answer}
@@ -13,6 +13,8 @@ use Rattle.s7_client.specs.Answer.{Answer, answer_of}
 use Rattle.s7_client.specs.Dialogue.{End, Next, sends, ends, numbered, disconnect_request, fault_end, conversing, dialogue}
 use Rattle.s7_client.specs.Course.{Course, for_departure, for_nothing, next_sequence, awaits_by, course}
 use Rattle.s7_client.specs.Standing.{AwaitsOctets}
+use Rattle.s7_session.specs.LinkState.{LinkState}
+use Rattle.s7_session.specs.Telegrams.{entered_of}
 use Rattle.s7_session.specs.Verdict.{Verdict}
 use Rattle.s7_session.specs.Owed.{Past, past, owed, entered}
 use Rattle.s7_session.proofs.PastLemmas.{with_more}
@@ -101,10 +103,10 @@ sent_all w p k end i h l =
       nil_from_length w.unused (omega (arith, ap length same, long, parted)),
     )
 
-past_last : (w : Whole) (p : Place) (k : IsReplied w p) → IsAt w p → k.taken ≡ [] → past w.used w.verdicts ≡ with_more (past (p.used ++ packet_at p) k.reply.met) k.reply.left
+past_last : (w : Whole) (p : Place) (k : IsReplied w p) → IsAt w p → k.taken ≡ [] → past w.first w.used w.verdicts ≡ with_more (past w.first (p.used ++ packet_at p) k.reply.met) k.reply.left
 past_last w p k h none =
     past_whole w p k.taken k.reply h k.taken_is
-    ∙ (ap (λ x. past x (k.reply.met ++ k.reply.left)) (ap (λ x. (p.used ++ packet_at p) ++ x) none ∙ append-nil (p.used ++ packet_at p))
+    ∙ (ap (λ x. past w.first x (k.reply.met ++ k.reply.left)) (ap (λ x. (p.used ++ packet_at p) ++ x) none ∙ append-nil (p.used ++ packet_at p))
     ∙ past_replied w p k.reply)
 
 verdicts_last : (w : Whole) (p : Place) (k : IsReplied w p) → IsWhole w → IsAt w p → k.taken ≡ [] → k.reply.left ≡ []
@@ -120,8 +122,8 @@ met_last w p k i h none = h.verdicts_are ∙ (k.reply.split ∙ (ap (λ (vs : Li
 behind_last : (w : Whole) (p : Place) (k : IsReplied w p) → IsWhole w → IsAt w p → k.taken ≡ [] → w.behind ≡ []
 behind_last w p k i h none =
     let a = sent_message 1024 k.reply.message in
-    let owes : owed w.used w.verdicts ≡ owed p.used p.verdicts ++ a = ap (λ (q : Past). q.owed) (past_last w p k h none) ∙ k.reply.serves.owed in
-    let same : p.more ++ w.behind ≡ a = append_cancel_left (owed p.used p.verdicts) (p.more ++ w.behind) a (sym (owes_more w p i h) ∙ owes) in
+    let owes : owed w.first w.used w.verdicts ≡ owed w.first p.used p.verdicts ++ a = ap (λ (q : Past). q.owed) (past_last w p k h none) ∙ k.reply.serves.owed in
+    let same : p.more ++ w.behind ≡ a = append_cancel_left (owed w.first p.used p.verdicts) (p.more ++ w.behind) a (sym (owes_more w p i h) ∙ owes) in
     nil_from_length w.behind
     (omega (
       arith,
@@ -132,15 +134,15 @@ behind_last w p k i h none =
       length-append (answer_packet w p k) k.more,
     ))
 
-pub settled_as : (b c : List ℕ) (js ks : List Verdict) (granted : Option ℕ) → b ≡ c → js ≡ ks → Settled c ks granted → Settled b js granted
-settled_as b c js ks granted e f s = subst (λ x. Settled x js granted) (sym e) (subst (λ vs. Settled c vs granted) (sym f) s)
+pub settled_as : {first : LinkState} (b c : List ℕ) (js ks : List Verdict) (granted : Option ℕ) → b ≡ c → js ≡ ks → Settled first c ks granted → Settled first b js granted
+settled_as {first} b c js ks granted e f s = subst (λ x. Settled first x js granted) (sym e) (subst (λ vs. Settled first c vs granted) (sym f) s)
 
 abbrev exchange_of : (w : Whole) (p : Place) → IsReplied w p → Answer → Exchange
 exchange_of w p k a = record { question = p.question; answer = a; entries = k.reply.new }
 
 -- the job is done with the last answer
 done_last : (w : Whole) (p : Place) (k : IsReplied w p) (a : Answer) (end : End) → IsWhole w → IsAt w p → answer_of p.question p.number k.reply.message ≡ Some a
-    → next_after w p a ≡ ends end → IsLast w p k end → k.taken ≡ [] → w.unused ≡ [] → IsDone w (course w.origin p.heard).answers (entered p.used p.verdicts)
+    → next_after w p a ≡ ends end → IsLast w p k end → k.taken ≡ [] → w.unused ≡ [] → IsDone w (course w.origin p.heard).answers (entered w.first p.used p.verdicts)
 done_last w p k a end i h heard next l none unused = record {
   none_unused = unused;
   nothing_behind = behind_last w p k i h none;
@@ -149,8 +151,8 @@ done_last w p k a end i h heard next l none unused = record {
   sequence = omega (arith, l.sequence, h.low);
   exchanges = exchange_of w p k a ∷ [];
   entered_is =
-      ap (λ (q : Past). q.entered) (past_last w p k h none)
-      ∙ (k.reply.serves.entered ∙ ap (λ x. entered p.used p.verdicts ++ x) (sym (append-nil k.reply.new)));
+      ap (λ (q : Past). entered_of q.mets) (past_last w p k h none)
+      ∙ (k.reply.serves.entered ∙ ap (λ x. entered w.first p.used p.verdicts ++ x) (sym (append-nil k.reply.new)));
   converses = (h.asked, k.reply.told a heard, next ∙ ap ends (sym l.end_is));
 }
 
@@ -203,11 +205,11 @@ less_more w p k = omega (arith, ap length k.more_is, length-append (answer_packe
 
 -- the job is done with the reply, or goes on at another place
 data Goes (w : Whole) (p : Place) : Type 0 where
-  is_last : IsDone w (course w.origin p.heard).answers (entered p.used p.verdicts) → Goes w p
+  is_last : IsDone w (course w.origin p.heard).answers (entered w.first p.used p.verdicts) → Goes w p
   is_on : (next : Place) (x : Exchange) → IsAt w next → length next.more < length p.more
       → dialogue w.origin.job w.origin.config w.origin.granted (course w.origin p.heard).answers ≡ sends (numbered x.question) → HasTold x.question x.answer x.entries
       → (course w.origin next.heard).answers ≡ (course w.origin p.heard).answers ++ x.answer ∷ []
-      → entered next.used next.verdicts ≡ entered p.used p.verdicts ++ x.entries → Goes w p
+      → entered w.first next.used next.verdicts ≡ entered w.first p.used p.verdicts ++ x.entries → Goes w p
 
 goes_next : (w : Whole) (p : Place) (k : IsReplied w p) (a : Answer) (next : Next) → IsWhole w → IsAt w p → answer_of p.question p.number k.reply.message ≡ Some a
     → next_after w p a ≡ next → IsNext next → Goes w p
@@ -233,7 +235,7 @@ goes w p i h =
     goes_by w p k (answer_of p.question p.number k.reply.message) i h refl
 
 -- one more exchange before the others
-done_before : (w : Whole) (answers others : List Answer) (entries more : List (Request × Said)) (x : Exchange)
+done_before : (w : Whole) (answers others : List Answer) (entries more : List (Ask × Said)) (x : Exchange)
     → dialogue w.origin.job w.origin.config w.origin.granted answers ≡ sends (numbered x.question) → HasTold x.question x.answer x.entries
     → others ≡ answers ++ x.answer ∷ [] → more ≡ entries ++ x.entries → IsDone w others more → IsDone w answers entries
 done_before w answers others entries more x asked told on is d = record {
@@ -248,17 +250,17 @@ done_before w answers others entries more x asked told on is d = record {
 }
 
 done_by : (n : ℕ) (w : Whole) (p : Place) → length p.more ≤ suc n → Goes w p
-    → ((next : Place) → IsAt w next → length next.more ≤ n → IsDone w (course w.origin next.heard).answers (entered next.used next.verdicts))
-    → IsDone w (course w.origin p.heard).answers (entered p.used p.verdicts)
+    → ((next : Place) → IsAt w next → length next.more ≤ n → IsDone w (course w.origin next.heard).answers (entered w.first next.used next.verdicts))
+    → IsDone w (course w.origin p.heard).answers (entered w.first p.used p.verdicts)
 done_by n w p most (is_last d) rest = d
 done_by n w p most (is_on next x at less asked told answers entries) rest =
-    done_before w (course w.origin p.heard).answers (course w.origin next.heard).answers (entered p.used p.verdicts) (entered next.used next.verdicts) x asked told answers entries
+    done_before w (course w.origin p.heard).answers (course w.origin next.heard).answers (entered w.first p.used p.verdicts) (entered w.first next.used next.verdicts) x asked told answers entries
     (rest next at (omega (arith, less, most)))
 
-done_within : (n : ℕ) (w : Whole) (p : Place) → IsWhole w → IsAt w p → length p.more ≤ n → IsDone w (course w.origin p.heard).answers (entered p.used p.verdicts)
+done_within : (n : ℕ) (w : Whole) (p : Place) → IsWhole w → IsAt w p → length p.more ≤ n → IsDone w (course w.origin p.heard).answers (entered w.first p.used p.verdicts)
 done_within zero w p i h most = absurd (omega (arith, some_more w p i h, most))
 done_within (suc n) w p i h most = done_by n w p most (goes w p i h) (λ next at fewer. done_within n w next i at fewer)
 
 -- Once a question is asked, the job goes on by exchanges until it is done.
-pub done : (w : Whole) (p : Place) → IsWhole w → IsAt w p → IsDone w (course w.origin p.heard).answers (entered p.used p.verdicts)
+pub done : (w : Whole) (p : Place) → IsWhole w → IsAt w p → IsDone w (course w.origin p.heard).answers (entered w.first p.used p.verdicts)
 done w p i h = done_within (length p.more) w p i h (omega arith)

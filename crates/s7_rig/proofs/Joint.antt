@@ -7,24 +7,29 @@ use Rattle.s7_client.specs.declared.job.Job.TheVariants as job
 use Rattle.s7_client.specs.Course.{Origin}
 use Rattle.s7_client.specs.Polling as client
 use Rattle.s7_plant.specs.declared.book.Book.{Book}
-use Rattle.s7_session.specs.Answers.{AnyFull, FullStays, AllAt, clock_failures}
-use Rattle.s7_session.specs.Books.{own}
-use Rattle.s7_session.specs.Entry.{Entry, asked}
-use Rattle.s7_session.specs.Owed.{owed, entered}
-use Rattle.s7_session.specs.Stands.{Stands, unread}
+use Rattle.s7_plant.specs.State.{begins_with, state_of}
+use Rattle.s7_session.specs.Books.{own, history_of}
+use Rattle.s7_session.specs.Doers.{Trail}
+use Rattle.s7_session.specs.Entry.{Entry, answered}
+use Rattle.s7_session.specs.LinkState.{LinkState, first_link}
+use Rattle.s7_session.specs.Owed.{owed, entered, telegrams}
+use Rattle.s7_session.specs.Stands.{Stands, unread, entry_count, newest}
+use Rattle.s7_session.specs.Telegrams.{Met, verdicts_of, entered_of, AllAt, clock_failures, last_number}
 use Rattle.s7_session.specs.Verdict.{Verdict}
 use Rattle.s7_rig.specs.State.{Post}
 use Rattle.s7_rig.specs.Runs.{moment}
 use Rattle.s7_rig.specs.Scripts.{IsNoConnect, NoneConnects, ConnectsFirst}
 use Rattle.s7_rig.specs.Settled.{Settled}
 use Rattle.s7_rig.specs.Split.{AllStand}
+use Rattle.s7_rig.specs.Turns.{is_full_in, lacks_in}
 
 -- the octets of a link: those that the client transmitted and its session used, those that the session transmitted and
--- the client used, and the verdicts
+-- the client used, and the verdicts, with the telegrams that met them
 pub record Octets : Type 0 where
   pub sent : List ℕ
   pub used : List ℕ
   pub verdicts : List Verdict
+  pub mets : List Met
   pub answered : List ℕ
   pub heard : List ℕ
 
@@ -46,16 +51,16 @@ pub record IsConnecting (config : Config) (p : Post) (o : Octets) : Type 0 where
   pub jobs : NoneConnects p.rest
 
 -- the client is connected and has no job
-pub record IsConnected (config : Config) (p : Post) (o : Octets) : Type 0 where
+pub record IsConnected (first : LinkState) (config : Config) (p : Post) (o : Octets) : Type 0 where
   pub idle : client.job_of p.client ≡ None
   pub grant : Grant
   pub granted : client.grant_of p.client ≡ Some grant
   pub pdu : grant.pdu ≡ config.pdu
   pub size : client.size_of p.client ≡ 1024
   pub sequence : client.sequence_of p.client < 65536
-  pub settled : Settled o.used o.verdicts (Some config.pdu)
+  pub settled : Settled first o.used o.verdicts (Some config.pdu)
   pub all_used : o.used ≡ o.sent
-  pub all_heard : owed o.used o.verdicts ≡ o.heard
+  pub all_heard : owed first o.used o.verdicts ≡ o.heard
   pub jobs : NoneConnects p.rest
 
 -- the client is connected and has a job under way: both stood between two messages before it
@@ -75,16 +80,16 @@ pub record IsWorking (opening : Memory) (config : Config) (book : Book) (p : Pos
   pub judged : List Verdict
   pub used : List ℕ
   pub verdicts : List Verdict
-  pub settled : Settled before judged (Some config.pdu)
+  pub settled : Settled (first_link opening.guard) before judged (Some config.pdu)
   pub sent_is : o.sent ≡ before ++ sent
-  pub heard_is : o.heard ≡ owed before judged ++ heard
+  pub heard_is : o.heard ≡ owed (first_link opening.guard) before judged ++ heard
   pub used_is : o.used ≡ before ++ used
   pub verdicts_are : o.verdicts ≡ judged ++ verdicts
   -- the entries before the job, and its own, whose numbers are noted
   pub earlier : List Entry
   pub mine : List Entry
-  pub entries_are : own opening p.link book.journal.entries ≡ earlier ++ mine
-  pub earlier_are : entered before judged ≡ map asked earlier
+  pub entries_are : own (begins_with opening) p.link (history_of book) ≡ earlier ++ mine
+  pub earlier_are : entered (first_link opening.guard) before judged ≡ map answered earlier
   pub noted : p.noted ≡ Some (map (λ (e : Entry). e.number) mine)
   pub jobs : NoneConnects p.rest
 
@@ -106,26 +111,31 @@ pub record IsLost (p : Post) : Type 0 where
 pub data Mode (opening : Memory) (config : Config) (book : Book) (p : Post) (o : Octets) : Type 0 where
   untouched : IsUntouched config p o → Mode opening config book p o
   connecting : IsConnecting config p o → Mode opening config book p o
-  connected : IsConnected config p o → Mode opening config book p o
+  connected : IsConnected (first_link opening.guard) config p o → Mode opening config book p o
   working : IsWorking opening config book p o → Mode opening config book p o
   lost : IsLost p → Mode opening config book p o
 
 -- WHAT HOLDS of a client and its session, whose octets are these
 pub record Joint (opening : Memory) (limit : ℕ) (config : Config) (book : Book) (p : Post) (o : Octets) : Type 0 where
-  pub opened : book.opening.areas ≡ opening
+  pub opened : state_of book.opening ≡ begins_with opening
   pub limited : book.journal.limit ≡ limit
   -- the session stands for its octets, and the octets between the two are on their way
-  pub stands : Stands p.session o.used o.verdicts o.answered
+  pub stands : Stands (first_link opening.guard) p.session o.used o.verdicts o.answered
   pub taken : o.sent ≡ o.used ++ (unread p.session ++ p.pipes.to_server)
   pub given : o.answered ≡ o.heard ++ (client.unread_of p.client ++ p.pipes.to_client)
-  -- the journal is legal for the link
-  pub legal : entered o.used o.verdicts ≡ map asked (own opening p.link book.journal.entries)
-  pub full : AnyFull o.verdicts → length book.journal.entries ≡ limit
-  pub full_stays : FullStays o.verdicts
+  -- the telegrams that asked, and their verdicts
+  pub asked : telegrams (first_link opening.guard) o.used o.verdicts ≡ o.mets
+  pub met : verdicts_of o.mets ≡ o.verdicts
+  -- the history is legal for the link
+  pub legal : entered_of o.mets ≡ map answered (own (begins_with opening) p.link (history_of book))
+  pub begun : Book
+  pub trail : Trail is_full_in lacks_in begun o.mets book
   pub clock : clock_failures o.verdicts ≡ 0
   pub moment_is : p.pipes.moment ≡ moment
-  pub moments : AllAt (Some moment) (own opening p.link book.journal.entries)
+  pub moments : AllAt (Some moment) (own (begins_with opening) p.link (history_of book))
+  pub count : entry_count p.session ≡ length (own (begins_with opening) p.link (history_of book))
+  pub last : newest p.session ≡ last_number None (own (begins_with opening) p.link (history_of book))
   -- the client
   pub config_is : client.config_of p.client ≡ config
-  pub done : AllStand opening book.journal.entries p.link config.pdu p.results p.places
+  pub done : AllStand (begins_with opening) (history_of book) p.link config.pdu p.results p.places
   pub mode : Mode opening config book p o

@@ -1,6 +1,6 @@
 -- How a session judges the questions of a client.
 use Rattle.std.proofs.Common.{◌≡◌, ℕ, ◌+◌, ◌<◌, ◌≤◌, Bool, true, false, ◌&&◌, cond, min, Ok, Err, List, [], ◌∷◌, length, refl, ap, sym, ◌∙◌, subst, arith, length-append}
-use Rattle.std.specs.Prelude.{Option, Some, Result}
+use Rattle.std.specs.Prelude.{Some, Result}
 use Rattle.std.proofs.lemmas.Bool.{le-ltb, le-leb}
 use Rattle.std.proofs.Math.Seq.{take-append_seam, drop-append_seam}
 use Rattle.s7_header.specs.declared.header.Kind.TheVariants.{Job}
@@ -21,9 +21,8 @@ use Rattle.s7_item.proofs.ItemLaws.{reads_back}
 use Rattle.s7_plant.specs.declared.request.Request.TheVariants.{Read, Write}
 use Rattle.s7_client.specs.Question.{Question, negotiates, reads, writes, params_of, body_of, job_octets, question_octets}
 use Rattle.s7_session.specs.LinkState.{LinkState}
-use Rattle.s7_session.specs.Judgement.{Judgement, refuse, own, judge, asks_plainly, answer_octets, sequence_of, headed, job, pdu_limit, read, write, write_of, negotiation, negotiated}
-use Rattle.s7_session.specs.Handling.{is_s7}
-use Rattle.s7_rig.specs.Settled.{link_with}
+use Rattle.s7_session.specs.Judgement.{Judgement, refuse, own, judge, asks_plainly, answer_octets, sequence_of, headed, job, function_at, pdu_limit, read, write, write_of, negotiation, negotiated}
+use Rattle.s7_session.specs.Events.{is_s7}
 use Rattle.s7_rig.specs.Asked.{IsWriteJudged, is_refused, is_asked}
 
 -- ---- jobs
@@ -76,15 +75,19 @@ question_is_s7 sequence question = job_is_s7 sequence (params_of question) (body
 pub question_has_header : (sequence : ℕ) (question : Question) → 10 ≤ length (question_octets sequence question)
 question_has_header sequence question = omega (arith, length-job sequence (params_of question) (body_of question))
 
+-- what fits the PDU fits the link on which it was granted
+within : (link : LinkState) (pdu n : ℕ) → link.granted ≡ Some pdu → n ≤ pdu → n ≤ pdu_limit link.granted
+within link pdu n granted fits = subst (λ g. n ≤ pdu_limit g) (sym granted) fits
+
 -- the octets of items are asked of the plant
-pub judged_read : (pdu sequence : ℕ) (items : List Item) → sequence < 65536 → pdu ≤ 960 → length (question_octets sequence (reads items)) ≤ pdu
+pub judged_read : (link : LinkState) (pdu sequence : ℕ) (items : List Item) → link.granted ≡ Some pdu → sequence < 65536 → pdu ≤ 960 → length (question_octets sequence (reads items)) ≤ pdu
     → 0 < length items → length items ≤ 20 → answer_size items ≤ pdu
-    → judge (link_with (Some pdu)) (question_octets sequence (reads items)) ≡ asks_plainly (link_with (Some pdu)) sequence (Read items)
-judged_read pdu sequence items low most fits some few room =
-    let link = link_with (Some pdu) in
-    judged_job link sequence (params_of (reads items)) [] low (omega (arith, most, fits)) fits
+    → judge link (question_octets sequence (reads items)) ≡ asks_plainly link sequence (Read items)
+judged_read link pdu sequence items granted low most fits some few room =
+    judged_job link sequence (params_of (reads items)) [] low (omega (arith, most, fits)) (within link pdu _ granted fits)
+    ∙ (ap (λ g. function_at link g 0x04 sequence (params_of (reads items)) []) granted
     ∙ (ap (read link pdu sequence []) (reads_back 0x04 items some few)
-    ∙ not_refused _ _ _ (le-ltb pdu (answer_size items) room))
+    ∙ not_refused _ _ _ (le-ltb pdu (answer_size items) room)))
 
 judged_room : (link : LinkState) (sequence : ℕ) (items : List Item) (places : List DataPlace) (body : List ℕ) (refusal : _) (t : Bool)
     → IsWriteJudged link sequence items body (cond t (refuse refusal) (asks_plainly link sequence (Write items places body)))
@@ -97,21 +100,21 @@ judged_places link pdu sequence items body (Err fault) = is_refused _ refl
 judged_places link pdu sequence items body (Ok places) = judged_room link sequence items places body _ _
 
 -- new octets for items are asked of the plant, or refused
-pub judged_write : (pdu sequence : ℕ) (items : List Item) (octets : List ℕ) → sequence < 65536 → pdu ≤ 960 → length (question_octets sequence (writes items octets)) ≤ pdu
-    → 0 < length items → length items ≤ 20
-    → IsWriteJudged (link_with (Some pdu)) sequence items (body_of (writes items octets)) (judge (link_with (Some pdu)) (question_octets sequence (writes items octets)))
-judged_write pdu sequence items octets low most fits some few =
-    let link = link_with (Some pdu) in
+pub judged_write : (link : LinkState) (pdu sequence : ℕ) (items : List Item) (octets : List ℕ) → link.granted ≡ Some pdu → sequence < 65536 → pdu ≤ 960
+    → length (question_octets sequence (writes items octets)) ≤ pdu → 0 < length items → length items ≤ 20
+    → IsWriteJudged link sequence items (body_of (writes items octets)) (judge link (question_octets sequence (writes items octets)))
+judged_write link pdu sequence items octets granted low most fits some few =
+    let params = params_of (writes items octets) in
     let body = body_of (writes items octets) in
     let P : Judgement → Type 0 = λ j. IsWriteJudged link sequence items body j in
-    let same = judged_job link sequence (params_of (writes items octets)) body low (omega (arith, most, fits)) fits ∙ ap (write link pdu sequence body) (reads_back 0x05 items some few) in
+    let same = judged_job link sequence params body low (omega (arith, most, fits)) (within link pdu _ granted fits)
+    ∙ (ap (λ g. function_at link g 0x05 sequence params body) granted ∙ ap (write link pdu sequence body) (reads_back 0x05 items some few)) in
     subst P (sym same) (judged_places link pdu sequence items body (data_places_of (length items) body))
 
 -- a negotiation is answered with what is granted
-pub judged_negotiation : (held : Option ℕ) (sequence : ℕ) (asked n : Negotiation) → sequence < 65536 → 18 ≤ pdu_limit held → granted asked ≡ Ok n
-    → judge (link_with held) (question_octets sequence (negotiates asked)) ≡ own (answer_octets sequence (negotiation_spelling n) [] ∷ []) (link_with (Some n.pdu))
-judged_negotiation held sequence asked n low room is =
-    let link = link_with held in
+pub judged_negotiation : (link : LinkState) (sequence : ℕ) (asked n : Negotiation) → sequence < 65536 → 18 ≤ pdu_limit link.granted → granted asked ≡ Ok n
+    → judge link (question_octets sequence (negotiates asked)) ≡ own (answer_octets sequence (negotiation_spelling n) [] ∷ []) (record link { granted = Some n.pdu })
+judged_negotiation link sequence asked n low room is =
     judged_job link sequence (negotiation_spelling asked) [] low (omega arith) (omega (arith, room))
     ∙ (ap (negotiation link sequence) (spelled_negotiation 0 asked) ∙ ap (negotiated link sequence) is)
 

@@ -9,6 +9,7 @@ pub mod RoundsLemmas
 pub mod FreshLemmas
 pub mod WalksLemmas
 pub mod OneFragment
+pub mod PastFacts
 pub mod FrontLemmas
 pub mod ServedLemmas
 pub mod OpenedLemmas
@@ -23,6 +24,7 @@ pub mod DataItemLemmas
 pub mod AnsweredLemmas
 pub mod ConnectLemmas
 pub mod OwnLemmas
+pub mod SumLemmas
 pub mod EndLemmas
 pub mod GrowthLemmas
 pub mod ReplyLemmas

@@ -1,17 +1,22 @@
 -- The loans of the pipes and the book over a session's turn.
-use Rattle.std.proofs.Common.{◌≡◌, ℕ, Some, refl, ap, subst, unwrap_or, arith}
+use Rattle.std.proofs.Common.{◌≡◌, List, ◌++◌, Some, refl, ap, subst, unwrap_or, arith}
 use Rattle.std.specs.Borrow.{GName}
 use Rattle.s7_outer.specs.PipesHeld.{PipesHeld}
+use Rattle.s7_outer.specs.Shown.{Shown}
 use Rattle.s7_outer.specs.Pipes.{end_of, number_of as side_number}
 use Rattle.s7_outer.specs.declared.pipes.Side.{Side}
 use Rattle.s7_outer.specs.declared.pipes.Side.TheVariants as side
 use Rattle.s7_plant.specs.declared.book.Book.{Book}
+use Rattle.s7_plant.specs.declared.request.Ask.{Ask}
+use Rattle.s7_session.specs.declared.book_doer.BookDoer.{BookDoer}
 use Rattle.s7_session.specs.declared.session.Session.{Session}
 use Rattle.s7_session.specs.declared.outcome.Outcome.{Outcome}
 use Rattle.s7_session.specs.declared.outcome.Turn.{Turn}
-use Rattle.s7_session.specs.Stands.{IsTurn, closed_with, number_of}
 use Rattle.s7_session.specs.Books.{GoesOnBy}
-use Rattle.s7_rig.specs.Turns.{TakesTurn, uniform, stands_in, is_full_in}
+use Rattle.s7_session.specs.Entry.{Entry}
+use Rattle.s7_session.specs.Stands.{Moves, IsTurn, closed_with, number_of}
+use Rattle.s7_session.proofs.DoerLemmas.{SeenAs, trail_seen}
+use Rattle.s7_rig.specs.Turns.{TakesTurn, stands_in, is_full_in, lacks_in}
 
 some_same : {A : Type 0} {x y : A} → Some x ≡ Some y → x ≡ y
 some_same {A} {x} {y} e = ap (λ o. unwrap_or o x) e
@@ -28,22 +33,84 @@ server_is side.Server e = refl
 pub same_side : (loan loan' : GName) (p p' : PipesHeld) (s : Side) → (end_of loan' p' s).lent ≡ (end_of loan p side.Server).lent → s ≡ side.Server
 same_side loan loan' p p' s e = server_is s (ap (λ l. l.end) (some_same e))
 
--- a turn over an end that was lent, with a doer that enters for the link
-pub taken : (link link' : ℕ) (loan loan' : GName) (s : Side) (session session' : Session) (p p' : PipesHeld) (b b' : Book) (result : Turn)
-    → (turn : IsTurn uniform session (end_of loan p side.Server) (stands_in link b) (is_full_in b)
-    session' (end_of loan' p' s) (stands_in link' b') (is_full_in b') result)
-    → ((o : Outcome) → closed_with session ≡ Some o → session' ≡ session)
-    → number_of session' ≡ number_of session → link' ≡ link → GoesOnBy link b b'
-    → TakesTurn link session p b session' p' b' result
-taken link link' loan loan' s session session' p p' b b' result turn stays number same on = record {
-  loan = loan;
-  turn = subst (λ i. IsTurn uniform session (end_of loan p side.Server) (stands_in link b) (is_full_in b)
-      session' (end_of loan p' side.Server) (stands_in i b') (is_full_in b') result) same
-      (subst (λ i. IsTurn uniform session (end_of loan p side.Server) (stands_in link b) (is_full_in b)
-      session' (end_of i p' side.Server) (stands_in link' b') (is_full_in b') result) (same_loan loan loan' p p' s turn.moves.lent)
-      (subst (λ i. IsTurn uniform session (end_of loan p side.Server) (stands_in link b) (is_full_in b)
-      session' (end_of loan' p' i) (stands_in link' b') (is_full_in b') result) (same_side loan loan' p p' s turn.moves.lent) turn));
-  stays = stays;
-  number = number;
-  goes_on = on;
+-- ---- the book of a doer
+
+abbrev doer_stands : BookDoer → List Entry → Type 0
+doer_stands d entries = stands_in d.link d.book.now entries
+
+abbrev doer_is_full : BookDoer → Ask → Type 0
+doer_is_full d ask = is_full_in d.book.now ask
+
+abbrev doer_lacks : BookDoer → Ask → Type 0
+doer_lacks d ask = lacks_in d.book.now ask
+
+abbrev book_of : BookDoer → Book
+book_of d = d.book.now
+
+seen : SeenAs doer_is_full doer_lacks is_full_in lacks_in book_of
+seen = record { is_full = λ d a h. h; was_full = λ d a h. h; lacks = λ d a h. h }
+
+-- what calls did with a doer of one link they did with its book
+moves_seen : (old new : Session) (k k' : Shown) (d d' : BookDoer) → d'.link ≡ d.link
+    → Moves doer_stands doer_is_full doer_lacks old k d new k' d' → Moves (stands_in d.link) is_full_in lacks_in old k (book_of d) new k' (book_of d')
+moves_seen old new k k' d d' same m = record {
+  received = m.received;
+  used = m.used;
+  written = m.written;
+  mets = m.mets;
+  entries = m.entries;
+  took = m.took;
+  wrote = m.wrote;
+  fits = m.fits;
+  space = m.space;
+  lent = m.lent;
+  inbox = m.inbox;
+  stood = m.stood;
+  asked = m.asked;
+  entered = m.entered;
+  count = m.count;
+  newest = m.newest;
+  doer = λ es h. subst (λ n. stands_in n (book_of d') (es ++ m.entries)) same (m.doer es h);
+  trail = trail_seen doer_is_full doer_lacks is_full_in lacks_in book_of seen d d' m.mets m.trail;
+  clock = m.clock;
+  unasked = m.unasked;
+  moment = m.moment;
+  moments = m.moments;
+  faults = m.faults;
+  waits = m.waits;
 }
+
+turn_seen : (old new : Session) (k k' : Shown) (d d' : BookDoer) (result : Turn) → d'.link ≡ d.link
+    → IsTurn doer_stands doer_is_full doer_lacks old k d new k' d' result → IsTurn (stands_in d.link) is_full_in lacks_in old k (book_of d) new k' (book_of d') result
+unfolding moves_seen
+turn_seen old new k k' d d' result same t = record {
+  moves = moves_seen old new k k' d d' same t.moves;
+  one = t.one;
+  went = t.went;
+  not_yet = t.not_yet;
+  receives = t.receives;
+  uses = t.uses;
+  read_fails = t.read_fails;
+  write_fails = t.write_fails;
+  closed = t.closed;
+  cause = t.cause;
+}
+
+-- a turn over an end that was lent, with a doer that enters for the link
+pub taken : (loan loan' : GName) (s : Side) (session session' : Session) (p p' : PipesHeld) (d d' : BookDoer) (result : Turn)
+    → (turn : IsTurn doer_stands doer_is_full doer_lacks session (end_of loan p side.Server) d session' (end_of loan' p' s) d' result)
+    → ((o : Outcome) → closed_with session ≡ Some o → session' ≡ session)
+    → number_of session' ≡ number_of session → d'.link ≡ d.link → GoesOnBy d.link d.book.now d'.book.now
+    → TakesTurn d.link session p d.book.now session' p' d'.book.now result
+taken loan loan' s session session' p p' d d' result turn stays number same on =
+    let seen_turn = turn_seen session session' (end_of loan p side.Server) (end_of loan' p' s) d d' result same turn in
+    record {
+      loan = loan;
+      turn = subst (λ i. IsTurn (stands_in d.link) is_full_in lacks_in session (end_of loan p side.Server) (book_of d) session' (end_of i p' side.Server) (book_of d') result)
+          (same_loan loan loan' p p' s turn.moves.lent)
+          (subst (λ i. IsTurn (stands_in d.link) is_full_in lacks_in session (end_of loan p side.Server) (book_of d) session' (end_of loan' p' i) (book_of d') result)
+          (same_side loan loan' p p' s turn.moves.lent) seen_turn);
+      stays = stays;
+      number = number;
+      goes_on = on;
+    }

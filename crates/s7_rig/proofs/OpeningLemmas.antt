@@ -6,15 +6,16 @@ use Rattle.std.proofs.lemmas.List.{append_cancel_left}
 use Rattle.s7_tpkt.specs.Packets.{packet_of}
 use Rattle.s7_cotp.specs.Told.{ConnectionTold}
 use Rattle.s7_cotp.specs.Spelling.{IsWritable, spelling_of_confirm}
+use Rattle.s7_area.specs.declared.guard.Guard.{Guard}
 use Rattle.s7_header.specs.declared.negotiation.Negotiation.{Negotiation}
 use Rattle.s7_header.specs.Negotiation.{negotiation_spelling, jobs_granted, most_pdu}
 use Rattle.s7_wire.specs.Sent.{sent_message}
 use Rattle.s7_session.specs.Judgement.{answer_octets}
 use Rattle.s7_session.specs.Verdict.{Verdict}
-use Rattle.s7_session.specs.Handling.{confirmed}
-use Rattle.s7_session.specs.Owed.{past, owed, entered}
-use Rattle.s7_session.proofs.PastLemmas.{with_more, past-nothing}
-use Rattle.s7_session.proofs.RunLemmas.{past_grows}
+use Rattle.s7_session.specs.Events.{confirmed}
+use Rattle.s7_session.specs.LinkState.{LinkState, first_link}
+use Rattle.s7_session.specs.Owed.{Past, past, owed, entered}
+use Rattle.s7_session.proofs.PastLemmas.{with_more, past_nothing, past_grows}
 use Rattle.s7_client.specs.declared.config.Config.{Config}
 use Rattle.s7_client.specs.declared.grant.Grant.{Grant}
 use Rattle.s7_client.specs.declared.grant.Leaves.{Leaves}
@@ -30,13 +31,14 @@ use Rattle.s7_rig.specs.Awaiting.{BeginsConnecting, AsksOn, EndsBy}
 use Rattle.s7_rig.specs.Heard.{connected_end}
 use Rattle.s7_rig.specs.Dialogues.{IsConnectOver, IsConnectSettled}
 use Rattle.s7_rig.proofs.OneFragment.{message_is_one_packet}
-use Rattle.s7_rig.proofs.FrontLemmas.{past_with, served_front}
+use Rattle.s7_rig.proofs.FrontLemmas.{served_front}
 use Rattle.s7_rig.proofs.OpenedLemmas.{opened, opening_front}
 use Rattle.s7_rig.proofs.JudgedLemmas.{is_granted}
 use Rattle.s7_rig.proofs.QuestionLemmas.{served_negotiation}
 use Rattle.s7_rig.proofs.HeardLemmas.{heard_front}
 use Rattle.s7_rig.proofs.ConnectLemmas.{begins_connecting, confirm_front, confirm_heard, grant_heard}
 use Rattle.s7_rig.proofs.GrowthLemmas.{course_grows}
+use Rattle.s7_rig.proofs.PastFacts.{past_with}
 use Rattle.s7_rig.proofs.ListFacts.{none_of}
 
 -- ---- what goes over the link
@@ -109,11 +111,11 @@ confirm_is_writable config = record { least_size = omega arith; most_size = omeg
 -- ---- what is owed and what was sent, from a place on
 
 -- what was owed at a place comes first
-owed_first : (b u heard behind out : List ℕ) (verdicts : List Verdict) (held : Option ℕ) → Settled b [] held → owed b [] ≡ out → owed (b ++ u) verdicts ≡ heard ++ behind
-    → (rest : List ℕ) × (out ++ rest ≡ heard ++ behind)
-owed_first b u heard behind out verdicts held settled is owes =
-    let grown = past_grows b u verdicts in
-    let same : owed b verdicts ≡ out = ap (λ p. p.owed) (past_with b [] verdicts settled.lives) ∙ is in
+owed_first : {first : LinkState} (b u heard behind out : List ℕ) (verdicts : List Verdict) (held : Option ℕ) → Settled first b [] held → owed first b [] ≡ out
+    → owed first (b ++ u) verdicts ≡ heard ++ behind → (rest : List ℕ) × (out ++ rest ≡ heard ++ behind)
+owed_first {first} b u heard behind out verdicts held settled is owes =
+    let grown = past_grows first b u verdicts in
+    let same : owed first b verdicts ≡ out = ap (λ (p : Past). p.owed) (past_with first b [] verdicts settled.lives) ∙ is in
     (grown.tail, ap (λ x. x ++ grown.tail) (sym same) ∙ (sym grown.owed ∙ owes))
 
 -- what might be sent at a place was sent first
@@ -125,8 +127,11 @@ sent_first origin b more heard sent out is heard_is sent_is =
 
 -- ---- the steps
 
-module _ (origin : Origin) (heard sent : List ℕ) (end : End) (carried used : List ℕ) (verdicts : List Verdict) (behind : List ℕ)
-    (over : IsConnectOver origin heard sent end carried used verdicts behind) where
+module _ (guard : Option Guard) (origin : Origin) (heard sent : List ℕ) (end : End) (carried used : List ℕ) (verdicts : List Verdict) (behind : List ℕ)
+    (over : IsConnectOver guard origin heard sent end carried used verdicts behind) where
+  abbrev first : LinkState
+  first = first_link guard
+
   begins : BeginsConnecting origin
   begins = begins_connecting origin over.unconnected over.connects
 
@@ -136,16 +141,16 @@ module _ (origin : Origin) (heard sent : List ℕ) (end : End) (carried used : L
 
   request_cases : (rest : List ℕ) → IsSplit (connect_octets origin.config) rest used over.unused → (u : List ℕ) × (used ≡ connect_octets origin.config ++ u)
   request_cases rest (inl y) =
-      let waits = opening_front origin.config used y.0 verdicts (sym y.1) y.2 in
-      let silent = none_before heard behind (sym over.owed_is ∙ (waits.owed ∙ ap (λ p. p.owed) past-nothing)) in
+      let waits = opening_front first origin.config used y.0 verdicts (sym y.1) y.2 in
+      let silent = none_before heard behind (sym over.owed_is ∙ (waits.owed ∙ ap (λ (p : Past). p.owed) (past_nothing first []))) in
       absurd (not_all_heard [] (ap (course origin) silent) (subst AwaitsOctets (sym begins.awaits) tt))
   request_cases rest (inr y) = (y.0, y.1)
 
   -- the session has used the connect request
   request_used : (u : List ℕ) × (used ≡ connect_octets origin.config ++ u)
   request_used =
-      let first = sent_first origin [] heard heard sent (connect_octets origin.config) begins.out refl over.over.sent in
-      request_cases first.0 (split_front (connect_octets origin.config) first.0 used over.unused (first.1 ∙ over.taken))
+      let front = sent_first origin [] heard heard sent (connect_octets origin.config) begins.out refl over.over.sent in
+      request_cases front.0 (split_front (connect_octets origin.config) front.0 used over.unused (front.1 ∙ over.taken))
 
   confirm_cases : (rest : List ℕ) → IsSplit (confirm_octets origin.config) rest heard behind → (more : List ℕ) × (heard ≡ confirm_octets origin.config ++ more)
   confirm_cases rest (inl y) =
@@ -155,11 +160,11 @@ module _ (origin : Origin) (heard sent : List ℕ) (end : End) (carried used : L
   -- the client has used the confirm
   confirm_used : (more : List ℕ) × (heard ≡ confirm_octets origin.config ++ more)
   confirm_used =
-      let opens = opened origin.config in
+      let opens = opened guard origin.config in
       let request = request_used in
-      let first = owed_first (connect_octets origin.config) request.0 heard behind (confirm_octets origin.config) verdicts None opens.settled opens.owed
-      (ap (λ b. owed b verdicts) (sym request.1) ∙ over.owed_is) in
-      confirm_cases first.0 (split_front (confirm_octets origin.config) first.0 heard behind first.1)
+      let front = owed_first (connect_octets origin.config) request.0 heard behind (confirm_octets origin.config) verdicts None opens.settled opens.owed
+      (ap (λ b. owed first b verdicts) (sym request.1) ∙ over.owed_is) in
+      confirm_cases front.0 (split_front (confirm_octets origin.config) front.0 heard behind front.1)
 
   negotiation_awaited : AsksOn origin [] (confirm_octets origin.config) confirms (negotiates (asked_by origin.config)) 1
   negotiation_awaited = confirm_heard origin (confirm_of origin.config) over.unconnected over.connects (confirm_is_writable origin.config) refl
@@ -175,7 +180,7 @@ module _ (origin : Origin) (heard sent : List ℕ) (end : End) (carried used : L
 
   negotiation_cases : (rest : List ℕ) → IsSplit (opening_sent origin.config) rest used over.unused → (u : List ℕ) × (used ≡ opening_sent origin.config ++ u)
   negotiation_cases rest (inl y) =
-      let opens = opened origin.config in
+      let opens = opened guard origin.config in
       let request = request_used in
       let confirm = confirm_used in
       let front : request.0 ++ y.0 ≡ negotiation_octets origin.config =
@@ -183,7 +188,7 @@ module _ (origin : Origin) (heard sent : List ℕ) (end : End) (carried used : L
       (sym (append_assoc (connect_octets origin.config) request.0 y.0) ∙ (ap (λ x. x ++ y.0) (sym request.1) ∙ sym y.1)) in
       let waits = served_front (connect_octets origin.config) request.0 y.0 (negotiation_of origin.config) [] verdicts None opens.settled (omega arith) front y.2 in
       let owes : confirm_octets origin.config ≡ confirm_octets origin.config ++ (confirm.0 ++ behind) =
-      sym opens.owed ∙ (sym waits.owed ∙ (ap (λ b. owed b verdicts) (sym request.1) ∙ (over.owed_is ∙ (ap (λ x. x ++ behind) confirm.1 ∙ append_assoc (confirm_octets origin.config) confirm.0 behind)))) in
+      sym opens.owed ∙ (sym waits.owed ∙ (ap (λ b. owed first b verdicts) (sym request.1) ∙ (over.owed_is ∙ (ap (λ x. x ++ behind) confirm.1 ∙ append_assoc (confirm_octets origin.config) confirm.0 behind)))) in
       absurd (answer_begun confirm.0 confirm.1 (none_before confirm.0 behind (none_behind (confirm_octets origin.config) (confirm.0 ++ behind) owes)))
   negotiation_cases rest (inr y) = (y.0, y.1)
 
@@ -191,20 +196,20 @@ module _ (origin : Origin) (heard sent : List ℕ) (end : End) (carried used : L
   negotiation_used : (u : List ℕ) × (used ≡ opening_sent origin.config ++ u)
   negotiation_used =
       let confirm = confirm_used in
-      let first = sent_first origin (confirm_octets origin.config) confirm.0 heard sent (opening_sent origin.config) opening_out confirm.1 over.over.sent in
-      negotiation_cases first.0 (split_front (opening_sent origin.config) first.0 used over.unused (first.1 ∙ over.taken))
+      let front = sent_first origin (confirm_octets origin.config) confirm.0 heard sent (opening_sent origin.config) opening_out confirm.1 over.over.sent in
+      negotiation_cases front.0 (split_front (opening_sent origin.config) front.0 used over.unused (front.1 ∙ over.taken))
 
   granted_is : (granted_of origin.config).pdu ≡ origin.config.pdu
   granted_is = omega (arith, over.most)
 
   -- the session grants what was asked for
-  negotiation_served : Serves (connect_octets origin.config) [] (negotiation_of origin.config) [] (Some (granted_of origin.config).pdu) (grant_octets origin.config) []
+  negotiation_served : Serves first (connect_octets origin.config) [] (negotiation_of origin.config) [] (Some (granted_of origin.config).pdu) (grant_octets origin.config) []
   negotiation_served =
-      served_negotiation (connect_octets origin.config) [] None 1 (asked_by origin.config) (granted_of origin.config) (opened origin.config).settled (omega arith) (omega arith)
+      served_negotiation (connect_octets origin.config) [] None 1 (asked_by origin.config) (granted_of origin.config) (opened guard origin.config).settled (omega arith) (omega arith)
       (is_granted (asked_by origin.config) over.least)
 
-  opening_owed : owed (opening_sent origin.config) [] ≡ opening_heard origin.config
-  opening_owed = negotiation_served.owed ∙ ap (λ x. x ++ grant_octets origin.config) (opened origin.config).owed
+  opening_owed : owed first (opening_sent origin.config) [] ≡ opening_heard origin.config
+  opening_owed = negotiation_served.owed ∙ ap (λ x. x ++ grant_octets origin.config) (opened guard origin.config).owed
 
   grant_cases : (rest : List ℕ) → IsSplit (opening_heard origin.config) rest heard behind → (more : List ℕ) × (heard ≡ opening_heard origin.config ++ more)
   grant_cases rest (inl y) =
@@ -221,9 +226,9 @@ module _ (origin : Origin) (heard sent : List ℕ) (end : End) (carried used : L
   grant_used : (more : List ℕ) × (heard ≡ opening_heard origin.config ++ more)
   grant_used =
       let negotiation = negotiation_used in
-      let first = owed_first (opening_sent origin.config) negotiation.0 heard behind (opening_heard origin.config) verdicts (Some (granted_of origin.config).pdu) negotiation_served.settled opening_owed
-      (ap (λ b. owed b verdicts) (sym negotiation.1) ∙ over.owed_is) in
-      grant_cases first.0 (split_front (opening_heard origin.config) first.0 heard behind first.1)
+      let front = owed_first (opening_sent origin.config) negotiation.0 heard behind (opening_heard origin.config) verdicts (Some (granted_of origin.config).pdu) negotiation_served.settled opening_owed
+      (ap (λ b. owed first b verdicts) (sym negotiation.1) ∙ over.owed_is) in
+      grant_cases front.0 (split_front (opening_heard origin.config) front.0 heard behind front.1)
 
   -- the grant that is taken
   taken_is : taken_grant origin.config (granted_of origin.config) ≡ Some (taken_of origin.config)
@@ -258,19 +263,19 @@ module _ (origin : Origin) (heard sent : List ℕ) (end : End) (carried used : L
       let none = none_before negotiation.0 over.unused (none_behind all (negotiation.0 ++ over.unused) whole) in
       negotiation.1 ∙ (ap (λ x. all ++ x) none ∙ append-nil all)
 
-  verdicts_wait : past (opening_sent origin.config) verdicts ≡ with_more (past (opening_sent origin.config) []) verdicts
-  verdicts_wait = past_with (opening_sent origin.config) [] verdicts negotiation_served.settled.lives
+  verdicts_wait : past first (opening_sent origin.config) verdicts ≡ with_more (past first (opening_sent origin.config) []) verdicts
+  verdicts_wait = past_with first (opening_sent origin.config) [] verdicts negotiation_served.settled.lives
 
   no_verdicts : verdicts ≡ []
   no_verdicts =
       sym (ap (λ x. x ++ verdicts) negotiation_served.settled.met)
-      ∙ (ap (λ p. p.verdicts) (sym verdicts_wait) ∙ (ap (λ b. (past b verdicts).verdicts) (sym all_used) ∙ over.met))
+      ∙ (ap (λ (p : Past). p.verdicts) (sym verdicts_wait) ∙ (ap (λ b. (past first b verdicts).verdicts) (sym all_used) ∙ over.met))
 
   nothing_behind : behind ≡ []
   nothing_behind =
       let all = opening_heard origin.config in
       none_behind all behind
-      (sym opening_owed ∙ (ap (λ p. p.owed) (sym verdicts_wait) ∙ (ap (λ b. owed b verdicts) (sym all_used) ∙ (over.owed_is ∙ ap (λ x. x ++ behind) all_heard))))
+      (sym opening_owed ∙ (ap (λ (p : Past). p.owed) (sym verdicts_wait) ∙ (ap (λ b. owed first b verdicts) (sym all_used) ∙ (over.owed_is ∙ ap (λ x. x ++ behind) all_heard))))
 
   -- the client has the grant that was taken
   grant_is : over.grant ≡ taken_of origin.config
@@ -281,7 +286,7 @@ module _ (origin : Origin) (heard sent : List ℕ) (end : End) (carried used : L
   grant_pdu : over.grant.pdu ≡ (granted_of origin.config).pdu
   grant_pdu = ap (λ (g : Grant). g.pdu) grant_is
 
-  settles : IsConnectSettled origin heard sent over.grant used verdicts behind
+  settles : IsConnectSettled guard origin heard sent over.grant used verdicts behind
   settles =
       let as_sent = sym all_sent in
       let settled = negotiation_served.settled in
@@ -290,16 +295,16 @@ module _ (origin : Origin) (heard sent : List ℕ) (end : End) (carried used : L
         nothing_behind = nothing_behind;
         no_verdicts = no_verdicts;
         granted = grant_pdu ∙ granted_is;
-        settled = subst (λ b. Settled b verdicts (Some over.grant.pdu)) as_sent
-            (subst (λ js. Settled (opening_sent origin.config) js (Some over.grant.pdu)) (sym no_verdicts)
-            (subst (λ pdu. Settled (opening_sent origin.config) [] (Some pdu)) (sym grant_pdu) settled));
-        owed_is = ap (λ b. owed b verdicts) all_sent ∙ (ap (owed (opening_sent origin.config)) no_verdicts ∙ (opening_owed ∙ sym all_heard));
-        entered_is = ap (λ b. entered b verdicts) all_sent ∙ (ap (entered (opening_sent origin.config)) no_verdicts ∙ (negotiation_served.entered ∙ (append-nil (entered (connect_octets origin.config) []) ∙ (opened origin.config).entered)));
+        settled = subst (λ b. Settled first b verdicts (Some over.grant.pdu)) as_sent
+            (subst (λ js. Settled first (opening_sent origin.config) js (Some over.grant.pdu)) (sym no_verdicts)
+            (subst (λ pdu. Settled first (opening_sent origin.config) [] (Some pdu)) (sym grant_pdu) settled));
+        owed_is = ap (λ b. owed first b verdicts) all_sent ∙ (ap (owed first (opening_sent origin.config)) no_verdicts ∙ (opening_owed ∙ sym all_heard));
+        entered_is = ap (λ b. entered first b verdicts) all_sent ∙ (ap (entered first (opening_sent origin.config)) no_verdicts ∙ (negotiation_served.entered ∙ (append-nil (entered first (connect_octets origin.config) []) ∙ (opened guard origin.config).entered)));
         size = ap (λ b. (course origin b).size) all_heard ∙ (grant_ends.size ∙ negotiation_awaited.awaiting.size);
         sequence = omega (arith, ap (λ b. (course origin b).sequence) all_heard, grant_ends.sequence, negotiation_awaited.awaiting.sequence);
       }
 
 -- BOTH ENDS stand between two messages, with the PDU that was asked for.
-pub connect_is_settled : (origin : Origin) (heard sent : List ℕ) (end : End) (carried used : List ℕ) (verdicts : List Verdict) (behind : List ℕ)
-    → (over : IsConnectOver origin heard sent end carried used verdicts behind) → IsConnectSettled origin heard sent over.grant used verdicts behind
+pub connect_is_settled : (guard : Option Guard) (origin : Origin) (heard sent : List ℕ) (end : End) (carried used : List ℕ) (verdicts : List Verdict) (behind : List ℕ)
+    → (over : IsConnectOver guard origin heard sent end carried used verdicts behind) → IsConnectSettled guard origin heard sent over.grant used verdicts behind
 connect_is_settled = settles

@@ -2,10 +2,11 @@
 use Rattle.std.proofs.Common.{◌≡◌, ℕ, false, List, [], ◌∷◌, ◌++◌, ap, sym, ◌∙◌, subst, append-nil}
 use Rattle.std.specs.Prelude.{Some}
 use Rattle.s7_split.specs.Parts.{parts_of}
-use Rattle.s7_plant.specs.declared.request.Request.{Request}
+use Rattle.s7_plant.specs.declared.request.Ask.{Ask}
 use Rattle.s7_plant.specs.Replies.{Said}
 use Rattle.s7_client.specs.Dialogue.{End}
 use Rattle.s7_client.specs.Course.{Origin}
+use Rattle.s7_session.specs.LinkState.{LinkState}
 use Rattle.s7_session.specs.Verdict.{Verdict}
 use Rattle.s7_session.specs.Owed.{owed, entered}
 use Rattle.s7_rig.specs.Settled.{Settled}
@@ -14,31 +15,31 @@ use Rattle.s7_rig.specs.Exchanges.{entries_of}
 use Rattle.s7_rig.proofs.SettledLemmas.{over_is_done}
 use Rattle.s7_rig.proofs.PartLemmas.{item_read}
 
-replies_behind : (xs ys : List (Request × Said)) → AreReplies (xs ++ ys) → AreReplies ys
+replies_behind : (xs ys : List (Ask × Said)) → AreReplies (xs ++ ys) → AreReplies ys
 replies_behind [] ys h = h
 replies_behind (x ∷ xs) ys h = replies_behind xs ys h.1
 
 -- A job that is over left both ends between two messages, and a read of one item that came off is what its entries read.
-pub job_is_settled : (origin : Origin) (pdu : ℕ) (heard sent : List ℕ) (end : End) (carried b used : List ℕ) (js verdicts : List Verdict) (behind : List ℕ)
-    → IsJobOver origin pdu heard sent end carried b used js verdicts behind
-    → IsJobSettled origin pdu heard sent end b used js verdicts behind
-job_is_settled origin pdu heard sent end carried b used js verdicts behind o =
-    let d = over_is_done origin pdu heard sent end carried b used js verdicts behind o in
+pub job_is_settled : (first : LinkState) (origin : Origin) (pdu : ℕ) (heard sent : List ℕ) (end : End) (carried b used : List ℕ) (js verdicts : List Verdict) (behind : List ℕ)
+    → IsJobOver first origin pdu heard sent end carried b used js verdicts behind
+    → IsJobSettled first origin pdu heard sent end b used js verdicts behind
+job_is_settled first origin pdu heard sent end carried b used js verdicts behind o =
+    let d = over_is_done first origin pdu heard sent end carried b used js verdicts behind o in
     let all : sent ≡ used = o.taken ∙ (ap (λ x. used ++ x) d.none_unused ∙ append-nil used) in
     record {
       all_used = sym all;
       nothing_behind = d.nothing_behind;
-      settled = subst (λ x. Settled (b ++ x) (js ++ verdicts) (Some pdu)) (sym all) d.settled;
+      settled = subst (λ x. Settled first (b ++ x) (js ++ verdicts) (Some pdu)) (sym all) d.settled;
       owed_is =
-          ap (λ x. owed (b ++ x) (js ++ verdicts)) all
-          ∙ (o.owed_is ∙ (ap (λ x. (owed b js ++ heard) ++ x) d.nothing_behind ∙ append-nil (owed b js ++ heard)));
+          ap (λ x. owed first (b ++ x) (js ++ verdicts)) all
+          ∙ (o.owed_is ∙ (ap (λ x. (owed first b js ++ heard) ++ x) d.nothing_behind ∙ append-nil (owed first b js ++ heard)));
       size = d.size;
       sequence = d.sequence;
       read = λ item job_is good. (
         entries_of d.exchanges,
-        ap (λ x. entered (b ++ x) (js ++ verdicts)) all ∙ d.entered_is,
+        ap (λ x. entered first (b ++ x) (js ++ verdicts)) all ∙ d.entered_is,
         subst (λ n. ReadsParts (parts_of item n false) (entries_of d.exchanges) end.octets) o.pdu_is
             (item_read origin o.grant item end d.exchanges o.granted job_is good d.converses
-            (replies_behind (entered b js) (entries_of d.exchanges) (subst AreReplies d.entered_is o.replies))),
+            (replies_behind (entered first b js) (entries_of d.exchanges) (subst AreReplies d.entered_is o.replies))),
       );
     }

@@ -5,12 +5,13 @@ use Rattle.std.specs.List.{flat_map}
 use Rattle.std.proofs.lemmas.Bool.{eqb-true, eqb-false}
 use Rattle.std.proofs.lemmas.List.Concat.{flat_map-append}
 use Rattle.s7_item.specs.declared.item.Item.{Item}
-use Rattle.s7_area.specs.Memory.{Memory}
 use Rattle.s7_split.specs.Parts.{parts_of}
 use Rattle.s7_plant.specs.Answers as plant
-use Rattle.s7_plant.specs.declared.request.Request.{Request}
+use Rattle.s7_plant.specs.declared.request.Ask.{Ask}
 use Rattle.s7_plant.specs.declared.request.Request.TheVariants.{Read}
+use Rattle.s7_plant.specs.Requests.{asked}
 use Rattle.s7_plant.specs.Replies.{Said}
+use Rattle.s7_plant.specs.State.{State}
 use Rattle.s7_client.specs.declared.grant.Grant.{Grant}
 use Rattle.s7_client.specs.declared.grant.Leaves.TheVariants.{AsItWas}
 use Rattle.s7_client.specs.declared.job.Job.TheVariants as job
@@ -134,10 +135,10 @@ first_part (part ∷ rest) q e = (part, rest, refl, same_question (reads (part �
     same_question p q e = cc
 
 -- what the question for one part was answered
-data PartTold (part : Item) (answer : Answer) (new : List (Request × Said)) : Type 0 where
+data PartTold (part : Item) (answer : Answer) (new : List (Ask × Said)) : Type 0 where
   part_refused : (error : ℕ) → answer ≡ refuses error → PartTold part answer new
-  part_told : (reply : Said) → new ≡ (Read (part ∷ []), reply) ∷ []
-      → ((m : Memory) → reply ≡ plant.answer_of m (Read (part ∷ [])) → answer ≡ tells (told_of m part ∷ [])) → PartTold part answer new
+  part_told : (right : Bool) (reply : Said) → new ≡ (asked right (Read (part ∷ [])), reply) ∷ []
+      → ((s : State) → reply ≡ plant.answer_of s (asked right (Read (part ∷ []))) → answer ≡ tells (told_of s.memory right part ∷ [])) → PartTold part answer new
 
 same_items : (xs ys : List Item) → reads xs ≡ reads ys → ys ≡ xs
 same_items xs ys e = cc
@@ -145,21 +146,21 @@ same_items xs ys e = cc
 not_written : (xs ys : List Item) (octets : List ℕ) → reads xs ≡ writes ys octets → ⊥
 not_written xs ys octets e = cc
 
-part_answered : (part : Item) (a : Answer) (new : List (Request × Said)) → HasTold (reads (part ∷ [])) a new → PartTold part a new
+part_answered : (part : Item) (a : Answer) (new : List (Ask × Said)) → HasTold (reads (part ∷ [])) a new → PartTold part a new
 part_answered part a new (is_refused error is) = part_refused error is
 part_answered part a new (is_written items octets is) = absurd (not_written (part ∷ []) items octets is)
-part_answered part a new (is_read items reply is new_is told) =
+part_answered part a new (is_read items right reply is new_is told) =
     let same : items ≡ part ∷ [] = same_items (part ∷ []) items is in
-    part_told reply (new_is ∙ ap (λ xs. (Read xs, reply) ∷ []) same)
-    (λ m gives. told m (gives ∙ ap (λ xs. plant.answer_of m (Read xs)) (sym same)) ∙ ap (λ xs. tells (map (told_of m) xs)) same)
+    part_told right reply (new_is ∙ ap (λ xs. (asked right (Read xs), reply) ∷ []) same)
+    (λ s gives. told s (gives ∙ ap (λ xs. plant.answer_of s (asked right (Read xs))) (sym same)) ∙ ap (λ xs. tells (map (told_of s.memory right) xs)) same)
 
 -- ---- part by part
 
 -- these entries read the parts that are left, behind what the answers told
-abbrev LeftRead : List Item → List (Request × Said) → List Answer → End → Type 0
+abbrev LeftRead : List Item → List (Ask × Said) → List Answer → End → Type 0
 LeftRead left entries answers end = (octets : List ℕ) × (end.octets ≡ octets_told answers ++ octets) × ReadsParts left entries octets
 
-left_none : (entries : List (Request × Said)) (answers : List Answer) (end : End) → entries ≡ [] → end.octets ≡ octets_told answers → LeftRead [] entries answers end
+left_none : (entries : List (Ask × Said)) (answers : List Answer) (end : End) → entries ≡ [] → end.octets ≡ octets_told answers → LeftRead [] entries answers end
 unfolding ReadsParts
 left_none [] answers end none is = ([], is ∙ sym (append-nil (octets_told answers)), refl)
 left_none (e ∷ entries) answers end none is = absurd (cc)
@@ -176,38 +177,40 @@ told_more answers a t is =
 same_told : (x y : ItemAnswer) → tells (x ∷ []) ≡ tells (y ∷ []) → x ≡ y
 same_told x y e = cc
 
-left_more : (part : Item) (left : List Item) (entries : List (Request × Said)) (answers : List Answer) (a : Answer) (end : End) (reply : Said) (m : Memory)
-    → reply ≡ plant.answer_of m (Read (part ∷ [])) → ((k : Memory) → reply ≡ plant.answer_of k (Read (part ∷ [])) → a ≡ tells (told_of k part ∷ []))
-    → part_refusal a ≡ None → LeftRead left entries (answers ++ a ∷ []) end → LeftRead (part ∷ left) ((Read (part ∷ []), reply) ∷ entries) answers end
+left_more : (part : Item) (left : List Item) (entries : List (Ask × Said)) (answers : List Answer) (a : Answer) (end : End) (right : Bool) (reply : Said) (s : State)
+    → reply ≡ plant.answer_of s (asked right (Read (part ∷ [])))
+    → ((k : State) → reply ≡ plant.answer_of k (asked right (Read (part ∷ []))) → a ≡ tells (told_of k.memory right part ∷ []))
+    → part_refusal a ≡ None → LeftRead left entries (answers ++ a ∷ []) end → LeftRead (part ∷ left) ((asked right (Read (part ∷ [])), reply) ∷ entries) answers end
 unfolding ReadsParts
-left_more part left entries answers a end reply m gives told none h =
-    let t : ItemAnswer = told_of m part in
-    let is : a ≡ tells (t ∷ []) = told m gives in
+left_more part left entries answers a end right reply s gives told none h =
+    let t : ItemAnswer = told_of s.memory right part in
+    let is : a ≡ tells (t ∷ []) = told s gives in
     let good : t.code ≡ 0xFF = good_code t.code (eqb t.code 0xFF) refl (ap part_refusal (sym is) ∙ none) in (
       t.octets ++ h.0,
       h.1 ∙ (ap (λ x. x ++ h.0) (told_more answers a t is) ∙ append_assoc (octets_told answers) t.octets h.0),
       (
         t.octets,
         h.0,
+        right,
         refl,
         refl,
         (λ k other.
-            let same = same_told (told_of k part) t (sym (told k other) ∙ is) in
+            let same = same_told (told_of k.memory right part) t (sym (told k other) ∙ is) in
             (ap (λ (x : ItemAnswer). x.code) same ∙ good, ap (λ (x : ItemAnswer). x.octets) (sym same))),
         h.2,
       ),
     )
 
-part_by : (part : Item) (left : List Item) (new entries : List (Request × Said)) (answers : List Answer) (a : Answer) (end : End) → PartTold part a new → part_refusal a ≡ None
+part_by : (part : Item) (left : List Item) (new entries : List (Ask × Said)) (answers : List Answer) (a : Answer) (end : End) → PartTold part a new → part_refusal a ≡ None
     → AreReplies (new ++ entries) → (AreReplies entries → LeftRead left entries (answers ++ a ∷ []) end) → LeftRead (part ∷ left) (new ++ entries) answers end
 part_by part left new entries answers a end (part_refused error is) none replies rest = absurd (refused error (ap part_refusal (sym is) ∙ none))
   where
     refused : (error : ℕ) → part_refusal (refuses error) ≡ None → ⊥
     refused error e = cc
-part_by part left new entries answers a end (part_told reply is told) none replies rest =
-    let given : AreReplies ((Read (part ∷ []), reply) ∷ entries) = subst (λ xs. AreReplies (xs ++ entries)) is replies in
+part_by part left new entries answers a end (part_told right reply is told) none replies rest =
+    let given : AreReplies ((asked right (Read (part ∷ [])), reply) ∷ entries) = subst (λ xs. AreReplies (xs ++ entries)) is replies in
     subst (λ xs. LeftRead (part ∷ left) (xs ++ entries) answers end) (sym is)
-    (left_more part left entries answers a end reply given.0.0 given.0.1 told none (rest given.1))
+    (left_more part left entries answers a end right reply given.0.0 given.0.1 told none (rest given.1))
 
 parts_read : (origin : Origin) (grant : Grant) (item : Item) (end : End) (xs : List Exchange) (answers : List Answer) (done left : List Item) → IsRead origin grant item → end.code ≡ 0
     → parts_of item grant.pdu false ≡ done ++ left → length answers ≡ length done → Converses origin answers end xs → AreReplies (entries_of xs)

@@ -1,5 +1,5 @@
 -- How a session answers the questions of a client, on a link between two messages.
-use Rattle.std.proofs.Common.{◌≡◌, ℕ, ◌<◌, ◌≤◌, Ok, List, [], ◌∷◌, ◌++◌, length, subst, arith, append-nil}
+use Rattle.std.proofs.Common.{◌≡◌, ℕ, ◌<◌, ◌≤◌, Ok, List, [], ◌∷◌, ◌++◌, length, refl, sym, subst, arith, append-nil}
 use Rattle.std.specs.Prelude.{Option, Some}
 use Rattle.s7_header.specs.declared.negotiation.Negotiation.{Negotiation}
 use Rattle.s7_header.specs.Negotiation.{negotiation_spelling, granted}
@@ -10,45 +10,48 @@ use Rattle.s7_wire.specs.Sent.{sent_message}
 use Rattle.s7_client.specs.Question.{negotiates, reads, writes, body_of, question_octets}
 use Rattle.s7_session.specs.Verdict.{Verdict}
 use Rattle.s7_session.specs.Judgement.{judge, answer_octets, pdu_limit}
-use Rattle.s7_session.specs.Handling.{lives}
+use Rattle.s7_session.specs.Events.{lives}
+use Rattle.s7_session.specs.LinkState.{LinkState}
 use Rattle.s7_session.specs.Owed.{past}
-use Rattle.s7_rig.specs.Settled.{Settled, Serves, link_with}
+use Rattle.s7_rig.specs.Settled.{Settled, Serves}
 use Rattle.s7_rig.specs.Asked.{IsAnswered, IsWriteJudged, is_refused, is_asked, IsWriteAnswered, is_unasked, is_answered}
 use Rattle.s7_rig.proofs.ServedLemmas.{served_own, served_refusal, served_asking}
 use Rattle.s7_rig.proofs.JudgedLemmas.{question_is_s7, judged_negotiation, judged_read, judged_write}
 
 -- a negotiation is granted
-pub served_negotiation : (b : List ℕ) (js : List Verdict) (held : Option ℕ) (sequence : ℕ) (asked n : Negotiation) → Settled b js held → sequence < 65536 → 18 ≤ pdu_limit held → granted asked ≡ Ok n
-    → Serves b js (question_octets sequence (negotiates asked)) js (Some n.pdu) (sent_message 1024 (answer_octets sequence (negotiation_spelling n) [])) []
-served_negotiation b js held sequence asked n s low room is =
+pub served_negotiation : {first : LinkState} (b : List ℕ) (js : List Verdict) (held : Option ℕ) (sequence : ℕ) (asked n : Negotiation) → Settled first b js held → sequence < 65536 → 18 ≤ pdu_limit held → granted asked ≡ Ok n
+    → Serves first b js (question_octets sequence (negotiates asked)) js (Some n.pdu) (sent_message 1024 (answer_octets sequence (negotiation_spelling n) [])) []
+served_negotiation {first} b js held sequence asked n s low room is =
+    let link = (past first b js).link in
     let m = question_octets sequence (negotiates asked) in
     let answer = answer_octets sequence (negotiation_spelling n) [] in
-    let P : List ℕ → Type 0 = λ out. Serves b js m js (Some n.pdu) out [] in
+    let P : List ℕ → Type 0 = λ out. Serves first b js m js (Some n.pdu) out [] in
     subst P (append-nil (sent_message 1024 answer))
-    (served_own b m js held (Some n.pdu) (answer ∷ []) s (omega arith) (question_is_s7 sequence (negotiates asked)) (judged_negotiation held sequence asked n low room is))
+    (served_own b m js held (Some n.pdu) (answer ∷ []) (record link { granted = Some n.pdu }) s (omega arith) (question_is_s7 sequence (negotiates asked))
+    (judged_negotiation link sequence asked n low (subst (λ g. 18 ≤ pdu_limit g) (sym s.grants) room) is) refl)
 
 -- a read is answered by its reply, or a full history refuses it
-pub served_read : (b : List ℕ) (js vs : List Verdict) (pdu sequence : ℕ) (items : List Item) → Settled b js (Some pdu) → sequence < 65536 → pdu ≤ 960 → length (question_octets sequence (reads items)) ≤ pdu
+pub served_read : {first : LinkState} (b : List ℕ) (js vs : List Verdict) (pdu sequence : ℕ) (items : List Item) → Settled first b js (Some pdu) → sequence < 65536 → pdu ≤ 960 → length (question_octets sequence (reads items)) ≤ pdu
     → 0 < length items → length items ≤ 20 → answer_size items ≤ pdu
-    → (past (b ++ sent_message 1024 (question_octets sequence (reads items))) (js ++ vs)).standing ≡ lives
-    → IsAnswered b js (question_octets sequence (reads items)) vs (Some pdu) sequence (Read items)
-served_read b js vs pdu sequence items s low most fits some few room =
+    → (past first (b ++ sent_message 1024 (question_octets sequence (reads items))) (js ++ vs)).standing ≡ lives
+    → IsAnswered first b js (question_octets sequence (reads items)) vs (Some pdu) sequence (Read items)
+served_read {first} b js vs pdu sequence items s low most fits some few room =
     served_asking b (question_octets sequence (reads items)) js vs (Some pdu) sequence (Read items) s (omega (arith, most, fits)) (question_is_s7 sequence (reads items))
-    (judged_read pdu sequence items low most fits some few room)
+    (judged_read (past first b js).link pdu sequence items s.grants low most fits some few room)
 
-write_answered : (b : List ℕ) (js vs : List Verdict) (pdu sequence : ℕ) (items : List Item) (octets : List ℕ) → Settled b js (Some pdu) → length (question_octets sequence (writes items octets)) ≤ 1021
-    → (past (b ++ sent_message 1024 (question_octets sequence (writes items octets))) (js ++ vs)).standing ≡ lives
-    → IsWriteJudged (link_with (Some pdu)) sequence items (body_of (writes items octets)) (judge (link_with (Some pdu)) (question_octets sequence (writes items octets)))
-    → IsWriteAnswered b js (question_octets sequence (writes items octets)) vs (Some pdu) sequence items (body_of (writes items octets))
+write_answered : {first : LinkState} (b : List ℕ) (js vs : List Verdict) (pdu sequence : ℕ) (items : List Item) (octets : List ℕ) → Settled first b js (Some pdu) → length (question_octets sequence (writes items octets)) ≤ 1021
+    → (past first (b ++ sent_message 1024 (question_octets sequence (writes items octets))) (js ++ vs)).standing ≡ lives
+    → IsWriteJudged (past first b js).link sequence items (body_of (writes items octets)) (judge (past first b js).link (question_octets sequence (writes items octets)))
+    → IsWriteAnswered first b js (question_octets sequence (writes items octets)) vs (Some pdu) sequence items (body_of (writes items octets))
 write_answered b js vs pdu sequence items octets s most live (is_refused refusal judged) =
     is_unasked refusal (served_refusal b (question_octets sequence (writes items octets)) js (Some pdu) refusal s most (question_is_s7 sequence (writes items octets)) judged)
 write_answered b js vs pdu sequence items octets s most live (is_asked places judged) =
     is_answered places (served_asking b (question_octets sequence (writes items octets)) js vs (Some pdu) sequence _ s most (question_is_s7 sequence (writes items octets)) judged live)
 
 -- a write is refused at once, or answered as a read is
-pub served_write : (b : List ℕ) (js vs : List Verdict) (pdu sequence : ℕ) (items : List Item) (octets : List ℕ) → Settled b js (Some pdu) → sequence < 65536 → pdu ≤ 960
+pub served_write : {first : LinkState} (b : List ℕ) (js vs : List Verdict) (pdu sequence : ℕ) (items : List Item) (octets : List ℕ) → Settled first b js (Some pdu) → sequence < 65536 → pdu ≤ 960
     → length (question_octets sequence (writes items octets)) ≤ pdu → 0 < length items → length items ≤ 20
-    → (past (b ++ sent_message 1024 (question_octets sequence (writes items octets))) (js ++ vs)).standing ≡ lives
-    → IsWriteAnswered b js (question_octets sequence (writes items octets)) vs (Some pdu) sequence items (body_of (writes items octets))
-served_write b js vs pdu sequence items octets s low most fits some few live =
-    write_answered b js vs pdu sequence items octets s (omega (arith, most, fits)) live (judged_write pdu sequence items octets low most fits some few)
+    → (past first (b ++ sent_message 1024 (question_octets sequence (writes items octets))) (js ++ vs)).standing ≡ lives
+    → IsWriteAnswered first b js (question_octets sequence (writes items octets)) vs (Some pdu) sequence items (body_of (writes items octets))
+served_write {first} b js vs pdu sequence items octets s low most fits some few live =
+    write_answered b js vs pdu sequence items octets s (omega (arith, most, fits)) live (judged_write (past first b js).link pdu sequence items octets s.grants low most fits some few)

@@ -7,8 +7,9 @@ use Rattle.s7_item.specs.declared.item.Item.{Item}
 use Rattle.s7_item.specs.Item.{octet_count}
 use Rattle.s7_item.specs.DataItem.{carries}
 use Rattle.s7_item.specs.Word.{size_of}
+use Rattle.s7_area.specs.Guards.{is_read_barred}
 use Rattle.s7_area.specs.Places.{is_misfit, key_of, is_inside, value_at}
-use Rattle.s7_area.specs.Memory.{Memory, octets_at, code_in, read_code, read_octets}
+use Rattle.s7_area.specs.Memory.{Memory, octets_at, code_in, place_code, read_code, read_octets}
 
 -- the item is read: it fits its area, and its octets are inside
 record IsGood (m : Memory) (item : Item) : Type 0 where
@@ -38,9 +39,14 @@ judged_fit : (m : Memory) (item : Item) (misfit : Bool) → is_misfit item ≡ m
 judged_fit m item true fits = inr (record { other = refl; carried = refl })
 judged_fit m item false fits = judged_found m item (octets_at m (key_of item)) fits refl
 
-judged : (m : Memory) (item : Item) → Judged m item (read_code m true item)
+-- what the guard bars is refused
+judged_barred : (m : Memory) (item : Item) (barred : Bool) → Judged m item (cond barred 0x03 (place_code m item))
+judged_barred m item true = inr (record { other = refl; carried = refl })
+judged_barred m item false = judged_fit m item (is_misfit item) refl
+
+judged : (m : Memory) (right : Bool) (item : Item) → Judged m item (read_code m right item)
 unfolding read_code
-judged m item = judged_fit m item (is_misfit item) refl
+judged m right item = judged_barred m item (is_read_barred m.guard right)
 
 -- ---- the octets that are read
 
@@ -62,26 +68,26 @@ given_whole m item good =
     ap (λ (found : Option (List ℕ)). length (value_at item (unwrap_or found []))) good.found
     ∙ count_at item good.octets (eqb item.word 1) refl good.fits good.inside
 
-whole_by : (m : Memory) (item : Item) → read_code m true item ≡ 0xFF → Judged m item (read_code m true item) → length (read_octets m true item) ≡ octet_count item
+whole_by : (m : Memory) (right : Bool) (item : Item) → read_code m right item ≡ 0xFF → Judged m item (read_code m right item) → length (read_octets m right item) ≡ octet_count item
 unfolding read_octets
-whole_by m item code (inl good) = ap (λ c. length (given m item (eqb c 0xFF))) code ∙ given_whole m item good.1
-whole_by m item code (inr refused) = absurd (absurd_code (read_code m true item) code refused.other)
+whole_by m right item code (inl good) = ap (λ c. length (given m item (eqb c 0xFF))) code ∙ given_whole m item good.1
+whole_by m right item code (inr refused) = absurd (absurd_code (read_code m right item) code refused.other)
   where
     absurd_code : (c : ℕ) → c ≡ 0xFF → eqb c 0xFF ≡ false → ⊥
     absurd_code c is other = cc
 
 -- an item that is read has all its octets
-pub read_whole : (m : Memory) (item : Item) → read_code m true item ≡ 0xFF → length (read_octets m true item) ≡ octet_count item
-read_whole m item code = whole_by m item code (judged m item)
+pub read_whole : (m : Memory) (right : Bool) (item : Item) → read_code m right item ≡ 0xFF → length (read_octets m right item) ≡ octet_count item
+read_whole m right item code = whole_by m right item code (judged m right item)
 
 -- an item that is refused has none
-pub read_nothing : (m : Memory) (item : Item) → IsRefusing (read_code m true item) → read_octets m true item ≡ []
+pub read_nothing : (m : Memory) (right : Bool) (item : Item) → IsRefusing (read_code m right item) → read_octets m right item ≡ []
 unfolding read_octets
-read_nothing m item refused = ap (given m item) refused.other
+read_nothing m right item refused = ap (given m item) refused.other
 
 read_or_refused_by : (m : Memory) (item : Item) (code : ℕ) → Judged m item code → (code ≡ 0xFF) ⊎ IsRefusing code
 read_or_refused_by m item code (inl good) = inl good.0
 read_or_refused_by m item code (inr refused) = inr refused
 
-pub read_or_refused : (m : Memory) (item : Item) → (read_code m true item ≡ 0xFF) ⊎ IsRefusing (read_code m true item)
-read_or_refused m item = read_or_refused_by m item (read_code m true item) (judged m item)
+pub read_or_refused : (m : Memory) (right : Bool) (item : Item) → (read_code m right item ≡ 0xFF) ⊎ IsRefusing (read_code m right item)
+read_or_refused m right item = read_or_refused_by m item (read_code m right item) (judged m right item)

@@ -9,71 +9,70 @@ use Rattle.s7_area.specs.Memory.{Memory, written}
 use Rattle.s7_plant.specs.declared.request.Request.TheVariants.{Read, Write}
 use Rattle.s7_plant.specs.Answers.{write_codes}
 use Rattle.s7_plant.specs.Answers as plant
+use Rattle.s7_plant.specs.Requests.{asked}
 use Rattle.s7_plant.specs.Replies.{Said}
+use Rattle.s7_plant.specs.State.{State}
 use Rattle.s7_wire.specs.Sent.{sent_message}
 use Rattle.s7_client.specs.Question.{Question, negotiates, reads, writes, body_of, question_octets}
 use Rattle.s7_client.specs.Answer.{Answer, refuses, tells, answer_of}
 use Rattle.s7_session.specs.Verdict.{Verdict, Entered, Full, ClockFailed, NoMemory}
-use Rattle.s7_session.specs.Judgement.{Judgement, refuse, own, ask, judge, sequence_of, refusal_octets, reply_octets}
+use Rattle.s7_session.specs.Judgement.{Judgement, Asking, refuse, own, ask, judge, sequence_of, refusal_octets, reply_octets}
 use Rattle.s7_session.specs.Errors.{error_of, FULL}
-use Rattle.s7_session.specs.Handling.{Between, Standing, lives, stops, closes, met, clock_step, by_judgement, is_s7}
-use Rattle.s7_session.specs.Owed.{past, owed}
-use Rattle.s7_session.proofs.RunLemmas.{IsOver, past_over}
-use Rattle.s7_rig.specs.Settled.{Settled, link_with}
+use Rattle.s7_session.specs.Events.{lives, by_clock, by_judgement, is_s7}
+use Rattle.s7_session.specs.LinkState.{LinkState}
+use Rattle.s7_session.specs.Owed.{Past, past, owed}
+use Rattle.s7_session.proofs.PastLemmas.{IsOver, standing_cases, past_over}
+use Rattle.s7_rig.specs.Settled.{Settled}
 use Rattle.s7_rig.specs.Asked.{IsAnswered, is_entered, is_full, IsWriteAnswered, is_unasked, is_answered}
 use Rattle.s7_rig.specs.Heard.{told_of}
 use Rattle.s7_rig.specs.Exchanges.{IsAskable, is_refused, is_read, is_written, Replies}
-use Rattle.s7_rig.proofs.ServedLemmas.{between_after, served_message}
+use Rattle.s7_rig.proofs.ServedLemmas.{served_message}
 use Rattle.s7_rig.proofs.JudgedLemmas.{question_sequence}
 use Rattle.s7_rig.proofs.QuestionLemmas.{served_read, served_write}
 use Rattle.s7_rig.proofs.AnsweredLemmas.{refusal_is_heard, read_is_heard, length-read, least-read, length-write}
 
 -- ---- a link that owes more lives
 
-clock_unowed : (timed : Bool) (between : Between) (out : List ℕ) (vs : List Verdict) → IsOver (clock_step timed between out vs).standing → (clock_step timed between out vs).out ≡ []
-clock_unowed true between out vs over = absurd over
-clock_unowed false between out vs over = refl
+clock_unowed : (timed : Bool) (size : ℕ) (link : LinkState) (sequence : ℕ) (asking : Asking) (vs : List Verdict) → IsOver (by_clock timed size link sequence asking vs).standing
+    → (by_clock timed size link sequence asking vs).out ≡ []
+clock_unowed true size link sequence asking vs over = absurd over
+clock_unowed false size link sequence asking vs over = refl
 
-stopped_unowed : (between : Between) (size : ℕ) (m : List ℕ) (j : Judgement) (vs : List Verdict) → IsOver (met (by_judgement between size m j) vs).standing
-    → (met (by_judgement between size m j) vs).out ≡ []
-stopped_unowed between size m (refuse refusal) vs over = absurd over
-stopped_unowed between size m (own messages link) vs over = absurd over
-stopped_unowed between size m (ask asking) [] over = refl
-stopped_unowed between size m (ask asking) (Entered reply moment ∷ vs) over = absurd over
-stopped_unowed between size m (ask asking) (Full ∷ vs) over = absurd over
-stopped_unowed between size m (ask asking) (ClockFailed ∷ vs) over = clock_unowed asking.is_timed between _ vs over
-stopped_unowed between size m (ask asking) (NoMemory ∷ vs) over = refl
+stopped_unowed : (size : ℕ) (link : LinkState) (sequence : ℕ) (j : Judgement) (vs : List Verdict) → IsOver (by_judgement size link sequence vs j).standing
+    → (by_judgement size link sequence vs j).out ≡ []
+stopped_unowed size link sequence (refuse refusal) vs over = absurd over
+stopped_unowed size link sequence (own messages next) vs over = absurd over
+stopped_unowed size link sequence (ask asking) [] over = refl
+stopped_unowed size link sequence (ask asking) (Entered reply moment ∷ vs) over = absurd over
+stopped_unowed size link sequence (ask asking) (Full ∷ vs) over = absurd over
+stopped_unowed size link sequence (ask asking) (ClockFailed ∷ vs) over = clock_unowed asking.is_timed size link sequence asking vs over
+stopped_unowed size link sequence (ask asking) (NoMemory ∷ vs) over = refl
 
 -- a message at which the link ends is owed nothing
-unowed : (b m : List ℕ) (js vs : List Verdict) (granted : Option ℕ) → Settled b js granted → length m ≤ 1021 → is_s7 m ≡ true
-    → IsOver (past (b ++ sent_message 1024 m) (js ++ vs)).standing → owed (b ++ sent_message 1024 m) (js ++ vs) ≡ owed b js
-unowed b m js vs granted s most is over =
+unowed : {first : LinkState} (b m : List ℕ) (js vs : List Verdict) (granted : Option ℕ) → Settled first b js granted → length m ≤ 1021 → is_s7 m ≡ true
+    → IsOver (past first (b ++ sent_message 1024 m) (js ++ vs)).standing → owed first (b ++ sent_message 1024 m) (js ++ vs) ≡ owed first b js
+unowed {first} b m js vs granted s most is over =
     let same = served_message b m js vs granted s most is in
-    let j = judge (link_with granted) m in
-    ap (λ p. p.owed) same
-    ∙ (ap (λ x. owed b js ++ x) (stopped_unowed (between_after b js m granted) 1024 m j vs (subst IsOver (ap (λ p. p.standing) same) over))
-    ∙ append-nil (owed b js))
+    let link = (past first b js).link in
+    ap (λ (p : Past). p.owed) same
+    ∙ (ap (λ x. owed first b js ++ x) (stopped_unowed 1024 link (sequence_of m) (judge link m) vs (subst IsOver (ap (λ (p : Past). p.standing) same) over))
+    ∙ append-nil (owed first b js))
 
-lives_or_over : (s : Standing) → (s ≡ lives) ⊎ IsOver s
-lives_or_over lives = inl refl
-lives_or_over stops = inr tt
-lives_or_over (closes end) = inr tt
-
-lives_by : (b m z more : List ℕ) (js vs : List Verdict) (granted : Option ℕ) → Settled b js granted → length m ≤ 1021 → is_s7 m ≡ true
-    → owed ((b ++ sent_message 1024 m) ++ z) (js ++ vs) ≡ owed b js ++ more → 0 < length more
-    → ((past (b ++ sent_message 1024 m) (js ++ vs)).standing ≡ lives) ⊎ IsOver (past (b ++ sent_message 1024 m) (js ++ vs)).standing
-    → (past (b ++ sent_message 1024 m) (js ++ vs)).standing ≡ lives
+lives_by : {first : LinkState} (b m z more : List ℕ) (js vs : List Verdict) (granted : Option ℕ) → Settled first b js granted → length m ≤ 1021 → is_s7 m ≡ true
+    → owed first ((b ++ sent_message 1024 m) ++ z) (js ++ vs) ≡ owed first b js ++ more → 0 < length more
+    → ((past first (b ++ sent_message 1024 m) (js ++ vs)).standing ≡ lives) ⊎ IsOver (past first (b ++ sent_message 1024 m) (js ++ vs)).standing
+    → (past first (b ++ sent_message 1024 m) (js ++ vs)).standing ≡ lives
 lives_by b m z more js vs granted s most is owes some (inl live) = live
-lives_by b m z more js vs granted s most is owes some (inr over) =
-    let same = ap (λ p. p.owed) (past_over (b ++ sent_message 1024 m) z (js ++ vs) over) ∙ unowed b m js vs granted s most is over in
-    absurd (omega (arith, ap length (sym same ∙ owes), length-append (owed b js) more, some))
+lives_by {first} b m z more js vs granted s most is owes some (inr over) =
+    let same = ap (λ (p : Past). p.owed) (past_over first (b ++ sent_message 1024 m) z (js ++ vs) over) ∙ unowed b m js vs granted s most is over in
+    absurd (omega (arith, ap length (sym same ∙ owes), length-append (owed first b js) more, some))
 
 -- where more comes to be owed, the link lives after the message
-pub lives_on : (b m z more : List ℕ) (js vs : List Verdict) (granted : Option ℕ) → Settled b js granted → length m ≤ 1021 → is_s7 m ≡ true
-    → owed ((b ++ sent_message 1024 m) ++ z) (js ++ vs) ≡ owed b js ++ more → 0 < length more
-    → (past (b ++ sent_message 1024 m) (js ++ vs)).standing ≡ lives
-lives_on b m z more js vs granted s most is owes some =
-    lives_by b m z more js vs granted s most is owes some (lives_or_over (past (b ++ sent_message 1024 m) (js ++ vs)).standing)
+pub lives_on : {first : LinkState} (b m z more : List ℕ) (js vs : List Verdict) (granted : Option ℕ) → Settled first b js granted → length m ≤ 1021 → is_s7 m ≡ true
+    → owed first ((b ++ sent_message 1024 m) ++ z) (js ++ vs) ≡ owed first b js ++ more → 0 < length more
+    → (past first (b ++ sent_message 1024 m) (js ++ vs)).standing ≡ lives
+lives_on {first} b m z more js vs granted s most is owes some =
+    lives_by b m z more js vs granted s most is owes some (standing_cases (past first (b ++ sent_message 1024 m) (js ++ vs)).standing)
 
 -- ---- what a session replies
 
@@ -89,11 +88,11 @@ full_heard q s a low heard =
 met_split : (js vs rest : List Verdict) (v : Verdict) → vs ≡ v ∷ rest → js ++ vs ≡ (js ++ v ∷ []) ++ rest
 met_split js vs rest v is = ap (λ x. js ++ x) is ∙ sym (append_assoc js (v ∷ []) rest)
 
-read_heard : (m : Memory) (items : List Item) (s : ℕ) (reply : Said) (a : Answer) → s < 65536 → answer_size items ≤ 960
-    → answer_of (reads items) s (reply_octets s reply) ≡ Some a → reply ≡ plant.answer_of m (Read items) → a ≡ tells (map (told_of m) items)
-read_heard m items s reply a low room heard gives =
-    same_some a (tells (map (told_of m) items))
-    (sym heard ∙ (ap (λ r. answer_of (reads items) s (reply_octets s r)) gives ∙ read_is_heard m items s (omega (arith, low)) (omega (arith, room))))
+read_heard : (state : State) (right : Bool) (items : List Item) (s : ℕ) (reply : Said) (a : Answer) → s < 65536 → answer_size items ≤ 960
+    → answer_of (reads items) s (reply_octets s reply) ≡ Some a → reply ≡ plant.answer_of state (asked right (Read items)) → a ≡ tells (map (told_of state.memory right) items)
+read_heard state right items s reply a low room heard gives =
+    same_some a (tells (map (told_of state.memory right) items))
+    (sym heard ∙ (ap (λ r. answer_of (reads items) s (reply_octets s r)) gives ∙ read_is_heard state right items s (omega (arith, low)) (omega (arith, room))))
 
 least_of : (least : ℕ) (s : ℕ) (reply given : Said) → reply ≡ given → least ≤ length (reply_octets s given) → least ≤ length (reply_octets s reply)
 least_of least s reply given gives enough = subst (λ r. least ≤ length (reply_octets s r)) (sym gives) enough
@@ -101,19 +100,21 @@ least_of least s reply given gives enough = subst (λ r. least ≤ length (reply
 most_of : (most : ℕ) (s : ℕ) (reply given : Said) → reply ≡ given → length (reply_octets s given) ≤ most → length (reply_octets s reply) ≤ most
 most_of most s reply given gives few = subst (λ r. length (reply_octets s r) ≤ most) (sym gives) few
 
-read_replies : (b : List ℕ) (js vs : List Verdict) (pdu s : ℕ) (items : List Item) → s < 65536 → answer_size items ≤ 960
-    → IsAnswered b js (question_octets s (reads items)) vs (Some pdu) s (Read items) → Replies b js vs pdu (reads items) s
-read_replies b js vs pdu s items low room (is_entered reply moment rest is serves) = record {
-  met = js ++ Entered reply moment ∷ [];
-  left = rest;
-  split = met_split js vs rest (Entered reply moment) is;
-  message = reply_octets s reply;
-  new = (Read items, reply) ∷ [];
-  serves = serves;
-  least = λ h. least_of 10 s reply (plant.answer_of h.0.0 (Read items)) h.0.1 (omega (arith, least-read h.0.0 items s));
-  most = λ h. most_of 1021 s reply (plant.answer_of h.0.0 (Read items)) h.0.1 (omega (arith, length-read h.0.0 items s, room));
-  told = λ a heard. is_read items reply refl refl (λ m gives. read_heard m items s reply a low room heard gives);
-}
+read_replies : {first : LinkState} (b : List ℕ) (js vs : List Verdict) (pdu s : ℕ) (items : List Item) → s < 65536 → answer_size items ≤ 960
+    → IsAnswered first b js (question_octets s (reads items)) vs (Some pdu) s (Read items) → Replies first b js vs pdu (reads items) s
+read_replies b js vs pdu s items low room (is_entered right reply moment rest is serves) =
+    let given : State → Said = λ state. plant.answer_of state (asked right (Read items)) in
+    record {
+      met = js ++ Entered reply moment ∷ [];
+      left = rest;
+      split = met_split js vs rest (Entered reply moment) is;
+      message = reply_octets s reply;
+      new = (asked right (Read items), reply) ∷ [];
+      serves = serves;
+      least = λ h. least_of 10 s reply (given h.0.0) h.0.1 (omega (arith, least-read h.0.0 right items s));
+      most = λ h. most_of 1021 s reply (given h.0.0) h.0.1 (omega (arith, length-read h.0.0 right items s, room));
+      told = λ a heard. is_read items right reply refl refl (λ state gives. read_heard state right items s reply a low room heard gives);
+    }
 read_replies b js vs pdu s items low room (is_full rest is serves) = record {
   met = js ++ Full ∷ [];
   left = rest;
@@ -126,25 +127,28 @@ read_replies b js vs pdu s items low room (is_full rest is serves) = record {
   told = λ a heard. is_refused FULL (full_heard (reads items) s a low heard);
 }
 
-few_codes : (m : Memory) (items : List Item) (places : List DataPlace) (octets : List ℕ) → length (write_codes m items places octets) ≤ length items
-few_codes m [] places octets = omega arith
-few_codes m (item ∷ items) [] octets = omega arith
-few_codes m (item ∷ items) (place ∷ places) octets = omega (arith, few_codes (written m true item (octets_at octets place)) items places octets)
+few_codes : (m : Memory) (right : Bool) (items : List Item) (places : List DataPlace) (octets : List ℕ) → length (write_codes m right items places octets) ≤ length items
+few_codes m right [] places octets = omega arith
+few_codes m right (item ∷ items) [] octets = omega arith
+few_codes m right (item ∷ items) (place ∷ places) octets =
+    omega (arith, few_codes (written m right item (octets_at octets place)) right items places octets)
 
-asked_replies : (b : List ℕ) (js vs : List Verdict) (pdu s : ℕ) (items : List Item) (octets found : List ℕ) (places : List DataPlace) → length items ≤ 20
-    → IsAnswered b js (question_octets s (writes items octets)) vs (Some pdu) s (Write items places found) → Replies b js vs pdu (writes items octets) s
-asked_replies b js vs pdu s items octets found places few (is_entered reply moment rest is serves) = record {
-  met = js ++ Entered reply moment ∷ [];
-  left = rest;
-  split = met_split js vs rest (Entered reply moment) is;
-  message = reply_octets s reply;
-  new = (Write items places found, reply) ∷ [];
-  serves = serves;
-  least = λ h. least_of 10 s reply (plant.answer_of h.0.0 (Write items places found)) h.0.1 (omega (arith, length-write h.0.0 items places found s));
-  most = λ h. most_of 1021 s reply (plant.answer_of h.0.0 (Write items places found)) h.0.1
-      (omega (arith, length-write h.0.0 items places found s, few_codes h.0.0 items places found, few));
-  told = λ a heard. is_written items octets refl;
-}
+asked_replies : {first : LinkState} (b : List ℕ) (js vs : List Verdict) (pdu s : ℕ) (items : List Item) (octets found : List ℕ) (places : List DataPlace) → length items ≤ 20
+    → IsAnswered first b js (question_octets s (writes items octets)) vs (Some pdu) s (Write items places found) → Replies first b js vs pdu (writes items octets) s
+asked_replies b js vs pdu s items octets found places few (is_entered right reply moment rest is serves) =
+    let given : State → Said = λ state. plant.answer_of state (asked right (Write items places found)) in
+    record {
+      met = js ++ Entered reply moment ∷ [];
+      left = rest;
+      split = met_split js vs rest (Entered reply moment) is;
+      message = reply_octets s reply;
+      new = (asked right (Write items places found), reply) ∷ [];
+      serves = serves;
+      least = λ h. least_of 10 s reply (given h.0.0) h.0.1 (omega (arith, length-write h.0.0 right items places found s));
+      most = λ h. most_of 1021 s reply (given h.0.0) h.0.1
+          (omega (arith, length-write h.0.0 right items places found s, few_codes h.0.0.memory right items places found, few));
+      told = λ a heard. is_written items octets refl;
+    }
 asked_replies b js vs pdu s items octets found places few (is_full rest is serves) = record {
   met = js ++ Full ∷ [];
   left = rest;
@@ -157,8 +161,8 @@ asked_replies b js vs pdu s items octets found places few (is_full rest is serve
   told = λ a heard. is_written items octets refl;
 }
 
-write_replies : (b : List ℕ) (js vs : List Verdict) (pdu s : ℕ) (items : List Item) (octets found : List ℕ) → length items ≤ 20
-    → IsWriteAnswered b js (question_octets s (writes items octets)) vs (Some pdu) s items found → Replies b js vs pdu (writes items octets) s
+write_replies : {first : LinkState} (b : List ℕ) (js vs : List Verdict) (pdu s : ℕ) (items : List Item) (octets found : List ℕ) → length items ≤ 20
+    → IsWriteAnswered first b js (question_octets s (writes items octets)) vs (Some pdu) s items found → Replies first b js vs pdu (writes items octets) s
 write_replies b js vs pdu s items octets found few (is_unasked refusal serves) = record {
   met = js;
   left = vs;
@@ -173,9 +177,9 @@ write_replies b js vs pdu s items octets found few (is_unasked refusal serves) =
 write_replies b js vs pdu s items octets found few (is_answered places answered) = asked_replies b js vs pdu s items octets found places few answered
 
 -- A question that can be asked has its reply, where the link lives after it.
-pub replied : (b : List ℕ) (js vs : List Verdict) (pdu : ℕ) (q : Question) (s : ℕ) → Settled b js (Some pdu) → s < 65536 → pdu ≤ 960 → length (question_octets s q) ≤ pdu → IsAskable pdu q
-    → (past (b ++ sent_message 1024 (question_octets s q)) (js ++ vs)).standing ≡ lives → Replies b js vs pdu q s
-replied b js vs pdu (negotiates asked) s settled low most fits can live = absurd can
+pub replied : {first : LinkState} (b : List ℕ) (js vs : List Verdict) (pdu : ℕ) (q : Question) (s : ℕ) → Settled first b js (Some pdu) → s < 65536 → pdu ≤ 960 → length (question_octets s q) ≤ pdu → IsAskable pdu q
+    → (past first (b ++ sent_message 1024 (question_octets s q)) (js ++ vs)).standing ≡ lives → Replies first b js vs pdu q s
+replied b js vs pdu (negotiates n) s settled low most fits can live = absurd can
 replied b js vs pdu (reads items) s settled low most fits can live =
     read_replies b js vs pdu s items low (omega (arith, most, can.1))
     (served_read b js vs pdu s items settled low most fits can.0.0 can.0.1 can.1 live)

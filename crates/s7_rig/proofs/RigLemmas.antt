@@ -1,69 +1,82 @@
 -- What a whole rig comes to, by what it began with and its run.
 use Rattle.std.proofs.Common.{◌≡◌, ℕ, zero, suc, ◌+◌, ◌≤◌, List, [], ◌∷◌, ◌++◌, length, refl, ap, sym, ◌∙◌, subst, arith}
-use Rattle.std.specs.Prelude.{Some, Result, Ok, Err, IfOk, unwrap_or, slice_get, map}
+use Rattle.std.specs.Prelude.{Option, None, Some, Result, Ok, Err, IfOk, unwrap_or, slice_get, map}
 use Rattle.std.specs.List.{AllByRecursion}
 use Rattle.s7_outer.specs.PipesHeld.{PipesHeld}
 use Rattle.s7_area.specs.Memory.{Memory}
+use Rattle.s7_area.specs.declared.guard.Guard.{Guard}
 use Rattle.s7_client.specs.declared.config.Config.{Config}
 use Rattle.s7_client.specs.declared.job.Job.{Job}
 use Rattle.s7_client.specs.Polling as client
 use Rattle.s7_plant.specs.declared.book.Book.{Book}
-use Rattle.s7_plant.specs.Journals.{entries_of, replay_entries}
-use Rattle.s7_session.specs.Answers.{AllAt}
-use Rattle.s7_session.specs.Books.{own}
-use Rattle.s7_session.specs.Entry.{asked}
-use Rattle.s7_session.proofs.PastLemmas.{past-nothing}
+use Rattle.s7_plant.specs.Journals.{entries_of, calls_of, after_call}
+use Rattle.s7_plant.specs.State.{begins_with, state_of}
+use Rattle.s7_turn.specs.Histories.{replay}
+use Rattle.s7_session.specs.Books.{history_of, own}
+use Rattle.s7_session.specs.Entry.{answered}
+use Rattle.s7_session.specs.Legal.{IsLegalBook}
+use Rattle.s7_session.specs.LinkState.{first_link}
+use Rattle.s7_session.specs.Owed.{Past, owed, telegrams}
 use Rattle.s7_session.specs.Stands.{unread, unsent}
+use Rattle.s7_session.specs.Telegrams.{verdicts_of, MemoryIsLast, AllAt, clock_failures, last_number}
+use Rattle.s7_session.proofs.BookLemmas.{replay-calls}
+use Rattle.s7_session.proofs.DoerLemmas.{full_end, full_stays}
+use Rattle.s7_session.proofs.PastLemmas.{past_nothing, memory_is_last}
+use Rattle.s7_session.proofs.SumLemmas.{all_different, all_served, counts_add_up}
 use Rattle.s7_rig.specs.State.{Post, State}
 use Rattle.s7_rig.specs.Runs.{AreFresh, IsFreshPost, IsRun, moment}
-use Rattle.s7_rig.specs.Legal.{IsLegalFor}
+use Rattle.s7_rig.specs.Legal.{IsLegalPost, links_of}
 use Rattle.s7_rig.specs.Rigs.{Turning, RigRan}
 use Rattle.s7_rig.specs.Scripts.{ConnectsFirst}
 use Rattle.s7_rig.specs.Shown.{EndTold, state_told, post_told, ClientTold}
 use Rattle.s7_rig.specs.Split.{AllStand}
+use Rattle.s7_rig.specs.Turns.{is_full_in, lacks_in}
 use Rattle.s7_rig.proofs.Joint.{untouched}
 use Rattle.s7_rig.proofs.OwnLemmas.{AllLinks, no_links, none_stand}
 use Rattle.s7_rig.proofs.RunSteps.{Holds, HasJoint, run_holds}
+use Rattle.s7_rig.proofs.SumLemmas.{posts_numbered, posts_counted, calls_within}
 
 -- ---- the start
 
 -- a client at a place is fresh, with its list of jobs
-record FreshAt (config : Config) (link : ℕ) (p : Post) : Type 0 where
+record FreshAt (guard : Option Guard) (config : Config) (link : ℕ) (p : Post) : Type 0 where
   jobs : List Job
-  fresh : IsFreshPost config link jobs p
+  fresh : IsFreshPost guard config link jobs p
   connects : ConnectsFirst jobs
 
-fresh_at : (config : Config) (link : ℕ) (scripts : List (List Job)) (posts : List Post) (k : ℕ) (p : Post)
-    → AreFresh config link scripts posts → AllByRecursion ConnectsFirst scripts → slice_get posts k ≡ Some p → FreshAt config (link + k) p
+fresh_at : (guard : Option Guard) (config : Config) (link : ℕ) (scripts : List (List Job)) (posts : List Post) (k : ℕ) (p : Post)
+    → AreFresh guard config link scripts posts → AllByRecursion ConnectsFirst scripts → slice_get posts k ≡ Some p → FreshAt guard config (link + k) p
 unfolding AreFresh
-fresh_at config link [] [] k p fresh first at = absurd (cc)
-fresh_at config link [] (q ∷ posts) k p fresh first at = absurd fresh
-fresh_at config link (jobs ∷ scripts) [] k p fresh first at = absurd fresh
-fresh_at config link (jobs ∷ scripts) (q ∷ posts) zero p fresh first at =
+fresh_at guard config link [] [] k p fresh first at = absurd (cc)
+fresh_at guard config link [] (q ∷ posts) k p fresh first at = absurd fresh
+fresh_at guard config link (jobs ∷ scripts) [] k p fresh first at = absurd fresh
+fresh_at guard config link (jobs ∷ scripts) (q ∷ posts) zero p fresh first at =
     let same : q ≡ p = ap (λ o. unwrap_or o q) at in
     record {
       jobs = jobs;
-      fresh = subst (λ n. IsFreshPost config n jobs p) (plus_zero link) (subst (IsFreshPost config link jobs) same fresh.0);
+      fresh = subst (λ n. IsFreshPost guard config n jobs p) (plus_zero link) (subst (IsFreshPost guard config link jobs) same fresh.0);
       connects = first.0;
     }
   where
     plus_zero : (n : ℕ) → n ≡ n + 0
     plus_zero n = omega arith
-fresh_at config link (jobs ∷ scripts) (q ∷ posts) (suc k) p fresh first at =
-    subst (λ n. FreshAt config n p) (plus_one link k) (fresh_at config (link + 1) scripts posts k p fresh.1 first.1 at)
+fresh_at guard config link (jobs ∷ scripts) (q ∷ posts) (suc k) p fresh first at =
+    subst (λ n. FreshAt guard config n p) (plus_one link k) (fresh_at guard config (link + 1) scripts posts k p fresh.1 first.1 at)
   where
     plus_one : (n k : ℕ) → (n + 1) + k ≡ n + suc k
     plus_one n k = omega arith
 
-joint_fresh : (opening : Memory) (limit : ℕ) (config : Config) (book : Book) (p : Post) (link : ℕ) → FreshAt config link p
-    → book.opening.areas ≡ opening → book.journal ≡ entries_of [] limit → HasJoint opening limit config book p [] []
+joint_fresh : (opening : Memory) (limit : ℕ) (config : Config) (book : Book) (p : Post) (link : ℕ) → FreshAt opening.guard config link p
+    → state_of book.opening ≡ begins_with opening → book.journal ≡ entries_of [] limit → HasJoint opening limit config book p [] []
 joint_fresh opening limit config book p link f opened journal =
-    let empty : book.journal.entries ≡ [] = ap (λ j. j.entries) journal in
-    let none : own opening p.link book.journal.entries ≡ [] = ap (own opening p.link) empty in
+    let s = begins_with opening in
+    let history = history_of book in
+    let empty : history ≡ [] = ap (λ j. calls_of j.entries) journal in
+    let none : own s p.link history ≡ [] = ap (own s p.link) empty in
     let to_server : p.pipes.to_server ≡ [] = ap (λ (x : PipesHeld). x.to_server) f.fresh.pipes in
     let to_client : p.pipes.to_client ≡ [] = ap (λ (x : PipesHeld). x.to_client) f.fresh.pipes in
     record {
-      octets = record { sent = []; used = []; verdicts = []; answered = []; heard = [] };
+      octets = record { sent = []; used = []; verdicts = []; mets = []; answered = []; heard = [] };
       sent_are = refl;
       answered_are = refl;
       joint = record {
@@ -72,15 +85,19 @@ joint_fresh opening limit config book p link f opened journal =
         stands = f.fresh.session.stands;
         taken = ap (λ x. x ++ []) (sym f.fresh.session.unread) ∙ ap (λ x. unread p.session ++ x) (sym to_server);
         given = ap (λ x. x ++ []) (sym f.fresh.client.unread) ∙ ap (λ x. client.unread_of p.client ++ x) (sym to_client);
-        legal = ap (λ x. x.entered) past-nothing ∙ ap (map asked) (sym none);
-        full = λ h. absurd h;
-        full_stays = tt;
+        asked = ap (λ (x : Past). x.mets) (past_nothing (first_link opening.guard) []);
+        met = refl;
+        legal = ap (map answered) (sym none);
+        begun = book;
+        trail = λ ask full. full;
         clock = refl;
         moment_is = ap (λ (x : PipesHeld). x.moment) f.fresh.pipes;
         moments = subst (λ es. AllAt (Some moment) es) (sym none) tt;
+        count = f.fresh.session.count ∙ ap length (sym none);
+        last = f.fresh.session.newest ∙ ap (last_number None) (sym none);
         config_is = f.fresh.client.config;
-        done = subst (λ rs. AllStand opening book.journal.entries p.link config.pdu rs p.places) (sym f.fresh.results)
-            (subst (λ ps. AllStand opening book.journal.entries p.link config.pdu [] ps) (sym f.fresh.places) (none_stand opening book.journal.entries p.link config.pdu));
+        done = subst (λ rs. AllStand s history p.link config.pdu rs p.places) (sym f.fresh.results)
+            (subst (λ ps. AllStand s history p.link config.pdu [] ps) (sym f.fresh.places) (none_stand s history p.link config.pdu));
         mode = untouched (record {
           fresh = f.fresh.client;
           jobs = subst ConnectsFirst (sym f.fresh.rest) f.connects;
@@ -94,41 +111,67 @@ joint_fresh opening limit config book p link f opened journal =
 -- ---- the end
 
 module _ (opening : Memory) (limit : ℕ) (config : Config) where
-  legal_by : (book : Book) (p : Post) (sent answered : List ℕ) → HasJoint opening limit config book p sent answered → IsLegalFor opening limit book.journal.entries p sent answered
+  legal_by : (book : Book) (p : Post) (sent answered : List ℕ) → HasJoint opening limit config book p sent answered → IsLegalPost opening limit (history_of book) p sent answered
   legal_by book p sent answered h =
       let j = h.joint in
       let o = h.octets in
+      let first = first_link opening.guard in
+      let asks : telegrams first o.used (verdicts_of o.mets) ≡ o.mets = ap (telegrams first o.used) j.met ∙ j.asked in
       record {
         used = o.used;
         waiting = sym h.sent_are ∙ j.taken;
         heard = o.heard;
         coming = sym h.answered_are ∙ j.given;
-        verdicts = o.verdicts;
-        owed_is = j.stands.owed ∙ ap (λ x. x ++ unsent p.session) h.answered_are;
-        legal = j.legal;
-        full = j.full;
-        full_stays = j.full_stays;
-        clock = j.clock;
-        moments = j.moments;
+        mets = o.mets;
+        asked = asks;
+        owed_is = ap (owed first o.used) j.met ∙ (j.stands.owed ∙ ap (λ x. x ++ unsent p.session) h.answered_are);
+        legal = record {
+          calls = sym j.legal;
+          full = λ any. (full_end is_full_in lacks_in j.begun book o.mets j.trail any).1 ∙ j.limited;
+          full_stays = full_stays is_full_in lacks_in j.begun book o.mets (λ b ask other full. full) j.trail;
+          memory = subst (λ ms. MemoryIsLast (verdicts_of ms)) asks (memory_is_last first o.used (verdicts_of o.mets));
+          moments = j.moments;
+          count = j.count;
+          last = j.last;
+        };
+        clock = ap clock_failures j.met ∙ j.clock;
       }
 
   -- what holds of each place holds of all that is told
   all_told : (book : Book) (posts : List Post)
-      → ((k : ℕ) (p : Post) → slice_get posts k ≡ Some p → AllStand opening book.journal.entries p.link config.pdu p.results p.places)
-      → AllByRecursion (λ (c : ClientTold). AllStand opening book.journal.entries c.link config.pdu c.results c.places) (map post_told posts)
+      → ((k : ℕ) (p : Post) → slice_get posts k ≡ Some p → AllStand (begins_with opening) (history_of book) p.link config.pdu p.results p.places)
+      → AllByRecursion (λ (c : ClientTold). AllStand (begins_with opening) (history_of book) c.link config.pdu c.results c.places) (map post_told posts)
   all_told book [] each = tt
   all_told book (p ∷ posts) each = (each 0 p refl, all_told book posts (λ k q at. each (suc k) q at))
 
+  legal_book : (last : State) (sent answered : ℕ → List ℕ) → Holds opening limit config last sent answered → IsLegalBook (begins_with opening) limit (links_of last.posts) last.book
+  legal_book last sent answered holds =
+      let history = history_of last.book in
+      let links = links_of last.posts in
+      let numbered = posts_numbered 1 last.posts (λ k p at. omega (arith, holds.links k p at)) in
+      let within = calls_within last.posts history holds.calls in
+      let counted = posts_counted (begins_with opening) history last.posts (λ k p at. (holds.each k p at).joint.count) in
+      record {
+        opened = holds.opened;
+        limited = holds.limited;
+        only = all_served 1 links history numbered within;
+        different = all_different 1 links numbered;
+        sum = counts_add_up (begins_with opening) 1 links history numbered within counted;
+        left = last.book.replayed
+            ∙ sym (replay-calls (state_of last.book.opening) last.book.journal.entries)
+            ∙ ap (λ s. replay after_call s history) holds.opened;
+      }
+
   pub rig_ran : 64 ≤ config.pdu → config.pdu ≤ 960 → (scripts : List (List Job)) (turning : Turning) (end : EndTold) (start last : State)
       → AllByRecursion ConnectsFirst scripts
-      → start.book.opening.areas ≡ opening → start.book.plant.areas ≡ opening → start.book.journal ≡ entries_of [] limit
-      → AreFresh config 1 scripts start.posts → IsRun turning.turns turning.seed turning.steps start last → end ≡ state_told last
+      → state_of start.book.opening ≡ begins_with opening → state_of start.book.plant ≡ begins_with opening → start.book.journal ≡ entries_of [] limit
+      → AreFresh opening.guard config 1 scripts start.posts → IsRun turning.turns turning.seed turning.steps start last → end ≡ state_told last
       → RigRan opening limit config scripts turning end
   rig_ran least most scripts turning end start last first opened unchanged journal fresh run ends =
       let begins : Holds opening limit config start (λ k. []) (λ k. []) = record {
-        each = λ k p at. joint_fresh opening limit config start.book p (1 + k) (fresh_at config 1 scripts start.posts k p fresh first at) opened journal;
-        links = λ k p at. let f = fresh_at config 1 scripts start.posts k p fresh first at in omega (arith, f.fresh.link_is);
-        entries = subst (AllLinks 1 (length start.posts)) (sym (ap (λ j. j.entries) journal)) (no_links 1 (length start.posts));
+        each = λ k p at. joint_fresh opening limit config start.book p (1 + k) (fresh_at opening.guard config 1 scripts start.posts k p fresh first at) opened journal;
+        links = λ k p at. let f = fresh_at opening.guard config 1 scripts start.posts k p fresh first at in omega (arith, f.fresh.link_is);
+        calls = subst (AllLinks 1 (length start.posts)) (sym (ap (λ j. calls_of j.entries) journal)) (no_links 1 (length start.posts));
         opened = opened;
         limited = ap (λ j. j.limit) journal;
       } in
@@ -142,12 +185,9 @@ module _ (opening : Memory) (limit : ℕ) (config : Config) where
         fresh = fresh;
         run = run;
         ends = ends;
-        opens = holds.opened;
-        limited = holds.limited;
-        left = last.book.replayed ∙ ap (λ m. replay_entries m last.book.journal.entries) holds.opened;
+        book = legal_book last _ _ holds;
         legal = λ k p at. legal_by last.book p _ _ (holds.each k p at);
-        only = holds.entries;
-        reads = subst (λ (e : EndTold). AllByRecursion (λ (c : ClientTold). AllStand opening e.book.journal.entries c.link config.pdu c.results c.places) e.clients) (sym ends)
+        reads = subst (λ (e : EndTold). AllByRecursion (λ (c : ClientTold). AllStand (begins_with opening) (history_of e.book) c.link config.pdu c.results c.places) e.clients) (sym ends)
             (all_told last.book last.posts (λ k p at. (holds.each k p at).joint.done));
       }
 

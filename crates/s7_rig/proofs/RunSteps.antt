@@ -9,6 +9,8 @@ use Rattle.s7_client.specs.declared.config.Config.{Config}
 use Rattle.s7_client.specs.declared.job.Polled.{Polled}
 use Rattle.s7_client.specs.declared.job.Polled.TheVariants as polled
 use Rattle.s7_plant.specs.declared.book.Book.{Book}
+use Rattle.s7_plant.specs.State.{begins_with, state_of}
+use Rattle.s7_session.specs.Books.{history_of}
 use Rattle.s7_rig.specs.State.{Post, State}
 use Rattle.s7_rig.specs.Turns.{StartsNext, StartsNothing, with_polled, IsClientTurn, IsSessionTurn, ClientTurn, SessionTurn, IsTurnOf}
 use Rattle.s7_rig.specs.Runs.{Turns, Rounds, IsRun, actors_of, most_rounds, seeded}
@@ -74,15 +76,15 @@ module _ (opening : Memory) (limit : ℕ) (config : Config) where
   pub record Holds (s : State) (sent answered : ℕ → List ℕ) : Type 0 where
     pub each : (k : ℕ) (p : Post) → slice_get s.posts k ≡ Some p → HasJoint s.book p (sent k) (answered k)
     pub links : (k : ℕ) (p : Post) → slice_get s.posts k ≡ Some p → p.link ≡ k + 1
-    pub entries : AllLinks 1 (length s.posts) s.book.journal.entries
-    pub opened : s.book.opening.areas ≡ opening
+    pub calls : AllLinks 1 (length s.posts) (history_of s.book)
+    pub opened : state_of s.book.opening ≡ begins_with opening
     pub limited : s.book.journal.limit ≡ limit
 
   pub joint_as : (book : Book) (p : Post) (s s' a a' : List ℕ) → s ≡ s' → a ≡ a' → HasJoint book p s a → HasJoint book p s' a'
   joint_as book p s s' a a' e f h = record { octets = h.octets; sent_are = h.sent_are ∙ e; answered_are = h.answered_are ∙ f; joint = h.joint }
 
   holds_as : (s : State) (x x' y y' : ℕ → List ℕ) → ((k : ℕ) → x k ≡ x' k) → ((k : ℕ) → y k ≡ y' k) → Holds s x y → Holds s x' y'
-  holds_as s x x' y y' e f h = record { each = λ k p at. joint_as s.book p (x k) (x' k) (y k) (y' k) (e k) (f k) (h.each k p at); links = h.links; entries = h.entries; opened = h.opened; limited = h.limited }
+  holds_as s x x' y y' e f h = record { each = λ k p at. joint_as s.book p (x k) (x' k) (y k) (y' k) (e k) (f k) (h.each k p at); links = h.links; calls = h.calls; opened = h.opened; limited = h.limited }
 
   -- ---- a turn
 
@@ -108,8 +110,8 @@ module _ (opening : Memory) (limit : ℕ) (config : Config) where
         record {
           each = λ k p at. subst (λ b. HasJoint b p (x k ++ (if i == k then wrote else [])) (y k ++ [])) (sym book) (either k p (here k p) (there k p) (get_set s.posts i t.post' k p (sym (ap (λ z. slice_get z k) posts) ∙ at)));
           links = λ k p at. link_at k p (get_set s.posts i t.post' k p (sym (ap (λ z. slice_get z k) posts) ∙ at));
-          entries = subst (λ n. AllLinks 1 n s'.book.journal.entries) (sym (length-set s.posts i t.post') ∙ sym (ap length posts)) (subst (λ b. AllLinks 1 (length s.posts) b.journal.entries) (sym book) h.entries);
-          opened = ap (λ (b : Book). b.opening.areas) book ∙ h.opened;
+          calls = subst (λ n. AllLinks 1 n (history_of s'.book)) (sym (length-set s.posts i t.post') ∙ sym (ap length posts)) (subst (λ b. AllLinks 1 (length s.posts) (history_of b)) (sym book) h.calls);
+          opened = ap (λ (b : Book). state_of b.opening) book ∙ h.opened;
           limited = ap (λ (b : Book). b.journal.limit) book ∙ h.limited;
         }
       where
@@ -145,10 +147,10 @@ module _ (opening : Memory) (limit : ℕ) (config : Config) where
         record {
           each = λ k p at. either k p (here k p) (there k p) (get_set s.posts i t.post' k p (sym (ap (λ z. slice_get z k) t.same) ∙ at));
           links = λ k p at. link_at k p (get_set s.posts i t.post' k p (sym (ap (λ z. slice_get z k) t.same) ∙ at));
-          entries = subst (λ n. AllLinks 1 n s'.book.journal.entries) (sym (length-set s.posts i t.post') ∙ sym (ap length t.same))
+          calls = subst (λ n. AllLinks 1 n (history_of s'.book)) (sym (length-set s.posts i t.post') ∙ sym (ap length t.same))
               (all_links_go_on 1 (length s.posts) t.post.link s.book s'.book
-              (omega (arith, h.links i t.post t.at)) (omega (arith, h.links i t.post t.at, slice_get_within s.posts i t.post t.at)) h.entries t.turn.takes.goes_on);
-          opened = ap (λ o. o.areas) t.turn.takes.goes_on.opening ∙ h.opened;
+              (omega (arith, h.links i t.post t.at)) (omega (arith, h.links i t.post t.at, slice_get_within s.posts i t.post t.at)) h.calls t.turn.takes.goes_on);
+          opened = ap state_of t.turn.takes.goes_on.opening ∙ h.opened;
           limited = t.turn.takes.goes_on.limit ∙ h.limited;
         }
       where

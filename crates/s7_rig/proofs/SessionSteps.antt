@@ -1,7 +1,7 @@
 -- What a session's turn keeps of its client and itself, and of every other client and its session.
 use Rattle.std.proofs.Common.{◌≡◌, ◌≢◌, inl, inr, ℕ, ◌+◌, ◌-◌, List, [], ◌∷◌, ◌++◌, length, map, refl, ap, sym, ◌∙◌, subst, arith, append_assoc, append-nil, length-append}
 use Rattle.std.proofs.lemmas.List.{append_cancel_left}
-use Rattle.std.specs.Prelude.{Bool, Some, option_map, unwrap_or}
+use Rattle.std.specs.Prelude.{Bool, None, Some, option_map, unwrap_or}
 use Rattle.s7_outer.specs.Count.{RoseBy}
 use Rattle.s7_outer.specs.PipesHeld.{PipesHeld}
 use Rattle.s7_area.specs.Memory.{Memory}
@@ -9,26 +9,30 @@ use Rattle.s7_client.specs.declared.config.Config.{Config}
 use Rattle.s7_client.specs.declared.job.JobResult.{JobResult}
 use Rattle.s7_client.specs.Polling as client
 use Rattle.s7_plant.specs.declared.book.Book.{Book}
-use Rattle.s7_plant.specs.declared.journal.Entry.{Entry as JournalEntry}
-use Rattle.s7_plant.specs.declared.request.Request.TheVariants.{Read}
-use Rattle.s7_plant.specs.Journals.{replay_entries}
+use Rattle.s7_plant.specs.Journals.{after_call}
+use Rattle.s7_plant.specs.State.{begins_with, state_of}
+use Rattle.s7_turn.specs.Histories.{replay}
 use Rattle.s7_session.specs.declared.session.Session.{Session}
 use Rattle.s7_session.specs.declared.outcome.Turn.{Turn}
-use Rattle.s7_session.specs.Answers.{AnyFull, FullStays, AllAt, clock_failures}
-use Rattle.s7_session.specs.Books.{own, own_from, GoesOnBy}
-use Rattle.s7_session.specs.Entry.{Entry, asked}
-use Rattle.s7_session.specs.Handling.{lives}
-use Rattle.s7_session.specs.Owed.{past, owed, entered}
-use Rattle.s7_session.specs.Stands.{Stands, unread}
+use Rattle.s7_session.specs.Books.{History, history_of, own, own_from, GoesOnBy}
+use Rattle.s7_session.specs.Doers.{StaysFull, Trail}
+use Rattle.s7_session.specs.Entry.{Entry, answered}
+use Rattle.s7_session.specs.Events.{lives}
+use Rattle.s7_session.specs.LinkState.{LinkState, first_link}
+use Rattle.s7_session.specs.Owed.{Past, past, owed, telegrams}
+use Rattle.s7_session.specs.Stands.{Stands, unread, entry_count as count_of, newest}
+use Rattle.s7_session.specs.Telegrams.{Met, verdicts_of, entered_of, AllAt, clock_failures, last_number}
 use Rattle.s7_session.specs.Verdict.{Verdict}
-use Rattle.s7_session.proofs.TurnLemmas.{AnyFull-append, FullStays-append, AllAt-append, clock_failures-append, map-append}
+use Rattle.s7_session.proofs.ConsumeLemmas.{entered-append}
+use Rattle.s7_session.proofs.DoerLemmas.{trail-append, trail_stays}
+use Rattle.s7_session.proofs.TurnLemmas.{AllAt-append, clock_failures-append, last_number-append, map-append, verdicts-append}
 use Rattle.s7_rig.specs.Numbers.{count_from}
 use Rattle.s7_rig.specs.Runs.{moment}
 use Rattle.s7_rig.specs.Settled.{Settled}
 use Rattle.s7_rig.specs.Split.{AllStand}
 use Rattle.s7_rig.specs.State.{Post}
-use Rattle.s7_rig.specs.Turns.{uniform, entry_count, TakesTurn, IsSessionTurn}
-use Rattle.s7_rig.proofs.FrontLemmas.{past_with}
+use Rattle.s7_rig.specs.Turns.{is_full_in, lacks_in, entry_count, TakesTurn, IsSessionTurn}
+use Rattle.s7_rig.proofs.PastFacts.{past_with}
 use Rattle.s7_rig.proofs.Joint.{Octets, IsUntouched, IsConnecting, IsConnected, IsWorking, IsFailing, IsLost, Mode, untouched, connecting, connected, working, lost, Joint}
 use Rattle.s7_rig.proofs.OwnLemmas.{own_goes_on, own_numbers, own_stays, all_stand_goes_on, numbers_of}
 
@@ -69,46 +73,63 @@ no_failure : (m n : ℕ) → m ≡ 0 → RoseBy n 0 0 → m + n ≡ 0
 no_failure m n none rose = omega (arith, none, rose)
 
 -- a session that uses nothing meets no verdict
-none_met : (b new : List ℕ) (js vs : List Verdict) → new ≡ [] → (past b js).standing ≡ lives → (past (b ++ new) (js ++ vs)).verdicts ≡ [] → vs ≡ []
-none_met b new js vs none live met =
-    none_behind (past b js).verdicts vs
-    (ap (λ p. p.verdicts) (sym (past_with b js vs live)) ∙ ap (λ x. (past x (js ++ vs)).verdicts) (sym (ap (λ x. b ++ x) none ∙ append-nil b)) ∙ met)
+none_met : (first : LinkState) (b new : List ℕ) (js vs : List Verdict) → new ≡ [] → (past first b js).standing ≡ lives → (past first (b ++ new) (js ++ vs)).verdicts ≡ [] → vs ≡ []
+none_met first b new js vs none live met =
+    none_behind (past first b js).verdicts vs
+    (ap (λ (p : Past). p.verdicts) (sym (past_with first b js vs live)) ∙ ap (λ x. (past first x (js ++ vs)).verdicts) (sym (ap (λ x. b ++ x) none ∙ append-nil b)) ∙ met)
   where
     none_behind : (xs ys : List Verdict) → xs ++ ys ≡ [] → ys ≡ []
     none_behind [] ys is = is
     none_behind (x ∷ xs) ys is = absurd (cc)
 
--- results that stand in a journal stand in one that goes on
-stand_on : (opening : Memory) (book book' : Book) (link : ℕ) → GoesOnBy link book book' → book.opening.areas ≡ opening → (own_link pdu : ℕ) (results : List JobResult) (places : List (List ℕ))
-    → AllStand opening book.journal.entries own_link pdu results places
-    → AllStand opening book'.journal.entries own_link pdu results places
+-- a book that stays full goes on for the telegrams that met it
+stays_on : (begun book book' : Book) (mets : List Met) → Trail is_full_in lacks_in begun mets book → StaysFull is_full_in book book' → Trail is_full_in lacks_in begun mets book'
+stays_on begun book book' mets trail stays =
+    subst (λ ms. Trail is_full_in lacks_in begun ms book') (append-nil mets)
+    (trail-append is_full_in lacks_in begun book book' mets [] trail stays)
+
+-- results that stand in a history stand in one that goes on
+stand_on : (opening : Memory) (book book' : Book) (link : ℕ) → GoesOnBy link book book' → state_of book.opening ≡ begins_with opening → (own_link pdu : ℕ) (results : List JobResult) (places : List (List ℕ))
+    → AllStand (begins_with opening) (history_of book) own_link pdu results places
+    → AllStand (begins_with opening) (history_of book') own_link pdu results places
 stand_on opening book book' link goes_on opened own_link pdu results places stand =
-    subst (λ m. AllStand m book'.journal.entries own_link pdu results places) (ap (λ x. x.areas) goes_on.opening ∙ opened)
+    subst (λ s. AllStand s (history_of book') own_link pdu results places) (ap state_of goes_on.opening ∙ opened)
     (all_stand_goes_on link book book' goes_on own_link pdu results places
-    (subst (λ m. AllStand m book.journal.entries own_link pdu results places) (sym opened) stand))
+    (subst (λ s. AllStand s (history_of book) own_link pdu results places) (sym opened) stand))
 
 -- ---- the session's turn
 
--- the octets and the verdicts with those of a turn
-abbrev pub with_turn : Octets → List ℕ → List Verdict → List ℕ → Octets
-with_turn o used verdicts written = record o { used = o.used ++ used; verdicts = o.verdicts ++ verdicts; answered = o.answered ++ written }
+-- the octets and the telegrams with those of a turn
+abbrev pub with_turn : Octets → List ℕ → List Met → List ℕ → Octets
+with_turn o used mets written =
+    record o { used = o.used ++ used; verdicts = o.verdicts ++ verdicts_of mets; mets = o.mets ++ mets; answered = o.answered ++ written }
 
 -- a client whose session and pipes went on, with these numbers noted for its job
 abbrev pub with_session : Post → Session → PipesHeld → List ℕ → Post
 with_session p session pipes numbers = record p { session = session; pipes = pipes; noted = option_map (λ noted. noted ++ numbers) p.noted }
 
 module _ (opening : Memory) (limit : ℕ) (config : Config) (old : Post) (book book' : Book) (o : Octets) (session : Session) (pipes : PipesHeld) (result : Turn) (j : Joint opening limit config book old o) (takes : TakesTurn old.link old.session old.pipes book session pipes book' result) where
-  abbrev journal : List JournalEntry
-  journal = book.journal.entries
+  abbrev first : LinkState
+  first = first_link opening.guard
 
-  abbrev journal' : List JournalEntry
-  journal' = book'.journal.entries
+  abbrev history : History
+  history = history_of book
+
+  abbrev history' : History
+  history' = history_of book'
+
+  -- the link's own entries
+  abbrev mine : History → List Entry
+  mine h = own (begins_with opening) old.link h
 
   abbrev used : List ℕ
   used = takes.turn.moves.used
 
+  abbrev new_mets : List Met
+  new_mets = takes.turn.moves.mets
+
   abbrev verdicts : List Verdict
-  verdicts = takes.turn.moves.verdicts
+  verdicts = verdicts_of new_mets
 
   abbrev entries : List Entry
   entries = takes.turn.moves.entries
@@ -120,36 +141,37 @@ module _ (opening : Memory) (limit : ℕ) (config : Config) (old : Post) (book b
   post = with_session old session pipes numbers
 
   abbrev o' : Octets
-  o' = with_turn o used verdicts takes.turn.moves.written
+  o' = with_turn o used new_mets takes.turn.moves.written
 
-  opens : book'.opening.areas ≡ opening
-  opens = ap (λ x. x.areas) takes.goes_on.opening ∙ j.opened
+  opens : state_of book'.opening ≡ begins_with opening
+  opens = ap state_of takes.goes_on.opening ∙ j.opened
 
   limits : book'.journal.limit ≡ limit
   limits = takes.goes_on.limit ∙ j.limited
 
-  doer_has : own book.opening.areas old.link journal ++ entries ≡ own book'.opening.areas old.link journal'
-  doer_has = takes.turn.moves.doer (own book.opening.areas old.link journal) refl
+  doer_has : own (state_of book.opening) old.link history ++ entries ≡ own (state_of book'.opening) old.link history'
+  doer_has = takes.turn.moves.doer (own (state_of book.opening) old.link history) refl
 
   -- the link's own entries go on by those of the turn
-  own_is : own opening old.link journal' ≡ own opening old.link journal ++ entries
+  own_is : mine history' ≡ mine history ++ entries
   own_is =
-      ap (λ m. own m old.link journal') (sym opens)
+      ap (λ s. own s old.link history') (sym opens)
       ∙ sym doer_has
-      ∙ ap (λ m. own m old.link journal ++ entries) j.opened
+      ∙ ap (λ s. own s old.link history ++ entries) j.opened
 
   -- the numbers that are noted are theirs
   numbers_are : numbers ≡ numbers_of entries
   numbers_are =
       let g = takes.goes_on in
-      let m = replay_entries book.opening.areas journal in
-      let count : entry_count book' - entry_count book ≡ length g.entries = omega (arith, ap length g.journal, length-append journal g.entries) in
+      let opened = state_of book.opening in
+      let left = replay after_call opened history in
+      let count : entry_count book' - entry_count book ≡ length g.calls = omega (arith, ap length g.history, length-append history g.calls) in
       ap (count_from (entry_count book)) count
-      ∙ sym (own_numbers (entry_count book) m old.link g.entries g.own)
-      ∙ ap numbers_of (sym (append_cancel_left (own book.opening.areas old.link journal) entries (own_from (entry_count book) m old.link g.entries) (doer_has ∙ own_goes_on old.link book book' g)))
+      ∙ sym (own_numbers (entry_count book) left old.link g.calls g.own)
+      ∙ ap numbers_of (sym (append_cancel_left (own opened old.link history) entries (own_from (entry_count book) left old.link g.calls) (doer_has ∙ own_goes_on old.link book book' g)))
 
-  stands : Stands session o'.used o'.verdicts o'.answered
-  stands = takes.turn.moves.stood o.used o.verdicts o.answered j.stands
+  stands : Stands first session o'.used o'.verdicts o'.answered
+  stands = takes.turn.moves.stood first o.used o.verdicts o.answered j.stands
 
   took : old.pipes.to_server ≡ takes.turn.moves.received ++ pipes.to_server
   took = the_same _ _ takes.turn.moves.took
@@ -167,37 +189,41 @@ module _ (opening : Memory) (limit : ℕ) (config : Config) (old : Post) (book b
       ∙ append_assoc o.heard (client.unread_of old.client ++ old.pipes.to_client) written
       ∙ ap (λ x. o.heard ++ x) (append_assoc (client.unread_of old.client) old.pipes.to_client written ∙ ap (λ x. client.unread_of old.client ++ x) (sym wrote))
 
-  legal : entered o'.used o'.verdicts ≡ map asked (own opening old.link journal')
+  asks : telegrams first o'.used o'.verdicts ≡ o'.mets
+  asks = takes.turn.moves.asked first o.used o.verdicts o.answered j.stands ∙ ap (λ x. x ++ new_mets) j.asked
+
+  met : verdicts_of o'.mets ≡ o'.verdicts
+  met = verdicts-append o.mets new_mets ∙ ap (λ x. x ++ verdicts) j.met
+
+  legal : entered_of o'.mets ≡ map answered (mine history')
   legal =
-      takes.turn.moves.asked o.used o.verdicts o.answered j.stands
-      ∙ ap (λ x. x ++ map asked entries) j.legal
-      ∙ sym (map-append (own opening old.link journal) entries)
-      ∙ ap (map asked) (sym own_is)
+      entered-append o.mets new_mets
+      ∙ ap (λ x. x ++ entered_of new_mets) j.legal
+      ∙ ap (λ x. map answered (mine history) ++ x) (sym takes.turn.moves.entered)
+      ∙ sym (map-append (mine history) entries)
+      ∙ ap (map answered) (sym own_is)
 
-  -- a journal that was full is full for each request
-  was_full : AnyFull o.verdicts → length journal ≡ book.journal.limit
-  was_full met = j.full met ∙ sym j.limited
-
-  full : AnyFull o'.verdicts → length journal' ≡ limit
-  full met =
-      elim (AnyFull-append o.verdicts verdicts met) [
-        | inl before ↦ takes.turn.moves.still_full (Read []) (was_full before) ∙ limits
-        | inr now ↦ (takes.turn.moves.full now).1 ∙ limits
-      ]
-
-  full_stays : FullStays o'.verdicts
-  full_stays =
-      let same : uniform = λ d r q h. h in
-      FullStays-append o.verdicts verdicts j.full_stays (takes.turn.moves.full_stays same) (λ before. takes.turn.moves.none_entered same (Read [], was_full before))
+  trail : Trail is_full_in lacks_in j.begun o'.mets book'
+  trail = trail-append is_full_in lacks_in j.begun book book' o.mets new_mets j.trail takes.turn.moves.trail
 
   clock : clock_failures o'.verdicts ≡ 0
   clock = clock_failures-append o.verdicts verdicts ∙ no_failure (clock_failures o.verdicts) (clock_failures verdicts) j.clock takes.turn.moves.clock
 
-  moments : AllAt (Some moment) (own opening old.link journal')
+  moments : AllAt (Some moment) (mine history')
   moments =
       subst (AllAt (Some moment)) (sym own_is)
-      (AllAt-append (Some moment) (own opening old.link journal) entries j.moments
+      (AllAt-append (Some moment) (mine history) entries j.moments
       (subst (λ told. AllAt (Some told) entries) j.moment_is takes.turn.moves.moments))
+
+  counts : count_of session ≡ length (mine history')
+  counts = omega (arith, takes.turn.moves.count, j.count, ap length own_is, length-append (mine history) entries)
+
+  last_is : newest session ≡ last_number None (mine history')
+  last_is =
+      takes.turn.moves.newest
+      ∙ ap (λ before. last_number before entries) j.last
+      ∙ sym (last_number-append None (mine history) entries)
+      ∙ ap (last_number None) (sym own_is)
 
   -- ---- by mode
 
@@ -221,11 +247,11 @@ module _ (opening : Memory) (limit : ℕ) (config : Config) (old : Post) (book b
   }
 
   -- the client has transmitted nothing that was not used, so the session uses nothing and meets no verdict
-  connected_on : IsConnected config old o → IsConnected config post o'
+  connected_on : IsConnected first config old o → IsConnected first config post o'
   connected_on c =
       let none = nothing_used o.sent o.used (unread old.session) old.pipes.to_server takes.turn.moves.received pipes.to_server used (unread session) c.all_used j.taken took takes.turn.moves.inbox in
       let same : o'.used ≡ o.used = ap (λ x. o.used ++ x) none ∙ append-nil o.used in
-      let met : o'.verdicts ≡ o.verdicts = ap (λ x. o.verdicts ++ x) (none_met o.used used o.verdicts verdicts none c.settled.lives stands.met) ∙ append-nil o.verdicts in
+      let judged : o'.verdicts ≡ o.verdicts = ap (λ x. o.verdicts ++ x) (none_met first o.used used o.verdicts verdicts none c.settled.lives stands.met) ∙ append-nil o.verdicts in
       record {
         idle = c.idle;
         grant = c.grant;
@@ -233,9 +259,9 @@ module _ (opening : Memory) (limit : ℕ) (config : Config) (old : Post) (book b
         pdu = c.pdu;
         size = c.size;
         sequence = c.sequence;
-        settled = subst (λ b. Settled b o'.verdicts (Some config.pdu)) (sym same) (subst (λ js. Settled o.used js (Some config.pdu)) (sym met) c.settled);
+        settled = subst (λ b. Settled first b o'.verdicts (Some config.pdu)) (sym same) (subst (λ js. Settled first o.used js (Some config.pdu)) (sym judged) c.settled);
         all_used = same ∙ c.all_used;
-        all_heard = ap (λ b. owed b o'.verdicts) same ∙ (ap (owed o.used) met ∙ c.all_heard);
+        all_heard = ap (λ b. owed first b o'.verdicts) same ∙ (ap (owed first o.used) judged ∙ c.all_heard);
         jobs = c.jobs;
       }
 
@@ -292,12 +318,16 @@ module _ (opening : Memory) (limit : ℕ) (config : Config) (old : Post) (book b
     stands = stands;
     taken = taken;
     given = given;
+    asked = asks;
+    met = met;
     legal = legal;
-    full = full;
-    full_stays = full_stays;
+    begun = j.begun;
+    trail = trail;
     clock = clock;
     moment_is = the_same _ _ takes.turn.moves.moment ∙ j.moment_is;
     moments = moments;
+    count = counts;
+    last = last_is;
     config_is = j.config_is;
     done = stand_on opening book book' old.link takes.goes_on j.opened old.link config.pdu old.results old.places j.done;
     mode = mode_on j.mode;
@@ -306,10 +336,10 @@ module _ (opening : Memory) (limit : ℕ) (config : Config) (old : Post) (book b
 -- A session's turn keeps what holds of its client and itself.
 pub session_joint : (opening : Memory) (limit : ℕ) (config : Config) (old new : Post) (book book' : Book) (stirs : Bool) (o : Octets)
     → Joint opening limit config book old o → (turn : IsSessionTurn old new book book' stirs)
-    → Joint opening limit config book' new (with_turn o turn.takes.turn.moves.used turn.takes.turn.moves.verdicts turn.takes.turn.moves.written)
+    → Joint opening limit config book' new (with_turn o turn.takes.turn.moves.used turn.takes.turn.moves.mets turn.takes.turn.moves.written)
 session_joint opening limit config old new book book' stirs o j turn =
     let moves = turn.takes.turn.moves in
-    subst (λ p. Joint opening limit config book' p (with_turn o moves.used moves.verdicts moves.written)) (sym turn.same)
+    subst (λ p. Joint opening limit config book' p (with_turn o moves.used moves.mets moves.written)) (sym turn.same)
     (joint_on opening limit config old book book' o turn.session turn.pipes turn.result j turn.takes)
 
 -- the same, with what its octets have to do with those before
@@ -318,18 +348,16 @@ pub session_step : (opening : Memory) (limit : ℕ) (config : Config) (old new :
     → (o' : Octets) × (o'.sent ≡ o.sent) × (o'.answered ≡ o.answered ++ turn.takes.turn.moves.written) × Joint opening limit config book' new o'
 session_step opening limit config old new book book' stirs o j turn =
     let moves = turn.takes.turn.moves in
-    (with_turn o moves.used moves.verdicts moves.written, refl, refl, session_joint opening limit config old new book book' stirs o j turn)
+    (with_turn o moves.used moves.mets moves.written, refl, refl, session_joint opening limit config old new book book' stirs o j turn)
 
 -- ---- the turn of another session
 
 -- a full book stays full, whose session's turn it is
-pub turn_keeps_full : (old new : Post) (book book' : Book) (stirs : Bool) → IsSessionTurn old new book book' stirs → (limit : ℕ) → book.journal.limit ≡ limit
-    → length book.journal.entries ≡ limit
-    → length book'.journal.entries ≡ limit
-turn_keeps_full old new book book' stirs turn limit limited full =
-    turn.takes.turn.moves.still_full (Read []) (full ∙ sym limited) ∙ (turn.takes.goes_on.limit ∙ limited)
+turn_keeps_full : (old new : Post) (book book' : Book) (stirs : Bool) → IsSessionTurn old new book book' stirs → StaysFull is_full_in book book'
+turn_keeps_full old new book book' stirs turn =
+    trail_stays is_full_in lacks_in book book' turn.takes.turn.moves.mets turn.takes.turn.moves.trail
 
-working_beside : (opening : Memory) (config : Config) (p : Post) (book book' : Book) (o : Octets) → own opening p.link book'.journal.entries ≡ own opening p.link book.journal.entries
+working_beside : (opening : Memory) (config : Config) (p : Post) (book book' : Book) (o : Octets) → own (begins_with opening) p.link (history_of book') ≡ own (begins_with opening) p.link (history_of book)
     → IsWorking opening config book p o
     → IsWorking opening config book' p o
 working_beside opening config p book book' o same w = record {
@@ -360,7 +388,7 @@ working_beside opening config p book book' o same w = record {
   jobs = w.jobs;
 }
 
-mode_beside : (opening : Memory) (config : Config) (p : Post) (book book' : Book) (o : Octets) → own opening p.link book'.journal.entries ≡ own opening p.link book.journal.entries
+mode_beside : (opening : Memory) (config : Config) (p : Post) (book book' : Book) (o : Octets) → own (begins_with opening) p.link (history_of book') ≡ own (begins_with opening) p.link (history_of book)
     → Mode opening config book p o
     → Mode opening config book' p o
 mode_beside opening config p book book' o same (untouched u) = untouched u
@@ -369,29 +397,32 @@ mode_beside opening config p book book' o same (connected c) = connected c
 mode_beside opening config p book book' o same (working w) = working (working_beside opening config p book book' o same w)
 mode_beside opening config p book book' o same (lost l) = lost l
 
--- A book that goes on by entries of another link keeps what holds of a client and its session.
+-- A book that goes on by calls of another link keeps what holds of a client and its session.
 pub other_step : (opening : Memory) (limit : ℕ) (config : Config) (p : Post) (book book' : Book) (other : ℕ) (o : Octets)
-    → other ≢ p.link → Joint opening limit config book p o → GoesOnBy other book book'
-    → (length book.journal.entries ≡ limit → length book'.journal.entries ≡ limit)
+    → other ≢ p.link → Joint opening limit config book p o → GoesOnBy other book book' → StaysFull is_full_in book book'
     → Joint opening limit config book' p o
 other_step opening limit config p book book' other o apart j goes_on still_full =
-    let opens = ap (λ x. x.areas) goes_on.opening ∙ j.opened in
-    let same : own opening p.link book'.journal.entries ≡ own opening p.link book.journal.entries =
-    ap (λ m. own m p.link book'.journal.entries) (sym opens)
+    let opens = ap state_of goes_on.opening ∙ j.opened in
+    let same : own (begins_with opening) p.link (history_of book') ≡ own (begins_with opening) p.link (history_of book) =
+    ap (λ s. own s p.link (history_of book')) (sym opens)
     ∙ own_stays p.link other book book' apart goes_on
-    ∙ ap (λ m. own m p.link book.journal.entries) j.opened in
+    ∙ ap (λ s. own s p.link (history_of book)) j.opened in
     record {
       opened = opens;
       limited = goes_on.limit ∙ j.limited;
       stands = j.stands;
       taken = j.taken;
       given = j.given;
-      legal = j.legal ∙ ap (map asked) (sym same);
-      full = λ met. still_full (j.full met);
-      full_stays = j.full_stays;
+      asked = j.asked;
+      met = j.met;
+      legal = j.legal ∙ ap (map answered) (sym same);
+      begun = j.begun;
+      trail = stays_on j.begun book book' o.mets j.trail still_full;
       clock = j.clock;
       moment_is = j.moment_is;
       moments = subst (AllAt (Some moment)) (sym same) j.moments;
+      count = j.count ∙ ap length (sym same);
+      last = j.last ∙ ap (last_number None) (sym same);
       config_is = j.config_is;
       done = stand_on opening book book' other goes_on j.opened p.link config.pdu p.results p.places j.done;
       mode = mode_beside opening config p book book' o same j.mode;
@@ -402,4 +433,4 @@ pub other_session_step : (opening : Memory) (limit : ℕ) (config : Config) (p o
     → old.link ≢ p.link → Joint opening limit config book p o → IsSessionTurn old new book book' stirs
     → Joint opening limit config book' p o
 other_session_step opening limit config p old new book book' stirs o apart j turn =
-    other_step opening limit config p book book' old.link o apart j turn.takes.goes_on (turn_keeps_full old new book book' stirs turn limit j.limited)
+    other_step opening limit config p book book' old.link o apart j turn.takes.goes_on (turn_keeps_full old new book book' stirs turn)

@@ -6,13 +6,15 @@ use Rattle.s7_client.specs.Answer.{Answer}
 use Rattle.s7_client.specs.Dialogue.{End, Next, sends, ends, numbered, disconnect_request, conversing, dialogue}
 use Rattle.s7_client.specs.Course.{Origin, Course, for_departure, next_sequence, course}
 use Rattle.s7_client.specs.Standing.{AwaitsOctets}
+use Rattle.s7_session.specs.LinkState.{LinkState}
+use Rattle.s7_session.specs.Telegrams.{entered_of}
 use Rattle.s7_session.specs.Verdict.{Verdict}
 use Rattle.s7_session.specs.Owed.{Past, past, owed, entered}
 use Rattle.s7_session.proofs.PastLemmas.{with_more}
 use Rattle.s7_rig.specs.Settled.{Settled}
 use Rattle.s7_rig.specs.Awaiting.{BeginsAsking, BeginsOver}
 use Rattle.s7_rig.specs.Dialogues.{IsJobOver}
-use Rattle.s7_rig.proofs.FrontLemmas.{past_with}
+use Rattle.s7_rig.proofs.PastFacts.{past_with}
 use Rattle.s7_rig.proofs.BeginLemmas.{not_anew, first_course, begins_awaiting, begins_over}
 use Rattle.s7_rig.proofs.AskableLemmas.{IsNext, asks, leaves, is_over, conversing_next}
 use Rattle.s7_rig.proofs.ListFacts.{none_of}
@@ -27,17 +29,17 @@ none_heard w i none = none_of w.heard (λ some. none (i.over.all_awaited [] w.he
 
 -- a session that used nothing of it, with its verdicts
 record IsUnused (w : Whole) (b : List ℕ) (js : List Verdict) : Type 0 where
-  settled : Settled b js (Some w.pdu)
+  settled : Settled w.first b js (Some w.pdu)
   taken : List ℕ
   left : List Verdict
   used_is : w.used ≡ b ++ taken
   verdicts_are : w.verdicts ≡ js ++ left
   sent_is : w.sent ≡ taken ++ w.unused
-  owed_is : w.before ≡ owed b js
+  owed_is : w.before ≡ owed w.first b js
 
-past_unused : (w : Whole) (b : List ℕ) (js : List Verdict) (u : IsUnused w b js) → u.taken ≡ [] → past w.used w.verdicts ≡ with_more (past b js) u.left
+past_unused : (w : Whole) (b : List ℕ) (js : List Verdict) (u : IsUnused w b js) → u.taken ≡ [] → past w.first w.used w.verdicts ≡ with_more (past w.first b js) u.left
 past_unused w b js u none =
-    ap₂ past (u.used_is ∙ (ap (λ x. b ++ x) none ∙ append-nil b)) u.verdicts_are ∙ past_with b js u.left u.settled.lives
+    ap₂ (past w.first) (u.used_is ∙ (ap (λ x. b ++ x) none ∙ append-nil b)) u.verdicts_are ∙ past_with w.first b js u.left u.settled.lives
 
 verdicts_unused : (w : Whole) (b : List ℕ) (js : List Verdict) (u : IsUnused w b js) → IsWhole w → u.taken ≡ [] → u.left ≡ []
 verdicts_unused w b js u i none =
@@ -45,13 +47,13 @@ verdicts_unused w b js u i none =
 
 behind_unused : (w : Whole) (b : List ℕ) (js : List Verdict) (u : IsUnused w b js) → IsWhole w → u.taken ≡ [] → w.heard ≡ [] → w.behind ≡ []
 behind_unused w b js u i none heard =
-    let same : (w.before ++ w.heard) ++ w.behind ≡ owed b js = sym i.owed_is ∙ ap (λ (p : Past). p.owed) (past_unused w b js u none) in
+    let same : (w.before ++ w.heard) ++ w.behind ≡ owed w.first b js = sym i.owed_is ∙ ap (λ (p : Past). p.owed) (past_unused w b js u none) in
     nil_from_length w.behind
     (omega (arith, ap length same, ap length u.owed_is, length-append (w.before ++ w.heard) w.behind, length-append w.before w.heard))
 
 done_none : (w : Whole) (b : List ℕ) (js : List Verdict) (u : IsUnused w b js) (end : End) → IsWhole w → w.origin.size ≡ 1024 → w.origin.sequence < 65536
     → dialogue w.origin.job w.origin.config w.origin.granted [] ≡ ends end → BeginsOver w.origin end
-    → w.heard ≡ [] → w.end ≡ end → u.taken ≡ [] → w.unused ≡ [] → IsDone w [] (entered b js)
+    → w.heard ≡ [] → w.end ≡ end → u.taken ≡ [] → w.unused ≡ [] → IsDone w [] (entered w.first b js)
 done_none w b js u end i size low next begins heard same none unused = record {
   none_unused = unused;
   nothing_behind = behind_unused w b js u i none heard;
@@ -60,7 +62,7 @@ done_none w b js u end i size low next begins heard same none unused = record {
   size = ap (λ x. (course w.origin x).size) heard ∙ (begins.size ∙ size);
   sequence = omega (arith, ap (λ x. (course w.origin x).sequence) heard, begins.sequence, low);
   exchanges = [];
-  entered_is = ap (λ (p : Past). p.entered) (past_unused w b js u none) ∙ sym (append-nil (entered b js));
+  entered_is = ap (λ (p : Past). entered_of p.mets) (past_unused w b js u none) ∙ sym (append-nil (entered w.first b js));
   converses = next ∙ ap ends (sym same);
 }
 
@@ -71,7 +73,7 @@ sent_none w b js u none =
     (nil_from_length u.taken (omega (arith, same, long)), nil_from_length w.unused (omega (arith, same, long)))
 
 over_at_once : (w : Whole) (b : List ℕ) (js : List Verdict) (u : IsUnused w b js) (end : End) → IsWhole w → w.origin.size ≡ 1024 → w.origin.sequence < 65536
-    → dialogue w.origin.job w.origin.config w.origin.granted [] ≡ ends end → BeginsOver w.origin end → IsDone w [] (entered b js)
+    → dialogue w.origin.job w.origin.config w.origin.granted [] ≡ ends end → BeginsOver w.origin end → IsDone w [] (entered w.first b js)
 over_at_once w b js u end i size low next begins =
     let heard = none_heard w i (λ a. subst AwaitsOctets begins.awaits a) in
     let none = sent_none w b js u (i.over.sent ∙ (ap (λ x. (course w.origin x).out) heard ∙ begins.out)) in
@@ -111,9 +113,9 @@ at_first w b js u question low next begins = record {
 
 asked_first : (w : Whole) (b : List ℕ) (js : List Verdict) (u : IsUnused w b js) (question : Question) → IsWhole w → w.origin.sequence < 65536
     → dialogue w.origin.job w.origin.config w.origin.granted [] ≡ sends (numbered question)
-    → BeginsAsking w.origin question (next_sequence w.origin.sequence) → IsDone w [] (entered b js)
+    → BeginsAsking w.origin question (next_sequence w.origin.sequence) → IsDone w [] (entered w.first b js)
 asked_first w b js u question i low next begins =
-    subst (λ (answers : List Answer). IsDone w answers (entered b js)) begins.answers (done w (first_place w b js u question) i (at_first w b js u question low next begins))
+    subst (λ (answers : List Answer). IsDone w answers (entered w.first b js)) begins.answers (done w (first_place w b js u question) i (at_first w b js u question low next begins))
 
 -- ---- any job
 
@@ -124,23 +126,24 @@ not_leaving_first w i next =
     not_departure (course w.origin w.heard).awaits w.end w.carried (ap (λ x. (course w.origin x).awaits) heard ∙ awaits) i.over.over
 
 done_by_first : (w : Whole) (b : List ℕ) (js : List Verdict) (u : IsUnused w b js) (next : Next) → w.origin.size ≡ 1024 → w.origin.sequence < 65536
-    → (i : IsWhole w) → dialogue w.origin.job w.origin.config w.origin.granted [] ≡ next → IsNext next → IsDone w [] (entered b js)
+    → (i : IsWhole w) → dialogue w.origin.job w.origin.config w.origin.granted [] ≡ next → IsNext next → IsDone w [] (entered w.first b js)
 done_by_first w b js u next size low i first (asks question is) =
     asked_first w b js u question i low (first ∙ is) (begins_awaiting w.origin i.grant question i.granted size (first ∙ is))
 done_by_first w b js u next size low i first (leaves is) = absurd (not_leaving_first w i (first ∙ is))
 done_by_first w b js u next size low i first (is_over end is) =
     over_at_once w b js u end i size low (first ∙ is) (begins_over w.origin end (not_anew w.origin i.grant i.granted) (first ∙ is))
 
-job_done : (w : Whole) (b : List ℕ) (js : List Verdict) (u : IsUnused w b js) → IsWhole w → w.origin.size ≡ 1024 → w.origin.sequence < 65536 → IsDone w [] (entered b js)
+job_done : (w : Whole) (b : List ℕ) (js : List Verdict) (u : IsUnused w b js) → IsWhole w → w.origin.size ≡ 1024 → w.origin.sequence < 65536 → IsDone w [] (entered w.first b js)
 job_done w b js u i size low =
     done_by_first w b js u (conversing w.origin.job w.origin.config i.grant []) size low i
     (ap (λ g. dialogue w.origin.job w.origin.config g []) i.granted) (conversing_next w.origin.job w.origin.config i.grant [])
 
 -- ---- in the words of a job that is over
 
-abbrev pub whole_of : (origin : Origin) (pdu : ℕ) (heard sent : List ℕ) (end : End) (carried b used : List ℕ) (js verdicts : List Verdict) (behind : List ℕ)
-    → IsJobOver origin pdu heard sent end carried b used js verdicts behind → Whole
-whole_of origin pdu heard sent end carried b used js verdicts behind o = record {
+abbrev pub whole_of : (first : LinkState) (origin : Origin) (pdu : ℕ) (heard sent : List ℕ) (end : End) (carried b used : List ℕ) (js verdicts : List Verdict) (behind : List ℕ)
+    → IsJobOver first origin pdu heard sent end carried b used js verdicts behind → Whole
+whole_of first origin pdu heard sent end carried b used js verdicts behind o = record {
+  first = first;
   origin = origin;
   pdu = pdu;
   heard = heard;
@@ -150,16 +153,16 @@ whole_of origin pdu heard sent end carried b used js verdicts behind o = record 
   used = b ++ used;
   verdicts = js ++ verdicts;
   unused = o.unused;
-  before = owed b js;
+  before = owed first b js;
   behind = behind;
 }
 
 -- A job that is over went by exchanges, and left both ends between two messages.
-pub over_is_done : (origin : Origin) (pdu : ℕ) (heard sent : List ℕ) (end : End) (carried b used : List ℕ) (js verdicts : List Verdict) (behind : List ℕ)
-    → (o : IsJobOver origin pdu heard sent end carried b used js verdicts behind)
-    → IsDone (whole_of origin pdu heard sent end carried b used js verdicts behind o) [] (entered b js)
-over_is_done origin pdu heard sent end carried b used js verdicts behind o =
-    job_done (whole_of origin pdu heard sent end carried b used js verdicts behind o) b js
+pub over_is_done : (first : LinkState) (origin : Origin) (pdu : ℕ) (heard sent : List ℕ) (end : End) (carried b used : List ℕ) (js verdicts : List Verdict) (behind : List ℕ)
+    → (o : IsJobOver first origin pdu heard sent end carried b used js verdicts behind)
+    → IsDone (whole_of first origin pdu heard sent end carried b used js verdicts behind o) [] (entered first b js)
+over_is_done first origin pdu heard sent end carried b used js verdicts behind o =
+    job_done (whole_of first origin pdu heard sent end carried b used js verdicts behind o) b js
     (record { settled = o.settled; taken = used; left = verdicts; used_is = refl; verdicts_are = refl; sent_is = o.taken; owed_is = refl })
     (record {
       grant = o.grant;

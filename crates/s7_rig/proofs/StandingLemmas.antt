@@ -10,6 +10,8 @@ use Rattle.s7_session.specs.declared.session.Session.{Session}
 use Rattle.s7_session.specs.declared.outcome.Outcome.TheVariants as outcome
 use Rattle.s7_session.specs.declared.outcome.Turn.{Turn}
 use Rattle.s7_session.specs.Stands.{closed_by, used_of}
+use Rattle.s7_session.specs.Telegrams.{verdicts_of}
+use Rattle.s7_session.proofs.BookLemmas.{length-calls}
 use Rattle.s7_rig.specs.Standing.{HasStood}
 use Rattle.std.proofs.lemmas.Bool.{false≢true}
 use Rattle.s7_rig.specs.Numbers.{count_from}
@@ -19,17 +21,18 @@ use Rattle.s7_rig.specs.Turns.{TakesTurn, IsSessionTurn, have_moved, entry_count
 pub still_stands : (link : ℕ) (s s' : Session) (p p' : PipesHeld) (b b' : Book) (r : Turn) → TakesTurn link s p b s' p' b' r → ∥ HasStood s ∥₁ → ∥ HasStood s' ∥₁
 still_stands link s s' p p' b b' r t h =
     ∥∥₁_map h (λ k. record {
+      first = k.first;
       used = k.used ++ t.turn.moves.used;
-      verdicts = k.verdicts ++ t.turn.moves.verdicts;
+      verdicts = k.verdicts ++ verdicts_of t.turn.moves.mets;
       written = k.written ++ t.turn.moves.written;
-      stands = t.turn.moves.stood k.used k.verdicts k.written k.stands;
+      stands = t.turn.moves.stood k.first k.used k.verdicts k.written k.stands;
     })
 
 -- the number of used octets grows by those that the turn used
 pub used_more : (link : ℕ) (s s' : Session) (p p' : PipesHeld) (b b' : Book) (r : Turn) → (t : TakesTurn link s p b s' p' b' r) → ∥ HasStood s ∥₁ → used_of s' ≡ used_of s + length t.turn.moves.used
 used_more link s s' p p' b b' r t h =
     ∥∥₁_elim h (ℕ_set _ _) (λ k.
-    sym (t.turn.moves.stood k.used k.verdicts k.written k.stands).used ∙ (length-append k.used t.turn.moves.used ∙ ap (λ n. n + length t.turn.moves.used) k.stands.used))
+    sym (t.turn.moves.stood k.first k.used k.verdicts k.written k.stands).used ∙ (length-append k.used t.turn.moves.used ∙ ap (λ n. n + length t.turn.moves.used) k.stands.used))
 
 pub grown : (a b n : ℕ) → a ≡ b + n → not (eqb a b) ≡ nat_lt 0 n
 grown a b n e = grind (arith, nat_tests)
@@ -45,6 +48,10 @@ or_more r false more e h = absurd (false≢true (sym e ∙ h))
 pub or_rest : (r moved more : Bool) → r ≡ moved → r ≡ false → more ≡ (moved || more)
 or_rest r true more e h = absurd (false≢true (sym h ∙ e))
 or_rest r false more e h = refl
+
+-- as many calls were entered as there are entries
+pub counted : (b : Book) {n : ℕ} → n ≡ length b.journal.entries → n ≡ entry_count b
+counted b is = is ∙ sym (length-calls b.journal.entries)
 
 -- a session's turn, with the numbers that were noted, by the octets in the pipes and those that it has used
 pub session_turn_is : (p new : Post) (b b' : Book) (s : Session) (pipes : PipesHeld) (r : Turn) (first end : ℕ) (stirs : Bool)

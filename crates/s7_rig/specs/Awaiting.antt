@@ -5,7 +5,8 @@ use Rattle.s7_wire.specs.Sent.{sent_message}
 use Rattle.s7_client.specs.Question.{Question, question_octets}
 use Rattle.s7_client.specs.Answer.{Answer}
 use Rattle.s7_client.specs.Dialogue.{End}
-use Rattle.s7_client.specs.Course.{Origin, for_confirm, for_answer, for_nothing, nothing_unfinished, connect_octets, course, limits}
+use Rattle.s7_client.specs.Course.{Origin, for_confirm, for_answer, for_nothing}
+use Rattle.s7_client.specs.Course.{nothing_unfinished, connect_octets, course, limits}
 
 -- The client awaits the answer to a question: the packets that it used are whole, no message is unfinished, and the
 -- TPDU size is 1,024.
@@ -40,10 +41,12 @@ pub record BeginsOver (origin : Origin) (end : End) : Type 0 where
   pub sequence : (course origin []).sequence ≡ origin.sequence
 
 -- Octets that were used brought an answer, and the client asks on.
-pub record AsksOn (origin : Origin) (b used : List ℕ) (answer : Answer) (question : Question) (number : ℕ) : Type 0 where
+pub record AsksOn (origin : Origin) (b used : List ℕ) (answer : Answer) (question : Question) (number : ℕ)
+    : Type 0 where
   pub awaiting : Awaiting origin (b ++ used) question number
   pub answers : (course origin (b ++ used)).answers ≡ (course origin b).answers ++ answer ∷ []
-  pub out : (course origin (b ++ used)).out ≡ (course origin b).out ++ sent_message 1024 (question_octets number question)
+  pub out : (course origin (b ++ used)).out
+      ≡ (course origin b).out ++ sent_message 1024 (question_octets number question)
 
 -- Octets that were used ended the job.
 pub record EndsBy (origin : Origin) (b used : List ℕ) (end : End) (carried : List ℕ) : Type 0 where

@@ -1,7 +1,8 @@
 -- A job that is over, as both ends of its link have it.
-use Rattle.std.specs.Prelude.{◌≡◌, ℕ, ◌<◌, ◌≤◌, true, false, List, [], ◌∷◌, ◌++◌, None, Some}
+use Rattle.std.specs.Prelude.{◌≡◌, ℕ, ◌<◌, ◌≤◌, Bool, false, List, [], ◌∷◌, ◌++◌, Option, None, Some}
 use Rattle.std.specs.List.{AllByRecursion}
-use Rattle.s7_area.specs.Memory.{Memory, read_code, read_octets}
+use Rattle.s7_area.specs.Memory.{read_code, read_octets}
+use Rattle.s7_area.specs.declared.guard.Guard.{Guard}
 use Rattle.s7_client.specs.declared.grant.Grant.{Grant}
 use Rattle.s7_client.specs.declared.grant.Leaves.TheVariants.{AsItWas, Connected}
 use Rattle.s7_client.specs.declared.job.Job.TheVariants as job
@@ -11,33 +12,39 @@ use Rattle.s7_client.specs.Dialogue.{End}
 use Rattle.s7_client.specs.Standing.{IsByOctets}
 use Rattle.s7_item.specs.declared.item.Item.{Item}
 use Rattle.s7_plant.specs.Answers as plant
-use Rattle.s7_plant.specs.declared.request.Request.{Request}
+use Rattle.s7_plant.specs.declared.request.Ask.{Ask}
 use Rattle.s7_plant.specs.declared.request.Request.TheVariants.{Read}
+use Rattle.s7_plant.specs.Requests.{asked}
 use Rattle.s7_plant.specs.Replies.{Said}
+use Rattle.s7_plant.specs.State.{State}
+use Rattle.s7_session.specs.LinkState.{LinkState, first_link}
 use Rattle.s7_session.specs.Owed.{past, owed, entered}
 use Rattle.s7_session.specs.Verdict.{Verdict}
 use Rattle.s7_split.specs.Parts.{parts_of}
 use Rattle.s7_rig.specs.Settled.{Settled}
 
--- each reply is the one that some memory gives to its request
-abbrev pub AreReplies : List (Request × Said) → Type 0
-AreReplies entries = AllByRecursion (λ (e : Request × Said). (m : Memory) × (e.1 ≡ plant.answer_of m e.0)) entries
+-- each reply is the one that some state gives to what was asked
+abbrev pub AreReplies : List (Ask × Said) → Type 0
+AreReplies entries = AllByRecursion (λ (e : Ask × Said). (s : State) × (e.1 ≡ plant.answer_of s e.0)) entries
 
--- The entries read these parts in order, each alone: whatever memory gave the reply of one, it had the part, and the
--- octets are those that it read there, joined.
-unfoldable pub ReadsParts : List Item → List (Request × Said) → List ℕ → Type 0
+-- The entries read these parts in order, each alone and with a right or without: whatever state gave the reply of one,
+-- its memory has the part, and the octets are those that it reads there, joined.
+unfoldable pub ReadsParts : List Item → List (Ask × Said) → List ℕ → Type 0
 ReadsParts [] [] octets = octets ≡ []
 ReadsParts [] (e ∷ entries) octets = ⊥
 ReadsParts (part ∷ parts) [] octets = ⊥
 ReadsParts (part ∷ parts) (e ∷ entries) octets =
-    (front : List ℕ) × (rest : List ℕ) × (octets ≡ front ++ rest) × (e.0 ≡ Read (part ∷ []))
-    × ((m : Memory) → e.1 ≡ plant.answer_of m (Read (part ∷ [])) → (read_code m true part ≡ 0xFF) × (front ≡ read_octets m true part))
+    (front : List ℕ) × (rest : List ℕ) × (right : Bool) × (octets ≡ front ++ rest)
+    × (e.0 ≡ asked right (Read (part ∷ [])))
+    × ((s : State) → e.1 ≡ plant.answer_of s (asked right (Read (part ∷ [])))
+    → (read_code s.memory right part ≡ 0xFF) × (front ≡ read_octets s.memory right part))
     × ReadsParts parts entries rest
 
 -- A job is over that left the client connected. The client used and transmitted these octets for it. The session stood
 -- between two messages before the job, and has used octets of those that the client transmitted since; it owes what
 -- the client used, with octets behind it.
-pub record IsJobOver (origin : Origin) (pdu : ℕ) (heard sent : List ℕ) (end : End) (carried : List ℕ) (b used : List ℕ) (js verdicts : List Verdict) (behind : List ℕ) : Type 0 where
+pub record IsJobOver (first : LinkState) (origin : Origin) (pdu : ℕ) (heard sent : List ℕ) (end : End)
+    (carried : List ℕ) (b used : List ℕ) (js verdicts : List Verdict) (behind : List ℕ) : Type 0 where
   pub grant : Grant
   pub granted : origin.granted ≡ Some grant
   pub pdu_is : grant.pdu ≡ pdu
@@ -47,26 +54,30 @@ pub record IsJobOver (origin : Origin) (pdu : ℕ) (heard sent : List ℕ) (end 
   pub sequence : origin.sequence < 65536
   pub over : IsByOctets origin end carried heard sent
   pub leaves : end.leaves ≡ AsItWas
-  pub settled : Settled b js (Some pdu)
+  pub settled : Settled first b js (Some pdu)
   pub unused : List ℕ
   pub taken : sent ≡ used ++ unused
-  pub met : (past (b ++ used) (js ++ verdicts)).verdicts ≡ []
-  pub replies : AreReplies (entered (b ++ used) (js ++ verdicts))
-  pub owed_is : owed (b ++ used) (js ++ verdicts) ≡ (owed b js ++ heard) ++ behind
+  pub met : (past first (b ++ used) (js ++ verdicts)).verdicts ≡ []
+  pub replies : AreReplies (entered first (b ++ used) (js ++ verdicts))
+  pub owed_is : owed first (b ++ used) (js ++ verdicts) ≡ (owed first b js ++ heard) ++ behind
 
 -- Then both stand between two messages again, and a read of one item that came off is what its entries read.
-pub record IsJobSettled (origin : Origin) (pdu : ℕ) (heard sent : List ℕ) (end : End) (b used : List ℕ) (js verdicts : List Verdict) (behind : List ℕ) : Type 0 where
+pub record IsJobSettled (first : LinkState) (origin : Origin) (pdu : ℕ) (heard sent : List ℕ) (end : End)
+    (b used : List ℕ) (js verdicts : List Verdict) (behind : List ℕ) : Type 0 where
   pub all_used : used ≡ sent
   pub nothing_behind : behind ≡ []
-  pub settled : Settled (b ++ sent) (js ++ verdicts) (Some pdu)
-  pub owed_is : owed (b ++ sent) (js ++ verdicts) ≡ owed b js ++ heard
+  pub settled : Settled first (b ++ sent) (js ++ verdicts) (Some pdu)
+  pub owed_is : owed first (b ++ sent) (js ++ verdicts) ≡ owed first b js ++ heard
   pub size : (course origin heard).size ≡ 1024
   pub sequence : (course origin heard).sequence < 65536
   pub read : (item : Item) → origin.job ≡ job.ReadArea item → end.code ≡ no_fault
-      → (entries : List (Request × Said)) × (entered (b ++ sent) (js ++ verdicts) ≡ entered b js ++ entries) × ReadsParts (parts_of item pdu false) entries end.octets
+      → (entries : List (Ask × Said)) × (entered first (b ++ sent) (js ++ verdicts) ≡ entered first b js ++ entries)
+      × ReadsParts (parts_of item pdu false) entries end.octets
 
--- The first connect of a client came off, on a link of which the session has used these octets.
-pub record IsConnectOver (origin : Origin) (heard sent : List ℕ) (end : End) (carried : List ℕ) (used : List ℕ) (verdicts : List Verdict) (behind : List ℕ) : Type 0 where
+-- The first connect of a client came off, on a link to areas with this guard of which the session has used these
+-- octets.
+pub record IsConnectOver (guard : Option Guard) (origin : Origin) (heard sent : List ℕ) (end : End)
+    (carried : List ℕ) (used : List ℕ) (verdicts : List Verdict) (behind : List ℕ) : Type 0 where
   pub unconnected : origin.granted ≡ None
   pub connects : origin.job ≡ job.Connect
   pub least : 64 ≤ origin.config.pdu
@@ -76,17 +87,18 @@ pub record IsConnectOver (origin : Origin) (heard sent : List ℕ) (end : End) (
   pub leaves : end.leaves ≡ Connected grant
   pub unused : List ℕ
   pub taken : sent ≡ used ++ unused
-  pub met : (past used verdicts).verdicts ≡ []
-  pub owed_is : owed used verdicts ≡ heard ++ behind
+  pub met : (past (first_link guard) used verdicts).verdicts ≡ []
+  pub owed_is : owed (first_link guard) used verdicts ≡ heard ++ behind
 
 -- Then both stand between two messages, with the PDU that was asked for.
-pub record IsConnectSettled (origin : Origin) (heard sent : List ℕ) (grant : Grant) (used : List ℕ) (verdicts : List Verdict) (behind : List ℕ) : Type 0 where
+pub record IsConnectSettled (guard : Option Guard) (origin : Origin) (heard sent : List ℕ) (grant : Grant)
+    (used : List ℕ) (verdicts : List Verdict) (behind : List ℕ) : Type 0 where
   pub all_used : used ≡ sent
   pub nothing_behind : behind ≡ []
   pub no_verdicts : verdicts ≡ []
   pub granted : grant.pdu ≡ origin.config.pdu
-  pub settled : Settled sent verdicts (Some grant.pdu)
-  pub owed_is : owed sent verdicts ≡ heard
-  pub entered_is : entered sent verdicts ≡ []
+  pub settled : Settled (first_link guard) sent verdicts (Some grant.pdu)
+  pub owed_is : owed (first_link guard) sent verdicts ≡ heard
+  pub entered_is : entered (first_link guard) sent verdicts ≡ []
   pub size : (course origin heard).size ≡ 1024
   pub sequence : (course origin heard).sequence < 65536

@@ -23,5 +23,6 @@ AreFormed c = All IsFormed c.results
 
 -- However a rig ran, each of its results has its form.
 pub record RigsAreFormed : Type 0 where
-  pub results : (opening : Memory) (limit : ℕ) (config : Config) (scripts : List (List Job)) (turning : Turning) (end : EndTold)
+  pub results : (opening : Memory) (limit : ℕ) (config : Config) (scripts : List (List Job)) (turning : Turning)
+      (end : EndTold)
       → RigRan opening limit config scripts turning end → All AreFormed end.clients

@@ -1,5 +1,5 @@
 -- What a client hears of a read and of a connect that come off.
-use Rattle.std.specs.Prelude.{true, []}
+use Rattle.std.specs.Prelude.{Bool, []}
 use Rattle.s7_item.specs.declared.item.Item.{Item}
 use Rattle.s7_area.specs.Memory.{Memory, read_code, read_octets}
 use Rattle.s7_client.specs.declared.grant.Grant.{Grant}
@@ -8,9 +8,10 @@ use Rattle.s7_client.specs.Codes.{no_fault}
 use Rattle.s7_client.specs.Answer.{ItemAnswer}
 use Rattle.s7_client.specs.Dialogue.{End}
 
--- what is told of an item: its return code, and the octets that the memory gives, none where the code refuses it
-abbrev pub told_of : Memory → Item → ItemAnswer
-told_of m item = record { code = read_code m true item; octets = read_octets m true item }
+-- what is told of an item, with a right or without: its return code, and the octets that the memory gives, none where
+-- the code refuses it
+abbrev pub told_of : Memory → Bool → Item → ItemAnswer
+told_of m right item = record { code = read_code m right item; octets = read_octets m right item }
 
 -- the end of a connect
 abbrev pub connected_end : Grant → End

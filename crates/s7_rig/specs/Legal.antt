@@ -1,39 +1,37 @@
--- A journal that is legal for the links of a rig.
-use Rattle.std.specs.Prelude.{◌≡◌, ℕ, ◌≤◌, List, ◌++◌, length, map, Some}
-use Rattle.std.specs.List.{AllByRecursion}
+-- A history that is legal for the links of a rig.
+use Rattle.std.specs.Prelude.{◌≡◌, ℕ, List, ◌++◌, map, Some}
 use Rattle.s7_area.specs.Memory.{Memory}
 use Rattle.s7_client.specs.Polling as client
-use Rattle.s7_plant.specs.declared.journal.Entry.{Entry as JournalEntry}
-use Rattle.s7_session.specs.Answers.{AnyFull, FullStays, AllAt, clock_failures}
-use Rattle.s7_session.specs.Books.{own}
-use Rattle.s7_session.specs.Entry.{asked}
-use Rattle.s7_session.specs.Owed.{owed, entered}
-use Rattle.s7_session.specs.Stands.{unread, unsent}
-use Rattle.s7_session.specs.Verdict.{Verdict}
+use Rattle.s7_plant.specs.State.{begins_with}
+use Rattle.s7_session.specs.Books.{History}
+use Rattle.s7_session.specs.Legal.{IsLegalFor, Links}
+use Rattle.s7_session.specs.LinkState.{first_link}
+use Rattle.s7_session.specs.Owed.{owed, telegrams}
+use Rattle.s7_session.specs.Stands.{unread, unsent, entry_count, newest}
+use Rattle.s7_session.specs.Telegrams.{Met, verdicts_of, clock_failures}
 use Rattle.s7_rig.specs.State.{Post}
 use Rattle.s7_rig.specs.Runs.{moment}
 
--- THE JOURNAL IS LEGAL FOR A LINK whose client transmitted these octets and whose session transmitted these
-pub record IsLegalFor (opening : Memory) (limit : ℕ) (journal : List JournalEntry) (p : Post) (sent answered : List ℕ) : Type 0 where
+-- THE HISTORY IS LEGAL FOR A LINK whose client transmitted these octets and whose session transmitted these
+pub record IsLegalPost (opening : Memory) (limit : ℕ) (history : History) (p : Post) (sent answered : List ℕ)
+    : Type 0 where
   -- the octets that the session used, in order; the others that the client transmitted wait
   pub used : List ℕ
   pub waiting : sent ≡ used ++ (unread p.session ++ p.pipes.to_server)
   -- and the client those that it used of the session's
   pub heard : List ℕ
   pub coming : answered ≡ heard ++ (client.unread_of p.client ++ p.pipes.to_client)
-  -- the verdicts of the telegrams
-  pub verdicts : List Verdict
+  -- the telegrams in the octets that were used asked this, and each met its verdict
+  pub mets : List Met
+  pub asked : telegrams (first_link opening.guard) used (verdicts_of mets) ≡ mets
   -- the session transmitted what is owed for what it used, but for what it has still to send
-  pub owed_is : owed used verdicts ≡ answered ++ unsent p.session
-  -- the journal has what they asked, in order, each answered by the memory at its place
-  pub legal : entered used verdicts ≡ map asked (own opening p.link journal)
-  -- a telegram was refused for want of room only where the journal is full, and none was entered afterwards
-  pub full : AnyFull verdicts → length journal ≡ limit
-  pub full_stays : FullStays verdicts
-  -- the clock never failed, and told one moment
-  pub clock : clock_failures verdicts ≡ 0
-  pub moments : AllAt (Some moment) (own opening p.link journal)
+  pub owed_is : owed (first_link opening.guard) used (verdicts_of mets) ≡ answered ++ unsent p.session
+  -- the history has it, and nothing else of this link
+  pub legal : IsLegalFor (begins_with opening) limit history p.link mets (Some moment)
+      (entry_count p.session) (newest p.session)
+  -- the clock never failed
+  pub clock : clock_failures (verdicts_of mets) ≡ 0
 
--- every entry has the number of a link, from 1 on
-abbrev pub AllOfLinks : ℕ → List JournalEntry → Type 0
-AllOfLinks count journal = AllByRecursion (λ (e : JournalEntry). (1 ≤ e.link) × (e.link ≤ count)) journal
+-- the numbers of the links, and how many telegrams of each were entered
+abbrev pub links_of : List Post → Links
+links_of posts = map (λ (p : Post). (p.link, entry_count p.session)) posts

@@ -1,10 +1,13 @@
 -- The runs of a rig: stated turns, seeded turns, and rounds.
-use Rattle.std.specs.Prelude.{◌≡◌, ◌⊎◌, ℕ, ◌+◌, ◌*◌, ◌/◌, ◌%◌, ◌^◌, ◌||◌, Bool, true, false, List, [], ◌∷◌, ◌++◌, zero, suc, length, None}
+use Rattle.std.specs.Prelude.{◌≡◌, ◌⊎◌, ℕ, ◌+◌, ◌*◌, ◌/◌, ◌%◌, ◌^◌, ◌||◌, Bool, true, false, List}
+use Rattle.std.specs.Prelude.{[], ◌∷◌, ◌++◌, zero, suc, length, Option, None}
 use Rattle.s7_outer.specs.Pipes.{empty_pipes}
+use Rattle.s7_area.specs.declared.guard.Guard.{Guard}
 use Rattle.s7_client.specs.declared.config.Config.{Config}
 use Rattle.s7_client.specs.declared.job.Job.{Job}
 use Rattle.s7_client.specs.Polling as client
 use Rattle.s7_session.specs.LinkRun as session
+use Rattle.s7_session.specs.LinkState.{first_link}
 use Rattle.s7_session.specs.Stands.{number_of}
 use Rattle.s7_rig.specs.Numbers.{count_from}
 use Rattle.s7_rig.specs.State.{Post, State, are_finished}
@@ -16,7 +19,8 @@ use Rattle.s7_rig.specs.Turns.{IsTurnOf}
 unfoldable pub Turns : List ℕ → State → State → Bool → Type 0
 Turns [] old new stirs = (new ≡ old) × (stirs ≡ false)
 Turns (actor ∷ actors) old new stirs =
-    (middle : State) × (first : Bool) × (later : Bool) × IsTurnOf actor old middle first × Turns actors middle new later × (stirs ≡ (first || later))
+    (middle : State) × (first : Bool) × (later : Bool) × IsTurnOf actor old middle first × Turns actors middle new later
+    × (stirs ≡ (first || later))
 
 -- seeded turns: x goes on by a linear congruence
 abbrev pub next_x : ℕ → ℕ
@@ -64,12 +68,13 @@ pipe_room = 4096
 abbrev pub moment : ℕ
 moment = 1704067200000
 
--- a client that has done nothing, with all its jobs before it
-pub record IsFreshPost (config : Config) (link : ℕ) (jobs : List Job) (p : Post) : Type 0 where
+-- a client that has done nothing, with all its jobs before it, and a session that has taken nothing, to areas with this
+-- guard
+pub record IsFreshPost (guard : Option Guard) (config : Config) (link : ℕ) (jobs : List Job) (p : Post) : Type 0 where
   pub link_is : p.link ≡ link
   pub rest : p.rest ≡ jobs
   pub client : client.IsFresh p.client config
-  pub session : session.IsFresh p.session
+  pub session : session.IsFresh (first_link guard) p.session
   pub number : number_of p.session ≡ link
   pub pipes : p.pipes ≡ empty_pipes pipe_room moment
   pub results : p.results ≡ []
@@ -77,11 +82,12 @@ pub record IsFreshPost (config : Config) (link : ℕ) (jobs : List Job) (p : Pos
   pub noted : p.noted ≡ None
 
 -- such a client for each list of jobs, with links numbered in order from this one
-unfoldable pub AreFresh : Config → ℕ → List (List Job) → List Post → Type 0
-AreFresh config link [] [] = Unit {0}
-AreFresh config link [] (p ∷ posts) = ⊥
-AreFresh config link (jobs ∷ scripts) [] = ⊥
-AreFresh config link (jobs ∷ scripts) (p ∷ posts) = IsFreshPost config link jobs p × AreFresh config (link + 1) scripts posts
+unfoldable pub AreFresh : Option Guard → Config → ℕ → List (List Job) → List Post → Type 0
+AreFresh guard config link [] [] = Unit {0}
+AreFresh guard config link [] (p ∷ posts) = ⊥
+AreFresh guard config link (jobs ∷ scripts) [] = ⊥
+AreFresh guard config link (jobs ∷ scripts) (p ∷ posts) =
+    IsFreshPost guard config link jobs p × AreFresh guard config (link + 1) scripts posts
 
 -- A WHOLE RUN: the stated turns, then the seeded ones, then rounds
 pub record IsRun (turns : List ℕ) (seed steps : ℕ) (old new : State) : Type 0 where

@@ -13,20 +13,24 @@ sent_in_turn k actor old new stirs (inr h) = []
 -- what its session transmits
 abbrev pub answered_in_turn : (k actor : ℕ) (old new : State) (stirs : Bool) → IsTurnOf actor old new stirs → List ℕ
 answered_in_turn k actor old new stirs (inl h) = []
-answered_in_turn k actor old new stirs (inr h) = if actor - length old.posts == k then h.1.turn.takes.turn.moves.written else []
+answered_in_turn k actor old new stirs (inr h) =
+    if actor - length old.posts == k then h.1.turn.takes.turn.moves.written else []
 
 -- the octets of each turn, all in order
-unfoldable pub in_turns : ((actor : ℕ) (old new : State) (stirs : Bool) → IsTurnOf actor old new stirs → List ℕ) → (actors : List ℕ) (old new : State) (stirs : Bool) → Turns actors old new stirs → List ℕ
+unfoldable pub in_turns : ((actor : ℕ) (old new : State) (stirs : Bool) → IsTurnOf actor old new stirs → List ℕ)
+    → (actors : List ℕ) (old new : State) (stirs : Bool) → Turns actors old new stirs → List ℕ
 unfolding Turns
 in_turns octets [] old new stirs h = []
-in_turns octets (actor ∷ actors) old new stirs h = octets actor old h.0 h.1 h.3 ++ in_turns octets actors h.0 new h.2 h.4
+in_turns octets (actor ∷ actors) old new stirs h =
+    octets actor old h.0 h.1 h.3 ++ in_turns octets actors h.0 new h.2 h.4
 
 -- of the second case alone
 abbrev pub second_or_none : {A B : Type 0} → A ⊎ B → (B → List ℕ) → List ℕ
 second_or_none (inl a) octets = []
 second_or_none (inr b) octets = octets b
 
-unfoldable pub in_rounds : ((actor : ℕ) (old new : State) (stirs : Bool) → IsTurnOf actor old new stirs → List ℕ) → (most : ℕ) (old new : State) → Rounds most old new → List ℕ
+unfoldable pub in_rounds : ((actor : ℕ) (old new : State) (stirs : Bool) → IsTurnOf actor old new stirs → List ℕ)
+    → (most : ℕ) (old new : State) → Rounds most old new → List ℕ
 unfolding Rounds
 in_rounds octets zero old new h = []
 in_rounds octets (suc more) old new (inl h) = []
@@ -34,12 +38,16 @@ in_rounds octets (suc more) old new (inr h) =
     in_turns octets (actors_of old) old h.1 h.2 h.3 ++ second_or_none h.4 (λ k. in_rounds octets more h.1 new k.1)
 
 -- WHAT THE CLIENT AT A PLACE TRANSMITTED in a run, and what its session did
-abbrev pub in_run : ((actor : ℕ) (old new : State) (stirs : Bool) → IsTurnOf actor old new stirs → List ℕ) → (turns : List ℕ) (seed steps : ℕ) (old new : State) → IsRun turns seed steps old new → List ℕ
+abbrev pub in_run : ((actor : ℕ) (old new : State) (stirs : Bool) → IsTurnOf actor old new stirs → List ℕ)
+    → (turns : List ℕ) (seed steps : ℕ) (old new : State) → IsRun turns seed steps old new → List ℕ
 in_run octets turns seed steps old new run =
-    in_turns octets (turns ++ seeded seed steps (2 * length old.posts)) old run.middle run.stirred run.turned ++ in_rounds octets most_rounds run.middle new run.rounds
+    in_turns octets (turns ++ seeded seed steps (2 * length old.posts)) old run.middle run.stirred run.turned
+    ++ in_rounds octets most_rounds run.middle new run.rounds
 
-abbrev pub sent_by : (k : ℕ) (turns : List ℕ) (seed steps : ℕ) (old new : State) → IsRun turns seed steps old new → List ℕ
+abbrev pub sent_by : (k : ℕ) (turns : List ℕ) (seed steps : ℕ) (old new : State) → IsRun turns seed steps old new
+    → List ℕ
 sent_by k turns seed steps old new run = in_run (sent_in_turn k) turns seed steps old new run
 
-abbrev pub answered_by : (k : ℕ) (turns : List ℕ) (seed steps : ℕ) (old new : State) → IsRun turns seed steps old new → List ℕ
+abbrev pub answered_by : (k : ℕ) (turns : List ℕ) (seed steps : ℕ) (old new : State) → IsRun turns seed steps old new
+    → List ℕ
 answered_by k turns seed steps old new run = in_run (answered_in_turn k) turns seed steps old new run

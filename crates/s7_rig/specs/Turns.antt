@@ -1,6 +1,8 @@
--- The turns of a rig's actors: the clients, and the sessions that serve them. A turn stirs where it moves an octet, uses
--- one that its session had read, or ends a job.
-use Rattle.std.specs.Prelude.{◌≡◌, ◌≢◌, ◌⊎◌, ℕ, ◌-◌, ◌<◌, ◌≤◌, ◌==◌, ◌&&◌, ◌||◌, not, nat_lt, Bool, true, false, List, [], ◌∷◌, ◌++◌, length, slice_get, slice_set, None, Some, option_map, unwrap_or, IsSome}
+-- The turns of a rig's actors: the clients, and the sessions that serve them. A turn stirs where it moves an octet,
+-- uses one that its session had read, or ends a job.
+use Rattle.std.specs.Prelude.{◌≡◌, ◌≢◌, ◌⊎◌, ℕ, ◌-◌, ◌<◌, ◌≤◌, ◌==◌, ◌&&◌, ◌||◌, not, nat_lt}
+use Rattle.std.specs.Prelude.{Bool, true, false, List, [], ◌∷◌, ◌++◌, length, slice_get}
+use Rattle.std.specs.Prelude.{slice_set, None, Some, option_map, unwrap_or, IsSome}
 use Rattle.std.specs.Borrow.{GName}
 use Rattle.s7_outer.specs.PipesHeld.{PipesHeld}
 use Rattle.s7_outer.specs.Pipes.{end_of}
@@ -11,20 +13,20 @@ use Rattle.s7_client.specs.declared.job.Polled.{Polled}
 use Rattle.s7_client.specs.declared.job.Polled.TheVariants as polled
 use Rattle.s7_client.specs.Polling.{job_of, IsStarted, IsPoll}
 use Rattle.s7_plant.specs.declared.book.Book.{Book}
-use Rattle.s7_plant.specs.declared.request.Request.{Request}
-use Rattle.s7_session.specs.declared.book_doer.BookDoer.{BookDoer}
+use Rattle.s7_plant.specs.declared.request.Ask.{Ask}
+use Rattle.s7_plant.specs.State.{state_of}
 use Rattle.s7_session.specs.declared.session.Session.{Session}
 use Rattle.s7_session.specs.declared.outcome.Outcome.{Outcome}
 use Rattle.s7_session.specs.declared.outcome.Outcome.TheVariants as outcome
 use Rattle.s7_session.specs.declared.outcome.Turn.{Turn}
 use Rattle.s7_session.specs.Entry.{Entry}
 use Rattle.s7_session.specs.Stands.{IsTurn, closed_with, number_of}
-use Rattle.s7_session.specs.Books.{own, GoesOnBy}
+use Rattle.s7_session.specs.Books.{own, history_of, GoesOnBy}
 use Rattle.s7_rig.specs.Numbers.{count_from}
 use Rattle.s7_rig.specs.State.{Post, State}
 
--- One of the pipes holds another number of octets. In a turn each pipe only fills or only empties, so this tells whether
--- an octet was moved.
+-- One of the pipes holds another number of octets. In a turn each pipe only fills or only empties, so this tells
+-- whether an octet was moved.
 abbrev pub have_moved : PipesHeld → PipesHeld → Bool
 have_moved old new = not (length new.to_client == length old.to_client && length new.to_server == length old.to_server)
 
@@ -61,7 +63,8 @@ is_done polled.Pending = false
 is_done polled.Idle = false
 
 -- a client polls over its end of the pipes, whichever loan that is
-pub record PollsOver (client : Client) (pipes : PipesHeld) (client' : Client) (pipes' : PipesHeld) (result : Polled) : Type 0 where
+pub record PollsOver (client : Client) (pipes : PipesHeld) (client' : Client) (pipes' : PipesHeld) (result : Polled)
+    : Type 0 where
   pub loan : GName
   pub poll : IsPoll client (end_of loan pipes side.Client) client' (end_of loan pipes' side.Client) result
 
@@ -86,27 +89,29 @@ pub record IsClientTurn (old new : Post) (stirs : Bool) : Type 0 where
 
 -- the link's entries in a book are these
 abbrev pub stands_in : ℕ → Book → List Entry → Type 0
-stands_in link book entries = entries ≡ own book.opening.areas link book.journal.entries
+stands_in link book entries = entries ≡ own (state_of book.opening) link (history_of book)
 
--- the book is full, for whatever request
-abbrev pub is_full_in : Book → Request → Type 0
-is_full_in book request = length book.journal.entries ≡ book.journal.limit
+-- the book is full, whatever is asked
+abbrev pub is_full_in : Book → Ask → Type 0
+is_full_in book ask = length (history_of book) ≡ book.journal.limit
 
--- a book is full for every request or for none, which always holds
-abbrev pub uniform : Type 0
-uniform = (d : BookDoer) (r q : Request) → is_full_in d.book.now r → is_full_in d.book.now q
+-- a book lacks memory for nothing
+abbrev pub lacks_in : Book → Ask → Type 0
+lacks_in book ask = ⊥
 
--- a session takes a turn over its end of the pipes, whichever loan that is, and the book goes on by entries of its link
-pub record TakesTurn (link : ℕ) (session : Session) (pipes : PipesHeld) (book : Book) (session' : Session) (pipes' : PipesHeld) (book' : Book) (result : Turn) : Type 0 where
+-- a session takes a turn over its end of the pipes, whichever loan that is, and the book goes on by calls of its link
+pub record TakesTurn (link : ℕ) (session : Session) (pipes : PipesHeld) (book : Book) (session' : Session)
+    (pipes' : PipesHeld) (book' : Book) (result : Turn) : Type 0 where
   pub loan : GName
-  pub turn : IsTurn uniform session (end_of loan pipes side.Server) (stands_in link book) (is_full_in book)
-      session' (end_of loan pipes' side.Server) (stands_in link book') (is_full_in book') result
+  pub turn : IsTurn (stands_in link) is_full_in lacks_in session (end_of loan pipes side.Server) book
+      session' (end_of loan pipes' side.Server) book' result
   pub stays : (o : Outcome) → closed_with session ≡ Some o → session' ≡ session
   pub number : number_of session' ≡ number_of session
   pub goes_on : GoesOnBy link book book'
 
+-- how many calls were entered
 abbrev pub entry_count : Book → ℕ
-entry_count book = length book.journal.entries
+entry_count book = length (history_of book)
 
 -- A SESSION'S TURN on the book
 pub record IsSessionTurn (old new : Post) (book book' : Book) (stirs : Bool) : Type 0 where
@@ -118,7 +123,8 @@ pub record IsSessionTurn (old new : Post) (book book' : Book) (stirs : Bool) : T
   pub same : new ≡ record old {
     session = session;
     pipes = pipes;
-    noted = option_map (λ numbers. numbers ++ count_from (entry_count book) (entry_count book' - entry_count book)) old.noted;
+    noted = option_map (λ numbers. numbers ++ count_from (entry_count book) (entry_count book' - entry_count book))
+        old.noted;
   }
   -- memory was not wanting
   pub remembers : closed_with session ≢ Some outcome.Memory

@@ -1,6 +1,7 @@
 // A rig: clients and the sessions that serve them, on one book.
 ghost use Rattle.std.specs.Prelude.{◌≡◌, ◌<◌, ◌≤◌, ◌*◌, Bool, All, length, map, [], IfOk, OnOk};
 ghost use Rattle.s7_plant.specs.Journals.{entries_of};
+ghost use Rattle.s7_plant.specs.State.{begins_with, state_of as plant_state};
 ghost use Rattle.s7_rig.specs.Shown.{state_of, end_told, state_told};
 ghost use Rattle.s7_rig.specs.State.{are_finished};
 ghost use Rattle.s7_rig.specs.Turns.{IsTurnOf};
@@ -44,16 +45,18 @@ impl Rig {
         requires most_jobs { config.jobs ≤ 8 }
         requires polls { 1 ≤ config.polls }
         requires scripts { length scripts.items ≤ 1024 }
-        ensures opening { IfOk result (λ rig. (state_of rig).book.opening.areas ≡ areas) }
-        ensures plant { IfOk result (λ rig. (state_of rig).book.plant.areas ≡ areas) }
+        ensures opening { IfOk result (λ rig. plant_state (state_of rig).book.opening ≡ begins_with areas) }
+        ensures plant { IfOk result (λ rig. plant_state (state_of rig).book.plant ≡ begins_with areas) }
         ensures journal { IfOk result (λ rig. (state_of rig).book.journal ≡ entries_of [] limit) }
         ensures count { IfOk result (λ rig. length rig.stations.items ≡ length scripts.items) }
-        ensures clients { IfOk result (λ rig. AreFresh config 1 (map (λ s. s.items) scripts.items) (state_of rig).posts) }
+        ensures clients { IfOk result (λ rig.
+            AreFresh areas.guard config 1 (map (λ s. s.items) scripts.items) (state_of rig).posts) }
     {
+        let guard = areas.guard();
         let mut stations = Vec::with_capacity(alloc, scripts.len())?;
         let mut link = 1;
         for jobs in scripts {
-            let station = Station::new(alloc, link, jobs, config)?;
+            let station = Station::new(alloc, link, jobs, config, guard)?;
             stations.push_reserved(station);
             link += 1;
         }

@@ -11,6 +11,7 @@ ghost use Rattle.s7_rig.specs.Runs.{IsFreshPost};
 use crate::links::{count_held, poll_over, turn_over};
 use crate::places::Places;
 use crate::station::Station;
+use s7_area::Guard;
 use s7_client::{Client, Config, Job, JobResult, Polled};
 use s7_outer::{Memory, Pipes};
 use s7_plant::Book;
@@ -25,26 +26,28 @@ const ROOM: usize = 4_096;
 const MOMENT: u64 = 1_704_067_200_000;
 
 impl Station {
-    /// A client of this link with these jobs before it, and a session that has taken nothing.
+    /// A client of this link with these jobs before it, and a session that has taken nothing, to areas
+    /// with this guard.
     pub(crate) fn new(
         alloc: Global,
         link: u32,
         jobs: Vec<Job>,
         config: Config,
+        guard: Option<Guard>,
     ) -> Result<Station, Memory>
         requires least_pdu { 64 ≤ config.pdu }
         requires most_pdu { config.pdu ≤ 960 }
         requires least_jobs { 1 ≤ config.jobs }
         requires most_jobs { config.jobs ≤ 8 }
         requires polls { 1 ≤ config.polls }
-        ensures { IfOk result (λ station. IsFreshPost config link jobs.items (post_of station)) }
+        ensures { IfOk result (λ station. IsFreshPost guard config link jobs.items (post_of station)) }
     {
         let count = jobs.len();
         Ok(Station {
             link,
             rest: VecDeque::from_vec(jobs),
             client: Client::new(alloc, config)?,
-            session: Session::new(alloc, link)?,
+            session: Session::new(alloc, link, guard)?,
             pipes: Pipes::new(alloc, ROOM, MOMENT)?,
             results: Vec::with_capacity(alloc, count)?,
             places: Vec::with_capacity(alloc, count)?,

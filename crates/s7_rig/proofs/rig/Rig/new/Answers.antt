@@ -2,7 +2,7 @@ use Rattle.std.proofs.Common.{[], ◌∷◌, length, map, refl, sym, ap, subst, 
 use Rattle.std.proofs.lemmas.List.{length-append}
 use Rattle.std.specs.Vec.Iter.{into_iter_items}
 use Rattle.s7_rig.specs.Shown.{post_of}
-use Rattle.s7_rig.specs.Runs.{AreFresh}
+use Rattle.s7_rig.specs.Runs.{IsFreshPost, AreFresh}
 use Rattle.s7_rig.proofs.WalksLemmas.{walk_more, walk_left, count_more}
 use Rattle.s7_rig.proofs.FreshLemmas.{AreFresh-none, AreFresh-more}
 use Rattle.s7_rig.proofs.rig.Rig.new.Goals as goal
@@ -18,7 +18,7 @@ loop-jobs-init c =
       link = refl;
       count = ap length (sym none);
       room = omega (arith, c.in_ok-stations.ensures.exact, c.len.ensures, c.args.scripts.ok.0);
-      fresh = subst (λ xs. AreFresh c.args.config 1 [] (map post_of xs)) none (AreFresh-none c.args.config 1);
+      fresh = subst (λ xs. AreFresh c.args.areas.guard c.args.config 1 [] (map post_of xs)) none (AreFresh-none c.args.areas.guard c.args.config 1);
     }
 
 pub loop-jobs-preserved : goal.loop-jobs-preserved
@@ -33,5 +33,6 @@ loop-jobs-preserved c =
       link = let link = at.invariant.link in omega (arith, length-append at.yielded (c.in-Some.jobs ∷ []));
       count = count_more at.stations.items _ at.yielded _ c.in-Some.jobs items at.invariant.count;
       room = let room = at.invariant.room in omega (arith, c.push_reserved.ensures.capacity);
-      fresh = AreFresh-more c.args.config at.link post_of at.yielded c.in-Some.jobs at.stations.items _ c.in_ok-station.station at.invariant.link items at.invariant.fresh c.in_ok-station.ensures;
+      fresh = AreFresh-more c.args.areas.guard c.args.config at.link post_of at.yielded c.in-Some.jobs at.stations.items _ c.in_ok-station.station at.invariant.link items at.invariant.fresh
+          (subst (λ g. IsFreshPost g c.args.config at.link c.in-Some.jobs.items (post_of c.in_ok-station.station)) c.guard-guard.ensures c.in_ok-station.ensures);
     }

@@ -14,5 +14,5 @@ invariant-loop-jobs l = record {
   link : l.link ≡ 1 + length l.yielded;
   count : length l.stations.items ≡ length l.yielded;
   room : length l.fn.scripts.items ≤ vec_capacity l.stations;
-  fresh : AreFresh l.fn.config 1 (map (λ s. s.items) l.yielded) (map post_of l.stations.items);
+  fresh : AreFresh l.fn.areas.guard l.fn.config 1 (map (λ s. s.items) l.yielded) (map post_of l.stations.items);
 }
