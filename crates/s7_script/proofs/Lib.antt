@@ -4,7 +4,10 @@ pub mod WriteLemmas
 pub mod KeptLemmas
 pub mod JoinLemmas
 pub mod LawLemmas
+pub mod OctetLemmas
+pub mod GuardLemmas
 pub mod SpellingLemmas
+pub mod MigrateLemmas
 pub mod LoadLemmas
 pub mod ScriptLemmas
 pub mod PartLemmas

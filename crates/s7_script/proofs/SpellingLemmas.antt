@@ -1,9 +1,9 @@
--- The areas that are read from what is written for them are the same.
+-- The memory that is read from what is written for it is the same.
 use Rattle.std.proofs.Common.{◌≡◌, ◌∙◌, ◌<◌, ◌≤◌, ◌+◌, ◌%◌, ◌&&◌, ◌||◌, ℕ, Bool, true, false, not, cond, eqb, refl, sym, ap, subst, arith, List, [], ◌∷◌, ◌++◌, length, map, Option, Some, None, Ok, inl, inr, le-ltb, eq-eqb, eqb-true, true≢false, append_assoc}
 use Rattle.std.specs.Prelude.{◌==◌, nat_lt, nat_le, IfSome}
-use Rattle.std.specs.List.{AllByRecursion, filter, flat_map}
+use Rattle.std.specs.List.{AllByRecursion, filter, flat_map, sum_by}
 use Rattle.std.specs.List.Sorted.{IsStrictlySortedBy}
-use Rattle.std.specs.Map.{keys_of, lookup}
+use Rattle.std.specs.Map.{keys_of, lookup, values_of}
 use Rattle.std.specs.BTreeMap.{insert_entry, is_at}
 use Rattle.std.specs.Ordering.{is_eq, match_ordering, nat_cmp}
 use Rattle.std.specs.declared.cmp.Ordering.{Ordering}
@@ -20,16 +20,18 @@ use Rattle.s7_area.specs.Registers.{IsArea, IsMemory, most_octets, most_in_all, 
 use Rattle.s7_area.specs.declared.key.AreaKey.{AreaKey}
 use Rattle.s7_area.specs.Laws.{AreasJoin}
 use Rattle.s7_script.specs.Lines.{Text, lines}
-use Rattle.s7_script.specs.Reading.{after_header, areas, header, next_line, read_lines}
-use Rattle.s7_script.specs.Spelling.{IsInRange, area_text, block, head_text, hex_lines, order, part, part_of, single, singles, spelling}
+use Rattle.s7_script.specs.Reading.{after_header, areas, next_line, read_lines}
+use Rattle.s7_script.specs.Spelling.{IsInRange, area_text, block, guard_text, head_text, header, octet_lines, order, part, part_of, single, singles, spelling}
 use Rattle.s7_script.proofs.KeptLemmas.{added, kept, all-found, all_kept, insert-kept, kept-none, lookup-kept, sorted-kept, sum-kept}
 use Rattle.s7_script.proofs.LineLemmas.{isn't}
-use Rattle.s7_script.proofs.LawLemmas.{IsWritten, between, block_written, bytes_of, counters_written, flags_written, hexes, inputs_written, inside, line_then, opens, outputs_written, plain_by_test, timers_written}
+use Rattle.s7_script.proofs.LawLemmas.{IsWritten, between, block_written, counters_written, flags_written, inputs_written, inside, line_then, opens, outputs_written, plain_by_test, timers_written}
+use Rattle.s7_script.proofs.GuardLemmas.{starts}
+use Rattle.s7_script.proofs.OctetLemmas.{bytes_of, octets_register}
 use Rattle.s7_script.proofs.ReadLemmas.{ends, line_passes}
 
 -- ---- names
 
-exact : CmpEqualImpliesEq key_cmp
+pub exact : CmpEqualImpliesEq key_cmp
 exact a b e = ap (λ (x : ℕ × ℕ). record { area = x.0; number = x.1 }) (exact_pairs nat_cmp nat_cmp exact_unsigned exact_unsigned (a.area, a.number) (b.area, b.number) e)
 
 zero_of : (b : Bool) (n : ℕ) → (b && n == 0) ≡ true → n ≡ 0
@@ -107,11 +109,8 @@ fewer-blocks : (p : AreaKey → Bool) (m : AreaList) → blocks_of (kept key_cmp
 fewer-blocks p [] = omega arith
 fewer-blocks p (e ∷ m) = fewer_step (p e.0) e m (kept key_cmp p m) (fewer-blocks p m)
 
-abbrev unguarded : AreaList → Memory
-unguarded areas = record { areas = areas; guard = None }
-
 abbrev list_total : AreaList → ℕ
-list_total areas = total_of (unguarded areas)
+list_total areas = sum_by length (values_of areas)
 
 size_ok : (total len : ℕ) (pairs : Bool) → 0 < len → len ≤ most_octets → (pairs ≡ true → len % 2 ≡ 0) → total + len ≤ most_in_all
     → (len == 0 || nat_lt most_octets len || (pairs && not (len % 2 == 0)) || nat_lt most_in_all (total + len)) ≡ false
@@ -122,9 +121,12 @@ few_ok : (n : ℕ) (b : Bool) → one_if b + n ≤ most_dbs → (b && nat_le mos
 few_ok n true h = grind (arith, nat_tests)
 few_ok n false h = refl
 
--- the areas whose names have a property, without a guard
+abbrev with_areas : Memory → AreaList → Memory
+with_areas m areas = record m { areas = areas }
+
+-- the memory with those areas alone whose names have a property
 abbrev kept_of : (AreaKey → Bool) → Memory → Memory
-kept_of p m = unguarded (kept key_cmp p m.areas)
+kept_of p m = with_areas m (kept key_cmp p m.areas)
 
 no_fault : AreasJoin → (m : Memory) (p : AreaKey → Bool) (key : AreaKey) (octets : List ℕ) → IsMemory m → octets_at m key ≡ Some octets → p key ≡ false → fault_of (kept_of p m) key (length octets) ≡ None
 no_fault law m p key octets is found out =
@@ -151,40 +153,39 @@ part-is : (m : Memory) (key : AreaKey) (o : Option (List ℕ)) → octets_at m k
 unfolding part
 part-is m key o is = ap (part_of key) is
 
-area_parts : (key : AreaKey) (octets : List ℕ) (text : Text) → area_text key octets ++ text ≡ head_text key (length octets) ++ 10 ∷ (hex_lines (length octets) octets ++ text)
-area_parts key octets text = append_assoc (head_text key (length octets)) (10 ∷ hex_lines (length octets) octets) text
+area_parts : (key : AreaKey) (octets : List ℕ) (text : Text) → area_text key octets ++ text ≡ head_text key (length octets) ++ 10 ∷ (octet_lines (length octets) octets ++ text)
+area_parts key octets text = append_assoc (head_text key (length octets)) (10 ∷ octet_lines (length octets) octets) text
 
-abbrev Reads : Memory → (AreaKey → Bool) → List AreaKey → ℕ → Type 0
-Reads m p ks line = read_lines line (between (kept_of p m)) (lines (flat_map (part m) ks)) ≡ Ok (kept_of (all_added p ks) m)
+abbrev Reads : Memory → (AreaKey → Bool) → List AreaKey → ℕ → Bool → Type 0
+Reads m p ks line may = read_lines line (between may (kept_of p m)) (lines (flat_map (part m) ks)) ≡ Ok (kept_of (all_added p ks) m)
 
-reads_part : AreasJoin → (m : Memory) (p : AreaKey → Bool) (key : AreaKey) (ks : List AreaKey) (line : ℕ) → IsMemory m → IsInRange m key → p key ≡ false → ((n : ℕ) → Reads m (added key_cmp p key) ks n) → Reads m p (key ∷ ks) line
-reads_part law m p key ks line is range out more = go (octets_at m key) refl range.1
+reads_part : AreasJoin → (m : Memory) (p : AreaKey → Bool) (key : AreaKey) (ks : List AreaKey) (line : ℕ) (may : Bool) → IsMemory m → IsInRange m key → p key ≡ false
+    → ((n : ℕ) (later : Bool) → Reads m (added key_cmp p key) ks n later) → Reads m p (key ∷ ks) line may
+reads_part law m p key ks line may is range out more = go (octets_at m key) refl range.1
   where
-    text : Text
-    text = flat_map (part m) ks
-
-    go : (o : Option (List ℕ)) → octets_at m key ≡ o → IfSome o IsBytes → Reads m p (key ∷ ks) line
+    go : (o : Option (List ℕ)) → octets_at m key ≡ o → IfSome o IsBytes → Reads m p (key ∷ ks) line may
     go None found bytes =
-        ap (λ t. read_lines line (between (kept_of p m)) (lines (t ++ flat_map (part m) ks))) (part-is m key None found)
-        ∙ ap (λ (a : AreaList). read_lines line (between (unguarded a)) (lines (flat_map (part m) ks))) (sym (kept-none key_cmp p key m.areas found))
-        ∙ more line
+        ap (λ t. read_lines line (between may (kept_of p m)) (lines (t ++ flat_map (part m) ks))) (part-is m key None found)
+        ∙ ap (λ (a : AreaList). read_lines line (between may (with_areas m a)) (lines (flat_map (part m) ks))) (sym (kept-none key_cmp p key m.areas found))
+        ∙ more line may
     go (Some octets) found bytes =
         let area = all-found key_cmp IsArea exact key octets m.areas is.areas found in
         let written = written_by key area.name range.0 in
         let none = no_fault law m p key octets is found out in
-        let r = hexes (length octets) (next_line line) line (kept_of p m) (key, octets) [] octets (flat_map (part m) ks) area.some (omega arith) refl (bytes_of octets bytes) none in
-        ap (λ t. read_lines line (between (kept_of p m)) (lines (t ++ flat_map (part m) ks))) (part-is m key (Some octets) found)
-        ∙ ap (λ t. read_lines line (between (kept_of p m)) (lines t)) (area_parts key octets (flat_map (part m) ks))
-        ∙ ap (λ ls. read_lines line (between (kept_of p m)) ls) (line_then (head_text key (length octets)) (hex_lines (length octets) octets ++ flat_map (part m) ks) (written.plain (length octets) area.most))
-        ∙ line_passes line (between (kept_of p m)) (inside (kept_of p m) line (key, octets) []) (head_text key (length octets)) (lines (hex_lines (length octets) octets ++ flat_map (part m) ks))
-        (opens line (kept_of p m) (key, octets) written area.most ((law.faultless (kept_of p m) key (length octets) none).size))
+        let r = octets_register (length octets) (next_line line) line (kept_of p m) (key, octets) [] octets (flat_map (part m) ks) area.some area.most (omega arith) refl (bytes_of octets bytes) none in
+        ap (λ t. read_lines line (between may (kept_of p m)) (lines (t ++ flat_map (part m) ks))) (part-is m key (Some octets) found)
+        ∙ ap (λ t. read_lines line (between may (kept_of p m)) (lines t)) (area_parts key octets (flat_map (part m) ks))
+        ∙ ap (λ ls. read_lines line (between may (kept_of p m)) ls) (line_then (head_text key (length octets)) (octet_lines (length octets) octets ++ flat_map (part m) ks) (written.plain (length octets) area.most))
+        ∙ line_passes line (between may (kept_of p m)) (inside (kept_of p m) line (key, octets) []) (head_text key (length octets)) (lines (octet_lines (length octets) octets ++ flat_map (part m) ks))
+        (opens line may (kept_of p m) (key, octets) written area.most ((law.faultless (kept_of p m) key (length octets) none).size))
         ∙ r.reads
-        ∙ ap (λ (x : AreaList). read_lines r.next (between (unguarded x)) (lines (flat_map (part m) ks))) (insert-kept key_cmp exact law.ordered p key octets m.areas is.ordered found out)
-        ∙ more r.next
+        ∙ ap (λ (x : AreaList). read_lines r.next (between false (with_areas m x)) (lines (flat_map (part m) ks))) (insert-kept key_cmp exact law.ordered p key octets m.areas is.ordered found out)
+        ∙ more r.next false
 
-read_all : AreasJoin → (m : Memory) (ks : List AreaKey) (p : AreaKey → Bool) (line : ℕ) → IsMemory m → AllByRecursion (IsInRange m) ks → Fresh p ks → Reads m p ks line
-read_all law m [] p line is range fresh = ends line (between (kept_of p m))
-read_all law m (k ∷ ks) p line is range fresh = reads_part law m p k ks line is range.0 fresh.0 (λ n. read_all law m ks (added key_cmp p k) n is range.1 fresh.1)
+read_all : AreasJoin → (m : Memory) (ks : List AreaKey) (p : AreaKey → Bool) (line : ℕ) (may : Bool) → IsMemory m → AllByRecursion (IsInRange m) ks → Fresh p ks → Reads m p ks line may
+read_all law m [] p line may is range fresh = ends line (between may (kept_of p m))
+read_all law m (k ∷ ks) p line may is range fresh =
+    reads_part law m p k ks line may is range.0 fresh.0 (λ n later. read_all law m ks (added key_cmp p k) n later is range.1 fresh.1)
 
 -- ---- all names
 
@@ -276,27 +277,34 @@ none_kept : (m : AreaList) → kept key_cmp none m ≡ []
 none_kept [] = refl
 none_kept (e ∷ m) = none_kept m
 
--- what is written for areas names them, without their guard
-pub areas-spelling : AreasJoin → (m : Memory) → IsMemory m → AllByRecursion (IsInRange m) (order m) → areas (spelling m) ≡ Ok (record m { guard = None })
+-- what is written for a memory is read as the memory
+pub areas-spelling : AreasJoin → (m : Memory) → IsMemory m → AllByRecursion (IsInRange m) (order m) → areas (spelling m) ≡ Ok m
 areas-spelling law m is range =
     let keys = keys_of m.areas in
+    let parts : Text = flat_map (part m) (order m) in
     let fresh = fresh-append (map single singles) (blocks (dbs keys)) none (refl, (refl, (refl, (refl, (refl, tt))))) (fresh_blocks keys after_singles is.ordered (all_of (IsFresh after_singles) keys no_block)) in
     let whole : kept key_cmp (all_added none (order m)) m.areas ≡ m.areas =
     ap (λ q. kept key_cmp q m.areas) (added-append (map single singles) (blocks (dbs keys)) none)
     ∙ all_kept key_cmp (all_added after_singles (blocks (dbs keys))) m.areas (all_turns (blocks (dbs keys)) m.areas is.areas (in_blocks law keys after_singles)) in
-    ap after_header (line_then header (flat_map (part m) (order m)) (plain_by_test header refl))
-    ∙ ap (λ (x : AreaList). read_lines 2 (between (unguarded x)) (lines (flat_map (part m) (order m)))) (sym (none_kept m.areas))
-    ∙ read_all law m (order m) none 2 is range fresh
-    ∙ ap (λ (x : AreaList). Ok (unguarded x)) whole
+    let start = starts m.guard parts is.guard in
+    ap after_header (line_then header (guard_text m.guard ++ parts) (plain_by_test header refl))
+    ∙ start.reads
+    ∙ ap (λ (x : AreaList). read_lines start.next (between start.may (with_areas m x)) (lines parts)) (sym (none_kept m.areas))
+    ∙ read_all law m (order m) none start.next start.may is range fresh
+    ∙ ap (λ (x : AreaList). Ok (with_areas m x)) whole
 
 flat-append : (f : AreaKey → Text) (xs ys : List AreaKey) → flat_map f (xs ++ ys) ≡ flat_map f xs ++ flat_map f ys
 flat-append f [] ys = refl
 flat-append f (x ∷ xs) ys = ap (λ t. f x ++ t) (flat-append f xs ys) ∙ sym (append_assoc (f x) (flat_map f xs) (flat_map f ys))
 
--- the text is written in three parts
-pub spelled_by : (m : Memory) (first singly whole : Text) → first ≡ header ++ 10 ∷ [] → singly ≡ first ++ flat_map (part m) (map single singles) → whole ≡ singly ++ flat_map (part m) (map block (db_numbers (keys_of m.areas))) → whole ≡ spelling m
-spelled_by m first singly whole a b c =
-    c ∙ ap (λ t. t ++ flat_map (part m) (map block (db_numbers (keys_of m.areas)))) (b ∙ ap (λ t. t ++ flat_map (part m) (map single singles)) a)
-    ∙ append_assoc (header ++ 10 ∷ []) (flat_map (part m) (map single singles)) (flat_map (part m) (map block (db_numbers (keys_of m.areas))))
-    ∙ append_assoc header (10 ∷ []) (flat_map (part m) (map single singles) ++ flat_map (part m) (map block (db_numbers (keys_of m.areas))))
-    ∙ ap (λ t. header ++ 10 ∷ t) (sym (flat-append (part m) (map single singles) (map block (db_numbers (keys_of m.areas)))))
+-- the text is written in four parts
+pub spelled_by : (m : Memory) (first guard singly whole : Text) → first ≡ header ++ 10 ∷ [] → guard ≡ first ++ guard_text m.guard → singly ≡ guard ++ flat_map (part m) (map single singles)
+    → whole ≡ singly ++ flat_map (part m) (map block (db_numbers (keys_of m.areas))) → whole ≡ spelling m
+spelled_by m first guard singly whole a b c d =
+    let ones : Text = flat_map (part m) (map single singles) in
+    let many : Text = flat_map (part m) (map block (db_numbers (keys_of m.areas))) in
+    d ∙ ap (λ t. t ++ many) (c ∙ ap (λ t. t ++ ones) (b ∙ ap (λ t. t ++ guard_text m.guard) a))
+    ∙ append_assoc ((header ++ 10 ∷ []) ++ guard_text m.guard) ones many
+    ∙ append_assoc (header ++ 10 ∷ []) (guard_text m.guard) (ones ++ many)
+    ∙ append_assoc header (10 ∷ []) (guard_text m.guard ++ (ones ++ many))
+    ∙ ap (λ t. header ++ 10 ∷ (guard_text m.guard ++ t)) (sym (flat-append (part m) (map single singles) (map block (db_numbers (keys_of m.areas)))))

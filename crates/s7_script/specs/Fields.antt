@@ -1,6 +1,6 @@
 -- The fields of a line, which are separated by one space, and the numbers among them.
 use Rattle.std.specs.Prelude.{ℕ, Bool, ◌==◌, ◌&&◌, ◌+◌, nat_lt, nat_le, length, take, drop, Option, Some, None, Result, Ok, Err, if◌then◌else◌}
-use Rattle.std.specs.List.{list_all}
+use Rattle.std.specs.List.{list_all, position}
 use Rattle.std.specs.Char.{is_ascii_digit}
 use Rattle.std.specs.Str.Parse.{digits_value}
 use Rattle.s7_script.specs.Lines.{Text}
@@ -23,6 +23,15 @@ first_field text (Some end) = take end text
 abbrev pub fields_after : Text → Option ℕ → Option Text
 fields_after text None = None
 fields_after text (Some end) = Some (drop (end + 1) text)
+
+-- what stands before and after a place of a text
+abbrev pub parts_at : Text → Option ℕ → Option (Text × Text)
+parts_at text None = None
+parts_at text (Some place) = Some (take place text, drop (place + 1) text)
+
+-- what stands before and after the first octet of this kind
+abbrev pub parts_around : ℕ → Text → Option (Text × Text)
+parts_around mark text = parts_at text (position (λ b. b == mark) text)
 
 -- decimal digits, at most ten
 abbrev pub number_of : Text → Option ℕ

@@ -1,6 +1,7 @@
--- Laws of printing and of scripts.
+-- Laws of area files, of printing and of scripts.
 use Rattle.std.specs.Prelude.{◌≡◌, ℕ, List, Ok}
 use Rattle.std.specs.List.{AllByRecursion}
+use Rattle.s7_area.specs.Memory.{Memory}
 use Rattle.s7_client.specs.declared.job.Job.{Job}
 use Rattle.s7_client.specs.declared.job.Job.TheVariants as job
 use Rattle.s7_client.specs.declared.job.JobResult.{JobResult}
@@ -8,9 +9,15 @@ use Rattle.s7_client.specs.Dialogue.{End}
 use Rattle.s7_client.specs.Form.{HasForm}
 use Rattle.s7_client.specs.Running.{IsResult}
 use Rattle.s7_script.specs.Lines.{Text}
+use Rattle.s7_script.specs.Reading.{areas}
+use Rattle.s7_script.specs.Spelling.{spelling}
 use Rattle.s7_script.specs.Printing.{IsPrintable}
 use Rattle.s7_script.specs.Script.{script}
 use Rattle.s7_script.specs.declared.script_list.ScriptLine.{ScriptLine}
+
+-- What is written for what a text names, of either version, is read as what the text names.
+pub record AreasMigrate : Type 0 where
+  pub migrates : (text : Text) (m : Memory) → areas text ≡ Ok m → areas (spelling m) ≡ Ok m
 
 -- What is told of an end that has its form can be printed.
 pub record EndsPrint : Type 0 where

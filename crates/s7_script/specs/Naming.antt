@@ -1,13 +1,12 @@
 -- What an AREAS word names: a data block that is given inline, or a path. A word is inline exactly where it begins with
 -- DB and holds =.
-use Rattle.std.specs.Prelude.{ℕ, Bool, ◌==◌, ◌&&◌, ◌+◌, nat_le, List, length, take, drop, codes, Option, Some, None, Result, Ok, Err, if◌then◌else◌}
-use Rattle.std.specs.List.{position}
+use Rattle.std.specs.Prelude.{ℕ, ◌&&◌, nat_le, List, length, take, drop, codes, Option, Some, None, Result, Ok, Err, if◌then◌else◌}
 use Rattle.std.specs.Str.{bytes_eq}
 use Rattle.hex.specs.Hex.{decode_of}
 use Rattle.hex.specs.declared.error.FromHexError.{FromHexError}
 use Rattle.s7_area.specs.Registers.{most_octets}
 use Rattle.s7_script.specs.Lines.{Text}
-use Rattle.s7_script.specs.Fields.{number_of}
+use Rattle.s7_script.specs.Fields.{number_of, parts_around}
 
 pub data Named : Type 0 where
   path : Text → Named
@@ -34,18 +33,10 @@ abbrev pub block_named : Option ℕ → Text → Named
 block_named None digits = faulty
 block_named (Some number) digits = block_with number (block_octets (decode_of digits))
 
-abbrev pub is_equals : ℕ → Bool
-is_equals b = b == 61
-
--- what stands before and after the = of a text, with its place
-abbrev pub parts_at : Text → Option ℕ → Option (Text × Text)
-parts_at text None = None
-parts_at text (Some place) = Some (take place text, drop (place + 1) text)
-
--- the number and the digits of an inline word
+-- the number and the digits of an inline word, before and after its =
 abbrev pub inline_parts : Text → Option (Text × Text)
 inline_parts word =
-    if bytes_eq (take 2 word) (codes "DB") then parts_at (drop 2 word) (position is_equals (drop 2 word)) else None
+    if bytes_eq (take 2 word) (codes "DB") then parts_around 61 (drop 2 word) else None
 
 abbrev pub named_by : Text → Option (Text × Text) → Named
 named_by word None = path word

@@ -1,17 +1,20 @@
--- What an area file says: its areas, or the first faulty line.
-use Rattle.std.specs.Prelude.{ℕ, Bool, true, ◌==◌, ◌+◌, ◌≡◌, nat_lt, List, [], ◌∷◌, ◌++◌, length, min, codes, Option, Some, None, Result, Ok, Err, if◌then◌else◌}
-use Rattle.std.specs.List.{position}
+-- What an area file says: its guard and its areas, or the first faulty line.
+use Rattle.std.specs.Prelude.{ℕ, Bool, true, false, ◌==◌, ◌&&◌, ◌+◌, ◌-◌, ◌≡◌, nat_lt, nat_le, List, [], ◌∷◌, ◌++◌, length, replicate, slice_index, min, codes, Option, Some, None, Result, Ok, Err, if◌then◌else◌}
+use Rattle.std.specs.List.{list_all, position}
 use Rattle.std.specs.Str.{bytes_eq}
-use Rattle.hex.specs.Hex.{decode_of}
+use Rattle.hex.specs.Hex.{decode_of, decode_sized}
 use Rattle.hex.specs.declared.error.FromHexError.{FromHexError}
 use Rattle.s7_item.specs.Codes.{inputs, outputs, flags, data_blocks, counters, timers}
 use Rattle.s7_area.specs.Memory.{Memory, no_areas, with_area}
 use Rattle.s7_area.specs.Registers.{fault_of, is_wrong_size}
+use Rattle.s7_area.specs.declared.guard.Guard.{Guard}
 use Rattle.s7_area.specs.declared.key.AreaKey.{AreaKey}
 use Rattle.s7_area.specs.declared.register.RegisterFault.{RegisterFault}
 use Rattle.s7_area.specs.declared.register.RegisterFault.TheVariants as refusal
 use Rattle.s7_script.specs.Lines.{Text, lines}
-use Rattle.s7_script.specs.Fields.{fault_at, is_space, first_field, fields_after, number_of, number_within}
+use Rattle.s7_script.specs.Fields.{fault_at, is_space, first_field, fields_after, parts_around, number_of, number_within}
+use Rattle.s7_script.specs.declared.version.Version.{Version}
+use Rattle.s7_script.specs.declared.version.Version.TheVariants.{One, Two}
 use Rattle.s7_script.specs.declared.fault.AreasFault.{AreasFault}
 use Rattle.s7_script.specs.declared.fault.AreasKind.{AreasKind}
 use Rattle.s7_script.specs.declared.fault.AreasKind.TheVariants as kind
@@ -21,8 +24,39 @@ abbrev pub ◌>>=◌ : {A B : Type 0} → Result A AreasFault → (A → Result 
 (Ok x) >>= f = f x
 (Err e) >>= f = Err e
 
-abbrev pub header : Text
-header = codes "s7 areas 1"
+-- the version that the first line names
+abbrev pub version_of : Text → Option Version
+version_of text =
+    if bytes_eq text (codes "s7 areas 1") then Some One
+    else (if bytes_eq text (codes "s7 areas 2") then Some Two
+    else None)
+
+-- ---- the line of the guard
+
+-- printable ASCII without space
+abbrev pub is_graphic : ℕ → Bool
+is_graphic b = nat_le 0x21 b && nat_le b 0x7E
+
+-- one to eight of them
+abbrev pub is_word : Text → Bool
+is_word text = (nat_le 1 (length text) && nat_le (length text) 8) && list_all is_graphic text
+
+-- a word, filled up with spaces to eight octets
+abbrev pub password_of : Text → List ℕ
+password_of word = word ++ replicate (8 - length word) 0x20
+
+-- the password, which is the last field: no space is in a word
+abbrev pub with_word : ℕ → ℕ → Option Text → Result Guard AreasFault
+with_word line level None = fault_at line kind.Line
+with_word line level (Some text) =
+    if is_word text then Ok (record { level = level; password = password_of text }) else fault_at line kind.Line
+
+-- the level and the password
+abbrev pub guard_line : ℕ → Option Text → Result Guard AreasFault
+guard_line line None = fault_at line kind.Line
+guard_line line (Some text) = do
+  level ← number_within 2 3 (number_of (first_field text (position is_space text))) line
+  with_word line level (fields_after text (position is_space text))
 
 -- ---- a line that begins an area
 
@@ -66,6 +100,43 @@ abbrev pub area_line : ℕ → Text → Result (AreaKey × ℕ) AreasFault
 area_line line text = named_line line (area_named (first_field text (position is_space text)))
     (fields_after text (position is_space text))
 
+-- ---- a line of octets
+
+-- the octets of hexadecimal digits
+abbrev pub hex_octets : ℕ → Result (List ℕ) FromHexError → Result (List ℕ) AreasFault
+hex_octets line (Ok octets) = Ok octets
+hex_octets line (Err e) = fault_at line kind.Digits
+
+-- the octet of two hexadecimal digits
+abbrev pub run_octet : ℕ → Result (List ℕ) FromHexError → Result ℕ AreasFault
+run_octet line (Ok octets) = Ok (slice_index octets 0)
+run_octet line (Err e) = fault_at line kind.Digits
+
+-- how often which octet stands, for what is before and after the * of a run
+abbrev pub run_of : ℕ → Text × Text → Result (ℕ × ℕ) AreasFault
+run_of line parts = do
+  count ← number_within 1 9999999999 (number_of parts.0) line
+  octet ← run_octet line (decode_sized parts.1 1)
+  Ok (count, octet)
+
+abbrev pub run_octets : ℕ → Text × Text → Result (List ℕ) AreasFault
+run_octets line parts = do
+  run ← run_of line parts
+  Ok (replicate run.0 run.1)
+
+-- what is before and after the * of a run: version 1 has no runs
+abbrev pub run_parts : Version → Text → Option (Text × Text)
+run_parts One text = None
+run_parts Two text = parts_around 42 text
+
+abbrev pub octets_by : ℕ → Text → Option (Text × Text) → Result (List ℕ) AreasFault
+octets_by line text None = hex_octets line (decode_of text)
+octets_by line text (Some parts) = run_octets line parts
+
+-- the octets that a line stands for
+abbrev pub line_octets : ℕ → Version → Text → Result (List ℕ) AreasFault
+line_octets line version text = octets_by line text (run_parts version text)
+
 -- ---- the lines in order
 
 -- an area whose octets are being read, and the line that began it
@@ -76,6 +147,10 @@ pub record Open : Type 0 where
   pub octets : List ℕ
 
 pub record State : Type 0 where
+  pub version : Version
+  -- no guard and no area came yet
+  pub may_guard : Bool
+  -- the areas that are whole, and the guard
   pub areas : Memory
   pub current : Option Open
 
@@ -83,6 +158,10 @@ pub record State : Type 0 where
 abbrev pub is_passed : Text → Bool
 is_passed [] = true
 is_passed (b ∷ bs) = b == 35
+
+-- a line that gives a guard, wherever it stands
+abbrev pub is_guard_line : Text → Bool
+is_guard_line text = bytes_eq (first_field text (position is_space text)) (codes "protect")
 
 -- the fault of an area that isn't taken
 abbrev pub kind_of : RegisterFault → AreasKind
@@ -92,42 +171,58 @@ kind_of refusal.Size = kind.Register refusal.Size
 kind_of refusal.Exists = kind.Register refusal.Exists
 kind_of refusal.TooManyDbs = kind.Register refusal.TooManyDbs
 
-abbrev pub joined : Memory → Open → Option RegisterFault → Result State AreasFault
-joined areas a None = Ok (record { areas = with_area areas a.key a.octets; current = None })
-joined areas a (Some fault) = fault_at a.line (kind.Register fault)
+abbrev pub with_guard : Memory → Guard → Memory
+with_guard m guard = record m { guard = Some guard }
+
+-- one guard at most, before any area
+abbrev pub guarded : ℕ → State → Option Text → Result State AreasFault
+guarded line s rest =
+    if s.may_guard
+    then guard_line line rest >>= (λ guard. Ok (record s { may_guard = false; areas = with_guard s.areas guard }))
+    else fault_at line kind.Line
+
+abbrev pub joined : State → Open → Option RegisterFault → Result State AreasFault
+joined s a None = Ok (record s { areas = with_area s.areas a.key a.octets; current = None })
+joined s a (Some fault) = fault_at a.line (kind.Register fault)
 
 -- an area that is whole joins the others
-abbrev pub registered : Memory → Open → Result State AreasFault
-registered areas a = joined areas a (fault_of areas a.key (length a.octets))
+abbrev pub registered : State → Open → Result State AreasFault
+registered s a = joined s a (fault_of s.areas a.key (length a.octets))
 
 -- an area with more octets, which may be the last
-abbrev pub filled : Memory → Open → Result State AreasFault
-filled areas a = if length a.octets == a.size then registered areas a
-    else Ok (record { areas = areas; current = Some a })
+abbrev pub filled : State → Open → Result State AreasFault
+filled s a = if length a.octets == a.size then registered s a else Ok (record s { current = Some a })
 
 -- an area of a wrong size is refused before its octets are read
-abbrev pub opened : ℕ → Memory → AreaKey × ℕ → Result State AreasFault
-opened line areas area = if is_wrong_size areas area.0 area.1
+abbrev pub opened : ℕ → State → AreaKey × ℕ → Result State AreasFault
+opened line s area = if is_wrong_size s.areas area.0 area.1
     then fault_at line (kind.Register refusal.Size)
-    else Ok (record {
-      areas = areas;
+    else Ok (record s {
+      may_guard = false;
       current = Some (record { line = line; key = area.0; size = area.1; octets = [] });
     })
 
-abbrev pub with_octets : ℕ → Memory → Open → Result (List ℕ) FromHexError → Result State AreasFault
-with_octets line areas a (Err e) = fault_at line kind.Digits
-with_octets line areas a (Ok octets) = if nat_lt a.size (length a.octets + length octets)
+-- the octets of a line join those before
+abbrev pub with_more : ℕ → State → Open → List ℕ → Result State AreasFault
+with_more line s a octets = if nat_lt a.size (length a.octets + length octets)
     then fault_at line kind.Length
-    else filled areas (record a { octets = a.octets ++ octets })
+    else filled s (record a { octets = a.octets ++ octets })
 
-abbrev pub by_current : ℕ → Memory → Option Open → Text → Result State AreasFault
-by_current line areas None text = do
+abbrev pub with_octets : ℕ → State → Open → Result (List ℕ) AreasFault → Result State AreasFault
+with_octets line s a (Err e) = Err e
+with_octets line s a (Ok octets) = with_more line s a octets
+
+abbrev pub by_current : ℕ → State → Option Open → Text → Result State AreasFault
+by_current line s None text = do
   area ← area_line line text
-  opened line areas area
-by_current line areas (Some a) text = with_octets line areas a (decode_of text)
+  opened line s area
+by_current line s (Some a) text = with_octets line s a (line_octets line s.version text)
 
 unfoldable pub with_line : ℕ → State → Text → Result State AreasFault
-with_line line s text = if is_passed text then Ok s else by_current line s.areas s.current text
+with_line line s text =
+    if is_passed text then Ok s
+    else (if is_guard_line text then guarded line s (fields_after text (position is_space text))
+    else by_current line s s.current text)
 
 -- the number of the next line
 abbrev pub next_line : ℕ → ℕ
@@ -144,15 +239,18 @@ read_lines line s (text ∷ rest) = do
   next ← with_line line s text
   read_lines (next_line line) next rest
 
-abbrev pub nothing_read : State
-nothing_read = record { areas = no_areas; current = None }
+abbrev pub nothing_read : Version → State
+nothing_read version = record { version = version; may_guard = true; areas = no_areas; current = None }
+
+abbrev pub by_version : Option Version → List Text → Result Memory AreasFault
+by_version None rest = fault_at 1 kind.Head
+by_version (Some version) rest = read_lines 2 (nothing_read version) rest
 
 abbrev pub after_header : List Text → Result Memory AreasFault
 after_header [] = fault_at 1 kind.Head
-after_header (text ∷ rest) =
-    if bytes_eq text header then read_lines 2 nothing_read rest else fault_at 1 kind.Head
+after_header (text ∷ rest) = by_version (version_of text) rest
 
--- the areas that an area file names, without a guard, or its first faulty line
+-- the guard and the areas that an area file names, or its first faulty line
 abbrev pub areas : Text → Result Memory AreasFault
 areas text = after_header (lines text)
 

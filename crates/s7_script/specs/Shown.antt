@@ -8,4 +8,4 @@ abbrev pub open_of : Open → OpenArea
 open_of o = record { line = o.line; key = o.key; size = o.size; octets = o.octets.items }
 
 abbrev pub state_of : State → Reading
-state_of s = record { areas = s.areas; current = option_map open_of s.current }
+state_of s = record { version = s.version; may_guard = s.may_guard; areas = s.areas; current = option_map open_of s.current }

@@ -1,21 +1,70 @@
--- The one text that is written for areas.
-use Rattle.std.specs.Prelude.{ℕ, zero, suc, ◌==◌, ◌<◌, List, [], ◌∷◌, ◌++◌, length, map, codes, take, drop, Option, None, Some, IfSome, if◌then◌else◌}
-use Rattle.std.specs.List.{flat_map}
+-- The one text that is written for areas and their guard.
+use Rattle.std.specs.Prelude.{ℕ, zero, suc, Bool, ◌+◌, ◌==◌, ◌<◌, nat_le, List, [], ◌∷◌, ◌++◌, length, map, min, codes, take, drop, Option, None, Some, IfSome, if◌then◌else◌}
+use Rattle.std.specs.List.{flat_map, position, prefix_len}
 use Rattle.std.specs.Map.{keys_of}
 use Rattle.std.specs.Fmt.{decimal}
 use Rattle.hex.specs.Hex.{IsBytes, encode_lower}
 use Rattle.s7_item.specs.Codes.{inputs, outputs, flags, data_blocks, counters, timers}
 use Rattle.s7_area.specs.Memory.{Memory, octets_at}
 use Rattle.s7_area.specs.Registers.{db_numbers}
+use Rattle.s7_area.specs.declared.guard.Guard.{Guard}
 use Rattle.s7_area.specs.declared.key.AreaKey.{AreaKey}
 use Rattle.s7_script.specs.Lines.{Text}
-use Rattle.s7_script.specs.Reading.{header}
+use Rattle.s7_script.specs.Fields.{first_field, is_space}
 
--- 32 octets a line, of at most k lines
-unfoldable pub hex_lines : ℕ → List ℕ → Text
-hex_lines zero octets = []
-hex_lines (suc k) [] = []
-hex_lines (suc k) (b ∷ bs) = encode_lower (take 32 (b ∷ bs)) ++ 10 ∷ hex_lines k (drop 32 (b ∷ bs))
+-- the first line
+abbrev pub header : Text
+header = codes "s7 areas 2"
+
+-- ---- the line of the guard
+
+-- a password without the spaces that fill it up
+abbrev pub word_of : List ℕ → Text
+word_of password = first_field password (position is_space password)
+
+-- the line that gives a guard
+abbrev pub guard_head : Guard → Text
+guard_head guard = codes "protect " ++ (decimal guard.level ++ 32 ∷ word_of guard.password)
+
+-- its text, where there is a guard
+abbrev pub guard_text : Option Guard → Text
+guard_text None = []
+guard_text (Some guard) = guard_head guard ++ 10 ∷ []
+
+-- ---- the lines of octets
+
+-- how many equal octets a list begins with
+unfoldable pub front_of : List ℕ → ℕ
+front_of [] = 0
+front_of (b ∷ bs) = prefix_len (λ x. x == b) (b ∷ bs)
+
+-- a run begins: more equal octets than a line of digits has
+abbrev pub begins_run : List ℕ → Bool
+begins_run octets = nat_le 33 (front_of octets)
+
+-- how many octets stand before the first place where a run begins
+unfoldable pub before_run : List ℕ → ℕ
+before_run [] = 0
+before_run (b ∷ bs) = if begins_run (b ∷ bs) then 0 else 1 + before_run bs
+
+-- how many octets the next line stands for: all of a run that begins, or at most 32 and none of a run
+unfoldable pub line_length : List ℕ → ℕ
+line_length octets = if begins_run octets then front_of octets else min 32 (before_run octets)
+
+-- the next line
+unfoldable pub line_text : List ℕ → Text
+line_text octets =
+    if begins_run octets then decimal (front_of octets) ++ 42 ∷ encode_lower (take 1 octets)
+    else encode_lower (take (min 32 (before_run octets)) octets)
+
+-- the lines of these octets, of which there are at most k
+unfoldable pub octet_lines : ℕ → List ℕ → Text
+octet_lines zero octets = []
+octet_lines (suc k) [] = []
+octet_lines (suc k) (b ∷ bs) =
+    line_text (b ∷ bs) ++ 10 ∷ octet_lines k (drop (line_length (b ∷ bs)) (b ∷ bs))
+
+-- ---- areas
 
 abbrev pub name_of : ℕ → Text
 name_of area =
@@ -32,7 +81,7 @@ head_text key size =
     else name_of key.area ++ 32 ∷ decimal size
 
 abbrev pub area_text : AreaKey → List ℕ → Text
-area_text key octets = head_text key (length octets) ++ 10 ∷ hex_lines (length octets) octets
+area_text key octets = head_text key (length octets) ++ 10 ∷ octet_lines (length octets) octets
 
 -- the text of an area, where there is one of this name
 abbrev pub part_of : AreaKey → Option (List ℕ) → Text
@@ -56,9 +105,9 @@ single area = record { area = area; number = 0 }
 abbrev pub block : ℕ → AreaKey
 block number = record { area = data_blocks; number = number }
 
--- the names in the order in which their areas are written; a guard isn't written
+-- the names in the order in which their areas are written
 abbrev pub order : Memory → List AreaKey
 order m = map single singles ++ map block (db_numbers (keys_of m.areas))
 
 abbrev pub spelling : Memory → Text
-spelling m = header ++ 10 ∷ flat_map (part m) (order m)
+spelling m = header ++ 10 ∷ (guard_text m.guard ++ flat_map (part m) (order m))

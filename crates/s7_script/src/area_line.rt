@@ -79,7 +79,13 @@ fn with_size(line: u32, key: AreaKey, rest: Option<&[u8]>) -> Result<(AreaKey, u
     }
 }
 
-fn number_within(low: u64, high: u64, found: Option<u64>, line: u32) -> Result<u64, AreasFault>
+/// The number, where it is within these limits.
+pub(crate) fn number_within(
+    low: u64,
+    high: u64,
+    found: Option<u64>,
+    line: u32,
+) -> Result<u64, AreasFault>
     ensures { result ≡ number_within low high found line }
 {
     match found {

@@ -5,17 +5,19 @@ use thiserror::Error;
 /// What is wrong with a line.
 #[derive(Clone, Copy, Debug, PartialEq, Eq, Error)]
 pub enum AreasKind {
-    /// The first line isn't `s7 areas 1`.
+    /// The first line is neither `s7 areas 1` nor `s7 areas 2`.
     #[error("no first line of an area file")]
     Head,
-    /// A line that should begin an area doesn't: another name, or a field is missing or too many.
+    /// A line that should begin an area doesn't: another name, or a field is missing or too many. Or
+    /// a line that gives a guard has no password, another text for one or too many fields, or stands
+    /// after such a line or after the line of an area.
     #[error("no area line")]
     Line,
-    /// A field isn't a decimal number of at most ten digits, or the number of a data block isn't
-    /// from 1 to 65,535.
+    /// A field isn't a decimal number of at most ten digits, the number of a data block isn't from 1
+    /// to 65,535, the level of a guard isn't 2 or 3, or the count of a run is 0.
     #[error("no number for this field")]
     Number,
-    /// A line of octets isn't an even number of hexadecimal digits.
+    /// A line of octets isn't an even number of hexadecimal digits, or a run hasn't two of them.
     #[error("no hexadecimal digits")]
     Digits,
     /// A line of octets has more of them than are left of the area.

@@ -1,5 +1,15 @@
-// Laws of printing and of scripts.
-ghost use Rattle.s7_script.specs.Laws.{EndsPrint, ScriptsMoveData};
+// Laws of area files, of printing and of scripts.
+ghost use Rattle.s7_script.specs.Laws.{AreasMigrate, EndsPrint, ScriptsMoveData};
+
+use s7_area::areas_join;
+
+/// A law: the text that is written for what an area file names, of either version, names the same
+/// areas and the same guard.
+pub fn areas_migrate()
+    ensures { AreasMigrate }
+{
+    areas_join();
+}
 
 /// A law: what a client tells of a job, whose end has its form, can be printed.
 pub fn ends_print()

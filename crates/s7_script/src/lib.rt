@@ -1,24 +1,28 @@
-//! Area files, texts that name areas and their octets, and scripts, texts that name jobs.
+//! Area files, texts that name areas, their octets and a guard, and scripts, texts that name jobs.
 #![tactic(auto)]
 
 mod area_line;
 mod fault;
+mod guard_line;
 mod item_text;
 mod laws;
 mod lines;
 mod load;
+mod octet_lines;
 mod opening;
 mod print;
 mod read;
 mod reading;
+mod run_line;
 mod script_fault;
 mod script_line;
 mod script_list;
+mod version;
 mod write;
 mod written;
 
 pub use fault::{AreasFault, AreasKind};
-pub use laws::{ends_print, scripts_move_data};
+pub use laws::{areas_migrate, ends_print, scripts_move_data};
 pub use load::{LoadFault, load_areas};
 pub use print::print_result;
 pub use read::read_areas;

@@ -1,10 +1,10 @@
 // The lines of a text, and the fields of a line.
-ghost use Rattle.std.specs.Prelude.{◌≡◌, ◌≢◌, ◌&&◌, nat_lt, nat_le, IfSome, IfNone, ◌<◌, ◌≤◌, ◌+◌, ◌-◌, ◌∷◌, ℕ, length, option_map, take, drop, slice_index, true};
+ghost use Rattle.std.specs.Prelude.{◌≡◌, ◌≢◌, ◌==◌, ◌&&◌, nat_lt, nat_le, IfSome, IfNone, ◌<◌, ◌≤◌, ◌+◌, ◌-◌, ◌∷◌, ℕ, length, option_map, take, drop, slice_index, true};
 ghost use Rattle.std.specs.List.{list_all, position};
 ghost use Rattle.std.specs.Char.{is_ascii_digit};
 ghost use Rattle.std.specs.Str.Parse.{digits_value};
 ghost use Rattle.s7_script.specs.Lines.{lines, without_return};
-ghost use Rattle.s7_script.specs.Fields.{number_of, is_space, first_field, fields_after};
+ghost use Rattle.s7_script.specs.Fields.{number_of, is_space, first_field, fields_after, parts_around};
 
 /// The first line of a text that isn't empty, and what follows it.
 pub(crate) fn first_line(text: &[u8]) -> (&[u8], &[u8])
@@ -74,6 +74,20 @@ fn space(text: &[u8]) -> Option<usize>
     ensures { result ≡ position is_space text.now }
 {
     text.iter().position(|b| *b == b' ')
+}
+
+/// What stands before and after the first octet of this kind; `None` where there is none.
+pub(crate) fn split_mark(text: &[u8], mark: u8) -> Option<(&[u8], &[u8])>
+    ensures { option_map (λ p. (p.0.now, p.1.now)) result ≡ parts_around mark text.now }
+{
+    let place = mark_in(text, mark)?;
+    Some((&text[..place], &text[place + 1..]))
+}
+
+fn mark_in(text: &[u8], mark: u8) -> Option<usize>
+    ensures { result ≡ position (λ b. b == mark) text.now }
+{
+    text.iter().position(|b| *b == mark)
 }
 
 /// The number that a field is: at most ten decimal digits.

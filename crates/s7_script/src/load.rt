@@ -1,13 +1,12 @@
 // The areas that a word of the command line names.
-ghost use Rattle.std.specs.Prelude.{◌≡◌, ◌≢◌, ◌≤◌, ◌==◌, ◌+◌, length, option_map, Some, Err, IfSome, Ok};
-ghost use Rattle.std.specs.List.{position};
+ghost use Rattle.std.specs.Prelude.{◌≡◌, ◌≢◌, ◌≤◌, length, option_map, Err, IfSome, Ok};
 ghost use Rattle.hex.specs.Hex.{decode_of};
 ghost use Rattle.s7_script.specs.Fields.{number_of};
 ghost use Rattle.s7_script.specs.Reading.{areas as areas_by};
-ghost use Rattle.s7_script.specs.Naming.{naming, path, inline_parts, parts_at, is_equals, block_number, block_octets, block_named, block_with};
+ghost use Rattle.s7_script.specs.Naming.{naming, path, inline_parts, block_number, block_octets, block_named, block_with};
 ghost use Rattle.s7_script.specs.Loading.{Loads, LoadsBlock, Answers, opening, with_line_fault};
 
-use crate::lines::number;
+use crate::lines::{number, split_mark};
 use crate::read::read_areas;
 use crate::{AreasFault, AreasKind};
 use hex::FromHexError;
@@ -33,14 +32,15 @@ pub enum LoadFault {
     Memory,
 }
 
-/// The areas that a word names, without a guard. No path changes.
+/// The areas that a word names. No path changes.
 ///
 /// A word that begins with `DB` and holds `=` is inline: `DBn=HEX`, where `n` is a decimal number
 /// of at most ten digits from 1 to 65,535, and `HEX` an even number of hexadecimal digits in either
-/// case for 1 to 2,097,152 octets. It names the data block `n` alone, with these octets; where it
-/// can't be read, the answer is `Line(1)`. It touches no file.
+/// case for 1 to 2,097,152 octets. It names the data block `n` alone, with these octets and without a
+/// guard; where it can't be read, the answer is `Line(1)`. It touches no file.
 ///
-/// Every other word is a path, and the file under it is read as `read_areas` has it. `Failed` comes
+/// Every other word is a path, and the file under it is read as `read_areas` has it, with its guard
+/// where it has one. `Failed` comes
 /// only where this path's count of faults rose in this call, `TooLong` exactly where more than
 /// 67,108,864 octets were read, and `Line` exactly where a line is faulty. `Memory` comes where
 /// there is none.
@@ -58,23 +58,9 @@ fn inline_parts(word: &[u8]) -> Option<(&[u8], &[u8])>
     ensures { option_map (λ p. (p.0.now, p.1.now)) result ≡ inline_parts word.now }
 {
     match word.strip_prefix(b"DB") {
-        Some(rest) => parts_at(rest),
+        Some(rest) => split_mark(rest, b'='),
         None => None,
     }
-}
-
-/// What stands before and after the `=`.
-fn parts_at(text: &[u8]) -> Option<(&[u8], &[u8])>
-    ensures { option_map (λ p. (p.0.now, p.1.now)) result ≡ parts_at text.now (position is_equals text.now) }
-{
-    let place = equals(text)?;
-    Some((&text[..place], &text[place + 1..]))
-}
-
-fn equals(text: &[u8]) -> Option<usize>
-    ensures { result ≡ position is_equals text.now }
-{
-    text.iter().position(|b| *b == b'=')
 }
 
 /// The data block of this number, with the octets of these digits.

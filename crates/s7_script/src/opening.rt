@@ -5,6 +5,7 @@ ghost use Rattle.std.specs.Map.{keys_of};
 ghost use Rattle.s7_area.specs.Memory.{key_cmp};
 ghost use Rattle.s7_area.specs.Registers.{most_in_all, total_of};
 
+use crate::version::Version;
 use s7_area::{AreaKey, Areas};
 
 /// An area whose octets are being read.
@@ -17,9 +18,12 @@ pub(crate) struct Open {
     ghost within: { vec_len octets ≤ size },
 }
 
-/// The areas that are whole, how many octets they have together, and the area that isn't whole.
+/// The version, whether a guard may still come, the areas that are whole, with the guard, how many
+/// octets they have together, and the area that isn't whole.
 #[derive(Drop)]
 pub(crate) struct State {
+    pub version: Version,
+    pub may_guard: bool,
     pub areas: Areas,
     pub total: usize,
     pub current: Option<Open>,

@@ -1,28 +1,33 @@
 // Writing area files.
-ghost use Rattle.std.specs.Prelude.{◌≡◌, ◌++◌, None, Ok, IfOk, OnOk, length, map};
+ghost use Rattle.std.specs.Prelude.{◌≡◌, ◌++◌, Ok, IfOk, OnOk, length, map};
 ghost use Rattle.std.specs.List.{AllByRecursion, flat_map};
 ghost use Rattle.std.specs.Map.{keys_of};
 ghost use Rattle.hex.specs.Hex.{IsBytes};
 ghost use Rattle.s7_area.specs.Registers.{IsMemory, db_numbers};
 ghost use Rattle.s7_script.specs.Reading.{areas as areas_by};
-ghost use Rattle.s7_script.specs.Spelling.{IsInRange, area_text, block, hex_lines, name_of, part, single, singles, spelling};
+ghost use Rattle.s7_script.specs.Spelling.{IsInRange, area_text, block, guard_text, name_of, part, single, singles, spelling};
 
+use crate::lines::split_field;
+use crate::octet_lines::write_octets;
 use s7_area::{AreaKey, Areas, areas_join};
 use s7_item::codes::{COUNTERS, DATA_BLOCKS, FLAGS, INPUTS, OUTPUTS, TIMERS};
 use s7_outer::{Memory, Octets};
 use std::alloc::Global;
 
-/// The area file of areas: the first line, then inputs, outputs, flags, counters, timers and the
-/// data blocks in ascending order of their numbers, with 32 octets in lower case on a line. Every
-/// line ends with LF. The guard isn't written; `read_areas` reads the same areas again, without one.
-/// `Memory` comes where there is none.
+/// The area file of areas, in version 2: the first line, the line of the guard, where there is one,
+/// then inputs, outputs, flags, counters, timers and the data blocks in ascending order of their
+/// numbers. At least 33 equal octets are a run, all of them on one line; the others are digits in
+/// lower case, 32 octets on a line, or fewer before a run and at the end of an area. Every line ends
+/// with LF. `read_areas` reads the same areas and the same guard again. `Memory` comes where there is
+/// none.
 pub fn write_areas(alloc: Global, areas: &Areas) -> Result<Octets, Memory>
     ensures spelled { IfOk result (λ text. text ≡ spelling areas.now) }
-    ensures law { IfOk result (λ text. areas_by text ≡ Ok (record areas.now { guard = None })) }
+    ensures law { IfOk result (λ text. areas_by text ≡ Ok areas.now) }
 {
     areas_join();
     let mut text = Vec::new(alloc);
-    text.extend_from_slice(b"s7 areas 1\n")?;
+    text.extend_from_slice(b"s7 areas 2\n")?;
+    write_guard(alloc, &mut text, areas)?;
     write_singles(
         alloc,
         &mut text,
@@ -31,6 +36,22 @@ pub fn write_areas(alloc: Global, areas: &Areas) -> Result<Octets, Memory>
     )?;
     write_blocks(alloc, &mut text, areas)?;
     Ok(Octets::of_vec(text))
+}
+
+/// Appends the line of the guard, where there is one.
+fn write_guard(alloc: Global, text: &mut Vec<u8>, areas: &Areas) -> Result<(), Memory>
+    ensures { OnOk result (text.new.items ≡ text.old.items ++ guard_text areas.now.guard) }
+{
+    let Some(guard) = areas.guard() else {
+        return Ok(());
+    };
+    let level = guard.level;
+    let line = format!(in alloc; "protect {level} ")?;
+    let (word, _) = split_field(guard.password.as_slice());
+    text.extend_from_slice(line.as_bytes())?;
+    text.extend_from_slice(word)?;
+    text.extend_from_slice(b"\n")?;
+    Ok(())
 }
 
 /// Appends the areas with these codes, of which there is one each.
@@ -111,19 +132,4 @@ fn name_of(area: u8) -> &'static str
         COUNTERS => "CT",
         _ => "TM",
     }
-}
-
-fn write_octets(alloc: Global, text: &mut Vec<u8>, octets: &[u8]) -> Result<(), Memory>
-    ensures { OnOk result (text.new.items
-        ≡ text.old.items ++ hex_lines (length octets.now) octets.now) }
-{
-    let mut rest = octets;
-    while !rest.is_empty() {
-        let (piece, after) = rest.split_at(rest.len().min(32));
-        let digits = hex::encode(alloc, piece)?;
-        text.extend_from_slice(digits.as_bytes())?;
-        text.extend_from_slice(b"\n")?;
-        rest = after;
-    }
-    Ok(())
 }

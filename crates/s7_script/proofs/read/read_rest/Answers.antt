@@ -32,10 +32,10 @@ returns-in-Some c =
     let s = c.loop-rest.state in
     let line = c.loop-rest.line in
     let empty = eqb-true (length c.loop-rest.rest.now) 0 (sym c.loop-rest-test.ensures) in
-    let whole : read_lines 2 nothing_read (lines c.args.text.now) ≡ Err (record { line = line; kind = kind.Ended }) =
+    let whole : read_lines 2 (nothing_read c.args.version) (lines c.args.text.now) ≡ Err (record { line = line; kind = kind.Ended }) =
     sym c.loop-rest.invariant ∙ ap (λ ls. read_lines line (state_of s) ls) (no_lines c.loop-rest.rest.now empty) ∙ ends line (state_of s)
     ∙ ap (λ o. closed line (state_of s) (option_map open_of o)) c.in-Some.is in
-    subst (λ (e : AreasFault). FailsAs e e.kind (read_lines 2 nothing_read (lines c.args.text.now))) (sym c.fault.ensures) whole
+    subst (λ (e : AreasFault). FailsAs e e.kind (read_lines 2 (nothing_read c.args.version) (lines c.args.text.now))) (sym c.fault.ensures) whole
 
 pub returns-in-None : goal.returns-in-None
 returns-in-None c =

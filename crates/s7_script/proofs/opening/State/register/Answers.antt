@@ -2,7 +2,7 @@ use Rattle.std.proofs.Common.{◌≡◌, ap, arith, length}
 use Rattle.s7_area.specs.Memory.{with_area}
 use Rattle.s7_area.specs.Registers.{fault_of}
 use Rattle.s7_script.proofs.JoinLemmas.{joins, taken_by, refused_by, registers}
-use Rattle.s7_script.specs.Shown.{open_of}
+use Rattle.s7_script.specs.Shown.{open_of, state_of}
 use Rattle.s7_script.proofs.opening.State.register.Goals.{in-Ok, in-Err}
 use Rattle.s7_script.proofs.opening.State.register.Goals as goal
 
@@ -19,7 +19,7 @@ invariant_of-self c =
 pub returns-clause-err : goal.returns-clause-err
 returns-clause-err c = elim c.match-register.branch [
   | in-Ok w ↦ rw w.result-is tt
-  | in-Err w ↦ rw w.result-is (refused_by c.args.self.now.areas (open_of c.args.area) w.in-Err.refusal w.in-Err.field-0-1 c.of_vec.result w.fault.result w.kind_of.result c.of_vec.ensures w.fault.ensures w.kind_of.ensures w.in-Err.ensures.refused w.in-Err.ensures.taken)
+  | in-Err w ↦ rw w.result-is (refused_by (state_of c.args.self.now) (open_of c.args.area) w.in-Err.refusal w.in-Err.field-0-1 c.of_vec.result w.fault.result w.kind_of.result c.of_vec.ensures w.fault.ensures w.kind_of.ensures w.in-Err.ensures.refused w.in-Err.ensures.taken)
 ]
 
 pub returns-clause-ok : goal.returns-clause-ok
@@ -27,6 +27,6 @@ returns-clause-ok c = elim c.match-register.branch [
   | in-Ok w ↦
       let a = open_of c.args.area in
       let t = taken_by (fault_of c.args.self.now.areas a.key (length c.of_vec.result)) w.in-Ok.field-0 c.of_vec.result c.register.new.self (with_area c.args.self.now.areas a.key c.of_vec.result) w.in-Ok.ensures.refused w.in-Ok.ensures.taken in
-      rw (w.result-is, w.self-is) (registers c.args.self.now.areas c.register.new.self a c.of_vec.result c.of_vec.ensures t.0 t.1)
+      rw (w.result-is, w.self-is) (registers (state_of c.args.self.now) c.register.new.self a c.of_vec.result c.of_vec.ensures t.0 t.1)
   | in-Err w ↦ rw w.result-is tt
 ]
