@@ -1,0 +1,5 @@
+pub mod OwnLemmas
+pub mod ServedLemmas
+pub mod WorkLemmas
+pub mod OverLemmas
+pub mod StepLemmas

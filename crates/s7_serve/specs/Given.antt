@@ -1,0 +1,35 @@
+-- What a door gave.
+use Rattle.std.specs.Prelude.{◌≡◌, ◌⊎◌, ◌≤◌, ◌<◌, ℕ, Bool, true, false, List, [], ◌++◌, length, Option, None, Some}
+use Rattle.s7_outer.specs.Count.{Rose}
+use Rattle.s7_outer.specs.Door.{NoPortFell}
+use Rattle.s7_outer.specs.DoorShown.{DoorShown}
+
+-- where the links to come are told, these came first, and the others are left
+abbrev pub Gave : {L : Type 0} → List L → Option (List L) → Option (List L) → Type 0
+Gave lines None new = new ≡ None
+Gave lines (Some links) new = (rest : List _) × (links ≡ lines ++ rest) × (new ≡ Some rest)
+
+-- none is left, where that is told
+abbrev pub IsEmptied : {L : Type 0} → Option (List L) → Type 0
+IsEmptied None = Unit {0}
+IsEmptied (Some links) = links ≡ []
+
+-- A door that hears a port gave these links in order.
+pub record Gives {L : Type 0} (port : ℕ) (old new : DoorShown L) (lines : List L) : Type 0 where
+  pub heard : new.heard ≡ port
+  pub lent : new.lent ≡ old.lent
+  pub gave : Gave lines old.coming new.coming
+  pub faults : NoPortFell old.faults new.faults
+
+-- A DOOR HEARD A PORT AND GAVE THESE LINKS in order, at most so many; where there were fewer, it ended, or it failed
+-- after a first one and the port's count rose
+pub record HasGiven {L : Type 0} (port most : ℕ) (old new : DoorShown L) (lines : List L) (failed : Bool) : Type 0 where
+  pub gives : Gives port old new lines
+  pub few : length lines ≤ most
+  pub fault : failed ≡ true → (0 < length lines) × Rose (old.faults port) (new.faults port)
+  pub all : failed ≡ false → (length lines ≡ most) ⊎ IsEmptied new.coming
+
+-- A door failed before a link came.
+pub record HasFailed {L : Type 0} (port : ℕ) (old new : DoorShown L) : Type 0 where
+  pub gives : Gives port old new []
+  pub fault : Rose (old.faults port) (new.faults port)

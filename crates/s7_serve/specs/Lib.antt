@@ -1,0 +1,9 @@
+pub mod Begins
+pub mod Seats
+pub mod SeatLaws
+pub mod Served
+pub mod Benches
+pub mod SeatShown
+pub mod Given
+pub mod Hosted
+pub mod Works

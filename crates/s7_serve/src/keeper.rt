@@ -1,0 +1,64 @@
+// What a hall keeps for links.
+ghost use Rattle.std.specs.Prelude.{◌≡◌, ℕ, List, length};
+ghost use Rattle.std.proofs.Common.{refl};
+ghost use Rattle.s7_turn.specs.Histories.{replay};
+ghost use Rattle.s7_plant.specs.declared.reply.Reply.{Reply};
+ghost use Rattle.s7_plant.specs.declared.request.Ask.{Ask};
+ghost use Rattle.s7_plant.specs.Answers.{IsReplyOf};
+ghost use Rattle.s7_plant.specs.Journals.{after_call};
+ghost use Rattle.s7_plant.specs.Replies.{IsReadyReply};
+ghost use Rattle.s7_plant.specs.Requests.{CanBeDone, kept};
+ghost use Rattle.s7_plant.specs.State.{State, state_of};
+ghost use Rattle.s7_session.specs.Books.{History};
+
+use s7_plant::{Ask, Book, Reply};
+use s7_turn::Machine;
+
+/// A machine that carries out what links ask of a plant. What it answers and what it becomes are told
+/// by the plant's states alone, whatever else it keeps.
+pub trait Keeper: Machine<Request = Ask, Reply = Reply> {
+    /// The plant's state before the first entry.
+    ghost opened: { Self → State };
+
+    /// How many entries its history has.
+    fn entries(&self) -> u64
+        ensures { result ≡ length (Self.history self.now) };
+
+    // machines with one opening have one plant's state there
+    ghost opens: { (a b : Self) → Self.opening a ≡ Self.opening b → opened a ≡ opened b };
+
+    // a history keeps of what was asked what a plant's keeps
+    ghost keeps_asks: { (ask : Ask) → Self.kept ask ≡ kept ask };
+
+    // it takes what a plant takes
+    ghost takes: { (ask : Ask) → CanBeDone ask.request → Self.request_ready ask };
+
+    ghost takes_replies: { (reply : Reply) → IsReadyReply reply → Self.reply_ready reply };
+
+    ghost leaves_replies: { (reply : Reply) → Self.reply_ready reply → IsReadyReply reply };
+
+    // after a history it answers what a plant answers that began at this state
+    ghost answers: { (k : Self) (history : History) (caller : ℕ) (ask : Ask) (reply : Reply)
+        → Self.gives (replay Self.after (Self.opening k) history) caller ask reply
+        → IsReplyOf (replay after_call (opened k) history) ask reply };
+}
+
+impl Keeper for Book {
+    ghost opened = { λ book. state_of book.opening };
+
+    fn entries(&self) -> u64 {
+        Machine::len(self)
+    }
+
+    ghost opens = { λ a b same. same };
+
+    ghost keeps_asks = { λ ask. refl };
+
+    ghost takes = { λ ask can. can };
+
+    ghost takes_replies = { λ reply is. is };
+
+    ghost leaves_replies = { λ reply is. is };
+
+    ghost answers = { λ k history caller ask reply given. given };
+}

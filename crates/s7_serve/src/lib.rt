@@ -1,0 +1,25 @@
+//! Many links on one book: each link's doer takes its turn at a hall, and all of them enter one history.
+#![tactic(auto)]
+
+mod bench;
+mod doors;
+mod hall_bench;
+mod hall_doer;
+mod hosted;
+mod hosting;
+mod keeper;
+mod served;
+mod work;
+mod worker;
+
+pub use bench::Bench;
+pub use doors::serve_door;
+pub use hall_bench::HallBench;
+pub use hall_doer::HallDoer;
+pub use hosted::{Hosted, NotHosted};
+pub use keeper::Keeper;
+pub use served::Served;
+pub use worker::serve_link;
+
+#[cfg(test)]
+mod tests;

@@ -1,0 +1,20 @@
+// A link under way.
+use crate::served::Served;
+
+/// A link that came: a thread serves it, or it was served.
+#[derive(Drop)]
+pub(crate) enum Work<H, L> {
+    /// A thread serves it.
+    Running(H),
+    /// It was served.
+    Done(Served<L>),
+}
+
+/// Why no link came.
+#[derive(Clone, Copy, Debug, PartialEq, Eq)]
+pub(crate) enum Stop {
+    /// None is left.
+    End,
+    /// The door failed.
+    Failed,
+}
