@@ -1,8 +1,8 @@
 -- The commands of both programs are built by their lines.
 use Rattle.std.proofs.Common.{refl, codes, None, Some}
-use Rattle.s7_words.specs.Fields.{journal}
-use Rattle.s7_words.specs.Server.{pipe_line, save}
-use Rattle.s7_words.specs.Tool.{run_line, host, port, kind, rack, slot, pdu, polls, rig_line, turns, seed, steps}
+use Rattle.s7_words.specs.Fields.{port, journal}
+use Rattle.s7_words.specs.Server.{pipe_line, save, serve_line, links}
+use Rattle.s7_words.specs.Tool.{run_line, host, kind, rack, slot, pdu, polls, rig_line, turns, seed, steps}
 use Rattle.s7_words.proofs.Commands.{IsCommand, long_known}
 
 pub pipe_is : IsCommand (codes "pipe") pipe_line
@@ -16,6 +16,19 @@ pipe_is = record {
   placed = (refl, record { long = None; index = Some 1; found = refl; small = refl }, refl);
   operands = (refl, tt);
   options = (refl, (refl, tt));
+}
+
+pub serve_is : IsCommand (codes "serve") serve_line
+serve_is = record {
+  is_built = refl;
+  is_free = refl;
+  is_simple_too = refl;
+  has_name = refl;
+  fields = refl;
+  known = (long_known _ port refl refl, (long_known _ links refl refl, (long_known _ journal refl refl, (long_known _ save refl refl, tt))));
+  placed = (refl, record { long = None; index = Some 1; found = refl; small = refl }, refl);
+  operands = (refl, tt);
+  options = (refl, (refl, (refl, (refl, tt))));
 }
 
 pub run_is : IsCommand (codes "run") run_line

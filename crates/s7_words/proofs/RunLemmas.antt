@@ -1,10 +1,10 @@
 -- The numbers of both programs' commands, each in its range.
 use Rattle.std.proofs.Common.{refl, codes}
-use Rattle.s7_words.specs.Fields.{journal}
-use Rattle.s7_words.specs.Server.{pipe_line}
-use Rattle.s7_words.specs.Tool.{run_line, port, kind, rack, slot, pdu, polls, rig_line, seed, steps}
+use Rattle.s7_words.specs.Fields.{port, journal}
+use Rattle.s7_words.specs.Server.{pipe_line, serve_line, links}
+use Rattle.s7_words.specs.Tool.{run_line, kind, rack, slot, pdu, polls, rig_line, seed, steps}
 use Rattle.s7_words.proofs.Commands.{ReadsNumber, number_or_is}
-use Rattle.s7_words.proofs.Lines.{pipe_is, run_is, rig_is}
+use Rattle.s7_words.proofs.Lines.{pipe_is, serve_is, run_is, rig_is}
 
 pub port_is : ReadsNumber (codes "run") run_line run_is port 16 1 65535 102
 port_is = number_or_is (codes "run") run_line run_is port 16 1 65535 102 refl refl refl refl
@@ -26,6 +26,15 @@ polls_is = number_or_is (codes "run") run_line run_is polls 32 1 4294967295 50 r
 
 pub journal_is : ReadsNumber (codes "pipe") pipe_line pipe_is journal 64 1 262144 65536
 journal_is = number_or_is (codes "pipe") pipe_line pipe_is journal 64 1 262144 65536 refl refl refl refl
+
+pub serve_port_is : ReadsNumber (codes "serve") serve_line serve_is port 16 1 65535 102
+serve_port_is = number_or_is (codes "serve") serve_line serve_is port 16 1 65535 102 refl refl refl refl
+
+pub links_is : ReadsNumber (codes "serve") serve_line serve_is links 16 1 1024 16
+links_is = number_or_is (codes "serve") serve_line serve_is links 16 1 1024 16 refl refl refl refl
+
+pub serve_journal_is : ReadsNumber (codes "serve") serve_line serve_is journal 64 1 262144 65536
+serve_journal_is = number_or_is (codes "serve") serve_line serve_is journal 64 1 262144 65536 refl refl refl refl
 
 pub seed_is : ReadsNumber (codes "rig") rig_line rig_is seed 32 0 4294967295 0
 seed_is = number_or_is (codes "rig") rig_line rig_is seed 32 0 4294967295 0 refl refl refl refl

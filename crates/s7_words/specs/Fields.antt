@@ -23,6 +23,10 @@ number name low high =
 abbrev pub areas : Field
 areas = operand (codes "AREAS")
 
+-- the TCP port, of the server or of the controller
+abbrev pub port : Field
+port = number (codes "port") 1 65535
+
 -- how many entries the journal takes
 abbrev pub journal : Field
 journal = number (codes "journal") 1 262144

@@ -4,7 +4,7 @@ use Rattle.std.specs.Prelude.{Option, Some, None, option_map, option_and_then, i
 use Rattle.std.specs.List.{list_all, slice_split}
 use Rattle.std.specs.Str.{bytes_eq}
 use Rattle.s7_words.specs.Line.{Text, Field, Line, Given, given_by, is_number, number_of, value_of, values_of}
-use Rattle.s7_words.specs.Fields.{operand, operands, text, number, areas, journal, text_or, number_or}
+use Rattle.s7_words.specs.Fields.{operand, operands, text, number, areas, port, journal, text_or, number_or}
 
 -- how a script is run: against which controller, over which connection, with how many polls
 pub record RunTold : Type 0 where
@@ -40,9 +40,6 @@ script = operand (codes "SCRIPT")
 
 abbrev pub host : Field
 host = text (codes "host")
-
-abbrev pub port : Field
-port = number (codes "port") 1 65535
 
 abbrev pub kind : Field
 kind = number (codes "type") 1 3

@@ -3,8 +3,8 @@ ghost use Rattle.std.specs.Prelude.{◌≡◌, IfOk, IfSome, codes, drop, map, o
 ghost use Rattle.clap.specs.Words.{app_of};
 ghost use Rattle.s7_words.specs.Built.{app_by};
 ghost use Rattle.s7_words.specs.Line.{given_by};
-ghost use Rattle.s7_words.specs.Server.{pipe_line, pipe_of, server_words};
-ghost use Rattle.s7_words.specs.Shown.{server_told_of, HasRoom};
+ghost use Rattle.s7_words.specs.Server.{pipe_line, pipe_of, serve_line, serve_of, server_words};
+ghost use Rattle.s7_words.specs.Shown.{server_told_of, HasLinks, HasPort, HasRoom};
 
 use crate::command::{accepted, bare, number, operand, text};
 use clap::Command;
@@ -20,6 +20,16 @@ pub enum ServerWords<'a> {
     /// 65,536 where it isn't given.
     Pipe {
         areas: &'a str,
+        save: Option<&'a str>,
+        journal: u64,
+    },
+    /// `serve AREAS [--port N] [--links N] [--journal N] [--save PATH]`: links over TCP. `port` is the
+    /// TCP port, 1 to 65,535: 102 where it isn't given. `links` is how many links it takes in all, 1 to 1,024:
+    /// 16 where it isn't given. `areas`, `save` and `journal` are as for `Pipe`.
+    Serve {
+        areas: &'a str,
+        port: u16,
+        links: u16,
         save: Option<&'a str>,
         journal: u64,
     },
@@ -42,12 +52,15 @@ pub fn read_server_words<'a>(
 ) -> Result<Option<ServerWords<'a>>, Memory>
     ensures told { IfOk result (λ r. option_map server_told_of r ≡ server_words (map (λ w. w.now) words.entry.now)) }
     ensures journal { IfOk result (λ r. IfSome r HasRoom) }
+    ensures port { IfOk result (λ r. IfSome r HasPort) }
+    ensures links { IfOk result (λ r. IfSome r HasLinks) }
 {
     let Some(name) = words.first() else {
         return Ok(None);
     };
     match *name {
         "pipe" => read_pipe(alloc, words),
+        "serve" => read_serve(alloc, words),
         _ => Ok(None),
     }
 }
@@ -74,4 +87,39 @@ fn pipe_command<'a>(alloc: Global) -> Result<Command<'a>, AllocError>
         .arg(operand(alloc, "AREAS"))?
         .arg(text(alloc, "save"))?
         .arg(number(alloc, "journal", 1, 262_144))
+}
+
+fn read_serve<'a>(alloc: Global, words: &'a [&'a str]) -> Result<Option<ServerWords<'a>>, Memory>
+    ensures told { IfOk result (λ r. option_map server_told_of r
+        ≡ option_map serve_of (given_by serve_line (drop 1 (map (λ w. w.now) words.entry.now)))) }
+    ensures journal { IfOk result (λ r. IfSome r HasRoom) }
+    ensures port { IfOk result (λ r. IfSome r HasPort) }
+    ensures links { IfOk result (λ r. IfSome r HasLinks) }
+{
+    let Some(matches) = accepted(serve_command(alloc)?.try_get_matches_from(words))? else {
+        return Ok(None);
+    };
+    let areas = matches.get_str("AREAS").unwrap_or("");
+    let port = matches.get_one::<u16>("port").unwrap_or(102);
+    let links = matches.get_one::<u16>("links").unwrap_or(16);
+    let save = matches.get_str("save");
+    let journal = matches.get_one::<u64>("journal").unwrap_or(65_536);
+    Ok(Some(ServerWords::Serve {
+        areas,
+        port,
+        links,
+        save,
+        journal,
+    }))
+}
+
+fn serve_command<'a>(alloc: Global) -> Result<Command<'a>, AllocError>
+    ensures { IfOk result (λ c. app_of c ≡ app_by (codes "serve") serve_line) }
+{
+    bare(alloc, "serve")
+        .arg(operand(alloc, "AREAS"))?
+        .arg(number(alloc, "port", 1, 65_535))?
+        .arg(number(alloc, "links", 1, 1024))?
+        .arg(number(alloc, "journal", 1, 262_144))?
+        .arg(text(alloc, "save"))
 }

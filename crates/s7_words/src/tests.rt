@@ -9,6 +9,16 @@ fn pipe<'a>(areas: &'a str, save: Option<&'a str>) -> ServerWords<'a> {
     }
 }
 
+fn serve<'a>(port: u16, links: u16, save: Option<&'a str>, journal: u64) -> ServerWords<'a> {
+    ServerWords::Serve {
+        areas: "a",
+        port,
+        links,
+        save,
+        journal,
+    }
+}
+
 #[test]
 fn server_lines(rt: HostRuntime) -> Result<(), Fail> {
     let lines: &[(&[&str], ServerWords)] = &[
@@ -46,6 +56,34 @@ fn server_lines(rt: HostRuntime) -> Result<(), Fail> {
         (
             &["pipe", "--save", "b.txt", "--", "a.txt"],
             pipe("a.txt", Some("b.txt")),
+        ),
+        (&["serve", "a"], serve(102, 16, None, 65_536)),
+        (&["serve", "--", "a"], serve(102, 16, None, 65_536)),
+        (
+            &[
+                "serve",
+                "a",
+                "--port",
+                "1",
+                "--links",
+                "1",
+                "--journal",
+                "1",
+                "--save",
+                "",
+            ],
+            serve(1, 1, Some(""), 1),
+        ),
+        (
+            &[
+                "serve",
+                "--save=b",
+                "--journal=262144",
+                "--links=1024",
+                "--port=65535",
+                "a",
+            ],
+            serve(65_535, 1024, Some("b"), 262_144),
         ),
     ];
     for (words, expected) in lines {
@@ -96,7 +134,6 @@ fn server_usage(rt: HostRuntime) -> Result<(), Fail> {
         &["help", "pipe"],
         &["--help"],
         &["--version"],
-        &["serve", "a.txt"],
         &["run", "a.txt"],
         &["pipe"],
         &["pipe", "--"],
@@ -130,6 +167,21 @@ fn server_usage(rt: HostRuntime) -> Result<(), Fail> {
         &["pipe", "a.txt", "--journal=0x5"],
         &["pipe", "a.txt", "--journal", "5", "--journal", "5"],
         &["pipe", "a.txt", "--port", "102"],
+        &["pipe", "a.txt", "--links", "16"],
+        &["Serve", "a"],
+        &["serve"],
+        &["serve", "a", "b"],
+        &["serve", "a", "--port", "0"],
+        &["serve", "a", "--port", "65536"],
+        &["serve", "a", "--port=-0"],
+        &["serve", "a", "--links", "0"],
+        &["serve", "a", "--links", "1025"],
+        &["serve", "a", "--links", "65537"],
+        &["serve", "a", "--journal", "0"],
+        &["serve", "a", "--journal", "262145"],
+        &["serve", "a", "--port", "102", "--port", "102"],
+        &["serve", "a", "--save"],
+        &["serve", "a", "--at", "127.0.0.1"],
     ];
     for words in lines {
         assert!(rt;
