@@ -1,93 +1,125 @@
 -- A link that is served alone over a fresh book.
-use Rattle.std.proofs.Common.{◌≡◌, ℕ, ◌+◌, Bool, true, false, List, [], ◌∷◌, ◌++◌, length, map, Option, Some, None, refl, ap, sym, ◌∙◌, subst, arith}
+use Rattle.std.proofs.Common.{◌≡◌, ◌⊎◌, inl, inr, ℕ, ◌+◌, Bool, true, false, List, [], ◌∷◌, ◌++◌, length, map, Option, Some, None, refl, ap, sym, ◌∙◌, subst, arith}
 use Rattle.std.specs.Prelude.{◌==◌, if◌then◌else◌}
+use Rattle.std.specs.List.{AllByRecursion}
 use Rattle.std.proofs.lemmas.Bool.Decides.{nat_tests}
 use Rattle.s7_outer.specs.Shown.{Shown}
 use Rattle.s7_area.specs.Memory.{Memory}
+use Rattle.s7_turn.specs.declared.view.Entry.{Entry as Call}
+use Rattle.s7_turn.specs.Histories.{replay}
 use Rattle.s7_plant.specs.declared.book.Book.{Book}
-use Rattle.s7_plant.specs.declared.journal.Entry.{Entry as JournalEntry}
-use Rattle.s7_plant.specs.declared.request.Request.{Request}
+use Rattle.s7_plant.specs.declared.request.Ask.{Ask}
 use Rattle.s7_plant.specs.Answers.{after}
-use Rattle.s7_plant.specs.Journals.{replay_entries}
+use Rattle.s7_plant.specs.Journals.{after_call, replay_entries}
+use Rattle.s7_plant.specs.State.{State, state_of, begins_with}
+use Rattle.s7_session.specs.declared.book_doer.BookDoer.{BookDoer}
 use Rattle.s7_session.specs.declared.outcome.Outcome.{Outcome}
-use Rattle.s7_session.specs.Answers.{AllAt, last_number}
-use Rattle.s7_session.specs.Books.{own_from, own, AreOf, GoesOnBy}
-use Rattle.s7_session.specs.Entry.{Entry, asked}
+use Rattle.s7_session.specs.Books.{History, history_of, own_from, own, AreOf, GoesOnBy}
+use Rattle.s7_session.specs.Entry.{Entry, answered}
+use Rattle.s7_session.specs.Legal.{IsLegalFor, IsLegalBook, IsServedBy}
 use Rattle.s7_session.specs.LinkRun.{IsLinkRun}
-use Rattle.s7server.specs.Link.{IsServedLink, last_of, served_told}
+use Rattle.s7_session.specs.Telegrams.{verdicts_of, MemoryIsLast, AllAt, last_number}
+use Rattle.s7_session.proofs.BookLemmas.{replay-calls}
+use Rattle.s7_session.proofs.DoerLemmas.{full_end, full_stays}
+use Rattle.s7_session.proofs.PastLemmas.{memory_is_last}
+use Rattle.s7_serve.specs.Served.{IsServedLink, ServedTold, served_told}
+use Rattle.s7server.specs.Hosts.{first_of}
 
 is_same : (a b : ℕ) → a ≡ b → (a == b) ≡ true
 is_same a b e = grind (arith, nat_tests)
 
--- ---- a journal whose entries are all of one link
+-- ---- a history whose calls are all of one link
 
 length_with : (b : Bool) (x : Entry) (rest : List Entry) (n : ℕ) → b ≡ true → length rest ≡ n → length (if b then x ∷ rest else rest) ≡ 1 + n
 length_with true x rest n is e = omega (arith, e)
 length_with false x rest n is e = cc
 
-pub own-length : (number : ℕ) (m : Memory) (link : ℕ) (es : List JournalEntry) → AreOf link es → length (own_from number m link es) ≡ length es
-own-length number m link [] all = refl
-own-length number m link (e ∷ es) all =
-    length_with (e.link == link) _ _ (length es) (is_same e.link link all.0) (own-length (number + 1) (after m e.request) link es all.1)
+pub own-length : (number : ℕ) (s : State) (link : ℕ) (history : History) → AreOf link history → length (own_from number s link history) ≡ length history
+own-length number s link [] all = refl
+own-length number s link (call ∷ history) all =
+    length_with (call.caller == link) _ _ (length history) (is_same call.caller link all.0) (own-length (number + 1) (after s call.request) link history all.1)
     ∙ omega arith
 
-last_with : (b : Bool) (before : Option ℕ) (x : Entry) (rest : List Entry) → b ≡ true → last_number before (if b then x ∷ rest else rest) ≡ last_number (Some x.number) rest
-last_with true before x rest is = refl
-last_with false before x rest is = cc
+only_served : (link count : ℕ) (history : History) → AreOf link history → AllByRecursion (λ (call : Call Ask). IsServedBy ((link, count) ∷ []) call.caller) history
+only_served link count [] all = tt
+only_served link count (call ∷ history) all = (inl all.0, only_served link count history all.1)
 
--- the number of the last of entries that are numbered from here
-abbrev last_from : Option ℕ → ℕ → List JournalEntry → Option ℕ
-last_from before number [] = before
-last_from before number (e ∷ es) = Some (number + length es)
+-- ---- what a doer of a book is known by
 
-one_on : (number : ℕ) (es : List JournalEntry) → last_from (Some number) (number + 1) es ≡ Some (number + length es)
-one_on number [] = ap Some (omega arith)
-one_on number (e ∷ es) = ap Some (omega arith)
+abbrev pub stands : BookDoer → List Entry → Type 0
+stands d entries = entries ≡ own (state_of d.book.now.opening) d.link (history_of d.book.now)
 
-own-last_from : (before : Option ℕ) (number : ℕ) (m : Memory) (link : ℕ) (es : List JournalEntry) → AreOf link es → last_number before (own_from number m link es) ≡ last_from before number es
-own-last_from before number m link [] all = refl
-own-last_from before number m link (e ∷ es) all =
-    last_with (e.link == link) before _ _ (is_same e.link link all.0)
-    ∙ own-last_from (Some number) (number + 1) (after m e.request) link es all.1
-    ∙ one_on number es
+abbrev pub is_full : BookDoer → Ask → Type 0
+is_full d ask = length (history_of d.book.now) ≡ d.book.now.journal.limit
 
-last_is : (es : List JournalEntry) → last_from None 0 es ≡ last_of es
-last_is [] = refl
-last_is (e ∷ es) = ap Some (omega arith)
-
-pub own-last : (m : Memory) (link : ℕ) (es : List JournalEntry) → AreOf link es → last_number None (own m link es) ≡ last_of es
-own-last m link es all = own-last_from None 0 m link es all ∙ last_is es
+abbrev pub lacks : BookDoer → Ask → Type 0
+lacks d ask = ⊥
 
 -- ---- the run of a link, by the book that it leaves
 
-pub served_link : (link other : ℕ) (old new : Book) (pipe line : Shown) (f : Request → Type 0) (o : Outcome) (accepted : ℕ) (last : Option ℕ) (uniform : Type 0)
-    → IsLinkRun uniform pipe line (λ es. es ≡ own old.opening.areas link old.journal.entries) (λ es. es ≡ own new.opening.areas other new.journal.entries)
-    f (λ r. length new.journal.entries ≡ new.journal.limit) o accepted last
-    → uniform → old.journal.entries ≡ [] → other ≡ link → GoesOnBy link old new
-    → IsServedLink old.opening.areas old.journal.limit pipe (served_told link line o accepted last) new
-served_link link other old new pipe line f o accepted last uniform run u none same goes =
-    let m = old.opening.areas in
-    let es = new.journal.entries in
-    let all : AreOf link es = subst (AreOf link) (sym (goes.journal ∙ ap (λ xs. xs ++ goes.entries) none)) goes.own in
-    let mine : run.entries ≡ own m link es =
-    run.doer [] (ap (own m link) (sym none)) ∙ ap (λ p. own p.areas other es) goes.opening ∙ ap (λ n. own m n es) same in
+all_of_link : (link : ℕ) (old new : Book) → GoesOnBy link old new → history_of old ≡ [] → AreOf link (history_of new)
+all_of_link link old new goes none = subst (AreOf link) (sym (goes.history ∙ ap (λ h. h ++ goes.calls) none)) goes.own
+
+pub served_link : (opening : Memory) (pipe line : Shown) (d d' : BookDoer) (o : Outcome) (accepted : ℕ) (last : Option ℕ)
+    → IsLinkRun stands is_full lacks (first_of opening) pipe d line d' o accepted last
+    → history_of d.book.now ≡ [] → state_of d.book.now.opening ≡ begins_with opening → d'.link ≡ d.link → GoesOnBy d.link d.book.now d'.book.now
+    → IsServedLink (begins_with opening) d.book.now.journal.limit (first_of opening) (history_of d'.book.now) pipe (served_told d.link line o accepted last)
+served_link opening pipe line d d' o accepted last run none opens same goes =
+    let history = history_of d'.book.now in
+    let s = begins_with opening in
+    let opened : state_of d'.book.now.opening ≡ s = ap state_of goes.opening ∙ opens in
+    let mine : run.entries ≡ own s d.link history =
+    run.doer [] (sym (ap (own (state_of d.book.now.opening) d.link) none))
+    ∙ ap (λ t. own t d'.link history) opened ∙ ap (λ n. own s n history) same in
     record {
       taken = run.taken;
       written = run.written;
-      verdicts = run.verdicts;
+      mets = run.mets;
       took = run.took;
       wrote = run.wrote;
+      asked = run.asked;
       answers = run.owed;
-      legal = sym run.asked ∙ ap (map asked) mine;
-      only = all;
-      opened = ap (λ p. p.areas) goes.opening;
-      limited = goes.limit;
-      left = new.replayed ∙ ap (λ p. replay_entries p.areas es) goes.opening;
-      entries = run.count ∙ ap length mine ∙ own-length 0 m link es all;
-      last = run.last_is ∙ ap (last_number None) mine ∙ own-last m link es all;
-      full = λ h. (run.full h).1 ∙ goes.limit;
-      full_stays = run.full_stays u;
+      legal = record {
+        calls = ap (map answered) (sym mine) ∙ run.entered;
+        full = λ any. (full_end is_full lacks d d' run.mets run.trail any).1 ∙ goes.limit;
+        full_stays = full_stays is_full lacks d d' run.mets (λ e a b h. h) run.trail;
+        memory = subst (λ ms. MemoryIsLast (verdicts_of ms)) run.asked (memory_is_last (first_of opening) run.taken (verdicts_of run.mets));
+        moments = subst (AllAt pipe.moment) mine run.moments;
+        count = run.count ∙ ap length mine;
+        last = run.last_is ∙ ap (last_number None) mine;
+      };
       clock = run.clock;
-      moments = subst (AllAt pipe.moment) mine run.moments;
+      unasked = run.unasked;
       end = run.end;
     }
+
+-- the book that it leaves
+served_book : (opening : Memory) (d d' : BookDoer) (accepted : ℕ) → history_of d.book.now ≡ [] → state_of d.book.now.opening ≡ begins_with opening
+    → d'.link ≡ d.link → GoesOnBy d.link d.book.now d'.book.now → accepted ≡ length (own (begins_with opening) d.link (history_of d'.book.now))
+    → IsLegalBook (begins_with opening) d.book.now.journal.limit ((d.link, accepted) ∷ []) d'.book.now
+served_book opening d d' accepted none opens same goes counted =
+    let new = d'.book.now in
+    let all = all_of_link d.link d.book.now new goes none in
+    let opened : state_of new.opening ≡ begins_with opening = ap state_of goes.opening ∙ opens in
+    record {
+      opened = opened;
+      limited = goes.limit;
+      only = only_served d.link accepted (history_of new) all;
+      different = (λ h. h, tt);
+      sum = omega (arith, counted, own-length 0 (begins_with opening) d.link (history_of new) all);
+      left = new.replayed
+          ∙ (sym (replay-calls (state_of new.opening) new.journal.entries) ∙ ap (λ t. replay after_call t (history_of new)) opened);
+    }
+
+-- both of them
+pub record IsServedAlone (opening : Memory) (limit : ℕ) (pipe : Shown) (served : ServedTold) (book : Book) : Type 0 where
+  pub link : IsServedLink (begins_with opening) limit (first_of opening) (history_of book) pipe served
+  pub legal_book : IsLegalBook (begins_with opening) limit ((served.link, served.entries) ∷ []) book
+
+pub served_alone : (opening : Memory) (pipe line : Shown) (d d' : BookDoer) (o : Outcome) (accepted : ℕ) (last : Option ℕ)
+    → IsLinkRun stands is_full lacks (first_of opening) pipe d line d' o accepted last
+    → history_of d.book.now ≡ [] → state_of d.book.now.opening ≡ begins_with opening → d'.link ≡ d.link → GoesOnBy d.link d.book.now d'.book.now
+    → IsServedAlone opening d.book.now.journal.limit pipe (served_told d.link line o accepted last) d'.book.now
+served_alone opening pipe line d d' o accepted last run none opens same goes =
+    let served = served_link opening pipe line d d' o accepted last run none opens same goes in
+    record { link = served; legal_book = served_book opening d d' accepted none opens same goes served.legal.count }

@@ -1,5 +1,7 @@
+pub mod Asked
 pub mod End
-pub mod Link
+pub mod Hosts
+pub mod LentDoor
 pub mod Report
 pub mod Saving
 pub mod Statuses

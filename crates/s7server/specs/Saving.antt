@@ -1,7 +1,7 @@
 -- What becomes of the files.
 use Rattle.std.specs.Prelude.{◌≡◌, ℕ, List, Option, Some, None, IsTrue}
 use Rattle.s7_outer.specs.FilesShown.{FilesShown}
-use Rattle.s7_outer.specs.Files.{KeepsOtherPaths}
+use Rattle.s7_outer.specs.Files.{KeepsOtherPaths, NonePathFell}
 use Rattle.s7_area.specs.Memory.{Memory}
 use Rattle.s7_script.specs.Spelling.{spelling}
 
@@ -9,6 +9,11 @@ use Rattle.s7_script.specs.Spelling.{spelling}
 abbrev pub KeepsBut : Option (List ℕ) → FilesShown → FilesShown → Type 0
 KeepsBut None old new = (new.held ≡ old.held) × (new.tells ≡ old.tells)
 KeepsBut (Some path) old new = KeepsOtherPaths path old.held new.held × (new.tells ≡ old.tells)
+
+-- NO PATH BUT THIS ONE CHANGES, and no count of a path falls
+pub record ChangesOnly (path : Option (List ℕ)) (old new : FilesShown) : Type 0 where
+  pub kept : KeepsBut path old new
+  pub counts : NonePathFell old.faults new.faults
 
 -- the area file of these areas lies under the path
 abbrev pub HoldsAreas : Option (List ℕ) → FilesShown → FilesShown → Memory → Type 0

@@ -1,5 +1,7 @@
 -- The exit statuses of the program.
 use Rattle.std.specs.Prelude.{ℕ}
+use Rattle.s7server.specs.declared.run.Ended.{Ended}
+use Rattle.s7server.specs.declared.run.Ended.TheVariants as ended
 
 -- all went well
 abbrev pub done : ℕ
@@ -28,3 +30,12 @@ output = 5
 -- memory was wanting
 abbrev pub memory : ℕ
 memory = 9
+
+-- the status for how it ended
+abbrev pub status_of : Ended → ℕ
+status_of ended.Done = done
+status_of ended.Areas = areas
+status_of ended.File = file
+status_of ended.Door = door
+status_of ended.Output = output
+status_of ended.Memory = memory

@@ -1,13 +1,20 @@
-//! Serves areas on standard input and output, as a controller would.
+//! Serves areas as a controller would, on standard input and output or over TCP.
 #![tactic(auto)]
 
+mod asked;
+mod closing;
+mod lent_door;
+mod opening;
+mod output;
+mod pipe;
 mod report;
 mod run;
+mod serve;
 mod server;
 #[cfg(test)]
 mod tests;
 
-use s7_outer::{Out, RealLink, StdFiles, StdOut};
+use s7_outer::{OpenGate, Out, RealLink, StdFiles, StdOut, TcpDoor};
 use server::{MEMORY, server_main};
 use std::alloc::{AllocError, Global};
 use std::process::ExitCode;
@@ -17,7 +24,13 @@ fn main(rt: HostRuntime) -> io::Result<ExitCode> {
     let alloc = rt.alloc();
     let streams: Result<_, _> = rt.clone();
     let files: Result<_, _> = rt.clone();
-    let (Ok(owned), Ok(streams), Ok(files)) = (own_words(&rt, alloc), streams, files) else {
+    let door: Result<_, _> = rt.clone();
+    let (Ok(owned), Ok(streams), Ok(files), Ok(door)) = (
+        own_words(&rt, alloc),
+        streams,
+        files,
+        door,
+    ) else {
         return Ok(no_memory(&mut StdOut::new(rt.stderr())));
     };
     let Ok(words) = lent_words(alloc, owned.as_slice()) else {
@@ -28,6 +41,7 @@ fn main(rt: HostRuntime) -> io::Result<ExitCode> {
         return Ok(no_memory(&mut StdOut::new(rt.stderr())));
     };
     let mut files = StdFiles::new(files);
+    let mut door = TcpDoor::new(door);
     let status = if words.first() == Some(&"pipe") {
         server_main(
             &rt,
@@ -35,6 +49,8 @@ fn main(rt: HostRuntime) -> io::Result<ExitCode> {
             words,
             &mut files,
             pipe,
+            &mut door,
+            &OpenGate,
             &mut StdOut::new(rt.stderr()),
         )
         .status
@@ -45,6 +61,8 @@ fn main(rt: HostRuntime) -> io::Result<ExitCode> {
             words,
             &mut files,
             pipe,
+            &mut door,
+            &OpenGate,
             &mut StdOut::new(rt.stdout()),
         )
         .status

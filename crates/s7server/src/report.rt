@@ -1,35 +1,59 @@
 // What is printed.
-ghost use Rattle.std.specs.Prelude.{◌≡◌, [], Some, IfOk, string_bytes};
-ghost use Rattle.s7server.specs.Report.{outcome_text, line_of, report_of, refusal_line, file_line};
+ghost use Rattle.std.specs.Prelude.{◌≡◌, ◌++◌, Some, IfOk, OnOk, string_bytes};
+ghost use Rattle.std.specs.List.{flat_map};
+ghost use Rattle.s7_serve.specs.Served.{told_of};
+ghost use Rattle.s7server.specs.Report.{outcome_text, line_with, line_of, journal_line, report_text};
+ghost use Rattle.s7server.specs.Report.{refusal_line, file_line};
+ghost use Rattle.s7server.specs.Told.{all_told, run_told};
 
+use crate::run::Run;
+use s7_outer::Link;
 use s7_script::LoadFault;
+use s7_serve::Served;
 use s7_session::Outcome;
 use std::alloc::{AllocError, Global};
 
-/// The report of one served link and a journal of so many entries.
-pub fn report(
-    alloc: Global,
-    link: u32,
-    outcome: Outcome,
-    entries: u64,
-    journal: u64,
-) -> Result<String, AllocError>
-    ensures { IfOk result (λ text. string_bytes text ≡ line_of link (outcome_text outcome) entries (report_of [] journal)) }
+/// The report of a run: a line for each link that was served, one for the journal, and one more where
+/// the door failed.
+pub fn report<L: Link + Drop>(alloc: Global, run: &Run<L>) -> Result<Vec<u8>, AllocError>
+    ensures { IfOk result (λ text. text.items ≡ report_text (run_told L.shows run.now)) }
 {
-    let text = outcome_text(alloc, outcome)?;
-    lines(alloc, link, text.as_str(), entries, journal)
+    let mut text = Vec::new(alloc);
+    add_links(alloc, &mut text, run.links.as_slice())?;
+    let journal = journal_line(alloc, run.book.journal.len())?;
+    text.extend_from_slice(journal.as_bytes())?;
+    if run.door_failed {
+        text.extend_from_slice(b"door\n")?;
+    }
+    Ok(text)
 }
 
-fn lines(
+// Adds a line for each link.
+fn add_links<L: Link + Drop>(
     alloc: Global,
-    link: u32,
-    text: &str,
-    entries: u64,
-    journal: u64,
-) -> Result<String, AllocError>
-    ensures { IfOk result (λ report. string_bytes report ≡ line_of link text.now entries (report_of [] journal)) }
+    text: &mut Vec<u8>,
+    links: &[Served<L>],
+) -> Result<(), AllocError>
+    ensures { OnOk result (text.new.items ≡ text.old.items ++ flat_map line_of (all_told L.shows links.now)) }
 {
-    format!(in alloc; "link {link} {text} entries {entries}\njournal {journal}\n")
+    for served in links {
+        let line = link_line(alloc, served)?;
+        text.extend_from_slice(line.as_bytes())?;
+    }
+    Ok(())
+}
+
+fn link_line<L: Link + Drop>(alloc: Global, served: &Served<L>) -> Result<String, AllocError>
+    ensures { IfOk result (λ line. string_bytes line ≡ line_of (told_of L.shows served.now)) }
+{
+    let outcome = outcome_text(alloc, served.outcome)?;
+    line_with(alloc, served.link, outcome.as_str(), served.entries)
+}
+
+fn line_with(alloc: Global, link: u32, outcome: &str, entries: u64) -> Result<String, AllocError>
+    ensures { IfOk result (λ line. string_bytes line ≡ line_with link outcome.now entries) }
+{
+    format!(in alloc; "link {link} {outcome} entries {entries}\n")
 }
 
 fn outcome_text(alloc: Global, outcome: Outcome) -> Result<String, AllocError>
@@ -50,6 +74,12 @@ fn outcome_text(alloc: Global, outcome: Outcome) -> Result<String, AllocError>
         Outcome::Spent => String::from_str(alloc, "spent"),
         Outcome::Memory => String::from_str(alloc, "memory"),
     }
+}
+
+fn journal_line(alloc: Global, entries: u64) -> Result<String, AllocError>
+    ensures { IfOk result (λ line. string_bytes line ≡ journal_line entries) }
+{
+    format!(in alloc; "journal {entries}\n")
 }
 
 /// The line for areas whose line of this number is faulty.

@@ -1,18 +1,7 @@
 // What is left in the end.
 use s7_outer::Link;
 use s7_plant::Book;
-use s7_session::Outcome;
-
-/// A link that was served: its number, the link as it was left, how it ended, how many telegrams were
-/// entered, and the number of the newest entry.
-#[derive(Drop)]
-pub struct Served<L: Link + Drop> {
-    pub link: u32,
-    pub line: L,
-    pub outcome: Outcome,
-    pub entries: u64,
-    pub last: Option<u64>,
-}
+use s7_serve::Served;
 
 /// What serving leaves: the book, the links that were served, by rising number, and whether the door
 /// failed after a first link.
@@ -23,7 +12,33 @@ pub struct Run<L: Link + Drop> {
     pub door_failed: bool,
 }
 
-/// What is left in the end: the status, and the run or else the link that wasn't served.
+/// How a command ended.
+#[derive(Clone, Copy, Debug, PartialEq, Eq)]
+pub(crate) enum Ended {
+    /// The report was printed.
+    Done,
+    /// The areas can't be read.
+    Areas,
+    /// A file failed.
+    File,
+    /// The door failed before a link came.
+    Door,
+    /// The output failed at the report.
+    Output,
+    /// Memory was wanting.
+    Memory,
+}
+
+/// What a command leaves: how it ended, and the run or else the link that wasn't served.
+#[derive(Drop)]
+pub(crate) struct CommandEnd<L: Link + Drop> {
+    pub ended: Ended,
+    pub run: Option<Run<L>>,
+    pub pipe: Option<L>,
+}
+
+/// What is left in the end: the status, the run where there is one, and the link on standard input and
+/// output where it wasn't served.
 #[derive(Drop)]
 pub struct ServerEnd<L: Link + Drop> {
     pub status: u8,

@@ -1,30 +1,26 @@
-// The whole of what the program does, over files, a link and an output that are handed in.
-ghost use Rattle.std.specs.Prelude.{◌≡◌, ◌≢◌, ◌≤◌, [], ◌∷◌, ◌⊎◌, length, map, option_map, OnOk, IsErrOf, IsTrue, IsSome, IsNone, IsSomeAnd, IfSome, Some, None, true, is_none, is_some, if◌then◌else◌};
+// The whole of what the program does, over files, links and an output that are handed in.
+ghost use Rattle.std.specs.Prelude.{◌≡◌, ◌≢◌, ◌⊎◌, IfSome, IsSome, IsNone, Some, None, is_some, if◌then◌else◌};
 ghost use Rattle.s7_outer.specs.Count.{Rose};
-ghost use Rattle.s7_outer.specs.Files.{NonePathFell, KeepsOtherPaths};
-ghost use Rattle.s7_outer.specs.Out.{AppendsPrefix};
-ghost use Rattle.std.specs.Io.KnownBytes.{append_known};
-ghost use Rattle.s7_script.specs.Spelling.{spelling};
-ghost use Rattle.s7_words.specs.Server.{server_words, pipe as piped};
-ghost use Rattle.s7server.specs.End.{Serves, Refuses, path_at};
+ghost use Rattle.s7_outer.specs.Files.{NonePathFell};
+ghost use Rattle.s7_words.specs.Shown.{HasRoom, server_told_of};
+ghost use Rattle.s7server.specs.Asked.{asked_by, asked_told, command_of};
+ghost use Rattle.s7server.specs.End.{DoorFails, FileFails, KeepsDoor, Refuses, Serves};
+ghost use Rattle.s7server.specs.End.{areas_path, handed_back, save_path};
+ghost use Rattle.s7server.specs.Report.{BreaksOff, Gains, Printed, memory_line, report_text, usage_line};
+ghost use Rattle.s7server.specs.Saving.{HoldsAreas, KeepsBut};
 ghost use Rattle.s7server.specs.Statuses as status;
-ghost use Rattle.s7server.specs.Saving.{KeepsBut, HoldsAreas};
-ghost use Rattle.s7_session.specs.LinkRun.{IsFresh};
-ghost use Rattle.s7_session.specs.Stands.{entry_count, newest};
-ghost use Rattle.s7server.specs.Link.{IsServed, IsServedLink, IsOneServed, piped_link, served_told};
-ghost use Rattle.s7server.specs.Told.{told_of, all_told};
-ghost use Rattle.s7server.specs.Report.{Prints, usage_line, refusal_line, file_line, memory_line, report_of};
+ghost use Rattle.s7server.specs.Told.{run_told};
 
-use crate::report::{areas_line, file_line, report};
-use crate::run::{Run, Served, ServerEnd};
-use s7_area::Areas;
-use s7_outer::{Clock, FileFault, Files, Link, Out};
-use s7_plant::Book;
-use s7_script::{LoadFault, load_areas, write_areas};
-use s7_session::{BookDoer, Outcome, Session};
+use crate::asked::Asked;
+use crate::output::print_line;
+use crate::pipe::run_pipe;
+use crate::run::{CommandEnd, Ended, ServerEnd};
+use crate::serve::run_serve;
+use s7_outer::{Clock, Door, Files, Gate, Link, Out};
 use s7_words::{ServerWords, read_server_words};
 use std::alloc::Global;
 use std::sync::Wait;
+use std::thread::Threads;
 use std::time;
 
 /// All went well.
@@ -39,74 +35,118 @@ pub const AREAS: u8 = 2;
 /// A file failed.
 pub const FILE: u8 = 3;
 
+/// The door failed before a link came.
+pub const DOOR: u8 = 4;
+
 /// The output failed.
 pub const OUTPUT: u8 = 5;
 
 /// Memory was wanting.
 pub const MEMORY: u8 = 9;
 
-/// The number of the one link that `pipe` serves.
-const LINK: u32 = 1;
-
-/// Reads the words, loads the areas that they name, serves the link over them with a journal of the
-/// room that the words say, saves the areas that are left where the words ask for it, and prints the
-/// report.
+/// Reads the words, loads the areas that they name, serves links over them with a journal of the room
+/// that the words say, saves the areas that are left where the words ask for it, and prints the report.
+/// `pipe` serves the one link, and `serve` those that come by the door while it hears the port that the
+/// words name, as many as they say at the most.
 ///
 /// The status is 1 where the words are no command; 2 where the areas can't be read: a faulty line,
 /// an inline word among these, or more than 67,108,864 octets; 3 where the area file failed, or the
-/// file to save to; 9 where memory was wanting outside the link's session, which may come in the
-/// place of 1, 2 and 3 too; 5 where the output failed at the report; and else 0. For 1, 2, 3 and 9
-/// one line is printed instead, and its failure changes nothing.
+/// file to save to; 4 where the door can't listen, or failed before a link came; 9 where memory was
+/// wanting outside the links' sessions, which may come in the place of 1, 2 and 3 too; 5 where the
+/// output failed at the report; and else 0. For 1, 2, 3, 4 and 9 one line is printed instead, and its
+/// failure changes nothing.
 ///
-/// A run is there where the link was served. It has the book, that one link, whose number is 1, and no
-/// door that failed. All room of the journal is taken before the link is read. Else the link comes
-/// back as it was, and no path changes. Where a run is there, no path changes but the one to save to.
-/// With status 0 or 5 the areas that are left lie there; with 3 or 9 it may hold anything.
-pub fn server_main<R: Wait + time::Clock, F: Files, L: Link + Clock + Drop, O: Out>(
+/// A run is there where links were served. It has the book, the links by rising number, from 1 on, and
+/// whether the door failed after a first link. All memory but that of the links' sessions is taken
+/// before a link is read or the door is asked. Where no run is there the link comes back as it was, no
+/// path changes, and the door has given no link; with a status other than 4 it is as it was. `serve`
+/// never touches the link, and `pipe` never the door. Where a run is there, no path changes but the one
+/// to save to. With status 0 or 5 the areas that are left lie there; with 3 or 9 it may hold anything.
+pub fn server_main<
+    R: Threads + Wait + time::Clock + Sync,
+    F: Files,
+    L: Link + Clock + Send + Drop,
+    D: Door<L>,
+    G: Gate + Sync,
+    O: Out,
+>(
     rt: &R,
     alloc: Global,
     words: &[&str],
     files: &mut F,
     pipe: L,
+    door: &mut D,
+    gate: &G,
     out: &mut O,
 ) -> ServerEnd<L>
     // The status.
-    ensures usage { result.status ≡ status.usage → (server_words (map (λ w. w.now) words.now)) ≡ None }
-    ensures usage_words { (server_words (map (λ w. w.now) words.now)) ≡ None → (result.status ≡ status.usage)
-        ⊎ (result.status ≡ status.memory) }
     ensures statuses { (result.status ≡ status.done) ⊎ (result.status ≡ status.usage) ⊎ (result.status ≡ status.areas)
-        ⊎ (result.status ≡ status.file) ⊎ (result.status ≡ status.output) ⊎ (result.status ≡ status.memory) }
-    ensures refused { result.status ≡ status.areas → Refuses (server_words (map (λ w. w.now) words.now)) (F.shows files.old) (Prints (O.shows out.old).text (O.shows out.new).text (O.shows out.old).faults (O.shows out.new).faults) }
-    ensures file_failed { result.status ≡ status.file → IsSomeAnd (path_at (is_some result.run) (server_words (map (λ w. w.now) words.now))) (λ path. Rose ((F.shows files.old).faults path) ((F.shows files.new).faults path) × Prints (O.shows out.old).text (O.shows out.new).text (O.shows out.old).faults (O.shows out.new).faults (file_line path)) }
+        ⊎ (result.status ≡ status.file) ⊎ (result.status ≡ status.door) ⊎ (result.status ≡ status.output)
+        ⊎ (result.status ≡ status.memory) }
+    ensures usage { result.status ≡ status.usage → command_of words.now ≡ None }
+    ensures usage_words { command_of words.now ≡ None
+        → (result.status ≡ status.usage) ⊎ (result.status ≡ status.memory) }
+    ensures refused { result.status ≡ status.areas
+        → Refuses (command_of words.now) (F.shows files.old) (Printed (O.shows out.old) (O.shows out.new)) }
+    ensures file_failed { result.status ≡ status.file
+        → FileFails (if is_some result.run then save_path (command_of words.now) else areas_path (command_of words.now))
+        (F.shows files.old) (F.shows files.new) (O.shows out.old) (O.shows out.new) }
+    ensures door_failed { result.status ≡ status.door → DoorFails (command_of words.now)
+        (D.shows door.old) (D.shows door.new) (O.shows out.old) (O.shows out.new) }
     ensures output_failed { result.status ≡ status.output → Rose (O.shows out.old).faults (O.shows out.new).faults }
 
-    // The link was served, over the areas that the words name, or is handed back as it was.
-    ensures served { IfSome result.run (λ run. Serves (server_words (map (λ w. w.now) words.now)) (F.shows files.old) (L.shows pipe) run.book (all_told L.shows run.links.items) run.door_failed) }
-    ensures unserved { result.pipe ≡ (if is_none result.run then Some pipe else None) }
+    // Links were served, over the areas that the words name, or the link is handed back as it was.
+    ensures served { IfSome result.run (λ run. Serves L.shows (command_of words.now) (F.shows files.old)
+        (L.shows pipe) (D.shows door.old) (D.shows door.new) (run_told L.shows run)) }
+    ensures unserved { result.pipe ≡ handed_back (command_of words.now) result.run pipe }
+    ensures door_kept { KeepsDoor (command_of words.now) (D.shows door.old) (D.shows door.new) }
+    ensures none_came { IsNone result.run → (D.shows door.new).coming ≡ (D.shows door.old).coming }
+    ensures untouched { IsNone result.run → result.status ≢ status.door → D.shows door.new ≡ D.shows door.old }
     ensures run { (result.status ≡ status.done) ⊎ (result.status ≡ status.output) → IsSome result.run }
-    ensures no_run { (result.status ≡ status.usage) ⊎ (result.status ≡ status.areas) → IsNone result.run }
+    ensures no_run { (result.status ≡ status.usage) ⊎ (result.status ≡ status.areas) ⊎ (result.status ≡ status.door)
+        → IsNone result.run }
 
     // What the files hold.
-    ensures saved { (result.status ≡ status.done) ⊎ (result.status ≡ status.output) → IfSome result.run (λ run. HoldsAreas (path_at true (server_words (map (λ w. w.now) words.now))) (F.shows files.old) (F.shows files.new) run.book.plant.areas) }
-    ensures paths { KeepsBut (if is_some result.run then path_at true (server_words (map (λ w. w.now) words.now)) else None) (F.shows files.old) (F.shows files.new) }
+    ensures saved { (result.status ≡ status.done) ⊎ (result.status ≡ status.output) → IfSome result.run (λ run.
+        HoldsAreas (save_path (command_of words.now)) (F.shows files.old) (F.shows files.new) run.book.plant.areas) }
+    ensures paths { KeepsBut (if is_some result.run then save_path (command_of words.now) else None)
+        (F.shows files.old) (F.shows files.new) }
     ensures file_faults { NonePathFell (F.shows files.old).faults (F.shows files.new).faults }
 
     // What was printed.
-    ensures done { result.status ≡ status.done → IfSome result.run (λ run. (O.shows out.new).text ≡ append_known (O.shows out.old).text (report_of (all_told L.shows run.links.items) (length run.book.journal.entries))) }
-    ensures broken_off { result.status ≡ status.output → IfSome result.run (λ run. AppendsPrefix (O.shows out.old).text (O.shows out.new).text (report_of (all_told L.shows run.links.items) (length run.book.journal.entries))) }
-    ensures usage_line { result.status ≡ status.usage → Prints (O.shows out.old).text (O.shows out.new).text (O.shows out.old).faults (O.shows out.new).faults usage_line }
-    ensures memory_line { result.status ≡ status.memory → Prints (O.shows out.old).text (O.shows out.new).text (O.shows out.old).faults (O.shows out.new).faults memory_line }
+    ensures done { result.status ≡ status.done → IfSome result.run (λ run.
+        Gains (O.shows out.old) (O.shows out.new) (report_text (run_told L.shows run))) }
+    ensures broken_off { result.status ≡ status.output → IfSome result.run (λ run.
+        BreaksOff (O.shows out.old) (O.shows out.new) (report_text (run_told L.shows run))) }
+    ensures usage_line { result.status ≡ status.usage → Printed (O.shows out.old) (O.shows out.new) usage_line }
+    ensures memory_line { result.status ≡ status.memory → Printed (O.shows out.old) (O.shows out.new) memory_line }
 {
     match read_server_words(alloc, words) {
-        Ok(
-            Some(
-                ServerWords::Pipe {
-                    areas,
-                    save,
-                    journal,
-                },
-            ),
-        ) => serve_named(rt, alloc, areas, save, journal, files, pipe, out),
+        Ok(Some(command)) => {
+            let asked = asked_of(command);
+            match command {
+                ServerWords::Pipe { .. } => {
+                    let CommandEnd { ended, run, pipe } = run_pipe(
+                        rt, alloc, asked, files, pipe, out,
+                    );
+                    ServerEnd {
+                        status: status_of(ended),
+                        run,
+                        pipe,
+                    }
+                }
+                ServerWords::Serve { port, links, .. } => {
+                    let (ended, run) = run_serve(
+                        rt, alloc, asked, port, links, files, door, gate, out,
+                    );
+                    ServerEnd {
+                        status: status_of(ended),
+                        run,
+                        pipe: Some(pipe),
+                    }
+                }
+            }
+        }
         Ok(None) => unserved(
             USAGE,
             b"usage: s7server pipe AREAS, s7server serve AREAS\n",
@@ -117,281 +157,55 @@ pub fn server_main<R: Wait + time::Clock, F: Files, L: Link + Clock + Drop, O: O
     }
 }
 
-// Serves the link over the areas that a word names.
-fn serve_named<R: Wait + time::Clock, F: Files, L: Link + Clock + Drop, O: Out>(
-    rt: &R,
-    alloc: Global,
-    areas: &str,
-    save: Option<&str>,
-    journal: u64,
-    files: &mut F,
-    pipe: L,
-    out: &mut O,
-) -> ServerEnd<L>
-    requires some { 1 ≤ journal }
-    requires few { journal ≤ 262144 }
-
-    // The status.
-    ensures statuses { (result.status ≡ status.done) ⊎ (result.status ≡ status.areas) ⊎ (result.status ≡ status.file)
-        ⊎ (result.status ≡ status.output) ⊎ (result.status ≡ status.memory) }
-    ensures refused { result.status ≡ status.areas → Refuses (Some (piped areas.now (option_map (λ s. s.now) save.entry) journal)) (F.shows files.old) (Prints (O.shows out.old).text (O.shows out.new).text (O.shows out.old).faults (O.shows out.new).faults) }
-    ensures file_failed { result.status ≡ status.file → IsSomeAnd (path_at (is_some result.run) (Some (piped areas.now (option_map (λ s. s.now) save.entry) journal))) (λ path. Rose ((F.shows files.old).faults path) ((F.shows files.new).faults path) × Prints (O.shows out.old).text (O.shows out.new).text (O.shows out.old).faults (O.shows out.new).faults (file_line path)) }
-    ensures output_failed { result.status ≡ status.output → Rose (O.shows out.old).faults (O.shows out.new).faults }
-
-    // The link was served, over the areas that the words name, or is handed back as it was.
-    ensures served { IfSome result.run (λ run. Serves (Some (piped areas.now (option_map (λ s. s.now) save.entry) journal)) (F.shows files.old) (L.shows pipe) run.book (all_told L.shows run.links.items) run.door_failed) }
-    ensures unserved { result.pipe ≡ (if is_none result.run then Some pipe else None) }
-    ensures run { (result.status ≡ status.done) ⊎ (result.status ≡ status.output) → IsSome result.run }
-    ensures no_run { result.status ≡ status.areas → IsNone result.run }
-
-    // What the files hold.
-    ensures saved { (result.status ≡ status.done) ⊎ (result.status ≡ status.output) → IfSome result.run (λ run. HoldsAreas (path_at true (Some (piped areas.now (option_map (λ s. s.now) save.entry) journal))) (F.shows files.old) (F.shows files.new) run.book.plant.areas) }
-    ensures paths { KeepsBut (if is_some result.run then path_at true (Some (piped areas.now (option_map (λ s. s.now) save.entry) journal)) else None) (F.shows files.old) (F.shows files.new) }
-    ensures file_faults { NonePathFell (F.shows files.old).faults (F.shows files.new).faults }
-
-    // What was printed.
-    ensures done { result.status ≡ status.done → IfSome result.run (λ run. (O.shows out.new).text ≡ append_known (O.shows out.old).text (report_of (all_told L.shows run.links.items) (length run.book.journal.entries))) }
-    ensures broken_off { result.status ≡ status.output → IfSome result.run (λ run. AppendsPrefix (O.shows out.old).text (O.shows out.new).text (report_of (all_told L.shows run.links.items) (length run.book.journal.entries))) }
-    ensures memory_line { result.status ≡ status.memory → Prints (O.shows out.old).text (O.shows out.new).text (O.shows out.old).faults (O.shows out.new).faults memory_line }
+// What a command asks to be served.
+fn asked_of<'a>(command: ServerWords<'a>) -> Asked<'a>
+    requires { HasRoom command }
+    ensures { asked_told result ≡ asked_by (server_told_of command.entry) }
 {
-    match load_areas(alloc, files, areas) {
-        Ok(opening) => serve_areas(rt, alloc, opening, save, journal, files, pipe, out),
-        Err(fault) => ServerEnd {
-            status: print_refusal(alloc, fault, areas, out),
-            run: None,
-            pipe: Some(pipe),
+    match command {
+        ServerWords::Pipe {
+            areas,
+            save,
+            journal,
+        }
+        | ServerWords::Serve {
+            areas,
+            save,
+            journal,
+            ..
+        } => Asked {
+            areas,
+            save,
+            journal,
         },
     }
 }
 
-// Prints why the areas weren't loaded, and says the status.
-fn print_refusal<O: Out>(alloc: Global, fault: LoadFault, path: &str, out: &mut O) -> u8
-    ensures statuses { (result ≡ status.areas) ⊎ (result ≡ status.file) ⊎ (result ≡ status.memory) }
-    ensures areas { result ≡ status.areas → IsSomeAnd (refusal_line fault) (Prints (O.shows out.old).text (O.shows out.new).text (O.shows out.old).faults (O.shows out.new).faults) }
-    ensures file { result ≡ status.file → fault ≡ LoadFault.Failed }
-    ensures file_line { result ≡ status.file → Prints (O.shows out.old).text (O.shows out.new).text (O.shows out.old).faults (O.shows out.new).faults (file_line path.now) }
-    ensures memory_line { result ≡ status.memory → Prints (O.shows out.old).text (O.shows out.new).text (O.shows out.old).faults (O.shows out.new).faults memory_line }
+fn status_of(ended: Ended) -> u8
+    ensures { result ≡ status.status_of ended }
 {
-    match fault {
-        LoadFault::Failed => print_failed(alloc, path, out),
-        LoadFault::TooLong => print_status(AREAS, b"areas too long\n", out),
-        LoadFault::Line(number) => match areas_line(alloc, number) {
-            Ok(text) => print_status(AREAS, text.as_bytes(), out),
-            Err(_) => print_status(MEMORY, b"memory\n", out),
-        },
-        LoadFault::Memory => print_status(MEMORY, b"memory\n", out),
+    match ended {
+        Ended::Done => DONE,
+        Ended::Areas => AREAS,
+        Ended::File => FILE,
+        Ended::Door => DOOR,
+        Ended::Output => OUTPUT,
+        Ended::Memory => MEMORY,
     }
 }
 
-// Prints that a file failed, and says the status.
-fn print_failed<O: Out>(alloc: Global, path: &str, out: &mut O) -> u8
-    ensures statuses { (result ≡ status.file) ⊎ (result ≡ status.memory) }
-    ensures file_line { result ≡ status.file → Prints (O.shows out.old).text (O.shows out.new).text (O.shows out.old).faults (O.shows out.new).faults (file_line path.now) }
-    ensures memory_line { result ≡ status.memory → Prints (O.shows out.old).text (O.shows out.new).text (O.shows out.old).faults (O.shows out.new).faults memory_line }
-{
-    match file_line(alloc, path) {
-        Ok(text) => print_status(FILE, text.as_bytes(), out),
-        Err(_) => print_status(MEMORY, b"memory\n", out),
-    }
-}
-
-// Prints a line for a status.
-fn print_status<O: Out>(status: u8, line: &[u8], out: &mut O) -> u8
-    ensures status { result ≡ status }
-    ensures line { Prints (O.shows out.old).text (O.shows out.new).text (O.shows out.old).faults (O.shows out.new).faults line.now }
-{
-    print_line(line, out);
-    status
-}
-
-// Serves the link over areas, saves those that are left, and prints the report.
-fn serve_areas<R: Wait + time::Clock, F: Files, L: Link + Clock + Drop, O: Out>(
-    rt: &R,
-    alloc: Global,
-    opening: Areas,
-    save: Option<&str>,
-    journal: u64,
-    files: &mut F,
-    pipe: L,
-    out: &mut O,
-) -> ServerEnd<L>
-    requires some { 1 ≤ journal }
-    requires few { journal ≤ 262144 }
-    ensures statuses { (result.status ≡ status.done) ⊎ (result.status ≡ status.file) ⊎ (result.status ≡ status.output)
-        ⊎ (result.status ≡ status.memory) }
-    ensures run { (result.status ≢ status.memory) → IsSome result.run }
-    ensures served { IfSome result.run (λ run. IsOneServed opening journal (L.shows pipe) run.book (all_told L.shows run.links.items) run.door_failed) }
-    ensures unserved { result.pipe ≡ (if is_none result.run then Some pipe else None) }
-    ensures file_failed { result.status ≡ status.file → IsSomeAnd (option_map (λ s. s.now) save.entry) (λ path. Rose ((F.shows files.old).faults path) ((F.shows files.new).faults path) × Prints (O.shows out.old).text (O.shows out.new).text (O.shows out.old).faults (O.shows out.new).faults (file_line path)) }
-    ensures output_failed { result.status ≡ status.output → Rose (O.shows out.old).faults (O.shows out.new).faults }
-    ensures saved { (result.status ≡ status.done) ⊎ (result.status ≡ status.output) → IfSome result.run (λ run. HoldsAreas (option_map (λ s. s.now) save.entry) (F.shows files.old) (F.shows files.new) run.book.plant.areas) }
-    ensures paths { KeepsBut (if is_some result.run then option_map (λ s. s.now) save.entry else None) (F.shows files.old) (F.shows files.new) }
-    ensures file_faults { NonePathFell (F.shows files.old).faults (F.shows files.new).faults }
-    ensures done { result.status ≡ status.done → IfSome result.run (λ run. (O.shows out.new).text ≡ append_known (O.shows out.old).text (report_of (all_told L.shows run.links.items) (length run.book.journal.entries))) }
-    ensures broken_off { result.status ≡ status.output → IfSome result.run (λ run. AppendsPrefix (O.shows out.old).text (O.shows out.new).text (report_of (all_told L.shows run.links.items) (length run.book.journal.entries))) }
-    ensures memory_line { result.status ≡ status.memory → Prints (O.shows out.old).text (O.shows out.new).text (O.shows out.old).faults (O.shows out.new).faults memory_line }
-{
-    let Ok(mut book) = Book::new(alloc, opening, journal) else {
-        return unserved(MEMORY, b"memory\n", pipe, out);
-    };
-    let Ok(mut links) = Vec::with_capacity(alloc, 1) else {
-        return unserved(MEMORY, b"memory\n", pipe, out);
-    };
-    let served = serve_link(rt, alloc, pipe, &mut book);
-    let status = close(alloc, &book, save, &served, files, out);
-    links.push_reserved(served);
-    ServerEnd {
-        status,
-        run: Some(Run {
-            book,
-            links,
-            door_failed: false,
-        }),
-        pipe: None,
-    }
-}
-
-// Saves the areas where that is asked for, prints the report, and says how that went.
-fn close<F: Files, L: Link + Drop, O: Out>(
-    alloc: Global,
-    book: &Book,
-    save: Option<&str>,
-    served: &Served<L>,
-    files: &mut F,
-    out: &mut O,
-) -> u8
-    ensures statuses { (result ≡ status.done) ⊎ (result ≡ status.file) ⊎ (result ≡ status.output)
-        ⊎ (result ≡ status.memory) }
-    ensures file_failed { result ≡ status.file → IsSomeAnd (option_map (λ s. s.now) save.entry) (λ path. Rose ((F.shows files.old).faults path) ((F.shows files.new).faults path) × Prints (O.shows out.old).text (O.shows out.new).text (O.shows out.old).faults (O.shows out.new).faults (file_line path)) }
-    ensures output_failed { result ≡ status.output → Rose (O.shows out.old).faults (O.shows out.new).faults }
-    ensures saved { (result ≡ status.done) ⊎ (result ≡ status.output) → HoldsAreas (option_map (λ s. s.now) save.entry) (F.shows files.old) (F.shows files.new) book.now.plant.areas }
-    ensures paths { KeepsBut (option_map (λ s. s.now) save.entry) (F.shows files.old) (F.shows files.new) }
-    ensures file_faults { NonePathFell (F.shows files.old).faults (F.shows files.new).faults }
-    ensures done { result ≡ status.done → (O.shows out.new).text ≡ append_known (O.shows out.old).text (report_of (told_of L.shows served.now ∷ []) (length book.now.journal.entries)) }
-    ensures broken_off { result ≡ status.output → AppendsPrefix (O.shows out.old).text (O.shows out.new).text (report_of (told_of L.shows served.now ∷ []) (length book.now.journal.entries)) }
-    ensures memory_line { result ≡ status.memory → Prints (O.shows out.old).text (O.shows out.new).text (O.shows out.old).faults (O.shows out.new).faults memory_line }
-{
-    let Some(path) = save else {
-        return print_report(alloc, served, book.journal.len(), out);
-    };
-    match save_areas(alloc, &book.plant.areas, path, files) {
-        Ok(()) => print_report(alloc, served, book.journal.len(), out),
-        Err(FileFault::Failed) => print_failed(alloc, path, out),
-        Err(_) => print_status(MEMORY, b"memory\n", out),
-    }
-}
-
-// Writes the area file of areas.
-fn save_areas<F: Files>(
-    alloc: Global,
-    areas: &Areas,
-    path: &str,
-    files: &mut F,
-) -> Result<(), FileFault>
-    ensures saved { OnOk result (IsTrue (F.shows files.old).tells → (F.shows files.new).held path.now ≡ Some (spelling areas.now)) }
-    ensures failed { IsErrOf result FileFault.Failed → Rose ((F.shows files.old).faults path.now) ((F.shows files.new).faults path.now) }
-    ensures paths { KeepsBut (Some path.now) (F.shows files.old) (F.shows files.new) }
-    ensures faults { NonePathFell (F.shows files.old).faults (F.shows files.new).faults }
-{
-    let Ok(text) = write_areas(alloc, areas) else {
-        return Err(FileFault::Memory);
-    };
-    files.write(alloc, path, text.as_slice())
-}
-
-// Serves a link over a fresh book.
-fn serve_link<R: Wait + time::Clock, L: Link + Clock + Drop>(
-    rt: &R,
-    alloc: Global,
-    pipe: L,
-    book: &mut Book,
-) -> Served<L>
-    requires empty { book.old.journal.entries ≡ [] }
-    requires plant { book.old.plant.areas ≡ book.old.opening.areas }
-    ensures number { result.link ≡ piped_link }
-    ensures served { IsServed book.old.opening.areas book.old.journal.limit (L.shows pipe) (told_of L.shows result) book.new }
-{
-    let mut line = pipe;
-    let Ok(mut session) = Session::new(alloc, LINK) else {
-        return Served {
-            link: LINK,
-            line,
-            outcome: Outcome::Memory,
-            entries: 0,
-            last: None,
-        };
-    };
-    let outcome = serve_book(rt, alloc, &mut session, &mut line, book);
-    Served {
-        link: LINK,
-        line,
-        outcome,
-        entries: session.entries(),
-        last: session.last(),
-    }
-}
-
-// Serves a link over a fresh book by a fresh session.
-fn serve_book<R: Wait + time::Clock, L: Link + Clock>(
-    rt: &R,
-    alloc: Global,
-    session: &mut Session,
-    line: &mut L,
-    book: &mut Book,
-) -> Outcome
-    requires fresh { IsFresh session.old }
-    requires empty { book.old.journal.entries ≡ [] }
-    ensures { IsServedLink book.old.opening.areas book.old.journal.limit (L.shows line.old)
-        (served_told piped_link (L.shows line.new) result (entry_count session.new) (newest session.new)) book.new }
-{
-    let mut doer = BookDoer { book, link: LINK };
-    session.serve(rt, alloc, line, &mut doer)
-}
-
-// The end where no link was served: one line is printed, and its failure changes nothing.
+// The end where the words name nothing to be served: one line is printed, and its failure changes
+// nothing.
 fn unserved<L: Link + Drop, O: Out>(status: u8, line: &[u8], pipe: L, out: &mut O) -> ServerEnd<L>
     ensures status { result.status ≡ status }
     ensures run { result.run ≡ None }
     ensures pipe { result.pipe ≡ Some pipe }
-    ensures line { Prints (O.shows out.old).text (O.shows out.new).text (O.shows out.old).faults (O.shows out.new).faults line.now }
+    ensures line { Printed (O.shows out.old) (O.shows out.new) line.now }
 {
     print_line(line, out);
     ServerEnd {
         status,
         run: None,
         pipe: Some(pipe),
-    }
-}
-
-// Prints a line, whose failure changes nothing.
-fn print_line<O: Out>(line: &[u8], out: &mut O)
-    ensures { Prints (O.shows out.old).text (O.shows out.new).text (O.shows out.old).faults (O.shows out.new).faults line.now }
-{
-    match out.put(line) {
-        Ok(()) => {}
-        Err(_) => {}
-    }
-}
-
-// Prints the report, and says how that went.
-fn print_report<L: Link + Drop, O: Out>(
-    alloc: Global,
-    served: &Served<L>,
-    journal: u64,
-    out: &mut O,
-) -> u8
-    ensures statuses { (result ≡ status.done) ⊎ (result ≡ status.output) ⊎ (result ≡ status.memory) }
-    ensures done { result ≡ status.done → (O.shows out.new).text ≡ append_known (O.shows out.old).text (report_of (told_of L.shows served.now ∷ []) journal) }
-    ensures broken_off { result ≡ status.output → AppendsPrefix (O.shows out.old).text (O.shows out.new).text (report_of (told_of L.shows served.now ∷ []) journal) }
-    ensures output_failed { result ≡ status.output → Rose (O.shows out.old).faults (O.shows out.new).faults }
-    ensures memory_line { result ≡ status.memory → Prints (O.shows out.old).text (O.shows out.new).text (O.shows out.old).faults (O.shows out.new).faults memory_line }
-{
-    let Ok(text) = report(alloc, served.link, served.outcome, served.entries, journal) else {
-        print_line(b"memory\n", out);
-        return MEMORY;
-    };
-    match out.put(text.as_bytes()) {
-        Ok(()) => DONE,
-        Err(_) => OUTPUT,
     }
 }

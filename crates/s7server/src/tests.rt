@@ -1,15 +1,21 @@
 ghost use Rattle.std.specs.Prelude.{◌<◌};
+ghost use Rattle.s7_outer.specs.TcpDoor.{tcp_door_of};
 
 use crate::run::ServerEnd;
 use crate::server::server_main;
 use s7_area::AreaKey;
 use s7_item::Item;
-use s7_outer::{FailingLink, Fate, MemoryFiles, MemoryLink, MemoryOut, Octets};
+use s7_outer::{
+    Arrival, Clock as LinkClock, Dial, Dialled, Door, DoorFailed, FailingLink, Fate, Gate, Got,
+    HoldGate, Link, MemoryDoor, MemoryFiles, MemoryLink, MemoryOut, Octets, OpenGate, RealLink,
+    Sent, TcpDial, TcpDoor,
+};
 use s7_plant::{Book, Entry, Request};
 use std::alloc::Global;
 use std::process::Abort;
 use std::sync::Wait;
 use std::test::Fail;
+use std::thread::Threads;
 use std::time::Clock;
 
 const BLOCK: &str = "DB1=11223344";
@@ -111,9 +117,22 @@ fn with_message(alloc: Global, text: &str, message: &str) -> Result<Vec<u8>, Fai
     Ok(all)
 }
 
+// Calls the server with a link, at a door without links and a gate that is open.
+fn call<R: Threads + Wait + Clock + Sync, L: Link + LinkClock + Send + Drop>(
+    rt: &R,
+    alloc: Global,
+    words: &[&str],
+    files: &mut MemoryFiles,
+    link: L,
+    out: &mut MemoryOut,
+) -> ServerEnd<L> {
+    let mut door = MemoryDoor::new(Vec::new(alloc), None);
+    server_main(rt, alloc, words, files, link, &mut door, &OpenGate, out)
+}
+
 // Serves a link over the data block of a word with this input, which moves so many octets a call,
 // compares what is written on it and printed, and gives the book.
-fn serves<R: Wait + Clock + Abort>(
+fn serves<R: Threads + Wait + Clock + Sync + Abort>(
     rt: &R,
     alloc: Global,
     word: &str,
@@ -126,7 +145,7 @@ fn serves<R: Wait + Clock + Abort>(
 {
     let link = MemoryLink::new(alloc, Octets::of_vec(input), most, ROOM, 0)?;
     let mut out = MemoryOut::new(alloc, ROOM)?;
-    let end = server_main(
+    let end = call(
         rt,
         alloc,
         &["pipe", word],
@@ -157,7 +176,7 @@ fn report(alloc: Global, outcome: &str, entries: &str) -> Result<String, Fail> {
 }
 
 // Serves a link for a line of input, octets written, outcome and entries.
-fn serves_line<R: Wait + Clock + Abort>(
+fn serves_line<R: Threads + Wait + Clock + Sync + Abort>(
     rt: &R,
     alloc: Global,
     word: &str,
@@ -183,7 +202,11 @@ fn serves_line<R: Wait + Clock + Abort>(
 }
 
 // Serves a link for a line of message, answer and entries.
-fn answers_line<R: Wait + Clock + Abort>(rt: &R, alloc: Global, line: &str) -> Result<(), Fail> {
+fn answers_line<R: Threads + Wait + Clock + Sync + Abort>(
+    rt: &R,
+    alloc: Global,
+    line: &str,
+) -> Result<(), Fail> {
     let mut fields = line.split('|');
     let input = with_message(alloc, CONNECT, fields.next().ok_or("no message")?)?;
     let written = with_message(alloc, CONFIRM, fields.next().ok_or("no answer")?)?;
@@ -325,7 +348,7 @@ fn files_with(alloc: Global, octets: Vec<u8>) -> Result<MemoryFiles, Fail> {
 }
 
 // Calls the server with these words and files, on a link that has ended.
-fn files_give<R: Wait + Clock + Abort>(
+fn files_give<R: Threads + Wait + Clock + Sync + Abort>(
     rt: &R,
     alloc: Global,
     words: &[&str],
@@ -335,7 +358,7 @@ fn files_give<R: Wait + Clock + Abort>(
 ) -> Result<bool, Fail> {
     let link = MemoryLink::new(alloc, Octets::of_vec(Vec::new(alloc)), ROOM, ROOM, 0)?;
     let mut out = MemoryOut::new(alloc, ROOM)?;
-    let end = server_main(rt, alloc, words, files, link, &mut out);
+    let end = call(rt, alloc, words, files, link, &mut out);
     assert_eq!(rt; end.status, status);
     assert!(rt; out.text() == text.as_bytes(), "{text}");
     assert!(rt; end.pipe.is_none() == end.run.is_some());
@@ -343,7 +366,7 @@ fn files_give<R: Wait + Clock + Abort>(
 }
 
 // The same without files: a run is there exactly with status 0.
-fn words_give<R: Wait + Clock + Abort>(
+fn words_give<R: Threads + Wait + Clock + Sync + Abort>(
     rt: &R,
     alloc: Global,
     words: &[&str],
@@ -359,7 +382,7 @@ fn words_give<R: Wait + Clock + Abort>(
 fn words_are_usage(rt: HostRuntime) -> Result<(), Fail> {
     let usage = "usage: s7server pipe AREAS, s7server serve AREAS\n";
     words_give(&rt, rt.alloc(), &[], 1, usage)?;
-    words_give(&rt, rt.alloc(), &["serve", "DB1=11"], 1, usage)?;
+    words_give(&rt, rt.alloc(), &["serve"], 1, usage)?;
     words_give(&rt, rt.alloc(), &["pipe"], 1, usage)?;
     words_give(&rt, rt.alloc(), &["pipe", "DB1=11", "DB2=22"], 1, usage)?;
     words_give(&rt, rt.alloc(), &["pipe", "DB1=11", "--save"], 1, usage)?;
@@ -393,7 +416,7 @@ fn words_are_read(rt: HostRuntime) -> Result<(), Fail> {
 }
 
 // What comes of a link whose k-th call, from 0, meets a fate.
-fn served_with<R: Wait + Clock>(
+fn served_with<R: Threads + Wait + Clock + Sync>(
     rt: &R,
     alloc: Global,
     k: usize,
@@ -408,7 +431,7 @@ fn served_with<R: Wait + Clock>(
     }
     fates.push(fate)?;
     let link = MemoryLink::new(alloc, Octets::of_vec(input), ROOM, ROOM, 0)?;
-    Ok(server_main(
+    Ok(call(
         rt,
         alloc,
         &["pipe", BLOCK],
@@ -419,7 +442,7 @@ fn served_with<R: Wait + Clock>(
 }
 
 // So many octets of the answers are written where the k-th call meets a fate, and the report ends so.
-fn fate_gives<R: Wait + Clock + Abort>(
+fn fate_gives<R: Threads + Wait + Clock + Sync + Abort>(
     rt: &R,
     alloc: Global,
     k: usize,
@@ -505,7 +528,7 @@ fn an_output_may_fail(rt: HostRuntime) -> Result<(), Fail> {
     let alloc = rt.alloc();
     let link = MemoryLink::new(alloc, Octets::of_vec(Vec::new(alloc)), ROOM, ROOM, 0)?;
     let mut out = MemoryOut::new(alloc, 10)?;
-    let end = server_main(
+    let end = call(
         &rt,
         alloc,
         &["pipe", BLOCK],
@@ -522,7 +545,7 @@ fn an_output_may_fail(rt: HostRuntime) -> Result<(), Fail> {
 const AREA_FILE: &str = "s7 areas 1\nDB 1 4\n11223344\n";
 
 // The words of a run that saves, with a write of two octets.
-fn saves<R: Wait + Clock + Abort>(
+fn saves<R: Threads + Wait + Clock + Sync + Abort>(
     rt: &R,
     alloc: Global,
     words: &[&str],
@@ -534,7 +557,7 @@ fn saves<R: Wait + Clock + Abort>(
     input.extend_from_slice(octets(alloc, WRITE)?.as_slice())?;
     let link = MemoryLink::new(alloc, Octets::of_vec(input), ROOM, ROOM, 0)?;
     let mut out = MemoryOut::new(alloc, ROOM)?;
-    let end = server_main(rt, alloc, words, files, link, &mut out);
+    let end = call(rt, alloc, words, files, link, &mut out);
     assert_eq!(rt; end.status, status);
     assert!(rt; out.text() == text.as_bytes(), "{text}");
     let run = end.run.ok_or("no run")?;
@@ -543,7 +566,7 @@ fn saves<R: Wait + Clock + Abort>(
 }
 
 // The areas that are left are saved under the path.
-fn saves_under<R: Wait + Clock + Abort>(
+fn saves_under<R: Threads + Wait + Clock + Sync + Abort>(
     rt: &R,
     alloc: Global,
     words: &[&str],
@@ -552,8 +575,47 @@ fn saves_under<R: Wait + Clock + Abort>(
     let report = report(alloc, "ended", "1")?;
     let mut files = files_with(alloc, Vec::from_slice(alloc, AREA_FILE.as_bytes())?)?;
     saves(rt, alloc, words, &mut files, 0, report.as_str())?;
-    assert!(rt; files.get(path) == Some(b"s7 areas 1\nDB 1 4\naa2233cc\n".as_slice()));
+    assert!(rt; files.get(path) == Some(b"s7 areas 2\nDB 1 4\naa2233cc\n".as_slice()));
     Ok(files)
+}
+
+// The password ABCDEFGH and its answer, and that of the write without a right.
+const PASSWORD: &str = "0300002502f0803207000000200008000c0001120411450100ff0900081417020612150008";
+
+const RIGHT: &str = "0300002102f080320700000020000c00040001120812850101000000000a000000";
+
+const BARRED: &str = "0300001802f08032030000000a0002000300000503030303";
+
+#[test]
+fn a_guarded_file_asks_for_its_password(rt: HostRuntime) -> Result<(), Fail> {
+    let alloc = rt.alloc();
+    let text = b"s7 areas 2\nprotect 2 ABCDEFGH\nDB 1 4\n11223344\n";
+    let mut files = files_with(alloc, Vec::from_slice(alloc, text)?)?;
+    let mut input = octets(alloc, CONNECT)?;
+    input.extend_from_slice(octets(alloc, WRITE)?.as_slice())?;
+    input.extend_from_slice(octets(alloc, PASSWORD)?.as_slice())?;
+    input.extend_from_slice(octets(alloc, WRITE)?.as_slice())?;
+    let mut written = octets(alloc, CONFIRM)?;
+    for answer in [BARRED, RIGHT, WRITTEN] {
+        written.extend_from_slice(octets(alloc, answer)?.as_slice())?;
+    }
+    let link = MemoryLink::new(alloc, Octets::of_vec(input), ROOM, ROOM, 0)?;
+    let mut out = MemoryOut::new(alloc, ROOM)?;
+    let words = ["pipe", "--save", "b.txt", "a.txt"];
+    let end = call(&rt, alloc, &words, &mut files, link, &mut out);
+    assert_eq!(&rt; end.status, 0);
+    let run = end.run.ok_or("no run")?;
+    let served = run.links.first().ok_or("no link")?;
+    assert!(&rt; served.line.written() == written.as_slice());
+    assert!(&rt;
+        files.get("b.txt") == Some(b"s7 areas 2\nprotect 2 ABCDEFGH\nDB 1 4\naa2233cc\n".as_slice())
+    );
+    let rights = [false, true];
+    for (entry, right) in run.book.journal.as_slice().iter().zip(rights) {
+        assert_eq!(&rt; entry.ask.right, right);
+    }
+    assert_eq!(&rt; run.book.journal.len(), 2);
+    Ok(())
 }
 
 #[test]
@@ -607,7 +669,7 @@ fn a_journal_has_its_room(rt: HostRuntime) -> Result<(), Fail> {
     let link = MemoryLink::new(alloc, Octets::of_vec(input), ROOM, ROOM, 0)?;
     let mut out = MemoryOut::new(alloc, ROOM)?;
     let words = &["pipe", BLOCK, "--journal", "3"];
-    let end = server_main(&rt, alloc, words, &mut MemoryFiles::new(), link, &mut out);
+    let end = call(&rt, alloc, words, &mut MemoryFiles::new(), link, &mut out);
     assert_eq!(&rt; end.status, 0);
     assert!(&rt; out.text() == b"link 1 ended entries 3\njournal 3\n".as_slice());
     let run = end.run.ok_or("no run")?;
@@ -634,7 +696,7 @@ fn octets_of_block(count: u16, address: u32) -> Item {
 
 // The entry is of link 1, and asks to read these items.
 fn reads(entry: &Entry, wanted: &[Item]) -> bool {
-    match &entry.request {
+    match &entry.ask.request {
         Request::Read { items } => entry.link == 1 && items.as_slice() == wanted,
         Request::Write { .. } => false,
     }
@@ -642,7 +704,7 @@ fn reads(entry: &Entry, wanted: &[Item]) -> bool {
 
 // The same for a write.
 fn writes(entry: &Entry, wanted: &[Item]) -> bool {
-    match &entry.request {
+    match &entry.ask.request {
         Request::Read { .. } => false,
         Request::Write { items, .. } => entry.link == 1 && items.as_slice() == wanted,
     }
@@ -711,12 +773,17 @@ fn area_files_are_read(rt: HostRuntime) -> Result<(), Fail> {
     Ok(())
 }
 
+/// The octets of a block of a comment.
+const BLOCK_OCTETS: usize = 65_536;
+
 // An area file of a first line and a comment, of so many octets.
 fn comment(alloc: Global, count: usize) -> Result<Vec<u8>, Fail> {
+    let block = vec![in alloc; b'#'; BLOCK_OCTETS]?;
     let mut text = Vec::from_slice(alloc, b"s7 areas 1\n")?;
-    for _ in 11..count {
-        text.push(b'#')?;
+    for _ in 0..=count / BLOCK_OCTETS {
+        text.extend_from_slice(block.as_slice())?;
     }
+    text.truncate(count);
     Ok(text)
 }
 
@@ -732,5 +799,161 @@ fn files_have_an_end(rt: HostRuntime) -> Result<(), Fail> {
         let ran = files_give(&rt, alloc, &["pipe", "a.txt"], &mut files, status, printed)?;
         assert!(&rt; ran == (status == 0), "{count}");
     }
+    Ok(())
+}
+
+// A door of so many links, each of which connects, negotiates and reads twice.
+fn a_door(
+    alloc: Global,
+    count: usize,
+    fail_at: Option<usize>,
+) -> Result<MemoryDoor<MemoryLink>, Fail> {
+    let mut input = octets(alloc, CONNECT)?;
+    for _ in 0..2 {
+        input.extend_from_slice(octets(alloc, READ)?.as_slice())?;
+    }
+    let mut links = Vec::new(alloc);
+    for _ in 0..count {
+        let octets = Octets::copy_of(alloc, input.as_slice())?;
+        links.push(MemoryLink::new(alloc, octets, ROOM, ROOM, 0)?)?;
+    }
+    Ok(MemoryDoor::new(links, fail_at))
+}
+
+// Serves at most two links of a door over the data block.
+fn hosts<R: Threads + Wait + Clock + Sync + Abort, D: Door<MemoryLink>, G: Gate + Sync>(
+    rt: &R,
+    alloc: Global,
+    door: &mut D,
+    gate: &G,
+    status: u8,
+    text: &str,
+) -> Result<ServerEnd<MemoryLink>, Fail> {
+    let link = MemoryLink::new(alloc, Octets::of_vec(Vec::new(alloc)), ROOM, ROOM, 0)?;
+    let mut out = MemoryOut::new(alloc, ROOM)?;
+    let words = &["serve", BLOCK, "--links", "2"];
+    let end = server_main(
+        rt,
+        alloc,
+        words,
+        &mut MemoryFiles::new(),
+        link,
+        door,
+        gate,
+        &mut out,
+    );
+    assert_eq!(rt; end.status, status);
+    assert!(rt; out.text() == text.as_bytes(), "{text}");
+    assert!(rt; end.pipe.is_some());
+    Ok(end)
+}
+
+#[test]
+fn links_are_served_at_once(rt: HostRuntime) -> Result<(), Fail> {
+    let alloc = rt.alloc();
+    let text = "link 1 ended entries 2\nlink 2 ended entries 2\njournal 4\n";
+    for (held, until) in [(1, 2), (2, 1)] {
+        let gate = HoldGate::new(held, until, 1_000_000_000);
+        hosts(&rt, alloc, &mut a_door(alloc, 2, None)?, &gate, 0, text)?;
+        assert!(&rt; !gate.gave_up());
+    }
+    Ok(())
+}
+
+#[test]
+fn a_door_may_fail(rt: HostRuntime) -> Result<(), Fail> {
+    let alloc = rt.alloc();
+    let mut door = a_door(alloc, 2, Some(0))?;
+    let end = hosts(&rt, alloc, &mut door, &OpenGate, 4, "door failed\n")?;
+    assert!(&rt; end.run.is_none());
+    let mut door = a_door(alloc, 2, Some(1))?;
+    let text = "link 1 ended entries 2\njournal 2\ndoor\n";
+    let end = hosts(&rt, alloc, &mut door, &OpenGate, 0, text)?;
+    assert!(&rt; end.run.is_some_and(|run| run.door_failed));
+    Ok(())
+}
+
+// A door over TCP that was opened before the server asks it to hear a port.
+#[derive(Drop)]
+struct OpenedDoor {
+    door: TcpDoor<HostRuntime>,
+    port: u16,
+}
+
+impl Door<RealLink<HostRuntime>> for OpenedDoor {
+    ghost shows = { λ d. record (tcp_door_of d.door) { heard = d.port } };
+
+    fn listen(&mut self, port: u16) -> Result<(), DoorFailed> {
+        self.port = port;
+        Ok(())
+    }
+
+    fn next(&mut self) -> Arrival<RealLink<HostRuntime>> {
+        self.door.next()
+    }
+}
+
+/// The first of the ports on this machine that are tried.
+const FIRST_PORT: u16 = 26_102;
+
+// Has a door hear one of some ports, and tells which.
+fn open(mut door: TcpDoor<HostRuntime>) -> Option<OpenedDoor> {
+    for port in FIRST_PORT..FIRST_PORT + 20 {
+        if door.listen(port).is_ok() {
+            return Some(OpenedDoor { door, port });
+        }
+    }
+    None
+}
+
+// What comes on a link up to its end.
+fn rest_of<L: Link>(alloc: Global, link: &mut L) -> Result<Vec<u8>, Fail> {
+    let mut came = Vec::new(alloc);
+    let mut into = [0u8; 256];
+    for _ in 0..1_000u32 {
+        match link.receive(&mut into) {
+            Got::Bytes(count) => came.extend_from_slice(&into[..count])?,
+            Got::NotYet => {}
+            Got::End | Got::Failed => break,
+        }
+    }
+    Ok(came)
+}
+
+/// A disconnect request.
+const DISCONNECT: &str = "0300000b06800001000180";
+
+#[test]
+fn links_come_over_tcp(rt: HostRuntime) -> Result<(), Fail> {
+    let alloc = rt.alloc();
+    let mut door = open(TcpDoor::new(rt.clone()?)).ok_or("no port")?;
+    let Dialled::Link(mut client) = TcpDial::new(rt.clone()?).call("127.0.0.1", door.port) else {
+        return Err(Fail::from("no link"));
+    };
+    let mut asked = Vec::new(alloc);
+    for part in [CONNECT, READ, DISCONNECT] {
+        asked.extend_from_slice(octets(alloc, part)?.as_slice())?;
+    }
+    assert!(&rt; !asked.is_empty());
+    assert!(&rt; client.transmit(asked.as_slice()) == Sent::Bytes(asked.len()));
+    let mut out = MemoryOut::new(alloc, ROOM)?;
+    let words = &["serve", BLOCK, "--links", "1"];
+    let pipe = RealLink::standard(alloc, rt.clone()?)?;
+    let end = server_main(
+        &rt,
+        alloc,
+        words,
+        &mut MemoryFiles::new(),
+        pipe,
+        &mut door,
+        &OpenGate,
+        &mut out,
+    );
+    assert_eq!(&rt; end.status, 0);
+    assert!(&rt; out.text() == b"link 1 ended entries 1\njournal 1\n".as_slice());
+    drop(end);
+    let mut written = octets(alloc, CONFIRM)?;
+    written.extend_from_slice(octets(alloc, ANSWER)?.as_slice())?;
+    assert!(&rt; rest_of(alloc, &mut client)?.as_slice() == written.as_slice());
     Ok(())
 }

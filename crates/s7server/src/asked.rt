@@ -1,0 +1,13 @@
+// What the words ask to be served.
+ghost use Rattle.std.specs.Prelude.{◌≤◌};
+
+/// What the words ask to be served: the word that names the areas, the path that they are saved to
+/// where it is given, and how many entries the journal takes, from 1 to 262,144.
+#[derive(Clone, Copy)]
+pub(crate) struct Asked<'a> {
+    pub areas: &'a str,
+    pub save: Option<&'a str>,
+    pub journal: u64,
+    pub ghost some: { 1 ≤ journal },
+    pub ghost few: { journal ≤ 262144 },
+}
