@@ -149,6 +149,11 @@ module _ {R : Type 0} where
   none_by_both xs ys [] a b = tt
   none_by_both xs ys (e ∷ es) a b = (has-neither xs ys e.caller a.0 b.0, none_by_both xs ys es a.1 b.1)
 
+  -- what none of some callers made, none of fewer made
+  pub none_by_fewer : (xs ys : List ℕ) (h : List (Entry R)) → ((x : ℕ) → has xs x ≡ true → has ys x ≡ true) → NoneBy ys h → NoneBy xs h
+  none_by_fewer xs ys h within none = Each-weaker (λ e. has ys e.caller ≡ false) (λ e. has xs e.caller ≡ false) h
+      (λ e n. ⊎_elim (λ yes. absurd (true≢false (sym (within e.caller yes) ∙ n))) (λ no. no) (or_not (has xs e.caller))) none
+
   -- a new number is no earlier caller's
   pub none_by_new : (n : ℕ) (h : List (Entry R)) → Each (λ e. e.caller < n) h → NoneBy (n ∷ []) h
   none_by_new n [] a = tt

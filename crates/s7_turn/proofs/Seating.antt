@@ -10,10 +10,10 @@ use Rattle.s7_turn.specs.declared.view.Entry.{Entry}
 use Rattle.s7_turn.specs.declared.view.Note.{Note}
 use Rattle.s7_turn.specs.declared.view.Stage.TheVariants.{Idle, Called, Joined}
 use Rattle.s7_turn.specs.declared.view.View.{View}
-use Rattle.s7_turn.specs.Histories.{Each, Agrees}
+use Rattle.s7_turn.specs.Histories.{has, Each, Agrees}
 use Rattle.s7_turn.specs.Turns.{most, Phase, rests, tickets_of, Match, Crowd, Knows, SeatOk, Holds, Home, Kept, next_or_0, longer, at_stage, opener, gave_number, newcomer, note_of, joined, nobody, compared}
-use Rattle.s7_turn.proofs.Lists.{put, put_here, put_else, moved, moved_here, moved_else, total_set, total_snoc, each_set, at_end, has-append, has-one, none_by_nobody, none_by_both, none_by_new, Each-left, Each-right, Each-weaker, calls_none, agrees_here, agrees_between, none_longer}
-use Rattle.s7_turn.proofs.Turning.{knows_at, nothing_moves, numbered_below}
+use Rattle.s7_turn.proofs.Lists.{put, put_here, put_else, moved, moved_here, moved_else, total_set, total_snoc, each_set, at_end, has-append, has-left, has-right, has-one, none_by_nobody, none_by_both, none_by_new, Each-left, Each-right, Each-weaker, calls_none, agrees_here, agrees_between, none_longer}
+use Rattle.s7_turn.proofs.Turning.{origin_is, has_origin, knows_at, nothing_moves, numbered_below}
 
 -- Some and None differ
 no_number : (n : ℕ) → None ≡ Some n → ⊥
@@ -76,7 +76,7 @@ module _ {B R A : Type 0} (From : B → A → Type 0) (history : B → List (Ent
     few = omega arith;
     numbered = tt;
     each_seat = each_set (SeatOk record { drawn = 0; served = 0; owner = λ _. 0; phase = rests; past = [] } record { count = 1; seat_of = λ _. 0; giver = 0 } o) (opener o ∷ []) 0 (opener o)
-        record { agrees = ([], refl, tt); stands = λ x e. (let is = has-one 0 x e in omega arith, refl); gives = λ n e. (sym (number_is 1 n e), refl); origin = λ x e. same_some A x o (sym e); knows = tt }
+        record { agrees = ([], refl, tt); stands = λ x e. (let is = has-one 0 x e in omega arith, refl); gives = λ n e. (sym (number_is 1 n e), refl); origin = inl refl; knows = tt }
         (λ j v other e. absurd (only_one j v other e));
   }
     where
@@ -84,8 +84,8 @@ module _ {B R A : Type 0} (From : B → A → Type 0) (history : B → List (Ent
       only_one zero v other e = other refl
       only_one (suc j) v other e = cc
 
-  pub splits : (id : ℕ) (v : V) (n : ℕ) → v.stage ≡ Idle → v.next ≡ Some n → n < most → Splits Rule id v (gave_number v) (newcomer v)
-  splits id v n idle has_next room s r at = let ok = r.each_seat id v at in let w : V = gave_number v in let u : V = newcomer v in let vs : List V = set s.views id w in let c : ℕ = r.crowd.count in
+  pub splits : (id : ℕ) (v : V) (n : ℕ) → v.stage ≡ Idle → has v.callers v.caller ≡ true → v.next ≡ Some n → n < most → Splits Rule id v (gave_number v) (newcomer v)
+  splits id v n idle stands has_next room s r at = let ok = r.each_seat id v at in let w : V = gave_number v in let u : V = newcomer v in let vs : List V = set s.views id w in let c : ℕ = r.crowd.count in
       let num : next_or_0 v.next ≡ n = ap next_or_0 has_next in let last : n ≡ c = (ok.gives n has_next).0 in let new : next_or_0 v.next ≡ c = num ∙ last in
       let crowd' : Crowd = record { count = c + 1; seat_of = put r.crowd.seat_of c (length vs); giver = id } in
       let tickets = total_set (λ (x : V). tickets_of x.stage) s.views id v w at in let tickets' = total_snoc (λ (x : V). tickets_of x.stage) vs u in let was = r.waiting in
@@ -127,7 +127,7 @@ module _ {B R A : Type 0} (From : B → A → Type 0) (history : B → List (Ent
               );
               stands = λ y h. let is : y ≡ c = has-one (next_or_0 v.next) y h ∙ new in (omega arith, ap crowd'.seat_of is ∙ put_here r.crowd.seat_of c (length vs));
               gives = λ m h. absurd (no_number m h);
-              origin = ok.origin;
+              origin = inl (has_origin r.turn r.crowd o id v v.caller stands ok);
               knows = tt;
             }) (at_end vs u x j e);
       }
@@ -142,8 +142,8 @@ module _ {B R A : Type 0} (From : B → A → Type 0) (history : B → List (Ent
   one_gives (Some m) None h e = refl
   one_gives None y h e = absurd (true≢false (sym e))
 
-  pub joins : (id : ℕ) (v : V) (other : ℕ) (u : V) → v.stage ≡ Idle → u.stage ≡ Idle → Joins Rule id v other u (joined v u) nobody
-  joins id v other u idle idle' s r at apart there = let w : V = joined v u in let vs : List V = set s.views id w in let at' : get_elem? s.views other ≡ some u = sym (set_else s.views id other w apart) ∙ there in
+  pub joins : (id : ℕ) (v : V) (other : ℕ) (u : V) → v.stage ≡ Idle → u.stage ≡ Idle → has v.callers v.caller ≡ true → Joins Rule id v other u (joined v u) nobody
+  joins id v other u idle idle' stands s r at apart there = let w : V = joined v u in let vs : List V = set s.views id w in let at' : get_elem? s.views other ≡ some u = sym (set_else s.views id other w apart) ∙ there in
       let ok = r.each_seat id v at in let ok' = r.each_seat other u at' in let apart' : id ≢ other = λ e. apart (sym e) in
       let crowd' : Crowd = record { count = r.crowd.count; seat_of = λ x. moved other id (r.crowd.seat_of x); giver = moved other id r.crowd.giver } in
       let t1 = total_set (λ (x : V). tickets_of x.stage) s.views id v w at in let t2 = total_set (λ (x : V). tickets_of x.stage) vs other u nobody there in
@@ -160,18 +160,22 @@ module _ {B R A : Type 0} (From : B → A → Type 0) (history : B → List (Ent
         few = r.few;
         numbered = r.numbered;
         each_seat = each_set (SeatOk r.turn crowd' o) vs other nobody
-            record { agrees = (r.turn.past, refl, none_by_nobody r.turn.past); stands = λ x e. absurd (true≢false (sym e)); gives = λ n e. absurd (no_number n e); origin = λ x e. absurd (no_origin x e); knows = tt }
+            record { agrees = (r.turn.past, refl, none_by_nobody r.turn.past); stands = λ x e. absurd (true≢false (sym e)); gives = λ n e. absurd (no_number n e); origin = inr (refl, refl); knows = tt }
             (λ j x away there'. each_set (λ i y. i ≢ other → SeatOk r.turn crowd' o i y) s.views id w
             (λ _. record {
               agrees = longer_agrees v.seen u.seen r.turn.past v.callers u.callers ok.agrees ok'.agrees;
               stands = λ y h. ⊎_elim (λ a. let k = ok.stands y a in (k.0, moved_else other id (r.crowd.seat_of y) (λ e. apart' (sym k.1 ∙ e)) ∙ k.1)) (λ b. let k = ok'.stands y b in (k.0, moved_here other id (r.crowd.seat_of y) k.1)) (has-append v.callers u.callers y h);
               gives = λ m h. ⊎_elim (λ a. let k = ok.gives m a in (k.0, moved_else other id r.crowd.giver (λ e. apart' (sym k.1 ∙ e)) ∙ k.1)) (λ b. let k = ok'.gives m b in (k.0, moved_here other id r.crowd.giver k.1)) (gives_either v.next u.next m h);
-              origin = ok.origin;
-              knows = record {
-                first = agrees_between v.seen u.seen r.turn.past v.callers u.callers ok.agrees ok'.agrees;
-                second = agrees_between u.seen v.seen r.turn.past u.callers v.callers ok'.agrees ok.agrees;
-                one_gives = one_gives v.next u.next (λ m n a b. apart' (sym (ok.gives m a).1 ∙ (ok'.gives n b).1));
-              };
+              origin = inl (has_origin r.turn r.crowd o id v v.caller stands ok);
+              knows = (
+                record {
+                  first = agrees_between v.seen u.seen r.turn.past v.callers u.callers ok.agrees ok'.agrees;
+                  second = agrees_between u.seen v.seen r.turn.past u.callers v.callers ok'.agrees ok.agrees;
+                  one_gives = one_gives v.next u.next (λ m n a b. apart' (sym (ok.gives m a).1 ∙ (ok'.gives n b).1));
+                },
+                record { agrees = ok.agrees; within = λ x h. has-left v.callers u.callers x h },
+                record { agrees = ok'.agrees; within = λ x h. has-right v.callers u.callers x h },
+              );
             })
             (λ i y elsewhere at'' not_other. let old = r.each_seat i y at'' in record {
               agrees = old.agrees;
@@ -181,9 +185,6 @@ module _ {B R A : Type 0} (From : B → A → Type 0) (history : B → List (Ent
               knows = old.knows;
             }) j x there' away);
       }
-    where
-      no_origin : (x : A) → None ≡ Some x → ⊥
-      no_origin x e = cc
 
   pub compares : (slots id : ℕ) (me : Me (Option B) V) (a b : Note R) → me.0.stage ≡ Joined a b → Allows Rule slots id me 1 (λ n. n) (compared (step slots 1 0 0 none) me)
   compares slots id me a b is s r deep at fits = let v : V = me.0 in (
@@ -193,7 +194,7 @@ module _ {B R A : Type 0} (From : B → A → Type 0) (history : B → List (Ent
     nothing_moves From history o s r id v Idle at (ap tickets_of is) tt,
     (
       refl,
-      (λ c d e. knows_at From history o s r id v (Joined c d) at e),
+      (λ c d e. (knows_at From history o s r id v (Joined c d) at e).0),
       (λ n x e h. let ok = r.each_seat id v at in let k = (ok.stands x h).0 in let l = (ok.gives n e).0 in omega arith),
       λ n x e m. let ok = r.each_seat id v at in
           calls_none v.seen n x (Each-left (λ e. e.caller < n) v.seen ok.agrees.0 (subst (Each (λ e. e.caller < n)) ok.agrees.1 (numbered_below From history o s r id v n at e r.turn.past refl))) m,
@@ -208,6 +209,6 @@ module _ {B R A : Type 0} (From : B → A → Type 0) (history : B → List (Ent
         there.0,
         f.4 0 (Some there.0) (ap (λ (hs : List (maybe.Option (Option B))). get_elem? hs 0) there.1),
         subst (Agrees v.seen v.callers) (sym there.2) ok.agrees,
-        (λ x e. subst (From there.0) (sym (ok.origin x e)) there.3),
+        (λ x e. subst (From there.0) (sym (origin_is r.turn r.crowd o id v ok x e)) there.3),
         λ n e. numbered_below From history o s r id v n at e (history there.0) there.2,
       )

@@ -1,5 +1,5 @@
 -- The steps of a turn keep the rule of the table.
-use Rattle.std.proofs.Common.{◌≡◌, ◌≢◌, ℕ, zero, suc, ◌+◌, ◌%◌, ◌^◌, ◌<◌, ◌≤◌, true, false, List, [], ◌∷◌, ◌++◌, length, get_or, set, sym, refl, ap, ◌∙◌, subst, ⊎_elim, arith, Option, Some, None}
+use Rattle.std.proofs.Common.{◌≡◌, ◌≢◌, ℕ, zero, suc, ◌+◌, ◌%◌, ◌^◌, ◌<◌, ◌≤◌, true, false, true≢false, List, [], ◌∷◌, ◌++◌, length, get_or, set, sym, refl, ap, ◌∙◌, subst, ⊎_elim, arith, Option, Some, None}
 use Rattle.std.proofs.Math.Nat.{mod-add-mod}
 use mathlib.Core.Logic.{dite}
 use mathlib.Core.Option.{some, none}
@@ -9,12 +9,13 @@ use lib.ListN.{get_elem?}
 use Rattle.atomic_table.specs.Table.{State, Me, step, keeps, takes, gives, stepped, rest, Allows}
 use Rattle.atomic_table.proofs.Lists.{one_turn, set_again}
 use Rattle.s7_turn.specs.declared.view.Entry.{Entry}
+use Rattle.s7_turn.specs.declared.view.Note.{Note}
 use Rattle.s7_turn.specs.declared.view.Stage.{Stage}
 use Rattle.s7_turn.specs.declared.view.Stage.TheVariants.{Idle, Waits, Called, Took, Entered, Gave, Joined}
 use Rattle.s7_turn.specs.declared.view.View.{View}
 use Rattle.s7_turn.specs.Histories.{has, Each, NoneBy, Agrees, AddedBy}
-use Rattle.s7_turn.specs.Turns.{most, total, Phase, rests, out, back, tickets_of, Turn, Crowd, Queued, Knows, SeatOk, Holds, Home, Kept, ticket_of, left_by, at_stage, drew, looked, advanced, took, entered, gave}
-use Rattle.s7_turn.proofs.Lists.{put, put_here, put_else, total_set, total_le, each_set, or_not, has_some, Each-append, Each-weaker, agrees_here, agrees_later}
+use Rattle.s7_turn.specs.Turns.{most, total, Phase, rests, out, back, tickets_of, Turn, Crowd, Queued, Noted, Knows, IsSpent, SeatOk, Holds, Home, Kept, ticket_of, left_by, at_stage, drew, looked, advanced, took, entered, gave}
+use Rattle.s7_turn.proofs.Lists.{put, put_here, put_else, total_set, total_le, each_set, or_not, has_some, Each-append, Each-weaker, agrees_here, agrees_later, none_by_fewer}
 
 module _ {R : Type 0} where
   -- the turn with one more ticket, which a seat has
@@ -28,6 +29,13 @@ module _ {R : Type 0} where
   -- the turn after one more was served
   abbrev served_one : Turn R → List (Entry R) → Turn R
   served_one w h = record w { served = w.served + 1; phase = rests; past = h }
+
+  -- an old note, once others' entries follow
+  noted_later : (h h' es : List (Entry R)) (callers : List ℕ) (n : Note R) → h' ≡ h ++ es → NoneBy callers es → Noted h callers n → Noted h' callers n
+  noted_later h h' es callers n is others k = record {
+    agrees = subst (Agrees n.seen n.callers) (sym is) (agrees_later n.seen h es n.callers k.agrees (none_by_fewer n.callers callers es k.within others));
+    within = k.within;
+  }
 
 module _ {B : Type 0} where
   abbrev machine_or : B → Option B → B
@@ -68,15 +76,30 @@ module _ {R A : Type 0} where
   phased_know w p id j v (Gave t h) own other k = absurd (not_its_turn w id j v t own other k.0 k.1)
   phased_know w p id j v (Joined a b) own other k = k
 
-  served_know : (w : Turn R) (past : List (Entry R)) (id j : ℕ) (v : View R A) (st : Stage R) → w.owner w.served ≡ id → j ≢ id → Knows w j v st → Knows (served_one w past) j v st
-  served_know w past id j v Idle own other k = tt
-  served_know w past id j v (Waits t) own other k = let n = not_its_turn w id j v t own other k.0 in let f = k.0.from in
+  -- the turn passes on, and leaves a history with nobody's entry whom this seat stands for
+  served_know : (w : Turn R) (past es : List (Entry R)) (id j : ℕ) (v : View R A) (st : Stage R) → w.owner w.served ≡ id → j ≢ id → past ≡ w.past ++ es → NoneBy v.callers es → Knows w j v st → Knows (served_one w past) j v st
+  served_know w past es id j v Idle own other is others k = tt
+  served_know w past es id j v (Waits t) own other is others k = let n = not_its_turn w id j v t own other k.0 in let f = k.0.from in
       (record { from = omega arith; below = k.0.below; own = k.0.own; stands = k.0.stands }, λ e. refl)
-  served_know w past id j v (Called t) own other k = absurd (not_its_turn w id j v t own other k.0 k.1)
-  served_know w past id j v (Took t h) own other k = absurd (not_its_turn w id j v t own other k.0 k.1)
-  served_know w past id j v (Entered t h) own other k = absurd (not_its_turn w id j v t own other k.0 k.1)
-  served_know w past id j v (Gave t h) own other k = absurd (not_its_turn w id j v t own other k.0 k.1)
-  served_know w past id j v (Joined a b) own other k = k
+  served_know w past es id j v (Called t) own other is others k = absurd (not_its_turn w id j v t own other k.0 k.1)
+  served_know w past es id j v (Took t h) own other is others k = absurd (not_its_turn w id j v t own other k.0 k.1)
+  served_know w past es id j v (Entered t h) own other is others k = absurd (not_its_turn w id j v t own other k.0 k.1)
+  served_know w past es id j v (Gave t h) own other is others k = absurd (not_its_turn w id j v t own other k.0 k.1)
+  served_know w past es id j v (Joined a b) own other is others k = (k.0, noted_later w.past past es v.callers a is others k.1, noted_later w.past past es v.callers b is others k.2)
+
+  -- the machine that a view has is the one with which the hall was made
+  pub origin_is : (w : Turn R) (c : Crowd) (o : A) (j : ℕ) (v : View R A) → SeatOk w c o j v → (x : A) → v.origin ≡ Some x → x ≡ o
+  origin_is w c o j v ok x e = ⊎_elim (λ has_one. one_origin x o (sym e ∙ has_one)) (λ (spent : IsSpent v). absurd (no_origin x (sym spent.1 ∙ e))) ok.origin
+    where
+      one_origin : (x y : A) → Some x ≡ Some y → x ≡ y
+      one_origin x y e = cc
+
+      no_origin : (x : A) → None ≡ Some x → ⊥
+      no_origin x e = cc
+
+  -- a view that stands for somebody has it
+  pub has_origin : (w : Turn R) (c : Crowd) (o : A) (j : ℕ) (v : View R A) (x : ℕ) → has v.callers x ≡ true → SeatOk w c o j v → v.origin ≡ Some o
+  has_origin w c o j v x stands ok = ⊎_elim (λ has_one. has_one) (λ (spent : IsSpent v). absurd (true≢false (sym stands ∙ ap (λ (xs : List ℕ). has xs x) spent.0))) ok.origin
 
   -- the same seat at another stage, in another turn
   restaged : (w w' : Turn R) (c : Crowd) (o : A) (j : ℕ) (v : View R A) (st : Stage R) → w'.past ≡ w.past → Knows w' j (at_stage v st) st → SeatOk w c o j v → SeatOk w' c o j (at_stage v st)
@@ -250,7 +273,7 @@ module _ {B R A : Type 0} (From : B → A → Type 0) (history : B → List (Ent
         takes 0 (Some b),
         ap (λ (hs : List (maybe.Option (Option B))). get_elem? hs 0) there.1,
         turn_moves s r id v (Took t (history b)) out (set s.homes 0 none) at own.0 own.1 one (ap (λ (hs : List (maybe.Option (Option B))). set hs 0 none) there.1) (rewrapped r.turn out id v (Took t (history b)) t k.0, k.1, refl, there.2),
-        (b, ap (λ (n : ℕ). (at_stage v (Took n (history b)), (0, Some b) ∷ me.1)) tick, subst (Agrees v.seen v.callers) (sym there.2) ok.agrees, (λ x e. subst (From b) (sym (ok.origin x e)) there.3), λ n e. numbered_below s r id v n at e (history b) there.2),
+        (b, ap (λ (n : ℕ). (at_stage v (Took n (history b)), (0, Some b) ∷ me.1)) tick, subst (Agrees v.seen v.callers) (sym there.2) ok.agrees, (λ x e. subst (From b) (sym (origin_is r.turn r.crowd o id v ok x e)) there.3), λ n e. numbered_below s r id v n at e (history b) there.2),
       )
 
   one_machine : (b c : B) (l : List (ℕ × Option B)) → l ≡ (0, Some b) ∷ [] → l ≡ (0, Some c) ∷ [] → b ≡ c
@@ -281,7 +304,7 @@ module _ {B R A : Type 0} (From : B → A → Type 0) (history : B → List (Ent
         tt,
         subst (λ (c : List (ℕ × Option B)). Rule (stepped s 1 (get_or s.words 1 0) id c (at_stage v (Gave t (history b))) gives)) (sym carries)
             (turn_moves s r id v (Gave t (history b)) (back (history b)) (set s.homes 0 (some (Some b))) at own.0 own.1 one
-            (b, ap (λ (hs : List (maybe.Option (Option B))). set hs 0 (some (Some b))) away, refl, subst (From b) (ok.origin from.0 from.1) from.2)
+            (b, ap (λ (hs : List (maybe.Option (Option B))). set hs 0 (some (Some b))) away, refl, subst (From b) (origin_is r.turn r.crowd o id v ok from.0 from.1) from.2)
             (rewrapped r.turn (back (history b)) id v (Gave t (history b)) t k.0, k.1, refl, k.3)),
         (λ i. (at_stage v (Gave (tick i) (left i)), rest (carries i))),
       )
@@ -320,7 +343,7 @@ module _ {B R A : Type 0} (From : B → A → Type 0) (history : B → List (Ent
                 stands = old.stands;
                 gives = old.gives;
                 origin = old.origin;
-                knows = served_know r.turn h id j u u.stage own.0 other old.knows;
+                knows = served_know r.turn h adds.0 id j u u.stage own.0 other adds.1 (elsewhere j u other e) old.knows;
               });
         },
         ap (λ (l : List (Entry R)). (record v { seen = l; stage = Idle }, me.1)) (sym left),

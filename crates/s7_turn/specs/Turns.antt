@@ -1,7 +1,7 @@
 -- The rule of the table, and what each step tells.
 -- Word 0 counts the tickets that were drawn, and word 1 those that were served, both modulo 2 ^ 64. The slot holds the machine.
 -- The other words are for those who sleep. The rule says nothing of them.
-use Rattle.std.specs.Prelude.{◌≡◌, ◌≢◌, ℕ, ◌+◌, ◌%◌, ◌^◌, ◌<◌, ◌≤◌, true, false, ltb, if◌then◌else◌, List, [], ◌∷◌, ◌++◌, length, Option, Some, None, is_some}
+use Rattle.std.specs.Prelude.{◌≡◌, ◌≢◌, ℕ, ◌+◌, ◌%◌, ◌^◌, ◌<◌, ◌≤◌, ◌⊎◌, true, false, ltb, if◌then◌else◌, List, [], ◌∷◌, ◌++◌, length, Option, Some, None, is_some}
 use Rattle.std.specs.Option.{option_or}
 use mathlib.Core.Option.{some, none}
 use mathlib.Core.Option as maybe
@@ -51,6 +51,11 @@ module _ {R : Type 0} where
     pub second : length b.seen ≤ length a.seen → Agrees b.seen b.callers a.seen
     pub one_gives : a.gives ≡ true → b.gives ≡ false
 
+  -- what a joined seat noted of one of its two still agrees with what is past, since it stands for the callers
+  pub record Noted (past : List (Entry R)) (callers : List ℕ) (n : Note R) : Type 0 where
+    pub agrees : Agrees n.seen n.callers past
+    pub within : (x : ℕ) → has n.callers x ≡ true → has callers x ≡ true
+
 -- the numbers of the rule: tickets drawn and served, who has which ticket, where the machine is, what is past
 pub record Turn (R : Type 0) : Type 0 where
   pub drawn : ℕ
@@ -80,13 +85,17 @@ module _ {R A : Type 0} where
   Knows w seat v (Took t h) = Queued w seat v t × (t ≡ w.served) × (w.phase ≡ out) × (h ≡ w.past)
   Knows w seat v (Entered t h) = Queued w seat v t × (t ≡ w.served) × (w.phase ≡ out) × AddedBy v.caller w.past h
   Knows w seat v (Gave t h) = Queued w seat v t × (t ≡ w.served) × (w.phase ≡ back h) × AddedBy v.caller w.past h
-  Knows w seat v (Joined a b) = Match a b
+  Knows w seat v (Joined a b) = Match a b × Noted w.past v.callers a × Noted w.past v.callers b
+
+  -- what is left of a seat that was joined to another
+  abbrev pub IsSpent : View R A → Type 0
+  IsSpent v = (v.callers ≡ []) × (v.origin ≡ None)
 
   pub record SeatOk (w : Turn R) (c : Crowd) (o : A) (seat : ℕ) (v : View R A) : Type 0 where
     pub agrees : Agrees v.seen v.callers w.past
     pub stands : (x : ℕ) → has v.callers x ≡ true → (x < c.count) × (c.seat_of x ≡ seat)
     pub gives : (n : ℕ) → v.next ≡ Some n → (n ≡ c.count) × (c.giver ≡ seat)
-    pub origin : (x : A) → v.origin ≡ Some x → x ≡ o
+    pub origin : (v.origin ≡ Some o) ⊎ IsSpent v
     pub knows : Knows w seat v v.stage
 
 module _ {B R A : Type 0} (From : B → A → Type 0) (history : B → List (Entry R)) where

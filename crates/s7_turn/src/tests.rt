@@ -1,10 +1,53 @@
-ghost use Rattle.std.specs.Prelude.{◌≡◌, ℕ, ◌+◌, ◌<◌, Some};
+ghost use Rattle.std.specs.Prelude.{◌≡◌, ℕ, ◌+◌, ◌*◌, ◌%◌, ◌^◌, ◌<◌, Some};
+ghost use Rattle.s7_turn.specs.Turns.{most};
 ghost use Rattle.s7_turn.specs.Seats.{IsOf, next};
 
 use super::*;
+use std::alloc::Global;
 use std::sync::Wait;
 use std::test::Fail;
-use std::thread::{Scope, Threads, join, scope, scope_env};
+use std::thread::{Scope, Threads, join, scope, scope_env, yield_now};
+
+/// An adder that lets other threads run in the midst of a turn, so that they come while it is out.
+#[derive(Drop)]
+struct Slow {
+    adder: Adder,
+}
+
+impl Machine for Slow {
+    type Request = u64;
+
+    type Reply = u64;
+
+    ghost State = { ℕ };
+
+    ghost opening = { λ _. 0 };
+
+    ghost history = { λ m. m.adder.entries.items };
+
+    ghost limit = { λ m. m.adder.limit };
+
+    ghost state = { λ m. m.adder.sum };
+
+    ghost after = { λ s e. (s + e.request) % 2 ^ 64 };
+
+    ghost kept = { λ r. r };
+
+    ghost request_ready = { λ _. Unit {0} };
+
+    ghost reply_ready = { λ _. Unit {0} };
+
+    ghost gives = { λ s _ _ reply. reply ≡ s };
+
+    fn len(&self) -> u64 {
+        self.adder.len()
+    }
+
+    fn step(&mut self, caller: u32, request: u64, reply: &mut u64) -> Result<u64, u64> {
+        yield_now();
+        self.adder.step(caller, request, reply)
+    }
+}
 
 #[test]
 fn adds_until_it_is_full(rt: HostRuntime) -> Result<(), Fail> {
@@ -27,7 +70,7 @@ fn adds_until_it_is_full(rt: HostRuntime) -> Result<(), Fail> {
     Ok(())
 }
 
-fn add_ones<R: Wait>(rt: &R, hall: &Hall<Adder>, mut seat: Seat<Adder>, calls: u32) -> Seat<Adder>
+fn add_ones<R: Wait>(rt: &R, hall: &Hall<Slow>, mut seat: Seat<Slow>, calls: u32) -> Seat<Slow>
     requires { IsOf hall.now seat }
     ensures { IsOf hall.entry.now result }
 {
@@ -38,31 +81,35 @@ fn add_ones<R: Wait>(rt: &R, hall: &Hall<Adder>, mut seat: Seat<Adder>, calls: u
     seat
 }
 
+// How many entries a caller has.
+fn calls_of(adder: &Adder, caller: u32) -> usize {
+    adder.entries.iter().filter(|e| e.caller == caller).count()
+}
+
 #[test]
 fn two_threads_make_one_history(rt: HostRuntime) -> Result<(), Fail> {
-    let adder = Adder::new(rt.alloc(), 1000)?;
-    let (hall, mut one) = Hall::new(rt.alloc(), adder).ok().ok_or("memory")?;
+    let slow = Slow {
+        adder: Adder::new(rt.alloc(), 1000)?,
+    };
+    let (hall, mut one) = Hall::new(rt.alloc(), slow).ok().ok_or("memory")?;
     let two = hall.split(&mut one);
     let (one, two) = join(
         &rt,
-        || -> Seat<Adder>
+        || -> Seat<Slow>
             requires { IsOf hall one }
             ensures { IsOf hall result }
         { add_ones(&rt, &hall, one, 100) },
-        || -> Seat<Adder>
+        || -> Seat<Slow>
             requires { IsOf hall two }
             ensures { IsOf hall result }
         { add_ones(&rt, &hall, two, 100) },
     );
     let both = hall.meet(one, two);
     assert_eq!(rt; both.caller(), 0);
-    let adder = hall.close(&rt, both);
+    let Slow { adder } = hall.close(&rt, both);
     assert_eq!(rt; adder.entries.len(), 200);
     for caller in [0, 1] {
-        assert_eq!(rt;
-            adder.entries.iter().filter(|e| e.caller == caller).count(),
-            100
-        );
+        assert_eq!(rt; calls_of(&adder, caller), 100);
     }
     assert_eq!(rt; adder.sum, 200);
     Ok(())
@@ -71,56 +118,82 @@ fn two_threads_make_one_history(rt: HostRuntime) -> Result<(), Fail> {
 fn start<'s, E, R: Threads + Wait + Sync>(
     rt: &'s R,
     scope: &'s Scope<'s, E>,
-    hall: &'s Hall<Adder>,
-    own: Seat<Adder>,
+    hall: &'s Hall<Slow>,
+    own: Seat<Slow>,
+    calls: u32,
 )
     requires { IsOf hall.now own }
 {
     let job = move ||
         requires { IsOf hall.now own }
-    { drop(add_ones(rt, hall, own, 1000)) };
+    { drop(add_ones(rt, hall, own, calls)) };
     if let Err(refused) = scope.spawn(job) {
         (refused.value)();
     }
 }
 
-// Eight seats beside the first, each with 1,000 calls in a thread of its own.
-fn add_in_eight<'s, E, R: Threads + Wait + Sync>(
+// So many seats beside the first, each with so many calls in a thread of its own.
+fn add_in_many<'s, E, R: Threads + Wait + Sync>(
     rt: &'s R,
     scope: &'s Scope<'s, E>,
-    hall: &'s Hall<Adder>,
-    mut seat: Seat<Adder>,
-) -> Seat<Adder>
-    requires { IsOf hall.now seat × (next seat ≡ Some 1) }
+    hall: &'s Hall<Slow>,
+    mut seat: Seat<Slow>,
+    seats: u32,
+    calls: u32,
+) -> Seat<Slow>
+    requires seat { IsOf hall.now seat × (next seat ≡ Some 1) }
+    requires few { seats < most }
     ensures { IsOf hall.entry.now result }
 {
-    for _ in 0..8u32 {
+    for _ in 0..seats {
         let own = hall.split(&mut seat);
-        start(rt, scope, hall, own);
+        start(rt, scope, hall, own, calls);
     }
     seat
 }
 
-#[test]
-fn eight_threads_wait_for_one_another(rt: HostRuntime) -> Result<(), Fail> {
-    let adder = Adder::new(rt.alloc(), 10_000)?;
-    let (hall, seat) = Hall::new(rt.alloc(), adder).ok().ok_or("memory")?;
+// The machine once all have made their calls.
+fn added_by<R: Threads + Wait + Sync>(
+    rt: &R,
+    alloc: Global,
+    seats: u32,
+    calls: u32,
+) -> Result<Adder, Fail>
+    requires { (seats < most) × (seats * calls < 2 ^ 32) }
+{
+    let slow = Slow {
+        adder: Adder::new(alloc, (seats * calls) as usize)?,
+    };
+    let (hall, seat) = Hall::new(alloc, slow).ok().ok_or("memory")?;
     let shared = &hall;
     let seat = scope(
         scope_env(),
-        &rt,
-        |scope| -> Seat<Adder>
-            requires { IsOf shared.now seat × (next seat ≡ Some 1) }
+        rt,
+        |scope| -> Seat<Slow>
+            requires { IsOf shared.now seat × (next seat ≡ Some 1) × (seats < most) }
             ensures { IsOf shared.entry.now result }
-        { add_in_eight(&rt, scope, shared, seat) },
+        { add_in_many(rt, scope, shared, seat, seats, calls) },
     );
-    let adder = hall.close(&rt, seat);
-    assert_eq!(rt; (adder.entries.len(), adder.sum), (8000, 8000));
-    for caller in 1..9 {
-        assert_eq!(rt;
-            adder.entries.iter().filter(|e| e.caller == caller).count(),
-            1000
-        );
+    let Slow { adder } = hall.close(rt, seat);
+    Ok(adder)
+}
+
+#[test]
+fn a_hundred_seats_share_bells_and_a_door(rt: HostRuntime) -> Result<(), Fail> {
+    let adder = added_by(&rt, rt.alloc(), 100, 20)?;
+    assert_eq!(rt; (adder.entries.len(), adder.sum), (2000, 2000));
+    for caller in 1..101 {
+        assert_eq!(rt; calls_of(&adder, caller), 20);
+    }
+    Ok(())
+}
+
+#[test]
+fn many_threads_wait_for_one_another(rt: HostRuntime) -> Result<(), Fail> {
+    let adder = added_by(&rt, rt.alloc(), 64, 200)?;
+    assert_eq!(rt; (adder.entries.len(), adder.sum), (12_800, 12_800));
+    for caller in 1..65 {
+        assert_eq!(rt; calls_of(&adder, caller), 200);
     }
     Ok(())
 }
