@@ -8,3 +8,4 @@ pub mod ServeLemmas
 pub mod RunLemmas
 pub mod BookLemmas
 pub mod SumLemmas
+pub mod SpelledLemmas

@@ -17,3 +17,4 @@ pub mod LinkRun
 pub mod Books
 pub mod BookLaws
 pub mod Legal
+pub mod Spelled

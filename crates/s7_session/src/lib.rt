@@ -8,6 +8,7 @@ mod doer;
 mod handled;
 mod held;
 mod judge;
+mod laws;
 mod outcome;
 mod password;
 mod sender;
@@ -16,6 +17,7 @@ mod size;
 
 pub use book_doer::BookDoer;
 pub use doer::{Doer, NotDone};
+pub use laws::{spelled_reads_are_asked, spelled_writes_are_asked};
 pub use outcome::{Outcome, Turn};
 pub use session::Session;
 
