@@ -1,5 +1,5 @@
 -- What a door that was lent shows tells what the door itself did.
-use Rattle.std.proofs.Common.{◌≡◌, ◌⊎◌, inl, inr, ◌∙◌, refl, sym, ap, unwrap_or, arith, ℕ, ◌+◌, ◌*◌, ◌≤◌, ◌<◌, List, [], Option, Some, None, Bool}
+use Rattle.std.proofs.Common.{◌≡◌, ◌⊎◌, inl, inr, ◌∙◌, refl, ap, unwrap_or, arith, ℕ, ◌+◌, ◌*◌, ◌≤◌, ◌<◌, List, [], Option, Some, None, Bool}
 use Rattle.std.proofs.lemmas.Bool.{cases_order}
 use Rattle.std.proofs.lemmas.Nat.{mul-le}
 use Rattle.std.proofs.Math.Nat.{add-mul, mul-add}

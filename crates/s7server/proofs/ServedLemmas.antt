@@ -1,5 +1,5 @@
 -- A link that is served alone over a fresh book.
-use Rattle.std.proofs.Common.{◌≡◌, ◌⊎◌, inl, inr, ℕ, ◌+◌, Bool, true, false, List, [], ◌∷◌, ◌++◌, length, map, Option, Some, None, refl, ap, sym, ◌∙◌, subst, arith}
+use Rattle.std.proofs.Common.{◌≡◌, inl, ℕ, ◌+◌, Bool, true, false, List, [], ◌∷◌, ◌++◌, length, map, Option, None, refl, ap, sym, ◌∙◌, subst, arith}
 use Rattle.std.specs.Prelude.{◌==◌, if◌then◌else◌}
 use Rattle.std.specs.List.{AllByRecursion}
 use Rattle.std.proofs.lemmas.Bool.Decides.{nat_tests}
@@ -10,13 +10,13 @@ use Rattle.s7_turn.specs.Histories.{replay}
 use Rattle.s7_plant.specs.declared.book.Book.{Book}
 use Rattle.s7_plant.specs.declared.request.Ask.{Ask}
 use Rattle.s7_plant.specs.Answers.{after}
-use Rattle.s7_plant.specs.Journals.{after_call, replay_entries}
+use Rattle.s7_plant.specs.Journals.{after_call}
 use Rattle.s7_plant.specs.State.{State, state_of, begins_with}
 use Rattle.s7_session.specs.declared.book_doer.BookDoer.{BookDoer}
 use Rattle.s7_session.specs.declared.outcome.Outcome.{Outcome}
 use Rattle.s7_session.specs.Books.{History, history_of, own_from, own, AreOf, GoesOnBy}
 use Rattle.s7_session.specs.Entry.{Entry, answered}
-use Rattle.s7_session.specs.Legal.{IsLegalFor, IsLegalBook, IsServedBy}
+use Rattle.s7_session.specs.Legal.{IsLegalBook, IsServedBy}
 use Rattle.s7_session.specs.LinkRun.{IsLinkRun}
 use Rattle.s7_session.specs.Telegrams.{verdicts_of, MemoryIsLast, AllAt, last_number}
 use Rattle.s7_session.proofs.BookLemmas.{replay-calls}

@@ -1,6 +1,6 @@
 -- How it ended, and what was left behind.
 use Rattle.std.specs.Prelude.{◌≡◌, ℕ, List, [], Option, Some, None, IsNone, IsSomeAnd}
-use Rattle.std.specs.Prelude.{Bool, Result, Ok, Err, is_some, if◌then◌else◌}
+use Rattle.std.specs.Prelude.{Ok, Err, is_some, if◌then◌else◌}
 use Rattle.s7_outer.specs.Count.{Rose}
 use Rattle.s7_outer.specs.DoorShown.{DoorShown}
 use Rattle.s7_outer.specs.FilesShown.{FilesShown}

@@ -1,0 +1,14 @@
+//! Tests of `s7_serve` over TCP: many clients share one book, and many links come and go. They stand in a
+//! crate of their own, so that serving is proved once and not once more together with them.
+#![tactic(auto)]
+
+#[cfg(test)]
+mod calls;
+#[cfg(test)]
+mod coming;
+#[cfg(test)]
+mod ports;
+#[cfg(test)]
+mod shared;
+#[cfg(test)]
+mod walk;
