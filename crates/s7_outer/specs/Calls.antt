@@ -1,5 +1,5 @@
 -- What one call of a link and of its clock does to what the link shows: the clauses of the traits.
-use Rattle.std.specs.Prelude.{◌≡◌, ℕ, ◌-◌, ◌≤◌, ◌↔◌, List, [], length, IsTrue, IsSome, IfSome, Some, option_map}
+use Rattle.std.specs.Prelude.{◌≡◌, ℕ, ◌-◌, ◌≤◌, ◌↔◌, List, [], length, IsTrue, IsSome, IfSome, Some, option_map, true}
 use Rattle.std.specs.Io.KnownBytes.{prepend_known, append_known, IsAtEnd}
 use Rattle.s7_outer.specs.Count.{Rose}
 use Rattle.s7_outer.specs.Link.{octets_got, octets_sent, GotWithin, SentWithin, TellsMoment}
@@ -26,6 +26,7 @@ pub record IsReceive (old new : Shown) (before after : List ℕ) (result : Got) 
   pub moment : new.moment ≡ old.moment
   pub clock_faults : new.clock_faults ≡ old.clock_faults
   pub space : new.space ≡ old.space
+  pub shut : new.is_shut ≡ old.is_shut
   pub lent : new.lent ≡ old.lent
 
 -- a transmit of these octets
@@ -43,7 +44,12 @@ pub record IsTransmit (old new : Shown) (piece : List ℕ) (result : Sent) : Typ
   pub clock_faults : new.clock_faults ≡ old.clock_faults
   pub fits : IfSome old.space (λ space. length (octets_sent result piece) ≤ space)
   pub space : new.space ≡ option_map (λ space. space - length (octets_sent result piece)) old.space
+  pub shut : new.is_shut ≡ old.is_shut
   pub lent : new.lent ≡ old.lent
+
+-- what the link shows once its stream is shut from this side
+abbrev pub shut_down : Shown → Shown
+shut_down old = record old { is_shut = option_map (λ _. true) old.is_shut }
 
 -- a look at the clock
 pub record IsLook (old new : Shown) (result : Tick) : Type 0 where

@@ -41,6 +41,7 @@ shown_of m = record {
   moment = Some m.moment;
   clock_faults = 0;
   space = None;
+  is_shut = Some m.shut;
   lent = None;
 }
 
@@ -55,5 +56,6 @@ unused input moment = record {
   moment = Some moment;
   clock_faults = 0;
   space = None;
+  is_shut = Some false;
   lent = None;
 }

@@ -1,5 +1,5 @@
 -- What the ends of two pipes show.
-use Rattle.std.specs.Prelude.{ℕ, ◌-◌, min, List, [], length, Some, false}
+use Rattle.std.specs.Prelude.{ℕ, ◌-◌, min, List, [], length, None, Some, false}
 use Rattle.std.specs.Borrow.{GName}
 use Rattle.s7_outer.specs.PipesHeld.{PipesHeld}
 use Rattle.s7_outer.specs.Shown.{Shown}
@@ -48,6 +48,7 @@ end_of loan p s = record {
   moment = Some p.moment;
   clock_faults = 0;
   space = Some (space_of p s);
+  is_shut = None;
   lent = Some (record { loan = loan; end = number_of s; room = p.room });
 }
 

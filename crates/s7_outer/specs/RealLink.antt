@@ -1,5 +1,5 @@
 -- What a link over the machine shows.
-use Rattle.std.specs.Prelude.{None, false}
+use Rattle.std.specs.Prelude.{None, Some, false}
 use Rattle.s7_outer.specs.Shown.{Shown}
 use Rattle.s7_outer.specs.declared.real_link.RealLink.{RealLink}
 
@@ -14,6 +14,7 @@ real_of s = record {
   moment = None;
   clock_faults = s.clock_faults;
   space = None;
+  is_shut = Some s.shut;
   lent = None;
 }
 
@@ -28,5 +29,6 @@ unused_real = record {
   moment = None;
   clock_faults = 0;
   space = None;
+  is_shut = Some false;
   lent = None;
 }

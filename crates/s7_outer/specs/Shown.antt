@@ -28,5 +28,7 @@ pub record Shown : Type 0 where
   pub clock_faults : ℕ
   -- how many octets it can still take, where it tells that
   pub space : Option ℕ
+  -- this side has shut the stream, where the link tells that
+  pub is_shut : Option Bool
   -- what the link works on that was lent to it, where there is such a thing; no call changes it
   pub lent : Option Lent

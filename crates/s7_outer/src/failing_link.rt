@@ -1,6 +1,6 @@
 // A link whose calls meet a list of fates.
 ghost use Rattle.std.specs.Prelude.{◌≡◌, ◌≢◌, ◌<◌, length, drop};
-ghost use Rattle.s7_outer.specs.Calls.{IsReceive, IsTransmit, IsLook};
+ghost use Rattle.s7_outer.specs.Calls.{IsReceive, IsTransmit, IsLook, shut_down};
 ghost use Rattle.s7_outer.specs.Count.{raised};
 
 use crate::count::raise;
@@ -138,6 +138,17 @@ impl<L: Link> Link for FailingLink<L> {
                 Sent::Failed
             }
         }
+    }
+
+    /// Shuts the link inside. No fate is used up.
+    fn shutdown(&mut self)
+        ensures shut { with_counted (counted_of self.new) (L.shows (inner_of self.new))
+            ≡ shut_down (with_counted (counted_of self.old) (L.shows (inner_of self.old))) }
+        ensures fates { fates_left self.new ≡ fates_left self.old }
+        ensures counted { counted_of self.new ≡ counted_of self.old }
+        ensures inner { L.shows (inner_of self.new) ≡ shut_down (L.shows (inner_of self.old)) }
+    {
+        self.inner.shutdown();
     }
 }
 

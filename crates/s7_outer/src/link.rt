@@ -3,6 +3,7 @@ ghost use Rattle.std.specs.Prelude.{◌≡◌, ◌-◌, ◌<◌, ◌≤◌, ◌�
 ghost use Rattle.std.specs.Io.KnownBytes.{prepend_known, append_known, IsAtEnd};
 ghost use Rattle.s7_outer.specs.Shown.{Shown};
 ghost use Rattle.s7_outer.specs.Count.{Rose};
+ghost use Rattle.s7_outer.specs.Calls.{shut_down};
 ghost use Rattle.s7_outer.specs.Link.{octets_got, octets_sent, GotWithin, SentWithin, TellsMoment};
 
 /// What a receive answers.
@@ -69,6 +70,7 @@ pub trait Link {
         ensures moment { (shows self.new).moment ≡ (shows self.old).moment }
         ensures clock_faults { (shows self.new).clock_faults ≡ (shows self.old).clock_faults }
         ensures space { (shows self.new).space ≡ (shows self.old).space }
+        ensures shut { (shows self.new).is_shut ≡ (shows self.old).is_shut }
         ensures lent { (shows self.new).lent ≡ (shows self.old).lent };
 
     /// Hands on the first octets of the piece, at least one.
@@ -93,7 +95,14 @@ pub trait Link {
         ensures clock_faults { (shows self.new).clock_faults ≡ (shows self.old).clock_faults }
         ensures fits { IfSome (shows self.old).space (λ space. length (octets_sent result piece.now) ≤ space) }
         ensures space { (shows self.new).space ≡ option_map (λ space. space - length (octets_sent result piece.now)) (shows self.old).space }
+        ensures shut { (shows self.new).is_shut ≡ (shows self.old).is_shut }
         ensures lent { (shows self.new).lent ≡ (shows self.old).lent };
+
+    /// Shuts the stream in both directions, once nothing more is to be sent: the peer gets what was
+    /// transmitted and then the end. Where the peer is gone already nothing comes of it. No octet
+    /// moves, and nothing else of the link changes.
+    fn shutdown(&mut self)
+        ensures shut { shows self.new ≡ shut_down (shows self.old) };
 }
 
 /// A link that has a clock.

@@ -1,6 +1,7 @@
 // A link over octets in memory.
 ghost use Rattle.std.specs.Prelude.{◌≡◌, ◌≢◌, ◌<◌, ◌≤◌, [], IsTrue, Some, length, IfOk, option_map};
 ghost use Rattle.std.specs.Io.KnownBytes.{prepend_known, append_known, IsAtEnd};
+ghost use Rattle.s7_outer.specs.Calls.{shut_down};
 ghost use Rattle.s7_outer.specs.Count.{raised};
 ghost use Rattle.s7_outer.specs.Link.{octets_got, octets_sent, GotWithin, SentWithin, GotCount, SentCount};
 
@@ -18,6 +19,7 @@ pub struct MemoryLink {
     output: Buffer,
     moment: u64,
     faults: u64,
+    shut: bool,
     ghost in_range: { at ≤ length input },
     ghost some: { 0 < most },
     ghost fits: { length output.octets ≤ output.room },
@@ -49,6 +51,7 @@ impl MemoryLink {
             output: Buffer::new(alloc, room)?,
             moment,
             faults: 0,
+            shut: false,
         })
     }
 
@@ -57,6 +60,13 @@ impl MemoryLink {
         ensures { (shown_of self.now).written ≡ Some result.now }
     {
         self.output.as_slice()
+    }
+
+    /// Whether the stream was shut.
+    pub fn is_shut(&self) -> bool
+        ensures { (shown_of self.now).is_shut ≡ Some result }
+    {
+        self.shut
     }
 }
 
@@ -122,6 +132,15 @@ impl Link for MemoryLink {
         }
         self.output.add(&piece[..count]);
         Sent::Bytes(count)
+    }
+
+    /// Notes that the stream is shut. What is left may still be taken, and room be used.
+    fn shutdown(&mut self)
+        ensures shut { shown_of self.new ≡ shut_down (shown_of self.old) }
+        ensures most { most_of self.new ≡ most_of self.old }
+        ensures room { room_of self.new ≡ room_of self.old }
+    {
+        self.shut = true;
     }
 }
 

@@ -60,6 +60,13 @@ impl Link for PipeEnd<'_> {
         }
         Sent::Bytes(count)
     }
+
+    /// Does nothing: pipes have no end.
+    fn shutdown(&mut self)
+        ensures shut { end_of self.new.pipes.ghost_name self.new.pipes.now self.new.side
+            ≡ end_of self.old.pipes.ghost_name self.old.pipes.now self.old.side }
+        ensures side { self.new.side ≡ self.old.side }
+    {}
 }
 
 impl Clock for PipeEnd<'_> {

@@ -6,7 +6,7 @@ use crate::{Clock, Got, Link, Memory, Sent, Tick};
 use std::alloc::Global;
 use std::io;
 use std::io::{ErrorKind, Input, Read, Write};
-use std::net::TcpStream;
+use std::net::{Shutdown, TcpStream};
 use std::rt::Clock as SystemClock;
 use std::time::SystemTime;
 
@@ -17,6 +17,7 @@ pub struct RealLink<R: Input> {
     rt: R,
     ends: Ends<R>,
     ended: bool,
+    shut: bool,
     faults: u64,
     waits: u64,
     clock_faults: u64,
@@ -65,6 +66,7 @@ impl<R: Input + Print + SystemClock + Drop> RealLink<R> {
             rt,
             ends,
             ended: false,
+            shut: false,
             faults: 0,
             waits: 0,
             clock_faults: 0,
@@ -130,6 +132,14 @@ impl<R: Input + Print + SystemClock + Drop> Link for RealLink<R> {
                 }
             }
         }
+    }
+
+    // Standard streams end with the program. An error tells that the connection is gone.
+    fn shutdown(&mut self) {
+        if let Ends::Stream(stream) = &self.ends {
+            let _ = stream.shutdown(Shutdown::Both);
+        }
+        self.shut = true;
     }
 }
 

@@ -84,10 +84,16 @@ fn a_real_connection(rt: HostRuntime) -> Result<(), Fail> {
     assert!(rt; after.saturating_sub(before) >= 50);
     assert!(rt; server.transmit(b"x") == Sent::Bytes(1));
     assert!(rt; client.receive(&mut into) == Got::Bytes(1) && into[0] == b'x');
-    drop(server);
+    // The peer of a link that was shut and is still held gets what was sent, and then the end.
+    assert!(rt; server.transmit(b"yz") == Sent::Bytes(2));
+    server.shutdown();
+    assert!(rt; client.receive(&mut into) == Got::Bytes(2) && into[1] == b'z');
     assert!(rt; client.receive(&mut into) == Got::End);
     assert!(rt; client.receive(&mut into) == Got::End);
     assert!(rt; fails_soon(&mut client));
+    assert!(rt; server.transmit(b"x") == Sent::Failed);
+    server.shutdown();
+    drop(server);
     drop(door);
     assert!(rt; matches!(dial.call("127.0.0.1", port), Dialled::Failed));
     Ok(())

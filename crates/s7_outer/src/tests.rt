@@ -17,6 +17,9 @@ fn a_memory_link_moves_so_many(rt: HostRuntime) -> Result<(), Fail> {
     assert!(rt; link.transmit(b"!") == Sent::Failed);
     assert!(rt; link.written() == b"xyz".as_slice());
     assert!(rt; link.now() == Tick::At(7));
+    assert!(rt; !link.is_shut());
+    link.shutdown();
+    assert!(rt; link.is_shut());
     Ok(())
 }
 
@@ -41,6 +44,8 @@ fn a_failing_link_counts_all_calls(rt: HostRuntime) -> Result<(), Fail> {
     assert!(rt; link.now() == Tick::Failed);
     assert!(rt; link.transmit(b"x") == Sent::Bytes(1));
     assert!(rt; link.inner().written() == b"x".as_slice());
+    link.shutdown();
+    assert!(rt; link.inner().is_shut());
     Ok(())
 }
 
