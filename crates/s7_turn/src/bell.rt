@@ -1,7 +1,8 @@
 //! How a seat with a ticket waits for its turn, and how it is called.
 //!
-//! After a few looks it sleeps at the bell of its ticket. It writes its mark there before it looks a last time, and who advances
-//! reads the bell after that, so the call isn't missed. Tickets that share a bell have different marks, and none sleeps on another's.
+//! After a few looks it sleeps at the bell of its ticket. It writes its mark there before it looks a last time, and who
+//! advances reads the bell after that, so the call isn't missed. Tickets that share a bell have different marks, and
+//! none sleeps on another's.
 ghost use Rattle.std.specs.Prelude.{◌≡◌, ◌<◌, ◌≤◌};
 ghost use Rattle.s7_turn.specs.Turns.{IsSized};
 
@@ -28,7 +29,8 @@ fn mark_of(ticket: u64) -> u32 {
 // Sleeps until the bell rings, unless the turn has come.
 fn sleep<M: Machine, R: Wait>(rt: &R, top: &Top<M>, place: &mut Place<M>, ticket: u64)
     requires table { (place.old.table_id ≡ top.now.table_id) × IsSized top.now.table_id }
-    ensures seat { (place.new.table_id ≡ place.old.table_id) × (place.new.id ≡ place.old.id) × (place.new.me ≡ place.old.me) }
+    ensures seat { (place.new.table_id ≡ place.old.table_id) × (place.new.id ≡ place.old.id)
+        × (place.new.me ≡ place.old.me) }
 {
     let bell = bell_of(ticket);
     let mark = mark_of(ticket);
@@ -47,7 +49,8 @@ pub(crate) fn linger<M: Machine, R: Wait>(
     looks: u32,
 ) -> u32
     requires table { (place.old.table_id ≡ top.now.table_id) × IsSized top.now.table_id }
-    ensures seat { (place.new.table_id ≡ place.old.table_id) × (place.new.id ≡ place.old.id) × (place.new.me ≡ place.old.me) }
+    ensures seat { (place.new.table_id ≡ place.old.table_id) × (place.new.id ≡ place.old.id)
+        × (place.new.me ≡ place.old.me) }
 {
     if looks < LOOKS {
         spin_loop();
@@ -60,7 +63,8 @@ pub(crate) fn linger<M: Machine, R: Wait>(
 /// Wakes the seat with this ticket, if it sleeps.
 pub(crate) fn ring<M: Machine>(top: &Top<M>, place: &mut Place<M>, ticket: u64)
     requires table { (place.old.table_id ≡ top.now.table_id) × IsSized top.now.table_id }
-    ensures seat { (place.new.table_id ≡ place.old.table_id) × (place.new.id ≡ place.old.id) × (place.new.me ≡ place.old.me) }
+    ensures seat { (place.new.table_id ≡ place.old.table_id) × (place.new.id ≡ place.old.id)
+        × (place.new.me ≡ place.old.me) }
 {
     let bell = bell_of(ticket);
     if top.peek(bell) != 0 {

@@ -1,18 +1,23 @@
 //! Who waits before it has a ticket.
 //!
-//! Tickets are served in their order, so with many seats each turn would wait until one more sleeper is awake. Therefore only few
-//! seats hold a ticket at a time, and newcomers sleep at the door meanwhile. A sleeper is counted before it looks a last time, and
-//! who advances reads the count after that. Whoever finds the queue empty lets a sleeper in, so one is let in as long as any sleeps.
+//! Tickets are served in their order, so with many seats each turn would wait until one more sleeper is awake.
+//! Therefore few seats hold a ticket at a time. A newcomer looks for a while, since a turn is shorter than a sleep, and
+//! then sleeps at the door. It is counted before it looks a last time, and who advances reads the count after that.
+//! Whoever finds the queue empty lets a sleeper in, so one is let in as long as any sleeps.
 ghost use Rattle.std.specs.Prelude.{◌≡◌};
 ghost use Rattle.s7_turn.specs.Turns.{IsSized};
 
 use crate::machine::Machine;
 use crate::plays::{Place, Ring, Top};
 use crate::words::{DOOR, SERVING, SLEEPERS, TICKET};
+use std::hint::spin_loop;
 use std::sync::Wait;
 
-/// With so many tickets out, newcomers sleep.
-const FEW: u64 = 2;
+/// With so many tickets out, newcomers wait.
+const FEW: u64 = 1;
+
+/// A newcomer looks so often before it sleeps, each time after twice as long.
+const LOOKS: u32 = 6;
 
 /// A sleeper that was woken so often goes in, however many tickets are out.
 const PATIENCE: u32 = 4;
@@ -27,12 +32,32 @@ fn is_full<M: Machine>(top: &Top<M>) -> bool
     top.peek(TICKET).wrapping_sub(served) >= FEW
 }
 
-/// Sleeps while enough seats hold tickets.
+fn pause(times: u32) {
+    for _ in 0..times {
+        spin_loop();
+    }
+}
+
+// Looks for about a microsecond whether the queue has room.
+fn has_room_soon<M: Machine>(top: &Top<M>) -> bool
+    requires { IsSized top.now.table_id }
+{
+    for look in 0..LOOKS {
+        if !is_full(top) {
+            return true;
+        }
+        pause(1 << look);
+    }
+    false
+}
+
+/// Waits while enough seats hold tickets.
 pub(crate) fn pass<M: Machine, R: Wait>(rt: &R, top: &Top<M>, place: &mut Place<M>)
     requires table { (place.old.table_id ≡ top.now.table_id) × IsSized top.now.table_id }
-    ensures seat { (place.new.table_id ≡ place.old.table_id) × (place.new.id ≡ place.old.id) × (place.new.me ≡ place.old.me) }
+    ensures seat { (place.new.table_id ≡ place.old.table_id) × (place.new.id ≡ place.old.id)
+        × (place.new.me ≡ place.old.me) }
 {
-    if !is_full(top) {
+    if has_room_soon(top) {
         return;
     }
     top.fetch_add::<Ring>(place, SLEEPERS, 1);
@@ -49,7 +74,8 @@ pub(crate) fn pass<M: Machine, R: Wait>(rt: &R, top: &Top<M>, place: &mut Place<
 /// Lets one sleeper in, if the queue is empty now that so many were served.
 pub(crate) fn open<M: Machine>(top: &Top<M>, place: &mut Place<M>, served: u64)
     requires table { (place.old.table_id ≡ top.now.table_id) × IsSized top.now.table_id }
-    ensures seat { (place.new.table_id ≡ place.old.table_id) × (place.new.id ≡ place.old.id) × (place.new.me ≡ place.old.me) }
+    ensures seat { (place.new.table_id ≡ place.old.table_id) × (place.new.id ≡ place.old.id)
+        × (place.new.me ≡ place.old.me) }
 {
     if top.peek(SLEEPERS) == 0 {
         return;

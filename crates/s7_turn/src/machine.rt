@@ -5,7 +5,8 @@ ghost use Rattle.s7_turn.specs.Histories.{entry, replay};
 
 /// A state that requests change one by one, with the history of those that it took.
 ///
-/// A hall gives back a machine whose state is the replay of its history, so an impl puts into `State` all that is to be known then.
+/// A hall gives back a machine whose state is the replay of its history, so an impl puts into `State` all that is to be
+/// known then.
 pub trait Machine {
     type Request;
 
@@ -43,8 +44,8 @@ pub trait Machine {
     fn len(&self) -> u64
         ensures { result ≡ length (history self.now) };
 
-    /// Takes the request and answers its number in the history, from 0. It comes back where the history has its greatest length, and
-    /// nothing changes then.
+    /// Takes the request and answers its number in the history, from 0. It comes back where the history has its
+    /// greatest length, and nothing changes then.
     fn step(
         &mut self,
         caller: u32,
@@ -58,5 +59,10 @@ pub trait Machine {
         ensures replayed { state self.old ≡ replay after (opening self.old) (history self.old)
             → state self.new ≡ replay after (opening self.new) (history self.new) }
         ensures holds { holds self.old → holds self.new }
-        ensures step { MatchResult result (λ n. (n ≡ length (history self.old)) × (n < limit self.old) × (history self.new ≡ history self.old ++ entry caller (kept request) ∷ []) × gives (state self.old) caller (kept request) reply.new) (λ r. (r ≡ request) × (length (history self.old) ≡ limit self.old) × (self.new ≡ self.old) × (reply.new ≡ reply.old)) };
+        ensures step { MatchResult result
+            (λ n. (n ≡ length (history self.old)) × (n < limit self.old)
+            × (history self.new ≡ history self.old ++ entry caller (kept request) ∷ [])
+            × gives (state self.old) caller (kept request) reply.new)
+            (λ r. (r ≡ request) × (length (history self.old) ≡ limit self.old)
+            × (self.new ≡ self.old) × (reply.new ≡ reply.old)) };
 }

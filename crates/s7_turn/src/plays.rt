@@ -1,6 +1,7 @@
 //! The rule of the table, and what each step on it tells.
 ghost use Rattle.s7_turn.specs.Machines.{IsFrom};
-ghost use Rattle.s7_turn.specs.Turns.{Kept, opener, drew, looked, took, entered, gave, advanced, compared, rang, gave_number, newcomer, joined, nobody};
+ghost use Rattle.s7_turn.specs.Turns.{Kept, opener, drew, looked, took, entered, gave, advanced, compared, rang};
+ghost use Rattle.s7_turn.specs.Turns.{gave_number, newcomer, joined, nobody};
 
 use crate::machine::Machine;
 use crate::view::View;

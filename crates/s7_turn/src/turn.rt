@@ -38,7 +38,8 @@ pub(crate) fn take<M: Machine>(top: &Top<M>, place: &mut Place<M>) -> Box<M>
     requires table { (place.old.table_id ≡ top.now.table_id) × IsSized top.now.table_id }
     requires called { (place.old.me.1 ≡ []) × ((t : ℕ) × (place.old.me.0.stage ≡ Called t)) }
     ensures seat { (place.new.table_id ≡ place.old.table_id) × (place.new.id ≡ place.old.id) }
-    ensures took { (t : ℕ) × (place.new.me ≡ (at_stage place.old.me.0 (Took t (M.history result.value)), (0, None) ∷ [])) }
+    ensures took { (t : ℕ)
+        × (place.new.me ≡ (at_stage place.old.me.0 (Took t (M.history result.value)), (0, None) ∷ [])) }
     ensures agrees { Agrees place.old.me.0.seen place.old.me.0.callers (M.history result.value) }
     ensures origin { (x : _) → place.old.me.0.origin ≡ Some x → IsFrom M.Machine result.value x }
     ensures numbered { (n : ℕ) → place.old.me.0.next ≡ Some n → Each (λ e. e.caller < n) (M.history result.value) }
@@ -50,7 +51,9 @@ pub(crate) fn take<M: Machine>(top: &Top<M>, place: &mut Place<M>) -> Box<M>
 // Gives the machine back, and the turn to the next.
 pub(crate) fn give<M: Machine>(top: &Top<M>, place: &mut Place<M>, machine: Box<M>)
     requires table { (place.old.table_id ≡ top.now.table_id) × IsSized top.now.table_id }
-    requires took { (place.old.me.1 ≡ (0, None) ∷ []) × ((t : ℕ) × (h : _) × (place.old.me.0.stage ≡ Took t h) × AddedBy place.old.me.0.caller h (M.history machine.value)) }
+    requires took { (place.old.me.1 ≡ (0, None) ∷ [])
+        × ((t : ℕ) × (h : _) × (place.old.me.0.stage ≡ Took t h)
+        × AddedBy place.old.me.0.caller h (M.history machine.value)) }
     requires origin { (x : _) × (place.old.me.0.origin ≡ Some x) × IsFrom M.Machine machine.value x }
     ensures seat { (place.new.table_id ≡ place.old.table_id) × (place.new.id ≡ place.old.id) }
     ensures gave { place.new.me ≡ (record place.old.me.0 { seen = M.history machine.value; stage = Idle }, []) }

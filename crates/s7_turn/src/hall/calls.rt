@@ -1,5 +1,6 @@
 //! What a hall does.
-ghost use Rattle.std.specs.Prelude.{◌≡◌, ℕ, ◌+◌, ◌<◌, true, List, [], ◌∷◌, ◌++◌, length, Some, None, IsSome, IfOk, IfErr, MatchResult};
+ghost use Rattle.std.specs.Prelude.{◌≡◌, ℕ, ◌+◌, ◌<◌, true, List, [], ◌∷◌, ◌++◌, length, Some, None, IsSome, IfOk};
+ghost use Rattle.std.specs.Prelude.{IfErr, MatchResult};
 ghost use Rattle.std.specs.Option.{option_or};
 ghost use Rattle.s7_turn.specs.Histories.{has, entry, Each, Agrees, calls, replay};
 ghost use Rattle.s7_turn.specs.Machines.{IsReplayed};
@@ -56,12 +57,15 @@ fn machine_of<M>(mut slots: Vec<Option<Box<M>>>) -> M
 }
 
 impl<M: Machine> Hall<M> {
-    /// The first seat has caller 0, and gives the numbers of the others, from 1. Where there is no memory the machine comes back.
+    /// The first seat has caller 0, and gives the numbers of the others, from 1. Where there is no memory the machine
+    /// comes back.
     pub fn new(alloc: Global, machine: M) -> Result<(Hall<M>, Seat<M>), (Memory, M)>
         requires new { (M.history machine ≡ []) × (M.state machine ≡ M.opening machine) }
         requires holds { M.holds machine }
-        ensures hall { IfOk result (λ r. (M.opening (made r.0) ≡ M.opening machine) × (M.limit (made r.0) ≡ M.limit machine) × IsOf r.0 r.1) }
-        ensures seat { IfOk result (λ r. (caller r.1 ≡ 0) × (callers r.1 ≡ 0 ∷ []) × (seen r.1 ≡ []) × (next r.1 ≡ Some 1)) }
+        ensures hall { IfOk result (λ r. (M.opening (made r.0) ≡ M.opening machine)
+            × (M.limit (made r.0) ≡ M.limit machine) × IsOf r.0 r.1) }
+        ensures seat { IfOk result
+            (λ r. (caller r.1 ≡ 0) × (callers r.1 ≡ 0 ∷ []) × (seen r.1 ≡ []) × (next r.1 ≡ Some 1)) }
         ensures memory { IfErr result (λ e. e.1 ≡ machine) }
     {
         let about = Snapshot::of(&machine);
@@ -82,14 +86,17 @@ impl<M: Machine> Hall<M> {
         }
     }
 
-    /// Gives a new caller a seat that has seen as much and has made no call. The caller is the number that was next, which is now one higher.
-    /// It waits for nobody.
+    /// Gives a new caller a seat that has seen as much and has made no call. The caller is the number that was next,
+    /// which is now one higher. It waits for nobody.
     pub fn split(&self, seat: &mut Seat<M>) -> Seat<M>
         requires hall { IsOf self.now seat.old }
         requires number { (n : ℕ) × (next seat.old ≡ Some n) × (n < most) }
         ensures hall { IsOf self.now result }
-        ensures new { (next seat.old ≡ Some (caller result)) × (callers result ≡ caller result ∷ []) × (seen result ≡ seen seat.old) × (calls (caller result) (seen result) ≡ []) × (next result ≡ None) }
-        ensures old { IsOf self.now seat.new × (caller seat.new ≡ caller seat.old) × (callers seat.new ≡ callers seat.old) × (seen seat.new ≡ seen seat.old) × (next seat.new ≡ Some (caller result + 1)) }
+        ensures new { (next seat.old ≡ Some (caller result)) × (callers result ≡ caller result ∷ [])
+            × (seen result ≡ seen seat.old) × (calls (caller result) (seen result) ≡ []) × (next result ≡ None) }
+        ensures old { IsOf self.now seat.new × (caller seat.new ≡ caller seat.old)
+            × (callers seat.new ≡ callers seat.old) × (seen seat.new ≡ seen seat.old)
+            × (next seat.new ≡ Some (caller result + 1)) }
         ensures below { (x : ℕ) → has (callers seat.old) x ≡ true → x < caller result }
     {
         let caller = seat.next.unwrap();
@@ -102,7 +109,8 @@ impl<M: Machine> Hall<M> {
         }
     }
 
-    /// Has the machine take the request, in a turn of the seat's. `Full` comes exactly where the history that it finds has its greatest length.
+    /// Has the machine take the request, in a turn of the seat's. `Full` comes exactly where the history that it finds
+    /// has its greatest length.
     pub fn act<R: Wait>(
         &self,
         rt: &R,
@@ -113,10 +121,17 @@ impl<M: Machine> Hall<M> {
         requires hall { IsOf self.now seat.old }
         requires request { M.request_ready request }
         requires reply { M.reply_ready reply.old }
-        ensures seat { IsOf self.now seat.new × (caller seat.new ≡ caller seat.old) × (callers seat.new ≡ callers seat.old) × (next seat.new ≡ next seat.old) }
+        ensures seat { IsOf self.now seat.new × (caller seat.new ≡ caller seat.old)
+            × (callers seat.new ≡ callers seat.old) × (next seat.new ≡ next seat.old) }
         ensures reply { M.reply_ready reply.new }
-        ensures entered { IfOk result (λ r. (h : List _) × (seen seat.new ≡ h ++ entry (caller seat.old) (M.kept request) ∷ []) × (length h ≡ r.number) × (r.number < M.limit (made self.now)) × Agrees (seen seat.old) (callers seat.old) h × M.gives (replay M.after (M.opening (made self.now)) h) (caller seat.old) (M.kept request) reply.new × (calls (caller seat.old) (seen seat.new) ≡ calls (caller seat.old) (seen seat.old) ++ r.number ∷ [])) }
-        ensures full { IfErr result (λ f. (f.request ≡ request) × (f.len ≡ M.limit (made self.now)) × (length (seen seat.new) ≡ f.len) × Agrees (seen seat.old) (callers seat.old) (seen seat.new) × (reply.new ≡ reply.old)) }
+        ensures entered { IfOk result (λ r. (h : List _)
+            × (seen seat.new ≡ h ++ entry (caller seat.old) (M.kept request) ∷ []) × (length h ≡ r.number)
+            × (r.number < M.limit (made self.now)) × Agrees (seen seat.old) (callers seat.old) h
+            × M.gives (replay M.after (M.opening (made self.now)) h) (caller seat.old) (M.kept request) reply.new
+            × (calls (caller seat.old) (seen seat.new) ≡ calls (caller seat.old) (seen seat.old) ++ r.number ∷ [])) }
+        ensures full { IfErr result (λ f. (f.request ≡ request) × (f.len ≡ M.limit (made self.now))
+            × (length (seen seat.new) ≡ f.len) × Agrees (seen seat.old) (callers seat.old) (seen seat.new)
+            × (reply.new ≡ reply.old)) }
     {
         let top = &self.table.shared;
         wait_turn(rt, top, &mut seat.place);
@@ -137,7 +152,8 @@ impl<M: Machine> Hall<M> {
         requires two { IsOf self.now two }
         ensures hall { IsOf self.now result }
         ensures callers { (caller result ≡ caller one) × (callers result ≡ callers one ++ callers two) }
-        ensures seen { (seen result ≡ longer (seen one) (seen two)) × Agrees (seen one) (callers one) (seen result) × Agrees (seen two) (callers two) (seen result) }
+        ensures seen { (seen result ≡ longer (seen one) (seen two)) × Agrees (seen one) (callers one) (seen result)
+            × Agrees (seen two) (callers two) (seen result) }
         ensures next { (next result ≡ option_or (next one) (next two)) × (IsSome (next one) → next two ≡ None) }
     {
         let Seat {
@@ -168,7 +184,8 @@ impl<M: Machine> Hall<M> {
         ensures holds { M.holds result }
         ensures agrees { Agrees (seen seat) (callers seat) (M.history result) }
         ensures numbered { (n : ℕ) → next seat ≡ Some n → Each (λ e. e.caller < n) (M.history result) }
-        ensures whole { (n : ℕ) → next seat ≡ Some n → ((x : ℕ) → x < n → has (callers seat) x ≡ true) → (M.history result ≡ seen seat) × Each (λ e. has (callers seat) e.caller ≡ true) (M.history result) }
+        ensures whole { (n : ℕ) → next seat ≡ Some n → ((x : ℕ) → x < n → has (callers seat) x ≡ true)
+            → (M.history result ≡ seen seat) × Each (λ e. has (callers seat) e.caller ≡ true) (M.history result) }
     {
         let Hall { table } = self;
         let Seat {
