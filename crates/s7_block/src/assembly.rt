@@ -47,7 +47,8 @@ impl Model for Assembly {
 }
 
 impl Assembly {
-    ghost use Rattle.s7_block.specs.Assembly.{idle, awaiting, is_awaiting, octets_of, whole_image, answer_to, after_piece};
+    ghost use Rattle.s7_block.specs.Assembly.{idle, awaiting, is_awaiting, octets_of, whole_image, answer_to};
+    ghost use Rattle.s7_block.specs.Assembly.{after_piece};
 
     pub(crate) fn new(alloc: Global, room: usize) -> Result<Assembly, Memory>
         ensures { IfOk result (λ a. a ≡ record { progress = idle; room = room }) }

@@ -1,5 +1,6 @@
 // A store of blocks.
-ghost use Rattle.std.specs.Prelude.{◌≡◌, ◌≢◌, ◌≤◌, [], None, Some, Ok, Err, true, length, is_none, IfOk, IfErr, IfSome, IfNone, OnErr, IsTrue, option_map};
+ghost use Rattle.std.specs.Prelude.{◌≡◌, ◌≢◌, ◌≤◌, [], None, Some, Ok, Err, true, length, is_none, IfOk, IfErr, IfSome};
+ghost use Rattle.std.specs.Prelude.{IfNone, OnErr, IsTrue, option_map};
 ghost use Rattle.std.specs.Option.{option_copied};
 ghost use Rattle.s7_block.specs.Heads.{head_agrees};
 ghost use Rattle.s7_block.specs.Kinds.{is_stored_kind};
@@ -36,7 +37,8 @@ impl Model for Blocks {
 }
 
 impl Blocks {
-    ghost use Rattle.s7_block.specs.Store.{name_of, block_at, with_block, without_block, numbers_of, is_full, fault_of, IsStore};
+    ghost use Rattle.s7_block.specs.Store.{name_of, block_at, with_block, without_block, numbers_of, is_full, fault_of};
+    ghost use Rattle.s7_block.specs.Store.{IsStore};
     ghost use Rattle.s7_block.specs.StorePlaces.{IsAt, IsGapFor};
 
     /// A store without blocks that may have up to `limit`, at most 1,024. Their places are taken

@@ -1,6 +1,7 @@
 // The heads of blocks.
 ghost use Rattle.std.specs.Prelude.{◌≡◌, ◌+◌, ◌<◌, ◌≤◌, length};
-ghost use Rattle.s7_block.specs.Heads.{head_agrees, begins_head, is_of_block, head_of, spelling_of_head, db_head, two_at, four_at};
+ghost use Rattle.s7_block.specs.Heads.{head_agrees, begins_head, is_of_block, head_of, spelling_of_head, db_head};
+ghost use Rattle.s7_block.specs.Heads.{two_at, four_at};
 
 use crate::kinds::head_code;
 

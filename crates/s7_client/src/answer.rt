@@ -38,8 +38,10 @@ pub(crate) enum Answer<'a> {
 /// The answer that the message is to a telegram of this sequence; `None` exactly where it is none.
 #[tactic(auto, unfolding(crate::specs::Answer::answer_of))]
 pub(crate) fn read_answer<'a>(asked: &Asked, sequence: u16, message: &'a [u8]) -> Option<Answer<'a>>
-    ensures some { (question : Question) → IsAsked asked.now question → IfSome result (λ answer. TellsSome question answer (answer_of question sequence message.now)) }
-    ensures none { (question : Question) → IsAsked asked.now question → IfNone result (answer_of question sequence message.now ≡ None) }
+    ensures some { (question : Question) → IsAsked asked.now question
+        → IfSome result (λ answer. TellsSome question answer (answer_of question sequence message.now)) }
+    ensures none { (question : Question) → IsAsked asked.now question
+        → IfNone result (answer_of question sequence message.now ≡ None) }
 {
     let Ok(header) = read_header(message) else {
         return None;

@@ -26,7 +26,8 @@ impl Config {
     pub fn new(kind: u8, rack: u8, slot: u8) -> Config
         requires rack { rack ≤ 7 }
         requires slot { slot ≤ 31 }
-        ensures { result ≡ record { calling = 0x0100; called = kind * 256 + rack * 32 + slot; pdu = 480; jobs = 1; polls = 50 } }
+        ensures { result
+            ≡ record { calling = 0x0100; called = kind * 256 + rack * 32 + slot; pdu = 480; jobs = 1; polls = 50 } }
     {
         Config {
             calling: CALLING,

@@ -8,7 +8,9 @@ ghost use Rattle.s7_wire.specs.Bounds.{most_packets};
 ghost use Rattle.s7_client.specs.Question.{Question};
 ghost use Rattle.s7_client.specs.Dialogue.{sends, numbered};
 ghost use Rattle.s7_client.specs.Running.{next_of, IsAsking, IsOpening, answers_left};
-ghost use Rattle.s7_client.specs.Course.{Origin, Course, octets_of, sequence_by, next_sequence, connect_octets, nothing_unfinished, for_answer, with_packet, confirming, connected, with_message};
+ghost use Rattle.s7_client.specs.Course.{Origin, Course, octets_of, sequence_by, next_sequence, connect_octets};
+ghost use Rattle.s7_client.specs.Course.{nothing_unfinished, for_answer, with_packet, confirming, connected};
+ghost use Rattle.s7_client.specs.Course.{with_message};
 ghost use Rattle.s7_client.specs.At.{IsAt, Reaches, Settles, Takes, IsAwaiting, IsClear};
 
 use crate::codes::{
@@ -39,7 +41,8 @@ impl Talk {
     /// Puts the telegram that comes next, if there is one.
     pub(crate) fn put_telegram(&mut self, running: &Running, config: &Config)
         requires sent { self.old.outbox.unsent ≡ [] }
-        ensures unsent { self.new.outbox.unsent ≡ octets_of config.now self.old.size self.new.sequence (next_of config.now running.now) }
+        ensures unsent { self.new.outbox.unsent
+            ≡ octets_of config.now self.old.size self.new.sequence (next_of config.now running.now) }
         ensures sequence { self.new.sequence ≡ sequence_by self.old.sequence (next_of config.now running.now) }
         ensures most { length self.new.outbox.unsent ≤ most_packets }
         ensures size { self.new.size ≡ self.old.size }
@@ -122,7 +125,8 @@ impl Talk {
         requires sent { self.old.outbox.unsent ≡ [] }
         requires carried { job.old.carried.room ≡ 8192 }
         requires pdu { config.now.pdu ≤ 960 }
-        ensures reaches { (origin : Origin) (course : Course) → origin.config ≡ config.now → origin.granted ≡ granted → IsAt origin course self.old job.old
+        ensures reaches { (origin : Origin) (course : Course) → origin.config ≡ config.now → origin.granted ≡ granted
+            → IsAt origin course self.old job.old
             → Reaches origin course (with_packet origin course body.now) self.new job.new }
         ensures takes { Takes self.old job.old self.new job.new }
         ensures carried { job.new.carried.room ≡ 8192 }
@@ -147,7 +151,8 @@ impl Talk {
         requires writable { CanBeWrittenAgain tpdu.now }
         requires carried { job.old.carried.room ≡ 8192 }
         requires pdu { config.now.pdu ≤ 960 }
-        ensures reaches { (origin : Origin) (course : Course) → origin.config ≡ config.now → IsAt origin course self.old job.old
+        ensures reaches { (origin : Origin) (course : Course) → origin.config ≡ config.now
+            → IsAt origin course self.old job.old
             → Reaches origin course (confirming origin course (Ok (told_of tpdu.now))) self.new job.new }
         ensures takes { Takes self.old job.old self.new job.new }
         ensures carried { job.new.carried.room ≡ 8192 }
@@ -179,8 +184,10 @@ impl Talk {
         requires sent { self.old.outbox.unsent ≡ [] }
         requires carried { job.old.carried.room ≡ 8192 }
         requires pdu { config.now.pdu ≤ 960 }
-        ensures reaches { (origin : Origin) (course : Course) (question : Question) → origin.config ≡ config.now → origin.granted ≡ granted → IsAt origin course self.old job.old
-            → course.awaits ≡ for_answer question → Reaches origin course (connected origin course question (Ok (told_of tpdu.now))) self.new job.new }
+        ensures reaches { (origin : Origin) (course : Course) (question : Question) → origin.config ≡ config.now
+            → origin.granted ≡ granted → IsAt origin course self.old job.old
+            → course.awaits ≡ for_answer question
+            → Reaches origin course (connected origin course question (Ok (told_of tpdu.now))) self.new job.new }
         ensures takes { Takes self.old job.old self.new job.new }
         ensures carried { job.new.carried.room ≡ 8192 }
         ensures waited { job.new.waited ≡ job.old.waited }
@@ -208,8 +215,10 @@ impl Talk {
         requires sent { self.old.outbox.unsent ≡ [] }
         requires carried { job.old.carried.room ≡ 8192 }
         requires pdu { config.now.pdu ≤ 960 }
-        ensures reaches { (origin : Origin) (course : Course) (question : Question) → origin.config ≡ config.now → origin.granted ≡ granted → IsAt origin course self.old job.old
-            → course.awaits ≡ for_answer question → Reaches origin course (connected origin course question (Ok (fragment last user.now))) self.new job.new }
+        ensures reaches { (origin : Origin) (course : Course) (question : Question) → origin.config ≡ config.now
+            → origin.granted ≡ granted → IsAt origin course self.old job.old
+            → course.awaits ≡ for_answer question
+            → Reaches origin course (connected origin course question (Ok (fragment last user.now))) self.new job.new }
         ensures takes { Takes self.old job.old self.new job.new }
         ensures carried { job.new.carried.room ≡ 8192 }
         ensures waited { job.new.waited ≡ job.old.waited }
@@ -231,8 +240,10 @@ impl Talk {
         requires sent { self.old.outbox.unsent ≡ [] }
         requires carried { job.old.carried.room ≡ 8192 }
         requires pdu { config.now.pdu ≤ 960 }
-        ensures reaches { (origin : Origin) (course : Course) (question : Question) → origin.config ≡ config.now → origin.granted ≡ granted → IsAt origin course self.old job.old
-            → course.awaits ≡ for_answer question → Reaches origin course (with_message origin course question self.old.joiner.octets) self.new job.new }
+        ensures reaches { (origin : Origin) (course : Course) (question : Question) → origin.config ≡ config.now
+            → origin.granted ≡ granted → IsAt origin course self.old job.old
+            → course.awaits ≡ for_answer question
+            → Reaches origin course (with_message origin course question self.old.joiner.octets) self.new job.new }
         ensures settles { Settles self.new job.new }
         ensures carried { job.new.carried.room ≡ 8192 }
         ensures waited { job.new.waited ≡ job.old.waited }

@@ -1,6 +1,7 @@
 // How jobs are started and polled.
 ghost use Rattle.std.specs.Prelude.{◌≡◌, ◌<◌, ◌≤◌, [], true, false, None, IsSome, IfOk, OnOk, IfErr, OnErr};
-ghost use Rattle.s7_client.specs.Polling.{IsFresh, IsStarted, IsPoll, job_of, granted_pdu, closed_of, IsNew, IsBlank, BeginsLine, Waits, Round, grant_after, closed_after};
+ghost use Rattle.s7_client.specs.Polling.{IsFresh, IsStarted, IsPoll, job_of, granted_pdu, closed_of, IsNew, IsBlank};
+ghost use Rattle.s7_client.specs.Polling.{BeginsLine, Waits, Round, grant_after, closed_after};
 ghost use Rattle.s7_client.specs.At.{LeavesLink};
 ghost use Rattle.s7_client.specs.Running.{next_of, Follows, IsOver, IsResult};
 ghost use Rattle.s7_client.specs.Dialogue.{ends, End};
@@ -182,7 +183,8 @@ impl Client {
 // What came of a job that is over.
 fn done(job: UnderWay) -> JobResult
     requires { IsOver job.running.stage }
-    ensures { (config : _) (end : End) → next_of config job.running ≡ ends end → IsResult result job.running.job end job.carried.octets }
+    ensures { (config : _) (end : End) → next_of config job.running ≡ ends end
+        → IsResult result job.running.job end job.carried.octets }
 {
     let UnderWay {
         running,
@@ -254,7 +256,8 @@ impl Line {
         requires fits { Fits self.old job.old }
         requires pdu { config.now.pdu ≤ 960 }
         requires waited { job.old.waited < config.now.polls }
-        ensures { Round self.old job.old (L.shows link.old) self.new job.new (L.shows link.new) config.now granted result }
+        ensures { Round self.old job.old (L.shows link.old) self.new job.new
+            (L.shows link.new) config.now granted result }
     {
         match self.advance(job, config, granted, link) {
             Step::NotYet => job.wait(config.polls),

@@ -1,15 +1,18 @@
 // How a job goes on from answer to answer.
-ghost use Rattle.std.specs.Prelude.{◌≡◌, true, length, drop, List, [], ◌∷◌, ◌++◌, take, Option, ◌+◌, ◌≤◌, IfOk, IfErr, IfSome, IfNone};
+ghost use Rattle.std.specs.Prelude.{◌≡◌, true, length, drop, List, [], ◌∷◌, ◌++◌, take, Option, ◌+◌, ◌≤◌, IfOk, IfErr};
+ghost use Rattle.std.specs.Prelude.{IfSome, IfNone};
 ghost use Rattle.std.specs.Option.{ForSome};
 ghost use Rattle.s7_client.specs.Question.{Question, question_octets};
 ghost use Rattle.s7_client.specs.Answer as spelled;
 ghost use Rattle.s7_client.specs.Told.{Tells, TellsSome};
-ghost use Rattle.s7_client.specs.Dialogue.{sends, ends, numbered, connect_request, disconnect_request, End, fault_end, departed_end, with_number, asked_by, dialogue};
+ghost use Rattle.s7_client.specs.Dialogue.{sends, ends, numbered, connect_request, disconnect_request, End, fault_end};
+ghost use Rattle.s7_client.specs.Dialogue.{departed_end, with_number, asked_by, dialogue};
 ghost use Rattle.s7_client.specs.Left.{groups_left};
 ghost use Rattle.s7_client.specs.Stages.{is_alone, octets_of, is_granted};
 ghost use Rattle.s7_client.specs.GoesOn.{Conducts};
 ghost use Rattle.s7_client.specs.Taking.{TellsFor, CanSend};
-ghost use Rattle.s7_client.specs.Running.{next_of, Follows, IsOver, IsAsking, IsOpening, IsLeaving, IsResult, answers_left};
+ghost use Rattle.s7_client.specs.Running.{next_of, Follows, IsOver, IsAsking, IsOpening, IsLeaving, IsResult};
+ghost use Rattle.s7_client.specs.Running.{answers_left};
 ghost use Rattle.s7_client.specs.declared.grant.Grant.{Grant};
 ghost use Rattle.s7_client.specs.At.{LeavesLink, LeavesOpen};
 
@@ -64,7 +67,8 @@ impl Running {
     pub(crate) fn write_question(&self, config: &Config, sequence: u16, message: &mut Buffer)
         requires asking { IsAsking self.now.stage }
         requires room { message.old.room ≡ 960 }
-        ensures octets { (question : Question) → next_of config.now self.now ≡ sends (numbered question) → message.new.octets ≡ question_octets sequence question }
+        ensures octets { (question : Question) → next_of config.now self.now ≡ sends (numbered question)
+            → message.new.octets ≡ question_octets sequence question }
         ensures room { message.new.room ≡ 960 }
     {
         match &self.stage {
@@ -85,8 +89,10 @@ impl Running {
     /// is none.
     pub(crate) fn judge<'a>(&self, sequence: u16, message: &'a [u8]) -> Option<Answer<'a>>
         requires { IsAsking self.now.stage }
-        ensures some { (config : _) (question : Question) → next_of config self.now ≡ sends (numbered question) → IfSome result (λ answer. TellsSome question answer (spelled.answer_of question sequence message.now)) }
-        ensures none { (config : _) (question : Question) → next_of config self.now ≡ sends (numbered question) → IfNone result (spelled.answer_of question sequence message.now ≡ None) }
+        ensures some { (config : _) (question : Question) → next_of config self.now ≡ sends (numbered question)
+            → IfSome result (λ answer. TellsSome question answer (spelled.answer_of question sequence message.now)) }
+        ensures none { (config : _) (question : Question) → next_of config self.now ≡ sends (numbered question)
+            → IfNone result (spelled.answer_of question sequence message.now ≡ None) }
     {
         match &self.stage {
             Stage::Asking { asked, .. } => read_answer(asked, sequence, message),
@@ -99,7 +105,8 @@ impl Running {
         requires asking { IsAsking self.old.stage }
         requires pdu { config.now.pdu ≤ 960 }
         ensures follows { (answers : List spelled.Answer) (question : Question) (x : spelled.Answer)
-            → Follows self.old config.now granted answers → next_of config.now self.old ≡ sends (numbered question) → Tells question answer.now x
+            → Follows self.old config.now granted answers → next_of config.now self.old ≡ sends (numbered question)
+            → Tells question answer.now x
             → Follows self.new config.now granted (answers ++ x ∷ []) }
         ensures fewer { answers_left self.new.stage + 1 ≤ answers_left self.old.stage }
         ensures job { self.new.job ≡ self.old.job }
@@ -126,7 +133,8 @@ impl Running {
     /// Goes on with the confirm of the connect request.
     pub(crate) fn confirm(&mut self, config: &Config)
         requires { IsOpening self.old.stage }
-        ensures follows { (granted : Option Grant) (answers : List spelled.Answer) → Follows self.old config.now granted answers
+        ensures follows { (granted : Option Grant) (answers : List spelled.Answer)
+            → Follows self.old config.now granted answers
             → Follows self.new config.now granted (answers ++ spelled.confirms ∷ []) }
         ensures fewer { answers_left self.new.stage + 1 ≤ answers_left self.old.stage }
         ensures job { self.new.job ≡ self.old.job }
@@ -142,7 +150,8 @@ impl Running {
     /// Ends once the disconnect request was transmitted.
     pub(crate) fn depart(&mut self, config: &Config)
         requires { IsLeaving self.old.stage }
-        ensures follows { (granted : Option Grant) (answers : List spelled.Answer) → Follows self.old config.now granted answers
+        ensures follows { (granted : Option Grant) (answers : List spelled.Answer)
+            → Follows self.old config.now granted answers
             → Follows self.new config.now granted (answers ++ spelled.departed ∷ []) }
         ensures departs { (k : _) → next_of k self.new ≡ ends (departed_end) }
         ensures over { IsOver self.new.stage }
@@ -176,7 +185,8 @@ impl Running {
     /// What came of the job, which is over.
     pub(crate) fn into_result(self, carried: Octets) -> JobResult
         requires { IsOver self.stage }
-        ensures result { (config : _) (end : End) → next_of config self ≡ ends end → IsResult result self.job end carried }
+        ensures result { (config : _) (end : End) → next_of config self ≡ ends end
+            → IsResult result self.job end carried }
     {
         let Running {
             job,
@@ -221,7 +231,8 @@ impl Running {
     )
         requires sendable { CanSend self.old.job write from (items.now ∷ groups_left left) }
         ensures follows { (config : _) (granted : Option Grant) (answers : List spelled.Answer) (x : spelled.Answer)
-            → Conducts (is_alone self.old.job) write (dialogue self.old.job config granted) answers self.old.found self.old.codes is_first (items.now ∷ groups_left left) (drop from (octets_of self.old.job))
+            → Conducts (is_alone self.old.job) write (dialogue self.old.job config granted) answers self.old.found
+            self.old.codes is_first (items.now ∷ groups_left left) (drop from (octets_of self.old.job))
             → TellsFor write items.now answer.now x
             → Follows self.new config granted (answers ++ x ∷ []) }
         ensures fewer { answers_left self.new.stage ≤ length (groups_left left) }

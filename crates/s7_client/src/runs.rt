@@ -20,7 +20,8 @@ impl Client {
         link: &mut L,
     ) -> Result<JobResult, StartFault>
         requires idle { job_of self.old ≡ None }
-        ensures run { IfOk result (λ told. JobRun (config_of self.old) (between_of self.old) job (L.shows link.old) (L.shows link.new) told (between_of self.new)) }
+        ensures run { IfOk result (λ told. JobRun (config_of self.old) (between_of self.old) job
+            (L.shows link.old) (L.shows link.new) told (between_of self.new)) }
         ensures idle { job_of self.new ≡ None }
         ensures config { config_of self.new ≡ config_of self.old }
         ensures refused { OnErr result (L.shows link.new ≡ L.shows link.old) }

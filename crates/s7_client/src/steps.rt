@@ -35,7 +35,8 @@ impl Line {
     ) -> Step
         requires fits { Fits self.old job.old }
         requires pdu { config.now.pdu ≤ 960 }
-        ensures steps { IsStep self.old job.old (L.shows link.old) self.new job.new (L.shows link.new) config.now granted result }
+        ensures steps { IsStep self.old job.old (L.shows link.old) self.new job.new
+            (L.shows link.new) config.now granted result }
         ensures rests { result ≢ Step.Went }
     {
         loop {
@@ -58,7 +59,8 @@ impl Line {
     ) -> Step
         requires fits { Fits self.old job.old }
         requires pdu { config.now.pdu ≤ 960 }
-        ensures { IsStep self.old job.old (L.shows link.old) self.new job.new (L.shows link.new) config.now granted result }
+        ensures { IsStep self.old job.old (L.shows link.old) self.new job.new
+            (L.shows link.new) config.now granted result }
     {
         if !self.talk.outbox.is_empty() {
             return match self.talk.outbox.flush(link) {
@@ -93,7 +95,8 @@ impl Line {
         requires pdu { config.now.pdu ≤ 960 }
         requires sent { unsent self.old ≡ [] }
         requires awaiting { IsAwaiting job.old.running.stage }
-        ensures { IsStep self.old job.old (L.shows link.old) self.new job.new (L.shows link.new) config.now granted result }
+        ensures { IsStep self.old job.old (L.shows link.old) self.new job.new
+            (L.shows link.new) config.now granted result }
     {
         if !self.inbox.is_empty() {
             self.consume(job, config, granted);

@@ -134,7 +134,8 @@ pub(crate) fn number_by(alone: bool, write: bool, is_first: bool, number: u32) -
 pub(crate) fn negotiated(config: &Config, answer: &Answer<'_>) -> (u32, Leaves)
     requires { config.now.pdu ≤ 960 }
     ensures granted { is_granted result.1 ≡ true }
-    ensures ends { (asked : Negotiation) (x : spelled.Answer) → Tells (negotiates asked) answer.now x → with_number result.0 result.1 ≡ negotiated config.now x }
+    ensures ends { (asked : Negotiation) (x : spelled.Answer) → Tells (negotiates asked) answer.now x
+        → with_number result.0 result.1 ≡ negotiated config.now x }
 {
     match answer {
         Answer::Granted(granted) => match taken_grant(config, granted) {

@@ -111,7 +111,8 @@ impl Rig {
     fn take_drawn(&mut self, alloc: Global, seed: u32, steps: u32) -> Result<(), Memory>
         requires { 0 < length self.old.stations.items }
         ensures turns { OnOk result ((stirs : Bool)
-            × Turns (seeded seed steps (2 * length self.old.stations.items)) (state_of self.old) (state_of self.new) stirs) }
+            × Turns (seeded seed steps (2 * length self.old.stations.items))
+            (state_of self.old) (state_of self.new) stirs) }
         ensures count { length self.new.stations.items ≡ length self.old.stations.items }
     {
         let mut draw = Draw::new(seed);
@@ -140,7 +141,8 @@ impl Rig {
 
     // A turn of each actor. Says whether one of them stirred.
     fn round(&mut self, alloc: Global) -> Result<bool, Memory>
-        ensures turns { IfOk result (λ stirs. Turns (actors_of (state_of self.old)) (state_of self.old) (state_of self.new) stirs) }
+        ensures turns { IfOk result
+            (λ stirs. Turns (actors_of (state_of self.old)) (state_of self.old) (state_of self.new) stirs) }
         ensures count { length self.new.stations.items ≡ length self.old.stations.items }
     {
         let mut stirred = false;

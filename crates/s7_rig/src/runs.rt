@@ -53,7 +53,8 @@ pub fn run_rig(
     requires few_clients { length scripts.items ≤ 1024 }
     requires actors { All (λ actor. actor < 2 * length scripts.items) schedule.turns.now }
     ensures { IfOk result (λ end. RigRan areas limit config (map (λ s. s.items) scripts.items)
-        (record { turns = schedule.entry.turns.now; seed = schedule.entry.seed; steps = schedule.entry.steps }) (end_told end)) }
+        (record { turns = schedule.entry.turns.now; seed = schedule.entry.seed; steps = schedule.entry.steps })
+        (end_told end)) }
 {
     let mut rig = Rig::new(alloc, areas, limit, scripts, config)?;
     rig.run(alloc, schedule.turns, schedule.seed, schedule.steps)?;

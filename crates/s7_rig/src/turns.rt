@@ -1,5 +1,6 @@
 // The turns of a client and of the session that serves it.
-ghost use Rattle.std.specs.Prelude.{◌≡◌, ◌≢◌, ◌<◌, ◌≤◌, ◌⊎◌, ◌-◌, ◌++◌, ◌∷◌, [], length, vec_capacity, None, Some, false, option_map, unwrap_or, IfOk, OnOk, IsSome};
+ghost use Rattle.std.specs.Prelude.{◌≡◌, ◌≢◌, ◌<◌, ◌≤◌, ◌⊎◌, ◌-◌, ◌++◌, ◌∷◌, [], length, vec_capacity, None, Some};
+ghost use Rattle.std.specs.Prelude.{false, option_map, unwrap_or, IfOk, OnOk, IsSome};
 ghost use Rattle.s7_client.specs.declared.config.Config.{Config};
 ghost use Rattle.s7_session.specs.Stands.{closed_by};
 ghost use Rattle.s7_rig.specs.Numbers.{count_from};
@@ -73,7 +74,8 @@ impl Station {
 
     // Starts the next job, where none is outstanding and one is left.
     fn start_next(&mut self, alloc: Global) -> Result<(), Memory>
-        ensures { OnOk result (StartsNext (post_of self.old) (post_of self.new) ⊎ StartsNothing (post_of self.old) (post_of self.new)) }
+        ensures { OnOk result (StartsNext (post_of self.old) (post_of self.new)
+            ⊎ StartsNothing (post_of self.old) (post_of self.new)) }
     {
         if self.noted.is_some() {
             return Ok(());

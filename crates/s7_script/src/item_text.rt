@@ -2,7 +2,8 @@
 ghost use Rattle.std.specs.Prelude.{◌≡◌, ◌<◌, ◌≤◌, ◌+◌, IfOk, IfSome, length, take, drop, option_map};
 ghost use Rattle.std.specs.List.{position};
 ghost use Rattle.std.specs.Result.{result_map_both};
-ghost use Rattle.s7_script.specs.Script.{address_of, bit_place, ended, is_point, item_at, key_of, octet_place, place, read_item, with_count, with_start, with_word, within, word_named, word_of};
+ghost use Rattle.s7_script.specs.Script.{address_of, bit_place, ended, is_point, item_at, key_of, octet_place, place};
+ghost use Rattle.s7_script.specs.Script.{read_item, with_count, with_start, with_word, within, word_named, word_of};
 ghost use Rattle.s7_script.specs.ScriptShown.{place_of};
 
 use crate::ScriptKind;

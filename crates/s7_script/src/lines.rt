@@ -1,5 +1,6 @@
 // The lines of a text, and the fields of a line.
-ghost use Rattle.std.specs.Prelude.{◌≡◌, ◌≢◌, ◌==◌, ◌&&◌, nat_lt, nat_le, IfSome, IfNone, ◌<◌, ◌≤◌, ◌+◌, ◌-◌, ◌∷◌, ℕ, length, option_map, take, drop, slice_index, true};
+ghost use Rattle.std.specs.Prelude.{◌≡◌, ◌≢◌, ◌==◌, ◌&&◌, nat_lt, nat_le, IfSome, IfNone, ◌<◌, ◌≤◌, ◌+◌, ◌-◌, ◌∷◌, ℕ};
+ghost use Rattle.std.specs.Prelude.{length, option_map, take, drop, slice_index, true};
 ghost use Rattle.std.specs.List.{list_all, position};
 ghost use Rattle.std.specs.Char.{is_ascii_digit};
 ghost use Rattle.std.specs.Str.Parse.{digits_value};

@@ -3,7 +3,8 @@ ghost use Rattle.std.specs.Prelude.{◌≡◌, ◌≢◌, ◌≤◌, length, opt
 ghost use Rattle.hex.specs.Hex.{decode_of};
 ghost use Rattle.s7_script.specs.Fields.{number_of};
 ghost use Rattle.s7_script.specs.Reading.{areas as areas_by};
-ghost use Rattle.s7_script.specs.Naming.{naming, path, inline_parts, block_number, block_octets, block_named, block_with};
+ghost use Rattle.s7_script.specs.Naming.{naming, path, inline_parts, block_number, block_octets, block_named};
+ghost use Rattle.s7_script.specs.Naming.{block_with};
 ghost use Rattle.s7_script.specs.Loading.{Loads, LoadsBlock, Answers, opening, with_line_fault};
 
 use crate::lines::{number, split_mark};

@@ -29,5 +29,6 @@ pub(crate) struct State {
     pub current: Option<Open>,
     ghost is_total: { total ≡ total_of areas },
     ghost fits: { total ≤ most_in_all },
-    ghost ordered: { IsStrictlySortedBy key_cmp (keys_of areas.areas) } by { IsStrictlySortedBy-prop key_cmp (keys_of areas.areas) },
+    ghost ordered: { IsStrictlySortedBy key_cmp (keys_of areas.areas) } by { IsStrictlySortedBy-prop
+        key_cmp (keys_of areas.areas) },
 }

@@ -4,7 +4,8 @@ ghost use Rattle.std.specs.List.{flat_map};
 ghost use Rattle.std.specs.Fmt.{decimal};
 ghost use Rattle.hex.specs.Hex.{encode_lower, encode_upper};
 ghost use Rattle.s7_client.specs.Form.{count_read, octets_read};
-ghost use Rattle.s7_script.specs.Printing.{IsPrintable, IsPrintableOf, code_text, four_octets, job_values, octets_value, print, read_values, spaced, values, values_text, word_of};
+ghost use Rattle.s7_script.specs.Printing.{IsPrintable, IsPrintableOf, code_text, four_octets, job_values};
+ghost use Rattle.s7_script.specs.Printing.{octets_value, print, read_values, spaced, values, values_text, word_of};
 
 use s7_client::{Job, JobResult};
 use s7_item::Item;

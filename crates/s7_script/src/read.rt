@@ -1,9 +1,12 @@
 // Reading area files.
-ghost use Rattle.std.specs.Prelude.{◌≡◌, OnOk, IfErr, ◌<◌, ◌≤◌, ◌+◌, ◌-◌, ◌∷◌, ℕ, [], Ok, length, option_map, vec_len, Some, None};
+ghost use Rattle.std.specs.Prelude.{◌≡◌, OnOk, IfErr, ◌<◌, ◌≤◌, ◌+◌, ◌-◌, ◌∷◌, ℕ, [], Ok, length, option_map, vec_len};
+ghost use Rattle.std.specs.Prelude.{Some, None};
 ghost use Rattle.hex.specs.Hex.{decode_of};
 ghost use Rattle.s7_area.specs.Registers.{is_wrong_size};
 ghost use Rattle.s7_script.specs.Lines.{lines};
-ghost use Rattle.s7_script.specs.Reading.{Gives, FailsAs, areas as areas_by, by_current, filled, guarded, hex_octets, kind_of, nothing_read, read_lines, registered, run_octets, version_of, with_line, with_octets};
+ghost use Rattle.s7_script.specs.Reading.{Gives, FailsAs, areas as areas_by, by_current, filled, guarded, hex_octets};
+ghost use Rattle.s7_script.specs.Reading.{kind_of, nothing_read, read_lines, registered, run_octets, version_of};
+ghost use Rattle.s7_script.specs.Reading.{with_line, with_octets};
 ghost use Rattle.s7_script.specs.Shown.{open_of, state_of};
 
 use crate::area_line::{area_line, fault};

@@ -1,8 +1,10 @@
 // The jobs of lines.
-ghost use Rattle.std.specs.Prelude.{◌≡◌, ◌<◌, ◌≤◌, ◌+◌, [], ◌∷◌, ◌++◌, length, take, drop, option_map, IfSome, IfNone, IsTrue, OnOk, IfErr, codes};
+ghost use Rattle.std.specs.Prelude.{◌≡◌, ◌<◌, ◌≤◌, ◌+◌, [], ◌∷◌, ◌++◌, length, take, drop, option_map, IfSome, IfNone};
+ghost use Rattle.std.specs.Prelude.{IsTrue, OnOk, IfErr, codes};
 ghost use Rattle.std.specs.Str.{bytes_eq};
 ghost use Rattle.s7_script.specs.declared.script_fault.ScriptKind.TheVariants.{Memory};
-ghost use Rattle.s7_script.specs.Script.{Gives, job_named, job_of, parts, read_items, read_job, read_many_job, write_job, write_many_job, written_items};
+ghost use Rattle.s7_script.specs.Script.{Gives, job_named, job_of, parts, read_items, read_job, read_many_job};
+ghost use Rattle.s7_script.specs.Script.{write_job, write_many_job, written_items};
 ghost use Rattle.s7_script.specs.ScriptShown.{all_written, parts_left};
 
 use crate::ScriptKind;

@@ -5,7 +5,8 @@ ghost use Rattle.std.specs.Map.{keys_of};
 ghost use Rattle.hex.specs.Hex.{IsBytes};
 ghost use Rattle.s7_area.specs.Registers.{IsMemory, db_numbers};
 ghost use Rattle.s7_script.specs.Reading.{areas as areas_by};
-ghost use Rattle.s7_script.specs.Spelling.{IsInRange, area_text, block, guard_text, name_of, part, single, singles, spelling};
+ghost use Rattle.s7_script.specs.Spelling.{IsInRange, area_text, block, guard_text, name_of, part, single, singles};
+ghost use Rattle.s7_script.specs.Spelling.{spelling};
 
 use crate::lines::split_field;
 use crate::octet_lines::write_octets;

@@ -74,12 +74,17 @@ impl Inbox {
         requires empty { self.old ≡ [] }
         requires some { 0 < most }
         ensures took { (L.shows line.old).left ≡ prepend_known self.new (L.shows line.new).left }
-        ensures some { (n : ℕ) → result ≡ Got.Bytes n → (length self.new ≡ n) × (0 < length self.new) × (length self.new ≤ most) }
-        ensures end { result ≡ Got.End → (self.new ≡ []) × IsAtEnd (L.shows line.new).left × IsTrue (L.shows line.new).has_ended }
+        ensures some { (n : ℕ) → result ≡ Got.Bytes n
+            → (length self.new ≡ n) × (0 < length self.new) × (length self.new ≤ most) }
+        ensures end { result ≡ Got.End
+            → (self.new ≡ []) × IsAtEnd (L.shows line.new).left × IsTrue (L.shows line.new).has_ended }
         ensures ended { IsTrue (L.shows line.old).has_ended → (self.new ≡ []) × IsTrue (L.shows line.new).has_ended }
-        ensures failed { result ≡ Got.Failed → (self.new ≡ []) × Rose (L.shows line.old).faults (L.shows line.new).faults }
-        ensures not_yet { result ≡ Got.NotYet → (self.new ≡ []) × Rose (L.shows line.old).waits (L.shows line.new).waits }
-        ensures nothing_left { IsSome (L.shows line.old).space → (result ≡ Got.NotYet) ↔ ((L.shows line.old).left ≡ Some []) }
+        ensures failed { result ≡ Got.Failed
+            → (self.new ≡ []) × Rose (L.shows line.old).faults (L.shows line.new).faults }
+        ensures not_yet { result ≡ Got.NotYet
+            → (self.new ≡ []) × Rose (L.shows line.old).waits (L.shows line.new).waits }
+        ensures nothing_left { IsSome (L.shows line.old).space
+            → (result ≡ Got.NotYet) ↔ ((L.shows line.old).left ≡ Some []) }
         ensures faults { (L.shows line.old).faults ≤ (L.shows line.new).faults }
         ensures waits { (L.shows line.old).waits ≤ (L.shows line.new).waits }
 

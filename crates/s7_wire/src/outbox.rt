@@ -88,13 +88,17 @@ impl Outbox {
         requires { 0 < length self.old.unsent }
         ensures sent { self.old.unsent ≡ octets_sent result self.old.unsent ++ self.new.unsent }
         ensures room { self.new.room ≡ self.old.room }
-        ensures wrote { (L.shows line.new).written ≡ append_known (L.shows line.old).written (octets_sent result self.old.unsent) }
-        ensures some { (n : ℕ) → result ≡ Sent.Bytes n → (length (octets_sent result self.old.unsent) ≡ n) × (0 < length (octets_sent result self.old.unsent)) }
+        ensures wrote { (L.shows line.new).written
+            ≡ append_known (L.shows line.old).written (octets_sent result self.old.unsent) }
+        ensures some { (n : ℕ) → result ≡ Sent.Bytes n
+            → (length (octets_sent result self.old.unsent) ≡ n)
+            × (0 < length (octets_sent result self.old.unsent)) }
         ensures failed { result ≡ Sent.Failed → Rose (L.shows line.old).faults (L.shows line.new).faults }
         ensures not_yet { result ≡ Sent.NotYet → Rose (L.shows line.old).waits (L.shows line.new).waits }
         ensures no_space { IfSome (L.shows line.old).space (λ space. (result ≡ Sent.NotYet) ↔ (space ≡ 0)) }
         ensures fits { IfSome (L.shows line.old).space (λ space. length (octets_sent result self.old.unsent) ≤ space) }
-        ensures space { (L.shows line.new).space ≡ option_map (λ space. space - length (octets_sent result self.old.unsent)) (L.shows line.old).space }
+        ensures space { (L.shows line.new).space
+            ≡ option_map (λ space. space - length (octets_sent result self.old.unsent)) (L.shows line.old).space }
         ensures faults { (L.shows line.old).faults ≤ (L.shows line.new).faults }
         ensures waits { (L.shows line.old).waits ≤ (L.shows line.new).waits }
 

@@ -6,8 +6,9 @@ use std::alloc::Global;
 use std::test::Fail;
 
 /// 125 octets, as many as one fragment takes where the TPDU size is 128.
-const FRONT: &[u8] =
-    b"\x32\x03\x00\x00\x00\x05\x00\x02\x00\x74\x00\x00\x04\x01\xFF\x04\x03\x80ABCDEFGHIJKLMNOPQRSTUVWXYZabcdefghijklmnopqrstuvwxyz0123456789NOPQRSTUVWXYZABCDEFGHIJKLMnopqrstuvwxyzabcdef";
+const FRONT: &[u8] = b"\x32\x03\x00\x00\x00\x05\x00\x02\x00\x74\x00\x00\x04\x01\xFF\x04\x03\x80\
+    ABCDEFGHIJKLMNOPQRSTUVWXYZabcdefghijklmnopqrstuvwxyz0123456789\
+    NOPQRSTUVWXYZABCDEFGHIJKLMnopqrstuvwxyzabcdef";
 
 /// 45 octets: with fifteen times the 125 they are a message of 1,920.
 const BACK: &[u8] = b"ABCDEFGHIJKLMNOPQRSTUVWXYZabcdefghijklmnopqrs";

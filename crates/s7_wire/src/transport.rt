@@ -37,7 +37,8 @@ impl Transport {
     ghost use Rattle.std.specs.Prelude.{◌≡◌, ◌≢◌, ◌+◌, ◌≤◌, ℕ, List, length, IfOk, None, Some};
     ghost use Rattle.s7_cotp.specs.declared.tpdu.Connection.{Connection};
     ghost use Rattle.s7_cotp.specs.Told.{told_of, connection_of, CanBeWrittenAgain, CanBeWritten, fragment};
-    ghost use Rattle.s7_wire.specs.Reading.{Progress, start, limit_by, opening_of, with_body, with_opening, connected, with_ending, with_fault, after_packet, torn_by};
+    ghost use Rattle.s7_wire.specs.Reading.{Progress, start, limit_by, opening_of, with_body, with_opening, connected};
+    ghost use Rattle.s7_wire.specs.Reading.{with_ending, with_fault, after_packet, torn_by};
     ghost use Rattle.s7_wire.specs.Reads.{IsAt, Finds, found_by, ending_at, counted, unfinished_in};
 
     /// A link on which nothing came. The whole buffer of messages is taken here.
