@@ -44,9 +44,10 @@ impl Book {
         ensures plant { IfOk result (λ book. state_of book.plant ≡ begins_with areas) }
         ensures journal { IfOk result (λ book. book.journal ≡ entries_of [] limit) }
     {
+        let plant = Plant::new(areas);
         Ok(Book {
-            opening: Plant::new(areas.copy(alloc)?),
-            plant: Plant::new(areas),
+            opening: plant.copy(alloc)?,
+            plant,
             journal: Journal::new(alloc, limit)?,
         })
     }
@@ -99,7 +100,7 @@ impl Book {
             (λ _. steps.new ≡ steps.old + steps_to n) (λ _. steps.new ≡ steps.old) }
         ensures most { steps.new ≤ steps.old + n }
     {
-        let mut image = Plant::new(self.opening.areas.copy(alloc)?);
+        let mut image = self.opening.copy(alloc)?;
         let mut reply = Reply::new(alloc, BODY_ROOM)?;
         let entries = &self.journal.as_slice()[..n as usize];
         for entry in entries {

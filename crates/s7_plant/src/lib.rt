@@ -1,14 +1,17 @@
-//! The plant: what clients ask of it, what it answers, and how its areas go on; and the book, which
-//! is a plant with the journal that led to it.
+//! The plant: what clients ask of it, what it answers, and how its areas, its clock and its run state
+//! go on; and the book, which is a plant with the journal that led to it.
 #![tactic(auto)]
 
 mod book;
+mod clock;
+pub mod codes;
 mod data_item;
 mod journal;
 mod laws;
 mod plant;
 mod reply;
 mod request;
+mod status;
 mod steps;
 mod write;
 
@@ -20,5 +23,7 @@ pub use reply::{BODY_ROOM, PARAMS_ROOM, Reply};
 pub use request::{Ask, Request};
 pub use steps::Steps;
 
+#[cfg(test)]
+mod control_tests;
 #[cfg(test)]
 mod tests;

@@ -1,5 +1,6 @@
 // What a plant answers.
 ghost use Rattle.std.specs.Prelude.{◌≡◌, [], IfOk};
+ghost use Rattle.s7_plant.specs.Answers.{refused};
 ghost use Rattle.s7_plant.specs.Replies.{said, said_of};
 
 use s7_outer::{Buffer, Memory};
@@ -46,5 +47,15 @@ impl Reply {
         self.error = 0;
         self.params.clear();
         self.body.clear();
+    }
+
+    /// Says this error word, and nothing more. The rooms stay.
+    pub(crate) fn refuse(&mut self, error: u16)
+        ensures said { said_of self.new ≡ refused error }
+        ensures params { self.new.params.room ≡ self.old.params.room }
+        ensures body { self.new.body.room ≡ self.old.body.room }
+    {
+        self.clear();
+        self.error = error;
     }
 }

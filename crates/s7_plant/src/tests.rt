@@ -12,13 +12,13 @@ use std::marker::Brand;
 use std::sync::ledger::{Blank, Ledger};
 use std::test::Fail;
 
-const DB1: AreaKey = AreaKey {
+pub(crate) const DB1: AreaKey = AreaKey {
     area: 0x84,
     number: 1,
 };
 
 /// Data block 1, `11 22 33 44`, and the counters 1 and 2.
-fn some_areas(alloc: Global) -> Result<Areas, Memory> {
+pub(crate) fn some_areas(alloc: Global) -> Result<Areas, Memory> {
     let counters = AreaKey {
         area: 0x1C,
         number: 0,
@@ -77,14 +77,14 @@ fn are_inside(places: &[DataPlace], len: usize) -> bool
 }
 
 /// A ready reply.
-fn a_reply(alloc: Global) -> Result<Reply, Memory>
+pub(crate) fn a_reply(alloc: Global) -> Result<Reply, Memory>
     ensures { IfOk result IsReadyReply }
 {
     Reply::new(alloc, BODY_ROOM)
 }
 
 /// The reply has these parameters, this body and no error.
-fn says(reply: &Reply, params: &[u8], body: &[u8]) -> bool {
+pub(crate) fn says(reply: &Reply, params: &[u8], body: &[u8]) -> bool {
     reply.error == 0 && reply.params.as_slice() == params && reply.body.as_slice() == body
 }
 
@@ -161,7 +161,7 @@ fn a_request(alloc: Global, params: &[u8], data: &[u8]) -> Result<Option<Request
 }
 
 /// The request, asked with a right.
-fn with_right(request: Request) -> Ask
+pub(crate) fn with_right(request: Request) -> Ask
     ensures { result.request ≡ request }
 {
     Ask {
@@ -239,7 +239,7 @@ fn a_full_book_hands_back(rt: HostRuntime) -> Result<(), Fail> {
 }
 
 /// The plant after the first entries, where there are so many.
-fn image_of<S: Ledger>(
+pub(crate) fn image_of<S: Ledger>(
     alloc: Global,
     book: &Book,
     n: u64,
