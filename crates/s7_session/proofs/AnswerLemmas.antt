@@ -1,9 +1,11 @@
 -- Laws of what handling a message does.
-use Rattle.std.proofs.Common.{◌≡◌, ◌⊎◌, ℕ, true, false, List, [], ◌∷◌, ◌++◌, refl, ap, sym, ◌∙◌, subst, append-nil, arith, IsTrue}
-use Rattle.std.specs.Prelude.{Option, Some}
+use Rattle.std.proofs.Common.{◌≡◌, ◌⊎◌, ℕ, ◌≤◌, true, false, List, [], ◌∷◌, ◌++◌, refl, ap, sym, ◌∙◌, subst, append-nil, arith, IsTrue}
+use Rattle.std.specs.Prelude.{Option, None, Some}
+use Rattle.s7_outer.specs.Count.{Rose}
+use Rattle.s7_outer.specs.Shown.{Shown}
 use Rattle.s7_plant.specs.declared.request.Ask.{Ask}
 use Rattle.s7_plant.specs.declared.request.Request.{Request}
-use Rattle.s7_plant.specs.declared.request.Request.TheVariants.{Read, Write}
+use Rattle.s7_plant.specs.declared.request.Request.TheVariants.{Read, Write, Szl, ClockRead, ClockSet, Start, Stop, Compress, CopyRam}
 use Rattle.s7_plant.specs.Replies.{Said}
 use Rattle.s7_plant.specs.Requests.{kept, kept_request, asked}
 use Rattle.s7_wire.specs.Sent.{sent_message, sent_messages}
@@ -13,18 +15,27 @@ use Rattle.s7_session.specs.declared.handled.Handled.TheVariants as handled
 use Rattle.s7_session.specs.declared.outcome.Outcome.TheVariants.{NotS7}
 use Rattle.s7_session.specs.Doers.{StaysFull, Trail}
 use Rattle.s7_session.specs.Entry.{Entry}
-use Rattle.s7_session.specs.Errors.{FULL}
-use Rattle.s7_session.specs.Events.{closes, Made, settled, asks, refusal_sent}
+use Rattle.s7_session.specs.Errors.{FULL, CLOCK_FAILED}
+use Rattle.s7_session.specs.Events.{lives, closes, Made, settled, asks, by_clock, judged, refusal_sent}
 use Rattle.s7_session.specs.Judgement.{Asking}
 use Rattle.s7_session.specs.LinkState.{LinkState}
-use Rattle.s7_session.specs.Telegrams.{Met, met, verdicts_of, entered_of, NoneTimed}
-use Rattle.s7_session.specs.Verdict.{Verdict, Entered, Full, NoMemory}
+use Rattle.s7_session.specs.Telegrams.{Met, met, verdicts_of, entered_of, NoneTimed, IsAt, moment_of}
+use Rattle.s7_session.specs.Verdict.{Verdict, Entered, Full, ClockFailed, NoMemory}
 use Rattle.s7_session.proofs.DoerLemmas.{stays_same, trail_one}
 
+-- what asking the clock, or not asking it, does to a line
+pub record Looked (line line' : Shown) (asking : Asking) : Type 0 where
+  pub same : line' ≡ record line { clock_faults = line'.clock_faults }
+  pub rises : line.clock_faults ≤ line'.clock_faults
+  pub unasked : asking.is_timed ≡ false → line'.clock_faults ≡ line.clock_faults
+
+pub looked_not : (line : Shown) (asking : Asking) → Looked line line asking
+looked_not line asking = record { same = refl; rises = omega arith; unasked = λ e. refl }
+
 -- a message that asks nothing, with what it is owed
-pub answers_settled : {D : Type 0} (stands : D → List Entry → Type 0) (full lack : D → Ask → Type 0) (d : D) (made : List Verdict → Made) (at : ℕ) (size : Option ℕ) (link : LinkState) (sent : List ℕ)
-    → made [] ≡ settled size link sent [] → Answers stands full lack d d made at size link sent handled.Answered
-answers_settled stands full lack d made at size link sent is = record {
+pub answers_settled : {D : Type 0} (stands : D → List Entry → Type 0) (full lack : D → Ask → Type 0) (line : Shown) (d : D) (made : List Verdict → Made) (at : ℕ) (size : Option ℕ) (link : LinkState) (sent : List ℕ)
+    → made [] ≡ settled size link sent [] → Answers stands full lack line d line d made at size link sent handled.Answered
+answers_settled stands full lack line d made at size link sent is = record {
   verdicts = [];
   one = omega arith;
   entries = [];
@@ -40,15 +51,17 @@ answers_settled stands full lack d made at size link sent is = record {
   last = λ before. refl;
   doer = λ es h. subst (stands d) (sym (append-nil es)) h;
   trail = subst (λ (ms : List Met). Trail full lack d ms d) (sym (ap (λ (m : Made). m.mets) is)) (stays_same full d);
-  untimed = subst NoneTimed (sym (ap (λ (m : Made). m.mets) is)) tt;
-  clock = refl;
+  line_is = refl;
+  clock = omega arith;
+  unasked = λ h. refl;
+  moments = tt;
 }
 
 -- a message of another protocol closes the link
-pub answers_closing : {D : Type 0} (stands : D → List Entry → Type 0) (full lack : D → Ask → Type 0) (d : D) (made : List Verdict → Made) (at : ℕ) (size : Option ℕ) (link : LinkState) (sent : List ℕ)
+pub answers_closing : {D : Type 0} (stands : D → List Entry → Type 0) (full lack : D → Ask → Type 0) (line : Shown) (d : D) (made : List Verdict → Made) (at : ℕ) (size : Option ℕ) (link : LinkState) (sent : List ℕ)
     → made [] ≡ record { size = size; link = link; out = []; mets = []; verdicts = []; standing = closes (NotS7 at) } → sent ≡ []
-    → Answers stands full lack d d made at size link sent handled.NotS7
-answers_closing stands full lack d made at size link sent is none = record {
+    → Answers stands full lack line d line d made at size link sent handled.NotS7
+answers_closing stands full lack line d made at size link sent is none = record {
   verdicts = [];
   one = omega arith;
   entries = [];
@@ -64,18 +77,21 @@ answers_closing stands full lack d made at size link sent is none = record {
   last = λ before. refl;
   doer = λ es h. subst (stands d) (sym (append-nil es)) h;
   trail = subst (λ (ms : List Met). Trail full lack d ms d) (sym (ap (λ (m : Made). m.mets) is)) (stays_same full d);
-  untimed = subst NoneTimed (sym (ap (λ (m : Made). m.mets) is)) tt;
-  clock = refl;
+  line_is = refl;
+  clock = omega arith;
+  unasked = λ h. refl;
+  moments = tt;
 }
 
 -- the doer entered what was asked
-pub answers_entered : {D : Type 0} (stands : D → List Entry → Type 0) (full lack : D → Ask → Type 0) (d d' : D) (n : ℕ) (link link' : LinkState) (sequence : ℕ) (asking : Asking) (at : ℕ) (sent : List ℕ)
+pub answers_entered : {D : Type 0} (stands : D → List Entry → Type 0) (full lack : D → Ask → Type 0) (line line' : Shown) (d d' : D) (n : ℕ) (link link' : LinkState) (sequence : ℕ) (asking : Asking) (at : ℕ) (sent : List ℕ)
     (number : ℕ) (a : Ask) (reply : Said) (moment : ℕ)
-    → asking.is_timed ≡ false → moment ≡ 0 → a ≡ asking.ask moment → asking.link reply ≡ link' → sent_messages n (asking.messages reply) ≡ sent
+    → Looked line line' asking → (asking.is_timed ≡ false → moment ≡ 0) → IsAt line.moment (moment_of a.request)
+    → a ≡ asking.ask moment → asking.link reply ≡ link' → sent_messages n (asking.messages reply) ≡ sent
     → ((es : List Entry) → stands d es → stands d' (es ++ record { number = number; ask = a; reply = reply } ∷ []))
     → StaysFull full d d' → (full d (asking.ask moment) → ⊥)
-    → Answers stands full lack d d' (asks n link sequence asking) at (Some n) link' sent (handled.Entered number)
-answers_entered stands full lack d d' n link link' sequence asking at sent number a reply moment timed zero_is is goes out doer still not_full = record {
+    → Answers stands full lack line d line' d' (asks n link sequence asking) at (Some n) link' sent (handled.Entered number)
+answers_entered stands full lack line line' d d' n link link' sequence asking at sent number a reply moment looked untimed told is goes out doer still not_full = record {
   verdicts = Entered reply moment ∷ [];
   one = omega arith;
   entries = record { number = number; ask = a; reply = reply } ∷ [];
@@ -90,17 +106,19 @@ answers_entered stands full lack d d' n link link' sequence asking at sent numbe
   count = refl;
   last = λ before. refl;
   doer = doer;
-  trail = trail_one full lack d d' (met asking (Entered reply moment)) still (not_full, λ e. zero_is);
-  untimed = (timed, tt);
-  clock = refl;
+  trail = trail_one full lack d d' (met asking (Entered reply moment)) still (not_full, untimed);
+  line_is = looked.same;
+  clock = omega (arith, looked.rises);
+  unasked = λ h. looked.unasked h.0;
+  moments = (told, tt);
 }
 
 -- the doer was full
-pub answers_full : {D : Type 0} (stands : D → List Entry → Type 0) (full lack : D → Ask → Type 0) (d d' : D) (n : ℕ) (link link' : LinkState) (sequence : ℕ) (asking : Asking) (at : ℕ) (sent : List ℕ) (moment : ℕ)
-    → asking.is_timed ≡ false → link ≡ link' → refusal_sent n sequence FULL ≡ sent
+pub answers_full : {D : Type 0} (stands : D → List Entry → Type 0) (full lack : D → Ask → Type 0) (line line' : Shown) (d d' : D) (n : ℕ) (link link' : LinkState) (sequence : ℕ) (asking : Asking) (at : ℕ) (sent : List ℕ) (moment : ℕ)
+    → Looked line line' asking → link ≡ link' → refusal_sent n sequence FULL ≡ sent
     → ((es : List Entry) → stands d es → stands d' es) → StaysFull full d d' → full d' (asking.ask moment)
-    → Answers stands full lack d d' (asks n link sequence asking) at (Some n) link' sent handled.Answered
-answers_full stands full lack d d' n link link' sequence asking at sent moment timed goes out doer still is_full = record {
+    → Answers stands full lack line d line' d' (asks n link sequence asking) at (Some n) link' sent handled.Answered
+answers_full stands full lack line line' d d' n link link' sequence asking at sent moment looked goes out doer still is_full = record {
   verdicts = Full ∷ [];
   one = omega arith;
   entries = [];
@@ -116,17 +134,53 @@ answers_full stands full lack d d' n link link' sequence asking at sent moment t
   last = λ before. refl;
   doer = λ es h. subst (stands d') (sym (append-nil es)) (doer es h);
   trail = trail_one full lack d d' (met asking Full) still (moment, is_full);
-  untimed = (timed, tt);
-  clock = refl;
+  line_is = looked.same;
+  clock = omega (arith, looked.rises);
+  unasked = λ h. looked.unasked h.0;
+  moments = tt;
 }
 
+-- the clock failed for what asks for a moment, which makes a refusal
+clock_made : (n : ℕ) (link : LinkState) (sequence : ℕ) (asking : Asking) → asking.is_timed ≡ true
+    → asks n link sequence asking (ClockFailed ∷ []) ≡ judged (Some n) link (refusal_sent n sequence CLOCK_FAILED) asking ClockFailed [] lives
+clock_made n link sequence asking timed = ap (λ b. by_clock b n link sequence asking []) timed
+
+-- and the doer isn't asked
+pub answers_clock_failed : {D : Type 0} (stands : D → List Entry → Type 0) (full lack : D → Ask → Type 0) (line line' : Shown) (d : D) (n : ℕ) (link link' : LinkState) (sequence : ℕ) (asking : Asking) (at : ℕ) (sent : List ℕ)
+    → Looked line line' asking → asking.is_timed ≡ true → Rose line.clock_faults line'.clock_faults → link ≡ link' → refusal_sent n sequence CLOCK_FAILED ≡ sent
+    → Answers stands full lack line d line' d (asks n link sequence asking) at (Some n) link' sent handled.Answered
+answers_clock_failed stands full lack line line' d n link link' sequence asking at sent looked timed rose goes out =
+    let is = clock_made n link sequence asking timed in
+    record {
+      verdicts = ClockFailed ∷ [];
+      one = omega arith;
+      entries = [];
+      standing_is = ap (λ (m : Made). m.standing) is;
+      out_is = ap (λ (m : Made). m.out) is ∙ out;
+      mets_are = ap (λ (m : Made). verdicts_of m.mets) is;
+      entered_is = sym (ap (λ (m : Made). entered_of m.mets) is);
+      none_left = ap (λ (m : Made). m.verdicts) is;
+      size_is = ap (λ (m : Made). m.size) is;
+      link_is = λ h. ap (λ (m : Made). m.link) is ∙ goes;
+      silent = λ e. absurd (e refl);
+      count = refl;
+      last = λ before. refl;
+      doer = λ es h. subst (stands d) (sym (append-nil es)) h;
+      trail = subst (λ (ms : List Met). Trail full lack d ms d) (sym (ap (λ (m : Made). m.mets) is))
+          (trail_one full lack d d (met asking ClockFailed) (stays_same full d) (subst IsTrue (sym timed) refl));
+      line_is = looked.same;
+      clock = omega (arith, rose);
+      unasked = λ h. looked.unasked (subst NoneTimed (ap (λ (m : Made). m.mets) is) h).0;
+      moments = tt;
+    }
+
 -- memory was wanting
-pub answers_memory : {D : Type 0} (stands : D → List Entry → Type 0) (full lack : D → Ask → Type 0) (d d' : D) (n : ℕ) (link link' : LinkState) (sequence : ℕ) (asking : Asking) (at : ℕ) (sent : List ℕ)
-    → asking.is_timed ≡ false → sent ≡ []
+pub answers_memory : {D : Type 0} (stands : D → List Entry → Type 0) (full lack : D → Ask → Type 0) (line line' : Shown) (d d' : D) (n : ℕ) (link link' : LinkState) (sequence : ℕ) (asking : Asking) (at : ℕ) (sent : List ℕ)
+    → Looked line line' asking → sent ≡ []
     → ((es : List Entry) → stands d es → stands d' es) → StaysFull full d d'
     → IsTrue asking.is_copied ⊎ ((moment : ℕ) × lack d (asking.ask moment))
-    → Answers stands full lack d d' (asks n link sequence asking) at (Some n) link' sent handled.NoMemory
-answers_memory stands full lack d d' n link link' sequence asking at sent timed none doer still lacks = record {
+    → Answers stands full lack line d line' d' (asks n link sequence asking) at (Some n) link' sent handled.NoMemory
+answers_memory stands full lack line line' d d' n link link' sequence asking at sent looked none doer still lacks = record {
   verdicts = NoMemory ∷ [];
   one = omega arith;
   entries = [];
@@ -142,14 +196,16 @@ answers_memory stands full lack d d' n link link' sequence asking at sent timed 
   last = λ before. refl;
   doer = λ es h. subst (stands d') (sym (append-nil es)) (doer es h);
   trail = trail_one full lack d d' (met asking NoMemory) still lacks;
-  untimed = (timed, tt);
-  clock = refl;
+  line_is = looked.same;
+  clock = omega (arith, looked.rises);
+  unasked = λ h. looked.unasked h.0;
+  moments = tt;
 }
 
 -- answers to what is made are those to what is the same
-pub same_made : {D : Type 0} (stands : D → List Entry → Type 0) (full lack : D → Ask → Type 0) (d d' : D) (f g : List Verdict → Made) (at : ℕ) (size : Option ℕ) (link : LinkState) (sent : List ℕ) (result : Handled)
-    → ((vs : List Verdict) → f vs ≡ g vs) → Answers stands full lack d d' g at size link sent result → Answers stands full lack d d' f at size link sent result
-same_made stands full lack d d' f g at size link sent result same a =
+pub same_made : {D : Type 0} (stands : D → List Entry → Type 0) (full lack : D → Ask → Type 0) (line line' : Shown) (d d' : D) (f g : List Verdict → Made) (at : ℕ) (size : Option ℕ) (link : LinkState) (sent : List ℕ) (result : Handled)
+    → ((vs : List Verdict) → f vs ≡ g vs) → Answers stands full lack line d line' d' g at size link sent result → Answers stands full lack line d line' d' f at size link sent result
+same_made stands full lack line line' d d' f g at size link sent result same a =
     let e = same a.verdicts in
     record {
       verdicts = a.verdicts;
@@ -167,17 +223,34 @@ same_made stands full lack d d' f g at size link sent result same a =
       last = a.last;
       doer = a.doer;
       trail = subst (λ (ms : List Met). Trail full lack d ms d') (sym (ap (λ (m : Made). m.mets) e)) a.trail;
-      untimed = subst NoneTimed (sym (ap (λ (m : Made). m.mets) e)) a.untimed;
+      line_is = a.line_is;
       clock = a.clock;
+      unasked = λ h. a.unasked (subst NoneTimed (ap (λ (m : Made). m.mets) e) h);
+      moments = a.moments;
     }
 
 -- what is kept of what was asked is that
 kept_same_request : (r : Request) → kept_request r ≡ r
 kept_same_request (Read items) = refl
 kept_same_request (Write items places octets) = refl
+kept_same_request (Szl id index) = refl
+kept_same_request (ClockRead moment) = refl
+kept_same_request (ClockSet moment value) = refl
+kept_same_request (Start cold) = refl
+kept_same_request Stop = refl
+kept_same_request Compress = refl
+kept_same_request CopyRam = refl
 
 pub kept_same : (a : Ask) → kept a ≡ a
 kept_same a = ap (asked a.right) (kept_same_request a.request)
+
+-- what has no moment needs none
+is_at_none : (told : Option ℕ) → IsAt told None
+is_at_none None = tt
+is_at_none (Some m) = tt
+
+pub untimed_at : (told : Option ℕ) (a : Ask) → moment_of a.request ≡ None → IsAt told (moment_of a.request)
+untimed_at told a none = subst (IsAt told) (sym none) (is_at_none told)
 
 -- one message goes out
 pub one_message : (size : ℕ) (m sent : List ℕ) → sent_message size m ≡ sent → sent_messages size (m ∷ []) ≡ sent

@@ -1,10 +1,9 @@
 -- Laws of what a session does with octets that were read.
 use Rattle.std.proofs.Common.{◌≡◌, ◌≢◌, ℕ, suc, ◌+◌, ◌<◌, ◌≤◌, List, [], ◌∷◌, ◌++◌, map, length, refl, ap, sym, ◌∙◌, subst, arith, length-append, append-nil, append_assoc}
 use Rattle.std.specs.Prelude.{Option, None, Some}
+use Rattle.s7_outer.specs.Count.{RoseBy}
 use Rattle.s7_outer.specs.Shown.{Shown}
 use Rattle.s7_plant.specs.declared.request.Ask.{Ask}
-use Rattle.s7_plant.specs.declared.request.Request.{Request as PlantRequest}
-use Rattle.s7_plant.specs.declared.request.Request.TheVariants.{Read, Write}
 use Rattle.s7_cotp.specs.declared.tpdu.Connection.{Connection}
 use Rattle.s7_cotp.specs.Told.{ConnectionTold}
 use Rattle.s7_wire.specs.declared.found.Opening.{Opening}
@@ -36,22 +35,10 @@ use Rattle.s7_session.specs.Events.{lives, stops, closes, settled, made}
 use Rattle.s7_session.specs.LinkState.{LinkState}
 use Rattle.s7_session.specs.Owed.{Past, past, owed, telegrams, entered, with_made, with_ending, ended_by, torn_or_ended, outcome_of, end_by}
 use Rattle.s7_session.specs.Stands.{Stands, Handles, Consumes, HasCause, closed_with, closed_by, turn_by, unread, unsent, used_of, entry_count, newest, link_at}
-use Rattle.s7_session.specs.Telegrams.{Met, verdicts_of, entered_by, entered_of, AllAt, IsAt, moment_of, clock_failures, last_number}
+use Rattle.s7_session.specs.Telegrams.{Met, verdicts_of, entered_by, entered_of, NoneTimed, AllAt, clock_failures, last_number}
 use Rattle.s7_session.specs.Verdict.{Verdict}
 use Rattle.s7_session.proofs.DoerLemmas.{stays_same}
 use Rattle.s7_session.proofs.PastLemmas.{past_more, past_event, past_ended, closes_by}
-
--- ---- what is served asks for no moment
-
-untimed_at : (told : Option ℕ) (r : PlantRequest) → IsAt told (moment_of r)
-untimed_at None (Read items) = tt
-untimed_at None (Write items places octets) = tt
-untimed_at (Some m) (Read items) = tt
-untimed_at (Some m) (Write items places octets) = tt
-
-pub untimed : (told : Option ℕ) (es : List Entry) → AllAt told es
-untimed told [] = tt
-untimed told (e ∷ es) = (untimed_at told e.ask.request, untimed told es)
 
 -- ---- what a reader found behind octets that open by a connect request
 
@@ -143,7 +130,7 @@ stood_by first old new b used js vs w out ms h sent read count s out_is few =
     }
 
 -- what a session does with octets, by what they make of whatever it stands for
-pub record Uses {D : Type 0} (stands : D → List Entry → Type 0) (full lack : D → Ask → Type 0) (old : Session) (d : D) (new : Session) (d' : D) (result : Turn) (used : List ℕ) (ms : List Met) (entries : List Entry) : Type 0 where
+pub record Uses {D : Type 0} (stands : D → List Entry → Type 0) (full lack : D → Ask → Type 0) (old : Session) (line : Shown) (d : D) (new : Session) (line' : Shown) (d' : D) (result : Turn) (used : List ℕ) (ms : List Met) (entries : List Entry) : Type 0 where
   pub some : result ≡ turn.Went → 0 < length used
   pub one : length ms ≤ 1
   pub few : length (entered_of ms) ≤ 1
@@ -160,15 +147,18 @@ pub record Uses {D : Type 0} (stands : D → List Entry → Type 0) (full lack :
   pub closed : closed_with new ≡ closed_by result
   pub waits : result ≡ turn.NotYet → ⊥
   pub by_octets : (o : Outcome) → result ≡ turn.Closed o → (o ≢ outcome.ReadFault) × (o ≢ outcome.WriteFault)
-  pub clock : clock_failures (verdicts_of ms) ≡ 0
+  pub line_is : line' ≡ record line { clock_faults = line'.clock_faults }
+  pub clock : RoseBy (clock_failures (verdicts_of ms)) line.clock_faults line'.clock_faults
+  pub unasked : NoneTimed ms → line'.clock_faults ≡ line.clock_faults
+  pub moments : AllAt line.moment entries
   pub cause : (o : Outcome) → result ≡ turn.Closed o → (k k' : Shown)
       → (first : LinkState) (b : List ℕ) (js : List Verdict) (w : List ℕ) → Stands first old b js w
       → HasCause k k' first new (b ++ used) (js ++ verdicts_of ms) o
 
-pub consumes_by : {D : Type 0} (stands : D → List Entry → Type 0) (full lack : D → Ask → Type 0) (old new : Session) (k : Shown) (d d' : D) (result : Turn) (used : List ℕ) (ms : List Met) (entries : List Entry)
-    → unsent old ≡ [] → Uses stands full lack old d new d' result used ms entries
-    → Consumes stands full lack old k d new k d' result
-consumes_by stands full lack old new k d d' result used ms entries sent u = record {
+pub consumes_by : {D : Type 0} (stands : D → List Entry → Type 0) (full lack : D → Ask → Type 0) (old new : Session) (line line' : Shown) (d d' : D) (result : Turn) (used : List ℕ) (ms : List Met) (entries : List Entry)
+    → unsent old ≡ [] → Uses stands full lack old line d new line' d' result used ms entries
+    → Consumes stands full lack old line d new line' d' result
+consumes_by stands full lack old new line line' d d' result used ms entries sent u = record {
   used = used;
   some = u.some;
   mets = ms;
@@ -186,10 +176,10 @@ consumes_by stands full lack old new k d d' result used ms entries sent u = reco
   closed = u.closed;
   waits = u.waits;
   by_octets = u.by_octets;
-  line = refl;
-  clock = omega (arith, u.clock);
-  unasked = λ h. refl;
-  moments = untimed k.moment entries;
+  line = u.line_is;
+  clock = u.clock;
+  unasked = u.unasked;
+  moments = u.moments;
   cause = u.cause;
 }
 
@@ -213,12 +203,12 @@ same_closed o o' e = cc
 
 -- ---- octets that bring no event
 
-pub uses_more : {D : Type 0} (stands : D → List Entry → Type 0) (full lack : D → Ask → Type 0) (old new : Session) (d : D) (used : List ℕ)
+pub uses_more : {D : Type 0} (stands : D → List Entry → Type 0) (full lack : D → Ask → Type 0) (old new : Session) (line : Shown) (d : D) (used : List ℕ)
     → closed_with old ≡ None → opens_by new.reader ≡ Request → ((b : List ℕ) → HasRead old.reader b → HasFound new.reader b used finding.More)
     → 0 < length used → unread old ≡ used ++ unread new → used_of new ≡ used_of old + length used
     → unsent old ≡ [] → new.conversation ≡ old.conversation → entry_count new ≡ entry_count old → newest new ≡ newest old → closed_with new ≡ None
-    → Uses stands full lack old d new d turn.Went used [] []
-uses_more stands full lack old new d used going opens found some inbox counted sent same count last closed = record {
+    → Uses stands full lack old line d new line d turn.Went used [] []
+uses_more stands full lack old new line d used going opens found some inbox counted sent same count last closed = record {
   some = λ e. some;
   one = omega arith;
   few = omega arith;
@@ -246,20 +236,23 @@ uses_more stands full lack old new d used going opens found some inbox counted s
   closed = closed;
   waits = went_not_yet;
   by_octets = λ o e. absurd (went_not_closed o e);
-  clock = refl;
+  line_is = refl;
+  clock = omega arith;
+  unasked = λ h. refl;
+  moments = tt;
   cause = λ o e. absurd (went_not_closed o e);
 }
 
 -- ---- the connect request
 
-pub uses_opened : {D : Type 0} (stands : D → List Entry → Type 0) (full lack : D → Ask → Type 0) (old new : Session) (d : D) (used : List ℕ) (c : Connection) (told : ConnectionTold)
+pub uses_opened : {D : Type 0} (stands : D → List Entry → Type 0) (full lack : D → Ask → Type 0) (old new : Session) (line : Shown) (d : D) (used : List ℕ) (c : Connection) (told : ConnectionTold)
     → closed_with old ≡ None → opens_by new.reader ≡ Request → ((b : List ℕ) → HasRead old.reader b → HasFound new.reader b used (finding.Opened c))
     → events_by (finding.Opened c) [] 0 ≡ opened told ∷ []
     → made (size_of old.conversation.size) (link_at old) (opened told) [] ≡ settled (size_of new.conversation.size) (link_at new) (unsent new) []
     → 0 < length used → unread old ≡ used ++ unread new → used_of new ≡ used_of old + length used
     → entry_count new ≡ entry_count old → newest new ≡ newest old → closed_with new ≡ None
-    → Uses stands full lack old d new d turn.Went used [] []
-uses_opened stands full lack old new d used c told going opens found event is some inbox counted count last closed = record {
+    → Uses stands full lack old line d new line d turn.Went used [] []
+uses_opened stands full lack old new line d used c told going opens found event is some inbox counted count last closed = record {
   some = λ e. some;
   one = omega arith;
   few = omega arith;
@@ -290,7 +283,10 @@ uses_opened stands full lack old new d used c told going opens found event is so
   closed = closed;
   waits = went_not_yet;
   by_octets = λ o e. absurd (went_not_closed o e);
-  clock = refl;
+  line_is = refl;
+  clock = omega arith;
+  unasked = λ h. refl;
+  moments = tt;
   cause = λ o e. absurd (went_not_closed o e);
 }
 
@@ -350,14 +346,14 @@ message_cause at handled.NotS7 k k' first s b js is silent o e =
       sent = silent (closed_not_lives (outcome.NotS7 at));
     })
 
-pub uses_message : {D : Type 0} (stands : D → List Entry → Type 0) (full lack : D → Ask → Type 0) (old mid new : Session) (d d' : D) (used : List ℕ) (result : Turn)
-    → (a : Handles stands full lack mid d new d' result)
+pub uses_message : {D : Type 0} (stands : D → List Entry → Type 0) (full lack : D → Ask → Type 0) (old mid new : Session) (line line' : Shown) (d d' : D) (used : List ℕ) (result : Turn)
+    → (a : Handles stands full lack mid line d new line' d' result)
     → closed_with old ≡ None → opens_by mid.reader ≡ Request → ((b : List ℕ) → HasRead old.reader b → HasFound mid.reader b used finding.Message)
     → mid.conversation ≡ old.conversation → used_of mid ≤ spent
     → 0 < length used → unread old ≡ used ++ unread mid → used_of mid ≡ used_of old + length used
     → entry_count mid ≡ entry_count old → newest mid ≡ newest old
-    → Uses stands full lack old d new d' result used (made (size_of mid.conversation.size) (link_at mid) (message (message_at mid.reader) (place_at mid.reader)) a.answers.verdicts).mets a.answers.entries
-uses_message stands full lack old mid new d d' used result a going opens found same few some inbox size count last =
+    → Uses stands full lack old line d new line' d' result used (made (size_of mid.conversation.size) (link_at mid) (message (message_at mid.reader) (place_at mid.reader)) a.answers.verdicts).mets a.answers.entries
+uses_message stands full lack old mid new line line' d d' used result a going opens found same few some inbox size count last =
     let t = a.answers in
     let at = place_at mid.reader in
     let event : Event = message (message_at mid.reader) at in
@@ -400,7 +396,10 @@ uses_message stands full lack old mid new d d' used result a going opens found s
       closed = a.closed;
       waits = λ e. turn_not_yet at a.handled (sym a.result_is ∙ e);
       by_octets = λ o e. turn_by_octets at a.handled o (sym a.result_is ∙ e);
-      clock = ap clock_failures t.mets_are ∙ t.clock;
+      line_is = t.line_is;
+      clock = subst (λ (vs : List Verdict). RoseBy (clock_failures vs) line.clock_faults line'.clock_faults) (sym t.mets_are) t.clock;
+      unasked = t.unasked;
+      moments = t.moments;
       cause = λ o e k k' first b js w h.
           message_cause at a.handled k k' first new (b ++ used) (js ++ verdicts_of m.mets) (ap (λ (p : Past). p.standing) (step_on first b js w h) ∙ t.standing_is) t.silent o (sym a.result_is ∙ e);
     }
@@ -451,13 +450,13 @@ pub record Ends (new : Session) (b used : List ℕ) (end : Outcome) : Type 0 whe
   pub cause : (k k' : Shown) (first : LinkState) (js : List Verdict) → (past first (b ++ used) js).standing ≡ closes (ended_by (torn_of Request (b ++ used)) ending)
       → unsent new ≡ [] → HasCause k k' first new (b ++ used) js end
 
-pub uses_ended : {D : Type 0} (stands : D → List Entry → Type 0) (full lack : D → Ask → Type 0) (old new : Session) (d : D) (used : List ℕ) (found : Found) (end : Outcome)
+pub uses_ended : {D : Type 0} (stands : D → List Entry → Type 0) (full lack : D → Ask → Type 0) (old new : Session) (line : Shown) (d : D) (used : List ℕ) (found : Found) (end : Outcome)
     → ((b : List ℕ) → FoundIn new.reader b used found → length b ≡ used_of old → Ends new b used end)
     → closed_with old ≡ None → opens_by new.reader ≡ Request → ((b : List ℕ) → HasRead old.reader b → HasFound new.reader b used found)
     → unread old ≡ used ++ unread new → used_of new ≡ used_of old + length used
     → unsent old ≡ [] → new.conversation ≡ old.conversation → entry_count new ≡ entry_count old → newest new ≡ newest old → closed_with new ≡ Some end
-    → IsByOctets end → Uses stands full lack old d new d (turn.Closed end) used [] []
-uses_ended stands full lack old new d used found end ends going opens finds inbox counted sent same count last closed octets =
+    → IsByOctets end → Uses stands full lack old line d new line d (turn.Closed end) used [] []
+uses_ended stands full lack old new line d used found end ends going opens finds inbox counted sent same count last closed octets =
     let unsent_is : unsent new ≡ [] = ap sends same ∙ sent in
     let end_at : (first : LinkState) (b : List ℕ) (js : List Verdict) (w : List ℕ) → Stands first old b js w → Ends new b used end =
     λ first b js w h. ends b (found_in new.reader b used found opens (finds b h.read)) h.used in
@@ -492,7 +491,10 @@ uses_ended stands full lack old new d used found end ends going opens finds inbo
       closed = closed;
       waits = closed_not_yet end;
       by_octets = λ o e. subst IsByOctets (same_closed end o e) octets;
-      clock = refl;
+      line_is = refl;
+      clock = omega arith;
+      unasked = λ h. refl;
+      moments = tt;
       cause = λ o e k k' first b js w h.
           let x = end_at first b js w h in
           subst (HasCause k k' first new (b ++ used) (js ++ [])) (same_closed end o e)

@@ -2,6 +2,7 @@ pub mod PlaceLemmas
 pub mod PastLemmas
 pub mod DoerLemmas
 pub mod AnswerLemmas
+pub mod SliceLemmas
 pub mod ConsumeLemmas
 pub mod TurnLemmas
 pub mod ServeLemmas

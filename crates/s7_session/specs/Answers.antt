@@ -1,5 +1,7 @@
 -- What handling one message does.
 use Rattle.std.specs.Prelude.{◌≡◌, ℕ, ◌≤◌, List, [], ◌++◌, length, map, Option, Some}
+use Rattle.s7_outer.specs.Count.{RoseBy}
+use Rattle.s7_outer.specs.Shown.{Shown}
 use Rattle.s7_plant.specs.declared.request.Ask.{Ask}
 use Rattle.s7_session.specs.declared.handled.Handled.{Handled}
 use Rattle.s7_session.specs.declared.handled.Handled.TheVariants as handled
@@ -8,7 +10,7 @@ use Rattle.s7_session.specs.Doers.{Trail}
 use Rattle.s7_session.specs.Entry.{Entry, answered}
 use Rattle.s7_session.specs.Events.{Standing, lives, stops, closes, Made}
 use Rattle.s7_session.specs.LinkState.{LinkState}
-use Rattle.s7_session.specs.Telegrams.{entered_of, verdicts_of, last_number, NoneTimed, clock_failures}
+use Rattle.s7_session.specs.Telegrams.{entered_of, verdicts_of, last_number, NoneTimed, AllAt, clock_failures}
 use Rattle.s7_session.specs.Verdict.{Verdict}
 
 -- whether the link goes on, by what became of a message at this place
@@ -32,8 +34,9 @@ entries_by (handled.Entered number) = 1
 entries_by handled.NoMemory = 0
 entries_by handled.NotS7 = 0
 
--- What is owed was put, and what the doer entered is what was asked.
-pub record Answers {D : Type 0} (stands : D → List Entry → Type 0) (is_full may_lack : D → Ask → Type 0) (d d' : D)
+-- What is owed was put, what the doer entered is what was asked, and of the line no more than the clock was asked.
+pub record Answers {D : Type 0} (stands : D → List Entry → Type 0) (is_full may_lack : D → Ask → Type 0)
+    (line : Shown) (d : D) (line' : Shown) (d' : D)
     (made : List Verdict → Made) (at : ℕ) (size : Option ℕ) (link : LinkState) (sent : List ℕ) (result : Handled)
     : Type 0 where
   -- the verdict of the message's telegram, if it asks
@@ -53,5 +56,10 @@ pub record Answers {D : Type 0} (stands : D → List Entry → Type 0) (is_full 
   pub last : (before : Option ℕ) → last_number before entries ≡ last_after before result
   pub doer : (es : List Entry) → stands d es → stands d' (es ++ entries)
   pub trail : Trail is_full may_lack d (made verdicts).mets d'
-  pub untimed : NoneTimed (made verdicts).mets
-  pub clock : clock_failures verdicts ≡ 0
+  -- nothing else of the line changed than how often its clock failed: as often as it is told, and only where a
+  -- telegram asks for a moment
+  pub line_is : line' ≡ record line { clock_faults = line'.clock_faults }
+  pub clock : RoseBy (clock_failures verdicts) line.clock_faults line'.clock_faults
+  pub unasked : NoneTimed (made verdicts).mets → line'.clock_faults ≡ line.clock_faults
+  -- the entry has the moment that the clock told
+  pub moments : AllAt line.moment entries

@@ -5,6 +5,8 @@ pub mod Errors
 pub mod Bounds
 pub mod Passwords
 pub mod Judgement
+pub mod Queries
+pub mod Slices
 pub mod Judged
 pub mod Telegrams
 pub mod Events

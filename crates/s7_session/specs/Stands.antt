@@ -208,10 +208,10 @@ pub record IsServed {D : Type 0} (stands : D → List Entry → Type 0) (is_full
 -- What a session makes of the message that its reader holds: it answers it, and ends where that ends the link. Nothing
 -- else of it changes.
 pub record Handles {D : Type 0} (stands : D → List Entry → Type 0) (is_full may_lack : D → Ask → Type 0)
-    (old : Session) (d : D) (new : Session) (d' : D) (result : Turn)
+    (old : Session) (link : Shown) (d : D) (new : Session) (link' : Shown) (d' : D) (result : Turn)
     : Type 0 where
   pub handled : Handled
-  pub answers : Answers stands is_full may_lack d d'
+  pub answers : Answers stands is_full may_lack link d link' d'
       (made (size_of old.conversation.size) (link_at old) (message (message_at old.reader) (place_at old.reader)))
       (place_at old.reader)
       (size_of new.conversation.size) (link_at new) (unsent new) handled

@@ -4,6 +4,7 @@ use Rattle.std.specs.List.{AllByRecursion}
 use Rattle.s7_plant.specs.declared.request.Ask.{Ask}
 use Rattle.s7_plant.specs.declared.request.Request.{Request}
 use Rattle.s7_plant.specs.declared.request.Request.TheVariants.{Read, Write}
+use Rattle.s7_plant.specs.declared.request.Request.TheVariants as request
 use Rattle.s7_plant.specs.Replies.{Said}
 use Rattle.s7_session.specs.Entry.{Entry}
 use Rattle.s7_session.specs.Judgement.{Asking}
@@ -84,6 +85,13 @@ clock_failures (NoMemory ∷ verdicts) = clock_failures verdicts
 abbrev pub moment_of : Request → Option ℕ
 moment_of (Read items) = None
 moment_of (Write items places octets) = None
+moment_of (request.Szl id index) = None
+moment_of (request.ClockRead moment) = Some moment
+moment_of (request.ClockSet moment value) = Some moment
+moment_of (request.Start cold) = None
+moment_of request.Stop = None
+moment_of request.Compress = None
+moment_of request.CopyRam = None
 
 -- a request that has a moment has the one that the clock told
 abbrev pub IsAt : Option ℕ → Option ℕ → Type 0

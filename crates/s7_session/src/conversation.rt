@@ -1,5 +1,6 @@
 // What a link holds of its messages, and what it has to send.
-ghost use Rattle.std.specs.Prelude.{◌≡◌, ◌≤◌, length};
+ghost use Rattle.std.specs.Prelude.{◌≡◌, ◌≤◌, length, IfOk};
+ghost use Rattle.s7_plant.specs.declared.request.Request.TheVariants.{Write};
 ghost use Rattle.s7_session.specs.Events.{is_s7};
 ghost use Rattle.s7_session.specs.Judgement.{sequence_of};
 
@@ -7,13 +8,15 @@ use crate::doer::{Doer, NotDone};
 use crate::handled::Handled;
 use crate::held::Held;
 use crate::judge::{Judgement, Refusal, judge};
-use crate::password::NO_DATA;
+use crate::judge_user::SECURITY;
+use crate::query::Query;
 use crate::sender::Sender;
 use crate::size::TpduSize;
+use crate::slices::{AnswerId, slice_room};
 use s7_area::Guard;
 use s7_cotp::Connection;
-use s7_header::UserParams;
-use s7_outer::{Memory, Octets};
+use s7_item::{DataItems, Items};
+use s7_outer::{Clock, Link, Memory, Octets};
 use s7_plant::{Ask, BODY_ROOM, Reply, Request};
 use std::alloc::Global;
 
@@ -23,8 +26,8 @@ const REFERENCE: u16 = 1;
 /// The error word of a refusal where the history is full.
 const FULL: u16 = 0x8F01;
 
-/// The group of answers about passwords.
-const SECURITY_ANSWER: u8 = 0x85;
+/// That of a refusal where the clock failed.
+const CLOCK_FAILED: u16 = 0x8F02;
 
 /// The messages of one link: what its earlier ones left, and what is still to be sent.
 #[derive(Drop)]
@@ -41,19 +44,23 @@ pub(crate) struct Conversation {
 impl Conversation {
     ghost use Rattle.std.specs.Prelude.{◌≡◌, ℕ, [], IfOk, None, Some};
     ghost use Rattle.s7_cotp.specs.Told.{connection_of, CanBeWritten};
-    ghost use Rattle.s7_header.specs.Negotiation.{most_pdu};
-    ghost use Rattle.s7_plant.specs.Replies.{Said};
-    ghost use Rattle.s7_plant.specs.Requests.{CanBeDone, Fits, HasAtMost};
+    ghost use Rattle.s7_header.specs.Negotiation.{least_pdu, most_pdu};
+    ghost use Rattle.s7_outer.specs.Shown.{Shown};
+    ghost use Rattle.s7_plant.specs.Replies.{Said, said_of};
+    ghost use Rattle.s7_plant.specs.Requests.{CanBeDone, Fits, HasAtMost, HasBody};
     ghost use Rattle.s7_wire.specs.Bounds.{most_waiting};
     ghost use Rattle.s7_wire.specs.Sent.{sent_message};
     ghost use Rattle.s7_wire.specs.Reading.{opened, message};
     ghost use Rattle.s7_session.specs.Answers.{Answers};
     ghost use Rattle.s7_session.specs.Conversing.{link_of, size_of, sends};
     ghost use Rattle.s7_session.specs.Events.{made, settled, by_judgement, asks};
-    ghost use Rattle.s7_session.specs.Judged.{judgement_of, IsWithin};
+    ghost use Rattle.s7_session.specs.Judged.{judgement_of, IsWithin, queries};
     ghost use Rattle.s7_session.specs.Judgement.{plainly, user_octets, user_answer, next_octet, secured};
+    ghost use Rattle.s7_session.specs.Judgement.{user_reply, user_link, slice_octets, slices_left};
     ghost use Rattle.s7_session.specs.LinkState.{first_link};
     ghost use Rattle.s7_session.specs.Passwords.{no_data};
+    ghost use Rattle.s7_session.specs.Queries.{group_of, subfunction_of, IsReadyQuery};
+    ghost use Rattle.s7_session.specs.Telegrams.{moment_of};
 
     /// A link on which nothing came, to areas with this guard. All its buffers are taken here.
     pub(crate) fn new(alloc: Global, guard: Option<Guard>) -> Result<Conversation, Memory>
@@ -63,7 +70,7 @@ impl Conversation {
     {
         Ok(Conversation {
             size: None,
-            held: Held::new(guard),
+            held: Held::new(alloc, guard)?,
             reply: Reply::new(alloc, BODY_ROOM)?,
             sender: Sender::new(alloc)?,
         })
@@ -90,9 +97,16 @@ impl Conversation {
     }
 
     /// Handles a whole message.
-    pub(crate) fn message<D: Doer>(&mut self, alloc: Global, octets: &[u8], doer: &mut D) -> Handled
+    pub(crate) fn message<L: Link + Clock, D: Doer>(
+        &mut self,
+        alloc: Global,
+        octets: &[u8],
+        line: &mut L,
+        doer: &mut D,
+    ) -> Handled
         requires sent { sends self.old ≡ [] }
-        ensures answers { (at : ℕ) → Answers D.stands D.is_full D.may_lack doer.old doer.new
+        ensures answers { (at : ℕ) → Answers D.stands D.is_full D.may_lack
+            (L.shows line.old) doer.old (L.shows line.new) doer.new
             (made (size_of self.old.size) (link_of self.old.held) (message octets.now at)) at
             (size_of self.new.size) (link_of self.new.held) (sends self.new) result }
         ensures kept { D.keeps doer.old doer.new }
@@ -105,23 +119,25 @@ impl Conversation {
             return Handled::NotS7;
         }
         let judgement = judge(&self.held, octets);
-        self.answer(alloc, size, sequence_of(octets), judgement, doer)
+        self.answer(alloc, size, sequence_of(octets), judgement, line, doer)
     }
 
     // Answers a message of this sequence by its judgement. There is no copy but that of a write's octets.
-    fn answer<D: Doer>(
+    fn answer<L: Link + Clock, D: Doer>(
         &mut self,
         alloc: Global,
         size: TpduSize,
         sequence: u16,
         judgement: Judgement<'_>,
+        line: &mut L,
         doer: &mut D,
     ) -> Handled
         requires within { IsWithin self.old.held.granted judgement }
         requires size { self.old.size ≡ Some size }
         requires sent { sends self.old ≡ [] }
         requires room { self.old.sender.outbox.room ≡ most_waiting }
-        ensures answers { (at : ℕ) → Answers D.stands D.is_full D.may_lack doer.old doer.new
+        ensures answers { (at : ℕ) → Answers D.stands D.is_full D.may_lack
+            (L.shows line.old) doer.old (L.shows line.new) doer.new
             (λ verdicts. by_judgement size.octets (link_of self.old.held) sequence verdicts
             (judgement_of (link_of self.old.held) sequence judgement.entry)) at
             (size_of self.new.size) (link_of self.new.held) (sends self.new) result }
@@ -145,23 +161,21 @@ impl Conversation {
                 self.secure(size, sequence, subfunction, error, right);
                 Handled::Answered
             }
-            Judgement::Read(items) => {
-                self.ask(alloc, size, sequence, Request::Read { items }, doer)
-            }
+            Judgement::Ask(request) => self.ask(alloc, size, sequence, request, doer),
             Judgement::Write {
                 items,
                 places,
                 body,
-            } => {
-                let Ok(octets) = Octets::copy_of(alloc, body) else {
-                    return Handled::NoMemory;
-                };
-                let request = Request::Write {
-                    items,
-                    places,
-                    octets,
-                };
-                self.ask(alloc, size, sequence, request, doer)
+            } => match copied_write(alloc, items, places, body) {
+                Ok(request) => self.ask(alloc, size, sequence, request, doer),
+                Err(Memory) => Handled::NoMemory,
+            },
+            Judgement::Query { pdu, query } => {
+                self.query(alloc, size, sequence, pdu, query, line, doer)
+            }
+            Judgement::Further { pdu, answer } => {
+                self.put_slice(size, sequence, pdu, answer);
+                Handled::Answered
             }
         }
     }
@@ -176,20 +190,17 @@ impl Conversation {
         ensures size { self.new.size ≡ self.old.size }
     {
         self.held.secure(right);
-        let params = UserParams {
-            answer: true,
-            group: SECURITY_ANSWER,
-            sub: subfunction,
+        let answer = AnswerId {
+            group: SECURITY,
+            subfunction,
             sequence: self.held.user_sequence,
-            unit: 0,
-            more: 0,
-            error,
         };
-        self.sender.put_user(size, sequence, &params, &NO_DATA);
+        self.sender
+            .put_user(size, sequence, &answer.params(0, error), &[]);
     }
 
-    // Has a request carried out with the link's right and puts its answer, or the refusal where the doer is
-    // full for it.
+    // Has a request that has no moment carried out with the link's right and puts its answer, or the refusal
+    // where the doer is full for it.
     fn ask<D: Doer>(
         &mut self,
         alloc: Global,
@@ -199,10 +210,12 @@ impl Conversation {
         doer: &mut D,
     ) -> Handled
         requires request { CanBeDone request }
+        requires untimed { moment_of request ≡ None }
         requires fits { (said : Said) → Fits request said → HasAtMost most_pdu said }
         requires sent { sends self.old ≡ [] }
         requires room { self.old.sender.outbox.room ≡ most_waiting }
-        ensures answers { (at : ℕ) → Answers D.stands D.is_full D.may_lack doer.old doer.new
+        ensures answers { (line : Shown) (at : ℕ) → Answers D.stands D.is_full D.may_lack
+            line doer.old line doer.new
             (asks size.octets (link_of self.old.held) sequence
             (plainly (link_of self.old.held) sequence request)) at
             (Some size.octets) (link_of self.new.held) (sends self.new) result }
@@ -218,12 +231,104 @@ impl Conversation {
                 self.sender.put_reply(size, sequence, &self.reply);
                 Handled::Entered(number)
             }
+            Err(NotDone::Full(_back)) => {
+                self.sender.put_refusal(size, sequence, FULL);
+                Handled::Answered
+            }
+            Err(NotDone::Memory(_)) => Handled::NoMemory,
+        }
+    }
+
+    // Has what user data asks carried out with the link's right and puts its answer, or the refusal where the
+    // clock failed or the doer is full for it. The clock comes first.
+    fn query<L: Link + Clock, D: Doer>(
+        &mut self,
+        alloc: Global,
+        size: TpduSize,
+        sequence: u16,
+        pdu: u16,
+        query: Query,
+        line: &mut L,
+        doer: &mut D,
+    ) -> Handled
+        requires ready { IsReadyQuery query }
+        requires least { least_pdu ≤ pdu }
+        requires most { pdu ≤ most_pdu }
+        requires sent { sends self.old ≡ [] }
+        requires room { self.old.sender.outbox.room ≡ most_waiting }
+        ensures answers { (at : ℕ) → Answers D.stands D.is_full D.may_lack
+            (L.shows line.old) doer.old (L.shows line.new) doer.new
+            (asks size.octets (link_of self.old.held) sequence
+            (queries (link_of self.old.held) pdu sequence query)) at
+            (Some size.octets) (link_of self.new.held) (sends self.new) result }
+        ensures size { self.new.size ≡ self.old.size }
+        ensures kept { D.keeps doer.old doer.new }
+    {
+        let Some(request) = query.request(line) else {
+            self.sender.put_refusal(size, sequence, CLOCK_FAILED);
+            return Handled::Answered;
+        };
+        let ask = Ask {
+            right: self.held.right,
+            request,
+        };
+        match doer.act(alloc, ask, &mut self.reply) {
+            Ok(number) => {
+                self.put_user_reply(size, sequence, pdu, query);
+                Handled::Entered(number)
+            }
             Err(NotDone::Full(_)) => {
                 self.sender.put_refusal(size, sequence, FULL);
                 Handled::Answered
             }
             Err(NotDone::Memory(_)) => Handled::NoMemory,
         }
+    }
+
+    // Puts the answer that is made of the reply to what user data asked.
+    fn put_user_reply(&mut self, size: TpduSize, sequence: u16, pdu: u16, query: Query)
+        requires body { HasBody 8192 (said_of self.old.reply) }
+        requires least { least_pdu ≤ pdu }
+        requires most { pdu ≤ most_pdu }
+        requires sent { sends self.old ≡ [] }
+        requires room { self.old.sender.outbox.room ≡ most_waiting }
+        ensures sends { sends self.new ≡ sent_message size.octets
+            (user_reply (link_of self.old.held) pdu sequence (group_of query) (subfunction_of query)
+            (said_of self.old.reply)) }
+        ensures link { link_of self.new.held ≡ user_link (link_of self.old.held) pdu
+            (group_of query) (subfunction_of query) (said_of self.old.reply) }
+        ensures size { self.new.size ≡ self.old.size }
+    {
+        let answer = AnswerId {
+            group: query.group(),
+            subfunction: query.subfunction(),
+            sequence: self.held.count_answer(),
+        };
+        if self.reply.error != 0 {
+            self.sender
+                .put_user(size, sequence, &answer.params(0, self.reply.error), &[]);
+            return;
+        }
+        self.held.slices.hold(self.reply.body.as_slice());
+        self.put_slice(size, sequence, pdu, answer);
+    }
+
+    // Puts the next octets of an answer to user data. Those that are left may be asked for under its name.
+    fn put_slice(&mut self, size: TpduSize, sequence: u16, pdu: u16, answer: AnswerId)
+        requires least { least_pdu ≤ pdu }
+        requires most { pdu ≤ most_pdu }
+        requires sent { sends self.old ≡ [] }
+        requires room { self.old.sender.outbox.room ≡ most_waiting }
+        ensures sends { sends self.new ≡ sent_message size.octets (slice_octets sequence
+            answer.group answer.subfunction answer.sequence pdu self.old.held.slices.rest) }
+        ensures link { link_of self.new.held ≡ record (link_of self.old.held) {
+          sliced = slices_left answer.group answer.subfunction answer.sequence pdu self.old.held.slices.rest;
+        } }
+        ensures size { self.new.size ≡ self.old.size }
+    {
+        self.sender
+            .put_slice(size, sequence, pdu, answer, self.held.slices.rest());
+        self.held.slices.advance(answer, slice_room(pdu));
     }
 }
 
@@ -257,4 +362,20 @@ fn sequence_of(message: &[u8]) -> u16
     ensures { result ≡ sequence_of message.now }
 {
     u16::from(message[4]) * 256 + u16::from(message[5])
+}
+
+// A write with a copy of the octets that its places lie in.
+fn copied_write(
+    alloc: Global,
+    items: Items,
+    places: DataItems,
+    body: &[u8],
+) -> Result<Request, Memory>
+    ensures { IfOk result (λ request. request ≡ Write items places body.now) }
+{
+    Ok(Request::Write {
+        items,
+        places,
+        octets: Octets::copy_of(alloc, body)?,
+    })
 }

@@ -1,34 +1,28 @@
 // How a message is judged.
-ghost use Rattle.std.specs.Prelude.{◌≡◌, ◌≤◌, ◌<◌, ℕ, ◌+◌, List, length, slice_index, All, IfOk, Some, None};
-ghost use Rattle.s7_header.specs.Negotiation.{negotiation_of, granted as granted_of, IsGrant};
+ghost use Rattle.std.specs.Prelude.{◌≡◌, ◌≤◌, ℕ, length, IfSome, Some};
+ghost use Rattle.s7_header.specs.Negotiation.{negotiation_of};
 ghost use Rattle.s7_item.specs.Params.{items_of};
 ghost use Rattle.s7_item.specs.DataItem.{data_places_of};
-ghost use Rattle.s7_header.specs.UserParams.{user_params_of};
+ghost use Rattle.s7_clock.specs.Control.{control_of};
 ghost use Rattle.s7_session.specs.Conversing.{link_of};
 ghost use Rattle.s7_session.specs.LinkState.{LinkState};
 ghost use Rattle.s7_session.specs.Judgement.{judge, job, function, function_at, negotiation, read, write};
-ghost use Rattle.s7_session.specs.Judgement.{user_at, group, security, password_set, password_cleared};
-ghost use Rattle.s7_session.specs.Judgement.{pdu_limit, is_request, sequence_of};
-ghost use Rattle.s7_session.specs.Judged.{judgement_of, IsWithin};
+ghost use Rattle.s7_session.specs.Judgement.{control_in, request_of, pdu_limit, is_request, sequence_of};
+ghost use Rattle.s7_session.specs.Judged.{judgement_of, IsWithin, IsPlain};
 
 use crate::held::Held;
-use crate::password::{NO_DATA, clear_error, decode, password_in, set_error};
-use s7_header::{
-    Kind, MOST_PDU, Negotiation, UserParams, grant, parts, read_header, read_negotiate, read_user,
-};
+use crate::judge_user::judge_user;
+use crate::query::Query;
+use crate::slices::AnswerId;
+use s7_clock::{Control, read_control};
+use s7_header::{Kind, MOST_PDU, Negotiation, grant, parts, read_header, read_negotiate};
 use s7_item::codes::{READ_FUNCTION, WRITE_FUNCTION};
 use s7_item::{DataItems, Items, answer_size, read_data_items, read_items};
+use s7_plant::Request;
+use s7_plant::codes::{SERVICE_FUNCTION, STOP_FUNCTION};
 
 /// The function of a job that negotiates.
 const NEGOTIATE: u8 = 0xF0;
-
-/// The group of user data that sets and clears passwords.
-const SECURITY: u8 = 0x45;
-
-/// Its subfunctions.
-const SET_PASSWORD: u8 = 0x01;
-
-const CLEAR_PASSWORD: u8 = 0x02;
 
 /// Why a message is refused.
 #[derive(Clone, Copy, Debug, PartialEq, Eq)]
@@ -50,8 +44,8 @@ pub(crate) enum Judgement<'a> {
     Refuse(Refusal),
     /// A PDU and parallel jobs: this is granted.
     Grant(Negotiation),
-    /// The octets of items.
-    Read(Items),
+    /// What brings no octets: the read of items, or what a control asks.
+    Ask(Request),
     /// New octets for items.
     Write {
         items: Items,
@@ -63,6 +57,16 @@ pub(crate) enum Judgement<'a> {
         subfunction: u8,
         error: u16,
         right: bool,
+    },
+    /// What user data asks, on a link with this PDU.
+    Query {
+        pdu: u16,
+        query: Query,
+    },
+    /// The next octets of the answer that is held, on a link with this PDU.
+    Further {
+        pdu: u16,
+        answer: AnswerId,
     },
 }
 
@@ -151,6 +155,7 @@ fn judge_function<'a>(
     match code {
         READ_FUNCTION => judge_read(pdu, params, body),
         WRITE_FUNCTION => judge_write(pdu, params, body),
+        SERVICE_FUNCTION | STOP_FUNCTION => judge_control(params, body),
         _ => Judgement::Refuse(Refusal::UnknownFunction),
     }
 }
@@ -167,7 +172,7 @@ fn judge_read<'a>(pdu: u16, params: &[u8], body: &[u8]) -> Judgement<'a>
     if answer_size(&items) > u32::from(pdu) {
         return Judgement::Refuse(Refusal::OverPdu);
     }
-    Judgement::Read(items)
+    Judgement::Ask(Request::Read { items })
 }
 
 fn judge_write<'a>(pdu: u16, params: &[u8], body: &'a [u8]) -> Judgement<'a>
@@ -193,66 +198,34 @@ fn judge_write<'a>(pdu: u16, params: &[u8], body: &'a [u8]) -> Judgement<'a>
     }
 }
 
-fn judge_user<'a>(held: &Held, params: &[u8], body: &[u8]) -> Judgement<'a>
-    ensures judged { (sequence : ℕ) → judgement_of (link_of held.now) sequence result
-        ≡ user_at (link_of held.now) held.now.granted sequence params.now body.now }
-    ensures within { IsWithin held.now.granted result }
-{
-    if held.granted.is_none() {
-        return Judgement::Refuse(Refusal::NotNegotiated);
-    }
-    if params.is_empty() {
-        return Judgement::Refuse(Refusal::UnknownFunction);
-    }
-    match read_user(params) {
-        Ok(asked) if asked.group == SECURITY => judge_security(held, &asked, body),
-        Ok(_) => Judgement::Refuse(Refusal::UnknownFunction),
-        Err(_) => Judgement::Refuse(Refusal::Unreadable),
-    }
-}
-
-// The long form of parameters asks for a further slice of an answer, which no answer of this group has.
-fn judge_security<'a>(held: &Held, asked: &UserParams, body: &[u8]) -> Judgement<'a>
-    ensures judged { (sequence : ℕ) → judgement_of (link_of held.now) sequence result
-        ≡ security (link_of held.now) sequence asked.now body.now }
+fn judge_control<'a>(params: &[u8], body: &[u8]) -> Judgement<'a>
+    ensures judged { (link : LinkState) (sequence : ℕ) → judgement_of link sequence result
+        ≡ control_in link sequence body.now (control_of params.now) }
     ensures within { (granted : _) → IsWithin granted result }
 {
-    match asked.sub {
-        SET_PASSWORD | CLEAR_PASSWORD if asked.answer => Judgement::Refuse(Refusal::Unreadable),
-        SET_PASSWORD => judge_password(held, body),
-        CLEAR_PASSWORD => judge_clearing(held, body),
-        _ => Judgement::Refuse(Refusal::UnknownFunction),
-    }
-}
-
-fn judge_password<'a>(held: &Held, body: &[u8]) -> Judgement<'a>
-    ensures judged { (sequence : ℕ) → judgement_of (link_of held.now) sequence result
-        ≡ password_set (link_of held.now) sequence body.now }
-    ensures within { (granted : _) → IsWithin granted result }
-{
-    let Some(octets) = password_in(body) else {
+    let Ok(control) = read_control(params) else {
         return Judgement::Refuse(Refusal::Unreadable);
     };
-    let error = set_error(held.guard, &decode(&octets));
-    Judgement::Security {
-        subfunction: SET_PASSWORD,
-        error,
-        right: held.right || error == 0,
-    }
-}
-
-fn judge_clearing<'a>(held: &Held, body: &[u8]) -> Judgement<'a>
-    ensures judged { (sequence : ℕ) → judgement_of (link_of held.now) sequence result
-        ≡ password_cleared (link_of held.now) sequence body.now }
-    ensures within { (granted : _) → IsWithin granted result }
-{
-    if body != NO_DATA.as_slice() {
+    let Some(request) = request_of(control) else {
+        return Judgement::Refuse(Refusal::UnknownFunction);
+    };
+    if !body.is_empty() {
         return Judgement::Refuse(Refusal::Unreadable);
     }
-    let error = clear_error(held.guard, held.right);
-    Judgement::Security {
-        subfunction: CLEAR_PASSWORD,
-        error,
-        right: held.right && error != 0,
+    Judgement::Ask(request)
+}
+
+// What a control asks; those of blocks aren't served.
+fn request_of(control: Control) -> Option<Request>
+    ensures request { result ≡ request_of control }
+    ensures plain { (granted : _) → IfSome result (IsPlain granted) }
+{
+    match control {
+        Control::Start => Some(Request::Start { cold: false }),
+        Control::ColdStart => Some(Request::Start { cold: true }),
+        Control::Stop => Some(Request::Stop),
+        Control::Compress => Some(Request::Compress),
+        Control::CopyRam => Some(Request::CopyRam),
+        Control::Insert { .. } | Control::Delete { .. } => None,
     }
 }

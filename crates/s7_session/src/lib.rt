@@ -8,12 +8,15 @@ mod doer;
 mod handled;
 mod held;
 mod judge;
+mod judge_user;
 mod laws;
 mod outcome;
 mod password;
+mod query;
 mod sender;
 mod session;
 mod size;
+mod slices;
 
 pub use book_doer::BookDoer;
 pub use doer::{Doer, NotDone};
@@ -25,3 +28,5 @@ pub use session::Session;
 mod pdu_tests;
 #[cfg(test)]
 mod tests;
+#[cfg(test)]
+mod user_tests;

@@ -1,17 +1,20 @@
 // Messages and confirms that go out.
-ghost use Rattle.std.specs.Prelude.{◌≡◌, ◌+◌, ◌≤◌, [], ◌++◌, length, true, IfOk};
+ghost use Rattle.std.specs.Prelude.{◌≡◌, ◌+◌, ◌<◌, ◌≤◌, [], ◌++◌, length, true, IfOk};
 ghost use Rattle.s7_cotp.specs.Told.{connection_of};
 ghost use Rattle.s7_cotp.specs.Spelling.{spelling_of_confirm};
 ghost use Rattle.s7_tpkt.specs.Packets.{packet_of};
 ghost use Rattle.s7_header.specs.Header.{IsHeader, spelling_of};
-ghost use Rattle.s7_header.specs.Negotiation.{negotiation_spelling, most_pdu};
+ghost use Rattle.s7_header.specs.Negotiation.{negotiation_spelling, least_pdu, most_pdu};
 ghost use Rattle.s7_plant.specs.Requests.{HasAtMost};
 ghost use Rattle.s7_plant.specs.Replies.{said_of};
-ghost use Rattle.s7_session.specs.Judgement.{answer_octets, refusal_octets, reply_octets, user_octets};
+ghost use Rattle.s7_session.specs.Judgement.{answer_octets, refusal_octets, reply_octets};
+ghost use Rattle.s7_session.specs.Judgement.{user_octets, user_data, slice_octets};
 ghost use Rattle.s7_wire.specs.Bounds.{most_packets, most_waiting};
 ghost use Rattle.s7_wire.specs.Sent.{sent_message};
 
+use crate::password::NO_DATA;
 use crate::size::TpduSize;
+use crate::slices::{AnswerId, slice_room};
 use s7_cotp::{Connection, write_confirm};
 use s7_header::{
     Header, Kind, MOST_PDU, Negotiation, UserParams, write_header, write_negotiate, write_refusal,
@@ -47,6 +50,20 @@ impl Sender {
         })
     }
 
+    /// Begins a message with a header and parameters.
+    fn begin(&mut self, header: &Header, params: &[u8])
+        requires header { IsHeader header.now }
+        requires fits { length (spelling_of header.now) + length params.now ≤ most_pdu }
+        ensures message { self.new.message.octets ≡ spelling_of header.now ++ params.now }
+        ensures outbox { self.new.outbox ≡ self.old.outbox }
+    {
+        let mut octets = [0u8; 12];
+        let len = write_header(header, &mut octets);
+        self.message.clear();
+        self.message.add(&octets[..len]);
+        self.message.add(params);
+    }
+
     /// Puts a message of a header, parameters and data, of at most 1,920 octets.
     fn put(&mut self, size: TpduSize, header: &Header, params: &[u8], body: &[u8])
         requires header { IsHeader header.now }
@@ -55,11 +72,7 @@ impl Sender {
         ensures { self.new.outbox.unsent ≡ self.old.outbox.unsent
             ++ sent_message size.octets (spelling_of header.now ++ params.now ++ body.now) }
     {
-        let mut octets = [0u8; 12];
-        let len = write_header(header, &mut octets);
-        self.message.clear();
-        self.message.add(&octets[..len]);
-        self.message.add(params);
+        self.begin(header, params);
         self.message.add(body);
         put_message(&mut self.outbox, size.octets, self.message.as_slice());
     }
@@ -81,30 +94,58 @@ impl Sender {
         self.put(size, &header, params, body);
     }
 
-    /// Puts the answer to user data, whose parameters have the long form, with at most 1,898 octets of data.
+    /// Puts the answer to user data, whose parameters have the long form, with at most 1,894 octets.
     pub(crate) fn put_user(
         &mut self,
         size: TpduSize,
         sequence: u16,
         params: &UserParams,
-        body: &[u8],
+        octets: &[u8],
     )
         requires form { params.now.answer ≡ true }
-        requires fits { 22 + length body.now ≤ most_pdu }
+        requires fits { 26 + length octets.now ≤ most_pdu }
         requires room { most_packets ≤ self.old.outbox.room }
         ensures { self.new.outbox.unsent ≡ self.old.outbox.unsent
-            ++ sent_message size.octets (user_octets sequence params.now body.now) }
+            ++ sent_message size.octets (user_octets sequence params.now (user_data octets.now)) }
     {
         let header = Header {
             kind: Kind::User,
             sequence,
             param_len: 12,
-            body_len: body.len() as u16,
+            body_len: 4 + octets.len() as u16,
             error: 0,
         };
-        let mut octets = [0u8; 12];
-        let len = write_user(params, &mut octets);
-        self.put(size, &header, &octets[..len], body);
+        let mut written = [0u8; 12];
+        let len = write_user(params, &mut written);
+        self.begin(&header, &written[..len]);
+        self.message.add(&data_head(octets));
+        self.message.add(octets);
+        put_message(&mut self.outbox, size.octets, self.message.as_slice());
+    }
+
+    /// Puts the answer to user data with the first of these octets, as many as fit the PDU. Its last-unit octet
+    /// says whether more follow.
+    pub(crate) fn put_slice(
+        &mut self,
+        size: TpduSize,
+        sequence: u16,
+        pdu: u16,
+        answer: AnswerId,
+        octets: &[u8],
+    )
+        requires least { least_pdu ≤ pdu }
+        requires most { pdu ≤ most_pdu }
+        requires room { most_packets ≤ self.old.outbox.room }
+        ensures { self.new.outbox.unsent ≡ self.old.outbox.unsent
+            ++ sent_message size.octets
+            (slice_octets sequence answer.group answer.subfunction answer.sequence pdu octets.now) }
+    {
+        let room = slice_room(pdu);
+        if octets.len() > room {
+            self.put_user(size, sequence, &answer.params(1, 0), &octets[..room]);
+        } else {
+            self.put_user(size, sequence, &answer.params(0, 0), octets);
+        }
     }
 
     /// Puts the refusal of a message with this sequence.
@@ -161,5 +202,19 @@ impl Sender {
         let mut octets = [0u8; CONFIRM];
         let len = write_confirm(c, &mut octets);
         self.outbox.put(&octets[..len]);
+    }
+}
+
+/// The head of the data of user data: FF, transport size 09 and the length; without octets 0A alone.
+fn data_head(octets: &[u8]) -> [u8; 4]
+    requires { length octets.now < 65536 }
+    ensures { result ++ octets.now ≡ user_data octets.now }
+{
+    match octets {
+        [] => NO_DATA,
+        _ => {
+            let [high, low] = (octets.len() as u16).to_be_bytes();
+            [0xFF, 0x09, high, low]
+        }
     }
 }

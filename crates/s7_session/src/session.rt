@@ -42,7 +42,6 @@ pub struct Session {
 
 impl Session {
     ghost use Rattle.std.specs.Prelude.{◌≡◌, ℕ, ◌+◌, ◌<◌, ◌≤◌, List, [], Option, None, Some, length, IfOk};
-    ghost use Rattle.s7_outer.specs.Shown.{Shown};
     ghost use Rattle.s7_wire.specs.Reads.{HasRead, HasMessage, opens_by};
     ghost use Rattle.s7_wire.specs.Reading.{torn_of};
     ghost use Rattle.s7_wire.specs.declared.found.Opening.TheVariants.{Request as OpensByRequest};
@@ -151,14 +150,14 @@ impl Session {
             };
         }
         if !self.inbox.is_empty() {
-            return self.consume(alloc, doer);
+            return self.consume(alloc, line, doer);
         }
         if self.used == SPENT {
             return self.close(Outcome::Spent);
         }
         let most = PIECE.min((SPENT - self.used) as usize);
         match self.inbox.refill(line, most) {
-            Got::Bytes(_) => self.consume(alloc, doer),
+            Got::Bytes(_) => self.consume(alloc, line, doer),
             Got::NotYet => Turn::NotYet,
             Got::Failed => self.close(Outcome::ReadFault),
             Got::End => {
@@ -169,12 +168,17 @@ impl Session {
     }
 
     // Uses octets that were read, up to the end of one packet.
-    fn consume<D: Doer>(&mut self, alloc: Global, doer: &mut D) -> Turn
+    fn consume<L: Link + Clock, D: Doer>(
+        &mut self,
+        alloc: Global,
+        line: &mut L,
+        doer: &mut D,
+    ) -> Turn
         requires going { closed_with self.old ≡ None }
         requires sent { unsent self.old ≡ [] }
         requires read { 0 < length (unread self.old) }
-        ensures consumes { (k : Shown) → Consumes D.stands D.is_full D.may_lack
-            self.old k doer.old self.new k doer.new result }
+        ensures consumes { Consumes D.stands D.is_full D.may_lack
+            self.old (L.shows line.old) doer.old self.new (L.shows line.new) doer.new result }
         ensures number { number_of self.new ≡ number_of self.old }
         ensures kept { D.keeps doer.old doer.new }
     {
@@ -187,7 +191,7 @@ impl Session {
                 self.conversation.open(&request);
                 Turn::Went
             }
-            Found::Message => self.handle(alloc, doer),
+            Found::Message => self.handle(alloc, line, doer),
             Found::Disconnected => {
                 let outcome = self.end();
                 self.close(outcome)
@@ -200,19 +204,25 @@ impl Session {
     }
 
     // Handles the message that is whole.
-    fn handle<D: Doer>(&mut self, alloc: Global, doer: &mut D) -> Turn
+    fn handle<L: Link + Clock, D: Doer>(
+        &mut self,
+        alloc: Global,
+        line: &mut L,
+        doer: &mut D,
+    ) -> Turn
         requires going { closed_with self.old ≡ None }
         requires sent { unsent self.old ≡ [] }
         requires whole { HasMessage self.old.reader }
         requires some { entry_count self.old < used_of self.old }
-        ensures handles { Handles D.stands D.is_full D.may_lack self.old doer.old self.new doer.new result }
+        ensures handles { Handles D.stands D.is_full D.may_lack
+            self.old (L.shows line.old) doer.old self.new (L.shows line.new) doer.new result }
         ensures number { number_of self.new ≡ number_of self.old }
         ensures kept { D.keeps doer.old doer.new }
     {
         let at = self.reader.place();
         match self
             .conversation
-            .message(alloc, self.reader.message(), doer)
+            .message(alloc, self.reader.message(), line, doer)
         {
             Handled::Answered => Turn::Went,
             Handled::Entered(number) => {

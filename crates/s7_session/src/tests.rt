@@ -36,12 +36,12 @@ pub(crate) fn block(alloc: Global, octets: &[u8]) -> Result<Areas, Memory> {
 }
 
 /// Data block 1, `11 22 33 44`.
-fn some_areas(alloc: Global) -> Result<Areas, Memory> {
+pub(crate) fn some_areas(alloc: Global) -> Result<Areas, Memory> {
     block(alloc, &[0x11, 0x22, 0x33, 0x44])
 }
 
 /// A guard of level 2 or 3 with the password ABCDEFGH; none for another level.
-fn guard(level: u8) -> Option<Guard>
+pub(crate) fn guard(level: u8) -> Option<Guard>
     ensures { IfSome result IsGuard }
 {
     if level != 2 && level != 3 {

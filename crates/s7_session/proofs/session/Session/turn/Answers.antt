@@ -47,8 +47,8 @@ returns-in-Failed-clause-turn g c =
 
 pub returns-then-not-is_empty-2-clause-turn : goal.returns-then-not-is_empty-2-clause-turn
 returns-then-not-is_empty-2-clause-turn g c =
-    turn_used g.D.Doer.stands g.D.Doer.is_full g.D.Doer.may_lack c.args.self.now c.consume.new.self (g.L.Link.shows c.args.line.now) (g.L.Link.shows c.args.line.now) c.args.doer.now c.consume.new.doer
-    c.consume.result (none_from_not c.args.self.now.closed c.in_default.not-Some) (empty_of c.args.self.now.conversation.sender.outbox.unsent c.is_empty.result c.is_empty.ensures c.if-not-is_empty.false) (c.consume.ensures.consumes (g.L.Link.shows c.args.line.now))
+    turn_used g.D.Doer.stands g.D.Doer.is_full g.D.Doer.may_lack c.args.self.now c.consume.new.self (g.L.Link.shows c.args.line.now) (g.L.Link.shows c.consume.new.line) c.args.doer.now c.consume.new.doer
+    c.consume.result (none_from_not c.args.self.now.closed c.in_default.not-Some) (empty_of c.args.self.now.conversation.sender.outbox.unsent c.is_empty.result c.is_empty.ensures c.if-not-is_empty.false) c.consume.ensures.consumes
 
 pub returns-then-self-eq-SPENT-clause-turn : goal.returns-then-self-eq-SPENT-clause-turn
 returns-then-self-eq-SPENT-clause-turn g c =
@@ -65,13 +65,13 @@ returns-then-self-eq-SPENT-clause-turn g c =
 pub returns-in-Bytes-refill-clause-turn : goal.returns-in-Bytes-refill-clause-turn
 returns-in-Bytes-refill-clause-turn g c =
     let k = c.consume-in-Bytes-refill in
-    turn_both g.D.Doer.stands g.D.Doer.is_full g.D.Doer.may_lack c.args.self.now _ k.new.self (g.L.Link.shows c.args.line.now) (g.L.Link.shows c.refill.new.line) (g.L.Link.shows c.refill.new.line)
+    turn_both g.D.Doer.stands g.D.Doer.is_full g.D.Doer.may_lack c.args.self.now _ k.new.self (g.L.Link.shows c.args.line.now) (g.L.Link.shows c.refill.new.line) (g.L.Link.shows k.new.line)
     c.args.doer.now k.new.doer k.result (closed_keeps _ _ refl refl refl refl refl) refl refl (moved_by_receive (g.L.Link.shows c.args.line.now) (g.L.Link.shows c.refill.new.line) _ c.refill.ensures.took c.refill.ensures.faults c.refill.ensures.waits c.refill.ensures.same)
     (none_from_not c.args.self.now.closed c.in_default.not-Some) (
       empty_of c.args.self.now.conversation.sender.outbox.unsent c.is_empty.result c.is_empty.ensures c.if-not-is_empty.false,
       empty_of c.args.self.now.inbox c.is_empty-2.result c.is_empty-2.ensures c.if-not-is_empty-2.false,
     )
-    (k.ensures.consumes (g.L.Link.shows c.refill.new.line))
+    k.ensures.consumes
 
 pub returns-in-NotYet-refill-clause-turn : goal.returns-in-NotYet-refill-clause-turn
 returns-in-NotYet-refill-clause-turn g c =

@@ -1,0 +1,42 @@
+-- What user data asks of the plant, as the code has it.
+use Rattle.std.specs.Prelude.{◌≡◌, ℕ, Bool, true, false, Option}
+use Rattle.s7_clock.specs.Moment.{IsHeld}
+use Rattle.s7_plant.specs.declared.request.Request.{Request}
+use Rattle.s7_plant.specs.declared.request.Request.TheVariants as request
+use Rattle.s7_session.specs.declared.query.Query.{Query}
+use Rattle.s7_session.specs.declared.query.Query.TheVariants.{Szl, ClockRead, ClockSet}
+use Rattle.s7_session.specs.Telegrams.{IsAt, moment_of}
+
+abbrev pub group_of : Query → ℕ
+group_of (Szl id index) = 0x44
+group_of ClockRead = 0x47
+group_of (ClockSet value) = 0x47
+
+abbrev pub subfunction_of : Query → ℕ
+subfunction_of (Szl id index) = 0x01
+subfunction_of ClockRead = 0x01
+subfunction_of (ClockSet value) = 0x02
+
+abbrev pub is_timed : Query → Bool
+is_timed (Szl id index) = false
+is_timed ClockRead = true
+is_timed (ClockSet value) = true
+
+-- what it asks at a moment
+abbrev pub request_at : Query → ℕ → Request
+request_at (Szl id index) moment = request.Szl id index
+request_at ClockRead moment = request.ClockRead moment
+request_at (ClockSet value) moment = request.ClockSet moment value
+
+-- a clock is set to a moment that clock octets have
+abbrev pub IsReadyQuery : Query → Type 0
+IsReadyQuery (Szl id index) = Unit {0}
+IsReadyQuery ClockRead = Unit {0}
+IsReadyQuery (ClockSet value) = IsHeld value
+
+-- the request that it makes: at the moment that the clock told where it asks for one, and else at 0
+pub record IsMade (query : Query) (told : Option ℕ) (request : Request) : Type 0 where
+  pub moment : ℕ
+  pub request_is : request ≡ request_at query moment
+  pub untimed : is_timed query ≡ false → moment ≡ 0
+  pub told_is : IsAt told (moment_of request)

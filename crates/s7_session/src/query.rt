@@ -1,0 +1,95 @@
+// What user data asks of the plant.
+ghost use Rattle.std.specs.Prelude.{◌≡◌, ◌≤◌, Some, IfSome, IfNone};
+ghost use Rattle.s7_outer.specs.Count.{Rose};
+ghost use Rattle.s7_session.specs.Telegrams.{IsAt};
+
+use s7_outer::{Clock, Link, Tick};
+use s7_plant::Request;
+
+/// The groups of user data that ask.
+pub(crate) const LISTS: u8 = 0x44;
+
+pub(crate) const CLOCK: u8 = 0x47;
+
+/// The subfunction of the first that reads a list.
+pub(crate) const READ_LIST: u8 = 0x01;
+
+/// Those of the second.
+pub(crate) const READ_CLOCK: u8 = 0x01;
+
+pub(crate) const SET_CLOCK: u8 = 0x02;
+
+/// What user data asks of the plant.
+#[derive(Clone, Copy, Debug, PartialEq, Eq)]
+pub(crate) enum Query {
+    /// The image of a status list.
+    Szl { id: u16, index: u16 },
+    /// What the clock shows.
+    ClockRead,
+    /// That the clock shows this, a moment of 1990 to 2089.
+    ClockSet { value: u64 },
+}
+
+impl Query {
+    ghost use Rattle.std.specs.Prelude.{true, false};
+    ghost use Rattle.s7_session.specs.Queries.{group_of, subfunction_of, is_timed, IsMade};
+
+    /// Its group.
+    pub(crate) fn group(self) -> u8
+        ensures { result ≡ group_of self }
+    {
+        match self {
+            Query::Szl { .. } => LISTS,
+            Query::ClockRead | Query::ClockSet { .. } => CLOCK,
+        }
+    }
+
+    /// Its subfunction.
+    pub(crate) fn subfunction(self) -> u8
+        ensures { result ≡ subfunction_of self }
+    {
+        match self {
+            Query::Szl { .. } => READ_LIST,
+            Query::ClockRead => READ_CLOCK,
+            Query::ClockSet { .. } => SET_CLOCK,
+        }
+    }
+
+    /// The request that it makes. One of the clock has the moment, for which the line's clock is asked once; there
+    /// is none where that fails.
+    pub(crate) fn request<L: Link + Clock>(self, line: &mut L) -> Option<Request>
+        ensures some { IfSome result (IsMade self (L.shows line.old).moment) }
+        ensures none { IfNone result (is_timed self ≡ true) }
+        ensures failed { IfNone result (Rose (L.shows line.old).clock_faults (L.shows line.new).clock_faults) }
+        ensures clock_faults { (L.shows line.old).clock_faults ≤ (L.shows line.new).clock_faults }
+        ensures unasked { is_timed self ≡ false
+            → (L.shows line.new).clock_faults ≡ (L.shows line.old).clock_faults }
+        ensures same { L.shows line.new
+            ≡ record (L.shows line.old) { clock_faults = (L.shows line.new).clock_faults } }
+    {
+        match self {
+            Query::Szl { id, index } => Some(Request::Szl { id, index }),
+            Query::ClockRead => Some(Request::ClockRead {
+                moment: moment(line)?,
+            }),
+            Query::ClockSet { value } => Some(Request::ClockSet {
+                moment: moment(line)?,
+                value,
+            }),
+        }
+    }
+}
+
+// What the line's clock tells.
+fn moment<L: Link + Clock>(line: &mut L) -> Option<u64>
+    ensures told { IfSome result (λ moment. IsAt (L.shows line.old).moment (Some moment)) }
+    ensures failed { IfNone result (Rose (L.shows line.old).clock_faults (L.shows line.new).clock_faults) }
+    ensures clock_faults { (L.shows line.old).clock_faults ≤ (L.shows line.new).clock_faults }
+    ensures same { L.shows line.new
+        ≡ record (L.shows line.old) { clock_faults = (L.shows line.new).clock_faults } }
+{
+    match line.now() {
+        Tick::At(moment) => Some(moment),
+        Tick::Failed => None,
+    }
+}
