@@ -17,7 +17,7 @@ use Rattle.s7_session.specs.Telegrams.{Met, AllAt, last_number}
 use Rattle.s7_session.proofs.SumLemmas.{AreNumbered, AreCounted, AreWithin, all_different, all_served, counts_add_up}
 use Rattle.s7_serve.specs.Benches.{Terms, SeatTold}
 use Rattle.s7_serve.specs.Hosted.{IsServedAs, AreServed, AreHosted, counts_of}
-use Rattle.s7_serve.specs.Served.{ServedTold, IsServed}
+use Rattle.s7_serve.specs.Served.{ServedTold, IsServed, IsServedLink, IsLeftAlone}
 use Rattle.s7_serve.specs.Works.{IsIn, AreIn, IsOver}
 use Rattle.s7_serve.proofs.OwnLemmas.{own_agrees}
 
@@ -45,20 +45,22 @@ legal_on s limit front history link mets moment entries newest a few l =
 served_on : (s : State) (limit : ℕ) (first : LinkState) (front history : History) (pipe : Shown) (served : ServedTold)
     → Agrees front (served.link ∷ []) history → length history ≤ limit
     → IsServed s limit first front pipe served → IsServed s limit first history pipe served
-served_on s limit first front history pipe served a few (inl is) = inl record {
-  taken = is.taken;
-  written = is.written;
-  mets = is.mets;
-  took = is.took;
-  wrote = is.wrote;
-  asked = is.asked;
-  answers = is.answers;
-  legal = legal_on s limit front history served.link is.mets pipe.moment served.entries served.last a few is.legal;
-  clock = is.clock;
-  unasked = is.unasked;
-  end = is.end;
-}
-served_on s limit first front history pipe served a few (inr alone) = inr alone
+served_on s limit first front history pipe served a few is = record { came = on is.came; shut = is.shut } where
+  on : IsServedLink s limit first front pipe served ⊎ IsLeftAlone pipe served → IsServedLink s limit first history pipe served ⊎ IsLeftAlone pipe served
+  on (inr alone) = inr alone
+  on (inl is) = inl record {
+    taken = is.taken;
+    written = is.written;
+    mets = is.mets;
+    took = is.took;
+    wrote = is.wrote;
+    asked = is.asked;
+    answers = is.answers;
+    legal = legal_on s limit front history served.link is.mets pipe.moment served.entries served.last a few is.legal;
+    clock = is.clock;
+    unasked = is.unasked;
+    end = is.end;
+  }
 
 in_whole : (terms : Terms) (all : SeatTold) (number : ℕ) (pipe : Shown) (served : ServedTold) → length all.seen ≤ terms.limit
     → IsIn terms all number pipe served → IsServedAs terms.opening terms.limit terms.first all.seen number pipe served

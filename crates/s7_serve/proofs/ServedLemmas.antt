@@ -1,17 +1,20 @@
 -- The run of a link, by the history that its doer's entries stand in.
-use Rattle.std.proofs.Common.{◌≡◌, ℕ, List, [], length, map, Option, None, ap, sym, ◌∙◌, subst}
+use Rattle.std.proofs.Common.{◌≡◌, ◌⊎◌, inl, inr, ℕ, Bool, true, List, [], length, map, Option, None, Some, IfSome, IsTrue, option_map, refl, ap, sym, ◌∙◌, subst}
 use Rattle.s7_outer.specs.Shown.{Shown}
+use Rattle.s7_outer.specs.Calls.{shut_down}
 use Rattle.s7_plant.specs.declared.request.Ask.{Ask}
 use Rattle.s7_plant.specs.State.{State}
 use Rattle.s7_session.specs.declared.outcome.Outcome.{Outcome}
+use Rattle.s7_session.specs.declared.outcome.Outcome.TheVariants as outcome
 use Rattle.s7_session.specs.Books.{History, own}
 use Rattle.s7_session.specs.Entry.{Entry, answered}
-use Rattle.s7_session.specs.LinkRun.{IsLinkRun}
+use Rattle.s7_session.specs.LinkRun.{IsLinkRun, IsEnd}
 use Rattle.s7_session.specs.LinkState.{LinkState}
 use Rattle.s7_session.specs.Telegrams.{verdicts_of, MemoryIsLast, AllAt, last_number}
 use Rattle.s7_session.proofs.DoerLemmas.{full_end, full_stays}
 use Rattle.s7_session.proofs.PastLemmas.{memory_is_last}
-use Rattle.s7_serve.specs.Served.{IsServedLink, served_told}
+use Rattle.s7_session.specs.Verdict.{Verdict}
+use Rattle.s7_serve.specs.Served.{IsServedLink, IsServed, IsShut, served_told}
 
 -- what the doer stands for in the end are the link's own calls in a history, and where it is full that has its greatest
 -- length
@@ -46,3 +49,76 @@ served_link stands is_full may_lack s limit first history link pipe line d d' o 
       unasked = run.unasked;
       end = run.end;
     }
+
+-- ---- the link was shut then
+
+shut_end : (link line : Shown) (first : LinkState) (b : List ℕ) (js : List Verdict) (o : Outcome)
+    → IsEnd link line first b js o → IsEnd link (shut_down line) first b js o
+shut_end link line first b js outcome.Ended h = h
+shut_end link line first b js (outcome.Torn n) h = h
+shut_end link line first b js (outcome.BadFrame at) h = h
+shut_end link line first b js (outcome.FrameTooLong at) h = h
+shut_end link line first b js (outcome.BadTpdu at) h = h
+shut_end link line first b js (outcome.Unexpected at) h = h
+shut_end link line first b js (outcome.TooManyFragments at) h = h
+shut_end link line first b js (outcome.TooLong at) h = h
+shut_end link line first b js (outcome.NotS7 at) h = h
+shut_end link line first b js outcome.ReadFault h = h
+shut_end link line first b js outcome.WriteFault h = h
+shut_end link line first b js outcome.Spent h = h
+shut_end link line first b js outcome.Memory h = h
+
+pub shut_link : (s : State) (limit : ℕ) (first : LinkState) (history : History) (pipe line : Shown) (link : ℕ) (o : Outcome) (accepted : ℕ) (last : Option ℕ)
+    → IsServedLink s limit first history pipe (served_told link line o accepted last)
+    → IsServedLink s limit first history pipe (served_told link (shut_down line) o accepted last)
+shut_link s limit first history pipe line link o accepted last is = record {
+  taken = is.taken;
+  written = is.written;
+  mets = is.mets;
+  took = is.took;
+  wrote = is.wrote;
+  asked = is.asked;
+  answers = is.answers;
+  legal = is.legal;
+  clock = is.clock;
+  unasked = is.unasked;
+  end = shut_end pipe line first is.taken (verdicts_of is.mets) o is.end;
+}
+
+-- a link that was shut tells it
+pub is_shut_down : (line : Shown) → IsShut (shut_down line)
+is_shut_down line = told line.is_shut where
+  told : (shut : Option Bool) → IfSome (option_map (λ _. true) shut) IsTrue
+  told None = tt
+  told (Some b) = refl
+
+-- a served link, shut
+pub served_and_shut : (s : State) (limit : ℕ) (first : LinkState) (history : History) (pipe line line' : Shown) (link : ℕ) (o : Outcome) (accepted : ℕ) (last : Option ℕ)
+    → line' ≡ shut_down line
+    → IsServedLink s limit first history pipe (served_told link line o accepted last)
+    → IsServed s limit first history pipe (served_told link line' o accepted last)
+served_and_shut s limit first history pipe line line' link o accepted last shut is =
+    subst (λ l. IsServed s limit first history pipe (served_told link l o accepted last)) (sym shut) record {
+      came = inl (shut_link s limit first history pipe line link o accepted last is);
+      shut = is_shut_down line;
+    }
+
+-- a link for which there was no memory, shut
+pub alone_and_shut : (s : State) (limit : ℕ) (first : LinkState) (history : History) (pipe line' : Shown) (link : ℕ)
+    → line' ≡ shut_down pipe
+    → IsServed s limit first history pipe (served_told link line' outcome.Memory 0 None)
+alone_and_shut s limit first history pipe line' link shut = record {
+  came = inr (record { line_is = shut; result_is = refl; entries = refl; last = refl });
+  shut = subst IsShut (sym shut) (is_shut_down pipe);
+}
+
+-- the same, told with numbers that are those
+pub told_so : (s : State) (limit : ℕ) (first : LinkState) (history : History) (pipe line : Shown) (o : Outcome)
+    {link link' accepted accepted' : ℕ} {last last' : Option ℕ}
+    → link' ≡ link → accepted' ≡ accepted → last' ≡ last
+    → IsServed s limit first history pipe (served_told link line o accepted last)
+    → IsServed s limit first history pipe (served_told link' line o accepted' last')
+told_so s limit first history pipe line o {link} {link'} {accepted} {accepted'} {last} {last'} named counted newest is =
+    subst (λ (x : ℕ). IsServed s limit first history pipe (served_told x line o accepted' last')) (sym named)
+    (subst (λ (x : ℕ). IsServed s limit first history pipe (served_told link line o x last')) (sym counted)
+    (subst (λ (x : Option ℕ). IsServed s limit first history pipe (served_told link line o accepted x)) (sym newest) is))

@@ -1,7 +1,8 @@
 -- What serving a link leaves, from outside, by the history that its calls stand in.
-use Rattle.std.specs.Prelude.{◌≡◌, ◌⊎◌, ℕ, List, Option, None}
+use Rattle.std.specs.Prelude.{◌≡◌, ◌⊎◌, ℕ, List, Option, None, IfSome, IsTrue}
 use Rattle.std.specs.Io.KnownBytes.{prepend_known, append_known}
 use Rattle.s7_outer.specs.Shown.{Shown}
+use Rattle.s7_outer.specs.Calls.{shut_down}
 use Rattle.s7_outer.specs.Count.{RoseBy}
 use Rattle.s7_plant.specs.State.{State}
 use Rattle.s7_session.specs.declared.outcome.Outcome.{Outcome}
@@ -51,13 +52,18 @@ pub record IsServedLink (opening : State) (limit : ℕ) (first : LinkState) (his
   pub unasked : NoneTimed mets → served.line.clock_faults ≡ pipe.clock_faults
   pub end : IsEnd pipe served.line first taken (verdicts_of mets) served.outcome
 
--- memory was wanting for the link's buffers, and nothing became of it
+-- memory was wanting for the link's buffers, and nothing became of it but that it was shut
 pub record IsLeftAlone (pipe : Shown) (served : ServedTold) : Type 0 where
-  pub line_is : served.line ≡ pipe
+  pub line_is : served.line ≡ shut_down pipe
   pub result_is : served.outcome ≡ outcome.Memory
   pub entries : served.entries ≡ 0
   pub last : served.last ≡ None
 
-abbrev pub IsServed : State → ℕ → LinkState → History → Shown → ServedTold → Type 0
-IsServed opening limit first history pipe served =
-    IsServedLink opening limit first history pipe served ⊎ IsLeftAlone pipe served
+-- the peer knows that nothing more comes, where the link tells whether its stream was shut
+abbrev pub IsShut : Shown → Type 0
+IsShut line = IfSome line.is_shut IsTrue
+
+pub record IsServed (opening : State) (limit : ℕ) (first : LinkState) (history : History)
+    (pipe : Shown) (served : ServedTold) : Type 0 where
+  pub came : IsServedLink opening limit first history pipe served ⊎ IsLeftAlone pipe served
+  pub shut : IsShut served.line

@@ -124,9 +124,9 @@ where
             works.push_reserved(Work::Running(worker));
             seat
         }
-        Err((back, served)) => {
+        Err((home, served)) => {
             works.push_reserved(Work::Done(served));
-            bench.meet(seat, back)
+            bench.meet(seat, home)
         }
     }
 }

@@ -71,7 +71,7 @@ fn some_areas(alloc: Global) -> Result<Areas, Memory> {
     Ok(areas)
 }
 
-/// The link ended as links do, wrote these answers, and had so many entries.
+/// The link ended as links do, wrote these answers, was shut then, and had so many entries.
 fn is_answered(
     alloc: Global,
     served: &Served<MemoryLink>,
@@ -82,6 +82,7 @@ fn is_answered(
     Ok(
         served.outcome == Outcome::Ended
             && served.line.written() == output.as_slice()
+            && served.line.is_shut()
             && served.entries == entries,
     )
 }

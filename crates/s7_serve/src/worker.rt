@@ -22,8 +22,8 @@ use std::time;
 
 /// Serves a link to its end, in the name of a seat of the hall that stands for its caller alone, which has
 /// made no call. The link has the caller's number, and begins without a right, by the guard. Gives the
-/// seat back with what is left of the link. Where there is no memory for the link's session its outcome
-/// is `Memory`, and it is as it was.
+/// seat back with what is left of the link, which was shut then. Where there is no memory for the link's session
+/// its outcome is `Memory`, and nothing else became of it.
 pub fn serve_link<M: Keeper, R: Wait + time::Clock, L: Link + Clock, G: Gate>(
     rt: &R,
     alloc: Global,
@@ -47,6 +47,7 @@ pub fn serve_link<M: Keeper, R: Wait + time::Clock, L: Link + Clock, G: Gate>(
     let mut seat = seat;
     let mut line = line;
     let Ok(mut session) = Session::new(alloc, link, guard) else {
+        line.shutdown();
         let served = Served {
             link,
             line,
@@ -57,6 +58,7 @@ pub fn serve_link<M: Keeper, R: Wait + time::Clock, L: Link + Clock, G: Gate>(
         return (seat, served);
     };
     let outcome = serve_session(rt, alloc, hall, &mut seat, gate, &mut session, &mut line);
+    line.shutdown();
     let served = Served {
         link,
         line,

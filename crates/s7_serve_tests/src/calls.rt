@@ -23,8 +23,8 @@ pub(crate) fn joined(alloc: Global, parts: &[&[u8]]) -> Result<Vec<u8>, Memory> 
     Ok(all)
 }
 
-// Sends a telegram whole.
-fn send<L: Link>(link: &mut L, telegram: &[u8]) -> Option<()> {
+/// Sends a telegram whole.
+pub(crate) fn send<L: Link>(link: &mut L, telegram: &[u8]) -> Option<()> {
     let mut rest = telegram;
     for _ in 0..1_000u32 {
         if rest.is_empty() {

@@ -7,6 +7,8 @@ mod calls;
 #[cfg(test)]
 mod coming;
 #[cfg(test)]
+mod ended;
+#[cfg(test)]
 mod ports;
 #[cfg(test)]
 mod shared;

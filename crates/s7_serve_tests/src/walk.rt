@@ -60,6 +60,7 @@ impl<'a> Walk<'a> {
                 let value = octets.as_slice().get(place.from..)?.get(..place.len)?;
                 self.writes(entry.link, items.as_slice(), value)
             }
+            _ => None,
         }
     }
 

@@ -11,6 +11,6 @@ returns-in-Ok-clause-goes_on g c = λ pipes given under_way.
 
 pub returns-in-Err-clause-goes_on : goal.returns-in-Err-clause-goes_on
 returns-in-Err-clause-goes_on g c = λ pipes given under_way.
-    served_at_once _ _ _ _ (g.B.Bench.told c.args.seat) (g.B.Bench.told c.args.own) (g.B.Bench.told c.in-Err.back) _ pipes c.args.works.now.items _
+    served_at_once _ _ _ _ (g.B.Bench.told c.args.seat) (g.B.Bench.told c.args.own) (g.B.Bench.told c.in-Err.home) _ pipes c.args.works.now.items _
     (g.L.Link.shows c.args.line) c.in-Err.served
     c.push_reserved-in-Err.ensures.items c.in-Err.ensures.served.1 c.meet.ensures.met given under_way
