@@ -22,7 +22,9 @@ use Rattle.s7_session.specs.Telegrams.{verdicts_of, MemoryIsLast, AllAt, last_nu
 use Rattle.s7_session.proofs.BookLemmas.{replay-calls}
 use Rattle.s7_session.proofs.DoerLemmas.{full_end, full_stays}
 use Rattle.s7_session.proofs.PastLemmas.{memory_is_last}
-use Rattle.s7_serve.specs.Served.{IsServedLink, ServedTold, served_told}
+use Rattle.s7_outer.specs.Calls.{shut_down}
+use Rattle.s7_serve.specs.Served.{IsServedLink, IsShut, ServedTold, served_told}
+use Rattle.s7_serve.proofs.ServedLemmas.{shut_link, is_shut_down}
 use Rattle.s7server.specs.Hosts.{first_of}
 
 is_same : (a b : ℕ) → a ≡ b → (a == b) ≡ true
@@ -123,3 +125,38 @@ pub served_alone : (opening : Memory) (pipe line : Shown) (d d' : BookDoer) (o :
 served_alone opening pipe line d d' o accepted last run none opens same goes =
     let served = served_link opening pipe line d d' o accepted last run none opens same goes in
     record { link = served; legal_book = served_book opening d d' accepted none opens same goes served.legal.count }
+
+-- ---- the link was shut then
+
+pub record IsShutAlone (opening : Memory) (limit : ℕ) (pipe : Shown) (served : ServedTold) (book : Book) : Type 0 where
+  pub link : IsServedLink (begins_with opening) limit (first_of opening) (history_of book) pipe served
+  pub legal_book : IsLegalBook (begins_with opening) limit ((served.link, served.entries) ∷ []) book
+  pub shut : IsShut served.line
+
+pub shut_alone : (opening : Memory) (pipe line line' : Shown) (d d' : BookDoer) (o : Outcome) (accepted : ℕ) (last : Option ℕ)
+    → IsLinkRun stands is_full lacks (first_of opening) pipe d line d' o accepted last
+    → history_of d.book.now ≡ [] → state_of d.book.now.opening ≡ begins_with opening → d'.link ≡ d.link → GoesOnBy d.link d.book.now d'.book.now
+    → line' ≡ shut_down line
+    → IsShutAlone opening d.book.now.journal.limit pipe (served_told d.link line' o accepted last) d'.book.now
+shut_alone opening pipe line line' d d' o accepted last run none opens same goes shut =
+    let served = served_alone opening pipe line d d' o accepted last run none opens same goes in
+    let limit = d.book.now.journal.limit in
+    subst (λ (l : Shown). IsShutAlone opening limit pipe (served_told d.link l o accepted last) d'.book.now) (sym shut) record {
+      link = shut_link (begins_with opening) limit (first_of opening) (history_of d'.book.now) pipe line d.link o accepted last served.link;
+      legal_book = served.legal_book;
+      shut = is_shut_down line;
+    }
+
+-- ---- a book on which nothing was done
+
+pub untouched_book : (opening : Memory) (book : Book) → history_of book ≡ [] → state_of book.opening ≡ begins_with opening
+    → state_of book.plant ≡ begins_with opening → (link : ℕ)
+    → IsLegalBook (begins_with opening) book.journal.limit ((link, 0) ∷ []) book
+untouched_book opening book none begins plant link = record {
+  opened = begins;
+  limited = refl;
+  only = subst (AllByRecursion (λ (call : Call Ask). IsServedBy ((link, 0) ∷ []) call.caller)) (sym none) tt;
+  different = (λ h. h, tt);
+  sum = ap length (sym none);
+  left = plant ∙ ap (replay after_call (begins_with opening)) (sym none);
+}

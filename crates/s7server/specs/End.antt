@@ -9,6 +9,7 @@ use Rattle.s7_outer.specs.Shown.{Shown}
 use Rattle.s7_area.specs.Memory.{Memory}
 use Rattle.s7_plant.specs.declared.book.Book.{Book}
 use Rattle.s7_plant.specs.Journals.{entries_of}
+use Rattle.s7_plant.specs.State.{begins_with, state_of}
 use Rattle.s7_serve.specs.Given.{HasFailed}
 use Rattle.s7_script.specs.Naming.{Named, path, block, faulty, naming}
 use Rattle.s7_script.specs.Loading.{IsTold, named_gives}
@@ -58,7 +59,8 @@ KeepsDoor (Some (serve areas port links save journal)) door door' = Unit {0}
 -- nothing was entered
 pub record Opens (asked : AskedTold) (files : FilesShown) (book : Book) : Type 0 where
   pub opened : IsTold (naming asked.areas) files → named_gives (naming asked.areas) files.held ≡ Ok book.opening.areas
-  pub plant : book.plant.areas ≡ book.opening.areas
+  pub begins : state_of book.opening ≡ begins_with book.opening.areas
+  pub plant : state_of book.plant ≡ begins_with book.opening.areas
   pub journal : book.journal ≡ entries_of [] asked.journal
 
 -- ---- what was refused, and what failed

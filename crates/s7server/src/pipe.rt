@@ -1,7 +1,7 @@
 // The command that serves one link.
 ghost use Rattle.std.specs.Prelude.{◌≡◌, ◌∷◌, [], IfErr, IfOk, IfSome, None, Some, if◌then◌else◌, is_some};
-ghost use Rattle.s7_plant.specs.State.{begins_with};
-ghost use Rattle.s7_serve.specs.Served.{IsServedLink, served_told, told_of};
+ghost use Rattle.s7_plant.specs.State.{begins_with, state_of};
+ghost use Rattle.s7_serve.specs.Served.{IsServedLink, IsShut, served_told, told_of};
 ghost use Rattle.s7_session.specs.Books.{history_of};
 ghost use Rattle.s7_session.specs.Legal.{IsLegalBook};
 ghost use Rattle.s7_session.specs.LinkRun.{IsFresh};
@@ -77,7 +77,8 @@ fn serve_book<R: Wait + time::Clock, L: Link + Clock + Drop>(
     pipe: L,
 ) -> Result<Run<L>, L>
     requires empty { history_of book ≡ [] }
-    requires plant { book.plant.areas ≡ book.opening.areas }
+    requires begins { state_of book.opening ≡ begins_with book.opening.areas }
+    requires plant { state_of book.plant ≡ begins_with book.opening.areas }
     ensures served { IfOk result (λ run.
         ServesPipe book.opening.areas book.journal.limit (L.shows pipe) (run_told L.shows run)) }
     ensures back { IfErr result (λ back. back ≡ pipe) }
@@ -101,12 +102,14 @@ fn serve_link<R: Wait + time::Clock, L: Link + Clock + Drop>(
     book: &mut Book,
 ) -> Served<L>
     requires empty { history_of book.old ≡ [] }
-    requires plant { book.old.plant.areas ≡ book.old.opening.areas }
+    requires begins { state_of book.old.opening ≡ begins_with book.old.opening.areas }
+    requires plant { state_of book.old.plant ≡ begins_with book.old.opening.areas }
     ensures { HostsOver book.old.opening.areas book.old.journal.limit (L.shows pipe ∷ [])
         (told_of L.shows result ∷ []) book.new }
 {
     let mut line = pipe;
     let Ok(mut session) = Session::new(alloc, LINK, book.opening.areas.guard()) else {
+        line.shutdown();
         return Served {
             link: LINK,
             line,
@@ -127,7 +130,7 @@ fn serve_link<R: Wait + time::Clock, L: Link + Clock + Drop>(
     }
 }
 
-// Serves a link over a fresh book by a fresh session.
+// Serves a link over a fresh book by a fresh session, and shuts it then.
 fn serve_session<R: Wait + time::Clock, L: Link + Clock>(
     rt: &R,
     alloc: Global,
@@ -137,12 +140,16 @@ fn serve_session<R: Wait + time::Clock, L: Link + Clock>(
 ) -> Outcome
     requires fresh { IsFresh (first_of book.old.opening.areas) session.old }
     requires empty { history_of book.old ≡ [] }
+    requires begins { state_of book.old.opening ≡ begins_with book.old.opening.areas }
     ensures served { IsServedLink (begins_with book.old.opening.areas) book.old.journal.limit
         (first_of book.old.opening.areas) (history_of book.new) (L.shows line.old)
         (served_told piped_link (L.shows line.new) result (entry_count session.new) (newest session.new)) }
     ensures legal_book { IsLegalBook (begins_with book.old.opening.areas) book.old.journal.limit
         ((piped_link, entry_count session.new) ∷ []) book.new }
+    ensures shut { IsShut (L.shows line.new) }
 {
     let mut doer = BookDoer { book, link: LINK };
-    session.serve(rt, alloc, line, &mut doer)
+    let outcome = session.serve(rt, alloc, line, &mut doer);
+    line.shutdown();
+    outcome
 }

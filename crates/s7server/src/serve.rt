@@ -1,5 +1,6 @@
 // The command that serves the links of a door.
 ghost use Rattle.std.specs.Prelude.{◌≡◌, ◌≢◌, [], IfOk, IfSome, IsErrOf, None, if◌then◌else◌, is_some};
+ghost use Rattle.s7_plant.specs.State.{begins_with, state_of};
 ghost use Rattle.s7_serve.specs.Given.{HasFailed};
 ghost use Rattle.s7_session.specs.Books.{history_of};
 ghost use Rattle.s7server.specs.Asked.{asked_told};
@@ -79,7 +80,8 @@ fn serve_book<
     gate: &G,
 ) -> Result<Run<L>, NotHosted>
     requires empty { history_of book ≡ [] }
-    requires plant { book.plant.areas ≡ book.opening.areas }
+    requires begins { state_of book.opening ≡ begins_with book.opening.areas }
+    requires plant { state_of book.plant ≡ begins_with book.opening.areas }
     ensures served { IfOk result (λ run. ServesDoor L.shows port links book.opening.areas book.journal.limit
         (D.shows door.old) (D.shows door.new) (run_told L.shows run)) }
     ensures failed { IsErrOf result NotHosted.Door → HasFailed port (D.shows door.old) (D.shows door.new) }
@@ -109,7 +111,8 @@ fn host<
     run: &mut Result<Run<L>, NotHosted>,
 ) -> D
     requires empty { history_of book ≡ [] }
-    requires plant { book.plant.areas ≡ book.opening.areas }
+    requires begins { state_of book.opening ≡ begins_with book.opening.areas }
+    requires plant { state_of book.plant ≡ begins_with book.opening.areas }
     ensures served { IfOk run.new (λ run. ServesDoor L.shows port links book.opening.areas book.journal.limit
         (D.shows door) (D.shows result) (run_told L.shows run)) }
     ensures failed { IsErrOf run.new NotHosted.Door → HasFailed port (D.shows door) (D.shows result) }
