@@ -1,6 +1,6 @@
 -- Laws of answers to user data, and of their slices.
-use Rattle.std.proofs.Common.{◌≡◌, ◌≢◌, ℕ, ◌≤◌, Bool, true, false, cond, List, [], length, take, ap, sym, ◌∙◌, refl, arith}
-use Rattle.std.specs.Prelude.{Option, None, Some, nat_lt, ◌==◌}
+use Rattle.std.proofs.Common.{◌≡◌, ◌≢◌, ℕ, Bool, true, false, cond, List, length, take, ap, sym, ◌∙◌, refl, arith}
+use Rattle.std.specs.Prelude.{None, Some, nat_lt, ◌==◌}
 use Rattle.std.proofs.lemmas.Bool.{ltb-false}
 use Rattle.std.proofs.lemmas.Bool.Decides.{nat_tests}
 use Rattle.std.proofs.lemmas.List.{nil_from_length}

@@ -1,5 +1,5 @@
 -- Jobs that are spelled are judged by their function, parameters and data.
-use Rattle.std.proofs.Common.{◌≡◌, ℕ, ◌+◌, ◌<◌, ◌≤◌, Bool, false, cond, Ok, List, [], ◌∷◌, length, refl, ap, sym, ◌∙◌, subst, arith, length-append}
+use Rattle.std.proofs.Common.{◌≡◌, ℕ, ◌+◌, ◌<◌, ◌≤◌, Bool, false, cond, Ok, List, [], length, refl, ap, sym, ◌∙◌, subst, arith, length-append}
 use Rattle.std.specs.Prelude.{Some}
 use Rattle.std.proofs.lemmas.Bool.{le-ltb}
 use Rattle.std.proofs.Math.Seq.{take-append_seam, drop-append_seam}
@@ -10,14 +10,13 @@ use Rattle.s7_header.specs.Header as header
 use Rattle.s7_header.proofs.HeaderLemmas.{spelled}
 use Rattle.s7_header.proofs.OctetLemmas.{two_of_number}
 use Rattle.s7_item.specs.DataItem.{data_octets, data_places_of}
-use Rattle.s7_item.specs.DataLaws.{places_of}
 use Rattle.s7_item.specs.Params.{items_params}
 use Rattle.s7_item.specs.Sizes.{answer_size}
 use Rattle.s7_item.proofs.DataLaws.{data_reads_back}
 use Rattle.s7_item.proofs.ItemLaws.{reads_back}
 use Rattle.s7_session.specs.LinkState.{LinkState}
-use Rattle.s7_session.specs.Judgement.{Judgement, judge, sequence_of, headed, job, function_at, pdu_limit, read, write, write_of}
-use Rattle.s7_session.specs.Spelled.{job_spelled, read_spelled, write_spelled, IsSpelled, ReadsAreAsked, WritesAreAsked}
+use Rattle.s7_session.specs.Judgement.{Judgement, judge, headed, job, function_at, pdu_limit, read, write, write_of}
+use Rattle.s7_session.specs.Spelled.{job_spelled, ReadsAreAsked, WritesAreAsked}
 
 -- a job has ten octets of header
 length-job : (sequence : ℕ) (params body : List ℕ) → length (job_spelled sequence params body) ≡ 10 + length params + length body
