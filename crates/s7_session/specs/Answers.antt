@@ -56,7 +56,7 @@ pub record Answers {D : Type 0} (stands : D → List Entry → Type 0) (is_full 
   pub last : (before : Option ℕ) → last_number before entries ≡ last_after before result
   pub doer : (es : List Entry) → stands d es → stands d' (es ++ entries)
   pub trail : Trail is_full may_lack d (made verdicts).mets d'
-  -- nothing else of the line changed than how often its clock failed: as often as it is told, and only where a
+  -- of the line nothing changed but how often its clock failed: as often as the verdict says, and only where the
   -- telegram asks for a moment
   pub line_is : line' ≡ record line { clock_faults = line'.clock_faults }
   pub clock : RoseBy (clock_failures verdicts) line.clock_faults line'.clock_faults

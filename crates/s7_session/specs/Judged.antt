@@ -4,11 +4,12 @@ use Rattle.s7_header.specs.Negotiation.{negotiation_spelling, IsGrant}
 use Rattle.s7_item.specs.declared.places.DataPlace.{DataPlace}
 use Rattle.s7_item.specs.Sizes.{answer_size}
 use Rattle.s7_plant.specs.declared.request.Request.{Request}
-use Rattle.s7_plant.specs.declared.request.Request.TheVariants.{Read, Write, Szl, ClockRead, ClockSet, Start, Stop, Compress, CopyRam}
+use Rattle.s7_plant.specs.declared.request.Request.TheVariants.{Read, Write, Szl, ClockRead, ClockSet}
+use Rattle.s7_plant.specs.declared.request.Request.TheVariants.{Start, Stop, Compress, CopyRam}
 use Rattle.s7_session.specs.declared.judge.Judgement.{Judgement}
 use Rattle.s7_session.specs.declared.judge.Judgement.TheVariants as code
-use Rattle.s7_session.specs.LinkState.{LinkState}
 use Rattle.s7_session.specs.declared.query.Query.{Query}
+use Rattle.s7_session.specs.LinkState.{LinkState}
 use Rattle.s7_session.specs.Judgement.{Asking, refuse, own, ask, answer_octets, asks_plainly, by_user, security_answer}
 use Rattle.s7_session.specs.Judgement.{slice_octets, slices_left}
 use Rattle.s7_session.specs.Judgement as judgement

@@ -226,7 +226,12 @@ slice_octets sequence group subfunction octet pdu octets =
 abbrev pub slices_left : ℕ → ℕ → ℕ → ℕ → List ℕ → Option Sliced
 slices_left group subfunction octet pdu octets =
     if nat_lt (slice_room pdu) (length octets)
-    then Some (record { group = group; subfunction = subfunction; sequence = octet; rest = drop (slice_room pdu) octets })
+    then Some (record {
+      group = group;
+      subfunction = subfunction;
+      sequence = octet;
+      rest = drop (slice_room pdu) octets;
+    })
     else None
 
 -- the answer that is made of a reply to user data of this group and subfunction
