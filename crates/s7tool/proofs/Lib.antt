@@ -1,5 +1,5 @@
+pub mod ConnectsLemmas
+pub mod FileLemmas
 pub mod RanLemmas
 pub mod RunLemmas
-pub mod FileLemmas
 pub mod TextLemmas
-pub mod ConnectsLemmas

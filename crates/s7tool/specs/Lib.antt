@@ -1,3 +1,5 @@
+pub mod Asked
+pub mod End
 pub mod Loading
 pub mod Ran
 pub mod Report

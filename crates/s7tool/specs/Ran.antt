@@ -1,82 +1,74 @@
--- What the words name, as far as the outside tells it.
-use Rattle.std.specs.Prelude.{◌≡◌, ℕ, ◌+◌, ◌*◌, List, Option, Some, None, Ok, IsTrue}
+-- What the command `run` does.
+use Rattle.std.specs.Prelude.{◌≡◌, ℕ, List, Option, Some, None, IsNone, IsSomeAnd, MatchOption}
+use Rattle.s7_outer.specs.Count.{Rose}
+use Rattle.s7_outer.specs.DialShown.{DialShown}
 use Rattle.s7_outer.specs.FilesShown.{FilesShown}
+use Rattle.s7_outer.specs.OutShown.{OutShown}
 use Rattle.s7_outer.specs.Shown.{Shown}
 use Rattle.s7_client.specs.declared.config.Config.{Config}
 use Rattle.s7_client.specs.Runs.{Between}
-use Rattle.s7_script.specs.Script.{script}
 use Rattle.s7_script.specs.declared.script_list.ScriptLine.{ScriptLine}
-use Rattle.s7_words.specs.Tool.{RunTold, RigTold, ToolTold, run, rig}
-use Rattle.s7tool.specs.declared.load.LoadFault.{LoadFault}
-use Rattle.s7tool.specs.declared.load.LoadFault.TheVariants as fault
-use Rattle.s7tool.specs.Loading.{Refuses}
-use Rattle.s7_outer.specs.Count.{Rose}
-use Rattle.s7tool.specs.Report.{script_line, too_long_line, file_line}
+use Rattle.s7_words.specs.Tool.{RunTold}
+use Rattle.s7tool.specs.declared.ended.Ended.{Ended}
+use Rattle.s7tool.specs.declared.ended.Ended.TheVariants as ended
+use Rattle.s7tool.specs.declared.ended.RunEnd.{RunEnd}
+use Rattle.s7tool.specs.Asked.{config_by}
+use Rattle.s7tool.specs.Loading.{PathFails, ReadsScript, RefusesScript}
+use Rattle.s7tool.specs.Report.{Printed, dial_line, memory_line}
+use Rattle.s7tool.specs.Run.{Goes, first_place}
 
--- how the client connects: the calling TSAP 0100, the called one of kind, rack and slot, and one job at a time
-abbrev pub config_by : RunTold → Config
-config_by told = record {
-  calling = 0x0100;
-  called = told.kind * 256 + told.rack * 32 + told.slot;
-  pdu = told.pdu;
-  jobs = 1;
-  polls = told.polls;
-}
+-- ---- what was run
 
--- THE SCRIPT WAS READ: these octets, which are those of the file where that is told, name these jobs
-pub record ReadsScript (path : List ℕ) (files : FilesShown) (then : List ScriptLine → Type 0) : Type 0 where
-  pub octets : List ℕ
-  pub lines : List ScriptLine
-  pub held : IsTrue files.tells → files.held path ≡ Some octets
-  pub named : script octets ≡ Ok lines
-  pub so : then lines
-
--- the line for a script that was refused; there is none for a file that failed, nor for want of memory
-abbrev pub refusal_line : LoadFault → Option (List ℕ)
-refusal_line (fault.Line n) = Some (script_line n)
-refusal_line fault.TooLong = Some too_long_line
-refusal_line fault.Failed = None
-refusal_line fault.Memory = None
-
--- THE SCRIPT WAS REFUSED for its first faulty line or its length, and the line for this was printed
-pub record RefusesScript (path : List ℕ) (files : FilesShown) (printed : List ℕ → Type 0) : Type 0 where
-  pub fault : LoadFault
-  pub line : List ℕ
-  pub refused : Refuses path files fault
-  pub line_is : refusal_line fault ≡ Some line
-  pub is_printed : printed line
-
--- A FILE FAILED: its count of faults rose, and the line for this was printed
-pub record FileFails (path : List ℕ) (old new : FilesShown) (printed : List ℕ → Type 0) : Type 0 where
-  pub rose : Rose (old.faults path) (new.faults path)
-  pub is_printed : printed (file_line path)
-
--- A LINK WAS DIALLED, the one that the dial gives to the host and the port where that is told
-pub record Dials (told : Option Shown) (then : Shown → Between → Type 0) : Type 0 where
-  pub link : Shown
+-- the jobs of these lines were carried out over a link, from the first on to what is left
+pub record RunsOver {L : Type 0} (shows : L → Shown) (config : Config) (lines : List ScriptLine) (link : Shown)
+    (out out' : OutShown) (run : RunEnd L) (how : Ended) : Type 0 where
   pub after : Between
-  pub given : (next : Shown) → told ≡ Some next → link ≡ next
-  pub so : then link after
+  pub goes : Goes config lines (first_place link out)
+      (record { link = shows run.line; between = after; results = run.results.items; out = out' }) how
 
--- ---- by the words
+-- A LINK WAS DIALLED, the one that the dial gives to the host and the port where that is told, and the jobs of these
+-- lines were carried out over it
+pub record RunsDialled {L : Type 0} (shows : L → Shown) (told : RunTold) (dial : DialShown L) (lines : List ScriptLine)
+    (out out' : OutShown) (run : RunEnd L) (how : Ended) : Type 0 where
+  pub link : Shown
+  pub given : (next : L) → dial.next told.host told.port ≡ Some next → link ≡ shows next
+  pub runs : RunsOver shows (config_by told) lines link out out' run how
 
-abbrev pub ByCommand : Option ToolTold → (RunTold → Type 0) → (RigTold → Type 0) → Type 0
-ByCommand None at_run at_rig = ⊥
-ByCommand (Some (run told)) at_run at_rig = at_run told
-ByCommand (Some (rig told)) at_run at_rig = at_rig told
+-- A SCRIPT WAS RUN: it was read, and its jobs were carried out over the link that was dialled
+abbrev pub RanScript : {L : Type 0} → (L → Shown) → RunTold → FilesShown → DialShown L → OutShown → OutShown
+    → RunEnd L → Ended → Type 0
+RanScript shows told files dial out out' run how =
+    ReadsScript told.script files (λ lines. RunsDialled shows told dial lines out out' run how)
 
--- of the command run alone
-abbrev pub ForRun : Option ToolTold → (RunTold → Type 0) → Type 0
-ForRun words then = ByCommand words then (λ told. ⊥)
+-- ---- how it ended
 
--- of the command rig alone
-abbrev pub ForRig : Option ToolTold → (RigTold → Type 0) → Type 0
-ForRig words then = ByCommand words (λ told. ⊥) then
+-- THE CALL FAILED after the script was read: the count of its host and port rose, and the line for this was printed
+pub record CallFails {L : Type 0} (told : RunTold) (files : FilesShown) (dial dial' : DialShown L)
+    (printed : List ℕ → Type 0) : Type 0 where
+  pub read : ReadsScript told.script files (λ lines. Unit {0})
+  pub rose : Rose (dial.faults told.host told.port) (dial'.faults told.host told.port)
+  pub is_printed : printed dial_line
 
-abbrev pub IsRig : Option ToolTold → Type 0
-IsRig words = ForRig words (λ told. Unit {0})
+-- memory was wanting: a run is left that ended early, or there is none and the line for this was printed
+abbrev pub RunLacksMemory : {L : Type 0} → (L → Shown) → RunTold → FilesShown → DialShown L → OutShown → OutShown
+    → Option (RunEnd L) → Type 0
+RunLacksMemory shows told files dial out out' run =
+    MatchOption run (Printed out out' memory_line) (λ r. RanScript shows told files dial out out' r ended.Memory)
 
--- the script was read and a link dialled, and the run from there is this
-abbrev pub Ran : FilesShown → (List ℕ → ℕ → Option Shown) → (Config → List ScriptLine → Shown → Between → Type 0) → RunTold → Type 0
-Ran files next then told =
-    ReadsScript told.script files (λ lines. Dials (next told.host told.port) (λ link after. then (config_by told) lines link after))
+-- HOW `run` ENDED, by the files, the dial and the output before and after, and the run where there is one
+abbrev pub RunEnds : {L : Type 0} → (L → Shown) → RunTold → FilesShown → FilesShown → DialShown L → DialShown L
+    → OutShown → OutShown → Option (RunEnd L) → Ended → Type 0
+RunEnds shows told files files' dial dial' out out' run ended.Done =
+    IsSomeAnd run (λ r. RanScript shows told files dial out out' r ended.Done)
+RunEnds shows told files files' dial dial' out out' run ended.Jobs =
+    IsSomeAnd run (λ r. RanScript shows told files dial out out' r ended.Jobs)
+RunEnds shows told files files' dial dial' out out' run ended.Output =
+    IsSomeAnd run (λ r. RanScript shows told files dial out out' r ended.Output)
+RunEnds shows told files files' dial dial' out out' run ended.Memory =
+    RunLacksMemory shows told files dial out out' run
+RunEnds shows told files files' dial dial' out out' run ended.Refused =
+    IsNone run × RefusesScript told.script files (Printed out out')
+RunEnds shows told files files' dial dial' out out' run ended.File =
+    IsNone run × PathFails told.script files files' (Printed out out')
+RunEnds shows told files files' dial dial' out out' run ended.Dial =
+    IsNone run × CallFails told files dial dial' (Printed out out')

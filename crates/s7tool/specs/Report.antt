@@ -1,12 +1,17 @@
 -- What is printed.
-use Rattle.std.specs.Prelude.{◌≡◌, ◌⊎◌, ℕ, List, [], ◌∷◌, ◌++◌, codes, Option}
+use Rattle.std.specs.Prelude.{◌≡◌, ◌⊎◌, ℕ, Bool, true, false, List, [], ◌∷◌, ◌++◌, codes, Option, IsSomeAnd}
 use Rattle.std.specs.Fmt.{decimal}
 use Rattle.std.specs.Io.KnownBytes.{append_known}
 use Rattle.s7_outer.specs.Count.{Rose}
 use Rattle.s7_outer.specs.Out.{AppendsPrefix}
+use Rattle.s7_outer.specs.OutShown.{OutShown}
 use Rattle.s7_client.specs.declared.job.JobResult.{JobResult}
 use Rattle.s7_script.specs.Printing.{print}
 use Rattle.s7_script.specs.declared.script_list.ScriptLine.{ScriptLine}
+use Rattle.s7tool.specs.declared.ended.Ended.{Ended}
+use Rattle.s7tool.specs.declared.ended.Ended.TheVariants as ended
+
+-- ---- lines
 
 -- a line ends with LF
 abbrev pub line_end : List ℕ
@@ -39,6 +44,37 @@ dial_line = codes "dial failed" ++ line_end
 abbrev pub memory_line : List ℕ
 memory_line = codes "memory" ++ line_end
 
--- an output gained a line, or a front of it where the output failed
-abbrev pub Prints : Option (List ℕ) → Option (List ℕ) → ℕ → ℕ → List ℕ → Type 0
-Prints old new before now line = (new ≡ append_known old line) ⊎ (AppendsPrefix old new line × Rose before now)
+-- ---- what becomes of the output
+
+-- an output gained a text
+abbrev pub Gains : OutShown → OutShown → List ℕ → Type 0
+Gains old new text = new.text ≡ append_known old.text text
+
+-- an output failed, and gained a front of a text
+pub record BreaksOff (old new : OutShown) (text : List ℕ) : Type 0 where
+  pub front : AppendsPrefix old.text new.text text
+  pub failed : Rose old.faults new.faults
+
+-- A LINE WAS PRINTED, or a front of it where the output failed
+abbrev pub Printed : OutShown → OutShown → List ℕ → Type 0
+Printed old new line = Gains old new line ⊎ BreaksOff old new line
+
+-- THE TEXT OF WHAT WAS DONE WAS PRINTED, or a front of it where the output failed, by whether all went well
+abbrev pub PrintsText : List ℕ → Bool → OutShown → OutShown → Ended → Type 0
+PrintsText text good old new ended.Done = Gains old new text × (good ≡ true)
+PrintsText text good old new ended.Jobs = Gains old new text × (good ≡ false)
+PrintsText text good old new ended.Output = BreaksOff old new text
+PrintsText text good old new ended.Refused = ⊥
+PrintsText text good old new ended.File = ⊥
+PrintsText text good old new ended.Dial = ⊥
+PrintsText text good old new ended.Memory = ⊥
+
+-- WHY A FILE WASN'T LOADED was printed: the line for a refusal, where there is one, or that for a file that failed
+abbrev pub TellsFault : Option (List ℕ) → Type 0 → List ℕ → OutShown → OutShown → Ended → Type 0
+TellsFault line failed path old new ended.Refused = IsSomeAnd line (Printed old new)
+TellsFault line failed path old new ended.File = failed × Printed old new (file_line path)
+TellsFault line failed path old new ended.Memory = Printed old new memory_line
+TellsFault line failed path old new ended.Done = ⊥
+TellsFault line failed path old new ended.Jobs = ⊥
+TellsFault line failed path old new ended.Output = ⊥
+TellsFault line failed path old new ended.Dial = ⊥

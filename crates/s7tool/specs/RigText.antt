@@ -1,5 +1,6 @@
 -- What is printed of a rig.
-use Rattle.std.specs.Prelude.{ℕ, All, ◌+◌, ◌==◌, ◌&&◌, Bool, List, [], ◌∷◌, ◌++◌, length, map, codes, if◌then◌else◌}
+use Rattle.std.specs.Prelude.{ℕ, All, ◌+◌, ◌==◌, ◌&&◌, Bool, List, [], ◌∷◌, ◌++◌}
+use Rattle.std.specs.Prelude.{length, map, codes, if◌then◌else◌}
 use Rattle.std.specs.Fmt.{decimal}
 use Rattle.std.specs.List.{list_all, zip}
 use Rattle.s7_client.specs.declared.job.JobResult.{JobResult}
@@ -36,7 +37,8 @@ unfinished_line link = codes "client " ++ (decimal link ++ (codes " unfinished" 
 unfoldable pub results_text : ℕ → List ℕ → List JobResult → List ℕ
 results_text link [] results = []
 results_text link (number ∷ numbers) [] = []
-results_text link (number ∷ numbers) (told ∷ results) = client_line link (print number told) ++ results_text link numbers results
+results_text link (number ∷ numbers) (told ∷ results) =
+    client_line link (print number told) ++ results_text link numbers results
 
 -- the result of the disconnect isn't printed
 abbrev pub client_text : List ℕ → ClientTold → List ℕ

@@ -1,9 +1,11 @@
--- What running a rig by the words does.
-use Rattle.std.specs.Prelude.{◌≡◌, ◌⊎◌, ℕ, List, ◌∷◌, ◌++◌, map, Option, Some, None, Ok, Err}
+-- What the command `rig` does.
+use Rattle.std.specs.Prelude.{◌≡◌, ◌⊎◌, ℕ, List, map, Option, Some, None, IsNone, IsSomeAnd, Ok, Err}
 use Rattle.s7_outer.specs.FilesShown.{FilesShown}
+use Rattle.s7_outer.specs.OutShown.{OutShown}
 use Rattle.s7_area.specs.Memory.{Memory}
-use Rattle.s7_client.specs.declared.config.Config.{Config}
-use Rattle.s7_rig.specs.Shown.{EndTold}
+use Rattle.s7_client.specs.declared.job.Job.{Job}
+use Rattle.s7_rig.specs.declared.end.RigEnd.{RigEnd}
+use Rattle.s7_rig.specs.Shown.{EndTold, end_told}
 use Rattle.s7_rig.specs.Rigs.{RigRan}
 use Rattle.s7_script.specs.Naming.{Named, naming, path, block, faulty}
 use Rattle.s7_script.specs.Loading.{IsTold, named_gives}
@@ -11,14 +13,14 @@ use Rattle.s7_script.specs.declared.load.LoadFault.{LoadFault}
 use Rattle.s7_script.specs.declared.load.LoadFault.TheVariants as fault
 use Rattle.s7_script.specs.declared.script_list.ScriptLine.{ScriptLine}
 use Rattle.s7_words.specs.Tool.{RigTold}
-use Rattle.s7tool.specs.Ran.{FileFails, RefusesScript}
-use Rattle.s7tool.specs.Report.{areas_line, too_long_line}
+use Rattle.s7tool.specs.declared.ended.Ended.{Ended}
+use Rattle.s7tool.specs.declared.ended.Ended.TheVariants as ended
+use Rattle.s7tool.specs.Asked.{rig_config, turning_of}
+use Rattle.s7tool.specs.Loading.{PathFails, RefusesScript}
+use Rattle.s7tool.specs.Report.{Printed, PrintsText, areas_line, memory_line, too_long_line}
+use Rattle.s7tool.specs.RigText.{are_clients_good, rig_text}
 use Rattle.s7tool.specs.Run.{jobs_of}
-use Rattle.s7tool.specs.Scripts.{ReadsScripts}
-
--- how its clients connect: as programming devices to rack 0 and slot 2, with one job at a time and 1,000,000 polls each
-abbrev pub rig_config : ℕ → Config
-rig_config pdu = record { calling = 0x0100; called = 0x0102; pdu = pdu; jobs = 1; polls = 1000000 }
+use Rattle.s7tool.specs.Scripts.{ReadsBefore, ReadsScripts}
 
 -- ---- files
 
@@ -45,11 +47,7 @@ pub record RefusesAreas (named : Named) (files : FilesShown) (printed : List ℕ
 pub record ComesTo (told : RigTold) (files : FilesShown) (path : List ℕ) : Type 0 where
   pub opening : Memory
   pub opened : Opens (naming told.areas) files opening
-  pub before : List (List ℕ)
-  pub after : List (List ℕ)
-  pub split : told.scripts ≡ before ++ path ∷ after
-  pub scripts : List (List ScriptLine)
-  pub read : ReadsScripts before files scripts
+  pub next : ReadsBefore told.scripts files path
 
 pub record RefusesOneScript (told : RigTold) (files : FilesShown) (printed : List ℕ → Type 0) : Type 0 where
   pub path : List ℕ
@@ -69,16 +67,34 @@ IsPathOf faulty q = ⊥
 pub record FailsOneFile (told : RigTold) (old new : FilesShown) (printed : List ℕ → Type 0) : Type 0 where
   pub path : List ℕ
   pub named : IsPathOf (naming told.areas) path ⊎ ComesTo told old path
-  pub fails : FileFails path old new printed
+  pub fails : PathFails path old new printed
 
--- ---- the run
+-- ---- the rig
 
--- A RIG RAN over the areas and the scripts that the words name, which are those of the files where that is told
-pub record RanRig (told : RigTold) (files : FilesShown) (end : EndTold) (then : List (List ScriptLine) → Type 0) : Type 0 where
+-- a rig ran over these areas, with these jobs of each client, as the words have it
+abbrev pub RanJobs : RigTold → Memory → List (List Job) → EndTold → Type 0
+RanJobs told opening jobs end = RigRan opening told.journal (rig_config told.pdu) jobs (turning_of told) end
+
+-- A RIG RAN over the areas and the scripts that the words name, which are those of the files where that is told, and
+-- its text was printed
+pub record RanRig (told : RigTold) (files : FilesShown) (out out' : OutShown) (end : EndTold)
+    (how : Ended) : Type 0 where
   pub opening : Memory
   pub opened : Opens (naming told.areas) files opening
   pub scripts : List (List ScriptLine)
   pub read : ReadsScripts told.scripts files scripts
-  pub ran : RigRan opening told.journal (rig_config told.pdu) (map jobs_of scripts)
-      (record { turns = told.turns; seed = told.seed; steps = told.steps }) end
-  pub so : then scripts
+  pub ran : RanJobs told opening (map jobs_of scripts) end
+  pub printed : PrintsText (rig_text scripts end) (are_clients_good scripts end.clients) out out' how
+
+-- HOW `rig` ENDED, by the files and the output before and after, and the rig where one ran
+abbrev pub RigEnds : RigTold → FilesShown → FilesShown → OutShown → OutShown → Option RigEnd → Ended → Type 0
+RigEnds told files files' out out' rig ended.Done =
+    IsSomeAnd rig (λ r. RanRig told files out out' (end_told r) ended.Done)
+RigEnds told files files' out out' rig ended.Jobs =
+    IsSomeAnd rig (λ r. RanRig told files out out' (end_told r) ended.Jobs)
+RigEnds told files files' out out' rig ended.Output =
+    IsSomeAnd rig (λ r. RanRig told files out out' (end_told r) ended.Output)
+RigEnds told files files' out out' rig ended.Refused = IsNone rig × RefusesFile told files (Printed out out')
+RigEnds told files files' out out' rig ended.File = IsNone rig × FailsOneFile told files files' (Printed out out')
+RigEnds told files files' out out' rig ended.Memory = IsNone rig × Printed out out' memory_line
+RigEnds told files files' out out' rig ended.Dial = ⊥

@@ -1,5 +1,7 @@
 -- The exit statuses of the program.
 use Rattle.std.specs.Prelude.{ℕ}
+use Rattle.s7tool.specs.declared.ended.Ended.{Ended}
+use Rattle.s7tool.specs.declared.ended.Ended.TheVariants as ended
 
 -- all went well
 abbrev pub done : ℕ
@@ -32,3 +34,13 @@ jobs = 6
 -- memory was wanting
 abbrev pub memory : ℕ
 memory = 9
+
+-- the status for how it ended
+abbrev pub status_of : Ended → ℕ
+status_of ended.Done = done
+status_of ended.Refused = script
+status_of ended.File = file
+status_of ended.Dial = dial
+status_of ended.Output = output
+status_of ended.Jobs = jobs
+status_of ended.Memory = memory

@@ -1,125 +1,130 @@
 // The jobs of a run.
-ghost use Rattle.std.specs.Prelude.{◌≡◌, ◌≢◌, ◌+◌, ◌<◌, ◌≤◌, ◌==◌, [], ◌∷◌, ◌++◌, map, None, OnOk, OnErr, IfOk, IsErrOf, Err, vec_len, if◌then◌else◌};
+ghost use Rattle.std.specs.Prelude.{◌≡◌, ◌≢◌, ◌+◌, ◌<◌, ◌≤◌, ◌==◌, [], ◌∷◌, ◌++◌, None};
+ghost use Rattle.std.specs.Prelude.{OnOk, OnErr, IfOk, IsErrOf, Err, vec_len};
 ghost use Rattle.std.specs.Vec.{vec_capacity};
 ghost use Rattle.std.specs.List.{list_all};
-ghost use Rattle.std.specs.Io.KnownBytes.{append_known};
 ghost use Rattle.s7_outer.specs.Count.{Rose};
 ghost use Rattle.s7_outer.specs.Out.{AppendsPrefix};
+ghost use Rattle.s7_outer.specs.OutShown.{OutShown};
 ghost use Rattle.s7_client.specs.declared.job.Job.TheVariants as job;
 ghost use Rattle.s7_client.specs.Polling.{job_of, config_of};
 ghost use Rattle.s7_client.specs.Runs.{JobRun, between_of};
 ghost use Rattle.s7_script.specs.Printing.{IsPrintable, print};
-ghost use Rattle.s7tool.specs.Run.{BreaksOff, DoesAll, DoesJob, DoesLines, connect_line, place};
+ghost use Rattle.s7tool.specs.Report.{Gains};
+ghost use Rattle.s7tool.specs.Run.{connect_line, is_good};
 
 use s7_client::{Client, Job, JobResult};
 use s7_outer::{Link, Out};
 use s7_script::{ScriptLine, ends_print, print_result};
 use std::alloc::Global;
 
-/// Why a run broke off.
+/// Why a run ended early.
 #[derive(Clone, Copy, Debug, PartialEq, Eq)]
-pub enum Stop {
+pub(crate) enum Stop {
     /// There is no memory.
     Memory,
     /// The output failed.
     Output,
 }
 
-/// A connect, the jobs of these lines, and a disconnect. Each result is kept, and all but the
-/// disconnect's are printed.
-pub fn do_all<L: Link, O: Out>(
-    alloc: Global,
-    lines: Vec<ScriptLine>,
-    client: &mut Client,
-    link: &mut L,
-    results: &mut Vec<JobResult>,
-    out: &mut O,
-) -> Result<(), Stop>
-    requires idle { job_of client.old ≡ None }
-    requires room { vec_len results.old + vec_len lines + 2 ≤ vec_capacity results.old }
-    ensures ok { OnOk result (DoesAll (config_of client.old) lines.items (place (L.shows link.old) (between_of client.old) results.old.items (O.shows out.old).text) (place (L.shows link.new) (between_of client.new) results.new.items (O.shows out.new).text)) }
-    ensures err { OnErr result (BreaksOff (config_of client.old) (connect_line ∷ lines.items) (place (L.shows link.old) (between_of client.old) results.old.items (O.shows out.old).text) (place (L.shows link.new) (between_of client.new) results.new.items (O.shows out.new).text)) }
-    ensures output { IsErrOf result Stop.Output → Rose (O.shows out.old).faults (O.shows out.new).faults }
-    ensures faults { (O.shows out.old).faults ≤ (O.shows out.new).faults }
-{
-    let connect = ScriptLine {
-        line: 0,
-        job: Job::Connect,
-    };
-    do_job(alloc, connect, client, link, results, out)?;
-    do_lines(alloc, lines, client, link, results, out)?;
-    disconnect(alloc, client, link, results)
+/// A run under way: the client, the link that it works over, and the results so far.
+#[derive(Drop)]
+pub(crate) struct ScriptRun<L: Link + Drop> {
+    pub client: Client,
+    pub line: L,
+    pub results: Vec<JobResult>,
 }
 
-// The jobs of these lines in order.
-fn do_lines<L: Link, O: Out>(
-    alloc: Global,
-    lines: Vec<ScriptLine>,
-    client: &mut Client,
-    link: &mut L,
-    results: &mut Vec<JobResult>,
-    out: &mut O,
-) -> Result<(), Stop>
-    requires idle { job_of client.old ≡ None }
-    requires room { vec_len results.old + vec_len lines ≤ vec_capacity results.old }
-    ensures ok { OnOk result (DoesLines (config_of client.old) lines.items (place (L.shows link.old) (between_of client.old) results.old.items (O.shows out.old).text) (place (L.shows link.new) (between_of client.new) results.new.items (O.shows out.new).text)) }
-    ensures err { OnErr result (BreaksOff (config_of client.old) lines.items (place (L.shows link.old) (between_of client.old) results.old.items (O.shows out.old).text) (place (L.shows link.new) (between_of client.new) results.new.items (O.shows out.new).text)) }
-    ensures output { IsErrOf result Stop.Output → Rose (O.shows out.old).faults (O.shows out.new).faults }
-    ensures faults { (O.shows out.old).faults ≤ (O.shows out.new).faults }
-    ensures idle { job_of client.new ≡ None }
-    ensures config { config_of client.new ≡ config_of client.old }
-    ensures len { OnOk result (vec_len results.new ≡ vec_len results.old + vec_len lines) }
-    ensures capacity { vec_capacity results.old ≤ vec_capacity results.new }
-{
-    for next in lines {
-        do_job(alloc, next, client, link, results, out)?;
+impl<L: Link + Drop> ScriptRun<L> {
+    ghost use Rattle.s7tool.specs.Run.{DoesAll, DoesJob, DoesLines, EndsEarly, place};
+
+    /// A connect, the jobs of these lines, and a disconnect. Each result is kept, and all but the
+    /// disconnect's are printed.
+    pub fn do_all<O: Out>(
+        &mut self,
+        alloc: Global,
+        lines: Vec<ScriptLine>,
+        out: &mut O,
+    ) -> Result<(), Stop>
+        requires idle { job_of self.old.client ≡ None }
+        requires room { vec_len self.old.results + vec_len lines + 2 ≤ vec_capacity self.old.results }
+        ensures ok { OnOk result (DoesAll (config_of self.old.client) lines.items
+            (place L.shows self.old (O.shows out.old)) (place L.shows self.new (O.shows out.new))) }
+        ensures err { OnErr result (EndsEarly (config_of self.old.client) (connect_line ∷ lines.items)
+            (place L.shows self.old (O.shows out.old)) (place L.shows self.new (O.shows out.new))) }
+        ensures output { IsErrOf result Stop.Output → Rose (O.shows out.old).faults (O.shows out.new).faults }
+        ensures faults { (O.shows out.old).faults ≤ (O.shows out.new).faults }
+    {
+        let connect = ScriptLine {
+            line: 0,
+            job: Job::Connect,
+        };
+        self.do_job(alloc, connect, out)?;
+        self.do_lines(alloc, lines, out)?;
+        self.disconnect(alloc)
     }
-    Ok(())
-}
 
-// The job of a line.
-fn do_job<L: Link, O: Out>(
-    alloc: Global,
-    next: ScriptLine,
-    client: &mut Client,
-    link: &mut L,
-    results: &mut Vec<JobResult>,
-    out: &mut O,
-) -> Result<(), Stop>
-    requires idle { job_of client.old ≡ None }
-    requires room { vec_len results.old < vec_capacity results.old }
-    ensures ok { OnOk result (DoesLines (config_of client.old) (next ∷ []) (place (L.shows link.old) (between_of client.old) results.old.items (O.shows out.old).text) (place (L.shows link.new) (between_of client.new) results.new.items (O.shows out.new).text)) }
-    ensures err { OnErr result (BreaksOff (config_of client.old) (next ∷ []) (place (L.shows link.old) (between_of client.old) results.old.items (O.shows out.old).text) (place (L.shows link.new) (between_of client.new) results.new.items (O.shows out.new).text)) }
-    ensures output { IsErrOf result Stop.Output → Rose (O.shows out.old).faults (O.shows out.new).faults }
-    ensures faults { (O.shows out.old).faults ≤ (O.shows out.new).faults }
-    ensures idle { job_of client.new ≡ None }
-    ensures config { config_of client.new ≡ config_of client.old }
-    ensures len { OnOk result (vec_len results.new ≡ vec_len results.old + 1) }
-    ensures capacity { vec_capacity results.old ≤ vec_capacity results.new }
-{
-    let line = next.line;
-    let told = carry_out(alloc, next.job, client, link)?;
-    let printed = print(alloc, line, &told, out);
-    keep(results, told);
-    printed
-}
+    // The jobs of these lines in order.
+    fn do_lines<O: Out>(
+        &mut self,
+        alloc: Global,
+        lines: Vec<ScriptLine>,
+        out: &mut O,
+    ) -> Result<(), Stop>
+        requires idle { job_of self.old.client ≡ None }
+        requires room { vec_len self.old.results + vec_len lines ≤ vec_capacity self.old.results }
+        ensures ok { OnOk result (DoesLines (config_of self.old.client) lines.items
+            (place L.shows self.old (O.shows out.old)) (place L.shows self.new (O.shows out.new))) }
+        ensures err { OnErr result (EndsEarly (config_of self.old.client) lines.items
+            (place L.shows self.old (O.shows out.old)) (place L.shows self.new (O.shows out.new))) }
+        ensures output { IsErrOf result Stop.Output → Rose (O.shows out.old).faults (O.shows out.new).faults }
+        ensures faults { (O.shows out.old).faults ≤ (O.shows out.new).faults }
+        ensures idle { job_of self.new.client ≡ None }
+        ensures config { config_of self.new.client ≡ config_of self.old.client }
+        ensures len { OnOk result (vec_len self.new.results ≡ vec_len self.old.results + vec_len lines) }
+        ensures capacity { vec_capacity self.old.results ≤ vec_capacity self.new.results }
+    {
+        for next in lines {
+            self.do_job(alloc, next, out)?;
+        }
+        Ok(())
+    }
 
-// The disconnect, of which nothing is printed.
-fn disconnect<L: Link>(
-    alloc: Global,
-    client: &mut Client,
-    link: &mut L,
-    results: &mut Vec<JobResult>,
-) -> Result<(), Stop>
-    requires idle { job_of client.old ≡ None }
-    requires room { vec_len results.old < vec_capacity results.old }
-    ensures ok { OnOk result (DoesJob (config_of client.old) job.Disconnect (place (L.shows link.old) (between_of client.old) results.old.items None) (place (L.shows link.new) (between_of client.new) results.new.items None)) }
-    ensures err { OnErr result (place (L.shows link.new) (between_of client.new) results.new.items None ≡ place (L.shows link.old) (between_of client.old) results.old.items None) }
-    ensures memory { result ≢ Err Stop.Output }
-{
-    let told = carry_out(alloc, Job::Disconnect, client, link)?;
-    keep(results, told);
-    Ok(())
+    // The job of a line.
+    fn do_job<O: Out>(&mut self, alloc: Global, next: ScriptLine, out: &mut O) -> Result<(), Stop>
+        requires idle { job_of self.old.client ≡ None }
+        requires room { vec_len self.old.results < vec_capacity self.old.results }
+        ensures ok { OnOk result (DoesLines (config_of self.old.client) (next ∷ [])
+            (place L.shows self.old (O.shows out.old)) (place L.shows self.new (O.shows out.new))) }
+        ensures err { OnErr result (EndsEarly (config_of self.old.client) (next ∷ [])
+            (place L.shows self.old (O.shows out.old)) (place L.shows self.new (O.shows out.new))) }
+        ensures output { IsErrOf result Stop.Output → Rose (O.shows out.old).faults (O.shows out.new).faults }
+        ensures faults { (O.shows out.old).faults ≤ (O.shows out.new).faults }
+        ensures idle { job_of self.new.client ≡ None }
+        ensures config { config_of self.new.client ≡ config_of self.old.client }
+        ensures len { OnOk result (vec_len self.new.results ≡ vec_len self.old.results + 1) }
+        ensures capacity { vec_capacity self.old.results ≤ vec_capacity self.new.results }
+    {
+        let line = next.line;
+        let told = carry_out(alloc, next.job, &mut self.client, &mut self.line)?;
+        let printed = print(alloc, line, &told, out);
+        keep(&mut self.results, told);
+        printed
+    }
+
+    // The disconnect, of which nothing is printed, whatever the output shows.
+    fn disconnect(&mut self, alloc: Global) -> Result<(), Stop>
+        requires idle { job_of self.old.client ≡ None }
+        requires room { vec_len self.old.results < vec_capacity self.old.results }
+        ensures ok { OnOk result ((out : OutShown) → DoesJob (config_of self.old.client) job.Disconnect
+            (place L.shows self.old out) (place L.shows self.new out)) }
+        ensures err { OnErr result ((out : OutShown) → place L.shows self.new out ≡ place L.shows self.old out) }
+        ensures memory { result ≢ Err Stop.Output }
+    {
+        let told = carry_out(alloc, Job::Disconnect, &mut self.client, &mut self.line)?;
+        keep(&mut self.results, told);
+        Ok(())
+    }
 }
 
 // Carries a job out.
@@ -130,7 +135,8 @@ fn carry_out<L: Link>(
     link: &mut L,
 ) -> Result<JobResult, Stop>
     requires { job_of client.old ≡ None }
-    ensures run { IfOk result (λ told. JobRun (config_of client.old) (between_of client.old) job (L.shows link.old) (L.shows link.new) told (between_of client.new)) }
+    ensures run { IfOk result (λ told. JobRun (config_of client.old) (between_of client.old) job
+        (L.shows link.old) (L.shows link.new) told (between_of client.new)) }
     ensures printable { IfOk result (λ told. IsPrintable told) }
     ensures idle { job_of client.new ≡ None }
     ensures config { config_of client.new ≡ config_of client.old }
@@ -161,7 +167,7 @@ fn keep(results: &mut Vec<JobResult>, told: JobResult)
 // Prints what came of the job of a line.
 fn print<O: Out>(alloc: Global, line: u32, told: &JobResult, out: &mut O) -> Result<(), Stop>
     requires { IsPrintable told.now }
-    ensures ok { OnOk result ((O.shows out.new).text ≡ append_known (O.shows out.old).text (print line told.now)) }
+    ensures ok { OnOk result (Gains (O.shows out.old) (O.shows out.new) (print line told.now)) }
     ensures err { OnErr result (AppendsPrefix (O.shows out.old).text (O.shows out.new).text (print line told.now)) }
     ensures output { IsErrOf result Stop.Output → Rose (O.shows out.old).faults (O.shows out.new).faults }
     ensures faults { (O.shows out.old).faults ≤ (O.shows out.new).faults }
@@ -173,4 +179,17 @@ fn print<O: Out>(alloc: Global, line: u32, told: &JobResult, out: &mut O) -> Res
         Ok(()) => Ok(()),
         Err(_) => Err(Stop::Output),
     }
+}
+
+/// Whether no result has a code but 0.
+pub(crate) fn all_good(results: &[JobResult]) -> bool
+    ensures { result ≡ list_all is_good results.now }
+{
+    results.iter().all(|told| is_good(told))
+}
+
+fn is_good(told: &JobResult) -> bool
+    ensures { result ≡ is_good told.now }
+{
+    told.code == 0
 }

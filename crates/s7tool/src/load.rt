@@ -1,9 +1,7 @@
-// The script that a path names.
-ghost use Rattle.std.specs.Prelude.{◌≡◌, ◌+◌, Some, IfOk, IfErr, IsErrOf, IsTrue};
-ghost use Rattle.s7_outer.specs.Count.{Rose};
-ghost use Rattle.s7_outer.specs.Files.{NonePathFell};
-ghost use Rattle.s7tool.specs.Ran.{ReadsScript};
-ghost use Rattle.s7tool.specs.Loading.{Refuses, AnswersScript};
+// The scripts that paths name.
+ghost use Rattle.std.specs.Prelude.{◌≡◌, ◌+◌, IfErr, IfOk, OnOk, length, map, vec_len};
+ghost use Rattle.s7tool.specs.Loading.{AnswersScript, IsUnloaded, KeepsPaths, ReadsScript};
+ghost use Rattle.s7tool.specs.Scripts.{AddsScript, ReadsScripts, StopsAt};
 
 use s7_outer::{FileFault, Files};
 use s7_script::{Script, ScriptKind, read_script};
@@ -22,13 +20,64 @@ pub enum LoadFault {
     Memory,
 }
 
+/// A script that wasn't loaded, and why.
+#[derive(Clone, Copy, Debug, PartialEq, Eq)]
+pub(crate) struct Refused<'a> {
+    pub path: &'a str,
+    pub fault: LoadFault,
+}
+
+/// The scripts under these paths, up to the first that isn't loaded. No path changes.
+pub(crate) fn load_scripts<'a, F: Files>(
+    alloc: Global,
+    files: &mut F,
+    paths: &[&'a str],
+) -> Result<Vec<Script>, Refused<'a>>
+    ensures ok { IfOk result (λ scripts.
+        ReadsScripts (map (λ p. p.now) paths.now) (F.shows files.old) scripts.items) }
+    ensures len { IfOk result (λ scripts. vec_len scripts ≡ length paths.now) }
+    ensures err { IfErr result (λ refused. StopsAt (map (λ p. p.now) paths.now)
+        (F.shows files.old) (F.shows files.new) refused.path.now refused.fault) }
+    ensures paths { KeepsPaths (F.shows files.old) (F.shows files.new) }
+{
+    let mut scripts = Vec::new(alloc);
+    for path in paths {
+        match next_script(alloc, files, path, &mut scripts) {
+            Ok(()) => {}
+            Err(fault) => return Err(Refused { path, fault }),
+        }
+    }
+    Ok(scripts)
+}
+
+// Adds the script under a path.
+fn next_script<F: Files>(
+    alloc: Global,
+    files: &mut F,
+    path: &str,
+    scripts: &mut Vec<Script>,
+) -> Result<(), LoadFault>
+    ensures ok { OnOk result (AddsScript path.now (F.shows files.old) scripts.old.items scripts.new.items) }
+    ensures len { OnOk result (vec_len scripts.new ≡ vec_len scripts.old + 1) }
+    ensures err { IfErr result (λ fault. IsUnloaded path.now (F.shows files.old) (F.shows files.new) fault) }
+    ensures paths { KeepsPaths (F.shows files.old) (F.shows files.new) }
+{
+    let script = load_script(alloc, files, path)?;
+    match scripts.push(script) {
+        Ok(()) => Ok(()),
+        Err(_) => Err(LoadFault::Memory),
+    }
+}
+
 /// The script under a path. No path changes.
-pub fn load_script<F: Files>(alloc: Global, files: &mut F, path: &str) -> Result<Script, LoadFault>
+pub(crate) fn load_script<F: Files>(
+    alloc: Global,
+    files: &mut F,
+    path: &str,
+) -> Result<Script, LoadFault>
     ensures ok { IfOk result (λ lines. ReadsScript path.now (F.shows files.old) (λ read. read ≡ lines)) }
-    ensures err { IfErr result (λ fault. Refuses path.now (F.shows files.old) fault) }
-    ensures failed { IsErrOf result LoadFault.Failed → Rose ((F.shows files.old).faults path.now) ((F.shows files.new).faults path.now) }
-    ensures same { F.shows files.new ≡ record (F.shows files.old) { faults = (F.shows files.new).faults } }
-    ensures faults { NonePathFell (F.shows files.old).faults (F.shows files.new).faults }
+    ensures err { IfErr result (λ fault. IsUnloaded path.now (F.shows files.old) (F.shows files.new) fault) }
+    ensures paths { KeepsPaths (F.shows files.old) (F.shows files.new) }
 {
     let mut octets = Vec::new(alloc);
     match files.read(alloc, path, &mut octets) {

@@ -1,6 +1,7 @@
 //! Runs scripts against controllers, and in rigs.
 #![tactic(auto)]
 
+mod ended;
 mod jobs;
 mod load;
 mod output;
@@ -9,6 +10,7 @@ mod rig_report;
 #[cfg(test)]
 mod rig_tests;
 mod rigging;
+mod script_run;
 #[cfg(test)]
 mod tests;
 mod tool;

@@ -1,11 +1,13 @@
 // What is printed of a rig.
-ghost use Rattle.std.specs.Prelude.{◌≡◌, ◌+◌, ◌==◌, ◌&&◌, ◌++◌, [], All, IfOk, OnOk, length, map, string_bytes, if◌then◌else◌};
+ghost use Rattle.std.specs.Prelude.{◌≡◌, ◌+◌, ◌==◌, ◌&&◌, ◌++◌, [], All, IfOk, OnOk};
+ghost use Rattle.std.specs.Prelude.{length, map, string_bytes, if◌then◌else◌};
 ghost use Rattle.std.specs.List.{list_all};
 ghost use Rattle.s7_rig.specs.Shown.{client_told, end_told};
 ghost use Rattle.s7_script.specs.Printing.{IsPrintable, print};
-ghost use Rattle.s7tool.specs.RigText.{are_good_by, client_line, ArePrintable, client_text, clients_text, is_client_good, is_finished, journal_line, results_text, text_by, unfinished_line};
+ghost use Rattle.s7tool.specs.RigText.{ArePrintable, client_line, client_text, clients_text, results_text, text_by};
+ghost use Rattle.s7tool.specs.RigText.{are_good_by, is_client_good, is_finished, journal_line, unfinished_line};
 
-use crate::tool::all_good;
+use crate::jobs::all_good;
 use s7_client::JobResult;
 use s7_outer::Memory;
 use s7_rig::{RigClient, RigEnd};
@@ -32,7 +34,8 @@ fn add_clients(
     clients: &[RigClient],
 ) -> Result<(), Memory>
     requires { All ArePrintable (map client_told clients.now) }
-    ensures { OnOk result (text.new.items ≡ text.old.items ++ clients_text (map (λ v. v.items) numbers.now) (map client_told clients.now)) }
+    ensures { OnOk result (text.new.items ≡ text.old.items
+        ++ clients_text (map (λ v. v.items) numbers.now) (map client_told clients.now)) }
 {
     for (lines, client) in numbers.iter().zip(clients) {
         add_client(alloc, text, lines.as_slice(), client)?;

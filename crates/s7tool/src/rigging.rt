@@ -1,42 +1,26 @@
 // The command that runs scripts together.
-ghost use Rattle.std.specs.Prelude.{◌≡◌, ◌≤◌, ◌<◌, ◌*◌, ◌+◌, ◌==◌, ◌⊎◌, ◌∷◌, ◌++◌, [], All, IfOk, IfErr, IfSome, IsErrOf, OnOk, IsSome, IsSomeAnd, Ok, None, length, map, vec_len};
-ghost use Rattle.std.specs.Io.KnownBytes.{append_known};
-ghost use Rattle.s7_outer.specs.Count.{Rose};
-ghost use Rattle.s7_outer.specs.Files.{NonePathFell};
-ghost use Rattle.s7_outer.specs.Out.{AppendsPrefix};
+ghost use Rattle.std.specs.Prelude.{◌≡◌, ◌≤◌, ◌<◌, ◌*◌, ◌+◌, ◌∷◌, ◌++◌, [], All, IfOk, map, vec_len};
 ghost use Rattle.std.specs.List.{AllByRecursion};
-ghost use Rattle.s7_rig.specs.Rigs.{RigRan};
 ghost use Rattle.s7_rig.specs.Scripts.{ConnectsFirst};
 ghost use Rattle.s7_rig.specs.Shown.{end_told};
-ghost use Rattle.s7_script.specs.Naming.{naming};
 ghost use Rattle.s7_words.specs.Shown.{rig_told_of};
-ghost use Rattle.s7tool.specs.Report.{Prints, file_line, memory_line};
+ghost use Rattle.s7tool.specs.Asked.{rig_config};
+ghost use Rattle.s7tool.specs.Loading.{KeepsPaths};
 ghost use Rattle.s7tool.specs.RigText.{ArePrintable, are_clients_good, numbers_of, rig_text};
-ghost use Rattle.s7tool.specs.Loading.{Refuses};
-ghost use Rattle.s7tool.specs.Rigging.{FailsOneFile, Opens, RanRig, RefusesFile, RefusesOneScript, areas_refusal_line, rig_config};
-ghost use Rattle.s7tool.specs.Scripts.{AddsScript, ReadsScripts, StopsAt};
-ghost use Rattle.s7tool.specs.Statuses as status;
+ghost use Rattle.s7tool.specs.Rigging.{RanJobs, RigEnds};
 ghost use Rattle.s7tool.specs.Run.{jobs_of};
 
-use crate::load::{LoadFault, load_script};
-use crate::output::print_status;
-use crate::report::{areas_line, file_line};
+use crate::ended::Ended;
+use crate::load::load_scripts;
+use crate::output::{print_areas_refusal, print_as, print_refusal, print_text};
 use crate::rig_report::{are_good, rig_text};
-use crate::tool::{DONE, FILE, JOBS, MEMORY, OUTPUT, SCRIPT, ToolEnd, print_refusal, unrun};
 use s7_area::Areas;
 use s7_client::{Config, Job};
-use s7_outer::{Files, Link, Memory, Out};
+use s7_outer::{Files, Memory, Out};
 use s7_rig::{RigEnd, Schedule, rigs_are_formed, run_rig};
-use s7_script::{LoadFault as AreasFault, Script, ends_print, load_areas, scripts_move_data};
+use s7_script::{Script, ends_print, load_areas, scripts_move_data};
 use s7_words::RigWords;
 use std::alloc::{AllocError, Global};
-
-/// A script that wasn't loaded, and why.
-#[derive(Clone, Copy, Debug, PartialEq, Eq)]
-struct Refused<'a> {
-    path: &'a str,
-    fault: LoadFault,
-}
 
 /// A rig that ran, its text, and whether all went well.
 #[derive(Drop)]
@@ -48,189 +32,36 @@ struct Rigged {
 
 /// Loads the areas and the scripts that the words name, runs a client for each script, and prints what
 /// came of it.
-pub fn run_rigging<F: Files, L: Link + Drop, O: Out>(
+pub(crate) fn run_rigging<F: Files, O: Out>(
     alloc: Global,
     words: RigWords<'_>,
     files: &mut F,
     out: &mut O,
-) -> ToolEnd<L>
-    ensures statuses { (result.status ≡ status.done) ⊎ (result.status ≡ status.script) ⊎ (result.status ≡ status.file)
-        ⊎ (result.status ≡ status.output) ⊎ (result.status ≡ status.jobs) ⊎ (result.status ≡ status.memory) }
-    ensures refused { result.status ≡ status.script → RefusesFile (rig_told_of words.entry) (F.shows files.old) (Prints (O.shows out.old).text (O.shows out.new).text (O.shows out.old).faults (O.shows out.new).faults) }
-    ensures file_failed { result.status ≡ status.file → FailsOneFile (rig_told_of words.entry) (F.shows files.old) (F.shows files.new) (Prints (O.shows out.old).text (O.shows out.new).text (O.shows out.old).faults (O.shows out.new).faults) }
-    ensures output_failed { result.status ≡ status.output → Rose (O.shows out.old).faults (O.shows out.new).faults }
-    ensures no_run { result.run ≡ None }
-    ensures rig { (result.status ≡ status.done) ⊎ (result.status ≡ status.jobs) ⊎ (result.status ≡ status.output)
-        → IsSome result.rig }
-    ensures no_rig { (result.status ≡ status.script) ⊎ (result.status ≡ status.file) ⊎ (result.status ≡ status.memory)
-        → result.rig ≡ None }
-    ensures done { (result.status ≡ status.done) ⊎ (result.status ≡ status.jobs) → IfSome result.rig (λ end. RanRig (rig_told_of words.entry) (F.shows files.old) (end_told end) (λ scripts. ((O.shows out.new).text ≡ append_known (O.shows out.old).text (rig_text scripts (end_told end))) × (are_clients_good scripts (end_told end).clients ≡ (result.status == status.done)))) }
-    ensures broken_off { result.status ≡ status.output → IfSome result.rig (λ end. RanRig (rig_told_of words.entry) (F.shows files.old) (end_told end) (λ scripts. AppendsPrefix (O.shows out.old).text (O.shows out.new).text (rig_text scripts (end_told end)))) }
-    ensures memory_line { result.status ≡ status.memory → Prints (O.shows out.old).text (O.shows out.new).text (O.shows out.old).faults (O.shows out.new).faults memory_line }
-    ensures paths { F.shows files.new ≡ record (F.shows files.old) { faults = (F.shows files.new).faults } }
-    ensures file_faults { NonePathFell (F.shows files.old).faults (F.shows files.new).faults }
+) -> (Ended, Option<RigEnd>)
+    ensures ended { RigEnds (rig_told_of words.entry) (F.shows files.old) (F.shows files.new)
+        (O.shows out.old) (O.shows out.new) result.1 result.0 }
+    ensures paths { KeepsPaths (F.shows files.old) (F.shows files.new) }
 {
-    match load_areas(alloc, files, words.areas) {
-        Ok(areas) => run_on(alloc, words, areas, files, out),
-        Err(fault) => ToolEnd {
-            status: print_areas_refusal(alloc, fault, words.areas, out),
-            rig: None,
-            run: None,
-        },
-    }
-}
-
-// Prints why the areas weren't loaded, and says the status.
-fn print_areas_refusal<O: Out>(alloc: Global, fault: AreasFault, path: &str, out: &mut O) -> u8
-    ensures statuses { (result ≡ status.script) ⊎ (result ≡ status.file) ⊎ (result ≡ status.memory) }
-    ensures refused { result ≡ status.script → IsSomeAnd (areas_refusal_line fault) (Prints (O.shows out.old).text (O.shows out.new).text (O.shows out.old).faults (O.shows out.new).faults) }
-    ensures file { result ≡ status.file → fault ≡ AreasFault.Failed }
-    ensures file_line { result ≡ status.file → Prints (O.shows out.old).text (O.shows out.new).text (O.shows out.old).faults (O.shows out.new).faults (file_line path.now) }
-    ensures memory_line { result ≡ status.memory → Prints (O.shows out.old).text (O.shows out.new).text (O.shows out.old).faults (O.shows out.new).faults memory_line }
-{
-    match fault {
-        AreasFault::Failed => match file_line(alloc, path) {
-            Ok(text) => print_status(FILE, text.as_bytes(), out),
-            Err(_) => print_status(MEMORY, b"memory\n", out),
-        },
-        AreasFault::TooLong => print_status(SCRIPT, b"file too long\n", out),
-        AreasFault::Line(number) => match areas_line(alloc, number) {
-            Ok(text) => print_status(SCRIPT, text.as_bytes(), out),
-            Err(_) => print_status(MEMORY, b"memory\n", out),
-        },
-        AreasFault::Memory => print_status(MEMORY, b"memory\n", out),
-    }
-}
-
-// Runs the scripts that the words name on these areas.
-fn run_on<F: Files, L: Link + Drop, O: Out>(
-    alloc: Global,
-    words: RigWords<'_>,
-    areas: Areas,
-    files: &mut F,
-    out: &mut O,
-) -> ToolEnd<L>
-    requires { Opens (naming words.areas.now) (F.shows files.old) areas }
-    ensures statuses { (result.status ≡ status.done) ⊎ (result.status ≡ status.script) ⊎ (result.status ≡ status.file)
-        ⊎ (result.status ≡ status.output) ⊎ (result.status ≡ status.jobs) ⊎ (result.status ≡ status.memory) }
-    ensures refused { result.status ≡ status.script → RefusesOneScript (rig_told_of words.entry) (F.shows files.old) (Prints (O.shows out.old).text (O.shows out.new).text (O.shows out.old).faults (O.shows out.new).faults) }
-    ensures file_failed { result.status ≡ status.file → FailsOneFile (rig_told_of words.entry) (F.shows files.old) (F.shows files.new) (Prints (O.shows out.old).text (O.shows out.new).text (O.shows out.old).faults (O.shows out.new).faults) }
-    ensures output_failed { result.status ≡ status.output → Rose (O.shows out.old).faults (O.shows out.new).faults }
-    ensures no_run { result.run ≡ None }
-    ensures rig { (result.status ≡ status.done) ⊎ (result.status ≡ status.jobs) ⊎ (result.status ≡ status.output)
-        → IsSome result.rig }
-    ensures no_rig { (result.status ≡ status.script) ⊎ (result.status ≡ status.file) ⊎ (result.status ≡ status.memory)
-        → result.rig ≡ None }
-    ensures done { (result.status ≡ status.done) ⊎ (result.status ≡ status.jobs) → IfSome result.rig (λ end. RanRig (rig_told_of words.entry) (F.shows files.old) (end_told end) (λ scripts. ((O.shows out.new).text ≡ append_known (O.shows out.old).text (rig_text scripts (end_told end))) × (are_clients_good scripts (end_told end).clients ≡ (result.status == status.done)))) }
-    ensures broken_off { result.status ≡ status.output → IfSome result.rig (λ end. RanRig (rig_told_of words.entry) (F.shows files.old) (end_told end) (λ scripts. AppendsPrefix (O.shows out.old).text (O.shows out.new).text (rig_text scripts (end_told end)))) }
-    ensures memory_line { result.status ≡ status.memory → Prints (O.shows out.old).text (O.shows out.new).text (O.shows out.old).faults (O.shows out.new).faults memory_line }
-    ensures paths { F.shows files.new ≡ record (F.shows files.old) { faults = (F.shows files.new).faults } }
-    ensures file_faults { NonePathFell (F.shows files.old).faults (F.shows files.new).faults }
-{
+    let areas = match load_areas(alloc, files, words.areas) {
+        Ok(areas) => areas,
+        Err(fault) => return (print_areas_refusal(alloc, fault, words.areas, out), None),
+    };
     scripts_move_data();
-    match load_scripts(alloc, files, words.scripts.as_slice()) {
-        Ok(scripts) => run_scripts(alloc, words, areas, scripts, out),
-        Err(refused) => ToolEnd {
-            status: print_refusal(alloc, refused.fault, refused.path, out),
-            rig: None,
-            run: None,
-        },
-    }
-}
-
-// The scripts under these paths, up to the first that isn't loaded.
-fn load_scripts<'a, F: Files>(
-    alloc: Global,
-    files: &mut F,
-    paths: &[&'a str],
-) -> Result<Vec<Script>, Refused<'a>>
-    ensures ok { IfOk result (λ scripts. ReadsScripts (map (λ p. p.now) paths.now) (F.shows files.old) scripts.items) }
-    ensures len { IfOk result (λ scripts. vec_len scripts ≡ length paths.now) }
-    ensures err { IfErr result (λ refused. StopsAt (map (λ p. p.now) paths.now) (F.shows files.old) (F.shows files.new) refused.path.now refused.fault) }
-    ensures same { F.shows files.new ≡ record (F.shows files.old) { faults = (F.shows files.new).faults } }
-    ensures faults { NonePathFell (F.shows files.old).faults (F.shows files.new).faults }
-{
-    let mut scripts = Vec::new(alloc);
-    for path in paths {
-        match next_script(alloc, files, path, &mut scripts) {
-            Ok(()) => {}
-            Err(fault) => return Err(Refused { path, fault }),
+    let scripts = match load_scripts(alloc, files, words.scripts.as_slice()) {
+        Ok(scripts) => scripts,
+        Err(refused) => return (print_refusal(alloc, refused.fault, refused.path, out), None),
+    };
+    match run_scripts(alloc, &words, areas, scripts) {
+        Ok(rigged) => {
+            let ended = print_text(rigged.text.as_slice(), rigged.is_good, out);
+            (ended, Some(rigged.end))
         }
-    }
-    Ok(scripts)
-}
-
-// Adds the script under a path.
-fn next_script<F: Files>(
-    alloc: Global,
-    files: &mut F,
-    path: &str,
-    scripts: &mut Vec<Script>,
-) -> Result<(), LoadFault>
-    ensures ok { OnOk result (AddsScript path.now (F.shows files.old) scripts.old.items scripts.new.items) }
-    ensures len { OnOk result (vec_len scripts.new ≡ vec_len scripts.old + 1) }
-    ensures err { IfErr result (λ fault. Refuses path.now (F.shows files.old) fault) }
-    ensures failed { IsErrOf result LoadFault.Failed → Rose ((F.shows files.old).faults path.now) ((F.shows files.new).faults path.now) }
-    ensures same { F.shows files.new ≡ record (F.shows files.old) { faults = (F.shows files.new).faults } }
-    ensures faults { NonePathFell (F.shows files.old).faults (F.shows files.new).faults }
-{
-    let script = load_script(alloc, files, path)?;
-    match scripts.push(script) {
-        Ok(()) => Ok(()),
-        Err(_) => Err(LoadFault::Memory),
-    }
-}
-
-// Runs these scripts on these areas, and prints what came of it.
-fn run_scripts<L: Link + Drop, O: Out>(
-    alloc: Global,
-    words: RigWords<'_>,
-    areas: Areas,
-    scripts: Vec<Script>,
-    out: &mut O,
-) -> ToolEnd<L>
-    requires len { vec_len scripts ≡ vec_len words.scripts }
-    requires connects { AllByRecursion ConnectsFirst (map jobs_of scripts.items) }
-    ensures statuses { (result.status ≡ status.done) ⊎ (result.status ≡ status.output) ⊎ (result.status ≡ status.jobs)
-        ⊎ (result.status ≡ status.memory) }
-    ensures output_failed { result.status ≡ status.output → Rose (O.shows out.old).faults (O.shows out.new).faults }
-    ensures no_run { result.run ≡ None }
-    ensures rig { (result.status ≡ status.done) ⊎ (result.status ≡ status.jobs) ⊎ (result.status ≡ status.output)
-        → IsSome result.rig }
-    ensures no_rig { result.status ≡ status.memory → result.rig ≡ None }
-    ensures ran { IfSome result.rig (λ end. RigRan areas words.entry.journal (rig_config words.entry.pdu) (map jobs_of scripts.items) (record { turns = words.entry.turns.items; seed = words.entry.seed; steps = words.entry.steps }) (end_told end)) }
-    ensures done { (result.status ≡ status.done) ⊎ (result.status ≡ status.jobs) → IfSome result.rig (λ end. (O.shows out.new).text ≡ append_known (O.shows out.old).text (rig_text scripts.items (end_told end))) }
-    ensures good { (result.status ≡ status.done) ⊎ (result.status ≡ status.jobs) → IfSome result.rig (λ end. are_clients_good scripts.items (end_told end).clients ≡ (result.status == status.done)) }
-    ensures broken_off { result.status ≡ status.output → IfSome result.rig (λ end. AppendsPrefix (O.shows out.old).text (O.shows out.new).text (rig_text scripts.items (end_told end))) }
-    ensures memory_line { result.status ≡ status.memory → Prints (O.shows out.old).text (O.shows out.new).text (O.shows out.old).faults (O.shows out.new).faults memory_line }
-{
-    match run_and_tell(alloc, &words, areas, scripts) {
-        Ok(rigged) => ToolEnd {
-            status: print_rig(&rigged, out),
-            rig: Some(rigged.end),
-            run: None,
-        },
-        Err(_) => unrun(MEMORY, b"memory\n", out),
-    }
-}
-
-// Prints the text of a rig, and says the status.
-fn print_rig<O: Out>(rigged: &Rigged, out: &mut O) -> u8
-    ensures statuses { (result ≡ status.done) ⊎ (result ≡ status.output) ⊎ (result ≡ status.jobs) }
-    ensures done { (result ≡ status.done) ⊎ (result ≡ status.jobs) → (O.shows out.new).text ≡ append_known (O.shows out.old).text rigged.now.text.items }
-    ensures good { (result ≡ status.done) ⊎ (result ≡ status.jobs) → rigged.now.is_good ≡ (result == status.done) }
-    ensures broken_off { result ≡ status.output → AppendsPrefix (O.shows out.old).text (O.shows out.new).text rigged.now.text.items }
-    ensures output_failed { result ≡ status.output → Rose (O.shows out.old).faults (O.shows out.new).faults }
-{
-    match out.put(rigged.text.as_slice()) {
-        Ok(()) if rigged.is_good => DONE,
-        Ok(()) => JOBS,
-        Err(_) => OUTPUT,
+        Err(_) => (print_as(Ended::Memory, b"memory\n", out), None),
     }
 }
 
 // Runs these scripts on these areas, and makes the text of what came of it.
-fn run_and_tell(
+fn run_scripts(
     alloc: Global,
     words: &RigWords<'_>,
     areas: Areas,
@@ -238,7 +69,8 @@ fn run_and_tell(
 ) -> Result<Rigged, Memory>
     requires len { vec_len scripts ≡ vec_len words.now.scripts }
     requires connects { AllByRecursion ConnectsFirst (map jobs_of scripts.items) }
-    ensures ran { IfOk result (λ r. RigRan areas words.now.journal (rig_config words.now.pdu) (map jobs_of scripts.items) (record { turns = words.now.turns.items; seed = words.now.seed; steps = words.now.steps }) (end_told r.end)) }
+    ensures ran { IfOk result (λ r.
+        RanJobs (rig_told_of words.now) areas (map jobs_of scripts.items) (end_told r.end)) }
     ensures text { IfOk result (λ r. r.text.items ≡ rig_text scripts.items (end_told r.end)) }
     ensures good { IfOk result (λ r. r.is_good ≡ are_clients_good scripts.items (end_told r.end).clients) }
 {
@@ -259,7 +91,8 @@ fn run_jobs(
 ) -> Result<RigEnd, Memory>
     requires len { vec_len jobs ≡ vec_len words.now.scripts }
     requires connects { AllByRecursion ConnectsFirst (map (λ s. s.items) jobs.items) }
-    ensures ran { IfOk result (λ end. RigRan areas words.now.journal (rig_config words.now.pdu) (map (λ s. s.items) jobs.items) (record { turns = words.now.turns.items; seed = words.now.seed; steps = words.now.steps }) (end_told end)) }
+    ensures ran { IfOk result (λ end.
+        RanJobs (rig_told_of words.now) areas (map (λ s. s.items) jobs.items) (end_told end)) }
     ensures printable { IfOk result (λ end. All ArePrintable (end_told end).clients) }
 {
     ends_print();

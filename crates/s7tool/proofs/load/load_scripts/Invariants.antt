@@ -1,12 +1,11 @@
 use Rattle.std.proofs.Common.{◌≡◌, take, map, vec_len}
-use Rattle.s7tool.proofs.FileLemmas.{IsLeft}
+use Rattle.s7tool.specs.Loading.{KeepsPaths}
 use Rattle.s7tool.specs.Scripts.{ReadsScripts}
-use Rattle.s7tool.proofs.rigging.load_scripts.Given as goal
+use Rattle.s7tool.proofs.load.load_scripts.Given as goal
 
 abbrev pub invariant-loop-path : goal.invariant-loop-path
 invariant-loop-path g l = record {
   read : ReadsScripts (map (λ p. p.now) (take l.path-index l.paths)) (g.F.Files.shows l.initial.files) l.scripts.items;
   len : vec_len l.scripts ≡ l.path-index;
-  left : IsLeft (g.F.Files.shows l.initial.files) (g.F.Files.shows l.files);
-  same : g.F.Files.shows l.files ≡ record (g.F.Files.shows l.initial.files) { faults = (g.F.Files.shows l.files).faults };
+  paths : KeepsPaths (g.F.Files.shows l.initial.files) (g.F.Files.shows l.files);
 }

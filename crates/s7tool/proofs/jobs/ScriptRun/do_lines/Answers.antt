@@ -1,7 +1,7 @@
 use Rattle.std.proofs.Common.{◌≡◌, ◌∷◌, [], ◌++◌, rules, arith, ap, sym, ◌∙◌, append_assoc, length}
 use Rattle.std.specs.Vec.Iter.{into_iter_items}
-use Rattle.s7tool.proofs.RunLemmas.{any_err, breaks_inside, does_next, does_none}
-use Rattle.s7tool.proofs.jobs.do_lines.Goals as goal
+use Rattle.s7tool.proofs.RunLemmas.{any_err, early_inside, does_next, does_none}
+use Rattle.s7tool.proofs.jobs.ScriptRun.do_lines.Goals as goal
 
 pub loop-next-init : goal.loop-next-init
 loop-next-init g c = record {
@@ -39,4 +39,4 @@ returns-in_err-do_job-clause-err g c =
     let rest = into_iter_items c.next.new.self in
     let steps : into_iter_items at.next-iterator ≡ x ∷ rest = c.in-Some.ensures.steps.0 in
     let all : at.yielded ++ x ∷ rest ≡ c.args.lines.items = ap (λ t. at.yielded ++ t) (sym steps) ∙ at.invariant.items ∙ c.into_iter-next-iterator.ensures.into_iter_gives.0 in
-    any_err c.from_residual.result (breaks_inside _ _ at.yielded rest _ x _ _ _ at.invariant.config all at.invariant.does c.in_err-do_job.ensures.err)
+    any_err c.from_residual.result (early_inside _ _ at.yielded rest _ x _ _ _ at.invariant.config all at.invariant.does c.in_err-do_job.ensures.err)
