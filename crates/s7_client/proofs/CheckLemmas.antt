@@ -66,7 +66,7 @@ can_split item known placed =
       inside = leb-true (range_end item) 16777216 outer.1;
     }
 
-product_some : (n s : ℕ) → 0 < n → 0 < s → 1 ≤ n * s
+pub product_some : (n s : ℕ) → 0 < n → 0 < s → 1 ≤ n * s
 product_some n s some any =
     let one : 1 ≤ n = omega arith in
     omega (arith, mul-le-mul_left s one)

@@ -1,36 +1,42 @@
 -- Laws of courses.
-use Rattle.std.proofs.Common.{◌≡◌, ◌⊎◌, inl, inr, ◌==◌, ℕ, ◌+◌, ◌*◌, ◌<◌, ◌≤◌, Bool, true, false, cond, List, [], ◌∷◌, ◌++◌, length, refl, ap, sym, ◌∙◌, arith}
+use Rattle.std.proofs.Common.{◌≡◌, ◌==◌, ℕ, ◌+◌, ◌*◌, ◌<◌, ◌≤◌, Bool, true, false, cond, List, [], ◌∷◌, ◌++◌, length, refl, ap, sym, ◌∙◌, arith}
 use Rattle.std.proofs.lemmas.Bool.Decides.{nat_tests}
 use Rattle.s7_tpkt.specs.Cut.{Cut}
 use Rattle.s7_tpkt.specs.Packets.{packets_of, rest_of, state_of, state_by, if_begun, HoldsRest, GoesOn, EndsPacket}
 use Rattle.s7_tpkt.specs.declared.state.FedState.{FedState}
 use Rattle.s7_tpkt.specs.declared.state.FedState.TheVariants as fed
-use Rattle.s7_client.specs.Course.{Origin, Course, Awaits, for_confirm, for_answer, for_departure, for_nothing, begun, run, with_packet, with_rest, unless_over, packets_run, course, limits, limit_in}
+use Rattle.s7_client.specs.Course.{Origin, Course, Awaits, for_confirm, for_answers, for_departure, for_nothing, begun, run, with_packet, with_rest, unless_over, packets_run, course, limits, limit_in}
 
-pub run-append : (origin : Origin) (c : Course) (xs ys : List (List ℕ)) → run origin c (xs ++ ys) ≡ run origin (run origin c xs) ys
+pub run-append : (origin : Origin) (c : Course) (xs ys : List (List ℕ))
+    → run origin c (xs ++ ys) ≡ run origin (run origin c xs) ys
 run-append origin c [] ys = refl
 run-append origin c (x ∷ xs) ys = run-append origin (with_packet origin c x) xs ys
 
 same_unless : (c : Course) (awaits : Awaits) → unless_over c c awaits ≡ c
 same_unless c for_confirm = refl
-same_unless c (for_answer question) = refl
+same_unless c for_answers = refl
 same_unless c for_departure = refl
 same_unless c (for_nothing end carried) = refl
 
 -- where no fault shows, the course is that of the packets
-course_more : (origin : Origin) (b : List ℕ) → state_of (limits origin (packets_of (limits origin) b)) (rest_of (limits origin) b) ≡ fed.More
+course_more : (origin : Origin) (b : List ℕ)
+    → state_of (limits origin (packets_of (limits origin) b)) (rest_of (limits origin) b) ≡ fed.More
     → course origin b ≡ packets_run origin b
 unfolding course
-course_more origin b h = ap (λ s. with_rest (packets_run origin b) s) h ∙ same_unless (packets_run origin b) (packets_run origin b).awaits
+course_more origin b h =
+    ap (λ s. with_rest (packets_run origin b) s) h ∙ same_unless (packets_run origin b) (packets_run origin b).awaits
 
-state_held : (limits : List (List ℕ) → ℕ) (b : List ℕ) (cutter : Cut) → HoldsRest limits b cutter → state_of (limits (packets_of limits b)) (rest_of limits b) ≡ state_of cutter.limit cutter.held
+state_held : (limits : List (List ℕ) → ℕ) (b : List ℕ) (cutter : Cut) → HoldsRest limits b cutter
+    → state_of (limits (packets_of limits b)) (rest_of limits b) ≡ state_of cutter.limit cutter.held
 state_held limits b cutter h = ap (λ n. state_of n (rest_of limits b)) h.limit ∙ ap (state_of cutter.limit) h.held
 
-pub course_held : (origin : Origin) (b : List ℕ) (cutter : Cut) → HoldsRest (limits origin) b cutter → state_of cutter.limit cutter.held ≡ fed.More → course origin b ≡ packets_run origin b
+pub course_held : (origin : Origin) (b : List ℕ) (cutter : Cut) → HoldsRest (limits origin) b cutter
+    → state_of cutter.limit cutter.held ≡ fed.More → course origin b ≡ packets_run origin b
 course_held origin b cutter h more = course_more origin b (state_held (limits origin) b cutter h ∙ more)
 
 -- octets that end no packet
-pub holds_on : (limits : List (List ℕ) → ℕ) (b used : List ℕ) (cutter cutter' : Cut) → HoldsRest limits b cutter → GoesOn limits b used
+pub holds_on : (limits : List (List ℕ) → ℕ) (b used : List ℕ) (cutter cutter' : Cut) → HoldsRest limits b cutter
+    → GoesOn limits b used
     → cutter'.held ≡ cutter.held ++ used → cutter'.limit ≡ cutter.limit → HoldsRest limits (b ++ used) cutter'
 holds_on limits b used cutter cutter' h g held limit = record {
   held = g.rest ∙ (ap (λ x. x ++ used) h.held ∙ sym held);
@@ -38,24 +44,32 @@ holds_on limits b used cutter cutter' h g held limit = record {
 }
 
 -- the course after them, by what they show
-pub course_on : (origin : Origin) (b used : List ℕ) (cutter cutter' : Cut) → HoldsRest (limits origin) b cutter → state_of cutter.limit cutter.held ≡ fed.More
+pub course_on : (origin : Origin) (b used : List ℕ) (cutter cutter' : Cut) → HoldsRest (limits origin) b cutter
+    → state_of cutter.limit cutter.held ≡ fed.More
     → GoesOn (limits origin) b used → cutter'.held ≡ cutter.held ++ used → cutter'.limit ≡ cutter.limit
     → course origin (b ++ used) ≡ with_rest (course origin b) (state_of cutter'.limit cutter'.held)
 unfolding course
 course_on origin b used cutter cutter' h more g held limit =
     let same : packets_run origin (b ++ used) ≡ packets_run origin b = ap (run origin (begun origin)) g.packets in
-    ap (λ c. with_rest c (state_of (limits origin (packets_of (limits origin) (b ++ used))) (rest_of (limits origin) (b ++ used)))) (same ∙ sym (course_held origin b cutter h more))
-    ∙ ap (with_rest (course origin b)) (state_held (limits origin) (b ++ used) cutter' (holds_on (limits origin) b used cutter cutter' h g held limit))
+    let all = packets_of (limits origin) (b ++ used) in
+    let rest = rest_of (limits origin) (b ++ used) in
+    ap (λ c. with_rest c (state_of (limits origin all) rest)) (same ∙ sym (course_held origin b cutter h more))
+    ∙ ap (with_rest (course origin b))
+    (state_held (limits origin) (b ++ used) cutter'
+    (holds_on (limits origin) b used cutter cutter' h g held limit))
 
-pub course_on_more : (origin : Origin) (b used : List ℕ) (cutter cutter' : Cut) → HoldsRest (limits origin) b cutter → state_of cutter.limit cutter.held ≡ fed.More
-    → GoesOn (limits origin) b used → cutter'.held ≡ cutter.held ++ used → cutter'.limit ≡ cutter.limit → state_of cutter'.limit cutter'.held ≡ fed.More
+pub course_on_more : (origin : Origin) (b used : List ℕ) (cutter cutter' : Cut) → HoldsRest (limits origin) b cutter
+    → state_of cutter.limit cutter.held ≡ fed.More
+    → GoesOn (limits origin) b used → cutter'.held ≡ cutter.held ++ used → cutter'.limit ≡ cutter.limit
+    → state_of cutter'.limit cutter'.held ≡ fed.More
     → course origin (b ++ used) ≡ course origin b
 course_on_more origin b used cutter cutter' h more g held limit still =
     course_on origin b used cutter cutter' h more g held limit
     ∙ (ap (with_rest (course origin b)) still ∙ same_unless (course origin b) (course origin b).awaits)
 
 -- a packet ends
-pub course_ends : (origin : Origin) (b used body : List ℕ) (cutter : Cut) → HoldsRest (limits origin) b cutter → state_of cutter.limit cutter.held ≡ fed.More
+pub course_ends : (origin : Origin) (b used body : List ℕ) (cutter : Cut) → HoldsRest (limits origin) b cutter
+    → state_of cutter.limit cutter.held ≡ fed.More
     → EndsPacket (limits origin) b used body → course origin (b ++ used) ≡ with_packet origin (course origin b) body
 course_ends origin b used body cutter h more e =
     let all = packets_of (limits origin) (b ++ used) in
@@ -65,38 +79,13 @@ course_ends origin b used body cutter h more e =
     ∙ ap (λ c. with_packet origin c body) (sym (course_held origin b cutter h more))))
 
 -- the limit of the next packet is that of the course
-pub limit_after : (origin : Origin) (b used body : List ℕ) (cutter : Cut) → HoldsRest (limits origin) b cutter → state_of cutter.limit cutter.held ≡ fed.More
-    → EndsPacket (limits origin) b used body → limits origin (packets_of (limits origin) (b ++ used)) ≡ limit_in (course origin (b ++ used))
+pub limit_after : (origin : Origin) (b used body : List ℕ) (cutter : Cut) → HoldsRest (limits origin) b cutter
+    → state_of cutter.limit cutter.held ≡ fed.More
+    → EndsPacket (limits origin) b used body
+    → limits origin (packets_of (limits origin) (b ++ used)) ≡ limit_in (course origin (b ++ used))
 limit_after origin b used body cutter h more e =
     let all = packets_of (limits origin) (b ++ used) in
     ap limit_in (sym (course_more origin (b ++ used) (ap (state_of (limits origin all)) e.rest)))
-
--- ---- packets that go on
-
-abbrev tail_of : List (List ℕ) → List (List ℕ)
-tail_of [] = []
-tail_of (x ∷ xs) = xs
-
-abbrev first_of : List ℕ → List (List ℕ) → List ℕ
-first_of default [] = default
-first_of default (x ∷ xs) = x
-
-nil_not_longer : (bodies more : List (List ℕ)) (body : List ℕ) → [] ≡ bodies ++ body ∷ more → ⊥
-nil_not_longer [] more body e = cc
-nil_not_longer (x ∷ bodies) more body e = cc
-
-behind : (x y : List ℕ) (xs bodies : List (List ℕ)) (body : List ℕ) → x ≡ y → (bodies ≡ xs) ⊎ ((more' : List (List ℕ)) × (xs ≡ bodies ++ body ∷ more'))
-    → (y ∷ bodies ≡ x ∷ xs) ⊎ ((more' : List (List ℕ)) × (x ∷ xs ≡ y ∷ (bodies ++ body ∷ more')))
-behind x y xs bodies body same (inl e) = inl (ap (λ z. z ∷ bodies) (sym same) ∙ ap (λ zs. x ∷ zs) e)
-behind x y xs bodies body same (inr h) = inr (h.0, ap (λ z. z ∷ xs) same ∙ ap (λ zs. y ∷ zs) h.1)
-
--- a list of packets before the last, or before an earlier one
-pub split_last : (xs bodies more : List (List ℕ)) (last body : List ℕ) → xs ++ last ∷ [] ≡ bodies ++ body ∷ more
-    → (bodies ≡ xs) ⊎ ((more' : List (List ℕ)) × (xs ≡ bodies ++ body ∷ more'))
-split_last [] [] more last body e = inl refl
-split_last [] (y ∷ bodies) more last body e = absurd (nil_not_longer bodies more body (ap tail_of e))
-split_last (x ∷ xs) [] more last body e = inr (xs, ap (λ y. y ∷ xs) (ap (first_of body) e))
-split_last (x ∷ xs) (y ∷ bodies) more last body e = behind x y xs bodies body (ap (first_of y) e) (split_last xs bodies more last body (ap tail_of e))
 
 -- ---- octets of a packet that isn't whole
 
@@ -125,10 +114,7 @@ pub course_nothing : (origin : Origin) → course origin [] ≡ begun origin
 unfolding course packets_of rest_of
 course_nothing origin = same_unless (begun origin) (begun origin).awaits
 
-pub holds_nothing : (limits : List (List ℕ) → ℕ) (cutter : Cut) → cutter.held ≡ [] → cutter.limit ≡ limits [] → HoldsRest limits [] cutter
+pub holds_nothing : (limits : List (List ℕ) → ℕ) (cutter : Cut) → cutter.held ≡ [] → cutter.limit ≡ limits []
+    → HoldsRest limits [] cutter
 unfolding packets_of rest_of
 holds_nothing limits cutter held limit = record { held = sym held; limit = sym limit }
-
-pub no_packets : (limits : List (List ℕ) → ℕ) (bodies more : List (List ℕ)) (body : List ℕ) → packets_of limits [] ≡ bodies ++ body ∷ more → ⊥
-unfolding packets_of
-no_packets limits bodies more body e = nil_not_longer bodies more body e

@@ -1,6 +1,6 @@
--- Laws of what is sent: no message is longer than the PDU.
-use Rattle.std.proofs.Common.{◌≡◌, ℕ, zero, suc, ◌+◌, ◌≤◌, Bool, true, false, cond, eqb, leb, Option, Some, None, List, [], ◌∷◌, map, length, take, drop, refl, sym, ap, ◌∙◌, subst, arith}
-use Rattle.std.specs.Prelude.{slice_get}
+-- Laws of what is sent: no message is longer than the PDU, and no more are unanswered than may be.
+use Rattle.std.proofs.Common.{◌≡◌, ℕ, zero, suc, ◌+◌, ◌≤◌, Bool, true, false, cond, eqb, leb, Option, Some, None, List, [], ◌∷◌, ◌++◌, map, length, take, drop, refl, sym, ap, ◌∙◌, subst, arith}
+use Rattle.std.specs.Prelude.{max, slice_get}
 use Rattle.std.specs.List.{AllByRecursion}
 use Rattle.std.proofs.lemmas.Bool.{and_parts, eqb-true, leb-true}
 use Rattle.std.proofs.lemmas.List.{length-append, length-drop, length-take-le}
@@ -21,33 +21,35 @@ use Rattle.s7_client.specs.declared.job.Job.{Job}
 use Rattle.s7_client.specs.declared.job.Job.TheVariants as job
 use Rattle.s7_client.specs.Question.{Question, reads, writes, written, job_octets, question_octets}
 use Rattle.s7_client.specs.Answer.{Answer}
-use Rattle.s7_client.specs.Refusals.{telegram_refusal, part_refusal}
 use Rattle.s7_client.specs.Checks.{octet_count_of, check_item, check_items}
 use Rattle.s7_client.specs.Stages.{joined}
-use Rattle.s7_client.specs.Dialogue.{Telegram, numbered, Next, sends, with_number, read_questions, write_questions, first_refusal, asks_or_ends, asking, plain_number, write_number, octets_told, codes_told, all_read, alone, if_good, conversing}
-use Rattle.s7_client.proofs.GoingLemmas.{octet_count_append}
+use Rattle.s7_client.specs.Flight.{Row, open_count}
+use Rattle.s7_client.specs.Dialogue.{End, Conduct, Plan, over, number_end, read_questions, write_questions, alone, if_good, connected_plan, plan_of}
+use Rattle.s7_client.specs.Course.{Origin, conduct_of, course}
 use Rattle.s7_client.proofs.CheckLemmas.{item_checked, items_checked, can_split}
 use Rattle.s7_client.proofs.MessageLemmas.{written_sent}
-use Rattle.s7_client.proofs.GroupLemmas.{groups_right, parts_together}
+use Rattle.s7_client.proofs.GroupLemmas.{octet_count_append, groups_right, parts_together}
+use Rattle.s7_client.proofs.FlightLemmas.{same_some, open_append, ComesNext, filled_open}
+use Rattle.s7_client.proofs.RowLemmas.{RowsKept, course_rows}
 
 -- ---- general lemmas
 
-same_some : {A : Type 0} (x y : A) → Some x ≡ Some y → x ≡ y
-same_some x y e = cc
-
 -- general: what holds of each element holds of the one at a place
-pub one_of_all : {A : Type 0} (P : A → Type 0) (xs : List A) (k : ℕ) (x : A) → AllByRecursion P xs → slice_get xs k ≡ Some x → P x
+pub one_of_all : {A : Type 0} (P : A → Type 0) (xs : List A) (k : ℕ) (x : A) → AllByRecursion P xs
+    → slice_get xs k ≡ Some x → P x
 one_of_all P [] k x each at = absurd (cc)
 one_of_all P (y ∷ xs) zero x each at = subst P (same_some y x at) each.0
 one_of_all P (y ∷ xs) (suc k) x each at = one_of_all P xs k x each.1 at
 
 -- general: what follows of one element follows of each
-all_so : {A : Type 0} (P Q : A → Type 0) (xs : List A) → ((x : A) → P x → Q x) → AllByRecursion P xs → AllByRecursion Q xs
+all_so : {A : Type 0} (P Q : A → Type 0) (xs : List A) → ((x : A) → P x → Q x) → AllByRecursion P xs
+    → AllByRecursion Q xs
 all_so P Q [] so each = tt
 all_so P Q (x ∷ xs) so each = (so x each.0, all_so P Q xs so each.1)
 
 -- general: the same of what is made of each element
-all_mapped : {A B : Type 0} (P : A → Type 0) (Q : B → Type 0) (f : A → B) (xs : List A) → ((x : A) → P x → Q (f x)) → AllByRecursion P xs
+all_mapped : {A B : Type 0} (P : A → Type 0) (Q : B → Type 0) (f : A → B) (xs : List A) → ((x : A) → P x → Q (f x))
+    → AllByRecursion P xs
     → AllByRecursion Q (map f xs)
 all_mapped P Q f [] so each = tt
 all_mapped P Q f (x ∷ xs) so each = (so x each.0, all_mapped P Q f xs so each.1)
@@ -62,19 +64,27 @@ IsShort pdu question = (sequence : ℕ) → length (question_octets sequence que
 abbrev Fits : ℕ → Bool → List Item → Type 0
 Fits pdu write group = fits pdu write group ≡ true
 
-job_long : (sequence : ℕ) (params body : List ℕ) → length (job_octets sequence params body) ≡ 10 + length params + length body
+job_long : (sequence : ℕ) (params body : List ℕ)
+    → length (job_octets sequence params body) ≡ 10 + length params + length body
 job_long sequence params body = omega (arith, length-append params body)
 
 request_short : (pdu : ℕ) (write : Bool) (group : List Item) → Fits pdu write group → request_size group write ≤ pdu
 unfolding fits
 request_short pdu write group fit =
-    leb-true (request_size group write) pdu (and_parts (leb (request_size group write) pdu) (leb (answer_length group write) pdu) fit).0
+    leb-true (request_size group write) pdu
+    (and_parts (leb (request_size group write) pdu) (leb (answer_length group write) pdu) fit).0
 
 read_short : (pdu : ℕ) (group : List Item) → Fits pdu false group → IsShort pdu (reads group)
 read_short pdu group fit = λ sequence.
-    omega (arith, job_long sequence (items_params 0x04 group) [], reads_sized 0x04 group, request_short pdu false group fit)
+    omega (
+      arith,
+      job_long sequence (items_params 0x04 group) [],
+      reads_sized 0x04 group,
+      request_short pdu false group fit,
+    )
 
-write_short : (pdu : ℕ) (group : List Item) (octets : List ℕ) → Fits pdu true group → length octets ≡ octet_count_of group → IsShort pdu (writes group octets)
+write_short : (pdu : ℕ) (group : List Item) (octets : List ℕ) → Fits pdu true group
+    → length octets ≡ octet_count_of group → IsShort pdu (writes group octets)
 write_short pdu group octets fit all = λ sequence.
     omega (
       arith,
@@ -85,11 +95,13 @@ write_short pdu group octets fit all = λ sequence.
 
 -- ---- the messages of all questions
 
-reads_short : (pdu : ℕ) (groups : List (List Item)) → AllByRecursion (Fits pdu false) groups → AllByRecursion (IsShort pdu) (read_questions groups)
+reads_short : (pdu : ℕ) (groups : List (List Item)) → AllByRecursion (Fits pdu false) groups
+    → AllByRecursion (IsShort pdu) (read_questions groups)
 reads_short pdu groups each = all_mapped (Fits pdu false) (IsShort pdu) reads groups (read_short pdu) each
 
 -- each group has as many of the octets as its items
-writes_short : (pdu : ℕ) (groups : List (List Item)) (octets : List ℕ) → AllByRecursion (Fits pdu true) groups → length octets ≡ octet_count_of (joined groups)
+writes_short : (pdu : ℕ) (groups : List (List Item)) (octets : List ℕ) → AllByRecursion (Fits pdu true) groups
+    → length octets ≡ octet_count_of (joined groups)
     → AllByRecursion (IsShort pdu) (write_questions groups octets)
 writes_short pdu [] octets each all = tt
 writes_short pdu (group ∷ groups) octets each all =
@@ -99,40 +111,42 @@ writes_short pdu (group ∷ groups) octets each all =
       writes_short pdu groups (drop n octets) each.1 (omega (arith, both, length-drop n octets)),
     )
 
-parts_fit : (item : Item) (pdu : ℕ) (write : Bool) → CanBeSplit item → 64 ≤ pdu → AllByRecursion (Fits pdu write) (alone (parts_of item pdu write))
+parts_fit : (item : Item) (pdu : ℕ) (write : Bool) → CanBeSplit item → 64 ≤ pdu
+    → AllByRecursion (Fits pdu write) (alone (parts_of item pdu write))
 parts_fit item pdu write split least =
-    all_mapped (CanBeAsked pdu write) (Fits pdu write) (λ part. part ∷ []) (parts_of item pdu write) (λ part h. h.fits) (parts_asked item pdu write split least)
+    all_mapped (CanBeAsked pdu write) (Fits pdu write) (λ part. part ∷ []) (parts_of item pdu write) (λ part h. h.fits)
+    (parts_asked item pdu write split least)
 
 groups_fit : (pdu : ℕ) (write : Bool) (items : List Item) → AreGroups pdu write items (groups_of pdu write items)
     → AllByRecursion (Fits pdu write) (groups_of pdu write items)
-groups_fit pdu write items right = all_so (IsGroup pdu write) (Fits pdu write) (groups_of pdu write items) (λ group h. h.fits) right.each
+groups_fit pdu write items right =
+    all_so (IsGroup pdu write) (Fits pdu write) (groups_of pdu write items) (λ group h. h.fits) right.each
 
 -- ---- the question that is asked
 
-pub asked_next : (next : Option Question) (octets codes : List ℕ) (question : Question) → asks_or_ends next (all_read octets codes) ≡ sends (numbered question)
-    → next ≡ Some question
-asked_next None octets codes question is = absurd (cc)
-asked_next (Some q) octets codes question is = cc
+listed_short : (pdu : ℕ) (questions : List Question) (answers : List (Option Answer)) (question : Question)
+    → AllByRecursion (IsShort pdu) questions → slice_get questions (length answers) ≡ Some question
+    → IsShort pdu question
+listed_short pdu questions answers question each is =
+    one_of_all (IsShort pdu) questions (length answers) question each is
 
-asking_short : (pdu : ℕ) (questions : List Question) (number : ℕ → ℕ → ℕ) (refused : Option (ℕ × ℕ)) (answers : List Answer) (octets codes : List ℕ) (question : Question)
-    → AllByRecursion (IsShort pdu) questions → asking questions number refused answers (all_read octets codes) ≡ sends (numbered question) → IsShort pdu question
-asking_short pdu questions number (Some refused) answers octets codes question each is = absurd (cc)
-asking_short pdu questions number None answers octets codes question each is =
-    one_of_all (IsShort pdu) questions (length answers) question each (asked_next (slice_get questions (length answers)) octets codes question is)
+good_by : (check : ℕ) (plan : Plan) (answers : List (Option Answer)) (question : Question) (b : Bool) → eqb check 0 ≡ b
+    → (cond b plan (over (number_end check AsItWas))).conduct.question_at answers ≡ Some question
+    → (check ≡ 0) × (plan.conduct.question_at answers ≡ Some question)
+good_by check plan answers question true good is = (eqb-true check 0 good, is)
+good_by check plan answers question false good is = absurd (cc)
 
-good_by : (check : ℕ) (next : Next) (telegram : Telegram) (b : Bool) → eqb check 0 ≡ b → cond b next (with_number check AsItWas) ≡ sends telegram
-    → (check ≡ 0) × (next ≡ sends telegram)
-good_by check next telegram true good is = (eqb-true check 0 good, is)
-good_by check next telegram false good is = absurd (cc)
-
--- what is sent was checked
-pub good_sent : (check : ℕ) (next : Next) (telegram : Telegram) → if_good check next ≡ sends telegram → (check ≡ 0) × (next ≡ sends telegram)
-good_sent check next telegram is = good_by check next telegram (eqb check 0) refl is
+-- what is asked was checked
+pub good_sent : (check : ℕ) (plan : Plan) (answers : List (Option Answer)) (question : Question)
+    → (if_good check plan).conduct.question_at answers ≡ Some question
+    → (check ≡ 0) × (plan.conduct.question_at answers ≡ Some question)
+good_sent check plan answers question is = good_by check plan answers question (eqb check 0) refl is
 
 -- ---- each job
 
 -- the parts of an item are written with the item's octets
-item_written : (item : Item) (octets : List ℕ) (pdu : ℕ) → 64 ≤ pdu → check_item item (eqb (length octets) (octet_count item)) ≡ 0
+item_written : (item : Item) (octets : List ℕ) (pdu : ℕ) → 64 ≤ pdu
+    → check_item item (eqb (length octets) (octet_count item)) ≡ 0
     → AllByRecursion (IsShort pdu) (write_questions (alone (parts_of item pdu true)) octets)
 item_written item octets pdu least good =
     let told = item_checked item (eqb (length octets) (octet_count item)) good in
@@ -140,19 +154,23 @@ item_written item octets pdu least good =
     writes_short pdu (alone (parts_of item pdu true)) octets (parts_fit item pdu true split least)
     (eqb-true (length octets) (octet_count item) told.2 ∙ sym (parts_together item pdu true split least))
 
-item_read : (item : Item) (pdu : ℕ) → 64 ≤ pdu → check_item item true ≡ 0 → AllByRecursion (IsShort pdu) (read_questions (alone (parts_of item pdu false)))
+item_read : (item : Item) (pdu : ℕ) → 64 ≤ pdu → check_item item true ≡ 0
+    → AllByRecursion (IsShort pdu) (read_questions (alone (parts_of item pdu false)))
 item_read item pdu least good =
     let told = item_checked item true good in
     reads_short pdu (alone (parts_of item pdu false))
     (parts_fit item pdu false (can_split item told.0 told.1) least)
 
-items_read : (items : List Item) (pdu : ℕ) → check_items items true pdu false ≡ 0 → AllByRecursion (IsShort pdu) (read_questions (groups_of pdu false items))
+items_read : (items : List Item) (pdu : ℕ) → check_items items true pdu false ≡ 0
+    → AllByRecursion (IsShort pdu) (read_questions (groups_of pdu false items))
 items_read items pdu good =
-    let right : AreGroups pdu false items (groups_of pdu false items) = groups_right pdu false items (items_checked items true pdu false good).4 in
+    let told = items_checked items true pdu false good in
+    let right : AreGroups pdu false items (groups_of pdu false items) = groups_right pdu false items told.4 in
     reads_short pdu (groups_of pdu false items) (groups_fit pdu false items right)
 
 -- the groups of items are written with the octets of all of them
-items_written : (items : List Item) (octets : List ℕ) (pdu : ℕ) → check_items items (eqb (length octets) (octet_count_of items)) pdu true ≡ 0
+items_written : (items : List Item) (octets : List ℕ) (pdu : ℕ)
+    → check_items items (eqb (length octets) (octet_count_of items)) pdu true ≡ 0
     → AllByRecursion (IsShort pdu) (write_questions (groups_of pdu true items) octets)
 items_written items octets pdu good =
     let told = items_checked items (eqb (length octets) (octet_count_of items)) pdu true good in
@@ -160,24 +178,86 @@ items_written items octets pdu good =
     writes_short pdu (groups_of pdu true items) octets (groups_fit pdu true items right)
     (eqb-true (length octets) (octet_count_of items) told.3 ∙ ap octet_count_of (sym right.whole))
 
-pub sent_short : (asked : Job) (config : Config) (granted : Grant) (answers : List Answer) (question : Question) → 64 ≤ granted.pdu
-    → conversing asked config granted answers ≡ sends (numbered question) → IsShort granted.pdu question
+-- no message of a connected client is longer than the PDU that was granted
+pub sent_short : (asked : Job) (config : Config) (granted : Grant) (answers : List (Option Answer))
+    (question : Question) → 64 ≤ granted.pdu
+    → (plan_of asked config (Some granted)).conduct.question_at answers ≡ Some question
+    → IsShort granted.pdu question
 sent_short job.Connect config granted answers question least is = absurd (cc)
 sent_short (job.ReadArea item) config granted answers question least is =
-    let sent = good_sent (check_item item true) _ (numbered question) is in
-    asking_short granted.pdu (read_questions (alone (parts_of item granted.pdu false))) plain_number (first_refusal part_refusal 0 answers) answers
-    (octets_told answers) [] question (item_read item granted.pdu least sent.0) sent.1
+    let sent = good_sent (check_item item true) _ answers question is in
+    listed_short granted.pdu (read_questions (alone (parts_of item granted.pdu false))) answers question
+    (item_read item granted.pdu least sent.0) sent.1
 sent_short (job.WriteArea item octets) config granted answers question least is =
-    let sent = good_sent (check_item item (eqb (length octets) (octet_count item))) _ (numbered question) is in
-    asking_short granted.pdu (write_questions (alone (parts_of item granted.pdu true)) octets) write_number (first_refusal part_refusal 0 answers) answers
-    [] [] question (item_written item octets granted.pdu least sent.0) sent.1
+    let sent = good_sent (check_item item (eqb (length octets) (octet_count item))) _ answers question is in
+    listed_short granted.pdu (write_questions (alone (parts_of item granted.pdu true)) octets) answers question
+    (item_written item octets granted.pdu least sent.0) sent.1
 sent_short (job.ReadMany items) config granted answers question least is =
-    let sent = good_sent (check_items items true granted.pdu false) _ (numbered question) is in
-    asking_short granted.pdu (read_questions (groups_of granted.pdu false items)) plain_number (first_refusal telegram_refusal 0 answers) answers
-    (octets_told answers) (codes_told answers) question (items_read items granted.pdu sent.0) sent.1
+    let sent = good_sent (check_items items true granted.pdu false) _ answers question is in
+    listed_short granted.pdu (read_questions (groups_of granted.pdu false items)) answers question
+    (items_read items granted.pdu sent.0) sent.1
 sent_short (job.WriteMany items octets) config granted answers question least is =
-    let sent = good_sent (check_items items (eqb (length octets) (octet_count_of items)) granted.pdu true) _ (numbered question) is in
-    asking_short granted.pdu (write_questions (groups_of granted.pdu true items) octets) plain_number (first_refusal telegram_refusal 0 answers) answers
-    [] (codes_told answers) question (items_written items octets granted.pdu sent.0) sent.1
-sent_short job.Disconnect config granted [] question least is = absurd (cc)
-sent_short job.Disconnect config granted (answer ∷ answers) question least is = absurd (cc)
+    let good : ℕ = check_items items (eqb (length octets) (octet_count_of items)) granted.pdu true in
+    let sent = good_sent good _ answers question is in
+    listed_short granted.pdu (write_questions (groups_of granted.pdu true items) octets) answers question
+    (items_written items octets granted.pdu sent.0) sent.1
+sent_short job.Disconnect config granted answers question least is = absurd (cc)
+
+-- ---- how many are unanswered
+
+-- a question goes out only while fewer are unanswered than may be
+few_asked : (conduct : Conduct) (rows : List Row) (question : Question) (number : ℕ) → ComesNext conduct rows question
+    → open_count rows ≤ conduct.width
+    → open_count (rows ++ record { question = question; number = number; answer = None } ∷ []) ≤ conduct.width
+unfolding open_count
+few_asked conduct rows question number next few =
+    omega (
+      arith,
+      next.fewer,
+      open_append rows (record { question = question; number = number; answer = None } ∷ []),
+    )
+
+few_kept : (conduct : Conduct) → RowsKept conduct (λ rows. open_count rows ≤ conduct.width)
+unfolding open_count
+few_kept conduct = record {
+  none = omega arith;
+  asked = few_asked conduct;
+  answered = λ rows message rows' f few. omega (arith, few, filled_open rows message rows' f);
+}
+
+-- never are more unanswered than may be
+pub course_few : (origin : Origin) (b : List ℕ) → open_count (course origin b).rows ≤ (conduct_of origin).width
+course_few origin b =
+    course_rows origin (λ rows. open_count rows ≤ (conduct_of origin).width) (few_kept (conduct_of origin)) b
+
+checked_width : (n : ℕ) (plan : Plan) (end : End) (b : Bool) → plan.conduct.width ≤ n
+    → (cond b plan (over end)).conduct.width ≤ n
+checked_width n plan end true few = few
+checked_width n plan end false few = omega arith
+
+width_connected : (asked : Job) (granted : Grant) → (connected_plan asked granted).conduct.width ≤ max 1 granted.jobs
+width_connected job.Connect granted = omega arith
+width_connected (job.ReadArea item) granted =
+    checked_width (max 1 granted.jobs) _ _ (eqb (check_item item true) 0) (omega arith)
+width_connected (job.WriteArea item octets) granted =
+    checked_width (max 1 granted.jobs) _ _ (eqb (check_item item (eqb (length octets) (octet_count item))) 0)
+    (omega arith)
+width_connected (job.ReadMany items) granted =
+    checked_width (max 1 granted.jobs) _ _ (eqb (check_items items true granted.pdu false) 0) (omega arith)
+width_connected (job.WriteMany items octets) granted =
+    checked_width (max 1 granted.jobs) _ _
+    (eqb (check_items items (eqb (length octets) (octet_count_of items)) granted.pdu true) 0) (omega arith)
+width_connected job.Disconnect granted = omega arith
+
+width_granted : (asked : Job) (config : Config) (known : Option Grant) (granted : Grant) → known ≡ Some granted
+    → (plan_of asked config known).conduct.width ≤ max 1 granted.jobs
+width_granted asked config None granted is = absurd (cc)
+width_granted asked config (Some known) granted is =
+    subst (λ (g : Grant). (connected_plan asked known).conduct.width ≤ max 1 g.jobs) (same_some known granted is)
+    (width_connected asked known)
+
+-- and no more than jobs were granted
+pub unanswered_few : (origin : Origin) (granted : Grant) (b : List ℕ) → origin.granted ≡ Some granted
+    → open_count (course origin b).rows ≤ max 1 granted.jobs
+unanswered_few origin granted b is =
+    omega (arith, course_few origin b, width_granted origin.job origin.config origin.granted granted is)

@@ -1,5 +1,5 @@
 -- Lemmas on the groups of items that are asked for: they can be sent.
-use Rattle.std.proofs.Common.{◌≡◌, ℕ, ◌+◌, ◌*◌, ◌≤◌, Bool, true, false, leb, ltb, Ok, List, [], ◌∷◌, length, refl, sym, ap, ◌∙◌, arith}
+use Rattle.std.proofs.Common.{◌≡◌, ℕ, ◌+◌, ◌*◌, ◌≤◌, Bool, true, false, leb, ltb, Ok, List, [], ◌∷◌, ◌++◌, length, refl, sym, ap, ◌∙◌, arith}
 use Rattle.std.specs.Prelude.{unwrap_or, ◌&&◌}
 use Rattle.std.specs.List.{list_all, AllByRecursion}
 use Rattle.std.proofs.lemmas.Bool.{and_parts, and_from, leb-true, le-leb, lt-ltb}
@@ -23,6 +23,11 @@ request_fits : (pdu : ℕ) (write : Bool) (items : List Item) → fits pdu write
 unfolding fits
 request_fits pdu write items fit most =
     omega (arith, most, leb-true (request_size items write) pdu (and_parts (leb (request_size items write) pdu) (leb (answer_length items write) pdu) fit).0)
+
+-- the octets of items and others
+pub octet_count_append : (xs ys : List Item) → octet_count_of (xs ++ ys) ≡ octet_count_of xs + octet_count_of ys
+octet_count_append [] ys = omega arith
+octet_count_append (x ∷ xs) ys = omega (arith, octet_count_append xs ys)
 
 -- ---- the parts of an item
 

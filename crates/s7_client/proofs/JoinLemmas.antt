@@ -26,11 +26,13 @@ whole_by j j' (whole octets) e state = ap (λ x. whole x.octets) e
 whole_by j j' too_many_fragments e state = absurd (cc)
 whole_by j j' too_long e state = absurd (cc)
 
-pub joining_whole : (j j' : Gathered) (f : Fragment) → is_fault j.state ≡ false → j.limit ≡ message_limit → j' ≡ with_fragment j f → j'.state ≡ joined.Whole
+pub joining_whole : (j j' : Gathered) (f : Fragment) → is_fault j.state ≡ false → j.limit ≡ message_limit
+    → j' ≡ with_fragment j f → j'.state ≡ joined.Whole
     → joined_with message_limit (open_octets j) j.count f ≡ whole j'.octets
 joining_whole j j' f going limit is state =
     let e = held_by j j' f going limit is in
-    whole_by j j' (joined_with message_limit (open_octets j) j.count f) e (state_of_step j j' (joined_with message_limit (open_octets j) j.count f) e ∙ state)
+    whole_by j j' (joined_with message_limit (open_octets j) j.count f) e
+    (state_of_step j j' (joined_with message_limit (open_octets j) j.count f) e ∙ state)
 
 count_by : (j j' : Gathered) (s : Step) → after_step j s ≡ j' → is_fault (answer_of s) ≡ true → j'.count ≡ j.count
 count_by j j' (more octets count) e fault = absurd (cc)
@@ -39,19 +41,23 @@ count_by j j' too_many_fragments e fault = ap (λ x. x.count) (sym e)
 count_by j j' too_long e fault = ap (λ x. x.count) (sym e)
 
 -- a fault adds nothing
-pub fault_count : (j j' : Gathered) (f : Fragment) → is_fault j.state ≡ false → j.limit ≡ message_limit → j' ≡ with_fragment j f → is_fault j'.state ≡ true → j'.count ≡ j.count
+pub fault_count : (j j' : Gathered) (f : Fragment) → is_fault j.state ≡ false → j.limit ≡ message_limit
+    → j' ≡ with_fragment j f → is_fault j'.state ≡ true → j'.count ≡ j.count
 fault_count j j' f going limit is fault =
     let e = held_by j j' f going limit is in
-    count_by j j' (joined_with message_limit (open_octets j) j.count f) e (ap is_fault (state_of_step j j' (joined_with message_limit (open_octets j) j.count f) e) ∙ fault)
+    count_by j j' (joined_with message_limit (open_octets j) j.count f) e
+    (ap is_fault (state_of_step j j' (joined_with message_limit (open_octets j) j.count f) e) ∙ fault)
 
-clear_by : (j j' : Gathered) (s : Step) → after_step j s ≡ j' → answer_of s ≡ joined.Whole → unfinished_of j' ≡ nothing_unfinished
+clear_by : (j j' : Gathered) (s : Step) → after_step j s ≡ j' → answer_of s ≡ joined.Whole
+    → unfinished_of j' ≡ nothing_unfinished
 clear_by j j' (more octets count) e state = absurd (cc)
 clear_by j j' (whole octets) e state = ap unfinished_of (sym e)
 clear_by j j' too_many_fragments e state = absurd (cc)
 clear_by j j' too_long e state = absurd (cc)
 
 -- where a message is whole, none is unfinished
-pub whole_clear : (j j' : Gathered) (f : Fragment) → is_fault j.state ≡ false → j.limit ≡ message_limit → j' ≡ with_fragment j f → j'.state ≡ joined.Whole
+pub whole_clear : (j j' : Gathered) (f : Fragment) → is_fault j.state ≡ false → j.limit ≡ message_limit
+    → j' ≡ with_fragment j f → j'.state ≡ joined.Whole
     → unfinished_of j' ≡ nothing_unfinished
 whole_clear j j' f going limit is state =
     let e = held_by j j' f going limit is in

@@ -64,7 +64,7 @@ told_step items k n d rest front after message now all less count is back adds i
     ∙ (append_assoc message one (data_octets (written others after)) ∙ (ap (λ xs. message ++ xs) (sym first) ∙ inv))
 
 -- how many octets the items from the k-th on have
-count_more : (items : List Item) (k : ℕ) (d : Item) → k < length items → octet_count_of (drop k items) ≡ octet_count (get_or items k d) + octet_count_of (drop (k + 1) items)
+pub count_more : (items : List Item) (k : ℕ) (d : Item) → k < length items → octet_count_of (drop k items) ≡ octet_count (get_or items k d) + octet_count_of (drop (k + 1) items)
 count_more items k d less = ap octet_count_of (drop_more items k d less)
 
 -- the octets that are left are those of the items after the k-th

@@ -1,6 +1,8 @@
 -- What packets leave of a job.
-use Rattle.std.proofs.Common.{◌≡◌, ℕ, ◌≤◌, List, [], ◌∷◌, ◌++◌, refl, ap, sym, ◌∙◌, subst, arith, length}
-use Rattle.std.specs.Prelude.{Option, None, Some}
+use Rattle.std.proofs.Common.{◌≡◌, ◌==◌, Bool, true, false, cond, ℕ, ◌+◌, ◌≤◌, List, [], ◌++◌, length, refl, ap, sym, ◌∙◌, subst, arith}
+use Rattle.std.specs.Prelude.{Option, None, Some, nat_lt}
+use Rattle.std.proofs.lemmas.Bool.Decides.{nat_tests}
+use Rattle.std.proofs.lemmas.List.{append-nil}
 use Rattle.s7_client.specs.declared.config.Config.{Config}
 use Rattle.s7_client.specs.declared.job.Job.{Job}
 use Rattle.s7_client.specs.declared.grant.Grant.{Grant}
@@ -11,155 +13,319 @@ use Rattle.s7_client.specs.declared.running.Stage.{Stage}
 use Rattle.s7_client.specs.declared.running.Stage.TheVariants as stage
 use Rattle.s7_client.specs.declared.talk.Talk.{Talk}
 use Rattle.s7_client.specs.declared.under_way.UnderWay.{UnderWay}
-use Rattle.s7_client.specs.Question.{Question, reads}
-use Rattle.s7_client.specs.Answer.{Answer}
-use Rattle.s7_client.specs.declared.answer.Answer as kept
-use Rattle.s7_client.specs.Told.{Tells, TellsSome}
-use Rattle.s7_client.specs.Dialogue.{Next, sends, ends, numbered, connect_request, disconnect_request, fault_end, dialogue}
-use Rattle.s7_client.specs.Course.{Origin, Course, Awaits, for_confirm, for_answer, for_departure, for_nothing, awaits_by, sequence_by, octets_of, with_answer}
-use Rattle.s7_client.specs.Running.{next_of, next_by, Follows, IsOver, IsAsking, IsOpening, answers_left}
-use Rattle.s7_client.specs.At.{IsAwaiting, LeavesOpen, LeavesLink, Settles, Takes, Reaches, unfinished_of}
+use Rattle.s7_client.specs.Codes.{short_message, invalid_answer}
+use Rattle.s7_client.specs.Flight.{Row, open_count, answers_of, filled}
+use Rattle.s7_client.specs.Dialogue.{Conduct, End, connect_request, fault_end, plan_of}
+use Rattle.s7_client.specs.Course.{Origin, Course, Awaits, for_confirm, for_answers, for_departure, for_nothing, conduct_of, asked_on, asking, with_fault, by_rows, with_message}
+use Rattle.s7_client.specs.Running.{awaited_in, awaited_by, unput_of, unput_by, conduct_in, Reached, Follows, IsOver, IsAsking, IsOpening, IsLeaving, answers_left}
+use Rattle.s7_client.specs.At.{IsAt, IsAwaiting, LeavesOpen, LeavesLink, Settles, Takes, Reaches, messages_left, pending, unfinished_of}
+use Rattle.s7_client.proofs.FlightLemmas.{asks_on}
 
 pub asking_awaits : (s : Stage) → IsAsking s → IsAwaiting s
 asking_awaits stage.Opening h = absurd h
-asking_awaits (stage.Asking asked left from is_first) h = tt
+asking_awaits (stage.Asking a) h = tt
 asking_awaits stage.Leaving h = absurd h
 asking_awaits (stage.Over code leaves) h = absurd h
 
-pub awaits_some : (s : Stage) → IsAwaiting s → 1 ≤ answers_left s
-awaits_some stage.Opening h = omega arith
-awaits_some (stage.Asking asked left from is_first) h = omega arith
-awaits_some stage.Leaving h = absurd h
-awaits_some (stage.Over code leaves) h = absurd h
+pub opening_awaits : (s : Stage) → IsOpening s → IsAwaiting s
+opening_awaits stage.Opening h = tt
+opening_awaits (stage.Asking a) h = absurd h
+opening_awaits stage.Leaving h = absurd h
+opening_awaits (stage.Over code leaves) h = absurd h
 
-pub over_none : (s : Stage) → IsOver s → answers_left s ≡ 0
-over_none stage.Opening h = absurd h
-over_none (stage.Asking asked left from is_first) h = absurd h
-over_none stage.Leaving h = absurd h
-over_none (stage.Over code leaves) h = refl
-
--- what an end leaves
-abbrev pub leaves_of : Next → Leaves
-leaves_of (sends telegram) = leaving.Closed
-leaves_of (ends end) = end.leaves
-
-closed_by : (config : Config) (job : Job) (found codes : List ℕ) (code : ℕ) (s : Stage) → next_by config job found codes s ≡ ends (fault_end code) → LeavesOpen s → ⊥
-closed_by config job found codes code stage.Opening e h = h
-closed_by config job found codes code (stage.Asking asked left from is_first) e h = h
-closed_by config job found codes code stage.Leaving e h = h
-closed_by config job found codes code (stage.Over number leaves) e h = subst LeavesLink (ap leaves_of e) h
-
--- a job that ended with a fault leaves no link
-pub closed_stage : (config : Config) (r : Running) (code : ℕ) → next_of config r ≡ ends (fault_end code) → LeavesOpen r.stage → ⊥
-closed_stage config r code e h = closed_by config r.job r.found.octets r.codes code r.stage e h
+pub awaiting_goes_on : (s : Stage) → IsAwaiting s → IsOver s → ⊥
+awaiting_goes_on stage.Opening h over = over
+awaiting_goes_on (stage.Asking a) h over = over
+awaiting_goes_on stage.Leaving h over = h
+awaiting_goes_on (stage.Over code leaves) h over = h
 
 pub over_not_opening : (s : Stage) → IsOver s → IsOpening s → ⊥
 over_not_opening stage.Opening over h = over
-over_not_opening (stage.Asking asked left from is_first) over h = over
+over_not_opening (stage.Asking a) over h = over
 over_not_opening stage.Leaving over h = over
 over_not_opening (stage.Over code leaves) over h = h
 
-pub settled_by_fault : (config : Config) (code : ℕ) (t : Talk) (u : UnderWay) → next_of config u.running ≡ ends (fault_end code) → IsOver u.running.stage → t.outbox.unsent ≡ [] → Settles t u
+pub over_not_leaving : (s : Stage) → IsOver s → IsLeaving s → ⊥
+over_not_leaving stage.Opening over h = over
+over_not_leaving (stage.Asking a) over h = over
+over_not_leaving stage.Leaving over h = over
+over_not_leaving (stage.Over code leaves) over h = h
+
+pub over_not_asking : (s : Stage) → IsOver s → IsAsking s → ⊥
+over_not_asking s over h = awaiting_goes_on s (asking_awaits s h) over
+
+-- ---- how many messages are left
+
+pub one_is_none : (s : Stage) → IsAwaiting s → messages_left s ≡ answers_left s + 1
+one_is_none stage.Opening h = refl
+one_is_none (stage.Asking a) h = refl
+one_is_none stage.Leaving h = absurd h
+one_is_none (stage.Over code leaves) h = absurd h
+
+pub awaits_some : (s : Stage) → IsAwaiting s → 1 ≤ messages_left s
+awaits_some s h = omega (arith, one_is_none s h)
+
+pub over_none : (s : Stage) → IsOver s → messages_left s ≡ 0
+over_none stage.Opening h = absurd h
+over_none (stage.Asking a) h = absurd h
+over_none stage.Leaving h = absurd h
+over_none (stage.Over code leaves) h = refl
+
+-- ---- a fault
+
+-- what an end leaves
+abbrev pub leaves_of : Awaits → Leaves
+leaves_of for_confirm = leaving.Closed
+leaves_of for_answers = leaving.Closed
+leaves_of for_departure = leaving.Closed
+leaves_of (for_nothing end carried) = end.leaves
+
+pub left_by : (found codes carried message : List ℕ) (end : _) (s : Stage)
+    → awaited_by found codes carried s ≡ for_nothing end message → LeavesOpen s → LeavesLink end.leaves
+left_by found codes carried message end stage.Opening e h = absurd h
+left_by found codes carried message end (stage.Asking a) e h = absurd h
+left_by found codes carried message end stage.Leaving e h = absurd h
+left_by found codes carried message end (stage.Over code leaves) e h = subst LeavesLink (ap leaves_of e) h
+
+-- a job that ended with a fault leaves no link
+pub closed_stage : (r : Running) (code : ℕ) → awaited_in r [] ≡ for_nothing (fault_end code) [] → LeavesOpen r.stage → ⊥
+closed_stage r code e h = left_by r.found.items r.codes [] [] (fault_end code) r.stage e h
+
+pub over_unput : (config : Config) (size : ℕ) (job : Job) (s : Stage) → IsOver s → unput_by config size job s ≡ []
+over_unput config size job stage.Opening h = absurd h
+over_unput config size job (stage.Asking a) h = absurd h
+over_unput config size job stage.Leaving h = absurd h
+over_unput config size job (stage.Over code leaves) h = refl
+
+-- nothing is to be sent
+pub none_pending : (config : Config) (t : Talk) (r : Running) → t.outbox.unsent ≡ []
+    → ((size : ℕ) → unput_of config size r ≡ []) → pending config t r ≡ []
+none_pending config t r sent unput = ap (λ x. x ++ unput_of config t.size r) sent ∙ unput t.size
+
+pub none_over : (config : Config) (t : Talk) (r : Running) → t.outbox.unsent ≡ [] → IsOver r.stage
+    → pending config t r ≡ []
+none_over config t r sent over = none_pending config t r sent (λ size. over_unput config size r.job r.stage over)
+
+settled_by_fault : (config : Config) (code : ℕ) (t : Talk) (u : UnderWay)
+    → awaited_in u.running [] ≡ for_nothing (fault_end code) [] → IsOver u.running.stage → t.outbox.unsent ≡ []
+    → Settles config t u
 settled_by_fault config code t u e over none = record {
   going = λ h. absurd (h over);
-  few = omega (arith, ap length none);
-  quiet = λ h. none;
-  clear = λ h. absurd (closed_stage config u.running code e h);
+  none = none;
+  few = omega (arith, ap length (over_unput config t.size u.running.job u.running.stage over));
+  clear = λ h. absurd (closed_stage u.running code e h);
   opening = λ h. absurd (over_not_opening u.running.stage over h);
 }
 
 -- a job that awaited octets is over by a fault
-pub takes_fault : (config : Config) (code : ℕ) (t t' : Talk) (u u' : UnderWay) → IsAwaiting u.running.stage → next_of config u'.running ≡ ends (fault_end code) → IsOver u'.running.stage
-    → t'.outbox.unsent ≡ [] → t'.joiner.count ≤ t.joiner.count → Takes t u t' u'
+pub takes_fault : (config : Config) (code : ℕ) (t t' : Talk) (u u' : UnderWay) → IsAwaiting u.running.stage
+    → ((carried : List ℕ) → awaited_in u'.running carried ≡ for_nothing (fault_end code) carried)
+    → IsOver u'.running.stage
+    → t'.outbox.unsent ≡ [] → t'.joiner.count ≤ t.joiner.count → Takes config t u t' u'
 takes_fault config code t t' u u' awaiting e over none count = record {
-  settles = settled_by_fault config code t' u' e over none;
+  settles = settled_by_fault config code t' u' (e []) over none;
   many = λ h. omega (arith, h, count);
-  less = λ held least most. omega (arith, least, most, awaits_some u.running.stage awaiting, over_none u'.running.stage over);
+  less = λ held least most.
+      let some = awaits_some u.running.stage awaiting in
+      omega (arith, least, most, some, over_none u'.running.stage over);
 }
 
 -- ---- how a job goes on
 
-abbrev question_in : Awaits → Question
-question_in for_confirm = reads []
-question_in (for_answer question) = question
-question_in for_departure = reads []
-question_in (for_nothing end carried) = reads []
+pub conduct_same : (done done' : Job) (config config' : Config) (granted granted' : Option Grant) → done ≡ done'
+    → config ≡ config' → granted ≡ granted'
+    → (plan_of done config granted).conduct ≡ (plan_of done' config' granted').conduct
+conduct_same done done' config config' granted granted' a b c =
+    ap (λ x. (plan_of x config granted).conduct) a
+    ∙ (ap (λ (x : Config). (plan_of done' x granted).conduct) b ∙ ap (λ x. (plan_of done' config' x).conduct) c)
 
--- what is awaited tells what is asked
-pub awaits_question : (carried : List ℕ) (next : Next) (question : Question) → for_answer question ≡ awaits_by carried next → next ≡ sends (numbered question)
-awaits_question carried (sends connect_request) question e = absurd (cc)
-awaits_question carried (sends (numbered asked)) question e =
-    ap (λ q. sends (numbered q)) (sym (ap question_in e))
-awaits_question carried (sends disconnect_request) question e = absurd (cc)
-awaits_question carried (ends end) question e = absurd (cc)
+-- answers are awaited, or nothing
+abbrev pub IsSettled : Awaits → Type 0
+IsSettled for_confirm = ⊥
+IsSettled for_answers = Unit {0}
+IsSettled for_departure = ⊥
+IsSettled (for_nothing end carried) = Unit {0}
 
--- what an answer tells is what the message answers
-pub told_answer : (question : Question) (told : kept.Answer) (o : Option Answer) → TellsSome question told o → (x : Answer) × (o ≡ Some x) × Tells question told x
-told_answer question told None h = absurd h
-told_answer question told (Some x) h = (x, refl, h)
+settled_by : (b : Bool) (end : End) → IsSettled (cond b (for_nothing end []) for_answers)
+settled_by true end = tt
+settled_by false end = tt
 
--- one more answer, and what may be sent for it was put
-pub reached : (origin : Origin) (course : Course) (t t' : Talk) (u' : UnderWay) (x : Answer)
-    → u'.running.job ≡ origin.job → t'.size ≡ course.size → t.sequence ≡ course.sequence → unfinished_of t'.joiner ≡ course.unfinished
-    → Follows u'.running origin.config origin.granted (course.answers ++ x ∷ []) → u'.carried.octets ≡ []
-    → t'.sequence ≡ sequence_by t.sequence (next_of origin.config u'.running)
-    → t'.outbox.unsent ≡ octets_of origin.config course.size t'.sequence (next_of origin.config u'.running)
-    → Reaches origin course (with_answer origin course x) t' u'
-reached origin course t t' u' x job size sequence unfinished follows silent seq sent =
-    let r = u'.running in
-    let n = next_of origin.config r in
-    let d = dialogue origin.job origin.config origin.granted (course.answers ++ x ∷ []) in
-    let next : n ≡ d = follows.next ∙ ap (λ j. dialogue j origin.config origin.granted (course.answers ++ x ∷ [])) job in
-    let now : t'.sequence ≡ sequence_by course.sequence d =
-    seq ∙ (ap (λ s. sequence_by s n) sequence ∙ ap (sequence_by course.sequence) next) in
+pub asking_settled : (c : Conduct) (course : Course) → IsSettled (asking c course).awaits
+asking_settled c course =
+    let rows = (asked_on c.width c course).rows in
+    settled_by (open_count rows == 0) (c.ended (answers_of rows))
+
+pub not_opening : (found codes carried : List ℕ) (s : Stage) → IsSettled (awaited_by found codes carried s)
+    → IsOpening s → ⊥
+not_opening found codes carried stage.Opening a h = a
+not_opening found codes carried (stage.Asking a) b h = h
+not_opening found codes carried stage.Leaving a h = h
+not_opening found codes carried (stage.Over code leaves) a h = h
+
+pub not_leaving : (found codes carried : List ℕ) (s : Stage) → IsSettled (awaited_by found codes carried s)
+    → IsLeaving s → ⊥
+not_leaving found codes carried stage.Opening a h = h
+not_leaving found codes carried (stage.Asking a) b h = h
+not_leaving found codes carried stage.Leaving a h = a
+not_leaving found codes carried (stage.Over code leaves) a h = h
+
+pub follows_as : (r : Running) (config config' : Config) (granted granted' : Option Grant) (rows : _)
+    → config' ≡ config → granted' ≡ granted
+    → Follows r config granted rows → Follows r config' granted' rows
+follows_as r config config' granted granted' rows ec eg f =
+    subst (λ (x : Config). Follows r x granted' rows) (sym ec)
+    (subst (λ (x : Option Grant). Follows r config x rows) (sym eg) f)
+
+-- Where all questions that may go out were asked, what may be sent for them isn't put yet.
+reaches_asked : (origin : Origin) (before here : Course) (t : Talk) (u : UnderWay) (config : Config)
+    (granted : Option Grant) (c : Conduct) (last : ℕ)
+    → origin.config ≡ config → origin.granted ≡ granted
+    → Reached config granted before (asking c here) u.running last → u.running.job ≡ origin.job → t.size ≡ before.size
+    → t.size ≡ here.size
+    → t.sequence ≡ last → unfinished_of t.joiner ≡ here.unfinished → u.carried.octets ≡ [] → t.outbox.unsent ≡ []
+    → Reaches origin before (asking c here) t u
+reaches_asked origin before here t u config granted c last ec eg h done size size' sequence unfinished silent none =
+    let r = u.running in
+    let keeps = asks_on c.width c here in
+    let is_settled : IsSettled (awaited_in r []) = subst IsSettled h.awaits (asking_settled c here) in
     record {
       at = record {
-        job = job;
-        size = size;
-        sequence = now;
-        unfinished = λ h. unfinished;
-        awaits = ap (awaits_by []) (sym next) ∙ ap (λ o. awaits_by o n) (sym silent);
-        follows = λ h. follows;
-        silent = λ h. silent;
+        job = done;
+        size = size' ∙ sym keeps.size;
+        sequence = sequence ∙ h.sequence;
+        unfinished = λ k. unfinished ∙ sym keeps.unfinished;
+        awaits = h.awaits ∙ ap (awaited_in r) (sym silent);
+        opens = λ k. absurd (not_opening r.found.items r.codes [] r.stage is_settled k);
+        follows = λ k. follows_as r config origin.config granted origin.granted _ ec eg (h.follows k);
+        departs = λ k. absurd (not_leaving r.found.items r.codes [] r.stage is_settled k);
+        silent = λ k. silent;
       };
-      out = ap (λ o. course.out ++ o) (sym (sent ∙ (ap (λ s. octets_of origin.config course.size s n) now ∙ ap (octets_of origin.config course.size (sequence_by course.sequence d)) next)));
+      out =
+          h.out
+          ∙ (ap (λ (x : Config). before.out ++ unput_of x before.size r) (sym ec)
+          ∙ (ap (λ x. before.out ++ unput_of origin.config x r) (sym size)
+          ∙ ap (λ x. before.out ++ (x ++ unput_of origin.config t.size r)) (sym none)));
     }
 
--- the same with what the code was handed
-pub reached_with : (origin : Origin) (course : Course) (t t' : Talk) (u u' : UnderWay) (x : Answer) (config : Config) (granted : Option Grant)
-    → origin.config ≡ config → origin.granted ≡ granted
-    → u'.running.job ≡ u.running.job → u.running.job ≡ origin.job → t'.size ≡ course.size → t.sequence ≡ course.sequence → unfinished_of t'.joiner ≡ course.unfinished
-    → (Follows u.running config granted course.answers → Follows u'.running config granted (course.answers ++ x ∷ []))
-    → Follows u.running origin.config origin.granted course.answers → u'.carried.octets ≡ []
-    → t'.sequence ≡ sequence_by t.sequence (next_of config u'.running)
-    → t'.outbox.unsent ≡ octets_of config course.size t'.sequence (next_of config u'.running)
-    → Reaches origin course (with_answer origin course x) t' u'
-reached_with origin course t t' u u' x config granted ec eg kept job size sequence unfinished goes before silent seq sent =
-    let r = u.running in
-    let r' = u'.running in
-    let there : Follows r config granted course.answers =
-    subst (λ (k : Config). Follows r k granted course.answers) ec (subst (λ (g : Option Grant). Follows r origin.config g course.answers) eg before) in
-    let follows : Follows r' origin.config origin.granted (course.answers ++ x ∷ []) =
-    subst (λ (k : Config). Follows r' k origin.granted (course.answers ++ x ∷ [])) (sym ec) (subst (λ (g : Option Grant). Follows r' config g (course.answers ++ x ∷ [])) (sym eg) (goes there)) in
-    reached origin course t t' u' x (kept ∙ job) size sequence unfinished follows silent
-    (subst (λ (k : Config). t'.sequence ≡ sequence_by t.sequence (next_of k r')) (sym ec) seq)
-    (subst (λ (k : Config). t'.outbox.unsent ≡ octets_of k course.size t'.sequence (next_of k r')) (sym ec) sent)
-
-pub awaiting_goes_on : (s : Stage) → IsAwaiting s → IsOver s → ⊥
-awaiting_goes_on stage.Opening h over = over
-awaiting_goes_on (stage.Asking asked left from is_first) h over = over
-awaiting_goes_on stage.Leaving h over = h
-awaiting_goes_on (stage.Over code leaves) h over = h
-
-pub opening_awaits : (s : Stage) → IsOpening s → IsAwaiting s
-opening_awaits stage.Opening h = tt
-opening_awaits (stage.Asking asked left from is_first) h = absurd h
-opening_awaits stage.Leaving h = absurd h
-opening_awaits (stage.Over code leaves) h = absurd h
+pub reached : (origin : Origin) (before here : Course) (t : Talk) (u : UnderWay) (config : Config)
+    (granted : Option Grant) (c : Conduct) (last : ℕ)
+    → origin.config ≡ config → origin.granted ≡ granted → c ≡ conduct_of origin
+    → Reached config granted before (asking c here) u.running last → u.running.job ≡ origin.job → t.size ≡ before.size
+    → t.size ≡ here.size
+    → t.sequence ≡ last → unfinished_of t.joiner ≡ here.unfinished → u.carried.octets ≡ [] → t.outbox.unsent ≡ []
+    → Reaches origin before (asking (conduct_of origin) here) t u
+reached origin before here t u config granted c last ec eg same h done size size' sequence unfinished silent none =
+    subst (λ x. Reaches origin before (asking x here) t u) same
+    (reaches_asked origin before here t u config granted c last ec eg h done size size' sequence unfinished silent none)
 
 -- what was allowed before is all that counts
-pub reaches_from : (origin : Origin) (before before' course : Course) (t : Talk) (u : UnderWay) → before'.out ≡ before.out → Reaches origin before' course t u → Reaches origin before course t u
+pub reaches_from : (origin : Origin) (before before' course : Course) (t : Talk) (u : UnderWay)
+    → before'.out ≡ before.out → Reaches origin before' course t u → Reaches origin before course t u
 reaches_from origin before before' course t u same r = record {
   at = r.at;
-  out = r.out ∙ ap (λ o. o ++ t.outbox.unsent) same;
+  out = r.out ∙ ap (λ o. o ++ pending origin.config t u.running) same;
 }
+
+-- ---- a whole message
+
+long_enough : (n : ℕ) → 10 ≤ n → nat_lt n 10 ≡ false
+long_enough n h = grind (arith, nat_tests)
+
+by_length : (origin : Origin) (course : Course) (message whole : List ℕ) (o : Option (List Row)) (t : Talk)
+    (u : UnderWay) → message ≡ whole → 10 ≤ length message → filled course.rows message ≡ o
+    → Reaches origin course (by_rows (conduct_of origin) course message o) t u
+    → Reaches origin course (with_message (conduct_of origin) course whole) t u
+by_length origin course message whole o t u same long is h =
+    let by : Option (List Row) → Course = by_rows (conduct_of origin) course message in
+    let W : List ℕ → Type 0 = λ m. Reaches origin course (with_message (conduct_of origin) course m) t u in
+    let P : Option (List Row) → Type 0 = λ x. Reaches origin course (by x) t u in
+    let Q : Bool → Type 0 =
+    λ b. Reaches origin course (cond b (with_fault course short_message) (by (filled course.rows message))) t u in
+    subst W same (subst Q (sym (long_enough (length message) long)) (subst P (sym is) h))
+
+-- the job as the code was handed it
+pub follows_here : (origin : Origin) (course : Course) (t : Talk) (u : UnderWay) (config : Config)
+    (granted : Option Grant) → origin.config ≡ config → origin.granted ≡ granted
+    → IsAsking u.running.stage → IsAt origin course t u → Follows u.running config granted course.rows
+follows_here origin course t u config granted ec eg asks at =
+    follows_as u.running origin.config config origin.granted granted course.rows (sym ec) (sym eg) (at.follows asks)
+
+-- an answer, and what is asked then
+pub reached_answer : (origin : Origin) (course : Course) (t t' : Talk) (u u' : UnderWay) (config : Config)
+    (granted : Option Grant) (message whole : List ℕ) (rows : List Row) (last : ℕ)
+    → origin.config ≡ config → origin.granted ≡ granted → message ≡ whole → 10 ≤ length message
+    → IsAsking u.running.stage → IsAt origin course t u → filled course.rows message ≡ Some rows
+    → Reached config granted course (asking (conduct_in u.running config granted) (record course { rows = rows }))
+    u'.running last
+    → u'.running.job ≡ u.running.job → u'.carried.octets ≡ u.carried.octets → t'.size ≡ t.size → t'.sequence ≡ last
+    → t'.joiner ≡ t.joiner → t'.outbox.unsent ≡ []
+    → Reaches origin course (with_message (conduct_of origin) course whole) t' u'
+reached_answer origin course t t' u u' config granted message whole rows last ec eg same long asks at is h done carried
+    size sequence joiner none =
+    let going = awaiting_goes_on u.running.stage (asking_awaits u.running.stage asks) in
+    by_length origin course message whole (Some rows) t' u' same long is
+    (reached origin course (record course { rows = rows }) t' u' config granted
+    (conduct_in u.running config granted) last ec eg
+    (conduct_same u.running.job origin.job config origin.config granted origin.granted at.job (sym ec) (sym eg))
+    h (done ∙ at.job) (size ∙ at.size) (size ∙ at.size) sequence (ap unfinished_of joiner ∙ at.unfinished going)
+    (carried ∙ at.silent going) none)
+
+-- a message that answers nothing
+pub reached_nothing : (origin : Origin) (course : Course) (t : Talk) (u u' : UnderWay) (message whole : List ℕ)
+    → message ≡ whole → 10 ≤ length message → IsAt origin course t u → filled course.rows message ≡ None
+    → ((carried : List ℕ) → awaited_in u'.running carried ≡ for_nothing (fault_end invalid_answer) carried)
+    → IsOver u'.running.stage
+    → u'.running.job ≡ u.running.job → u'.carried.octets ≡ message → pending origin.config t u'.running ≡ []
+    → Reaches origin course (with_message (conduct_of origin) course whole) t u'
+reached_nothing origin course t u u' message whole same long at is e over done carried none =
+    by_length origin course message whole None t u' same long is (record {
+      at = record {
+        job = done ∙ at.job;
+        size = at.size;
+        sequence = at.sequence;
+        unfinished = λ h. absurd (h over);
+        awaits = ap (for_nothing (fault_end invalid_answer)) (sym carried) ∙ sym (e u'.carried.octets);
+        opens = λ h. absurd (over_not_opening u'.running.stage over h);
+        follows = λ h. absurd (over_not_asking u'.running.stage over h);
+        departs = λ h. absurd (over_not_leaving u'.running.stage over h);
+        silent = λ h. absurd (h over);
+      };
+      out = sym (append-nil course.out) ∙ ap (λ x. course.out ++ x) (sym none);
+    })
+
+-- ---- the confirm
+
+-- the negotiation is to be asked
+opened : (origin : Origin) (course : Course) (t : Talk) (u : UnderWay) (r : Running) (config : Config)
+    → origin.config ≡ config → IsOpening u.running.stage → IsAt origin course t u
+    → ((plan_of u.running.job config origin.granted).first ≡ connect_request → Follows r config origin.granted [])
+    → Follows r config origin.granted course.rows
+opened origin course t u r config ec opening at follows =
+    let h = at.opens opening in
+    let first : (plan_of u.running.job config origin.granted).first ≡ connect_request =
+    ap (λ j. (plan_of j config origin.granted).first) at.job
+    ∙ (ap (λ (k : Config). (plan_of origin.job k origin.granted).first) (sym ec) ∙ h.0) in
+    subst (Follows r config origin.granted) (sym h.1) (follows first)
+
+-- the link has the size that the confirm told, and the negotiation is asked
+pub reached_confirm : (origin : Origin) (course after : Course) (size : ℕ) (t t' : Talk) (u u' : UnderWay)
+    (r : Running) (config : Config) (last : ℕ)
+    → after ≡ asking (conduct_of origin) (record course { size = size }) → origin.config ≡ config
+    → IsOpening u.running.stage → IsAt origin course t u
+    → ((plan_of u.running.job config origin.granted).first ≡ connect_request → Follows r config origin.granted [])
+    → ((before : Course) → Follows r config origin.granted before.rows → before.sequence ≡ t.sequence
+    → Reached config origin.granted before (asking (conduct_in r config origin.granted) before) u'.running last)
+    → r.job ≡ u.running.job → u'.running.job ≡ r.job → u'.carried.octets ≡ u.carried.octets → t'.size ≡ size
+    → t'.sequence ≡ last → t'.joiner ≡ t.joiner → t'.outbox.unsent ≡ []
+    → Reaches origin course after t' u'
+reached_confirm origin course after size t t' u u' r config last is ec opening at follows asks done done' carried same
+    sequence joiner none =
+    let here : Course = record course { size = size } in
+    let going = awaiting_goes_on u.running.stage (opening_awaits u.running.stage opening) in
+    subst (λ x. Reaches origin course x t' u') (sym is)
+    (reaches_from origin course here (asking (conduct_of origin) here) t' u' refl
+    (reached origin here here t' u' config origin.granted (conduct_in r config origin.granted) last ec refl
+    (conduct_same r.job origin.job config origin.config origin.granted origin.granted (done ∙ at.job) (sym ec) refl)
+    (asks here (opened origin course t u r config ec opening at follows) (sym at.sequence))
+    (done' ∙ (done ∙ at.job)) same same sequence (ap unfinished_of joiner ∙ at.unfinished going)
+    (carried ∙ at.silent going) none))

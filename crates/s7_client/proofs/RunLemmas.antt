@@ -16,16 +16,19 @@ use Rattle.s7_client.specs.declared.under_way.UnderWay.{UnderWay}
 use Rattle.s7_client.specs.declared.client.Client.{Client}
 use Rattle.s7_client.specs.Dialogue.{End, fault_end}
 use Rattle.s7_client.specs.Form.{HasForm, IsWhole}
-use Rattle.s7_client.specs.Course.{Origin, course}
+use Rattle.s7_client.specs.Running.{IsGrant}
+use Rattle.s7_client.specs.Course.{Origin, conduct_of}
 use Rattle.s7_client.specs.Standing.{HasCause}
 use Rattle.s7_client.specs.Polling.{IsDoneBy, StandsFor, IsStarted, IsPoll, IsDone, WaitsOnce, job_of, waited_of, config_of, grant_of, closed_of, unread_of, grant_after, closed_after, origin_at}
 use Rattle.s7_client.specs.Runs.{IsTired, between_of, JobRun, StillWaits, IsOverNow, Completes}
 use Rattle.s7_client.proofs.FormLemmas.{octets_have_form, octets_are_whole, departure_has_form, fault_has_form}
-use Rattle.s7_client.proofs.LinkLemmas.{moves_received, moves_none, moves_both, cause_earlier}
+use Rattle.s7_client.proofs.LinkLemmas.{moves_received, moves_none, moves_both}
+use Rattle.s7_client.proofs.RoundLemmas.{cause_earlier}
 
 -- ---- the job that is outstanding
 
-job_waits : (o : Option UnderWay) (n : ℕ) → option_map (λ (u : UnderWay). u.waited) o ≡ Some n → IsSome (option_map (λ (u : UnderWay). u.running.job) o)
+job_waits : (o : Option UnderWay) (n : ℕ) → option_map (λ (u : UnderWay). u.waited) o ≡ Some n
+    → IsSome (option_map (λ (u : UnderWay). u.running.job) o)
 job_waits None n e = absurd (cc)
 job_waits (Some u) n e = refl
 
@@ -36,15 +39,18 @@ waits_more (Some m) (Some k) n polls e h =
     let same : m ≡ n = ap (λ x. unwrap_or x 0) e in
     (ap Some (h.0 ∙ ap (λ x. x + 1) same), omega (arith, h.0, h.1, same))
 
-pub fewer_polls : (old new : Client) (n : ℕ) → waited_of old ≡ Some n → new.config ≡ old.config → WaitsOnce (waited_of old) (waited_of new) (config_of old).polls
+pub fewer_polls : (old new : Client) (n : ℕ) → waited_of old ≡ Some n → new.config ≡ old.config
+    → WaitsOnce (waited_of old) (waited_of new) (config_of old).polls
     → (config_of new).polls - unwrap_or (waited_of new) 0 < (config_of old).polls - unwrap_or (waited_of old) 0
 fewer_polls old new n e config h =
     let k = waits_more (waited_of old) (waited_of new) n (config_of old).polls e h in
     omega (arith, ap (λ (x : Config). x.polls) config, ap (λ x. unwrap_or x 0) k.0, k.1, ap (λ x. unwrap_or x 0) e)
 
-stands_joined : (c : Client) (origin : Origin) (b w x y x' y' : List ℕ) → StandsFor c origin ((b ++ x) ++ x') ((w ++ y) ++ y') → StandsFor c origin (b ++ (x ++ x')) (w ++ (y ++ y'))
+stands_joined : (c : Client) (origin : Origin) (b w x y x' y' : List ℕ)
+    → StandsFor c origin ((b ++ x) ++ x') ((w ++ y) ++ y') → StandsFor c origin (b ++ (x ++ x')) (w ++ (y ++ y'))
 stands_joined c origin b w x y x' y' s =
-    subst (λ z. StandsFor c origin z (w ++ (y ++ y'))) (append_assoc b x x') (subst (λ z. StandsFor c origin ((b ++ x) ++ x') z) (append_assoc w y y') s)
+    subst (λ z. StandsFor c origin z (w ++ (y ++ y'))) (append_assoc b x x')
+    (subst (λ z. StandsFor c origin ((b ++ x) ++ x') z) (append_assoc w y y') s)
 
 pub awaits_none : (c : Client) (link : Shown) → waited_of c ≡ Some 0 → StillWaits c link c link
 unfolding moves_none moves_received
@@ -57,13 +63,15 @@ awaits_none c link e = record {
   polls = 0;
   waited = e;
   rose = omega arith;
-  stood = λ origin b w s. subst (λ x. StandsFor c origin x (w ++ [])) (sym (append-nil b)) (subst (λ x. StandsFor c origin b x) (sym (append-nil w)) s);
+  stood = λ origin b w s. subst (λ x. StandsFor c origin x (w ++ [])) (sym (append-nil b))
+      (subst (λ x. StandsFor c origin b x) (sym (append-nil w)) s);
 }
 
 rises : (n a b c : ℕ) → RoseBy n a b → Rose b c → RoseBy (n + 1) a c
 rises n a b c h k = omega (arith, h, k)
 
-pub awaits_on : (old c c2 : Client) (k k1 k2 : Shown) → StillWaits old k c k1 → IsPoll c k1 c2 k2 polled.Pending → StillWaits old k c2 k2
+pub awaits_on : (old c c2 : Client) (k k1 k2 : Shown) → StillWaits old k c k1 → IsPoll c k1 c2 k2 polled.Pending
+    → StillWaits old k c2 k2
 unfolding moves_both
 awaits_on old c c2 k k1 k2 m p =
     let pends = p.comes.0 in
@@ -81,22 +89,33 @@ awaits_on old c c2 k k1 k2 m p =
           (p.comes.1 origin (b ++ m.moves.used) (w ++ m.moves.written) (m.stood origin b w s)).stands;
     }
 
-over_joined : (origin : Origin) (k k2 : Shown) (old new : Client) (told : JobResult) (b w x y x' y' : List ℕ) → IsOverNow origin k k2 old new told ((b ++ x) ++ x') ((w ++ y) ++ y')
+over_joined : (origin : Origin) (k k2 : Shown) (old new : Client) (told : JobResult) (b w x y x' y' : List ℕ)
+    → IsOverNow origin k k2 old new told ((b ++ x) ++ x') ((w ++ y) ++ y')
     → IsOverNow origin k k2 old new told (b ++ (x ++ x')) (w ++ (y ++ y'))
 over_joined origin k k2 old new told b w x y x' y' s =
-    subst (λ z. IsOverNow origin k k2 old new told z (w ++ (y ++ y'))) (append_assoc b x x') (subst (λ z. IsOverNow origin k k2 old new told ((b ++ x) ++ x') z) (append_assoc w y y') s)
+    subst (λ z. IsOverNow origin k k2 old new told z (w ++ (y ++ y'))) (append_assoc b x x')
+    (subst (λ z. IsOverNow origin k k2 old new told ((b ++ x) ++ x') z) (append_assoc w y y') s)
 
-cause_now : (origin : Origin) (k k1 k2 : Shown) (c c2 : Client) (end : End) (carried b w : List ℕ) (n : ℕ) → k.faults ≤ k1.faults → RoseBy n k.waits k1.waits → waited_of c ≡ Some n → 1 ≤ origin.config.polls
+cause_now : (origin : Origin) (k k1 k2 : Shown) (c c2 : Client) (end : End) (carried b w : List ℕ) (n : ℕ)
+    → k.faults ≤ k1.faults → RoseBy n k.waits k1.waits → waited_of c ≡ Some n → 1 ≤ origin.config.polls
     → IsDoneBy origin k1 k2 (unread_of c2) end carried b w (waited_of c)
     → HasCause origin k k2 (unread_of c2) end carried b w ⊎ IsTired origin k k2 (unread_of c2) end carried b w
-cause_now origin k k1 k2 c c2 end carried b w n faults rose waited least (inl h) = inl (cause_earlier origin k k1 k2 (unread_of c2) end carried b w faults h)
+cause_now origin k k1 k2 c c2 end carried b w n faults rose waited least (inl h) =
+    inl (cause_earlier origin k k1 k2 (unread_of c2) end carried b w faults h)
 cause_now origin k k1 k2 c c2 end carried b w n faults rose waited least (inr h) =
     let last : n ≡ origin.config.polls - 1 = ap (λ x. unwrap_or x 0) (sym waited ∙ h.last) in
-    inr (record { rose = omega (arith, rose, h.rose, last, least); met = h.met; under_way = h.under_way; fault = h.fault })
+    inr (record {
+      rose = omega (arith, rose, h.rose, last, least);
+      met = h.met;
+      under_way = h.under_way;
+      fault = h.fault;
+    })
 
 -- the last poll, after polls that raised the waits so often
-done_now : (origin : Origin) (k k1 k2 : Shown) (old c c2 : Client) (told : JobResult) (b w : List ℕ) (n : ℕ) → k.faults ≤ k1.faults → RoseBy n k.waits k1.waits → waited_of c ≡ Some n
-    → grant_of c ≡ grant_of old → closed_of c ≡ closed_of old → 1 ≤ origin.config.polls → IsDone origin k1 k2 c c2 told b w → IsOverNow origin k k2 old c2 told b w
+done_now : (origin : Origin) (k k1 k2 : Shown) (old c c2 : Client) (told : JobResult) (b w : List ℕ) (n : ℕ)
+    → k.faults ≤ k1.faults → RoseBy n k.waits k1.waits → waited_of c ≡ Some n
+    → grant_of c ≡ grant_of old → closed_of c ≡ closed_of old → 1 ≤ origin.config.polls
+    → IsDone origin k1 k2 c c2 told b w → IsOverNow origin k k2 old c2 told b w
 done_now origin k k1 k2 old c c2 told b w n faults rose waited granted closed least h = record {
   end = h.end;
   carried = h.carried;
@@ -108,7 +127,8 @@ done_now origin k k1 k2 old c c2 told b w n faults rose waited granted closed le
   sequence = h.sequence;
 }
 
-pub completes_now : (old c c2 : Client) (k k1 k2 : Shown) (told : JobResult) → StillWaits old k c k1 → IsPoll c k1 c2 k2 (polled.Done told) → Completes old k c2 k2 told
+pub completes_now : (old c c2 : Client) (k k1 k2 : Shown) (told : JobResult) → StillWaits old k c k1
+    → IsPoll c k1 c2 k2 (polled.Done told) → Completes old k c2 k2 told
 unfolding moves_both
 completes_now old c c2 k k1 k2 told m p = record {
   moves = moves_both old.line c.line c2.line k k1 k2 m.moves p.moves;
@@ -132,35 +152,53 @@ fault_whole (job.ReadMany items) code bad = tt
 fault_whole (job.WriteMany items octets) code bad = tt
 fault_whole job.Disconnect code bad = tt
 
-fault_formed : (done : Job) (end : End) (code : ℕ) → code ≢ 0 → end ≡ fault_end code → HasForm done end × IsWhole done end
-fault_formed done end code bad is = subst (λ (e : End). HasForm done e × IsWhole done e) (sym is) (fault_has_form done code bad, fault_whole done code bad)
+fault_formed : (done : Job) (end : End) (code : ℕ) → code ≢ 0 → end ≡ fault_end code → HasForm done end
+    × IsWhole done end
+fault_formed done end code bad is = subst (λ (e : End). HasForm done e × IsWhole done e) (sym is)
+    (fault_has_form done code bad, fault_whole done code bad)
 
-departure_formed : (done : Job) (end : End) → (done ≡ job.Disconnect) × HasForm done end → HasForm done end × IsWhole done end
+departure_formed : (done : Job) (end : End) → (done ≡ job.Disconnect) × HasForm done end → HasForm done end
+    × IsWhole done end
 departure_formed done end h = (h.1, subst (λ j. IsWhole j end) (sym h.0) tt)
 
-cause_formed : (origin : Origin) (k k' : Shown) (kept : List ℕ) (end : End) (carried b w : List ℕ) → ForSome origin.granted (λ (grant : Grant). 64 ≤ grant.pdu)
+departed_as : (done : Job) (end ended : End) → end ≡ ended → (done ≡ job.Disconnect) × HasForm done ended
+    → (done ≡ job.Disconnect) × HasForm done end
+departed_as done end ended is h = (h.0, subst (λ (e : End). HasForm done e) (sym is) h.1)
+
+cause_formed : (origin : Origin) (k k' : Shown) (kept : List ℕ) (end : End) (carried b w : List ℕ)
+    → ForSome origin.granted (λ (grant : Grant). 64 ≤ grant.pdu)
     → HasCause origin k k' kept end carried b w → HasForm origin.job end × IsWhole origin.job end
-cause_formed origin k k' kept end carried b w enough (inl h) = (octets_have_form origin b end carried h.over, octets_are_whole origin b end carried enough h.over)
-cause_formed origin k k' kept end carried b w enough (inr (inl h)) = departure_formed origin.job end (departure_has_form origin b (course origin b).answers end h.awaited h.next)
-cause_formed origin k k' kept end carried b w enough (inr (inr (inl h))) = fault_formed origin.job end link_ended (λ e. absurd (omega (arith, e))) h.fault.0
-cause_formed origin k k' kept end carried b w enough (inr (inr (inr (inl h)))) = fault_formed origin.job end receive_failed (λ e. absurd (omega (arith, e))) h.fault.0
-cause_formed origin k k' kept end carried b w enough (inr (inr (inr (inr h)))) = fault_formed origin.job end send_failed (λ e. absurd (omega (arith, e))) h.fault.0
+cause_formed origin k k' kept end carried b w enough (inl h) =
+    (octets_have_form origin b end carried h.over, octets_are_whole origin b end carried enough h.over)
+cause_formed origin k k' kept end carried b w enough (inr (inl h)) = departure_formed origin.job end
+    (departed_as origin.job end ((conduct_of origin).ended []) h.is (departure_has_form origin b h.awaited))
+cause_formed origin k k' kept end carried b w enough (inr (inr (inl h))) = fault_formed origin.job end link_ended
+    (λ e. absurd (omega (arith, e))) h.fault.0
+cause_formed origin k k' kept end carried b w enough (inr (inr (inr (inl h)))) = fault_formed origin.job end
+    receive_failed (λ e. absurd (omega (arith, e))) h.fault.0
+cause_formed origin k k' kept end carried b w enough (inr (inr (inr (inr h)))) = fault_formed origin.job end
+    send_failed (λ e. absurd (omega (arith, e))) h.fault.0
 
-end_formed : (origin : Origin) (k k' : Shown) (kept : List ℕ) (end : End) (carried b w : List ℕ) → ForSome origin.granted (λ (grant : Grant). 64 ≤ grant.pdu)
-    → HasCause origin k k' kept end carried b w ⊎ IsTired origin k k' kept end carried b w → HasForm origin.job end × IsWhole origin.job end
+end_formed : (origin : Origin) (k k' : Shown) (kept : List ℕ) (end : End) (carried b w : List ℕ)
+    → ForSome origin.granted (λ (grant : Grant). 64 ≤ grant.pdu)
+    → HasCause origin k k' kept end carried b w ⊎ IsTired origin k k' kept end carried b w → HasForm origin.job end
+    × IsWhole origin.job end
 end_formed origin k k' kept end carried b w enough (inl h) = cause_formed origin k k' kept end carried b w enough h
-end_formed origin k k' kept end carried b w enough (inr h) = fault_formed origin.job end timed_out (λ e. absurd (omega (arith, e))) h.fault.0
+end_formed origin k k' kept end carried b w enough (inr h) = fault_formed origin.job end timed_out
+    (λ e. absurd (omega (arith, e))) h.fault.0
 
-granted_enough : (o : Option Grant) → ForSome o (λ (g : Grant). (64 ≤ g.pdu) × (g.pdu ≤ 960)) → ForSome o (λ (g : Grant). 64 ≤ g.pdu)
-granted_enough o h g is = (h g is).0
+granted_enough : (o : Option Grant) → ForSome o IsGrant → ForSome o (λ (g : Grant). 64 ≤ g.pdu)
+granted_enough o h g is = (h g is).least
 
 -- ---- from the start
 
-pub runs_whole : (old mid new : Client) (link link' : Shown) (asked : Job) (told : JobResult) → IsStarted old mid asked → Completes mid link new link' told
+pub runs_whole : (old mid new : Client) (link link' : Shown) (asked : Job) (told : JobResult) → IsStarted old mid asked
+    → Completes mid link new link' told
     → JobRun (config_of old) (between_of old) asked link link' told (between_of new)
 runs_whole old mid new link link' asked told s k =
     let h = k.over (origin_at old asked) [] [] s.stands in
-    let formed = end_formed (origin_at old asked) link link' (unread_of new) h.end h.carried k.moves.used k.moves.written (granted_enough old.granted old.grants) h.cause in
+    let formed = end_formed (origin_at old asked) link link' (unread_of new) h.end h.carried k.moves.used
+    k.moves.written (granted_enough old.granted old.grants) h.cause in
     record {
       moves = record {
         received = k.moves.received;

@@ -1,7 +1,6 @@
 -- Laws of jobs that are started.
 use Rattle.std.proofs.Common.{◌≡◌, ℕ, ◌<◌, Bool, false, List, [], ◌++◌, length, length-append, refl, ap, sym, ◌∙◌, subst, arith}
 use Rattle.std.specs.Prelude.{Option, None, Some, IsSome, if◌then◌else◌, option_map}
-use Rattle.s7_tpkt.specs.Packets.{state_of}
 use Rattle.s7_cotp.specs.Gathered.{Gathered, is_fault}
 use Rattle.s7_cotp.specs.Messages.{open_octets}
 use Rattle.s7_client.specs.declared.config.Config.{Config}
@@ -12,71 +11,69 @@ use Rattle.s7_client.specs.declared.grant.Leaves.TheVariants.{Disconnected}
 use Rattle.s7_client.specs.declared.running.Stage.{Stage}
 use Rattle.s7_client.specs.declared.running.Stage.TheVariants as stage
 use Rattle.s7_client.specs.declared.running.Running.{Running}
+use Rattle.s7_client.specs.declared.talk.Talk.{Talk}
 use Rattle.s7_client.specs.declared.line.Line.{Line}
 use Rattle.s7_client.specs.declared.under_way.UnderWay.{UnderWay}
 use Rattle.s7_client.specs.declared.client.Client.{Client}
 use Rattle.s7_client.specs.Codes.{not_connected}
-use Rattle.s7_client.specs.Dialogue.{End, ends, with_number, dialogue}
-use Rattle.s7_client.specs.Running.{next_of, next_by, Follows, IsOver}
-use Rattle.s7_client.specs.Course.{Origin, begun, limits, begins_anew, size_at, sequence_at, sequence_by, octets_of, awaits_by, nothing_unfinished}
-use Rattle.s7_client.specs.At.{IsAt, IsClear, LeavesOpen, LeavesLink, limit_at, unfinished_of}
-use Rattle.s7_client.specs.Standing.{Fits, unread, unsent}
+use Rattle.s7_client.specs.Dialogue.{End, First, nothing, connect_request, disconnect_request, number_end, over, plan_of}
+use Rattle.s7_client.specs.Running.{awaited_in, awaited_by, Begins, IsOver}
+use Rattle.s7_client.specs.Course.{Origin, for_nothing, begun, by_first, blank, conduct_of, limits, begins_anew, size_at, sequence_at, nothing_unfinished}
+use Rattle.s7_client.specs.At.{IsAt, IsClear, LeavesOpen, StartsAt, BeginsTalk, limit_at, unfinished_of}
+use Rattle.s7_client.specs.Standing.{Fits, unread}
 use Rattle.s7_client.specs.Polling.{IsStarted, IsNew, IsBlank, BeginsLine, origin_at}
-use Rattle.s7_client.proofs.PacketLemmas.{leaves_of, over_not_opening}
-use Rattle.s7_client.proofs.StepLemmas.{limit_here, left_limit, left_over}
-use Rattle.s7_client.proofs.CourseLemmas.{course_nothing, holds_nothing, no_packets}
-use Rattle.s7_client.proofs.LinkLemmas.{ends_at}
+use Rattle.s7_client.proofs.FlightLemmas.{asks_on}
+use Rattle.s7_client.proofs.BeginLemmas.{begun_by, silent_asked}
+use Rattle.s7_client.proofs.PacketLemmas.{left_by, over_not_opening}
+use Rattle.s7_client.proofs.StepLemmas.{limit_here}
+use Rattle.s7_client.proofs.CourseLemmas.{course_nothing, holds_nothing}
+
+-- ---- the beginning of a course
+
+first_unfinished : (origin : Origin) (first : First)
+    → (by_first origin.config (conduct_of origin) (blank origin) first).unfinished ≡ nothing_unfinished
+first_unfinished origin nothing = (asks_on (conduct_of origin).width (conduct_of origin) (blank origin)).unfinished
+first_unfinished origin connect_request = refl
+first_unfinished origin disconnect_request = refl
+
+begun_unfinished : (origin : Origin) → (begun origin).unfinished ≡ nothing_unfinished
+unfolding begun
+begun_unfinished origin = first_unfinished origin (plan_of origin.job origin.config origin.granted).first
 
 -- the client stands at the beginning of the course
-begun_at : (origin : Origin) (l : Line) (u : UnderWay) → u.running.job ≡ origin.job → IsBlank u → Follows u.running origin.config origin.granted []
-    → l.talk.size ≡ size_at (begins_anew origin.granted origin.job) origin.size
-    → l.talk.sequence ≡ sequence_by (sequence_at (begins_anew origin.granted origin.job) origin.sequence) (next_of origin.config u.running)
-    → ((IsOver u.running.stage → ⊥) → unfinished_of l.talk.joiner ≡ nothing_unfinished) → IsAt origin (begun origin) l.talk u
-unfolding begun
-begun_at origin l u done blank_ follows size sequence unfinished =
-    let n = dialogue origin.job origin.config origin.granted [] in
-    let next : next_of origin.config u.running ≡ n = follows.next ∙ ap (λ j. dialogue j origin.config origin.granted []) done in
-    record {
-      job = done;
-      size = size;
-      sequence = sequence ∙ ap (sequence_by (sequence_at (begins_anew origin.granted origin.job) origin.sequence)) next;
-      unfinished = unfinished;
-      awaits = ap (awaits_by []) (sym next) ∙ ap (λ o. awaits_by o (next_of origin.config u.running)) (sym blank_.carried);
-      follows = λ h. follows;
-      silent = λ h. blank_.carried;
-    }
-
-begun_owed : (origin : Origin) (l : Line) (u : UnderWay) → u.running.job ≡ origin.job → Follows u.running origin.config origin.granted []
-    → l.talk.size ≡ size_at (begins_anew origin.granted origin.job) origin.size
-    → l.talk.sequence ≡ sequence_by (sequence_at (begins_anew origin.granted origin.job) origin.sequence) (next_of origin.config u.running)
-    → unsent l ≡ octets_of origin.config l.talk.size l.talk.sequence (next_of origin.config u.running) → (begun origin).out ≡ unsent l
-unfolding begun
-begun_owed origin l u done follows size sequence sent =
-    let n = dialogue origin.job origin.config origin.granted [] in
-    let next : next_of origin.config u.running ≡ n = follows.next ∙ ap (λ j. dialogue j origin.config origin.granted []) done in
-    let first = sequence_at (begins_anew origin.granted origin.job) origin.sequence in
-    sym (sent
-    ∙ (ap (λ k. octets_of origin.config k l.talk.sequence (next_of origin.config u.running)) size
-    ∙ (ap (λ k. octets_of origin.config (size_at (begins_anew origin.granted origin.job) origin.size) k (next_of origin.config u.running)) sequence
-    ∙ ap (λ k. octets_of origin.config (size_at (begins_anew origin.granted origin.job) origin.size) (sequence_by first k) k) next)))
+begun_at : (origin : Origin) (l : Line) (u : UnderWay) → u.running.job ≡ origin.job → IsBlank u
+    → StartsAt origin (begun origin) l.talk u.running
+    → ((IsOver u.running.stage → ⊥) → unfinished_of l.talk.joiner ≡ nothing_unfinished)
+    → IsAt origin (begun origin) l.talk u
+begun_at origin l u done blank_ starts unfinished = record {
+  job = done;
+  size = starts.size;
+  sequence = starts.sequence;
+  unfinished = λ h. unfinished h ∙ sym (begun_unfinished origin);
+  awaits = starts.awaits ∙ ap (awaited_in u.running) (sym blank_.carried);
+  opens = starts.opens;
+  follows = starts.follows;
+  departs = starts.departs;
+  silent = λ h. blank_.carried;
+}
 
 none_in_nothing : (front rest : List ℕ) → [] ≡ front ++ rest → 0 < length rest → ⊥
 none_in_nothing front rest e some = omega (arith, ap length e, length-append front rest, some)
 
 -- a job was started
-pub started : (old new : Client) (u : UnderWay) → new.job ≡ Some u → IsBlank u → Follows u.running old.config old.granted [] → new.config ≡ old.config → new.granted ≡ old.granted
-    → unread new.line ≡ (if begins_anew old.granted u.running.job then [] else unread old.line)
-    → new.is_closed ≡ (if begins_anew old.granted u.running.job then false else old.is_closed)
-    → new.line.talk.size ≡ size_at (begins_anew old.granted u.running.job) old.line.talk.size
-    → new.line.talk.sequence ≡ sequence_by (sequence_at (begins_anew old.granted u.running.job) old.line.talk.sequence) (next_of old.config u.running)
+started : (old new : Client) (done : Job) (u : UnderWay) → new.job ≡ Some u → u.running.job ≡ done → IsBlank u
+    → StartsAt (origin_at old done) (begun (origin_at old done)) new.line.talk u.running
+    → new.config ≡ old.config → new.granted ≡ old.granted
+    → unread new.line ≡ (if begins_anew old.granted done then [] else unread old.line)
+    → new.is_closed ≡ (if begins_anew old.granted done then false else old.is_closed)
     → ((IsOver u.running.stage → ⊥) → unfinished_of new.line.talk.joiner ≡ nothing_unfinished)
-    → unsent new.line ≡ octets_of old.config new.line.talk.size new.line.talk.sequence (next_of old.config u.running)
-    → ((IsOver u.running.stage → ⊥) → (new.line.cutter.held ≡ []) × (new.line.cutter.limit ≡ limit_at u.running.stage new.line.talk.size))
-    → IsStarted old new u.running.job
-started old new u is blank_ follows config granted inbox closed size sequence unfinished sent cutter =
-    let origin = origin_at old u.running.job in
-    let at = begun_at origin new.line u refl blank_ follows size sequence unfinished in
-    let nothing = course_nothing origin in
+    → ((IsOver u.running.stage → ⊥) → (new.line.cutter.held ≡ [])
+    × (new.line.cutter.limit ≡ limit_at u.running.stage new.line.talk.size))
+    → IsStarted old new done
+started old new done u is same blank_ starts config granted inbox closed unfinished cutter =
+    let origin = origin_at old done in
+    let at = begun_at origin new.line u same blank_ starts unfinished in
+    let nothing_used = course_nothing origin in
     record {
       stands = record {
         under_way = u;
@@ -84,10 +81,12 @@ started old new u is blank_ follows config granted inbox closed size sequence un
         config = sym config;
         granted = sym granted;
         stands = record {
-          at = subst (λ c. IsAt origin c new.line.talk u) (sym nothing) at;
-          owed = ap (λ c. c.out) nothing ∙ begun_owed origin new.line u refl follows size sequence sent;
-          rest = λ h. holds_nothing (limits origin) new.line.cutter (cutter h).0 ((cutter h).1 ∙ sym (limit_here origin (begun origin) new.line.talk u at));
-          sent_first = λ bodies more body e. absurd (no_packets (limits origin) bodies more body e);
+          at = subst (λ c. IsAt origin c new.line.talk u) (sym nothing_used) at;
+          owed = ap (λ c. c.out) nothing_used ∙ starts.out;
+          rest = λ h. holds_nothing (limits origin) new.line.cutter (cutter h).0
+              ((cutter h).1 ∙ sym (limit_here (begun origin) u.running [] new.line.talk.size
+              starts.awaits starts.size));
+          sent_first = λ front rest e some. absurd (none_in_nothing front rest e some);
           all_awaited = λ front rest e some. absurd (none_in_nothing front rest e some);
         };
       };
@@ -98,31 +97,6 @@ started old new u is blank_ follows config granted inbox closed size sequence un
       closed = closed;
     }
 
--- what a job that is over at once has to send: nothing
-over_sends_none : (config : Config) (r : Running) (size sequence : ℕ) → IsOver r.stage → octets_of config size sequence (next_of config r) ≡ []
-over_sends_none config r size sequence over = ap (octets_of config size sequence) (ends_at config r.job r.found.octets r.codes r.stage over)
-
--- a line that begins a job fits it
-pub fits_begun : (l l' : Line) (u : UnderWay) (config : Config) → IsClear l.talk.joiner → BeginsLine l l' u.running config → u.carried.room ≡ 8192 → Fits l' u
-fits_begun l l' u config clear b room =
-    let clear' : IsClear l'.talk.joiner = subst IsClear (sym b.joiner) clear in
-    record {
-      going = λ h. clear'.going;
-      more = λ h. ap (state_of l'.cutter.limit) b.held;
-      limit = λ h. b.most;
-      opening = λ h. clear';
-      between = λ h. record {
-        held = b.held;
-        limit = b.limit ∙ left_limit u.running.stage l'.talk.size h;
-        clear = clear';
-        sent = b.sent ∙ over_sends_none config u.running l.talk.size l'.talk.sequence (left_over u.running.stage h);
-      };
-      many = λ h. omega (arith, clear'.count);
-      few = b.few;
-      quiet = λ h. b.sent ∙ over_sends_none config u.running l.talk.size l'.talk.sequence h;
-      carried = room;
-    }
-
 pub clear_new : (l : Line) → IsNew l → IsClear l.talk.joiner
 clear_new l h = record {
   octets = ap open_octets h.joiner;
@@ -130,85 +104,113 @@ clear_new l h = record {
   going = ap (λ (j : Gathered). is_fault j.state) h.joiner;
 }
 
-pub none_unfinished : (j : Gathered) → IsClear j → unfinished_of j ≡ nothing_unfinished
-none_unfinished j h = ap (λ o. record { octets = o; count = j.count }) h.octets ∙ ap (λ n. record { octets = []; count = n }) h.count
-
--- ---- a client that isn't connected
-
-turned_by : (config : Config) (done : Job) (granted : Option Grant) → granted ≡ None → begins_anew granted done ≡ false → dialogue done config granted [] ≡ with_number not_connected Disconnected
-turned_by config job.Connect None none anew = absurd (cc)
-turned_by config (job.ReadArea item) None none anew = refl
-turned_by config (job.WriteArea item octets) None none anew = refl
-turned_by config (job.ReadMany items) None none anew = refl
-turned_by config (job.WriteMany items octets) None none anew = refl
-turned_by config job.Disconnect None none anew = refl
-turned_by config done (Some g) none anew = absurd (cc)
-
-over_by : (config : Config) (done : Job) (found codes : List ℕ) (s : Stage) (end : End) → next_by config done found codes s ≡ ends end → IsOver s
-over_by config done found codes stage.Opening end e = absurd (cc)
-over_by config done found codes (stage.Asking asked left from is_first) end e = absurd (cc)
-over_by config done found codes stage.Leaving end e = absurd (cc)
-over_by config done found codes (stage.Over code leaves) end e = tt
-
-shut_by : (config : Config) (done : Job) (found codes : List ℕ) (s : Stage) → next_by config done found codes s ≡ with_number not_connected Disconnected → LeavesOpen s → ⊥
-shut_by config done found codes stage.Opening e h = h
-shut_by config done found codes (stage.Asking asked left from is_first) e h = h
-shut_by config done found codes stage.Leaving e h = h
-shut_by config done found codes (stage.Over code leaves) e h = subst LeavesLink (ap leaves_of e) h
-
-pub turned_over : (r : Running) (config : Config) (granted : Option Grant) → Follows r config granted [] → granted ≡ None → begins_anew granted r.job ≡ false → IsOver r.stage
-turned_over r config granted follows none anew = over_by config r.job r.found.octets r.codes r.stage _ (follows.next ∙ turned_by config r.job granted none anew)
-
-pub turned_shut : (r : Running) (config : Config) (granted : Option Grant) → Follows r config granted [] → granted ≡ None → begins_anew granted r.job ≡ false → LeavesOpen r.stage → ⊥
-turned_shut r config granted follows none anew h = shut_by config r.job r.found.octets r.codes r.stage (follows.next ∙ turned_by config r.job granted none anew) h
-
-pub fits_turned : (l : Line) (u : UnderWay) → unsent l ≡ [] → IsOver u.running.stage → (LeavesOpen u.running.stage → ⊥) → u.carried.room ≡ 8192 → Fits l u
-fits_turned l u sent over shut room = record {
-  going = λ h. absurd (h over);
-  more = λ h. absurd (h over);
-  limit = λ h. absurd (h over);
-  opening = λ h. absurd (over_not_opening u.running.stage over h);
-  between = λ h. absurd (shut h);
-  many = λ h. absurd (h over);
-  few = omega (arith, ap length sent);
-  quiet = λ h. sent;
-  carried = room;
-}
+none_unfinished : (j : Gathered) → IsClear j → unfinished_of j ≡ nothing_unfinished
+none_unfinished j h = ap (λ o. record { octets = o; count = j.count }) h.octets
+    ∙ ap (λ n. record { octets = []; count = n }) h.count
 
 -- ---- where a line begins a job
 
-pub started_line : (old new : Client) (line : Line) (u : UnderWay) (anew : Bool) → begins_anew old.granted u.running.job ≡ anew → new.job ≡ Some u → IsBlank u → Follows u.running old.config old.granted []
-    → new.config ≡ old.config → new.granted ≡ old.granted → new.is_closed ≡ (if anew then false else old.is_closed) → unread new.line ≡ (if anew then [] else unread old.line)
-    → line.talk.size ≡ size_at anew old.line.talk.size → line.talk.sequence ≡ sequence_at anew old.line.talk.sequence → IsClear line.talk.joiner
-    → BeginsLine line new.line u.running old.config → IsStarted old new u.running.job
-started_line old new line u anew is there blank_ follows config granted closed inbox size sequence clear b =
-    let a : anew ≡ begins_anew old.granted u.running.job = sym is in
-    started old new u there blank_ follows config granted
-    (inbox ∙ ap (λ (x : Bool). if x then [] else unread old.line) a)
-    (closed ∙ ap (λ (x : Bool). if x then false else old.is_closed) a)
-    (b.size ∙ (size ∙ ap (λ x. size_at x old.line.talk.size) a))
-    (b.sequence ∙ ap (λ k. sequence_by k (next_of old.config u.running)) (sequence ∙ ap (λ x. sequence_at x old.line.talk.sequence) a))
-    (λ h. ap unfinished_of b.joiner ∙ none_unfinished line.talk.joiner clear)
-    (b.sent ∙ ap (λ k. octets_of old.config k new.line.talk.sequence (next_of old.config u.running)) (sym b.size))
+starts_where : (old : Client) (t t' : Talk) (r r' : Running) (anew : Bool) → begins_anew old.granted r.job ≡ anew
+    → t.size ≡ size_at anew old.line.talk.size → t.sequence ≡ sequence_at anew old.line.talk.sequence
+    → Begins r old.config old.granted → BeginsTalk old.config t r t' r'
+    → StartsAt (origin_at old r.job) (begun (origin_at old r.job)) t' r'
+starts_where old t t' r r' anew is size sequence begins b =
+    b.starts (origin_at old r.job) refl refl (size ∙ ap (λ x. size_at x old.line.talk.size) (sym is))
+    (sequence ∙ ap (λ x. sequence_at x old.line.talk.sequence) (sym is)) begins
+
+pub started_line : (old new : Client) (line : Line) (r : Running) (u : UnderWay) (anew : Bool)
+    → begins_anew old.granted r.job ≡ anew → new.job ≡ Some u → IsBlank u → Begins r old.config old.granted
+    → new.config ≡ old.config → new.granted ≡ old.granted → new.is_closed ≡ (if anew then false else old.is_closed)
+    → unread new.line ≡ (if anew then [] else unread old.line)
+    → line.talk.size ≡ size_at anew old.line.talk.size → line.talk.sequence ≡ sequence_at anew old.line.talk.sequence
+    → IsClear line.talk.joiner
+    → BeginsLine old.config line r new.line u.running → IsStarted old new r.job
+started_line old new line r u anew is there blank_ begins config granted closed inbox size sequence clear b =
+    started old new r.job u there b.talk.job blank_ (starts_where old line.talk new.line.talk r u.running anew is size
+    sequence begins b.talk) config granted
+    (inbox ∙ ap (λ (x : Bool). if x then [] else unread old.line) (sym is))
+    (closed ∙ ap (λ (x : Bool). if x then false else old.is_closed) (sym is))
+    (λ h. ap unfinished_of b.talk.joiner ∙ none_unfinished line.talk.joiner clear)
     (λ h. (b.held, b.limit))
 
 pub connected_not_anew : (granted : Option Grant) (done : Job) → IsSome granted → begins_anew granted done ≡ false
 connected_not_anew None done h = absurd (cc)
 connected_not_anew (Some g) done h = refl
 
--- nothing is put for a job that is over at once
-pub started_turned : (old new : Client) (u : UnderWay) → begins_anew old.granted u.running.job ≡ false → new.job ≡ Some u → IsBlank u → Follows u.running old.config old.granted []
-    → new.config ≡ old.config → new.granted ≡ old.granted → new.is_closed ≡ old.is_closed → new.line ≡ old.line → unsent old.line ≡ [] → old.granted ≡ None → IsStarted old new u.running.job
-started_turned old new u is there blank_ follows config granted closed line sent none =
-    let a : false ≡ begins_anew old.granted u.running.job = sym is in
-    let over = turned_over u.running old.config old.granted follows none is in
-    let n = next_of old.config u.running in
-    let e = ends_at old.config u.running.job u.running.found.octets u.running.codes u.running.stage over in
-    started old new u there blank_ follows config granted
-    (ap unread line ∙ ap (λ (x : Bool). if x then [] else unread old.line) a)
-    (closed ∙ ap (λ (x : Bool). if x then false else old.is_closed) a)
-    (ap (λ (l : Line). l.talk.size) line ∙ ap (λ x. size_at x old.line.talk.size) a)
-    (ap (λ (l : Line). l.talk.sequence) line ∙ (ap (sequence_by old.line.talk.sequence) (sym e) ∙ ap (λ x. sequence_by (sequence_at x old.line.talk.sequence) n) a))
-    (λ h. absurd (h over))
-    (ap unsent line ∙ (sent ∙ sym (over_sends_none old.config u.running new.line.talk.size new.line.talk.sequence over)))
-    (λ h. absurd (h over))
+-- ---- a client that isn't connected
+
+turned_end : End
+turned_end = number_end not_connected Disconnected
+
+turned_by : (done : Job) (config : Config) (granted : Option Grant) → granted ≡ None → begins_anew granted done ≡ false
+    → plan_of done config granted ≡ over turned_end
+unfolding turned_end
+turned_by job.Connect config None none anew = absurd (cc)
+turned_by (job.ReadArea item) config None none anew = refl
+turned_by (job.WriteArea item octets) config None none anew = refl
+turned_by (job.ReadMany items) config None none anew = refl
+turned_by (job.WriteMany items octets) config None none anew = refl
+turned_by job.Disconnect config None none anew = refl
+turned_by done config (Some g) none anew = absurd (cc)
+
+over_by : (found codes carried message : List ℕ) (s : Stage) (end : End)
+    → awaited_by found codes carried s ≡ for_nothing end message → IsOver s
+over_by found codes carried message stage.Opening end e = absurd (cc)
+over_by found codes carried message (stage.Asking a) end e = absurd (cc)
+over_by found codes carried message stage.Leaving end e = absurd (cc)
+over_by found codes carried message (stage.Over code leaves) end e = tt
+
+-- the job is over where it begins
+turned_awaits : (origin : Origin) (t : Talk) (r : Running) → origin.granted ≡ None
+    → begins_anew origin.granted origin.job ≡ false → StartsAt origin (begun origin) t r
+    → awaited_in r [] ≡ for_nothing turned_end []
+turned_awaits origin t r none anew starts =
+    sym starts.awaits ∙ ap (λ c. c.awaits)
+    (begun_by origin (over turned_end) (turned_by origin.job origin.config origin.granted none anew)
+    ∙ silent_asked origin turned_end)
+
+turned_over : (r : Running) → awaited_in r [] ≡ for_nothing turned_end [] → IsOver r.stage
+turned_over r e = over_by r.found.items r.codes [] [] r.stage turned_end e
+
+turned_shut : (r : Running) → awaited_in r [] ≡ for_nothing turned_end [] → LeavesOpen r.stage → ⊥
+unfolding turned_end
+turned_shut r e h = left_by r.found.items r.codes [] [] turned_end r.stage e h
+
+-- what the client has then
+pub record IsTurned (old : Client) (t : Talk) (r r' : Running) : Type 0 where
+  pub starts : StartsAt (origin_at old r.job) (begun (origin_at old r.job)) t r'
+  pub over : IsOver r'.stage
+  pub shut : LeavesOpen r'.stage → ⊥
+
+pub is_turned : (old : Client) (t : Talk) (r r' : Running) → begins_anew old.granted r.job ≡ false
+    → Begins r old.config old.granted → BeginsTalk old.config old.line.talk r t r' → old.granted ≡ None
+    → IsTurned old t r r'
+is_turned old t r r' is begins b none =
+    let starts = starts_where old old.line.talk t r r' false is refl refl begins b in
+    let e = turned_awaits (origin_at old r.job) t r' none is starts in
+    record { starts = starts; over = turned_over r' e; shut = turned_shut r' e }
+
+pub fits_turned : (old : Client) (l : Line) (r : Running) (u : UnderWay) → IsTurned old l.talk r u.running
+    → BeginsTalk old.config old.line.talk r l.talk u.running → u.carried.room ≡ 8192 → Fits l u
+fits_turned old l r u k b room = record {
+  going = λ h. absurd (h k.over);
+  more = λ h. absurd (h k.over);
+  limit = λ h. absurd (h k.over);
+  opening = λ h. absurd (over_not_opening u.running.stage k.over h);
+  between = λ h. absurd (k.shut h);
+  many = λ h. absurd (h k.over);
+  few = b.few;
+  quiet = b.quiet;
+  carried = room;
+}
+
+pub started_turned : (old new : Client) (r : Running) (u : UnderWay) → begins_anew old.granted r.job ≡ false
+    → new.job ≡ Some u → IsBlank u → IsTurned old new.line.talk r u.running → u.running.job ≡ r.job
+    → new.config ≡ old.config → new.granted ≡ old.granted → new.is_closed ≡ old.is_closed
+    → unread new.line ≡ unread old.line → IsStarted old new r.job
+started_turned old new r u is there blank_ k done config granted closed inbox =
+    started old new r.job u there done blank_ k.starts config granted
+    (inbox ∙ ap (λ (x : Bool). if x then [] else unread old.line) (sym is))
+    (closed ∙ ap (λ (x : Bool). if x then false else old.is_closed) (sym is))
+    (λ h. absurd (h k.over))
+    (λ h. absurd (h k.over))

@@ -23,8 +23,6 @@ pub record ItemAnswer : Type 0 where
   pub octets : List ℕ
 
 pub data Answer : Type 0 where
-  -- the confirm of a connect request
-  confirms : Answer
   -- what was granted
   grants : (granted : Negotiation) → Answer
   -- the items that were read
@@ -33,8 +31,6 @@ pub data Answer : Type 0 where
   notes : (codes : List ℕ) → Answer
   -- the error word of a refusal
   refuses : (error : ℕ) → Answer
-  -- a disconnect request was transmitted, which has no answer
-  departed : Answer
 
 -- ---- the data items of a read's answer
 

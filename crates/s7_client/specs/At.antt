@@ -1,5 +1,5 @@
 -- Where a job stands in its course, by what the client holds.
-use Rattle.std.specs.Prelude.{◌≡◌, ℕ, ◌+◌, ◌-◌, ◌*◌, ◌<◌, ◌≤◌, false, [], ◌++◌, length}
+use Rattle.std.specs.Prelude.{◌≡◌, ◌⊎◌, ℕ, ◌+◌, ◌-◌, ◌*◌, ◌<◌, ◌≤◌, false, List, [], ◌++◌, length, Option}
 use Rattle.s7_cotp.specs.Gathered.{Gathered, is_fault}
 use Rattle.s7_cotp.specs.Messages.{open_octets}
 use Rattle.s7_wire.specs.Bounds.{first_limit, limit_of_size, most_packets}
@@ -9,8 +9,13 @@ use Rattle.s7_client.specs.declared.running.Stage.{Stage}
 use Rattle.s7_client.specs.declared.running.Stage.TheVariants as stage
 use Rattle.s7_client.specs.declared.talk.Talk.{Talk}
 use Rattle.s7_client.specs.declared.under_way.UnderWay.{UnderWay}
-use Rattle.s7_client.specs.Running.{next_of, Follows, IsOver, IsOpening, answers_left}
-use Rattle.s7_client.specs.Course.{Origin, Course, Unfinished, awaits_by}
+use Rattle.s7_client.specs.declared.config.Config.{Config}
+use Rattle.s7_client.specs.declared.running.Running.{Running}
+use Rattle.s7_client.specs.declared.grant.Grant.{Grant}
+use Rattle.s7_client.specs.Flight.{Row}
+use Rattle.s7_client.specs.Dialogue.{connect_request, disconnect_request, plan_of}
+use Rattle.s7_client.specs.Running.{awaited_in, unput_of, Begins, Follows, IsOver, IsOpening, IsAsking, IsLeaving, answers_left}
+use Rattle.s7_client.specs.Course.{Origin, Course, Unfinished, blank, begun}
 
 -- the message that isn't whole
 abbrev pub unfinished_of : Gathered → Unfinished
@@ -19,7 +24,7 @@ unfinished_of joiner = record { octets = open_octets joiner; count = joiner.coun
 -- the length that no packet passes
 abbrev pub limit_at : Stage → ℕ → ℕ
 limit_at stage.Opening size = first_limit
-limit_at (stage.Asking asked left from is_first) size = limit_of_size size
+limit_at (stage.Asking a) size = limit_of_size size
 limit_at stage.Leaving size = limit_of_size size
 limit_at (stage.Over code leaves) size = limit_of_size size
 
@@ -29,21 +34,29 @@ pub record IsAt (origin : Origin) (course : Course) (t : Talk) (u : UnderWay) : 
   pub size : t.size ≡ course.size
   pub sequence : t.sequence ≡ course.sequence
   pub unfinished : (IsOver u.running.stage → ⊥) → unfinished_of t.joiner ≡ course.unfinished
-  pub awaits : course.awaits ≡ awaits_by u.carried.octets (next_of origin.config u.running)
-  -- a job that isn't over follows its dialogue, and no message was without answer
-  pub follows : (IsOver u.running.stage → ⊥) → Follows u.running origin.config origin.granted course.answers
+  pub awaits : course.awaits ≡ awaited_in u.running u.carried.octets
+  -- a job that isn't over goes on as its plan says, and no message came that answers nothing
+  pub opens : IsOpening u.running.stage
+      → ((plan_of origin.job origin.config origin.granted).first ≡ connect_request) × (course.rows ≡ [])
+  pub follows : IsAsking u.running.stage → Follows u.running origin.config origin.granted course.rows
+  pub departs : IsLeaving u.running.stage
+      → (plan_of origin.job origin.config origin.granted).first ≡ disconnect_request
   pub silent : (IsOver u.running.stage → ⊥) → u.carried.octets ≡ []
+
+-- what is still to be sent: octets of telegrams that were put, and those that weren't put yet
+abbrev pub pending : Config → Talk → Running → List ℕ
+pending config t r = t.outbox.unsent ++ unput_of config t.size r
 
 -- The client stands at a place of the course, and what is to be sent is what may be sent there beyond what was
 -- allowed before.
 pub record Reaches (origin : Origin) (before course : Course) (t : Talk) (u : UnderWay) : Type 0 where
   pub at : IsAt origin course t u
-  pub out : course.out ≡ before.out ++ t.outbox.unsent
+  pub out : course.out ≡ before.out ++ pending origin.config t u.running
 
 -- a job that awaits octets
 abbrev pub IsAwaiting : Stage → Type 0
 IsAwaiting stage.Opening = Unit {0}
-IsAwaiting (stage.Asking asked left from is_first) = Unit {0}
+IsAwaiting (stage.Asking a) = Unit {0}
 IsAwaiting stage.Leaving = ⊥
 IsAwaiting (stage.Over code leaves) = ⊥
 
@@ -56,7 +69,7 @@ LeavesLink leaving.Closed = ⊥
 -- a job that is over and leaves the link to the next one
 abbrev pub LeavesOpen : Stage → Type 0
 LeavesOpen stage.Opening = ⊥
-LeavesOpen (stage.Asking asked left from is_first) = ⊥
+LeavesOpen (stage.Asking a) = ⊥
 LeavesOpen stage.Leaving = ⊥
 LeavesOpen (stage.Over code leaves) = LeavesLink leaves
 
@@ -70,20 +83,72 @@ pub record IsClear (joiner : Gathered) : Type 0 where
 abbrev pub octets_of_message : ℕ
 octets_of_message = 65 * 8200
 
+-- how many messages a job takes at most: its answers, and one that is none
+abbrev pub messages_left : Stage → ℕ
+messages_left stage.Opening = answers_left stage.Opening + 1
+messages_left (stage.Asking a) = answers_left (stage.Asking a) + 1
+messages_left stage.Leaving = 0
+messages_left (stage.Over code leaves) = 0
+
 -- how many octets a job may use at most, by the fragments of the message that isn't whole and the octets of the packet
 abbrev pub budget : Stage → ℕ → ℕ → ℕ
-budget stage fragments held = answers_left stage * octets_of_message - (fragments * 8200 + held)
+budget stage fragments held = messages_left stage * octets_of_message - (fragments * 8200 + held)
+
+-- how many octets aren't put yet at most: those of 8 telegrams
+abbrev pub most_unput : ℕ
+most_unput = 8 * most_packets
 
 -- what a packet leaves, whatever the course
-pub record Settles (t : Talk) (u : UnderWay) : Type 0 where
+pub record Settles (config : Config) (t : Talk) (u : UnderWay) : Type 0 where
   pub going : (IsOver u.running.stage → ⊥) → is_fault t.joiner.state ≡ false
-  pub few : length t.outbox.unsent ≤ most_packets
-  pub quiet : IsOver u.running.stage → t.outbox.unsent ≡ []
+  pub none : t.outbox.unsent ≡ []
+  pub few : length (unput_of config t.size u.running) ≤ most_unput
   pub clear : LeavesOpen u.running.stage → IsClear t.joiner
   pub opening : IsOpening u.running.stage → IsClear t.joiner
 
 -- and how much less there is to use then
-pub record Takes (t : Talk) (u : UnderWay) (t' : Talk) (u' : UnderWay) : Type 0 where
-  pub settles : Settles t' u'
+pub record Takes (config : Config) (t : Talk) (u : UnderWay) (t' : Talk) (u' : UnderWay) : Type 0 where
+  pub settles : Settles config t' u'
   pub many : t.joiner.count ≤ 64 → t'.joiner.count ≤ 64
-  pub less : (held : ℕ) → held ≤ 8199 → t.joiner.count ≤ 64 → budget u'.running.stage t'.joiner.count 0 < budget u.running.stage t.joiner.count held
+  pub less : (held : ℕ) → held ≤ 8199 → t.joiner.count ≤ 64
+      → budget u'.running.stage t'.joiner.count 0 < budget u.running.stage t.joiner.count held
+
+-- ---- what is put
+
+-- The next telegram was put into the outbox, where this was empty and there was one: nothing more is to be sent than
+-- before.
+pub record Puts (config : Config) (t : Talk) (r : Running) (t' : Talk) (r' : Running) : Type 0 where
+  pub pending : pending config t' r' ≡ pending config t r
+  -- where the outbox is empty then, nothing is to be sent
+  pub none : t'.outbox.unsent ≡ [] → (size : ℕ) → unput_of config size r' ≡ []
+  pub few : length t.outbox.unsent ≤ most_packets → length t'.outbox.unsent ≤ most_packets
+  pub size : t'.size ≡ t.size
+  pub sequence : t'.sequence ≡ t.sequence
+  pub joiner : t'.joiner ≡ t.joiner
+  pub same : ((t'.outbox.unsent ≡ t.outbox.unsent) × (r' ≡ r)) ⊎ (IsAsking r.stage × IsAsking r'.stage)
+  pub follows : (granted : Option Grant) (rows : List Row) → Follows r config granted rows
+      → Follows r' config granted rows
+  pub awaits : (carried : List ℕ) → awaited_in r' carried ≡ awaited_in r carried
+  pub as_many : answers_left r'.stage ≡ answers_left r.stage
+  pub job : r'.job ≡ r.job
+
+-- The client stands at a place of the course before which nothing was used, and may send all that may be sent there.
+pub record StartsAt (origin : Origin) (course : Course) (t : Talk) (r : Running) : Type 0 where
+  pub size : t.size ≡ course.size
+  pub sequence : t.sequence ≡ course.sequence
+  pub awaits : course.awaits ≡ awaited_in r []
+  pub opens : IsOpening r.stage
+      → ((plan_of origin.job origin.config origin.granted).first ≡ connect_request) × (course.rows ≡ [])
+  pub follows : IsAsking r.stage → Follows r origin.config origin.granted course.rows
+  pub departs : IsLeaving r.stage → (plan_of origin.job origin.config origin.granted).first ≡ disconnect_request
+  pub out : course.out ≡ pending origin.config t r
+
+-- What a job asks first was asked, or its request was put.
+pub record BeginsTalk (config : Config) (t : Talk) (r : Running) (t' : Talk) (r' : Running) : Type 0 where
+  pub starts : (origin : Origin) → origin.config ≡ config → r.job ≡ origin.job → t.size ≡ (blank origin).size
+      → t.sequence ≡ (blank origin).sequence → Begins r config origin.granted → StartsAt origin (begun origin) t' r'
+  pub few : length t'.outbox.unsent ≤ most_packets
+  pub quiet : IsOver r'.stage → t'.outbox.unsent ≡ []
+  pub size : t'.size ≡ t.size
+  pub joiner : t'.joiner ≡ t.joiner
+  pub job : r'.job ≡ r.job

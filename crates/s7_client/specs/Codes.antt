@@ -11,7 +11,7 @@ no_fault = 0
 abbrev pub not_connected : ℕ
 not_connected = 0x00010000
 
--- the server ended the link before the answer
+-- the server ended the link before the last outstanding answer
 abbrev pub link_ended : ℕ
 link_ended = 0x00020000
 
@@ -65,7 +65,7 @@ partly_written = 0x00600000
 abbrev pub over_pdu : ℕ
 over_pdu = 0x00700000
 
--- a message that is no answer to what was asked
+-- a message that answers no outstanding telegram
 abbrev pub invalid_answer : ℕ
 invalid_answer = 0x00800000
 

@@ -1,6 +1,6 @@
 -- The course of a job on its link: what the octets that were used make of it, and what may be sent.
 -- The octets are packets of RFC 1006 with TPDUs of ISO 8073, class 0, as a server's link has them.
-use Rattle.std.specs.Prelude.{ℕ, ◌+◌, Bool, true, false, ◌==◌, nat_lt, List, [], ◌∷◌, ◌++◌, length, Option, None, Some, Result, Ok, Err, if◌then◌else◌}
+use Rattle.std.specs.Prelude.{ℕ, ◌+◌, zero, suc, Bool, true, false, ◌==◌, ◌&&◌, nat_lt, List, [], ◌∷◌, ◌++◌, length, is_none, Option, None, Some, Result, Ok, Err, if◌then◌else◌}
 use Rattle.s7_outer.specs.Numbers.{two_octets}
 use Rattle.s7_tpkt.specs.Packets.{packet_of, packets_of, rest_of, state_of}
 use Rattle.s7_tpkt.specs.declared.state.FedState.{FedState}
@@ -18,8 +18,8 @@ use Rattle.s7_client.specs.declared.job.Job.TheVariants as job
 use Rattle.s7_client.specs.declared.grant.Grant.{Grant}
 use Rattle.s7_client.specs.Codes.{not_connected, link_ended, bad_packet, short_message, message_too_fragmented, message_too_long, invalid_answer}
 use Rattle.s7_client.specs.Question.{Question, question_octets}
-use Rattle.s7_client.specs.Answer.{Answer, confirms, answer_of}
-use Rattle.s7_client.specs.Dialogue.{Telegram, connect_request, numbered, disconnect_request, End, Next, sends, ends, fault_end, dialogue}
+use Rattle.s7_client.specs.Flight.{Row, answers_of, open_count, filled}
+use Rattle.s7_client.specs.Dialogue.{End, fault_end, Conduct, First, nothing, connect_request, disconnect_request, first_refusal, plan_of}
 
 -- where a job starts: what the client has by then
 pub record Origin : Type 0 where
@@ -35,8 +35,8 @@ pub record Origin : Type 0 where
 pub data Awaits : Type 0 where
   -- the confirm of the connect request
   for_confirm : Awaits
-  -- the answer to a question
-  for_answer : (question : Question) → Awaits
+  -- answers to questions
+  for_answers : Awaits
   -- that the disconnect request is transmitted
   for_departure : Awaits
   -- nothing: the job is over, with a message that was no answer or none
@@ -51,8 +51,8 @@ abbrev pub nothing_unfinished : Unfinished
 nothing_unfinished = record { octets = []; count = 0 }
 
 pub record Course : Type 0 where
-  -- the answers so far, in the order of their telegrams
-  pub answers : List Answer
+  -- the questions that went out, in order, with their answers
+  pub rows : List Row
   pub size : ℕ
   pub unfinished : Unfinished
   pub sequence : ℕ
@@ -88,101 +88,96 @@ connect_octets config = packet_of (spelling_of_connect (request_of config))
 abbrev pub disconnect_octets : List ℕ
 disconnect_octets = packet_of (spelling_of_disconnect 1 1 0x80)
 
--- the octets of a telegram, where a message goes out under this sequence
-abbrev pub telegram_octets : Config → ℕ → ℕ → Telegram → List ℕ
-telegram_octets config size sequence connect_request = connect_octets config
-telegram_octets config size sequence (numbered question) = sent_message size (question_octets sequence question)
-telegram_octets config size sequence disconnect_request = disconnect_octets
+-- ---- what is asked
 
--- what may be sent of what comes next
-abbrev pub octets_of : Config → ℕ → ℕ → Next → List ℕ
-octets_of config size sequence (sends telegram) = telegram_octets config size sequence telegram
-octets_of config size sequence (ends end) = []
+abbrev pub conduct_of : Origin → Conduct
+conduct_of origin = (plan_of origin.job origin.config origin.granted).conduct
 
--- a numbered telegram takes the next sequence
-abbrev pub sequence_by : ℕ → Next → ℕ
-sequence_by sequence (sends connect_request) = sequence
-sequence_by sequence (sends (numbered question)) = next_sequence sequence
-sequence_by sequence (sends disconnect_request) = sequence
-sequence_by sequence (ends end) = sequence
+-- what may be asked next: while fewer questions are unanswered than may be, and no answer refuses
+abbrev pub next_question : Conduct → List Row → Option Question
+next_question c rows =
+    if nat_lt (open_count rows) c.width && is_none (first_refusal c.refusal 0 (answers_of rows))
+    then c.question_at (answers_of rows) else None
 
--- what is awaited then, where a message that was no answer is kept
-abbrev pub awaits_by : List ℕ → Next → Awaits
-awaits_by carried (sends connect_request) = for_confirm
-awaits_by carried (sends (numbered question)) = for_answer question
-awaits_by carried (sends disconnect_request) = for_departure
-awaits_by carried (ends end) = for_nothing end carried
-
--- what comes next happens
-abbrev pub with_next : Config → Course → Next → Course
-with_next config course next = record {
-  answers = course.answers;
-  size = course.size;
-  unfinished = course.unfinished;
-  sequence = sequence_by course.sequence next;
-  out = course.out ++ octets_of config course.size (sequence_by course.sequence next) next;
-  awaits = awaits_by [] next;
+-- a question goes out under the next sequence
+abbrev pub asked : Course → Question → Course
+asked course question = record course {
+  rows = course.rows ++ record { question = question; number = next_sequence course.sequence; answer = None } ∷ [];
+  sequence = next_sequence course.sequence;
+  out = course.out ++ sent_message course.size (question_octets (next_sequence course.sequence) question);
 }
 
--- one more answer
-abbrev pub with_answer : Origin → Course → Answer → Course
-with_answer origin course answer =
-    with_next origin.config (record course { answers = course.answers ++ answer ∷ [] })
-    (dialogue origin.job origin.config origin.granted (course.answers ++ answer ∷ []))
+abbrev pub if_some : Option Question → Course → (Question → Course) → Course
+if_some None course later = course
+if_some (Some question) course later = later question
+
+-- so many questions, at most, go out one after another
+unfoldable pub asked_on : ℕ → Conduct → Course → Course
+asked_on zero c course = course
+asked_on (suc others) c course =
+    if_some (next_question c course.rows) course (λ question. asked_on others c (asked course question))
+
+-- the job is over where no question is unanswered
+abbrev pub settled : Conduct → Course → Course
+settled c course = record course {
+  awaits = if open_count course.rows == 0 then for_nothing (c.ended (answers_of course.rows)) [] else for_answers;
+}
+
+-- ALL QUESTIONS THAT MAY GO OUT go out
+abbrev pub asking : Conduct → Course → Course
+asking c course = settled c (asked_on c.width c course)
 
 -- ---- what is taken
 
 abbrev pub with_fault : Course → ℕ → Course
 with_fault course code = record course { awaits = for_nothing (fault_end code) [] }
 
-abbrev pub by_answer : Origin → Course → List ℕ → Option Answer → Course
-by_answer origin course message None = record course { awaits = for_nothing (fault_end invalid_answer) message }
-by_answer origin course message (Some answer) = with_answer origin course answer
+abbrev pub by_rows : Conduct → Course → List ℕ → Option (List Row) → Course
+by_rows c course message None = record course { awaits = for_nothing (fault_end invalid_answer) message }
+by_rows c course message (Some rows) = asking c (record course { rows = rows })
 
 -- a whole message
-abbrev pub with_message : Origin → Course → Question → List ℕ → Course
-with_message origin course question message =
+abbrev pub with_message : Conduct → Course → List ℕ → Course
+with_message c course message =
     if nat_lt (length message) 10 then with_fault course short_message
-    else by_answer origin course message (answer_of question course.sequence message)
+    else by_rows c course message (filled course.rows message)
 
-abbrev pub by_joining : Origin → Course → Question → Step → Course
-by_joining origin course question (more octets count) =
+abbrev pub by_joining : Conduct → Course → Step → Course
+by_joining c course (more octets count) =
     record course { unfinished = record { octets = octets; count = count } }
-by_joining origin course question (whole message) =
-    with_message origin (record course { unfinished = nothing_unfinished }) question message
-by_joining origin course question too_many_fragments = with_fault course message_too_fragmented
-by_joining origin course question too_long = with_fault course message_too_long
+by_joining c course (whole message) = with_message c (record course { unfinished = nothing_unfinished }) message
+by_joining c course too_many_fragments = with_fault course message_too_fragmented
+by_joining c course too_long = with_fault course message_too_long
 
--- a TPDU where an answer is awaited: fragments, and a disconnect request ends the link
-abbrev pub connected : Origin → Course → Question → Result Told CotpFault → Course
-connected origin course question (Ok (fragment last user)) =
-    by_joining origin course question
+-- a TPDU where answers are awaited: fragments, and a disconnect request ends the link
+abbrev pub connected : Conduct → Course → Result Told CotpFault → Course
+connected c course (Ok (fragment last user)) =
+    by_joining c course
     (joined_with message_limit course.unfinished.octets course.unfinished.count (record { last = last; user = user }))
-connected origin course question (Ok (disconnect reason)) = with_fault course link_ended
-connected origin course question (Ok (connect c)) = with_fault course bad_packet
-connected origin course question (Ok (confirm c)) = with_fault course bad_packet
-connected origin course question (Ok (reject cause)) = with_fault course bad_packet
-connected origin course question (Err fault) = with_fault course bad_packet
+connected c course (Ok (disconnect reason)) = with_fault course link_ended
+connected c course (Ok (connect told)) = with_fault course bad_packet
+connected c course (Ok (confirm told)) = with_fault course bad_packet
+connected c course (Ok (reject cause)) = with_fault course bad_packet
+connected c course (Err fault) = with_fault course bad_packet
 
 -- a TPDU where the confirm is awaited
-abbrev pub confirming : Origin → Course → Result Told CotpFault → Course
-confirming origin course (Ok (confirm c)) =
-    with_answer origin (record course { size = size_of_code c.size_code }) confirms
-confirming origin course (Ok (connect c)) = with_fault course not_connected
-confirming origin course (Ok (fragment last user)) = with_fault course not_connected
-confirming origin course (Ok (disconnect reason)) = with_fault course not_connected
-confirming origin course (Ok (reject cause)) = with_fault course not_connected
-confirming origin course (Err fault) = with_fault course bad_packet
+abbrev pub confirming : Conduct → Course → Result Told CotpFault → Course
+confirming c course (Ok (confirm told)) = asking c (record course { size = size_of_code told.size_code })
+confirming c course (Ok (connect told)) = with_fault course not_connected
+confirming c course (Ok (fragment last user)) = with_fault course not_connected
+confirming c course (Ok (disconnect reason)) = with_fault course not_connected
+confirming c course (Ok (reject cause)) = with_fault course not_connected
+confirming c course (Err fault) = with_fault course bad_packet
 
 -- a packet with this body: a job that awaits no octets uses none
-abbrev pub by_awaits : Origin → Course → List ℕ → Awaits → Course
-by_awaits origin course body for_confirm = confirming origin course (tpdu_of body)
-by_awaits origin course body (for_answer question) = connected origin course question (tpdu_of body)
-by_awaits origin course body for_departure = course
-by_awaits origin course body (for_nothing end carried) = course
+abbrev pub by_awaits : Conduct → Course → List ℕ → Awaits → Course
+by_awaits c course body for_confirm = confirming c course (tpdu_of body)
+by_awaits c course body for_answers = connected c course (tpdu_of body)
+by_awaits c course body for_departure = course
+by_awaits c course body (for_nothing end carried) = course
 
 unfoldable pub with_packet : Origin → Course → List ℕ → Course
-with_packet origin course body = by_awaits origin course body course.awaits
+with_packet origin course body = by_awaits (conduct_of origin) course body course.awaits
 
 -- ---- whole courses
 
@@ -209,7 +204,7 @@ sequence_at anew sequence = if anew then 0 else sequence
 
 abbrev pub blank : Origin → Course
 blank origin = record {
-  answers = [];
+  rows = [];
   size = size_at (begins_anew origin.granted origin.job) origin.size;
   unfinished = nothing_unfinished;
   sequence = sequence_at (begins_anew origin.granted origin.job) origin.sequence;
@@ -217,10 +212,15 @@ blank origin = record {
   awaits = for_confirm;
 }
 
+abbrev pub by_first : Config → Conduct → Course → First → Course
+by_first config c course nothing = asking c course
+by_first config c course connect_request = record course { out = connect_octets config; awaits = for_confirm }
+by_first config c course disconnect_request = record course { out = disconnect_octets; awaits = for_departure }
+
 -- a job that was started
 unfoldable pub begun : Origin → Course
 begun origin =
-    with_next origin.config (blank origin) (dialogue origin.job origin.config origin.granted [])
+    by_first origin.config (conduct_of origin) (blank origin) (plan_of origin.job origin.config origin.granted).first
 
 abbrev pub run : Origin → Course → List (List ℕ) → Course
 run origin course [] = course
@@ -229,7 +229,7 @@ run origin course (body ∷ bodies) = run origin (with_packet origin course body
 -- the length that no packet passes: that of the TPDU size, once the confirm isn't awaited
 abbrev pub limit_where : Awaits → ℕ → ℕ
 limit_where for_confirm size = first_limit
-limit_where (for_answer question) size = limit_of_size size
+limit_where for_answers size = limit_of_size size
 limit_where for_departure size = limit_of_size size
 limit_where (for_nothing end carried) size = limit_of_size size
 
@@ -250,7 +250,7 @@ by_state course fed.Whole = course
 
 abbrev pub unless_over : Course → Course → Awaits → Course
 unless_over next course for_confirm = next
-unless_over next course (for_answer question) = next
+unless_over next course for_answers = next
 unless_over next course for_departure = course
 unless_over next course (for_nothing end carried) = course
 

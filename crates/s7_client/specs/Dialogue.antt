@@ -1,5 +1,5 @@
--- The dialogue of a job: which telegram may be sent next, or how the job ends, by the answers so far.
--- At most one telegram is unanswered.
+-- The dialogue of a job: what goes out first, which question may be asked next, and how the job ends, by the answers
+-- so far.
 use Rattle.std.specs.Prelude.{ℕ, ◌+◌, true, false, ◌==◌, ◌||◌, nat_lt, min, max, List, [], ◌∷◌, length, take, drop, map, slice_get, Option, None, Some, if◌then◌else◌}
 use Rattle.std.specs.List.{flat_map}
 use Rattle.s7_header.specs.declared.negotiation.Negotiation.{Negotiation}
@@ -16,15 +16,9 @@ use Rattle.s7_client.specs.declared.job.Job.{Job}
 use Rattle.s7_client.specs.declared.job.Job.TheVariants as job
 use Rattle.s7_client.specs.Codes.{no_fault, not_connected, negotiation_failed, partly_written}
 use Rattle.s7_client.specs.Question.{Question, negotiates, reads, writes}
-use Rattle.s7_client.specs.Answer.{Answer, confirms, grants, tells, notes, refuses, departed, ItemAnswer}
+use Rattle.s7_client.specs.Answer.{Answer, grants, tells, notes, refuses, ItemAnswer}
 use Rattle.s7_client.specs.Refusals.{telegram_refusal, part_refusal}
 use Rattle.s7_client.specs.Checks.{check_item, check_items, octet_count_of}
-
--- what a client sends
-pub data Telegram : Type 0 where
-  connect_request : Telegram
-  numbered : (question : Question) → Telegram
-  disconnect_request : Telegram
 
 pub record End : Type 0 where
   -- 0, or the number of an error
@@ -35,56 +29,86 @@ pub record End : Type 0 where
   pub codes : List ℕ
   pub leaves : Leaves
 
-pub data Next : Type 0 where
-  sends : (telegram : Telegram) → Next
-  ends : (end : End) → Next
+-- How a job asks. Answers stand at the places of their questions, and none where a question is unanswered.
+pub record Conduct : Type 0 where
+  -- how many questions may be unanswered at a time
+  pub width : ℕ
+  -- the question that comes next, behind those at these places, if there is one
+  pub question_at : List (Option Answer) → Option Question
+  -- the number of the error that an answer refuses with, if it refuses: then nothing more is asked
+  pub refusal : Answer → Option ℕ
+  -- the end, once no question is unanswered and none comes next
+  pub ended : List (Option Answer) → End
+
+-- what goes out before any question
+pub data First : Type 0 where
+  nothing : First
+  -- a connect request, and its confirm is awaited
+  connect_request : First
+  -- a disconnect request, and the job ends once it was transmitted
+  disconnect_request : First
+
+pub record Plan : Type 0 where
+  pub first : First
+  pub conduct : Conduct
+
+-- ---- ends
 
 -- an end with this number alone
-abbrev pub with_number : ℕ → Leaves → Next
-with_number code leaves = ends (record { code = code; octets = []; codes = []; leaves = leaves })
+abbrev pub number_end : ℕ → Leaves → End
+number_end code leaves = record { code = code; octets = []; codes = []; leaves = leaves }
 
 -- an end that closes the client
 abbrev pub fault_end : ℕ → End
-fault_end code = record { code = code; octets = []; codes = []; leaves = Closed }
+fault_end code = number_end code Closed
+
+-- nothing is asked
+abbrev pub silent : End → Conduct
+silent end = record { width = 0; question_at = λ answers. None; refusal = λ answer. None; ended = λ answers. end }
+
+-- the job is over at once
+abbrev pub over : End → Plan
+over end = record { first = nothing; conduct = silent end }
 
 -- ---- connect and disconnect
 
--- the grant that is taken: a PDU from 64 to the one asked for, and jobs up to those asked for
+-- the grant that is taken: a PDU from 64 to the one asked for, and from one job to those asked for
 abbrev pub taken_grant : Config → Negotiation → Option Grant
 taken_grant config n =
     if nat_lt n.pdu least_pdu || nat_lt config.pdu n.pdu then None
     else Some (record { pdu = n.pdu; jobs = max 1 (min (min n.calling n.called) config.jobs) })
 
-abbrev pub by_grant : Option Grant → Next
-by_grant None = with_number negotiation_failed Closed
-by_grant (Some granted) = with_number no_fault (Connected granted)
+abbrev pub by_grant : Option Grant → End
+by_grant None = number_end negotiation_failed Closed
+by_grant (Some granted) = number_end no_fault (Connected granted)
 
--- what the negotiation is answered
-abbrev pub negotiated : Config → Answer → Next
-negotiated config (grants n) = by_grant (taken_grant config n)
-negotiated config (refuses error) = with_number negotiation_failed Closed
-negotiated config confirms = with_number negotiation_failed Closed
-negotiated config (tells items) = with_number negotiation_failed Closed
-negotiated config (notes codes) = with_number negotiation_failed Closed
-negotiated config departed = with_number negotiation_failed Closed
+-- the end by what the negotiation is answered
+abbrev pub negotiated_by : Config → Answer → End
+negotiated_by config (grants n) = by_grant (taken_grant config n)
+negotiated_by config (refuses error) = number_end negotiation_failed Closed
+negotiated_by config (tells items) = number_end negotiation_failed Closed
+negotiated_by config (notes codes) = number_end negotiation_failed Closed
+
+abbrev pub negotiated : Config → List (Option Answer) → End
+negotiated config [] = number_end negotiation_failed Closed
+negotiated config (None ∷ answers) = number_end negotiation_failed Closed
+negotiated config (Some answer ∷ answers) = negotiated_by config answer
 
 abbrev pub asked_by : Config → Negotiation
 asked_by config = record { calling = config.jobs; called = config.jobs; pdu = config.pdu }
 
--- a connect request, then the negotiation
-abbrev pub connecting : Config → List Answer → Next
-connecting config [] = sends connect_request
-connecting config (first ∷ []) = sends (numbered (negotiates (asked_by config)))
-connecting config (first ∷ answer ∷ answers) = negotiated config answer
+-- one question: a PDU and parallel jobs
+abbrev pub negotiating : Config → Conduct
+negotiating config = record {
+  width = 1;
+  question_at = λ (answers : List (Option Answer)). slice_get (negotiates (asked_by config) ∷ []) (length answers);
+  refusal = λ answer. None;
+  ended = negotiated config;
+}
 
 -- the end of a link that the client leaves
 abbrev pub departed_end : End
-departed_end = record { code = no_fault; octets = []; codes = []; leaves = Disconnected }
-
--- a disconnect request, and the job ends once it was transmitted
-abbrev pub disconnecting : List Answer → Next
-disconnecting [] = sends disconnect_request
-disconnecting (answer ∷ answers) = ends departed_end
+departed_end = number_end no_fault Disconnected
 
 -- ---- questions in order
 
@@ -103,21 +127,15 @@ abbrev pub first_or : Option ℕ → ℕ → Option (ℕ × ℕ) → Option (ℕ
 first_or None place later = later
 first_or (Some number) place later = Some (place, number)
 
+abbrev pub refusal_in : (Answer → Option ℕ) → Option Answer → Option ℕ
+refusal_in refusal None = None
+refusal_in refusal (Some answer) = refusal answer
+
 -- the place of the first answer that refuses, counted from a place on, and its number
-abbrev pub first_refusal : (Answer → Option ℕ) → ℕ → List Answer → Option (ℕ × ℕ)
+abbrev pub first_refusal : (Answer → Option ℕ) → ℕ → List (Option Answer) → Option (ℕ × ℕ)
 first_refusal refusal place [] = None
 first_refusal refusal place (answer ∷ answers) =
-    first_or (refusal answer) place (first_refusal refusal (place + 1) answers)
-
--- the next question, or the end once all are answered
-abbrev pub asks_or_ends : Option Question → Next → Next
-asks_or_ends None finished = finished
-asks_or_ends (Some question) finished = sends (numbered question)
-
--- the first refusal ends the job, and else the next question is asked
-abbrev pub asking : List Question → (ℕ → ℕ → ℕ) → Option (ℕ × ℕ) → List Answer → Next → Next
-asking questions number (Some refused) answers finished = with_number (number refused.0 refused.1) AsItWas
-asking questions number None answers finished = asks_or_ends (slice_get questions (length answers)) finished
+    first_or (refusal_in refusal answer) place (first_refusal refusal (place + 1) answers)
 
 -- the number of the refusal at a place, and of one in a write of several parts
 abbrev pub plain_number : ℕ → ℕ → ℕ
@@ -126,74 +144,101 @@ plain_number place number = number
 abbrev pub write_number : ℕ → ℕ → ℕ
 write_number place number = if place == 0 then number else partly_written
 
+-- the first refusal, in the order of the questions, ends the job
+abbrev pub by_refusal : (ℕ → ℕ → ℕ) → Option (ℕ × ℕ) → End → End
+by_refusal number None finished = finished
+by_refusal number (Some refused) finished = number_end (number refused.0 refused.1) AsItWas
+
 -- what answers tell of items
 abbrev pub items_told : Answer → List ItemAnswer
 items_told (tells items) = items
-items_told confirms = []
 items_told (grants granted) = []
 items_told (notes codes) = []
 items_told (refuses error) = []
-items_told departed = []
-
--- the octets that were read, joined
-abbrev pub octets_told : List Answer → List ℕ
-octets_told answers = flat_map (λ answer. flat_map (λ (item : ItemAnswer). item.octets) (items_told answer)) answers
 
 -- the return codes of items, read or written
 abbrev pub codes_in : Answer → List ℕ
 codes_in (tells items) = map (λ (item : ItemAnswer). item.code) items
 codes_in (notes codes) = codes
-codes_in confirms = []
 codes_in (grants granted) = []
 codes_in (refuses error) = []
-codes_in departed = []
 
-abbrev pub codes_told : List Answer → List ℕ
-codes_told answers = flat_map codes_in answers
+abbrev pub of_answer : (Answer → List ℕ) → Option Answer → List ℕ
+of_answer told None = []
+of_answer told (Some answer) = told answer
 
-abbrev pub all_read : List ℕ → List ℕ → Next
-all_read octets codes = ends (record { code = no_fault; octets = octets; codes = codes; leaves = AsItWas })
+-- the octets that were read, joined in the order of the questions
+abbrev pub octets_told : List (Option Answer) → List ℕ
+octets_told answers =
+    flat_map (of_answer (λ answer. flat_map (λ (item : ItemAnswer). item.octets) (items_told answer))) answers
+
+abbrev pub codes_told : List (Option Answer) → List ℕ
+codes_told answers = flat_map (of_answer codes_in) answers
+
+abbrev pub good_end : List ℕ → List ℕ → End
+good_end octets codes = record { code = no_fault; octets = octets; codes = codes; leaves = AsItWas }
 
 -- each item alone
 abbrev pub alone : List Item → List (List Item)
 alone items = map (λ item. item ∷ []) items
 
--- ---- each job, once it was checked
+-- as many questions as were granted may be unanswered, and at least one
+abbrev pub width_of : Grant → ℕ
+width_of granted = max 1 granted.jobs
 
-abbrev pub if_good : ℕ → Next → Next
-if_good check next = if check == no_fault then next else with_number check AsItWas
+-- the questions of a list, in order
+abbrev pub listed : Grant → List Question → (Answer → Option ℕ) → (ℕ → ℕ → ℕ) → (List (Option Answer) → End) → Plan
+listed granted questions refusal number finished = record {
+  first = nothing;
+  conduct = record {
+    width = width_of granted;
+    question_at = λ (answers : List (Option Answer)). slice_get questions (length answers);
+    refusal = refusal;
+    ended = λ (answers : List (Option Answer)).
+        by_refusal number (first_refusal refusal 0 answers) (finished answers);
+  };
+}
 
--- the dialogue of each job on a connected client
-abbrev pub conversing : Job → Config → Grant → List Answer → Next
-conversing job.Connect config granted answers = with_number no_fault AsItWas
-conversing (job.ReadArea item) config granted answers =
+-- ---- each job
+
+abbrev pub if_good : ℕ → Plan → Plan
+if_good check plan = if check == no_fault then plan else over (number_end check AsItWas)
+
+-- the plan of a job on a connected client: what is checked before anything is sent, and then its questions
+abbrev pub connected_plan : Job → Grant → Plan
+connected_plan job.Connect granted = over (number_end no_fault AsItWas)
+connected_plan (job.ReadArea item) granted =
     if_good (check_item item true)
-    (asking (read_questions (alone (parts_of item granted.pdu false))) plain_number
-    (first_refusal part_refusal 0 answers) answers (all_read (octets_told answers) []))
-conversing (job.WriteArea item octets) config granted answers =
+    (listed granted (read_questions (alone (parts_of item granted.pdu false))) part_refusal plain_number
+    (λ answers. good_end (octets_told answers) []))
+connected_plan (job.WriteArea item octets) granted =
     if_good (check_item item (length octets == octet_count item))
-    (asking (write_questions (alone (parts_of item granted.pdu true)) octets) write_number
-    (first_refusal part_refusal 0 answers) answers (all_read [] []))
-conversing (job.ReadMany items) config granted answers =
+    (listed granted (write_questions (alone (parts_of item granted.pdu true)) octets) part_refusal write_number
+    (λ answers. good_end [] []))
+connected_plan (job.ReadMany items) granted =
     if_good (check_items items true granted.pdu false)
-    (asking (read_questions (groups_of granted.pdu false items)) plain_number
-    (first_refusal telegram_refusal 0 answers) answers (all_read (octets_told answers) (codes_told answers)))
-conversing (job.WriteMany items octets) config granted answers =
+    (listed granted (read_questions (groups_of granted.pdu false items)) telegram_refusal plain_number
+    (λ answers. good_end (octets_told answers) (codes_told answers)))
+connected_plan (job.WriteMany items octets) granted =
     if_good (check_items items (length octets == octet_count_of items) granted.pdu true)
-    (asking (write_questions (groups_of granted.pdu true items) octets) plain_number
-    (first_refusal telegram_refusal 0 answers) answers (all_read [] (codes_told answers)))
-conversing job.Disconnect config granted answers = disconnecting answers
+    (listed granted (write_questions (groups_of granted.pdu true items) octets) telegram_refusal plain_number
+    (λ answers. good_end [] (codes_told answers)))
+connected_plan job.Disconnect granted = record { first = disconnect_request; conduct = silent departed_end }
 
-abbrev pub unconnected : Job → Config → List Answer → Next
-unconnected job.Connect config answers = connecting config answers
-unconnected (job.ReadArea item) config answers = with_number not_connected Disconnected
-unconnected (job.WriteArea item octets) config answers = with_number not_connected Disconnected
-unconnected (job.ReadMany items) config answers = with_number not_connected Disconnected
-unconnected (job.WriteMany items octets) config answers = with_number not_connected Disconnected
-unconnected job.Disconnect config answers = with_number not_connected Disconnected
+-- a connect request, then the negotiation
+abbrev pub connecting_plan : Config → Plan
+connecting_plan config = record { first = connect_request; conduct = negotiating config }
 
--- THE DIALOGUE of a job by what was granted before it and the answers so far, in the order of their
--- telegrams: the telegram that may be sent now, or the end
-abbrev pub dialogue : Job → Config → Option Grant → List Answer → Next
-dialogue job config None answers = unconnected job config answers
-dialogue job config (Some granted) answers = conversing job config granted answers
+-- that of a job on a client that isn't connected
+abbrev pub unconnected_plan : Job → Config → Plan
+unconnected_plan job.Connect config = connecting_plan config
+unconnected_plan (job.ReadArea item) config = over (number_end not_connected Disconnected)
+unconnected_plan (job.WriteArea item octets) config = over (number_end not_connected Disconnected)
+unconnected_plan (job.ReadMany items) config = over (number_end not_connected Disconnected)
+unconnected_plan (job.WriteMany items octets) config = over (number_end not_connected Disconnected)
+unconnected_plan job.Disconnect config = over (number_end not_connected Disconnected)
+
+-- THE PLAN of a job by what was granted before it
+abbrev pub plan_of : Job → Config → Option Grant → Plan
+plan_of job config None = unconnected_plan job config
+plan_of job config (Some granted) = connected_plan job granted

@@ -1,16 +1,21 @@
--- How long telegrams are: no longer than the PDU that was granted.
-use Rattle.std.specs.Prelude.{◌≡◌, ℕ, ◌≤◌, Some, List, length}
+-- How long and how many telegrams are.
+use Rattle.std.specs.Prelude.{◌≡◌, ℕ, ◌≤◌, max, Option, Some, List, length}
 use Rattle.s7_client.specs.declared.config.Config.{Config}
 use Rattle.s7_client.specs.declared.grant.Grant.{Grant}
 use Rattle.s7_client.specs.declared.job.Job.{Job}
 use Rattle.s7_client.specs.Question.{Question, question_octets}
 use Rattle.s7_client.specs.Answer.{Answer}
-use Rattle.s7_client.specs.Dialogue.{numbered, sends, dialogue}
+use Rattle.s7_client.specs.Flight.{open_count}
+use Rattle.s7_client.specs.Dialogue.{plan_of}
+use Rattle.s7_client.specs.Course.{Origin, course}
 
--- No message of a job on a connected client passes the PDU that was granted.
+-- No message of a job on a connected client passes the PDU that was granted, and never are more unanswered than jobs
+-- were granted, or one.
 pub record TelegramsFit : Type 0 where
   -- whatever was answered so far
-  pub fits : (asked : Job) (config : Config) (granted : Grant) (answers : List Answer) (question : Question) (sequence : ℕ)
-      → 64 ≤ granted.pdu
-      → dialogue asked config (Some granted) answers ≡ sends (numbered question)
+  pub fits : (asked : Job) (config : Config) (granted : Grant) (answers : List (Option Answer)) (question : Question)
+      (sequence : ℕ) → 64 ≤ granted.pdu
+      → (plan_of asked config (Some granted)).conduct.question_at answers ≡ Some question
       → length (question_octets sequence question) ≤ granted.pdu
+  pub few : (origin : Origin) (granted : Grant) (b : List ℕ) → origin.granted ≡ Some granted
+      → open_count (course origin b).rows ≤ max 1 granted.jobs

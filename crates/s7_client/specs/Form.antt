@@ -1,5 +1,5 @@
 -- The form of ends: what a job gives where it came off, by what was asked.
-use Rattle.std.specs.Prelude.{◌≡◌, ◌≢◌, ℕ, ◌+◌, ◌≤◌, ◌==◌, if◌then◌else◌, List, [], ◌∷◌, ◌++◌, length}
+use Rattle.std.specs.Prelude.{◌≡◌, ◌≢◌, ℕ, ◌+◌, ◌≤◌, ◌==◌, if◌then◌else◌, List, [], ◌∷◌, length}
 use Rattle.std.specs.Option.{ForSome}
 use Rattle.s7_item.specs.declared.item.Item.{Item}
 use Rattle.s7_item.specs.Item.{octet_count}
@@ -8,9 +8,8 @@ use Rattle.s7_client.specs.declared.job.Job.{Job}
 use Rattle.s7_client.specs.declared.job.Job.TheVariants as job
 use Rattle.s7_header.specs.Negotiation.{least_pdu}
 use Rattle.s7_client.specs.Codes.{no_fault}
-use Rattle.s7_client.specs.Answer.{Answer, departed}
-use Rattle.s7_client.specs.Dialogue.{End, ends, fault_end, dialogue}
-use Rattle.s7_client.specs.Course.{Origin, for_departure, for_nothing, course}
+use Rattle.s7_client.specs.Dialogue.{End, fault_end}
+use Rattle.s7_client.specs.Course.{Origin, for_departure, for_nothing, conduct_of, course}
 
 -- how many octets an item with this code has: none where it wasn't read
 abbrev pub count_read : Item → ℕ → ℕ
@@ -59,9 +58,7 @@ pub record EndsHaveForm : Type 0 where
       → ForSome origin.granted (λ (grant : Grant). least_pdu ≤ grant.pdu)
       → (course origin b).awaits ≡ for_nothing end carried → IsWhole origin.job end
   -- the end once a disconnect request was transmitted, which only a disconnect transmits
-  pub departure : (origin : Origin) (b : List ℕ) (answers : List Answer) (end : End)
-      → (course origin b).awaits ≡ for_departure
-      → dialogue origin.job origin.config origin.granted (answers ++ departed ∷ []) ≡ ends end
-      → (origin.job ≡ job.Disconnect) × HasForm origin.job end
+  pub departure : (origin : Origin) (b : List ℕ) → (course origin b).awaits ≡ for_departure
+      → (origin.job ≡ job.Disconnect) × HasForm origin.job ((conduct_of origin).ended [])
   -- the end by a fault of the link
   pub fault : (done : Job) (code : ℕ) → code ≢ no_fault → HasForm done (fault_end code)

@@ -1,113 +1,243 @@
--- What a job under way keeps, so that it can go on from answer to answer as its dialogue does.
-use Rattle.std.specs.Prelude.{◌≡◌, ℕ, ◌+◌, ◌≤◌, Bool, true, false, ◌==◌, ◌&&◌, if◌then◌else◌, List, [], ◌∷◌, length, drop, Option, None, Some}
-use Rattle.s7_outer.specs.Held.{Held}
+-- What a job under way keeps, so that it goes on from answer to answer as its conduct says.
+use Rattle.std.specs.Prelude.{◌≡◌, ℕ, ◌==◌, Bool, true, false, if◌then◌else◌, List, [], ◌∷◌, ◌++◌, length, take, replicate, slice_get, Option, None, Some}
+use Rattle.std.specs.Bool.{MatchBool}
+use Rattle.std.specs.List.{flat_map, AllByRecursion}
 use Rattle.s7_item.specs.declared.item.Item.{Item}
+use Rattle.s7_item.specs.Item.{octet_count}
 use Rattle.s7_client.specs.declared.config.Config.{Config}
 use Rattle.s7_client.specs.declared.grant.Grant.{Grant}
-use Rattle.s7_client.specs.declared.grant.Leaves.TheVariants.{AsItWas}
 use Rattle.s7_client.specs.declared.job.Job.{Job}
 use Rattle.s7_client.specs.declared.job.Job.TheVariants as job
-use Rattle.s7_client.specs.declared.answer.Asked.{Asked}
-use Rattle.s7_client.specs.declared.answer.Asked.TheVariants as asked
+use Rattle.s7_client.specs.declared.asking.Asking.{Asking}
+use Rattle.s7_client.specs.declared.left.Left.{Left}
+use Rattle.s7_client.specs.declared.running.Running.{Running}
 use Rattle.s7_client.specs.declared.running.Stage.{Stage}
 use Rattle.s7_client.specs.declared.running.Stage.TheVariants as stage
-use Rattle.s7_client.specs.Codes.{no_fault}
-use Rattle.s7_client.specs.Question.{Question}
-use Rattle.s7_client.specs.Answer.{Answer}
-use Rattle.s7_client.specs.Checks.{octet_count_of}
+use Rattle.s7_client.specs.Question.{Question, negotiates, reads, writes}
+use Rattle.s7_client.specs.Answer.{Answer, ItemAnswer, grants, tells, notes, refuses}
 use Rattle.s7_client.specs.Refusals.{telegram_refusal, part_refusal}
-use Rattle.s7_client.specs.Left.{groups_left}
-use Rattle.s7_client.specs.Stages.{octets_of, is_alone, joined}
-use Rattle.s7_client.specs.Dialogue.{Next, dialogue, read_questions, write_questions, first_refusal, asking, write_number, octets_told, codes_told, all_read}
+use Rattle.s7_client.specs.Flight.{Row, answers_of}
+use Rattle.s7_client.specs.Left.{joined, questions_left, items_left, octets_left}
+use Rattle.s7_client.specs.Dialogue.{End, Conduct, asked_by, negotiated, departed_end, read_questions, write_questions, first_refusal, write_number, by_refusal, items_told, codes_in, of_answer, octets_told, codes_told, good_end, plan_of}
+use Rattle.s7_client.specs.Course.{Course}
+use Rattle.s7_client.specs.Stages.{unput_by}
+use Rattle.s7_client.specs.declared.asking.Refused.{Refused}
+use Rattle.s7_client.specs.Asks.{Asks, items_of, refused_at, Refuses}
 
--- ---- the dialogue of a read or write by whether each item is asked for alone, and whether it writes
-
+-- the refusal of an answer, by whether each item is asked for alone
 abbrev pub refusal_by : Bool → Answer → Option ℕ
 refusal_by alone answer = if alone then part_refusal answer else telegram_refusal answer
 
-abbrev pub number_by : Bool → Bool → ℕ → ℕ → ℕ
-number_by alone write place number = if alone && write then write_number place number else number
+-- ---- conducts by the job
 
-abbrev pub octets_by : Bool → List Answer → List ℕ
-octets_by write answers = if write then [] else octets_told answers
+-- the questions of a job, a read or write of these groups
+abbrev pub questions_of : Config → Job → List (List Item) → List Question
+questions_of config job.Connect groups = negotiates (asked_by config) ∷ []
+questions_of config (job.ReadArea item) groups = read_questions groups
+questions_of config (job.WriteArea item octets) groups = write_questions groups octets
+questions_of config (job.ReadMany items) groups = read_questions groups
+questions_of config (job.WriteMany items octets) groups = write_questions groups octets
+questions_of config job.Disconnect groups = []
 
-abbrev pub codes_by : Bool → List Answer → List ℕ
-codes_by alone answers = if alone then [] else codes_told answers
+-- the number of the refusal that an answer is
+abbrev pub refusal_of : Job → Answer → Option ℕ
+refusal_of job.Connect answer = None
+refusal_of (job.ReadArea item) answer = part_refusal answer
+refusal_of (job.WriteArea item octets) answer = part_refusal answer
+refusal_of (job.ReadMany items) answer = telegram_refusal answer
+refusal_of (job.WriteMany items octets) answer = telegram_refusal answer
+refusal_of job.Disconnect answer = None
 
--- the questions of groups, with these octets in a write
-abbrev pub questions_by : Bool → List (List Item) → List ℕ → List Question
-questions_by write groups octets = if write then write_questions groups octets else read_questions groups
+-- the number that the refusal at a place ends the job with
+abbrev pub number_of : Job → ℕ → ℕ → ℕ
+number_of job.Connect place number = number
+number_of (job.ReadArea item) place number = number
+number_of (job.WriteArea item octets) place number = write_number place number
+number_of (job.ReadMany items) place number = number
+number_of (job.WriteMany items octets) place number = number
+number_of job.Disconnect place number = number
 
--- the dialogue of these questions
-abbrev pub conducted : Bool → Bool → List Question → List Answer → Next
-conducted alone write questions answers =
-    asking questions (number_by alone write) (first_refusal (refusal_by alone) 0 answers) answers
-    (all_read (octets_by write answers) (codes_by alone answers))
+-- the end of a read or write that no answer refuses
+abbrev pub finished : Job → List (Option Answer) → End
+finished job.Connect answers = good_end [] []
+finished (job.ReadArea item) answers = good_end (octets_told answers) []
+finished (job.WriteArea item octets) answers = good_end [] []
+finished (job.ReadMany items) answers = good_end (octets_told answers) (codes_told answers)
+finished (job.WriteMany items octets) answers = good_end [] (codes_told answers)
+finished job.Disconnect answers = good_end [] []
 
--- The dialogue is that of questions of which these answers have left those of the groups. No answer
--- refuses; the octets and the codes are those that were told; there is room for what is left.
-pub record Conducts (alone write : Bool) (next : List Answer → Next) (answers : List Answer) (held : Held) (noted : List ℕ) (is_first : Bool) (groups : List (List Item)) (octets : List ℕ) : Type 0 where
-  pub questions : List Question
-  pub leads : (later : List Answer) → next later ≡ conducted alone write questions later
-  pub rest : drop (length answers) questions ≡ questions_by write groups octets
-  pub unrefused : first_refusal (refusal_by alone) 0 answers ≡ None
-  pub found : held.octets ≡ octets_by write answers
-  pub room : write ≡ false → length held.octets + octet_count_of (joined groups) ≤ held.room
-  pub codes : noted ≡ codes_by alone answers
-  pub few : alone ≡ false → length noted + length (joined groups) ≤ 20
-  pub first : is_first ≡ (length answers == 0)
+abbrev pub ended_by : Job → List (Option Answer) → End
+ended_by job answers = by_refusal (number_of job) (first_refusal (refusal_of job) 0 answers) (finished job answers)
 
--- nothing was found and no codes are noted
-pub record IsBlank (held : Held) (noted : List ℕ) : Type 0 where
-  pub octets : held.octets ≡ []
-  pub codes : noted ≡ []
+abbrev pub ended_of : Config → Job → List (Option Answer) → End
+ended_of config job.Connect answers = negotiated config answers
+ended_of config (job.ReadArea item) answers = ended_by (job.ReadArea item) answers
+ended_of config (job.WriteArea item octets) answers = ended_by (job.WriteArea item octets) answers
+ended_of config (job.ReadMany items) answers = ended_by (job.ReadMany items) answers
+ended_of config (job.WriteMany items octets) answers = ended_by (job.WriteMany items octets) answers
+ended_of config job.Disconnect answers = departed_end
 
--- a connect before its first answer, after it, and a disconnect
-pub record Opens (done : Job) (before : Option Grant) (all : List Answer) (held : Held) (noted : List ℕ) : Type 0 where
-  pub job : done ≡ job.Connect
-  pub granted : before ≡ None
-  pub answers : all ≡ []
-  pub blank : IsBlank held noted
+abbrev pub conducted : Config → Job → ℕ → List (List Item) → Conduct
+conducted config job width groups = record {
+  width = width;
+  question_at = λ (answers : List (Option Answer)). slice_get (questions_of config job groups) (length answers);
+  refusal = refusal_of job;
+  ended = ended_of config job;
+}
 
-pub record Negotiates (done : Job) (before : Option Grant) (all : List Answer) (held : Held) (noted : List ℕ) : Type 0 where
-  pub job : done ≡ job.Connect
-  pub granted : before ≡ None
-  pub confirm : Answer
-  pub answers : all ≡ confirm ∷ []
-  pub blank : IsBlank held noted
+-- each item is alone
+abbrev pub AreAlone : List (List Item) → Type 0
+AreAlone groups = AllByRecursion (λ (group : List Item). length group ≡ 1) groups
 
-pub record Leaves (done : Job) (before : Option Grant) (all : List Answer) (held : Held) (noted : List ℕ) : Type 0 where
-  pub job : done ≡ job.Disconnect
-  pub grant : Grant
-  pub granted : before ≡ Some grant
-  pub answers : all ≡ []
-  pub blank : IsBlank held noted
+-- the groups of a read of one item are one item each, and those of a read of several are these items
+abbrev pub AreGroupsOf : Job → List (List Item) → Type 0
+AreGroupsOf job.Connect groups = Unit {0}
+AreGroupsOf (job.ReadArea item) groups = AreAlone groups
+AreGroupsOf (job.WriteArea item octets) groups = Unit {0}
+AreGroupsOf (job.ReadMany items) groups = joined groups ≡ items
+AreGroupsOf (job.WriteMany items octets) groups = Unit {0}
+AreGroupsOf job.Disconnect groups = Unit {0}
 
-abbrev pub AsksOn : Job → Config → Option Grant → List Answer → Held → List ℕ → List (List Item) → ℕ → Bool → Asked → Type 0
-AsksOn job config granted answers held noted groups from is_first asked.Negotiation =
-    Negotiates job granted answers held noted
-AsksOn job config granted answers held noted groups from is_first (asked.Read items) =
-    Conducts (is_alone job) false (dialogue job config granted) answers held noted is_first (items ∷ groups) (drop from (octets_of job))
-AsksOn job config granted answers held noted groups from is_first (asked.Write items) =
-    Conducts (is_alone job) true (dialogue job config granted) answers held noted is_first (items ∷ groups) (drop from (octets_of job))
+-- ---- what was found
 
--- what the job keeps after these answers, by its stage
-abbrev pub GoesOn : Job → Config → Option Grant → List Answer → Held → List ℕ → Stage → Type 0
-GoesOn job config granted answers held noted stage.Opening = Opens job granted answers held noted
-GoesOn job config granted answers held noted (stage.Asking asked left from is_first) =
-    AsksOn job config granted answers held noted (groups_left left) from is_first asked
-GoesOn job config granted answers held noted stage.Leaving = Leaves job granted answers held noted
-GoesOn job config granted answers held noted (stage.Over code leaves) = Unit {0}
+-- so many numbers: these, and then 00
+abbrev pub filled_up : ℕ → List ℕ → List ℕ
+filled_up n numbers = take n (numbers ++ replicate n 0)
 
--- ---- the stage that asks for the first of groups
+-- the octets of items at their places, by what is told of the first of them
+abbrev pub octets_at_places : List Item → List ItemAnswer → List ℕ
+octets_at_places [] answers = []
+octets_at_places (item ∷ items) [] = filled_up (octet_count item) [] ++ octets_at_places items []
+octets_at_places (item ∷ items) (answer ∷ answers) =
+    filled_up (octet_count item) answer.octets ++ octets_at_places items answers
 
--- the stage asks for the first group, before the others, or is the end where there is none
-abbrev pub Moves : Bool → List (List Item) → ℕ → Bool → Stage → Type 0
-Moves write groups from first stage.Opening = ⊥
-Moves write groups from first (stage.Asking asked.Negotiation left at is_first) = ⊥
-Moves write groups from first (stage.Asking (asked.Read items) left at is_first) =
-    (write ≡ false) × (groups ≡ items ∷ groups_left left) × (at ≡ from) × (is_first ≡ first)
-Moves write groups from first (stage.Asking (asked.Write items) left at is_first) =
-    (write ≡ true) × (groups ≡ items ∷ groups_left left) × (at ≡ from) × (is_first ≡ first)
-Moves write groups from first stage.Leaving = ⊥
-Moves write groups from first (stage.Over code leaves) = (groups ≡ []) × (code ≡ no_fault) × (leaves ≡ AsItWas)
+abbrev pub told_of_items : Option Answer → List ItemAnswer
+told_of_items None = []
+told_of_items (Some answer) = items_told answer
+
+-- those of a question's items, and their codes
+abbrev pub octets_of_row : Row → List ℕ
+octets_of_row row = octets_at_places (items_of row.question) (told_of_items row.answer)
+
+abbrev pub codes_of_row : Row → List ℕ
+codes_of_row row = filled_up (length (items_of row.question)) (of_answer codes_in row.answer)
+
+-- what was found by the answers so far, before what is left to ask
+abbrev pub octets_so_far : List Row → Left → List ℕ
+octets_so_far rows left = flat_map octets_of_row rows ++ replicate (octets_left left) 0
+
+abbrev pub codes_so_far : List Row → Left → List ℕ
+codes_so_far rows left = flat_map codes_of_row rows ++ replicate (items_left left) 0
+
+-- reads and writes ask for groups
+abbrev pub asks_groups : Job → Bool
+asks_groups job.Connect = false
+asks_groups (job.ReadArea item) = true
+asks_groups (job.WriteArea item octets) = true
+asks_groups (job.ReadMany items) = true
+asks_groups (job.WriteMany items octets) = true
+asks_groups job.Disconnect = false
+
+-- reads bring octets
+abbrev pub brings_octets : Job → Bool
+brings_octets job.Connect = false
+brings_octets (job.ReadArea item) = true
+brings_octets (job.WriteArea item octets) = false
+brings_octets (job.ReadMany items) = true
+brings_octets (job.WriteMany items octets) = false
+brings_octets job.Disconnect = false
+
+-- and reads and writes of several items bring codes
+abbrev pub brings_codes : Job → Bool
+brings_codes job.Connect = false
+brings_codes (job.ReadArea item) = false
+brings_codes (job.WriteArea item octets) = false
+brings_codes (job.ReadMany items) = true
+brings_codes (job.WriteMany items octets) = true
+brings_codes job.Disconnect = false
+
+-- ---- answers that fit their questions
+
+-- an item that was read has all its octets, and one that was refused has none
+abbrev pub TellsItem : Item → ItemAnswer → Type 0
+TellsItem item answer =
+    MatchBool (answer.code == 0xFF) (length answer.octets ≡ octet_count item) (answer.octets ≡ [])
+
+abbrev pub TellAll : List Item → List ItemAnswer → Type 0
+TellAll [] [] = Unit {0}
+TellAll [] (answer ∷ answers) = ⊥
+TellAll (item ∷ items) [] = ⊥
+TellAll (item ∷ items) (answer ∷ answers) = TellsItem item answer × TellAll items answers
+
+abbrev pub FitsQuestion : Question → Answer → Type 0
+FitsQuestion (negotiates told) answer = Unit {0}
+FitsQuestion (reads items) (grants granted) = ⊥
+FitsQuestion (reads items) (tells answers) = TellAll items answers
+FitsQuestion (reads items) (notes codes) = ⊥
+FitsQuestion (reads items) (refuses error) = Unit {0}
+FitsQuestion (writes items octets) (grants granted) = ⊥
+FitsQuestion (writes items octets) (tells answers) = ⊥
+FitsQuestion (writes items octets) (notes codes) = length codes ≡ length items
+FitsQuestion (writes items octets) (refuses error) = Unit {0}
+
+abbrev pub FitsIfTold : Question → Option Answer → Type 0
+FitsIfTold question None = Unit {0}
+FitsIfTold question (Some answer) = FitsQuestion question answer
+
+abbrev pub IsFit : Row → Type 0
+IsFit row = FitsIfTold row.question row.answer
+
+abbrev pub IsUnanswered : Row → Type 0
+IsUnanswered row = row.answer ≡ None
+
+-- ---- jobs that go on
+
+-- The job asks as its conduct says, these telegrams went out, and these answers were kept: which of them refuses
+-- first, and what was found.
+pub record Conducts (config : Config) (granted : Option Grant) (rows told : List Row) (job : Job)
+    (found codes : List ℕ) (a : Asking) : Type 0 where
+  pub groups : List (List Item)
+  pub conduct : (plan_of job config granted).conduct ≡ conducted config job a.width groups
+  pub whole : AreGroupsOf job groups
+  pub asks : Asks config job (questions_of config job groups) rows a
+  pub fit : AllByRecursion IsFit rows
+  -- the answer to a negotiation ends its job
+  pub unanswered : asks_groups job ≡ false → AllByRecursion IsUnanswered rows
+  pub refused : refused_at a.refused ≡ first_refusal (refusal_of job) 0 (answers_of told)
+  pub octets : asks_groups job ≡ true → found ≡ (if brings_octets job then octets_so_far told a.left else [])
+  pub noted : asks_groups job ≡ true → codes ≡ (if brings_codes job then codes_so_far told a.left else [])
+
+-- All that it asked since went out, under sequences up to this last one, and it goes on with it.
+pub record HasAsked (config : Config) (granted : Option Grant) (job : Job) (found codes : List ℕ) (a : Asking)
+    (course now : Course) (a' : Asking) (last : ℕ) : Type 0 where
+  pub conducts : Conducts config granted now.rows now.rows job found codes a'
+  pub sequence : last ≡ now.sequence
+  pub size : now.size ≡ course.size
+  pub out : (front : List ℕ) → course.out ≡ front ++ unput_by config course.size job (stage.Asking a)
+      → now.out ≡ front ++ unput_by config course.size job (stage.Asking a')
+
+abbrev pub ConductsAt : Config → Option Grant → List Row → List Row → Job → List ℕ → List ℕ → Stage → Type 0
+ConductsAt config granted rows told job found codes stage.Opening = ⊥
+ConductsAt config granted rows told job found codes (stage.Asking a) =
+    Conducts config granted rows told job found codes a
+ConductsAt config granted rows told job found codes stage.Leaving = ⊥
+ConductsAt config granted rows told job found codes (stage.Over code leaves) = ⊥
+
+-- the question at a place was refused
+abbrev pub RefusesAt : Stage → ℕ → ℕ → Stage → Type 0
+RefusesAt before place number stage.Opening = ⊥
+RefusesAt before place number (stage.Asking b) = (a : Asking) × (before ≡ stage.Asking a) × Refuses a place number b
+RefusesAt before place number stage.Leaving = ⊥
+RefusesAt before place number (stage.Over code leaves) = ⊥
+
+-- no telegram is unanswered, and this answer is the first that refused, or nothing is left to ask
+abbrev pub IsDone : Stage → Option Refused → Type 0
+IsDone stage.Opening refused = ⊥
+IsDone (stage.Asking a) refused =
+    (a.flights.items ≡ []) × (a.refused ≡ refused) × (refused ≡ None → questions_left a.left ≡ 0)
+IsDone stage.Leaving refused = ⊥
+IsDone (stage.Over code leaves) refused = ⊥
+
+-- WHAT A JOB KEEPS after these telegrams and their answers
+abbrev pub GoesOn : Running → Config → Option Grant → List Row → Type 0
+GoesOn r config granted rows = ConductsAt config granted rows rows r.job r.found.items r.codes r.stage

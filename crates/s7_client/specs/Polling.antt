@@ -1,5 +1,5 @@
 -- What starting and polling do.
-use Rattle.std.specs.Prelude.{◌≡◌, ◌⊎◌, ℕ, ◌+◌, ◌<◌, ◌≤◌, Bool, true, false, List, [], ◌++◌, length, Option, None, Some, option_map, IsSome, ◌-◌, if◌then◌else◌}
+use Rattle.std.specs.Prelude.{◌≡◌, ◌⊎◌, ℕ, ◌+◌, ◌<◌, ◌≤◌, Bool, true, false, List, [], ◌++◌, Option, None, Some, option_map, IsSome, ◌-◌, if◌then◌else◌}
 use Rattle.s7_outer.specs.Shown.{Shown}
 use Rattle.s7_outer.specs.Count.{Rose}
 use Rattle.s7_client.specs.declared.config.Config.{Config}
@@ -14,13 +14,13 @@ use Rattle.s7_client.specs.Codes.{timed_out}
 use Rattle.s7_client.specs.declared.under_way.UnderWay.{UnderWay}
 use Rattle.s7_client.specs.declared.client.Client.{Client}
 use Rattle.s7_cotp.specs.Gathered.{empty}
-use Rattle.s7_wire.specs.Bounds.{first_limit, message_limit, size_of_code, most_packets}
+use Rattle.s7_wire.specs.Bounds.{first_limit, message_limit, size_of_code}
 use Rattle.s7_client.specs.declared.line.Line.{Line}
 use Rattle.s7_client.specs.declared.running.Running.{Running}
-use Rattle.s7_client.specs.Dialogue.{End, ends, fault_end}
-use Rattle.s7_client.specs.Running.{IsResult, IsOver, next_of}
-use Rattle.s7_client.specs.Course.{Origin, begins_anew, course, asked_size_code, octets_of, sequence_by}
-use Rattle.s7_client.specs.At.{LeavesOpen, limit_at}
+use Rattle.s7_client.specs.Dialogue.{End, fault_end}
+use Rattle.s7_client.specs.Running.{IsResult, IsOver, awaited_in}
+use Rattle.s7_client.specs.Course.{Origin, begins_anew, course, for_nothing, asked_size_code}
+use Rattle.s7_client.specs.At.{LeavesOpen, BeginsTalk, limit_at}
 use Rattle.s7_client.specs.Standing.{Stands, Fits, IsBetween, Moves, HasCause, HasMetNotYet, IsUnderWay, IsFault, unread, unsent}
 
 -- the job that is outstanding
@@ -57,7 +57,13 @@ unread_of c = unread c.line
 
 -- where a job starts on a client
 abbrev pub origin_at : Client → Job → Origin
-origin_at c job = record { job = job; config = c.config; granted = c.granted; size = size_of c; sequence = sequence_of c }
+origin_at c job = record {
+  job = job;
+  config = c.config;
+  granted = c.granted;
+  size = size_of c;
+  sequence = sequence_of c;
+}
 
 -- The client stands for the octets that its job has used and those that it has transmitted, since it started there.
 pub record StandsFor (c : Client) (origin : Origin) (b written : List ℕ) : Type 0 where
@@ -106,7 +112,8 @@ closed_after leaving.Disconnected closed = closed
 closed_after leaving.Closed closed = true
 
 -- the job met a link that had nothing to give, or no room, as often as it may
-pub record IsByPatience (origin : Origin) (link link' : Shown) (kept : List ℕ) (end : End) (carried b written : List ℕ) (waited : Option ℕ) : Type 0 where
+pub record IsByPatience (origin : Origin) (link link' : Shown) (kept : List ℕ) (end : End) (carried b written : List ℕ)
+    (waited : Option ℕ) : Type 0 where
   pub last : waited ≡ Some (origin.config.polls - 1)
   pub rose : Rose link.waits link'.waits
   pub met : HasMetNotYet origin kept link' b written
@@ -116,10 +123,12 @@ pub record IsByPatience (origin : Origin) (link link' : Shown) (kept : List ℕ)
 -- why a job is done
 abbrev pub IsDoneBy : Origin → Shown → Shown → List ℕ → End → List ℕ → List ℕ → List ℕ → Option ℕ → Type 0
 IsDoneBy origin link link' kept end carried b written waited =
-    HasCause origin link link' kept end carried b written ⊎ IsByPatience origin link link' kept end carried b written waited
+    HasCause origin link link' kept end carried b written
+    ⊎ IsByPatience origin link link' kept end carried b written waited
 
 -- how a job that started there and has used and transmitted these octets is done
-pub record IsDone (origin : Origin) (link link' : Shown) (old new : Client) (told : JobResult) (b written : List ℕ) : Type 0 where
+pub record IsDone (origin : Origin) (link link' : Shown) (old new : Client) (told : JobResult)
+    (b written : List ℕ) : Type 0 where
   pub end : End
   pub carried : List ℕ
   pub result : IsResult told origin.job end carried
@@ -152,10 +161,12 @@ pub record Pends (old new : Client) (link link' : Shown) : Type 0 where
 abbrev pub Comes : Client → Shown → Client → Shown → List ℕ → List ℕ → Polled → Type 0
 Comes old link new link' used written (polled.Done result) =
     (IsSome (job_of old)) × (job_of new ≡ None)
-    × ((origin : Origin) (b w : List ℕ) → StandsFor old origin b w → IsDone origin link link' old new result (b ++ used) (w ++ written))
+    × ((origin : Origin) (b w : List ℕ) → StandsFor old origin b w
+    → IsDone origin link link' old new result (b ++ used) (w ++ written))
 Comes old link new link' used written polled.Pending =
     Pends old new link link'
-    × ((origin : Origin) (b w : List ℕ) → StandsFor old origin b w → IsPending origin link' new (b ++ used) (w ++ written))
+    × ((origin : Origin) (b w : List ℕ) → StandsFor old origin b w
+    → IsPending origin link' new (b ++ used) (w ++ written))
 Comes old link new link' used written polled.Idle =
     (job_of old ≡ None) × (new ≡ old) × (link' ≡ link)
 
@@ -176,18 +187,6 @@ pub record IsNew (l : Line) : Type 0 where
   pub sent : unsent l ≡ []
   pub unread : unread l ≡ []
 
--- the first telegram of a job was put
-pub record BeginsLine (l l' : Line) (r : Running) (config : Config) : Type 0 where
-  pub sent : unsent l' ≡ octets_of config l.talk.size l'.talk.sequence (next_of config r)
-  pub sequence : l'.talk.sequence ≡ sequence_by l.talk.sequence (next_of config r)
-  pub few : length (unsent l') ≤ most_packets
-  pub size : l'.talk.size ≡ l.talk.size
-  pub joiner : l'.talk.joiner ≡ l.talk.joiner
-  pub inbox : l'.inbox ≡ l.inbox
-  pub held : l'.cutter.held ≡ []
-  pub limit : l'.cutter.limit ≡ limit_at r.stage l'.talk.size
-  pub most : l'.cutter.limit ≤ 8199
-
 -- ---- the parts of a poll
 
 -- a poll met not yet, and the job goes on or has met it too often
@@ -195,26 +194,30 @@ pub record Waits (u u' : UnderWay) (polls : ℕ) (goes_on : Bool) : Type 0 where
   pub same : goes_on ≡ true → u' ≡ record u { waited = u.waited + 1 }
   pub patient : goes_on ≡ true → u.waited + 1 < polls
   pub last : goes_on ≡ false → u.waited + 1 ≡ polls
-  pub fails : goes_on ≡ false → (config : Config) → next_of config u'.running ≡ ends (fault_end timed_out)
+  pub fails : goes_on ≡ false → awaited_in u'.running [] ≡ for_nothing (fault_end timed_out) []
   pub over : goes_on ≡ false → IsOver u'.running.stage
   pub job : u'.running.job ≡ u.running.job
   pub carried : u'.carried ≡ u.carried
 
 -- the job goes on after a round of steps
-pub record RoundGoesOn (l : Line) (u : UnderWay) (link : Shown) (l' : Line) (u' : UnderWay) (link' : Shown) (config : Config) (granted : Option Grant) : Type 0 where
+pub record RoundGoesOn (l : Line) (u : UnderWay) (link : Shown) (l' : Line) (u' : UnderWay) (link' : Shown)
+    (config : Config) (granted : Option Grant) : Type 0 where
   pub moves : Moves (unread l) link (unread l') link'
   pub fits : Fits l' u'
   pub rose : Rose link.waits link'.waits
   pub waited : u'.waited ≡ u.waited + 1
   pub patient : u'.waited < config.polls
-  pub stood : (origin : Origin) (b w : List ℕ) → origin.config ≡ config → origin.granted ≡ granted → Stands origin l u b w
-      → Stands origin l' u' (b ++ moves.used) (w ++ moves.written) × HasMetNotYet origin (unread l') link' (b ++ moves.used) (w ++ moves.written)
+  pub stood : (origin : Origin) (b w : List ℕ) → origin.config ≡ config → origin.granted ≡ granted
+      → Stands origin l u b w
+      → Stands origin l' u' (b ++ moves.used) (w ++ moves.written)
+      × HasMetNotYet origin (unread l') link' (b ++ moves.used) (w ++ moves.written)
 
 -- how a job is over
-pub record EndsBy (origin : Origin) (link link' : Shown) (l : Line) (u : UnderWay) (b written : List ℕ) (waited : ℕ) : Type 0 where
+pub record EndsBy (origin : Origin) (link link' : Shown) (l : Line) (u : UnderWay) (b written : List ℕ)
+    (waited : ℕ) : Type 0 where
   pub end : End
   pub carried : List ℕ
-  pub next : (k : Config) → next_of k u.running ≡ ends end
+  pub ends_as : awaited_in u.running [] ≡ for_nothing end []
   pub carries : u.carried.octets ≡ carried
   pub size : l.talk.size ≡ (course origin b).size
   pub sequence : l.talk.sequence ≡ (course origin b).sequence
@@ -222,11 +225,13 @@ pub record EndsBy (origin : Origin) (link link' : Shown) (l : Line) (u : UnderWa
   pub cause : IsDoneBy origin link link' (unread l) end carried b written (Some waited)
 
 -- the job is over after it
-pub record RoundEnds (l : Line) (u : UnderWay) (link : Shown) (l' : Line) (u' : UnderWay) (link' : Shown) (config : Config) (granted : Option Grant) : Type 0 where
+pub record RoundEnds (l : Line) (u : UnderWay) (link : Shown) (l' : Line) (u' : UnderWay) (link' : Shown)
+    (config : Config) (granted : Option Grant) : Type 0 where
   pub moves : Moves (unread l) link (unread l') link'
   pub over : IsOver u'.running.stage
   pub left : LeavesOpen u'.running.stage → IsBetween l'
-  pub ends_by : (origin : Origin) (b w : List ℕ) → origin.config ≡ config → origin.granted ≡ granted → Stands origin l u b w
+  pub ends_by : (origin : Origin) (b w : List ℕ) → origin.config ≡ config → origin.granted ≡ granted
+      → Stands origin l u b w
       → EndsBy origin link link' l' u' (b ++ moves.used) (w ++ moves.written) u.waited
 
 abbrev pub Round : Line → UnderWay → Shown → Line → UnderWay → Shown → Config → Option Grant → Bool → Type 0
@@ -238,3 +243,11 @@ pub record IsBlank (u : UnderWay) : Type 0 where
   pub carried : u.carried.octets ≡ []
   pub room : u.carried.room ≡ 8192
   pub waited : u.waited ≡ 0
+
+-- a job of which nothing was used begins on a line
+pub record BeginsLine (config : Config) (l : Line) (r : Running) (l' : Line) (r' : Running) : Type 0 where
+  pub talk : BeginsTalk config l.talk r l'.talk r'
+  pub held : l'.cutter.held ≡ []
+  pub limit : l'.cutter.limit ≡ limit_at r'.stage l'.talk.size
+  pub most : l'.cutter.limit ≤ 8199
+  pub inbox : unread l' ≡ unread l

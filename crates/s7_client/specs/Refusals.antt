@@ -1,7 +1,7 @@
 -- The numbers of errors that refusals end a job with (Snap7 1.4 sources, `CpuError`).
 use Rattle.std.specs.Prelude.{ℕ, ◌==◌, ◌||◌, [], ◌∷◌, Option, None, Some, if◌then◌else◌}
 use Rattle.s7_client.specs.Codes.{over_pdu, address_out_of_range, invalid_transport, size_mismatch, not_available, invalid_value, no_such_function, password_needed, wrong_password, no_password, refused_otherwise}
-use Rattle.s7_client.specs.Answer.{Answer, confirms, grants, tells, notes, refuses, departed}
+use Rattle.s7_client.specs.Answer.{Answer, grants, tells, notes, refuses}
 
 -- by the error word of a header
 abbrev pub number_of_error : ℕ → ℕ
@@ -31,11 +31,9 @@ code_refusal code = if code == 0xFF then None else Some (number_of_code code)
 -- the refusal of a telegram, whatever became of its items
 abbrev pub telegram_refusal : Answer → Option ℕ
 telegram_refusal (refuses error) = Some (number_of_error error)
-telegram_refusal confirms = None
 telegram_refusal (grants granted) = None
 telegram_refusal (tells items) = None
 telegram_refusal (notes codes) = None
-telegram_refusal departed = None
 
 -- the refusal of a telegram or of its one item
 abbrev pub part_refusal : Answer → Option ℕ
@@ -46,6 +44,4 @@ part_refusal (tells (item ∷ next ∷ items)) = None
 part_refusal (notes (code ∷ [])) = code_refusal code
 part_refusal (notes []) = None
 part_refusal (notes (code ∷ next ∷ codes)) = None
-part_refusal confirms = None
 part_refusal (grants granted) = None
-part_refusal departed = None

@@ -1,24 +1,53 @@
 -- What contracts see of a job under way.
-use Rattle.std.specs.Prelude.{◌≡◌, ℕ, ◌≤◌, List, length, take, slice_index, Option}
+use Rattle.std.specs.Prelude.{◌≡◌, ℕ, ◌≤◌, List, [], ◌++◌, length, take, slice_index, Option}
 use Rattle.s7_client.specs.declared.config.Config.{Config}
 use Rattle.s7_client.specs.declared.grant.Grant.{Grant}
 use Rattle.s7_client.specs.declared.job.Job.{Job}
 use Rattle.s7_client.specs.declared.job.JobResult.{JobResult}
 use Rattle.s7_client.specs.declared.running.Running.{Running}
-use Rattle.s7_client.specs.Answer.{Answer}
-use Rattle.s7_client.specs.Dialogue.{Next, End, dialogue}
+use Rattle.s7_client.specs.declared.running.Stage.{Stage}
+use Rattle.s7_client.specs.declared.running.Stage.TheVariants as stage
+use Rattle.s7_client.specs.Flight.{Row}
+use Rattle.s7_client.specs.Dialogue.{End, Conduct, nothing, connect_request, disconnect_request, over, plan_of}
+use Rattle.s7_client.specs.Course.{Awaits, Course}
 use Rattle.s7_client.specs.GoesOn.{GoesOn}
-pub use Rattle.s7_client.specs.Stages.{octets_of, question_of, next_by, IsOpening, IsAsking, IsLeaving, IsOver, answers_left}
+pub use Rattle.s7_client.specs.Stages.{octets_of, question_of, unput_by, awaited_by, IsOpening, IsAsking, IsLeaving, IsOver, IsGrant, IsGoodLeave, answers_left}
 
--- the telegram that a job sent last, or its end
-abbrev pub next_of : Config → Running → Next
-next_of config r = next_by config r.job r.found.octets r.codes r.stage
+-- what the job awaits, where a message that was no answer is kept
+abbrev pub awaited_in : Running → List ℕ → Awaits
+awaited_in r carried = awaited_by r.found.items r.codes carried r.stage
 
--- The job follows its dialogue after these answers: its stage is what comes next, and what is left to
--- ask and what was found are those of the answers.
-pub record Follows (r : Running) (config : Config) (granted : Option Grant) (answers : List Answer) : Type 0 where
-  pub next : next_of config r ≡ dialogue r.job config granted answers
-  pub goes_on : GoesOn r.job config granted answers r.found r.codes r.stage
+-- the octets of the telegrams that aren't put yet, by the TPDU size
+abbrev pub unput_of : Config → ℕ → Running → List ℕ
+unput_of config size r = unput_by config size r.job r.stage
+
+abbrev pub conduct_in : Running → Config → Option Grant → Conduct
+conduct_in r config granted = (plan_of r.job config granted).conduct
+
+-- The job asks as its conduct says, and these are the telegrams that went out, with their answers.
+pub record Follows (r : Running) (config : Config) (granted : Option Grant) (rows : List Row) : Type 0 where
+  pub goes_on : GoesOn r config granted rows
+
+-- how a job begins, by the first of its plan
+abbrev pub BeginsAt : Running → Config → Option Grant → Stage → Type 0
+BeginsAt r config granted stage.Opening = (plan_of r.job config granted).first ≡ connect_request
+BeginsAt r config granted (stage.Asking a) =
+    ((plan_of r.job config granted).first ≡ nothing) × (a.unput ≡ 0) × Follows r config granted []
+BeginsAt r config granted stage.Leaving = (plan_of r.job config granted).first ≡ disconnect_request
+BeginsAt r config granted (stage.Over code leaves) =
+    plan_of r.job config granted ≡ over (record { code = code; octets = r.found.items; codes = r.codes; leaves = leaves })
+
+abbrev pub Begins : Running → Config → Option Grant → Type 0
+Begins r config granted = BeginsAt r config granted r.stage
+
+-- The job stands at this place of its course, after the last place that it was at, and has this last sequence. What it
+-- asked since isn't put yet.
+pub record Reached (config : Config) (granted : Option Grant) (before course : Course) (r : Running) (last : ℕ)
+    : Type 0 where
+  pub awaits : course.awaits ≡ awaited_in r []
+  pub follows : IsAsking r.stage → Follows r config granted course.rows
+  pub sequence : last ≡ course.sequence
+  pub out : course.out ≡ before.out ++ unput_of config before.size r
 
 -- what is told of a job that ended so, with the message that was no answer
 pub record IsResult (result : JobResult) (done : Job) (end : End) (message : List ℕ) : Type 0 where

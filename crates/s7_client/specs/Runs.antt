@@ -42,21 +42,29 @@ fresh = record { granted = None; is_closed = false; size = size_of_code asked_si
 
 -- where a job starts
 abbrev pub origin_from : Config → Between → Job → Origin
-origin_from config before job = record { job = job; config = config; granted = before.granted; size = before.size; sequence = before.sequence }
+origin_from config before job = record {
+  job = job;
+  config = config;
+  granted = before.granted;
+  size = before.size;
+  sequence = before.sequence;
+}
 
 -- what was read before and not used, but for a link that begins anew
 abbrev pub unread_at : Between → Job → List ℕ
 unread_at before job = if begins_anew before.granted job then [] else before.unread
 
 -- the job met a link that had nothing to give, or no room, in as many polls as it may
-pub record IsTired (origin : Origin) (link link' : Shown) (kept : List ℕ) (end : End) (carried b written : List ℕ) : Type 0 where
+pub record IsTired (origin : Origin) (link link' : Shown) (kept : List ℕ) (end : End)
+    (carried b written : List ℕ) : Type 0 where
   pub rose : RoseBy origin.config.polls link.waits link'.waits
   pub met : HasMetNotYet origin kept link' b written
   pub under_way : IsUnderWay origin b written
   pub fault : IsFault timed_out end carried
 
 -- One job from its start to its end, by the octets that it used and transmitted.
-pub record JobRun (config : Config) (before : Between) (asked : Job) (link link' : Shown) (told : JobResult) (after : Between) : Type 0 where
+pub record JobRun (config : Config) (before : Between) (asked : Job) (link link' : Shown) (told : JobResult)
+    (after : Between) : Type 0 where
   pub moves : Moves (unread_at before asked) link after.unread link'
   pub end : End
   pub carried : List ℕ
@@ -67,7 +75,8 @@ pub record JobRun (config : Config) (before : Between) (asked : Job) (link link'
   pub cause : HasCause (origin_from config before asked) link link' after.unread end carried moves.used moves.written
       ⊎ IsTired (origin_from config before asked) link link' after.unread end carried moves.used moves.written
   pub granted : after.granted ≡ grant_after end.leaves before.granted
-  pub closed : after.is_closed ≡ closed_after end.leaves (if begins_anew before.granted asked then false else before.is_closed)
+  pub closed : after.is_closed ≡ closed_after end.leaves
+      (if begins_anew before.granted asked then false else before.is_closed)
   pub size : after.size ≡ (course (origin_from config before asked) moves.used).size
   pub sequence : after.sequence ≡ (course (origin_from config before asked) moves.used).sequence
 
@@ -83,16 +92,19 @@ pub record StillWaits (old : Client) (link : Shown) (c : Client) (link' : Shown)
   pub polls : ℕ
   pub waited : waited_of c ≡ Some polls
   pub rose : RoseBy polls link.waits link'.waits
-  pub stood : (origin : Origin) (b w : List ℕ) → StandsFor old origin b w → StandsFor c origin (b ++ moves.used) (w ++ moves.written)
+  pub stood : (origin : Origin) (b w : List ℕ) → StandsFor old origin b w
+      → StandsFor c origin (b ++ moves.used) (w ++ moves.written)
 
 -- how a job is done, since the client stood for these octets
-pub record IsOverNow (origin : Origin) (link link' : Shown) (old new : Client) (told : JobResult) (b written : List ℕ) : Type 0 where
+pub record IsOverNow (origin : Origin) (link link' : Shown) (old new : Client) (told : JobResult)
+    (b written : List ℕ) : Type 0 where
   pub end : End
   pub carried : List ℕ
   pub result : IsResult told origin.job end carried
   pub granted : grant_of new ≡ grant_after end.leaves (grant_of old)
   pub closed : closed_of new ≡ closed_after end.leaves (closed_of old)
-  pub cause : HasCause origin link link' (unread_of new) end carried b written ⊎ IsTired origin link link' (unread_of new) end carried b written
+  pub cause : HasCause origin link link' (unread_of new) end carried b written
+      ⊎ IsTired origin link link' (unread_of new) end carried b written
   pub size : size_of new ≡ (course origin b).size
   pub sequence : sequence_of new ≡ (course origin b).sequence
 
@@ -101,4 +113,5 @@ pub record Completes (old : Client) (link : Shown) (new : Client) (link' : Shown
   pub moves : Moves (unread_of old) link (unread_of new) link'
   pub config : config_of new ≡ config_of old
   pub idle : job_of new ≡ None
-  pub over : (origin : Origin) (b w : List ℕ) → StandsFor old origin b w → IsOverNow origin link link' old new told (b ++ moves.used) (w ++ moves.written)
+  pub over : (origin : Origin) (b w : List ℕ) → StandsFor old origin b w
+      → IsOverNow origin link link' old new told (b ++ moves.used) (w ++ moves.written)

@@ -1,21 +1,28 @@
 -- What contracts see of the stage of a job.
-use Rattle.std.specs.Prelude.{ℕ, ◌+◌, ◌^◌, Bool, true, false, not, ◌==◌, ◌||◌, ◌&&◌, nat_lt, nat_le, List, [], ◌∷◌, length, take, drop}
-use Rattle.std.specs.List.{flat_map, list_all}
+use Rattle.std.specs.Prelude.{ℕ, ◌+◌, ◌-◌, ◌^◌, ◌≤◌, Bool, true, false, not, ◌==◌, ◌||◌, ◌&&◌, nat_lt, nat_le, List, [], map, length, take, drop}
+use Rattle.std.specs.List.{list_all}
 use Rattle.s7_item.specs.declared.item.Item.{Item}
 use Rattle.s7_item.specs.Sizes.{request_size}
+use Rattle.s7_wire.specs.Sent.{sent_messages}
 use Rattle.s7_client.specs.declared.config.Config.{Config}
+use Rattle.s7_client.specs.declared.grant.Grant.{Grant}
+use Rattle.s7_client.specs.declared.grant.Leaves.{Leaves}
+use Rattle.s7_client.specs.declared.grant.Leaves.TheVariants as leaving
 use Rattle.s7_client.specs.declared.job.Job.{Job}
 use Rattle.s7_client.specs.declared.job.Job.TheVariants as job
 use Rattle.s7_client.specs.declared.answer.Asked.{Asked}
 use Rattle.s7_client.specs.declared.answer.Asked.TheVariants as asked
-use Rattle.s7_client.specs.declared.grant.Leaves.{Leaves}
-use Rattle.s7_client.specs.declared.grant.Leaves.TheVariants as leaving
+use Rattle.s7_client.specs.declared.flight.Flight.{Flight}
+use Rattle.s7_client.specs.declared.left.Left.{Left}
+use Rattle.s7_client.specs.declared.left.Left.TheVariants as left
 use Rattle.s7_client.specs.declared.running.Stage.{Stage}
 use Rattle.s7_client.specs.declared.running.Stage.TheVariants as stage
-use Rattle.s7_client.specs.Question.{Question, negotiates, reads, writes}
+use Rattle.s7_client.specs.Question.{Question, negotiates, reads, writes, question_octets}
 use Rattle.s7_client.specs.Checks.{is_known, octet_count_of}
-use Rattle.s7_client.specs.Left.{groups_left}
-use Rattle.s7_client.specs.Dialogue.{Next, sends, ends, numbered, connect_request, disconnect_request, asked_by}
+use Rattle.s7_client.specs.Left.{questions_left, groups_in, most_parts}
+use Rattle.s7_client.specs.Dialogue.{asked_by}
+use Rattle.s7_client.specs.Course.{Awaits, for_confirm, for_answers, for_departure, for_nothing}
+pub use Rattle.s7_client.specs.Left.{joined}
 
 -- the octets that a job writes
 abbrev pub octets_of : Job → List ℕ
@@ -26,51 +33,6 @@ octets_of (job.ReadMany items) = []
 octets_of (job.WriteMany items octets) = octets
 octets_of job.Disconnect = []
 
--- what is asked, with the octets from a place on in a write
-abbrev pub question_of : Config → Job → ℕ → Asked → Question
-question_of config job from asked.Negotiation = negotiates (asked_by config)
-question_of config job from (asked.Read items) = reads items
-question_of config job from (asked.Write items) = writes items (take (octet_count_of items) (drop from (octets_of job)))
-
-abbrev pub next_by : Config → Job → List ℕ → List ℕ → Stage → Next
-next_by config job found codes stage.Opening = sends connect_request
-next_by config job found codes (stage.Asking asked left from is_first) = sends (numbered (question_of config job from asked))
-next_by config job found codes stage.Leaving = sends disconnect_request
-next_by config job found codes (stage.Over code leaves) = ends (record { code = code; octets = found; codes = codes; leaves = leaves })
-
-abbrev pub IsOpening : Stage → Type 0
-IsOpening stage.Opening = Unit {0}
-IsOpening (stage.Asking asked left from is_first) = ⊥
-IsOpening stage.Leaving = ⊥
-IsOpening (stage.Over code leaves) = ⊥
-
-abbrev pub IsAsking : Stage → Type 0
-IsAsking stage.Opening = ⊥
-IsAsking (stage.Asking asked left from is_first) = Unit {0}
-IsAsking stage.Leaving = ⊥
-IsAsking (stage.Over code leaves) = ⊥
-
-abbrev pub IsLeaving : Stage → Type 0
-IsLeaving stage.Opening = ⊥
-IsLeaving (stage.Asking asked left from is_first) = ⊥
-IsLeaving stage.Leaving = Unit {0}
-IsLeaving (stage.Over code leaves) = ⊥
-
-abbrev pub IsOver : Stage → Type 0
-IsOver stage.Opening = ⊥
-IsOver (stage.Asking asked left from is_first) = ⊥
-IsOver stage.Leaving = ⊥
-IsOver (stage.Over code leaves) = Unit {0}
-
--- how many answers the job awaits at most
-abbrev pub answers_left : Stage → ℕ
-answers_left stage.Opening = 2
-answers_left (stage.Asking asked left from is_first) = 1 + length (groups_left left)
-answers_left stage.Leaving = 0
-answers_left (stage.Over code leaves) = 0
-
--- ---- what can be sent
-
 -- each item of the job is asked for alone
 abbrev pub is_alone : Job → Bool
 is_alone job.Connect = false
@@ -80,39 +42,137 @@ is_alone (job.ReadMany items) = false
 is_alone (job.WriteMany items octets) = false
 is_alone job.Disconnect = false
 
+-- what is asked, with the octets from a place on in a write
+abbrev pub question_of : Config → Job → ℕ → Asked → Question
+question_of config job from asked.Negotiation = negotiates (asked_by config)
+question_of config job from (asked.Read items) = reads items
+question_of config job from (asked.Write items) = writes items (take (octet_count_of items) (drop from (octets_of job)))
+
+-- the message of a telegram
+abbrev pub message_of : Config → Job → Flight → List ℕ
+message_of config job flight = question_octets flight.sequence (question_of config job flight.from flight.asked)
+
+-- the octets of the telegrams that aren't put yet, by the TPDU size
+abbrev pub unput_by : Config → ℕ → Job → Stage → List ℕ
+unput_by config size job stage.Opening = []
+unput_by config size job (stage.Asking a) =
+    sent_messages size (map (message_of config job) (drop (length a.flights.items - a.unput) a.flights.items))
+unput_by config size job stage.Leaving = []
+unput_by config size job (stage.Over code leaves) = []
+
+-- what is awaited, where a message that was no answer is kept
+abbrev pub awaited_by : List ℕ → List ℕ → List ℕ → Stage → Awaits
+awaited_by found codes carried stage.Opening = for_confirm
+awaited_by found codes carried (stage.Asking a) = for_answers
+awaited_by found codes carried stage.Leaving = for_departure
+awaited_by found codes carried (stage.Over code leaves) =
+    for_nothing (record { code = code; octets = found; codes = codes; leaves = leaves }) carried
+
+-- ---- what can be sent
+
 -- the address fits its field
 abbrev pub is_addressed : Item → Bool
 is_addressed item = nat_lt item.address (2 ^ 24)
 
--- there are items, one where each is asked for alone, their words are known, and their message is no
--- longer than any message may be
+-- there are items, one where each is asked for alone, their words are known, and their message is no longer than any
+-- message may be
 abbrev pub is_sendable : Bool → Bool → List Item → Bool
 is_sendable alone write items =
     (nat_lt 0 (length items) && (not alone || length items == 1))
     && (list_all is_addressed items && (list_all is_known items && nat_le (request_size items write) 960))
 
--- the items of groups, one after another
-abbrev pub joined : List (List Item) → List Item
-joined groups = flat_map (λ (group : List Item). group) groups
+-- So much of a job can be asked: its groups can be sent, and their octets are there from a place on, those of the job
+-- in a write, and else those that are read.
+abbrev pub can_ask : Job → ℕ → ℕ → Asked → Bool
+can_ask job found from asked.Negotiation = true
+can_ask job found from (asked.Read items) =
+    is_sendable (is_alone job) false items && nat_le (from + octet_count_of items) found
+can_ask job found from (asked.Write items) =
+    is_sendable (is_alone job) true items && nat_le (from + octet_count_of items) (length (octets_of job))
 
--- what is asked, and the groups that follow, can be sent
-abbrev pub can_ask : Job → ℕ → List (List Item) → Asked → Bool
-can_ask job from groups asked.Negotiation = true
-can_ask job from groups (asked.Read items) = list_all (is_sendable (is_alone job) false) (items ∷ groups)
-can_ask job from groups (asked.Write items) =
-    list_all (is_sendable (is_alone job) true) (items ∷ groups)
-    && nat_le (from + octet_count_of (joined (items ∷ groups))) (length (octets_of job))
+abbrev pub can_ask_all : Job → ℕ → ℕ → Left → Bool
+can_ask_all job found from left.Nothing = true
+can_ask_all job found from left.Negotiation = true
+can_ask_all job found from (left.Reads grouped) =
+    list_all (is_sendable (is_alone job) false) (groups_in grouped)
+    && nat_le (from + octet_count_of (joined (groups_in grouped))) found
+can_ask_all job found from (left.Writes grouped) =
+    list_all (is_sendable (is_alone job) true) (groups_in grouped)
+    && nat_le (from + octet_count_of (joined (groups_in grouped))) (length (octets_of job))
 
--- a grant that is left is of a PDU from 64 to 960
-abbrev pub is_granted : Leaves → Bool
-is_granted leaving.AsItWas = true
-is_granted (leaving.Connected granted) = nat_le 64 granted.pdu && nat_le granted.pdu 960
-is_granted leaving.Disconnected = true
-is_granted leaving.Closed = true
+abbrev pub can_fly : Job → ℕ → Flight → Bool
+can_fly job found flight = nat_le flight.item most_parts && can_ask job found flight.from flight.asked
 
--- what the stage asks can be sent, and what it leaves can be gone on with
-abbrev pub is_ready : Job → Stage → Bool
-is_ready job stage.Opening = true
-is_ready job (stage.Asking asked left from is_first) = can_ask job from (groups_left left) asked
-is_ready job stage.Leaving = true
-is_ready job (stage.Over code leaves) = is_granted leaves
+-- there is a place for each octet of several items that are read
+abbrev pub has_places : Job → ℕ → Bool
+has_places job.Connect found = true
+has_places (job.ReadArea item) found = true
+has_places (job.WriteArea item octets) found = true
+has_places (job.ReadMany items) found = nat_le (octet_count_of items) found
+has_places (job.WriteMany items octets) found = true
+has_places job.Disconnect found = true
+
+-- ---- stages
+
+abbrev pub IsOpening : Stage → Type 0
+IsOpening stage.Opening = Unit {0}
+IsOpening (stage.Asking a) = ⊥
+IsOpening stage.Leaving = ⊥
+IsOpening (stage.Over code leaves) = ⊥
+
+abbrev pub IsAsking : Stage → Type 0
+IsAsking stage.Opening = ⊥
+IsAsking (stage.Asking a) = Unit {0}
+IsAsking stage.Leaving = ⊥
+IsAsking (stage.Over code leaves) = ⊥
+
+abbrev pub IsLeaving : Stage → Type 0
+IsLeaving stage.Opening = ⊥
+IsLeaving (stage.Asking a) = ⊥
+IsLeaving stage.Leaving = Unit {0}
+IsLeaving (stage.Over code leaves) = ⊥
+
+abbrev pub IsOver : Stage → Type 0
+IsOver stage.Opening = ⊥
+IsOver (stage.Asking a) = ⊥
+IsOver stage.Leaving = ⊥
+IsOver (stage.Over code leaves) = Unit {0}
+
+-- how many answers the job awaits at most
+abbrev pub answers_left : Stage → ℕ
+answers_left stage.Opening = 2
+answers_left (stage.Asking a) = length a.flights.items + questions_left a.left
+answers_left stage.Leaving = 0
+answers_left (stage.Over code leaves) = 0
+
+-- a grant that can be gone on with: a PDU from 64 to 960, and from 1 to 8 jobs
+pub record IsGrant (g : Grant) : Type 0 where
+  pub least : 64 ≤ g.pdu
+  pub most : g.pdu ≤ 960
+  pub some : 1 ≤ g.jobs
+  pub few : g.jobs ≤ 8
+
+-- a grant that is left is one of these
+abbrev pub IsGoodLeave : Leaves → Type 0
+IsGoodLeave leaving.AsItWas = Unit {0}
+IsGoodLeave (leaving.Connected granted) = IsGrant granted
+IsGoodLeave leaving.Disconnected = Unit {0}
+IsGoodLeave leaving.Closed = Unit {0}
+
+abbrev pub is_grant : Grant → Bool
+is_grant g = (nat_le 64 g.pdu && nat_le g.pdu 960) && (nat_le 1 g.jobs && nat_le g.jobs 8)
+
+abbrev pub is_good_leave : Leaves → Bool
+is_good_leave leaving.AsItWas = true
+is_good_leave (leaving.Connected granted) = is_grant granted
+is_good_leave leaving.Disconnected = true
+is_good_leave leaving.Closed = true
+
+-- What a stage asks and has left to ask can be asked, where so many octets can be found, and what it leaves can be gone
+-- on with.
+abbrev pub is_ready : Job → ℕ → Stage → Bool
+is_ready job found stage.Opening = has_places job found
+is_ready job found (stage.Asking a) =
+    list_all (can_fly job found) a.flights.items && (can_ask_all job found a.from a.left && has_places job found)
+is_ready job found stage.Leaving = true
+is_ready job found (stage.Over code leaves) = is_good_leave leaves

@@ -1,9 +1,9 @@
 -- What a client stands for while a job is under way, and what its polls do.
-use Rattle.std.specs.Prelude.{◌≡◌, ◌⊎◌, ℕ, ◌+◌, ◌-◌, ◌*◌, ◌<◌, ◌≤◌, false, List, [], ◌∷◌, ◌++◌, length, Option, Some, option_map, IsTrue}
+use Rattle.std.specs.Prelude.{◌≡◌, ◌⊎◌, ℕ, ◌+◌, ◌-◌, ◌*◌, ◌<◌, ◌≤◌, false, List, [], ◌++◌, length, Option, Some, option_map, IsTrue}
 use Rattle.std.specs.Io.KnownBytes.{prepend_known, append_known, IsAtEnd}
 use Rattle.s7_outer.specs.Shown.{Shown}
 use Rattle.s7_outer.specs.Count.{Rose}
-use Rattle.s7_tpkt.specs.Packets.{HoldsRest, packets_of, state_of}
+use Rattle.s7_tpkt.specs.Packets.{HoldsRest, state_of}
 use Rattle.s7_tpkt.specs.declared.state.FedState.TheVariants as fed
 use Rattle.s7_cotp.specs.Gathered.{is_fault}
 use Rattle.s7_wire.specs.Bounds.{limit_of_size, most_packets}
@@ -14,11 +14,10 @@ use Rattle.s7_client.specs.declared.line.Line.{Line}
 use Rattle.s7_client.specs.declared.under_way.UnderWay.{UnderWay}
 use Rattle.s7_client.specs.declared.steps.Step.{Step}
 use Rattle.s7_client.specs.declared.steps.Step.TheVariants as step
-use Rattle.s7_client.specs.Answer.{departed}
-use Rattle.s7_client.specs.Dialogue.{ends, End, fault_end, dialogue}
-use Rattle.s7_client.specs.Running.{next_of, IsOver, IsOpening}
-use Rattle.s7_client.specs.Course.{Origin, Awaits, for_confirm, for_answer, for_departure, for_nothing, begun, run, course, may_send, limits}
-use Rattle.s7_client.specs.At.{IsAt, IsClear, LeavesOpen, budget}
+use Rattle.s7_client.specs.Dialogue.{End, fault_end}
+use Rattle.s7_client.specs.Running.{awaited_in, IsOver, IsOpening}
+use Rattle.s7_client.specs.Course.{Origin, Awaits, for_confirm, for_answers, for_departure, for_nothing, conduct_of, course, may_send, limits}
+use Rattle.s7_client.specs.At.{IsAt, IsClear, LeavesOpen, budget, pending}
 
 abbrev pub unread : Line → List ℕ
 unread l = l.inbox
@@ -32,25 +31,25 @@ IsPrefixOf front all = (rest : List ℕ) × (all ≡ front ++ rest)
 -- octets are awaited
 abbrev pub AwaitsOctets : Awaits → Type 0
 AwaitsOctets for_confirm = Unit {0}
-AwaitsOctets (for_answer question) = Unit {0}
+AwaitsOctets for_answers = Unit {0}
 AwaitsOctets for_departure = ⊥
 AwaitsOctets (for_nothing end carried) = ⊥
 
--- all that could be sent was transmitted before the next packet was used
+-- all that could be sent was transmitted before the next octet was used
 abbrev pub SentFirst : Origin → List ℕ → List ℕ → Type 0
 SentFirst origin b written =
-    (bodies more : List (List ℕ)) (body : List ℕ) → packets_of (limits origin) b ≡ bodies ++ body ∷ more
-    → IsPrefixOf (run origin (begun origin) bodies).out written
+    (front rest : List ℕ) → b ≡ front ++ rest → 0 < length rest → IsPrefixOf (may_send origin front) written
 
 -- each octet was used where octets were awaited, and so none behind those that ended the job
 abbrev pub AllAwaited : Origin → List ℕ → Type 0
-AllAwaited origin b = (front rest : List ℕ) → b ≡ front ++ rest → 0 < length rest → AwaitsOctets (course origin front).awaits
+AllAwaited origin b =
+    (front rest : List ℕ) → b ≡ front ++ rest → 0 < length rest → AwaitsOctets (course origin front).awaits
 
 -- The client stands for the octets that its job has used and those that it has transmitted: it stands at their place
 -- of the course, and what is still to be sent is what may be sent beyond what was transmitted.
 pub record Stands (origin : Origin) (l : Line) (u : UnderWay) (b written : List ℕ) : Type 0 where
   pub at : IsAt origin (course origin b) l.talk u
-  pub owed : may_send origin b ≡ written ++ unsent l
+  pub owed : may_send origin b ≡ written ++ pending origin.config l.talk u.running
   pub rest : (IsOver u.running.stage → ⊥) → HoldsRest (limits origin) b l.cutter
   pub sent_first : SentFirst origin b written
   pub all_awaited : AllAwaited origin b
@@ -85,7 +84,7 @@ pub record IsByOctets (origin : Origin) (end : End) (carried b written : List �
 -- the disconnect request was transmitted
 pub record IsByDeparture (origin : Origin) (end : End) (carried b written : List ℕ) : Type 0 where
   pub awaited : (course origin b).awaits ≡ for_departure
-  pub next : dialogue origin.job origin.config origin.granted ((course origin b).answers ++ departed ∷ []) ≡ ends end
+  pub is : end ≡ (conduct_of origin).ended []
   pub none : carried ≡ []
   pub sent : written ≡ may_send origin b
   pub all_awaited : AllAwaited origin b
@@ -101,14 +100,16 @@ abbrev pub IsFault : ℕ → End → List ℕ → Type 0
 IsFault code end carried = (end ≡ fault_end code) × (carried ≡ [])
 
 -- the link ended where octets were awaited
-pub record IsByEnd (origin : Origin) (link' : Shown) (kept : List ℕ) (end : End) (carried b written : List ℕ) : Type 0 where
+pub record IsByEnd (origin : Origin) (link' : Shown) (kept : List ℕ) (end : End)
+    (carried b written : List ℕ) : Type 0 where
   pub waiting : IsWaiting origin kept b written
   pub at_end : IsAtEnd link'.left
   pub has_ended : IsTrue link'.has_ended
   pub fault : IsFault link_ended end carried
 
 -- the link failed at a receive
-pub record IsByReceive (origin : Origin) (link link' : Shown) (kept : List ℕ) (end : End) (carried b written : List ℕ) : Type 0 where
+pub record IsByReceive (origin : Origin) (link link' : Shown) (kept : List ℕ) (end : End)
+    (carried b written : List ℕ) : Type 0 where
   pub waiting : IsWaiting origin kept b written
   pub rose : Rose link.faults link'.faults
   pub fault : IsFault receive_failed end carried
@@ -136,7 +137,7 @@ HasCause origin link link' kept end carried b written =
 pub record HasEnded (origin : Origin) (link link' : Shown) (l : Line) (u : UnderWay) (b written : List ℕ) : Type 0 where
   pub end : End
   pub carried : List ℕ
-  pub next : (k : Config) → next_of k u.running ≡ ends end
+  pub ends_as : awaited_in u.running [] ≡ for_nothing end []
   pub carries : u.carried.octets ≡ carried
   -- what the link has of it
   pub job : u.running.job ≡ origin.job
@@ -164,7 +165,8 @@ pub record Moves (kept : List ℕ) (link : Shown) (kept' : List ℕ) (link' : Sh
 -- The job has met not yet: where the link tells its space, there is none for what is still to be sent, or nothing is
 -- left on it.
 pub record HasMetNotYet (origin : Origin) (kept : List ℕ) (link : Shown) (b written : List ℕ) : Type 0 where
-  pub full : (rest : List ℕ) (space : ℕ) → may_send origin b ≡ written ++ rest → 0 < length rest → link.space ≡ Some space → space ≡ 0
+  pub full : (rest : List ℕ) (space : ℕ) → may_send origin b ≡ written ++ rest → 0 < length rest
+      → link.space ≡ Some space → space ≡ 0
   pub empty : (space : ℕ) → may_send origin b ≡ written → link.space ≡ Some space → link.left ≡ Some []
   -- where all was sent, octets are awaited and none is unused
   pub waiting : may_send origin b ≡ written → IsWaiting origin kept b written
@@ -177,33 +179,39 @@ pub record IsUnderWay (origin : Origin) (b written : List ℕ) : Type 0 where
   pub all_awaited : AllAwaited origin b
   pub goes_on : (end : End) (carried : List ℕ) → (course origin b).awaits ≡ for_nothing end carried → ⊥
 
--- how much a job can still do: octets to use, and then octets to send
-abbrev pub work : Line → UnderWay → ℕ
-work l u = budget u.running.stage l.talk.joiner.count (length l.cutter.held) * 2048 + length (unsent l)
+-- how much a job can still do: octets to use, and then octets to send, which are fewer than 16,384 behind a packet
+abbrev pub work : Config → Line → UnderWay → ℕ
+work config l u =
+    budget u.running.stage l.talk.joiner.count (length l.cutter.held) * 16384 + length (pending config l.talk u.running)
 
 -- what one step comes to
-pub record IsStep (l : Line) (u : UnderWay) (link : Shown) (l' : Line) (u' : UnderWay) (link' : Shown) (config : Config) (granted : Option Grant) (result : Step) : Type 0 where
+pub record IsStep (l : Line) (u : UnderWay) (link : Shown) (l' : Line) (u' : UnderWay) (link' : Shown)
+    (config : Config) (granted : Option Grant) (result : Step) : Type 0 where
   pub moves : Moves (unread l) link (unread l') link'
   pub fits : (result ≡ step.Over → ⊥) → Fits l' u'
   pub left : LeavesOpen u'.running.stage → IsBetween l'
   pub waited : u'.waited ≡ u.waited
-  pub stood : (origin : Origin) (b w : List ℕ) → origin.config ≡ config → origin.granted ≡ granted → Stands origin l u b w
+  pub stood : (origin : Origin) (b w : List ℕ) → origin.config ≡ config → origin.granted ≡ granted
+      → Stands origin l u b w
       → (result ≡ step.Over → ⊥) → Stands origin l' u' (b ++ moves.used) (w ++ moves.written)
-  pub less : result ≡ step.Went → work l' u' < work l u
+  pub less : result ≡ step.Went → work config l' u' < work config l u
   pub not_yet : result ≡ step.NotYet → Rose link.waits link'.waits
   pub met : (origin : Origin) (b w : List ℕ) → origin.config ≡ config → origin.granted ≡ granted → Stands origin l u b w
       → result ≡ step.NotYet → HasMetNotYet origin (unread l') link' (b ++ moves.used) (w ++ moves.written)
   pub over : result ≡ step.Over → IsOver u'.running.stage
-  pub cause : (origin : Origin) (b w : List ℕ) → origin.config ≡ config → origin.granted ≡ granted → Stands origin l u b w
+  pub cause : (origin : Origin) (b w : List ℕ) → origin.config ≡ config → origin.granted ≡ granted
+      → Stands origin l u b w
       → result ≡ step.Over → HasEnded origin link link' l' u' (b ++ moves.used) (w ++ moves.written)
 
 -- what using octets that were read does, up to the end of one packet
-pub record Consumes (l : Line) (u : UnderWay) (l' : Line) (u' : UnderWay) (config : Config) (granted : Option Grant) : Type 0 where
+pub record Consumes (l : Line) (u : UnderWay) (l' : Line) (u' : UnderWay) (config : Config)
+    (granted : Option Grant) : Type 0 where
   pub used : List ℕ
   pub some : 0 < length used
   pub inbox : unread l ≡ used ++ unread l'
   pub fits : Fits l' u'
   pub waited : u'.waited ≡ u.waited
-  pub stood : (origin : Origin) (b w : List ℕ) → origin.config ≡ config → origin.granted ≡ granted → Stands origin l u b w
+  pub stood : (origin : Origin) (b w : List ℕ) → origin.config ≡ config → origin.granted ≡ granted
+      → Stands origin l u b w
       → Stands origin l' u' (b ++ used) w
-  pub less : work l' u' < work l u
+  pub less : work config l' u' < work config l u

@@ -1,17 +1,34 @@
 -- How a job begins.
-use Rattle.std.specs.Prelude.{◌≡◌, ℕ, true, [], Option}
-use Rattle.s7_outer.specs.Held.{Held}
+use Rattle.std.specs.Prelude.{◌≡◌, ℕ, ◌≤◌, true, List, [], replicate, Option}
 use Rattle.s7_client.specs.declared.config.Config.{Config}
 use Rattle.s7_client.specs.declared.grant.Grant.{Grant}
 use Rattle.s7_client.specs.declared.job.Job.{Job}
+use Rattle.s7_client.specs.declared.left.Left.{Left}
 use Rattle.s7_client.specs.declared.running.Stage.{Stage}
-use Rattle.s7_client.specs.Dialogue.{dialogue}
-use Rattle.s7_client.specs.Stages.{next_by, is_ready}
-use Rattle.s7_client.specs.GoesOn.{GoesOn}
+use Rattle.s7_client.specs.declared.running.Stage.TheVariants as stage
+use Rattle.s7_client.specs.Dialogue.{nothing, connect_request, disconnect_request, over, plan_of}
+use Rattle.s7_client.specs.Stages.{is_ready}
+use Rattle.s7_client.specs.Asks.{IsNew}
+use Rattle.s7_client.specs.GoesOn.{Conducts}
 
--- A job that begins with this stage and room for so many octets follows its dialogue, and what the
--- stage asks can be sent.
-pub record Begins (job : Job) (granted : Option Grant) (stage : Stage) (room : ℕ) : Type 0 where
-  pub ready : is_ready job stage ≡ true
-  pub next : (config : Config) (held : Held) → held.octets ≡ [] → next_by config job held.octets [] stage ≡ dialogue job config granted []
-  pub goes_on : (config : Config) (held : Held) → held.octets ≡ [] → held.room ≡ room → GoesOn job config granted [] held [] stage
+-- the stage asks these questions from the first on
+abbrev pub AsksFirst : Stage → ℕ → Left → Type 0
+AsksFirst stage.Opening width questions = ⊥
+AsksFirst (stage.Asking a) width questions = IsNew a width questions
+AsksFirst stage.Leaving width questions = ⊥
+AsksFirst (stage.Over code leaves) width questions = ⊥
+
+-- how a job begins, by the first of its plan
+abbrev pub BeginsWith : Job → Config → Option Grant → List ℕ → List ℕ → Stage → Type 0
+BeginsWith job config granted found codes stage.Opening = (plan_of job config granted).first ≡ connect_request
+BeginsWith job config granted found codes (stage.Asking a) =
+    ((plan_of job config granted).first ≡ nothing) × (a.unput ≡ 0) × Conducts config granted [] [] job found codes a
+BeginsWith job config granted found codes stage.Leaving = (plan_of job config granted).first ≡ disconnect_request
+BeginsWith job config granted found codes (stage.Over code leaves) =
+    plan_of job config granted ≡ over (record { code = code; octets = found; codes = codes; leaves = leaves })
+
+-- The job begins so with 00 for each octet and each code that it brings, and what it asks can be asked.
+pub record Starts (job : Job) (granted : Option Grant) (at : Stage) (octets codes : ℕ) : Type 0 where
+  pub ready : is_ready job octets at ≡ true
+  pub begins : (config : Config) → BeginsWith job config granted (replicate octets 0) (replicate codes 0) at
+  pub few : codes ≤ 20

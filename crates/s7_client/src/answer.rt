@@ -12,9 +12,10 @@ use s7_item::Items;
 use s7_item::codes::{READ_FUNCTION, WRITE_FUNCTION};
 
 /// What an outstanding telegram asks, as far as its answer depends on it.
-#[derive(Drop)]
+#[derive(Default, Drop)]
 pub(crate) enum Asked {
     /// A PDU and parallel jobs.
+    #[default]
     Negotiation,
     /// The octets of these items.
     Read(Items),

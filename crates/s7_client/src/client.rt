@@ -1,6 +1,7 @@
 // A client.
 ghost use Rattle.std.specs.Prelude.{◌≡◌, ◌<◌, ◌≤◌, [], None, IsSome};
 ghost use Rattle.std.specs.Option.{ForSome};
+ghost use Rattle.s7_client.specs.Stages.{IsGrant};
 ghost use Rattle.s7_client.specs.Standing.{Fits, IsBetween, unsent};
 
 use crate::config::Config;
@@ -20,9 +21,10 @@ pub struct Client {
     pub(crate) job: Option<UnderWay>,
     ghost fits: { ForSome job (λ u. Fits line u) },
     ghost waits: { ForSome job (λ u. u.waited < config.polls) },
-    ghost grants: { ForSome granted (λ g. (64 ≤ g.pdu) × (g.pdu ≤ 960)) },
+    ghost grants: { ForSome granted IsGrant },
     ghost between: { job ≡ None → IsSome granted → IsBetween line },
     ghost quiet: { job ≡ None → unsent line ≡ [] },
     ghost most_pdu: { config.pdu ≤ 960 },
+    ghost most_jobs: { config.jobs ≤ 8 },
     ghost least_polls: { 1 ≤ config.polls },
 }

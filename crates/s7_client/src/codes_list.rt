@@ -1,5 +1,5 @@
 // The return codes of at most twenty items.
-ghost use Rattle.std.specs.Prelude.{◌≡◌, ℕ, ◌+◌, ◌<◌, ◌≤◌, [], ◌∷◌, ◌++◌, length, take, slice_index};
+ghost use Rattle.std.specs.Prelude.{◌≡◌, ℕ, ◌≤◌, length, take, slice_index, slice_set, replicate};
 
 use std::marker::Model;
 
@@ -21,23 +21,24 @@ impl Model for Codes {
 }
 
 impl Codes {
-    /// No codes.
-    pub(crate) fn new() -> Codes
-        ensures { result ≡ [] }
+    /// So many codes, all 00.
+    pub(crate) fn new(len: u8) -> Codes
+        requires { len ≤ 20 }
+        ensures { result ≡ replicate len 0 }
     {
         Codes {
             codes: [0; 20],
-            len: 0,
+            len,
         }
     }
 
-    /// Adds a code at the end, where there are fewer than twenty.
-    pub(crate) fn push(&mut self, code: u8)
-        requires { length self.old < 20 }
-        ensures { self.new ≡ self.old ++ code ∷ [] }
+    /// Sets the code at a place, where there is one.
+    pub(crate) fn set(&mut self, place: usize, code: u8)
+        ensures { self.new ≡ slice_set self.old place code }
     {
-        self.codes[usize::from(self.len)] = code;
-        self.len += 1;
+        if place < usize::from(self.len) {
+            self.codes[place] = code;
+        }
     }
 
     /// The codes in order.

@@ -1,49 +1,76 @@
 // What the data items of a read's answer tell.
-ghost use Rattle.std.specs.Prelude.{◌≡◌, ◌+◌, ◌≤◌, [], ◌∷◌, ◌++◌, List, length, map, Some};
-ghost use Rattle.std.specs.List.{flat_map};
+ghost use Rattle.std.specs.Prelude.{◌≡◌, ◌+◌, ◌≤◌, [], ◌∷◌, List, length, map, slice_index, Some};
 ghost use Rattle.s7_client.specs.Answer.{ItemAnswer, item_answers};
 ghost use Rattle.s7_client.specs.Checks.{octet_count_of};
+ghost use Rattle.s7_client.specs.Taking.{with_codes, with_octets, without_gaps};
 
 use crate::codes_list::Codes;
 use crate::data_items::first_item;
-use s7_item::Items;
-use s7_outer::Buffer;
+use s7_item::{Item, Items, is_good};
 
-/// Adds the octets of the items that were read, in order.
-pub(crate) fn collect_octets(items: &Items, body: &[u8], found: &mut Buffer)
-    requires room { length found.old.octets + octet_count_of items.now ≤ found.old.room }
+/// Puts the return codes of the items at their places, and the octets of those that were read at
+/// theirs.
+pub(crate) fn place_items(
+    items: &Items,
+    body: &[u8],
+    found: &mut [u8],
+    from: usize,
+    codes: &mut Codes,
+    place: usize,
+)
+    requires octets { from + octet_count_of items.now ≤ length found.old }
+    requires codes { place + length items.now ≤ usize.MAX }
     ensures octets { (answers : List ItemAnswer) → item_answers items.now body.now ≡ Some answers
-        → found.new.octets ≡ found.old.octets ++ flat_map (λ (item : ItemAnswer). item.octets) answers }
-    ensures most { (answers : List ItemAnswer) → item_answers items.now body.now ≡ Some answers
-        → length found.new.octets ≤ length found.old.octets + octet_count_of items.now }
-    ensures room { found.new.room ≡ found.old.room }
+        → found.new ≡ with_octets from items.now answers found.old }
+    ensures codes { (answers : List ItemAnswer) → item_answers items.now body.now ≡ Some answers
+        → codes.new ≡ with_codes place (map (λ (item : ItemAnswer). item.code) answers) codes.old }
 {
     let mut rest = body;
+    let mut at = from;
     for (k, item) in items.as_slice().iter().enumerate() {
         let Some(first) = first_item(item, k + 1 == items.len(), rest) else {
             return;
         };
-        found.add(first.octets);
+        codes.set(place + k, first.code);
+        found[at..at + first.octets.len()].copy_from_slice(first.octets);
+        at += item.octet_count();
         rest = first.rest;
     }
 }
 
-/// Adds the return codes of the items, in order.
-pub(crate) fn collect_codes(items: &Items, body: &[u8], codes: &mut Codes)
-    requires room { length codes.old + length items.now ≤ 20 }
-    ensures codes { (answers : List ItemAnswer) → item_answers items.now body.now ≡ Some answers
-        → codes.new ≡ codes.old ++ map (λ (item : ItemAnswer). item.code) answers }
-    ensures most { (answers : List ItemAnswer) → item_answers items.now body.now ≡ Some answers
-        → length codes.new ≡ length codes.old + length items.now }
+/// Puts return codes at their places.
+pub(crate) fn place_codes(noted: &[u8], codes: &mut Codes, place: usize)
+    requires { place + length noted.now ≤ usize.MAX }
+    ensures { codes.new ≡ with_codes place noted.now codes.old }
 {
-    let mut rest = body;
-    for (k, item) in items.as_slice().iter().enumerate() {
-        let Some(first) = first_item(item, k + 1 == items.len(), rest) else {
-            return;
-        };
-        codes.push(first.code);
-        rest = first.rest;
+    for (k, code) in noted.iter().enumerate() {
+        codes.set(place + k, *code);
     }
+}
+
+/// Closes up the octets of the items whose code isn't FF.
+pub(crate) fn close_gaps(items: &[Item], codes: &[u8], found: &mut Vec<u8>)
+    requires { octet_count_of items.now ≤ length found.old.items }
+    ensures { found.new.items ≡ without_gaps items.now codes.now found.old.items }
+{
+    let mut from = 0;
+    let mut to = 0;
+    for (k, item) in items.iter().enumerate() {
+        let count = item.octet_count();
+        if is_good(code_at(codes, k)) {
+            found.copy_within(from..from + count, to);
+            to += count;
+        }
+        from += count;
+    }
+    found.truncate(to);
+}
+
+// The code at a place, and 00 where there is none.
+fn code_at(codes: &[u8], place: usize) -> u8
+    ensures { result ≡ slice_index codes.now place }
+{
+    codes.get(place).copied().unwrap_or(0)
 }
 
 /// The return code of the one item.

@@ -13,7 +13,7 @@ pub struct Config {
     pub called: u16,
     /// The PDU that is asked for, from 64 to 960 octets.
     pub pdu: u16,
-    /// The parallel jobs that are asked for, from 1 to 8.
+    /// How many telegrams may be unanswered at a time (parallel jobs), as it is asked for, from 1 to 8.
     pub jobs: u16,
     /// With how many polls that met a link with nothing to give, or no room, yet a job is over: at
     /// least 1.
@@ -22,7 +22,7 @@ pub struct Config {
 
 impl Config {
     /// The usual way to connect to a controller in this rack (0 to 7) and slot (0 to 31), by a
-    /// connection of this kind (1 PG, 2 OP, 3 basic): PDU 480, one job at a time, 50 polls.
+    /// connection of this kind (1 PG, 2 OP, 3 basic): PDU 480, one telegram at a time, 50 polls.
     pub fn new(kind: u8, rack: u8, slot: u8) -> Config
         requires rack { rack ≤ 7 }
         requires slot { slot ≤ 31 }

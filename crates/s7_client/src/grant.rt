@@ -1,6 +1,6 @@
 // What a server granted.
 
-/// The longest telegram, in octets, and how many jobs may be under way at a time.
+/// The longest telegram, in octets, and how many telegrams may be unanswered at a time (parallel jobs).
 #[derive(Clone, Copy, Debug, PartialEq, Eq)]
 pub(crate) struct Grant {
     pub(crate) pdu: u16,

@@ -11,7 +11,8 @@ pub enum Job {
     Connect,
     /// Read an item, in as many telegrams as it takes.
     ReadArea { item: Item },
-    /// Write an item, in as many telegrams as it takes.
+    /// Write an item, in as many telegrams as it takes. Where a part is refused, others may have been
+    /// written, also parts behind it that were out.
     WriteArea { item: Item, octets: Octets },
     /// Read at most twenty items, in as few telegrams as their order lets.
     ReadMany { items: ItemList },

@@ -1,16 +1,28 @@
 // What is left to ask of a job.
 ghost use Rattle.std.specs.Prelude.{◌≡◌, ◌<◌, ◌≤◌, ◌∷◌, [], length, take, slice_get, IfSome, IfNone};
 ghost use Rattle.std.specs.List.{between};
-ghost use Rattle.s7_client.specs.Left.{groups_left};
+ghost use Rattle.s7_client.specs.Left.{groups_in, questions_left, TakesNext};
 
+use crate::answer::Asked;
 use s7_item::{Item, Items};
 use s7_split::{Groups, Parts};
 
-/// The groups of items that are still to be asked for, in order.
+/// The questions that are still to be asked, in order.
 #[derive(Drop)]
 pub(crate) enum Left {
     /// None.
     Nothing,
+    /// The negotiation.
+    Negotiation,
+    /// Reads of these groups.
+    Reads(Grouped),
+    /// Writes of these groups.
+    Writes(Grouped),
+}
+
+/// Groups of items, in order.
+#[derive(Drop)]
+pub(crate) enum Grouped {
     /// The parts of one item, each alone.
     Parts(Parts),
     /// Of these items, cut where the groups end, the groups from the one at place `next` on. It
@@ -24,20 +36,43 @@ pub(crate) enum Left {
 }
 
 impl Left {
-    /// Takes the next group.
-    pub(crate) fn next(&mut self) -> Option<Items>
-        ensures some { IfSome result (λ items. groups_left self.old ≡ items ∷ groups_left self.new) }
-        ensures none { IfNone result (groups_left self.old ≡ []) }
+    /// Takes the next question.
+    pub(crate) fn next(&mut self) -> Option<Asked>
+        ensures some { IfSome result (λ asked. TakesNext self.old asked self.new) }
+        ensures none { IfNone result ((questions_left self.old ≡ 0) × (self.new ≡ self.old)) }
     {
         match self {
             Left::Nothing => None,
-            Left::Parts(parts) => {
+            Left::Negotiation => {
+                *self = Left::Nothing;
+                Some(Asked::Negotiation)
+            }
+            Left::Reads(grouped) => match grouped.next() {
+                Some(items) => Some(Asked::Read(items)),
+                None => None,
+            },
+            Left::Writes(grouped) => match grouped.next() {
+                Some(items) => Some(Asked::Write(items)),
+                None => None,
+            },
+        }
+    }
+}
+
+impl Grouped {
+    /// Takes the next group.
+    fn next(&mut self) -> Option<Items>
+        ensures some { IfSome result (λ items. groups_in self.old ≡ items ∷ groups_in self.new) }
+        ensures none { IfNone result ((groups_in self.old ≡ []) × (self.new ≡ self.old)) }
+    {
+        match self {
+            Grouped::Parts(parts) => {
                 let Some(part) = parts.next() else {
                     return None;
                 };
                 Some(alone(part))
             }
-            Left::Groups {
+            Grouped::Groups {
                 items,
                 groups,
                 next,

@@ -2,6 +2,7 @@
 #![tactic(auto)]
 
 mod answer;
+mod asking;
 mod checks;
 mod client;
 pub mod codes;
@@ -9,6 +10,7 @@ mod codes_list;
 mod collect;
 mod config;
 mod data_items;
+mod flight;
 mod grant;
 mod item_list;
 mod job;

@@ -1,17 +1,13 @@
-// How a job takes packets.
-ghost use Rattle.std.specs.Prelude.{◌≡◌, ◌+◌, ◌<◌, ◌≤◌, [], length, false, Ok, Some};
+// How a job puts telegrams and takes packets.
+ghost use Rattle.std.specs.Prelude.{◌≡◌, ℕ, ◌+◌, ◌≤◌, [], length, false, Ok};
 ghost use Rattle.s7_outer.specs.Numbers.{two_octets};
 ghost use Rattle.s7_cotp.specs.Told.{told_of, tsap_of, CanBeWrittenAgain, fragment};
 ghost use Rattle.s7_cotp.specs.declared.joining.Joined.{Joined};
 ghost use Rattle.s7_cotp.specs.Gathered.{is_fault};
-ghost use Rattle.s7_wire.specs.Bounds.{most_packets};
-ghost use Rattle.s7_client.specs.Question.{Question};
-ghost use Rattle.s7_client.specs.Dialogue.{sends, numbered};
-ghost use Rattle.s7_client.specs.Running.{next_of, IsAsking, IsOpening, answers_left};
-ghost use Rattle.s7_client.specs.Course.{Origin, Course, octets_of, sequence_by, next_sequence, connect_octets};
-ghost use Rattle.s7_client.specs.Course.{nothing_unfinished, for_answer, with_packet, confirming, connected};
-ghost use Rattle.s7_client.specs.Course.{with_message};
-ghost use Rattle.s7_client.specs.At.{IsAt, Reaches, Settles, Takes, IsAwaiting, IsClear};
+ghost use Rattle.s7_client.specs.Running.{IsAsking, IsOpening, unput_of};
+ghost use Rattle.s7_client.specs.Course.{Origin, Course, conduct_of, connect_octets, disconnect_octets};
+ghost use Rattle.s7_client.specs.Course.{with_packet, with_message, confirming, connected};
+ghost use Rattle.s7_client.specs.At.{IsAt, Reaches, Settles, Takes, Puts, BeginsTalk, IsAwaiting, IsClear, messages_left};
 
 use crate::codes::{
     BAD_PACKET, INVALID_ANSWER, LINK_ENDED, NOT_CONNECTED, SHORT_MESSAGE, TOO_LONG,
@@ -38,31 +34,44 @@ const BY_USER: u8 = 0x80;
 const LEAST_MESSAGE: usize = 10;
 
 impl Talk {
-    /// Puts the telegram that comes next, if there is one.
-    pub(crate) fn put_telegram(&mut self, running: &Running, config: &Config)
-        requires sent { self.old.outbox.unsent ≡ [] }
-        ensures unsent { self.new.outbox.unsent
-            ≡ octets_of config.now self.old.size self.new.sequence (next_of config.now running.now) }
-        ensures sequence { self.new.sequence ≡ sequence_by self.old.sequence (next_of config.now running.now) }
-        ensures most { length self.new.outbox.unsent ≤ most_packets }
-        ensures size { self.new.size ≡ self.old.size }
-        ensures joiner { self.new.joiner ≡ self.old.joiner }
+    /// Begins a job: puts its connect or disconnect request, or asks its first questions.
+    pub(crate) fn begin(&mut self, running: &mut Running, config: &Config)
+        requires { self.old.outbox.unsent ≡ [] }
+        ensures { BeginsTalk config.now self.old running.old self.new running.new }
     {
         self.outbox.clear();
         match &running.stage {
             Stage::Opening => self.put_connect(config),
-            Stage::Asking { .. } => {
-                self.sequence = sequence_after(self.sequence);
-                running.write_question(config, self.sequence, &mut self.message);
-                put_message(&mut self.outbox, self.size, self.message.as_slice());
-            }
-            Stage::Leaving => {
-                let mut octets = [0u8; 7];
-                let len = write_disconnect(REFERENCE, REFERENCE, BY_USER, &mut octets);
-                self.outbox.put(&octets[..len]);
-            }
+            Stage::Asking(_) => self.sequence = running.go_on(self.sequence),
+            Stage::Leaving => self.put_disconnect(),
             Stage::Over { .. } => {}
         }
+    }
+
+    /// Puts the next telegram that may go out, where nothing is left to send and there is one.
+    pub(crate) fn put_next(&mut self, running: &mut Running, config: &Config)
+        ensures { Puts config.now self.old running.old self.new running.new }
+    {
+        if !self.outbox.is_empty() {
+            return;
+        }
+        if running.write_next(config, &mut self.message) {
+            self.outbox.clear();
+            put_message(&mut self.outbox, self.size, self.message.as_slice());
+        }
+    }
+
+    // Puts the disconnect request.
+    fn put_disconnect(&mut self)
+        requires { self.old.outbox ≡ record { unsent = []; room = 4096 } }
+        ensures unsent { self.new.outbox.unsent ≡ disconnect_octets }
+        ensures size { self.new.size ≡ self.old.size }
+        ensures sequence { self.new.sequence ≡ self.old.sequence }
+        ensures joiner { self.new.joiner ≡ self.old.joiner }
+    {
+        let mut octets = [0u8; 7];
+        let len = write_disconnect(REFERENCE, REFERENCE, BY_USER, &mut octets);
+        self.outbox.put(&octets[..len]);
     }
 
     // Puts the connect request.
@@ -84,17 +93,6 @@ impl Talk {
         let mut octets = [0u8; 64];
         let len = write_connect(&request, &mut octets);
         self.outbox.put(&octets[..len]);
-    }
-}
-
-// The sequence after this one.
-fn sequence_after(sequence: u16) -> u16
-    ensures { result ≡ next_sequence sequence }
-{
-    if sequence == u16::MAX {
-        1
-    } else {
-        sequence + 1
     }
 }
 
@@ -123,12 +121,14 @@ impl Talk {
         requires going { is_fault self.old.joiner.state ≡ false }
         requires clear { IsOpening job.old.running.stage → IsClear self.old.joiner }
         requires sent { self.old.outbox.unsent ≡ [] }
+        requires unput { (size : ℕ) → unput_of config.now size job.old.running ≡ [] }
         requires carried { job.old.carried.room ≡ 8192 }
         requires pdu { config.now.pdu ≤ 960 }
+        requires jobs { config.now.jobs ≤ 8 }
         ensures reaches { (origin : Origin) (course : Course) → origin.config ≡ config.now → origin.granted ≡ granted
             → IsAt origin course self.old job.old
             → Reaches origin course (with_packet origin course body.now) self.new job.new }
-        ensures takes { Takes self.old job.old self.new job.new }
+        ensures takes { Takes config.now self.old job.old self.new job.new }
         ensures carried { job.new.carried.room ≡ 8192 }
         ensures waited { job.new.waited ≡ job.old.waited }
     {
@@ -138,7 +138,7 @@ impl Talk {
         };
         match &job.running.stage {
             Stage::Opening => self.confirming(job, config, &tpdu),
-            Stage::Asking { .. } => self.connected(job, config, granted, &tpdu),
+            Stage::Asking(_) => self.connected(job, config, granted, &tpdu),
             Stage::Leaving | Stage::Over { .. } => unreachable!(),
         }
     }
@@ -148,21 +148,23 @@ impl Talk {
         requires opening { IsOpening job.old.running.stage }
         requires clear { IsClear self.old.joiner }
         requires sent { self.old.outbox.unsent ≡ [] }
+        requires unput { (size : ℕ) → unput_of config.now size job.old.running ≡ [] }
         requires writable { CanBeWrittenAgain tpdu.now }
         requires carried { job.old.carried.room ≡ 8192 }
         requires pdu { config.now.pdu ≤ 960 }
+        requires jobs { config.now.jobs ≤ 8 }
         ensures reaches { (origin : Origin) (course : Course) → origin.config ≡ config.now
             → IsAt origin course self.old job.old
-            → Reaches origin course (confirming origin course (Ok (told_of tpdu.now))) self.new job.new }
-        ensures takes { Takes self.old job.old self.new job.new }
+            → Reaches origin course (confirming (conduct_of origin) course (Ok (told_of tpdu.now))) self.new job.new }
+        ensures takes { Takes config.now self.old job.old self.new job.new }
         ensures carried { job.new.carried.room ≡ 8192 }
         ensures waited { job.new.waited ≡ job.old.waited }
     {
         match tpdu {
             Tpdu::Confirm(confirm) => {
                 self.size = tpdu_size(confirm.size_code);
-                job.running.confirm(config);
-                self.put_telegram(&job.running, config);
+                job.running.confirm();
+                self.sequence = job.running.go_on(self.sequence);
             }
             Tpdu::Connect(_) => job.running.fail(NOT_CONNECTED),
             Tpdu::Fragment { .. } => job.running.fail(NOT_CONNECTED),
@@ -182,13 +184,14 @@ impl Talk {
         requires asking { IsAsking job.old.running.stage }
         requires going { is_fault self.old.joiner.state ≡ false }
         requires sent { self.old.outbox.unsent ≡ [] }
+        requires unput { (size : ℕ) → unput_of config.now size job.old.running ≡ [] }
         requires carried { job.old.carried.room ≡ 8192 }
         requires pdu { config.now.pdu ≤ 960 }
-        ensures reaches { (origin : Origin) (course : Course) (question : Question) → origin.config ≡ config.now
+        requires jobs { config.now.jobs ≤ 8 }
+        ensures reaches { (origin : Origin) (course : Course) → origin.config ≡ config.now
             → origin.granted ≡ granted → IsAt origin course self.old job.old
-            → course.awaits ≡ for_answer question
-            → Reaches origin course (connected origin course question (Ok (told_of tpdu.now))) self.new job.new }
-        ensures takes { Takes self.old job.old self.new job.new }
+            → Reaches origin course (connected (conduct_of origin) course (Ok (told_of tpdu.now))) self.new job.new }
+        ensures takes { Takes config.now self.old job.old self.new job.new }
         ensures carried { job.new.carried.room ≡ 8192 }
         ensures waited { job.new.waited ≡ job.old.waited }
     {
@@ -213,13 +216,15 @@ impl Talk {
         requires asking { IsAsking job.old.running.stage }
         requires going { is_fault self.old.joiner.state ≡ false }
         requires sent { self.old.outbox.unsent ≡ [] }
+        requires unput { (size : ℕ) → unput_of config.now size job.old.running ≡ [] }
         requires carried { job.old.carried.room ≡ 8192 }
         requires pdu { config.now.pdu ≤ 960 }
-        ensures reaches { (origin : Origin) (course : Course) (question : Question) → origin.config ≡ config.now
+        requires jobs { config.now.jobs ≤ 8 }
+        ensures reaches { (origin : Origin) (course : Course) → origin.config ≡ config.now
             → origin.granted ≡ granted → IsAt origin course self.old job.old
-            → course.awaits ≡ for_answer question
-            → Reaches origin course (connected origin course question (Ok (fragment last user.now))) self.new job.new }
-        ensures takes { Takes self.old job.old self.new job.new }
+            → Reaches origin course (connected (conduct_of origin) course (Ok (fragment last user.now)))
+            self.new job.new }
+        ensures takes { Takes config.now self.old job.old self.new job.new }
         ensures carried { job.new.carried.room ≡ 8192 }
         ensures waited { job.new.waited ≡ job.old.waited }
     {
@@ -238,16 +243,17 @@ impl Talk {
         requires none { self.old.joiner.count ≡ 0 }
         requires most { length self.old.joiner.octets ≤ 8192 }
         requires sent { self.old.outbox.unsent ≡ [] }
+        requires unput { (size : ℕ) → unput_of config.now size job.old.running ≡ [] }
         requires carried { job.old.carried.room ≡ 8192 }
         requires pdu { config.now.pdu ≤ 960 }
-        ensures reaches { (origin : Origin) (course : Course) (question : Question) → origin.config ≡ config.now
+        requires jobs { config.now.jobs ≤ 8 }
+        ensures reaches { (origin : Origin) (course : Course) → origin.config ≡ config.now
             → origin.granted ≡ granted → IsAt origin course self.old job.old
-            → course.awaits ≡ for_answer question
-            → Reaches origin course (with_message origin course question self.old.joiner.octets) self.new job.new }
-        ensures settles { Settles self.new job.new }
+            → Reaches origin course (with_message (conduct_of origin) course self.old.joiner.octets) self.new job.new }
+        ensures settles { Settles config.now self.new job.new }
         ensures carried { job.new.carried.room ≡ 8192 }
         ensures waited { job.new.waited ≡ job.old.waited }
-        ensures fewer { answers_left job.new.running.stage + 1 ≤ answers_left job.old.running.stage }
+        ensures fewer { messages_left job.new.running.stage + 1 ≤ messages_left job.old.running.stage }
         ensures joiner { self.new.joiner ≡ self.old.joiner }
     {
         let message = self.joiner.message();
@@ -255,16 +261,13 @@ impl Talk {
             job.running.fail(SHORT_MESSAGE);
             return;
         }
-        match job.running.judge(self.sequence, message) {
+        match job.running.take(config, self.sequence, message) {
             None => {
                 job.carried.clear();
                 job.carried.add(message);
                 job.running.fail(INVALID_ANSWER);
             }
-            Some(answer) => {
-                job.running.take(config, granted, &answer);
-                self.put_telegram(&job.running, config);
-            }
+            Some(sequence) => self.sequence = sequence,
         }
     }
 }

@@ -3,9 +3,9 @@ ghost use Rattle.std.specs.Prelude.{◌≡◌, ◌<◌, ◌≤◌, [], true, fal
 ghost use Rattle.s7_client.specs.Polling.{IsFresh, IsStarted, IsPoll, job_of, granted_pdu, closed_of, IsNew, IsBlank};
 ghost use Rattle.s7_client.specs.Polling.{BeginsLine, Waits, Round, grant_after, closed_after};
 ghost use Rattle.s7_client.specs.At.{LeavesLink};
-ghost use Rattle.s7_client.specs.Running.{next_of, Follows, IsOver, IsResult};
-ghost use Rattle.s7_client.specs.Dialogue.{ends, End};
-ghost use Rattle.s7_client.specs.Course.{begins_anew};
+ghost use Rattle.s7_client.specs.Running.{awaited_in, Begins, IsOver, IsResult};
+ghost use Rattle.s7_client.specs.Dialogue.{End};
+ghost use Rattle.s7_client.specs.Course.{begins_anew, for_nothing};
 ghost use Rattle.s7_client.specs.Standing.{Fits, unsent};
 
 use crate::client::Client;
@@ -84,7 +84,7 @@ impl Client {
             });
         }
         let anew = begins_anew(self.granted, &job);
-        let running = match Running::begin(alloc, &self.config, self.granted, job) {
+        let running = match Running::begin(alloc, self.granted, job) {
             Ok(running) => running,
             Err(job) => return Err(wants_memory(job)),
         };
@@ -112,48 +112,49 @@ impl Client {
     }
 
     // Sets out with a job on a client that is connected.
-    fn set_out(&mut self, job: UnderWay)
+    fn set_out(&mut self, mut job: UnderWay)
         requires idle { self.old.job ≡ None }
         requires connected { IsSome self.old.granted }
         requires blank { IsBlank job }
-        requires follows { Follows job.running self.old.config self.old.granted [] }
+        requires begins { Begins job.running self.old.config self.old.granted }
         ensures { IsStarted self.old self.new job.running.job }
     {
-        self.line.begin(&job.running, &self.config);
+        self.line.begin(&mut job.running, &self.config);
         self.job = Some(job);
     }
 
     // Sets out with a connect on a link that begins anew.
-    fn set_out_anew(&mut self, line: Line, job: UnderWay)
+    fn set_out_anew(&mut self, line: Line, mut job: UnderWay)
         requires idle { self.old.job ≡ None }
         requires anew { begins_anew self.old.granted job.running.job ≡ true }
         requires line { IsNew line }
         requires blank { IsBlank job }
-        requires follows { Follows job.running self.old.config self.old.granted [] }
+        requires begins { Begins job.running self.old.config self.old.granted }
         ensures { IsStarted self.old self.new job.running.job }
     {
         self.line = line;
         self.is_closed = false;
-        self.line.begin(&job.running, &self.config);
+        self.line.begin(&mut job.running, &self.config);
         self.job = Some(job);
     }
 
-    // Takes a job that is over at once, since the client isn't connected.
-    fn turn_down(&mut self, job: UnderWay)
+    // Begins a job that is over at once, since the client isn't connected: nothing is put.
+    fn turn_down(&mut self, mut job: UnderWay)
         requires idle { self.old.job ≡ None }
         requires unconnected { self.old.granted ≡ None }
         requires not_anew { begins_anew self.old.granted job.running.job ≡ false }
         requires blank { IsBlank job }
-        requires follows { Follows job.running self.old.config self.old.granted [] }
+        requires begins { Begins job.running self.old.config self.old.granted }
         ensures { IsStarted self.old self.new job.running.job }
     {
+        self.line.talk.begin(&mut job.running, &self.config);
         self.job = Some(job);
     }
 
     /// Goes on with the job over the link until it is done or the link has nothing to give, or no
     /// room, yet.
     ///
-    /// All that may go out is sent before the next packet is used, and octets are received only
+    /// All that may go out is sent before the next octet is used, and octets are received only
     /// where all was sent and used. `Done` carries what the octets used make of the job, or a cause
     /// by its code. `Pending` comes only where the link's `waits` rose in this poll, `Idle` exactly
     /// where no job is outstanding.
@@ -183,7 +184,7 @@ impl Client {
 // What came of a job that is over.
 fn done(job: UnderWay) -> JobResult
     requires { IsOver job.running.stage }
-    ensures { (config : _) (end : End) → next_of config job.running ≡ ends end
+    ensures { (end : End) → awaited_in job.running [] ≡ for_nothing end []
         → IsResult result job.running.job end job.carried.octets }
 {
     let UnderWay {
@@ -255,6 +256,7 @@ impl Line {
     ) -> bool
         requires fits { Fits self.old job.old }
         requires pdu { config.now.pdu ≤ 960 }
+        requires jobs { config.now.jobs ≤ 8 }
         requires waited { job.old.waited < config.now.polls }
         ensures { Round self.old job.old (L.shows link.old) self.new job.new
             (L.shows link.new) config.now granted result }
@@ -283,13 +285,13 @@ impl Line {
         })
     }
 
-    // Puts the first telegram of a job, between two messages.
-    fn begin(&mut self, running: &Running, config: &Config)
+    // Begins a job, between two messages.
+    fn begin(&mut self, running: &mut Running, config: &Config)
         requires sent { unsent self.old ≡ [] }
         requires held { self.old.cutter.held ≡ [] }
-        ensures begins { BeginsLine self.old self.new running.now config.now }
+        ensures { BeginsLine config.now self.old running.old self.new running.new }
     {
-        self.talk.put_telegram(running, config);
+        self.talk.begin(running, config);
         self.cutter
             .set_limit(packet_limit(&running.stage, self.talk.size));
     }

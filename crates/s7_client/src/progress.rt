@@ -1,159 +1,244 @@
 // How a job goes on from answer to answer.
-ghost use Rattle.std.specs.Prelude.{◌≡◌, true, length, drop, List, [], ◌∷◌, ◌++◌, take, Option, ◌+◌, ◌≤◌, IfOk, IfErr};
-ghost use Rattle.std.specs.Prelude.{IfSome, IfNone};
+ghost use Rattle.std.specs.Prelude.{◌≡◌, ℕ, ◌+◌, ◌≤◌, true, false, List, [], ◌++◌, length, take, drop};
+ghost use Rattle.std.specs.Prelude.{Option, None, Some, IfSome, IfNone, OnSome, IfOk, IfErr};
 ghost use Rattle.std.specs.Option.{ForSome};
-ghost use Rattle.s7_client.specs.Question.{Question, question_octets};
-ghost use Rattle.s7_client.specs.Answer as spelled;
-ghost use Rattle.s7_client.specs.Told.{Tells, TellsSome};
-ghost use Rattle.s7_client.specs.Dialogue.{sends, ends, numbered, connect_request, disconnect_request, End, fault_end};
-ghost use Rattle.s7_client.specs.Dialogue.{departed_end, with_number, asked_by, dialogue};
-ghost use Rattle.s7_client.specs.Left.{groups_left};
-ghost use Rattle.s7_client.specs.Stages.{is_alone, octets_of, is_granted};
-ghost use Rattle.s7_client.specs.GoesOn.{Conducts};
-ghost use Rattle.s7_client.specs.Taking.{TellsFor, CanSend};
-ghost use Rattle.s7_client.specs.Running.{next_of, Follows, IsOver, IsAsking, IsOpening, IsLeaving, IsResult};
-ghost use Rattle.s7_client.specs.Running.{answers_left};
+ghost use Rattle.s7_wire.specs.Sent.{sent_message};
+ghost use Rattle.s7_client.specs.declared.config.Config.{Config};
 ghost use Rattle.s7_client.specs.declared.grant.Grant.{Grant};
+ghost use Rattle.s7_client.specs.Question.{Question};
+ghost use Rattle.s7_client.specs.Answer as spelled;
+ghost use Rattle.s7_client.specs.Told.{IsAsked, Tells};
+ghost use Rattle.s7_client.specs.Flight.{Row, answers_of, filled};
+ghost use Rattle.s7_client.specs.GoesOn.{ConductsAt, RefusesAt, IsDone};
+ghost use Rattle.s7_client.specs.Taking.{IsFor, Taken, answered_rows, Keeps, closed};
+ghost use Rattle.s7_client.specs.Dialogue.{End, fault_end, departed_end, number_end, asked_by};
+ghost use Rattle.s7_client.specs.Dialogue.{connect_request, plan_of};
+ghost use Rattle.s7_client.specs.Course.{Course, asking, for_nothing};
+ghost use Rattle.s7_client.specs.Stages.{octets_of, message_of, can_ask, can_fly, has_places, IsGoodLeave};
+ghost use Rattle.s7_client.specs.Running.{Begins, Follows, Reached, IsOver, IsAsking, IsOpening, IsLeaving};
+ghost use Rattle.s7_client.specs.Running.{awaited_in, unput_of, conduct_in, answers_left, IsResult, IsGrant};
 ghost use Rattle.s7_client.specs.At.{LeavesLink, LeavesOpen};
 
-use crate::answer::{Answer, Asked, read_answer};
+use crate::answer::{Answer, Asked};
+use crate::asking::{Asking, Refused};
 use crate::checks::octet_count_of;
 use crate::codes::GOOD;
 use crate::codes_list::Codes;
+use crate::collect::{close_gaps, place_codes, place_items};
 use crate::config::Config;
+use crate::flight::Flight;
 use crate::grant::{Grant, Leaves};
 use crate::job::{Job, JobResult};
 use crate::left::Left;
 use crate::message::{write_negotiation, write_read, write_write};
 use crate::running::{Running, Stage};
 use crate::starting::{Start, start_of};
-use crate::taking::{
-    ask, gather_codes, gather_octets, is_alone, negotiated, next_place, number_by, octets_of,
-    refusal_of,
-};
+use crate::taking::{is_alone, negotiated, number_by, octets_of, refusal_of};
 use s7_header::Negotiation;
 use s7_item::Items;
 use s7_outer::{Buffer, Octets};
 use std::alloc::Global;
-use std::mem;
 
 impl Running {
     /// Begins a job on a client to which this was granted, or hands it back where there is no memory
     /// for what it will bring.
-    pub(crate) fn begin(
-        alloc: Global,
-        config: &Config,
-        granted: Option<Grant>,
-        job: Job,
-    ) -> Result<Running, Job>
-        requires granted { ForSome granted (λ g. (64 ≤ g.pdu) × (g.pdu ≤ 960)) }
-        ensures begins { IfOk result (λ r. Follows r config.now granted []) }
+    pub(crate) fn begin(alloc: Global, granted: Option<Grant>, job: Job) -> Result<Running, Job>
+        requires granted { ForSome granted IsGrant }
+        ensures begins { IfOk result (λ r. (config : Config) → Begins r config granted) }
         ensures job { IfOk result (λ r. r.job ≡ job) }
         ensures handed_back { IfErr result (λ j. j ≡ job) }
     {
-        let Start { stage, room } = start_of(granted, &job);
-        match Buffer::new(alloc, room) {
-            Ok(found) => Ok(Running {
-                job,
-                stage,
-                found,
-                codes: Codes::new(),
-            }),
-            Err(_) => Err(job),
+        let Start {
+            stage,
+            octets,
+            codes,
+        } = start_of(granted, &job);
+        let mut found = Vec::new(alloc);
+        if found.resize(octets, 0).is_err() {
+            return Err(job);
         }
+        Ok(Running {
+            job,
+            stage,
+            found,
+            codes: Codes::new(codes),
+        })
     }
 
-    /// Writes the message of what is asked, with this sequence, as the one that the buffer holds.
-    pub(crate) fn write_question(&self, config: &Config, sequence: u16, message: &mut Buffer)
-        requires asking { IsAsking self.now.stage }
+    /// Asks all questions that may go out, under the sequences after this one, and gives the last
+    /// sequence. The job is over where no telegram is unanswered then.
+    pub(crate) fn go_on(&mut self, sequence: u16) -> u16
+        requires { IsAsking self.old.stage }
+        ensures reached { (config : Config) (granted : Option Grant) (course : Course)
+            → Follows self.old config granted course.rows → course.sequence ≡ sequence
+            → unput_of config course.size self.old ≡ []
+            → Reached config granted course (asking (conduct_in self.old config granted) course) self.new result }
+        ensures fewer { answers_left self.new.stage ≤ answers_left self.old.stage }
+        ensures not_before { IsOpening self.new.stage → ⊥ }
+        ensures few { (config : Config) (size : ℕ) → 128 ≤ size → length (unput_of config size self.new) ≤ 16256 }
+        ensures job { self.new.job ≡ self.old.job }
+    {
+        let Stage::Asking(asking) = &mut self.stage else {
+            unreachable!()
+        };
+        let last = asking.ask_on(sequence);
+        if asking.flights.is_empty() {
+            let refused = asking.refused;
+            self.settle(refused);
+        }
+        last
+    }
+
+    /// Writes the message of the next telegram that is to be put, as the one that the buffer holds.
+    /// Says whether there is one.
+    pub(crate) fn write_next(&mut self, config: &Config, message: &mut Buffer) -> bool
         requires room { message.old.room ≡ 960 }
-        ensures octets { (question : Question) → next_of config.now self.now ≡ sends (numbered question)
-            → message.new.octets ≡ question_octets sequence question }
+        ensures some { result ≡ true → (size : ℕ) → unput_of config.now size self.old
+            ≡ sent_message size message.new.octets ++ unput_of config.now size self.new }
+        ensures fits { result ≡ true → (10 ≤ length message.new.octets) × (length message.new.octets ≤ 960) }
+        ensures asking { result ≡ true → IsAsking self.old.stage }
+        ensures none { result ≡ false → (self.new ≡ self.old)
+            × ((size : ℕ) → unput_of config.now size self.old ≡ []) }
+        ensures follows { (granted : Option Grant) (rows : List Row) → Follows self.old config.now granted rows
+            → Follows self.new config.now granted rows }
+        ensures awaits { (carried : List ℕ) → awaited_in self.new carried ≡ awaited_in self.old carried }
+        ensures asking_on { IsAsking self.old.stage → IsAsking self.new.stage }
+        ensures as_many { answers_left self.new.stage ≡ answers_left self.old.stage }
+        ensures job { self.new.job ≡ self.old.job }
         ensures room { message.new.room ≡ 960 }
     {
-        match &self.stage {
-            Stage::Asking { asked, from, .. } => match asked {
-                Asked::Negotiation => write_negotiation(&asked_by(config), sequence, message),
-                Asked::Read(items) => write_read(items, sequence, message),
-                Asked::Write(items) => {
-                    let count = octet_count_of(items.as_slice());
-                    let octets = piece(octets_of(&self.job), *from, count);
-                    write_write(items, octets, sequence, message);
-                }
-            },
-            Stage::Opening | Stage::Leaving | Stage::Over { .. } => unreachable!(),
+        let Stage::Asking(asking) = &mut self.stage else {
+            return false;
+        };
+        if asking.unput == 0 {
+            return false;
         }
+        let flight = &asking.flights[asking.flights.len() - asking.unput];
+        write_flight(flight, &self.job, config, message);
+        asking.unput -= 1;
+        true
     }
 
-    /// The answer that a message is to what was asked with this sequence; `None` exactly where it
-    /// is none.
-    pub(crate) fn judge<'a>(&self, sequence: u16, message: &'a [u8]) -> Option<Answer<'a>>
-        requires { IsAsking self.now.stage }
-        ensures some { (config : _) (question : Question) → next_of config self.now ≡ sends (numbered question)
-            → IfSome result (λ answer. TellsSome question answer (spelled.answer_of question sequence message.now)) }
-        ensures none { (config : _) (question : Question) → next_of config self.now ≡ sends (numbered question)
-            → IfNone result (spelled.answer_of question sequence message.now ≡ None) }
-    {
-        match &self.stage {
-            Stage::Asking { asked, .. } => read_answer(asked, sequence, message),
-            Stage::Opening | Stage::Leaving | Stage::Over { .. } => unreachable!(),
-        }
-    }
-
-    /// Goes on with an answer to what was asked.
-    pub(crate) fn take(&mut self, config: &Config, granted: Option<Grant>, answer: &Answer<'_>)
+    /// Takes a message as the answer to the first unanswered telegram that it answers, and asks on
+    /// under the sequences after this one. Gives the last sequence; `None` where it answers none.
+    pub(crate) fn take(&mut self, config: &Config, sequence: u16, message: &[u8]) -> Option<u16>
         requires asking { IsAsking self.old.stage }
         requires pdu { config.now.pdu ≤ 960 }
-        ensures follows { (answers : List spelled.Answer) (question : Question) (x : spelled.Answer)
-            → Follows self.old config.now granted answers → next_of config.now self.old ≡ sends (numbered question)
-            → Tells question answer.now x
-            → Follows self.new config.now granted (answers ++ x ∷ []) }
-        ensures fewer { answers_left self.new.stage + 1 ≤ answers_left self.old.stage }
+        requires jobs { config.now.jobs ≤ 8 }
+        ensures some { IfSome result (λ last. (granted : Option Grant) (course : Course)
+            → Follows self.old config.now granted course.rows → course.sequence ≡ sequence
+            → unput_of config.now course.size self.old ≡ []
+            → (rows : List Row) × (filled course.rows message.now ≡ Some rows)
+            × Reached config.now granted course
+            (asking (conduct_in self.old config.now granted) (record course { rows = rows })) self.new last) }
+        ensures none { IfNone result ((granted : Option Grant) (rows : List Row)
+            → Follows self.old config.now granted rows → filled rows message.now ≡ None) }
+        ensures unchanged { IfNone result (self.new ≡ self.old) }
+        ensures fewer { OnSome result (answers_left self.new.stage + 1 ≤ answers_left self.old.stage) }
+        ensures not_before { IsOpening self.new.stage → ⊥ }
+        ensures few { (config : Config) (size : ℕ) → 128 ≤ size → length (unput_of config size self.new) ≤ 16256 }
         ensures job { self.new.job ≡ self.old.job }
     {
-        let stage = mem::replace(&mut self.stage, Stage::Leaving);
-        match stage {
-            Stage::Asking {
-                asked,
-                left,
-                from,
-                is_first,
-            } => match asked {
-                Asked::Negotiation => {
-                    let (code, leaves) = negotiated(config, answer);
-                    self.end(code, leaves);
-                }
-                Asked::Read(items) => self.go_on(false, &items, left, from, is_first, answer),
-                Asked::Write(items) => self.go_on(true, &items, left, from, is_first, answer),
-            },
-            Stage::Opening | Stage::Leaving | Stage::Over { .. } => unreachable!(),
+        let Stage::Asking(asking) = &mut self.stage else {
+            unreachable!()
+        };
+        let Some((flight, answer)) = asking.answered(message) else {
+            return None;
+        };
+        match &flight.asked {
+            Asked::Negotiation => {
+                let (code, leaves) = negotiated(config, &answer);
+                self.end(code, leaves);
+                Some(sequence)
+            }
+            Asked::Read(items) | Asked::Write(items) => {
+                self.note(&flight, items, &answer);
+                Some(self.go_on(sequence))
+            }
         }
     }
 
-    /// Goes on with the confirm of the connect request.
-    pub(crate) fn confirm(&mut self, config: &Config)
+    // Notes what an answer to this telegram for items tells: that it refuses, or what is kept.
+    fn note(&mut self, flight: &Flight, items: &Items, answer: &Answer<'_>)
+        requires asking { IsAsking self.old.stage }
+        requires asked { IsFor items.now flight.now.asked }
+        requires flies { can_fly self.old.job (length self.old.found.items) flight.now ≡ true }
+        requires told { (question : Question) → IsAsked flight.now.asked question
+            → (x : spelled.Answer) × Tells question answer.now x }
+        ensures notes { (config : Config) (granted : Option Grant) (rows : List Row)
+            (t : Taken rows flight.now answer.now)
+            → ConductsAt config granted (answered_rows t) rows self.old.job self.old.found.items self.old.codes
+            self.old.stage
+            → Follows self.new config granted (answered_rows t) }
+        ensures asking { IsAsking self.new.stage }
+        ensures as_many { answers_left self.new.stage ≡ answers_left self.old.stage }
+        ensures unput { (config : Config) (size : ℕ) → unput_of config size self.new ≡ unput_of config size self.old }
+        ensures job { self.new.job ≡ self.old.job }
+    {
+        match refusal_of(is_alone(&self.job), items, answer) {
+            Some(number) => self.refuse(flight.place, number),
+            None => self.keep(flight, items, answer),
+        }
+    }
+
+    // The question at a place was refused with this number.
+    fn refuse(&mut self, place: usize, number: u32)
+        requires asking { IsAsking self.old.stage }
+        ensures refuses { RefusesAt self.old.stage place number self.new.stage }
+        ensures found { self.new.found ≡ self.old.found }
+        ensures codes { self.new.codes ≡ self.old.codes }
+        ensures job { self.new.job ≡ self.old.job }
+    {
+        let Stage::Asking(asking) = &mut self.stage else {
+            unreachable!()
+        };
+        asking.refuse(place, number);
+    }
+
+    // Keeps what an answer that doesn't refuse tells of these items.
+    fn keep(&mut self, flight: &Flight, items: &Items, answer: &Answer<'_>)
+        requires asked { IsFor items.now flight.now.asked }
+        requires flies { can_fly self.old.job (length self.old.found.items) flight.now ≡ true }
+        requires told { (question : Question) → IsAsked flight.now.asked question
+            → (x : spelled.Answer) × Tells question answer.now x }
+        ensures keeps { Keeps items.now flight.now answer.now self.old.found.items self.old.codes self.new.found.items
+            self.new.codes }
+        ensures stage { self.new.stage ≡ self.old.stage }
+        ensures job { self.new.job ≡ self.old.job }
+    {
+        match answer {
+            Answer::Items(body) => place_items(
+                items,
+                body,
+                self.found.as_mut_slice(),
+                flight.from,
+                &mut self.codes,
+                flight.item,
+            ),
+            Answer::Codes(noted) => place_codes(noted, &mut self.codes, flight.item),
+            Answer::Granted(_) | Answer::Refused(_) => {}
+        }
+    }
+
+    /// Goes on with the confirm of the connect request: the negotiation is to be asked.
+    pub(crate) fn confirm(&mut self)
         requires { IsOpening self.old.stage }
-        ensures follows { (granted : Option Grant) (answers : List spelled.Answer)
-            → Follows self.old config.now granted answers
-            → Follows self.new config.now granted (answers ++ spelled.confirms ∷ []) }
+        ensures asking { IsAsking self.new.stage }
+        ensures follows { (config : Config) (granted : Option Grant)
+            → (plan_of self.old.job config granted).first ≡ connect_request
+            → Follows self.new config granted [] }
+        ensures none_unput { (config : Config) (size : ℕ) → unput_of config size self.new ≡ [] }
+        ensures few { (config : Config) (size : ℕ) → 128 ≤ size → length (unput_of config size self.new) ≤ 16256 }
         ensures fewer { answers_left self.new.stage + 1 ≤ answers_left self.old.stage }
         ensures job { self.new.job ≡ self.old.job }
     {
-        self.stage = Stage::Asking {
-            asked: Asked::Negotiation,
-            left: Left::Nothing,
-            from: 0,
-            is_first: false,
-        };
+        self.stage = Stage::Asking(Asking::new(1, Left::Negotiation));
     }
 
     /// Ends once the disconnect request was transmitted.
-    pub(crate) fn depart(&mut self, config: &Config)
+    pub(crate) fn depart(&mut self)
         requires { IsLeaving self.old.stage }
-        ensures follows { (granted : Option Grant) (answers : List spelled.Answer)
-            → Follows self.old config.now granted answers
-            → Follows self.new config.now granted (answers ++ spelled.departed ∷ []) }
-        ensures departs { (k : _) → next_of k self.new ≡ ends (departed_end) }
+        ensures departs { awaited_in self.new [] ≡ for_nothing departed_end [] }
         ensures over { IsOver self.new.stage }
         ensures job { self.new.job ≡ self.old.job }
     {
@@ -162,7 +247,7 @@ impl Running {
 
     /// Ends with a fault that closes the client.
     pub(crate) fn fail(&mut self, code: u32)
-        ensures fails { (config : _) → next_of config self.new ≡ ends (fault_end code) }
+        ensures fails { (carried : List ℕ) → awaited_in self.new carried ≡ for_nothing (fault_end code) carried }
         ensures over { IsOver self.new.stage }
         ensures job { self.new.job ≡ self.old.job }
     {
@@ -172,82 +257,101 @@ impl Running {
     /// What the job, which is over, leaves.
     pub(crate) fn leaves(&self) -> Leaves
         requires { IsOver self.now.stage }
-        ensures leaves { (config : _) (end : End) → next_of config self.now ≡ ends end → result ≡ end.leaves }
-        ensures granted { is_granted result ≡ true }
+        ensures leaves { (end : End) → awaited_in self.now [] ≡ for_nothing end [] → result ≡ end.leaves }
+        ensures granted { IsGoodLeave result }
         ensures open { LeavesLink result → LeavesOpen self.now.stage }
     {
         match &self.stage {
             Stage::Over { leaves, .. } => *leaves,
-            Stage::Opening | Stage::Asking { .. } | Stage::Leaving => unreachable!(),
+            Stage::Opening | Stage::Asking(_) | Stage::Leaving => unreachable!(),
         }
     }
 
     /// What came of the job, which is over.
     pub(crate) fn into_result(self, carried: Octets) -> JobResult
         requires { IsOver self.stage }
-        ensures result { (config : _) (end : End) → next_of config self ≡ ends end
+        ensures result { (end : End) → awaited_in self [] ≡ for_nothing end []
             → IsResult result self.job end carried }
     {
         let Running {
             job,
             stage,
-            mut found,
+            found,
             codes,
         } = self;
         match stage {
             Stage::Over { code, .. } => JobResult {
                 job,
                 code,
-                octets: found.take(),
+                octets: Octets::of_vec(found),
                 codes: codes.places(),
                 count: codes.len(),
                 carried,
             },
-            Stage::Opening | Stage::Asking { .. } | Stage::Leaving => unreachable!(),
+            Stage::Opening | Stage::Asking(_) | Stage::Leaving => unreachable!(),
         }
     }
 
     // Ends with this number, with nothing found.
     fn end(&mut self, code: u32, leaves: Leaves)
-        requires { is_granted leaves ≡ true }
-        ensures ends { (config : _) → next_of config self.new ≡ with_number code leaves }
+        requires { IsGoodLeave leaves }
+        ensures ends { (carried : List ℕ) → awaited_in self.new carried ≡ for_nothing (number_end code leaves) carried }
         ensures over { IsOver self.new.stage }
         ensures job { self.new.job ≡ self.old.job }
     {
         self.found.clear();
-        self.codes = Codes::new();
+        self.codes = Codes::new(0);
         self.stage = Stage::Over { code, leaves };
     }
 
-    // Goes on with an answer to the read or write of these items, before what is left.
-    fn go_on(
-        &mut self,
-        write: bool,
-        items: &Items,
-        left: Left,
-        from: usize,
-        is_first: bool,
-        answer: &Answer<'_>,
-    )
-        requires sendable { CanSend self.old.job write from (items.now ∷ groups_left left) }
-        ensures follows { (config : _) (granted : Option Grant) (answers : List spelled.Answer) (x : spelled.Answer)
-            → Conducts (is_alone self.old.job) write (dialogue self.old.job config granted) answers self.old.found
-            self.old.codes is_first (items.now ∷ groups_left left) (drop from (octets_of self.old.job))
-            → TellsFor write items.now answer.now x
-            → Follows self.new config granted (answers ++ x ∷ []) }
-        ensures fewer { answers_left self.new.stage ≤ length (groups_left left) }
+    // Ends the job, of which no telegram is unanswered, by the first refusal or with what was
+    // found.
+    fn settle(&mut self, refused: Option<Refused>)
+        requires asking { IsAsking self.old.stage }
+        ensures settles { (config : Config) (granted : Option Grant) (rows : List Row)
+            → IsDone self.old.stage refused → Follows self.old config granted rows
+            → awaited_in self.new [] ≡ for_nothing ((conduct_in self.old config granted).ended (answers_of rows)) [] }
+        ensures over { IsOver self.new.stage }
         ensures job { self.new.job ≡ self.old.job }
     {
-        let alone = is_alone(&self.job);
-        if let Some(number) = refusal_of(alone, items, answer) {
-            let code = number_by(alone, write, is_first, number);
+        if let Some(refused) = refused {
+            let code = number_by(&self.job, refused);
             self.end(code, Leaves::AsItWas);
             return;
         }
-        let next = next_place(write, items, octets_of(&self.job), from);
-        gather_octets(items, answer, &mut self.found);
-        gather_codes(alone, items, answer, &mut self.codes);
-        self.stage = ask(write, left, next, false);
+        close_found(&self.job, &self.codes, &mut self.found);
+        self.stage = Stage::Over {
+            code: GOOD,
+            leaves: Leaves::AsItWas,
+        };
+    }
+}
+
+// Closes up the octets of several items that a job read.
+fn close_found(job: &Job, codes: &Codes, found: &mut Vec<u8>)
+    requires { has_places job.now (length found.old.items) ≡ true }
+    ensures { found.new.items ≡ closed job.now codes.now found.old.items }
+{
+    if let Job::ReadMany { items } = job {
+        close_gaps(items.as_slice(), codes.as_slice(), found);
+    }
+}
+
+// Writes the message of a telegram of the job.
+fn write_flight(flight: &Flight, job: &Job, config: &Config, message: &mut Buffer)
+    requires asked { (found : ℕ) × (can_ask job.now found flight.now.from flight.now.asked ≡ true) }
+    requires room { message.old.room ≡ 960 }
+    ensures octets { message.new.octets ≡ message_of config.now job.now flight.now }
+    ensures room { message.new.room ≡ 960 }
+{
+    match &flight.asked {
+        Asked::Negotiation => write_negotiation(&asked_by(config), flight.sequence, message),
+        Asked::Read(items) => write_read(items, flight.sequence, message),
+        Asked::Write(items) => {
+            let count = octet_count_of(items.as_slice());
+            let octets = piece(octets_of(job), flight.from, count);
+            write_write(items, octets, flight.sequence, message);
+        }
     }
 }
 

@@ -1,5 +1,6 @@
 // The steps of a poll.
-ghost use Rattle.std.specs.Prelude.{◌≡◌, ◌≢◌, ◌<◌, ◌≤◌, [], length};
+ghost use Rattle.std.specs.Prelude.{◌≡◌, ◌≢◌, ℕ, ◌<◌, ◌≤◌, [], length};
+ghost use Rattle.s7_client.specs.Running.{unput_of};
 ghost use Rattle.s7_client.specs.At.{IsAwaiting, limit_at};
 ghost use Rattle.s7_client.specs.Standing.{Fits, IsStep, Consumes, unread, unsent};
 
@@ -35,6 +36,7 @@ impl Line {
     ) -> Step
         requires fits { Fits self.old job.old }
         requires pdu { config.now.pdu ≤ 960 }
+        requires jobs { config.now.jobs ≤ 8 }
         ensures steps { IsStep self.old job.old (L.shows link.old) self.new job.new
             (L.shows link.new) config.now granted result }
         ensures rests { result ≢ Step.Went }
@@ -48,8 +50,8 @@ impl Line {
         }
     }
 
-    /// Sends what is left to send, or else uses octets that were read, or else receives and uses
-    /// octets, up to the end of one packet.
+    /// Sends what may go out, or else uses octets that were read, or else receives and uses octets,
+    /// up to the end of one packet.
     pub(crate) fn step<L: Link>(
         &mut self,
         job: &mut UnderWay,
@@ -59,9 +61,11 @@ impl Line {
     ) -> Step
         requires fits { Fits self.old job.old }
         requires pdu { config.now.pdu ≤ 960 }
+        requires jobs { config.now.jobs ≤ 8 }
         ensures { IsStep self.old job.old (L.shows link.old) self.new job.new
             (L.shows link.new) config.now granted result }
     {
+        self.talk.put_next(&mut job.running, config);
         if !self.talk.outbox.is_empty() {
             return match self.talk.outbox.flush(link) {
                 Sent::Bytes(_) => Step::Went,
@@ -75,11 +79,11 @@ impl Line {
         match &job.running.stage {
             Stage::Over { .. } => Step::Over,
             Stage::Leaving => {
-                job.running.depart(config);
+                job.running.depart();
                 Step::Over
             }
             Stage::Opening => self.go_on(job, config, granted, link),
-            Stage::Asking { .. } => self.go_on(job, config, granted, link),
+            Stage::Asking(_) => self.go_on(job, config, granted, link),
         }
     }
 
@@ -93,7 +97,9 @@ impl Line {
     ) -> Step
         requires fits { Fits self.old job.old }
         requires pdu { config.now.pdu ≤ 960 }
+        requires jobs { config.now.jobs ≤ 8 }
         requires sent { unsent self.old ≡ [] }
+        requires unput { (size : ℕ) → unput_of config.now size job.old.running ≡ [] }
         requires awaiting { IsAwaiting job.old.running.stage }
         ensures { IsStep self.old job.old (L.shows link.old) self.new job.new
             (L.shows link.new) config.now granted result }
@@ -123,7 +129,9 @@ impl Line {
     fn consume(&mut self, job: &mut UnderWay, config: &Config, granted: Option<Grant>)
         requires fits { Fits self.old job.old }
         requires pdu { config.now.pdu ≤ 960 }
+        requires jobs { config.now.jobs ≤ 8 }
         requires sent { unsent self.old ≡ [] }
+        requires unput { (size : ℕ) → unput_of config.now size job.old.running ≡ [] }
         requires awaiting { IsAwaiting job.old.running.stage }
         requires read { 0 < length (unread self.old) }
         ensures { Consumes self.old job.old self.new job.new config.now granted }
@@ -153,6 +161,6 @@ pub(crate) fn packet_limit(stage: &Stage, size: u16) -> u16
 {
     match stage {
         Stage::Opening => FIRST_LIMIT,
-        Stage::Asking { .. } | Stage::Leaving | Stage::Over { .. } => size + HEADERS,
+        Stage::Asking(_) | Stage::Leaving | Stage::Over { .. } => size + HEADERS,
     }
 }

@@ -1,7 +1,7 @@
 use crate::steps::{
     ASKED, Ask, CONFIRM, CONNECT, DISCONNECT, FOUR, FRAGMENT, GRANTED, READ, READ_AGAIN_ANSWER,
-    READ_ANSWER, Row, SETUP, Step, all_end, client, connect_fails, does_in_pieces, ends,
-    has_written, holds_in_pieces, joined, link, polled, read_fails, starts,
+    READ_ANSWER, Row, SETUP, Step, all_end, client, connect_fails, does_at, ends, has_written,
+    holds_in_pieces, joined, link, polled, read_fails, starts,
 };
 use s7_client::{Client, Config, Job, Polled, StartCause};
 use s7_item::Item;
@@ -181,7 +181,7 @@ fn fragments_are_counted(rt: HostRuntime) -> Result<(), Fail> {
 }
 
 /// The least PDU, by which a read has 46 octets and a write 29.
-const GRANTED_64: &str = "0300001b02f080320300000001000800000000f000000100010040";
+pub(crate) const GRANTED_64: &str = "0300001b02f080320300000001000800000000f000000100010040";
 
 #[test]
 fn a_long_item_is_read_in_parts(rt: HostRuntime) -> Result<(), Fail> {
@@ -226,37 +226,44 @@ const LONG_FRONT: &str =
 const LONG_REST: &str =
     "0300004002f080320100000003000e00210501120a1002001d0001840000e8000400e82222222222222222222222222222222222222222222222222222222222";
 
-/// A long write is answered so, ends with this number, and sends this.
-fn is_written(alloc: Global, answers: &[&str], code: u32, output: &[&str]) -> Result<bool, Fail> {
+/// With so many jobs a long write is answered so, ends with this number, and sends this.
+fn is_written(
+    alloc: Global,
+    jobs: &[u8],
+    answers: &[&str],
+    code: u32,
+    output: &[&str],
+) -> Result<bool, Fail> {
     let steps: [Step<'_>; 2] = [
         (Ask::Connect, 0, "", ""),
         (Ask::Write(LONG, LONG_OCTETS), code, "", ""),
     ];
-    does_in_pieces(alloc, &steps, answers, output, (Some(64), false))
+    does_at(alloc, &steps, answers, output, (Some(64), false), jobs)
 }
 
 #[test]
 fn a_long_item_is_written_in_parts(rt: HostRuntime) -> Result<(), Fail> {
-    let both = &[CONNECT, SETUP, LONG_FRONT, LONG_REST];
-    let good = "0300001602f0803203000000020002000100000501ff";
-    let input = &[
-        CONFIRM,
-        GRANTED_64,
-        good,
-        "0300001602f0803203000000030002000100000501ff",
+    let both: &[&str] = &[CONNECT, SETUP, LONG_FRONT, LONG_REST];
+    let front: &[&str] = &[CONNECT, SETUP, LONG_FRONT];
+    let first = "0300001602f0803203000000020002000100000501ff";
+    let second = "0300001602f0803203000000030002000100000501ff";
+    let first_refused = "0300001602f080320300000002000200010000050105";
+    let second_refused = "0300001602f080320300000003000200010000050106";
+    let rows: [(&[u8], &[&str], u32, &[&str]); 7] = [
+        (&[1, 2, 8], &[first, second], 0, both),
+        (&[2, 8], &[second, first], 0, both),
+        (&[1, 2, 8], &[first, second_refused], 0x0060_0000, both),
+        (&[2, 8], &[second_refused, first], 0x0060_0000, both),
+        (&[1], &[first_refused], 0x0090_0000, front),
+        // The second part went out before the first was refused, and its answer is awaited.
+        (&[2, 8], &[first_refused, second], 0x0090_0000, both),
+        (&[2, 8], &[second_refused, first_refused], 0x0090_0000, both),
     ];
-    assert!(rt; is_written(rt.alloc(), input, 0, both)?);
-    let input = &[
-        CONFIRM,
-        GRANTED_64,
-        good,
-        "0300001602f080320300000003000200010000050105",
-    ];
-    assert!(rt; is_written(rt.alloc(), input, 0x0060_0000, both)?);
-    let refused = "0300001602f080320300000002000200010000050105";
-    let input = &[CONFIRM, GRANTED_64, refused];
-    let front = &[CONNECT, SETUP, LONG_FRONT];
-    assert!(rt; is_written(rt.alloc(), input, 0x0090_0000, front)?);
+    for (jobs, answers, code, output) in rows {
+        let mut input = Vec::from_slice(rt.alloc(), &[CONFIRM, GRANTED_64])?;
+        input.extend_from_slice(answers)?;
+        assert!(rt; is_written(rt.alloc(), jobs, input.as_slice(), code, output)?);
+    }
     Ok(())
 }
 

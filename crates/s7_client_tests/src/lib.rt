@@ -7,6 +7,8 @@ mod answers;
 #[cfg(test)]
 mod faults;
 #[cfg(test)]
+mod flights;
+#[cfg(test)]
 mod jobs;
 #[cfg(test)]
 mod steps;

@@ -176,7 +176,28 @@ pub(crate) fn all_end<L: Link>(
 }
 
 pub(crate) fn client(alloc: Global) -> Result<Client, Fail> {
-    Ok(Client::new(alloc, Config::new(1, 0, 2))?)
+    client_of(alloc, 1)
+}
+
+/// A client that asks for so many parallel jobs, from 1 to 8.
+pub(crate) fn client_of(alloc: Global, jobs: u8) -> Result<Client, Fail> {
+    let config = Config {
+        jobs: u16::from(jobs).clamp(1, 8),
+        ..Config::new(1, 0, 2)
+    };
+    Ok(Client::new(alloc, config)?)
+}
+
+/// Octets in hex in which the parallel jobs of the negotiation, one on each side, are so many.
+pub(crate) fn at_jobs(alloc: Global, parts: &[&str], jobs: u8) -> Result<Vec<u8>, Fail> {
+    let mut octets = joined(alloc, parts)?;
+    for k in 0..octets.len() {
+        if octets[k..].starts_with(&[0xF0, 0, 0, 1, 0, 1]) {
+            octets[k + 3] = jobs;
+            octets[k + 5] = jobs;
+        }
+    }
+    Ok(octets)
 }
 
 /// A link that moves at most so many octets a call, and one at least.
@@ -190,26 +211,47 @@ pub(crate) fn has_written(alloc: Global, link: &MemoryLink, output: &[&str]) -> 
 }
 
 /// Over a link that moves at most `most` octets a call the jobs end as the steps say, and this is
-/// written. What is granted then, and whether the client is closed, is as stated.
+/// written. What is granted then, and whether the client is closed, is as stated. So many parallel
+/// jobs are asked for, and granted.
 pub(crate) fn does(
     alloc: Global,
     steps: &[Step<'_>],
     input: &[&str],
     output: &[&str],
     left: (Option<u16>, bool),
-    most: usize,
+    (jobs, most): (u8, usize),
 ) -> Result<bool, Fail> {
-    let mut client = client(alloc)?;
-    let mut link = link(alloc, input, most)?;
+    let mut client = client_of(alloc, jobs)?;
+    let input = Octets::of_vec(at_jobs(alloc, input, jobs)?);
+    let mut link = MemoryLink::new(alloc, input, most.max(1), 4_096, 7)?;
     Ok(
         all_end(alloc, &mut client, &mut link, steps)?
-            && has_written(alloc, &link, output)?
+            && link.written() == at_jobs(alloc, output, jobs)?.as_slice()
             && client.granted() == left.0
             && client.closed() == left.1,
     )
 }
 
-/// The same however the octets are cut.
+/// The same however the octets are cut, for each of these numbers of parallel jobs.
+pub(crate) fn does_at(
+    alloc: Global,
+    steps: &[Step<'_>],
+    input: &[&str],
+    output: &[&str],
+    left: (Option<u16>, bool),
+    jobs: &[u8],
+) -> Result<bool, Fail> {
+    for jobs in jobs {
+        for most in [1, 3, 8_192] {
+            if !does(alloc, steps, input, output, left, (*jobs, most))? {
+                return Ok(false);
+            }
+        }
+    }
+    Ok(true)
+}
+
+/// The same for 1, 2 and 8 parallel jobs.
 pub(crate) fn does_in_pieces(
     alloc: Global,
     steps: &[Step<'_>],
@@ -217,12 +259,7 @@ pub(crate) fn does_in_pieces(
     output: &[&str],
     left: (Option<u16>, bool),
 ) -> Result<bool, Fail> {
-    for most in [1, 3, 8_192] {
-        if !does(alloc, steps, input, output, left, most)? {
-            return Ok(false);
-        }
-    }
-    Ok(true)
+    does_at(alloc, steps, input, output, left, &[1, 2, 8])
 }
 
 /// The row holds however the octets are cut.
@@ -252,7 +289,7 @@ pub(crate) fn is_turned_down(alloc: Global, ask: Ask<'_>, code: u32) -> Result<b
     ];
     let input = &[CONFIRM, GRANTED, READ_ANSWER];
     let output = &[CONNECT, SETUP, READ];
-    does(alloc, &steps, input, output, (Some(480), false), 8_192)
+    does(alloc, &steps, input, output, (Some(480), false), (8, 8_192))
 }
 
 /// A connect to which the link gives this ends with this number and closes the client.

@@ -12,6 +12,7 @@ use Rattle.s7_client.specs.Course.{Origin}
 use Rattle.s7_client.specs.Polling.{StandsFor, job_of, waited_of, WaitsOnce}
 use Rattle.std.proofs.lemmas.List.{append-nil}
 use Rattle.s7_rig.proofs.ListFacts.{tail_of}
+use Rattle.s7_rig.proofs.EndLemmas.{IsQuiet}
 
 -- a client that stands for octets has a job
 pub has_job : (c : Client) (origin : Origin) (b w : List ℕ) → StandsFor c origin b w → job_of c ≡ None → ⊥
@@ -48,6 +49,10 @@ wrote loan p p' written e = ap (λ o. unwrap_or o []) e
 
 pub same_moment : (loan : GName) (p p' : PipesHeld) → (end_of loan p' side.Client).moment ≡ (end_of loan p side.Client).moment → p'.moment ≡ p.moment
 same_moment loan p p' e = ap (λ o. unwrap_or o 0) e
+
+-- pipes neither fail nor end
+pub pipes_quiet : (loan : GName) (p p' : PipesHeld) → IsQuiet (end_of loan p side.Client) (end_of loan p' side.Client)
+pipes_quiet loan p p' = (λ rose. absurd (omega (arith, rose)), λ ended. absurd (cc))
 
 -- octets that are taken go on to be those that were given
 pub given_on : (answered heard unread to_client received used unread' to_client' : List ℕ)

@@ -1,5 +1,5 @@
 -- A client's turn keeps what holds of it and its session.
-use Rattle.std.proofs.Common.{◌≡◌, ◌⊎◌, inl, inr, ℕ, ◌<◌, ◌≤◌, false, List, [], ◌∷◌, ◌++◌, refl, ap, sym, ◌∙◌, subst, append_assoc}
+use Rattle.std.proofs.Common.{◌≡◌, ◌⊎◌, inl, inr, ℕ, ◌<◌, ◌≤◌, false, List, [], ◌∷◌, ◌++◌, length, refl, ap, sym, ◌∙◌, subst, append_assoc, arith}
 use Rattle.std.specs.Prelude.{Option, None, Some, unwrap_or, map, if◌then◌else◌}
 use Rattle.std.specs.Borrow.{GName}
 use Rattle.std.proofs.lemmas.List.{append-nil, append_cancel_left, map-append}
@@ -12,7 +12,7 @@ use Rattle.s7_client.specs.declared.client.Client.{Client}
 use Rattle.s7_client.specs.declared.config.Config.{Config}
 use Rattle.s7_client.specs.declared.grant.Grant.{Grant}
 use Rattle.s7_client.specs.declared.grant.Leaves.{Leaves}
-use Rattle.s7_client.specs.declared.grant.Leaves.TheVariants.{AsItWas, Connected}
+use Rattle.s7_client.specs.declared.grant.Leaves.TheVariants.{AsItWas, Disconnected, Closed}
 use Rattle.s7_client.specs.declared.job.Job.{Job}
 use Rattle.s7_client.specs.declared.job.Job.TheVariants as job
 use Rattle.s7_client.specs.declared.job.JobResult.{JobResult}
@@ -37,14 +37,26 @@ use Rattle.s7_rig.proofs.Joint.{Octets, IsConnecting, IsWorking, IsFailing, IsLo
 use Rattle.s7_session.specs.Verdict.{Verdict}
 use Rattle.s7_session.specs.Owed.{past, owed, entered}
 use Rattle.s7_session.specs.Stands.{unsent}
-use Rattle.s7_rig.specs.Dialogues.{AreReplies, ReadsParts, IsConnectOver, IsJobOver}
+use Rattle.s7_rig.specs.Dialogues.{AreReplies, ReadsParts, IsConnectOver, IsJobOver, IsJobSettled}
 use Rattle.s7_rig.specs.Settled.{Settled}
 use Rattle.s7_rig.specs.Split.{StandsAtPlaces}
 use Rattle.s7_rig.proofs.OpeningLemmas.{connect_is_settled}
-use Rattle.s7_rig.proofs.OverLemmas.{job_is_settled}
-use Rattle.s7_rig.proofs.EndLemmas.{connect_ends, no_connect_leaves, unconnected_fails, working_ends, good_read_leaves}
-use Rattle.s7_rig.proofs.OwnLemmas.{own_replies, reads_own, stands_at, all_stand_more}
-use Rattle.s7_rig.proofs.ClientFacts.{has_job, waits_for_none, some_job, took, wrote, same_moment, given_on, taken_on, wrote_nothing}
+use Rattle.s7_rig.proofs.OverLemmas.{job_is_settled, job_went}
+use Rattle.s7_rig.proofs.EndLemmas.{IsQuiet, connect_ends, no_connect_leaves, unconnected_fails, working_ends, stays_or_leaves}
+use Rattle.s7_rig.proofs.ResultLemmas.{IsGone, ComesOff, come_off_more, come_off_behind, gone_stays, gone_now}
+use Rattle.s7_rig.proofs.ComeOffLemmas.{comes_off}
+use Rattle.s7_rig.proofs.ShapeLemmas.{AreShaped}
+use Rattle.s7_rig.specs.Complete.{CanComeOff, AllComeOff}
+use Rattle.s7_rig.specs.Exchanges.{entries_of, rows_of, Converses, WentBy}
+use Rattle.s7_rig.specs.Turns.{is_full_in, lacks_in}
+use Rattle.s7_session.specs.Telegrams.{AnyFull}
+use Rattle.s7_session.proofs.DoerLemmas.{full_end}
+use Rattle.s7_client.specs.Answer.{Answer}
+use Rattle.s7_client.specs.Codes.{timed_out}
+use Rattle.s7_client.specs.Dialogue.{End, fault_end, departed_end, connected_plan, plan_of}
+use Rattle.s7_client.specs.Flight.{answers_of}
+use Rattle.s7_rig.proofs.OwnLemmas.{own_replies, own_shaped, reads_own, stands_at, all_stand_more}
+use Rattle.s7_rig.proofs.ClientFacts.{pipes_quiet, has_job, waits_for_none, some_job, took, wrote, same_moment, given_on, taken_on, wrote_nothing}
 
 -- ---- the first job and the others
 
@@ -69,11 +81,12 @@ not_anew None job.Disconnect h = refl
 not_connect : (j : Job) (item : _) → j ≡ job.ReadArea item → j ≡ job.Connect → ⊥
 not_connect j item is connects = absurd (cc)
 
-left_as_it_was : (leaves : Leaves) (grant : Grant) → leaves ≡ AsItWas → client.grant_after leaves (Some grant) ≡ None → ⊥
-left_as_it_was leaves grant is gone = absurd (no_grant grant (sym (ap (λ l. client.grant_after l (Some grant)) is) ∙ gone))
-  where
-    no_grant : (g : Grant) → Some g ≡ None → ⊥
-    no_grant g e = absurd (cc)
+not_disconnect : (j : Job) (item : _) → j ≡ job.ReadArea item → j ≡ job.Disconnect → ⊥
+not_disconnect j item is disconnects = absurd (cc)
+
+-- and a code is one
+not_in_time : (code : ℕ) → code ≡ 0 → code ≡ timed_out → ⊥
+not_in_time code good late = absurd (omega (arith, good, late))
 
 -- ---- starting
 
@@ -110,6 +123,7 @@ module _ (opening : Memory) (limit : ℕ) (config : Config) (book : Book) where
     last = j.last;
     config_is = conf;
     done = j.done;
+    comes_off = j.comes_off;
     mode = mode;
   }
 
@@ -166,6 +180,7 @@ module _ (opening : Memory) (limit : ℕ) (config : Config) (book : Book) where
       let jobs : NoneConnects (j ∷ rest) = subst NoneConnects left l.jobs in
       joint_started p rest c o joint (unread_kept p c j s jobs.0) (s.config ∙ joint.config_is) (lost (record {
         ungranted = s.granted ∙ l.ungranted;
+        gone = l.gone;
         job = inr (record {
           origin = client.origin_at p.client j;
           heard = [];
@@ -196,9 +211,10 @@ module _ (opening : Memory) (limit : ℕ) (config : Config) (book : Book) where
       → (m : Moves (client.unread_of p.client) (end_of loan p.pipes side.Client) (client.unread_of c) (end_of loan pipes side.Client))
       → client.config_of c ≡ client.config_of p.client
       → AllStand (begins_with opening) (history_of book) p.link config.pdu results places
+      → (length (history_of book) < limit → AllComeOff opening config.pdu results)
       → Mode opening config book (polled_post p c pipes results places noted) (after o m.used m.written)
       → Joint opening limit config book (polled_post p c pipes results places noted) (after o m.used m.written)
-  joint_polled p c pipes results places noted loan o j m same done mode = record {
+  joint_polled p c pipes results places noted loan o j m same done comes_off mode = record {
     opened = j.opened;
     limited = j.limited;
     stands = j.stands;
@@ -216,6 +232,7 @@ module _ (opening : Memory) (limit : ℕ) (config : Config) (book : Book) where
     last = j.last;
     config_is = same ∙ j.config_is;
     done = done;
+    comes_off = comes_off;
     mode = mode;
   }
 
@@ -263,6 +280,7 @@ module _ (opening : Memory) (limit : ℕ) (config : Config) (book : Book) where
   })
   pending_mode p c pipes link link' used written o comes (lost l) = lost (record {
     ungranted = comes.0.granted ∙ l.ungranted;
+    gone = l.gone;
     job = still l.job;
     jobs = l.jobs;
   })
@@ -295,7 +313,7 @@ module _ (opening : Memory) (limit : ℕ) (config : Config) (book : Book) where
     jobs = k.jobs;
   })
   idle_mode p pipes o idle (working w) = absurd (has_job p.client w.origin w.heard w.sent w.stands idle)
-  idle_mode p pipes o idle (lost l) = lost (record { ungranted = l.ungranted; job = inl idle; jobs = l.jobs })
+  idle_mode p pipes o idle (lost l) = lost (record { ungranted = l.ungranted; gone = l.gone; job = inl idle; jobs = l.jobs })
 
   same_octets : (o : Octets) (written : List ℕ) → written ≡ [] → o.sent ≡ o.sent ++ written
   same_octets o written none = sym (append-nil o.sent) ∙ ap (λ x. o.sent ++ x) (sym none)
@@ -325,6 +343,7 @@ module _ (opening : Memory) (limit : ℕ) (config : Config) (book : Book) where
         last = j.last;
         config_is = j.config_is;
         done = j.done;
+        comes_off = j.comes_off;
         mode = idle_mode p pipes o comes.0 j.mode;
       } in (
         o,
@@ -337,7 +356,14 @@ module _ (opening : Memory) (limit : ℕ) (config : Config) (book : Book) where
 
   pub record Ends (p : Post) (c : Client) (pipes : PipesHeld) (told : JobResult) (o' : Octets) : Type 0 where
     pub stands : StandsAtPlaces (begins_with opening) (history_of book) p.link config.pdu told (unwrap_or p.noted [])
+    pub comes_off : length (history_of book) < limit → AllComeOff opening config.pdu p.results → AllComeOff opening config.pdu (p.results ++ told ∷ [])
     pub mode : Mode opening config book (polled_post p c pipes (p.results ++ told ∷ []) (p.places ++ unwrap_or p.noted [] ∷ []) None) o'
+
+  -- where the history has room, it was full for no telegram
+  never_full : (p : Post) (o : Octets) → Joint opening limit config book p o → length (history_of book) < limit → AnyFull o.verdicts → ⊥
+  never_full p o j room any =
+      let full = (full_end is_full_in lacks_in j.begun book o.mets j.trail (subst AnyFull (sym j.met) any)).1 in
+      absurd (omega (arith, room, full, j.limited))
 
   -- the session owes what the client used, and more that is on its way
   owes : (p : Post) (c : Client) (pipes : PipesHeld) (o : Octets) (heard : List ℕ) → Joint opening limit config book p o
@@ -350,11 +376,11 @@ module _ (opening : Memory) (limit : ℕ) (config : Config) (book : Book) where
       → Joint opening limit config book p o
       → o.sent ++ written ≡ o.used ++ (unread p.session ++ pipes.to_server)
       → o.answered ≡ (o.heard ++ used) ++ (client.unread_of c ++ pipes.to_client)
-      → client.job_of c ≡ None → (k : IsConnecting config p o)
+      → client.job_of c ≡ None → (k : IsConnecting config p o) → IsQuiet link link'
       → client.IsDone k.origin link link' p.client c told (o.heard ++ used) (o.sent ++ written)
       → Ends p c pipes told (after o used written)
-  connect_done least most p c pipes link link' used written o told j taken given idle k d =
-      by (connect_ends k.origin link link' (client.unread_of c) d.end d.carried (o.heard ++ used) (o.sent ++ written) (client.waited_of p.client) d.cause)
+  connect_done least most p c pipes link link' used written o told j taken given idle k quiet d =
+      by (connect_ends k.origin link link' (client.unread_of c) d.end d.carried (o.heard ++ used) (o.sent ++ written) (client.waited_of p.client) k.granted k.job quiet d.cause)
     where
       nothing : StandsAtPlaces (begins_with opening) (history_of book) p.link config.pdu told (unwrap_or p.noted [])
       nothing = λ item is good. absurd (not_connect told.job item is (d.result.job ∙ k.job))
@@ -362,39 +388,41 @@ module _ (opening : Memory) (limit : ℕ) (config : Config) (book : Book) where
       ungranted : client.grant_of p.client ≡ None
       ungranted = sym k.stands.granted ∙ k.granted
 
-      by : ((grant : Grant) × (d.end.leaves ≡ Connected grant) × IsByOctets k.origin d.end d.carried (o.heard ++ used) (o.sent ++ written)) ⊎ (client.grant_after d.end.leaves None ≡ None)
-          → Ends p c pipes told (after o used written)
-      by (inr gone) = record {
-        stands = nothing;
-        mode = lost (record {
-          ungranted = d.granted ∙ ap (client.grant_after d.end.leaves) ungranted ∙ gone;
-          job = inl idle;
-          jobs = k.jobs;
-        });
-      }
-      by (inl well) =
+      by : IsByOctets k.origin d.end d.carried (o.heard ++ used) (o.sent ++ written) ⊎ (d.end ≡ fault_end timed_out) → Ends p c pipes told (after o used written)
+      by (inr late) =
+          let code : told.code ≡ timed_out = d.result.code ∙ ap (λ (e : End). e.code) late in
+          record {
+            stands = nothing;
+            comes_off = λ room all. come_off_more opening config.pdu p.results told all (λ in_time can. absurd (in_time code));
+            mode = lost (record {
+              ungranted = d.granted ∙ ap (λ (e : End). client.grant_after e.leaves (client.grant_of p.client)) late;
+              gone = gone_now p.results told (inl code);
+              job = inl idle;
+              jobs = k.jobs;
+            });
+          }
+      by (inl octets) =
           let behind = (client.unread_of c ++ pipes.to_client) ++ unsent p.session in
           let over : IsConnectOver opening.guard k.origin (o.heard ++ used) (o.sent ++ written) d.end d.carried o.used o.verdicts behind = record {
             unconnected = k.granted;
             connects = k.job;
             least = subst (λ (x : Config). 64 ≤ x.pdu) (sym k.config_is) least;
             most = subst (λ (x : Config). x.pdu ≤ 960) (sym k.config_is) most;
-            over = well.2;
-            grant = well.0;
-            leaves = well.1;
+            over = octets;
             unused = unread p.session ++ pipes.to_server;
             taken = taken;
             met = j.stands.met;
             owed_is = owes p c pipes o (o.heard ++ used) j given;
           } in
           let s = connect_is_settled opening.guard k.origin (o.heard ++ used) (o.sent ++ written) d.end d.carried o.used o.verdicts behind over in
-          let pdu : well.0.pdu ≡ config.pdu = s.granted ∙ ap (λ (x : Config). x.pdu) k.config_is in
+          let pdu : s.grant.pdu ≡ config.pdu = s.granted ∙ ap (λ (x : Config). x.pdu) k.config_is in
           record {
             stands = nothing;
+            comes_off = λ room all. come_off_more opening config.pdu p.results told all (λ in_time can. d.result.code ∙ ap (λ (e : End). e.code) s.is);
             mode = connected (record {
               idle = idle;
-              grant = well.0;
-              granted = d.granted ∙ ap (λ l. client.grant_after l (client.grant_of p.client)) well.1;
+              grant = s.grant;
+              granted = d.granted ∙ ap (λ (e : End). client.grant_after e.leaves (client.grant_of p.client)) s.is;
               pdu = pdu;
               size = d.size ∙ s.size;
               sequence = subst (λ n. n < 65536) (sym d.sequence) s.sequence;
@@ -409,7 +437,7 @@ module _ (opening : Memory) (limit : ℕ) (config : Config) (book : Book) where
       (j : Joint opening limit config book p o)
       (taken : o.sent ++ written ≡ o.used ++ (unread p.session ++ pipes.to_server))
       (given : o.answered ≡ (o.heard ++ used) ++ (client.unread_of c ++ pipes.to_client))
-      (idle : client.job_of c ≡ None) (w : IsWorking opening config book p o)
+      (idle : client.job_of c ≡ None) (w : IsWorking opening config book p o) (quiet : IsQuiet link link')
       (d : client.IsDone w.origin link link' p.client c told (w.heard ++ used) (w.sent ++ written)) where
     abbrev heard : List ℕ
     heard = w.heard ++ used
@@ -436,8 +464,8 @@ module _ (opening : Memory) (limit : ℕ) (config : Config) (book : Book) where
     parted : (P : List ℕ → List Verdict → Type 0) → P o.used o.verdicts → P (w.before ++ w.used) (w.judged ++ w.verdicts)
     parted P h = subst (λ x. P x (w.judged ++ w.verdicts)) w.used_is (subst (λ y. P o.used y) w.verdicts_are h)
 
-    abbrev over : IsByOctets w.origin d.end d.carried heard sent → d.end.leaves ≡ AsItWas → IsJobOver first w.origin config.pdu heard sent d.end d.carried w.before w.used w.judged w.verdicts behind
-    over octets leaves = record {
+    abbrev over : IsByOctets w.origin d.end d.carried heard sent → IsJobOver first w.origin config.pdu heard sent d.end d.carried w.before w.used w.judged w.verdicts behind
+    over octets = record {
       grant = w.grant;
       granted = w.granted;
       pdu_is = w.pdu;
@@ -446,7 +474,6 @@ module _ (opening : Memory) (limit : ℕ) (config : Config) (book : Book) where
       size = w.size;
       sequence = w.sequence;
       over = octets;
-      leaves = leaves;
       settled = w.settled;
       unused = waits;
       taken = append_cancel_left w.before sent (w.used ++ waits) (sym sent_all ∙ taken ∙ ap (λ x. x ++ waits) w.used_is ∙ append_assoc w.before w.used waits);
@@ -455,45 +482,113 @@ module _ (opening : Memory) (limit : ℕ) (config : Config) (book : Book) where
       owed_is = parted (λ x y. owed first x y ≡ (owed first w.before w.judged ++ heard) ++ behind) (owes p c pipes o (o.heard ++ used) j given ∙ ap (λ x. x ++ behind) heard_all);
     }
 
-    job_ends : ((d.end.leaves ≡ AsItWas) × IsByOctets w.origin d.end d.carried heard sent) ⊎ (client.grant_after d.end.leaves (Some w.grant) ≡ None) → Ends p c pipes told (after o used written)
-    job_ends (inr gone) = record {
-      stands = λ item is good. absurd (left_as_it_was d.end.leaves w.grant
-          (good_read_leaves w.origin link link' (client.unread_of c) d.end d.carried heard sent (client.waited_of p.client) item (sym d.result.job ∙ is) d.cause (sym d.result.code ∙ good)).0 gone);
-      mode = lost (record {
-        ungranted = d.granted ∙ ap (client.grant_after d.end.leaves) granted ∙ gone;
-        job = inl idle;
-        jobs = w.jobs;
-      });
+    -- the client isn't connected after it
+    lost_by : (leaves : Leaves) → d.end.leaves ≡ leaves → client.grant_after leaves (Some w.grant) ≡ None → IsGone told
+        → Mode opening config book (polled_post p c pipes (p.results ++ told ∷ []) (p.places ++ unwrap_or p.noted [] ∷ []) None) (after o used written)
+    lost_by leaves is none gone = lost (record {
+      ungranted = d.granted ∙ ap (client.grant_after d.end.leaves) granted ∙ ap (λ l. client.grant_after l (Some w.grant)) is ∙ none;
+      gone = gone_now p.results told gone;
+      job = inl idle;
+      jobs = w.jobs;
+    })
+
+    -- it came off, or met too many polls
+    come_off : ComesOff opening config.pdu told → length (history_of book) < limit → AllComeOff opening config.pdu p.results → AllComeOff opening config.pdu (p.results ++ told ∷ [])
+    come_off well room all = come_off_more opening config.pdu p.results told all well
+
+    job_left : d.end ≡ departed_end → w.origin.job ≡ job.Disconnect → Ends p c pipes told (after o used written)
+    job_left is leaves = record {
+      stands = λ item reads good. absurd (not_disconnect told.job item reads (d.result.job ∙ leaves));
+      comes_off = come_off (λ in_time can. d.result.code ∙ ap (λ (e : End). e.code) is);
+      mode = lost_by Disconnected (ap (λ (e : End). e.leaves) is) refl (inr (d.result.job ∙ leaves));
     }
-    job_ends (inl well) =
-        let s = job_is_settled first w.origin config.pdu heard sent d.end d.carried w.before w.used w.judged w.verdicts behind (over well.1 well.0) in
-        let used_all : o.used ≡ w.before ++ sent = w.used_is ∙ ap (λ x. w.before ++ x) s.all_used in
-        let entries : (x : List ℕ) → x ≡ w.before ++ sent → entered first (w.before ++ sent) (w.judged ++ w.verdicts) ≡ entered first x o.verdicts =
-        λ x e. ap (λ y. entered first (w.before ++ sent) y) (sym w.verdicts_are) ∙ ap (λ y. entered first y o.verdicts) (sym e) in
+
+    job_late : d.end ≡ fault_end timed_out → Ends p c pipes told (after o used written)
+    job_late is =
+        let code : told.code ≡ timed_out = d.result.code ∙ ap (λ (e : End). e.code) is in
         record {
-          stands = stands_at (begins_with opening) (history_of book) p.link config.pdu told w.earlier w.mine (unwrap_or p.noted []) w.entries_are (ap (λ n. unwrap_or n []) (sym w.noted))
-              (λ item is good.
-              let read = s.read item (sym d.result.job ∙ is) (sym d.result.code ∙ good) in
-              let all : entered first (w.before ++ sent) (w.judged ++ w.verdicts) ≡ entered first w.before w.judged ++ map answered w.mine =
-              entries o.used used_all ∙ entered_is p o j ∙ ap (map answered) w.entries_are ∙ map-append answered w.earlier w.mine ∙ ap (λ x. x ++ map answered w.mine) (sym w.earlier_are) in
-              subst (λ x. ReadsParts (parts_of item config.pdu false) (map answered w.mine) x) (sym d.result.octets)
-              (reads_own (entered first (w.before ++ sent) (w.judged ++ w.verdicts)) (entered first w.before w.judged) read.0 w.mine (parts_of item config.pdu false) d.end.octets all read.1 read.2));
-          mode = connected (record {
-            idle = idle;
-            grant = w.grant;
-            granted = d.granted ∙ ap (λ l. client.grant_after l (client.grant_of p.client)) well.0 ∙ granted;
-            pdu = w.pdu;
-            size = d.size ∙ s.size;
-            sequence = subst (λ n. n < 65536) (sym d.sequence) s.sequence;
-            settled = subst (λ x. Settled first x o.verdicts (Some config.pdu)) (sym used_all) (subst (λ y. Settled first (w.before ++ sent) y (Some config.pdu)) (sym w.verdicts_are) s.settled);
-            all_used = used_all ∙ sym sent_all;
-            all_heard = ap (λ x. owed first x o.verdicts) used_all ∙ ap (λ y. owed first (w.before ++ sent) y) w.verdicts_are ∙ s.owed_is ∙ sym heard_all;
-            jobs = w.jobs;
-          });
+          stands = λ item reads good. absurd (not_in_time told.code good code);
+          comes_off = come_off (λ in_time can. absurd (in_time code));
+          mode = lost_by Closed (ap (λ (e : End). e.leaves) is) refl (inl code);
         }
 
+    module _ (octets : IsByOctets w.origin d.end d.carried heard sent) where
+      settles : IsJobSettled first w.origin config.pdu heard sent d.end w.before w.used w.judged w.verdicts behind
+      settles = job_is_settled first w.origin config.pdu heard sent d.end d.carried w.before w.used w.judged w.verdicts behind (over octets)
+
+      went : WentBy first w.origin d.end w.before sent w.judged w.verdicts
+      went = job_went first w.origin config.pdu heard sent d.end d.carried w.before w.used w.judged w.verdicts behind (over octets)
+
+      converses : Converses (w.judged ++ w.verdicts) (connected_plan w.origin.job w.grant).conduct d.end went.exchanges
+      converses =
+          subst (λ g. Converses (w.judged ++ w.verdicts) (plan_of w.origin.job w.origin.config g).conduct d.end went.exchanges) w.granted went.converses
+
+      used_all : o.used ≡ w.before ++ sent
+      used_all = w.used_is ∙ ap (λ x. w.before ++ x) settles.all_used
+
+      -- what was entered since is the job's own
+      entered_mine : entered first (w.before ++ sent) (w.judged ++ w.verdicts) ≡ entered first w.before w.judged ++ map answered w.mine
+      entered_mine =
+          ap (λ y. entered first (w.before ++ sent) y) (sym w.verdicts_are)
+          ∙ ap (λ x. entered first x o.verdicts) (sym used_all)
+          ∙ entered_is p o j
+          ∙ ap (map answered) w.entries_are
+          ∙ map-append answered w.earlier w.mine
+          ∙ ap (λ x. x ++ map answered w.mine) (sym w.earlier_are)
+
+      shaped : AreShaped opening (entries_of went.exchanges)
+      shaped =
+          subst (AreShaped opening)
+          (append_cancel_left (entered first w.before w.judged) (map answered w.mine) (entries_of went.exchanges) (sym entered_mine ∙ went.entered_is))
+          (own_shaped (begins_with opening) p.link (history_of book) w.earlier w.mine w.entries_are)
+
+      no_full : length (history_of book) < limit → AnyFull (w.judged ++ w.verdicts) → ⊥
+      no_full room any = never_full p o j room (subst AnyFull (sym w.verdicts_are) any)
+
+      well_done : length (history_of book) < limit → ComesOff opening config.pdu told
+      well_done room in_time can =
+          d.result.code
+          ∙ comes_off opening (w.judged ++ w.verdicts) (no_full room) w.origin.job w.grant d.end went.exchanges w.job (subst (λ n. 64 ≤ n) (sym w.pdu) least) shaped converses
+          (subst (λ n. CanComeOff opening n w.origin.job) (sym w.pdu) (subst (CanComeOff opening config.pdu) d.result.job can))
+
+      stays_connected : d.end.leaves ≡ AsItWas → Ends p c pipes told (after o used written)
+      stays_connected stays =
+          let s = settles in
+          record {
+            stands = stands_at (begins_with opening) (history_of book) p.link config.pdu told w.earlier w.mine (unwrap_or p.noted []) w.entries_are (ap (λ n. unwrap_or n []) (sym w.noted))
+                (λ item is good.
+                let read = s.read item (sym d.result.job ∙ is) (sym d.result.code ∙ good) in
+                subst (λ x. ReadsParts (parts_of item config.pdu false) (map answered w.mine) x) (sym d.result.octets)
+                (reads_own (entered first (w.before ++ sent) (w.judged ++ w.verdicts)) (entered first w.before w.judged) read.0 w.mine (parts_of item config.pdu false) d.end.octets entered_mine read.1 read.2));
+            comes_off = λ room all. come_off (well_done room) room all;
+            mode = connected (record {
+              idle = idle;
+              grant = w.grant;
+              granted = d.granted ∙ ap (λ l. client.grant_after l (client.grant_of p.client)) stays ∙ granted;
+              pdu = w.pdu;
+              size = d.size ∙ s.size;
+              sequence = subst (λ n. n < 65536) (sym d.sequence) s.sequence;
+              settled = subst (λ x. Settled first x o.verdicts (Some config.pdu)) (sym used_all) (subst (λ y. Settled first (w.before ++ sent) y (Some config.pdu)) (sym w.verdicts_are) s.settled);
+              all_used = used_all ∙ sym sent_all;
+              all_heard = ap (λ x. owed first x o.verdicts) used_all ∙ ap (λ y. owed first (w.before ++ sent) y) w.verdicts_are ∙ s.owed_is ∙ sym heard_all;
+              jobs = w.jobs;
+            });
+          }
+
+      job_over : (answers : List (Option Answer)) → d.end ≡ (connected_plan w.origin.job w.grant).conduct.ended answers
+          → (((connected_plan w.origin.job w.grant).conduct.ended answers).leaves ≡ AsItWas) ⊎ (w.origin.job ≡ job.Disconnect) → Ends p c pipes told (after o used written)
+      job_over answers is (inl stays) = stays_connected (ap (λ (e : End). e.leaves) is ∙ stays)
+      job_over answers is (inr leaves) = job_left (is ∙ ap (λ x. (connected_plan x w.grant).conduct.ended answers) leaves) leaves
+
+    job_ends : IsByOctets w.origin d.end d.carried heard sent ⊎ ((d.end ≡ departed_end) × (w.origin.job ≡ job.Disconnect)) ⊎ (d.end ≡ fault_end timed_out) → Ends p c pipes told (after o used written)
+    job_ends (inl octets) =
+        let answers = answers_of (rows_of (went octets).exchanges) in
+        job_over octets answers (converses octets).is (stays_or_leaves w.origin.job w.grant answers)
+    job_ends (inr (inl left)) = job_left left.0 left.1
+    job_ends (inr (inr late)) = job_late late
+
     job_done : Ends p c pipes told (after o used written)
-    job_done = job_ends (working_ends w.origin link link' (client.unread_of c) d.end d.carried heard sent (client.waited_of p.client) w.grant w.granted w.job d.cause)
+    job_done = job_ends (working_ends w.origin link link' (client.unread_of c) d.end d.carried heard sent (client.waited_of p.client) w.grant w.granted quiet d.cause)
 
   failed_done : (p : Post) (c : Client) (pipes : PipesHeld) (link link' : Shown) (used written : List ℕ) (o : Octets) (told : JobResult)
       → client.job_of c ≡ None → (l : IsLost p) (f : IsFailing p)
@@ -502,7 +597,9 @@ module _ (opening : Memory) (limit : ℕ) (config : Config) (book : Book) where
   failed_done p c pipes link link' used written o told idle l f d = record {
     stands = λ item is good. absurd (unconnected_fails f.origin link link' (client.unread_of c) d.end d.carried (f.heard ++ used) (f.sent ++ written) (client.waited_of p.client) f.granted f.job d.cause
         (sym d.result.code ∙ good));
+    comes_off = λ room all. come_off_behind opening config.pdu p.results told all l.gone;
     mode = lost (record {
+      gone = gone_stays p.results told l.gone;
       ungranted = d.granted ∙ ap (client.grant_after d.end.leaves) l.ungranted
           ∙ no_connect_leaves f.origin link link' (client.unread_of c) d.end d.carried (f.heard ++ used) (f.sent ++ written) (client.waited_of p.client) d.cause f.job;
       job = inl idle;
@@ -514,16 +611,16 @@ module _ (opening : Memory) (limit : ℕ) (config : Config) (book : Book) where
       → Joint opening limit config book p o
       → o.sent ++ written ≡ o.used ++ (unread p.session ++ pipes.to_server)
       → o.answered ≡ (o.heard ++ used) ++ (client.unread_of c ++ pipes.to_client)
-      → client.Comes p.client link c link' used written (polled.Done told)
+      → IsQuiet link link' → client.Comes p.client link c link' used written (polled.Done told)
       → Mode opening config book p o
       → Ends p c pipes told (after o used written)
-  done_by least most p c pipes link link' used written o told j taken given comes (untouched u) = absurd (some_job (client.job_of p.client) comes.0 u.fresh.job)
-  done_by least most p c pipes link link' used written o told j taken given comes (connecting k) =
-      connect_done least most p c pipes link link' used written o told j taken given comes.1 k (comes.2 k.origin o.heard o.sent k.stands)
-  done_by least most p c pipes link link' used written o told j taken given comes (connected k) = absurd (some_job (client.job_of p.client) comes.0 k.idle)
-  done_by least most p c pipes link link' used written o told j taken given comes (working w) =
-      job_done least most p c pipes link link' used written o told j taken given comes.1 w (comes.2 w.origin w.heard w.sent w.stands)
-  done_by least most p c pipes link link' used written o told j taken given comes (lost l) = by l.job
+  done_by least most p c pipes link link' used written o told j taken given quiet comes (untouched u) = absurd (some_job (client.job_of p.client) comes.0 u.fresh.job)
+  done_by least most p c pipes link link' used written o told j taken given quiet comes (connecting k) =
+      connect_done least most p c pipes link link' used written o told j taken given comes.1 k quiet (comes.2 k.origin o.heard o.sent k.stands)
+  done_by least most p c pipes link link' used written o told j taken given quiet comes (connected k) = absurd (some_job (client.job_of p.client) comes.0 k.idle)
+  done_by least most p c pipes link link' used written o told j taken given quiet comes (working w) =
+      job_done least most p c pipes link link' used written o told j taken given comes.1 w quiet (comes.2 w.origin w.heard w.sent w.stands)
+  done_by least most p c pipes link link' used written o told j taken given quiet comes (lost l) = by l.job
     where
       by : (client.job_of p.client ≡ None) ⊎ IsFailing p → Ends p c pipes told (after o used written)
       by (inl idle) = absurd (some_job (client.job_of p.client) comes.0 idle)
@@ -543,19 +640,20 @@ module _ (opening : Memory) (limit : ℕ) (config : Config) (book : Book) where
     after o m.used m.written,
     refl,
     refl,
-    joint_polled p c pipes p.results p.places p.noted loan o j m same j.done
+    joint_polled p c pipes p.results p.places p.noted loan o j m same j.done j.comes_off
         (pending_mode p c pipes (end_of loan p.pipes side.Client) (end_of loan pipes side.Client) m.used m.written o comes j.mode),
   )
   poll_by least most p c pipes loan o j m same (polled.Done told) comes =
       let ends = done_by least most p c pipes (end_of loan p.pipes side.Client) (end_of loan pipes side.Client) m.used m.written o told j
       (taken_on o.sent o.used (unread p.session) p.pipes.to_server m.written pipes.to_server j.taken (wrote loan p.pipes pipes m.written m.wrote))
       (given_on o.answered o.heard (client.unread_of p.client) p.pipes.to_client m.received m.used (client.unread_of c) pipes.to_client j.given (took loan p.pipes pipes m.received m.took) m.inbox)
-      comes j.mode in (
+      (pipes_quiet loan p.pipes pipes) comes j.mode in (
         after o m.used m.written,
         refl,
         refl,
         joint_polled p c pipes (p.results ++ told ∷ []) (p.places ++ unwrap_or p.noted [] ∷ []) None loan o j m same
             (all_stand_more (begins_with opening) (history_of book) p.link config.pdu p.results p.places told (unwrap_or p.noted []) j.done ends.stands)
+            (λ room. ends.comes_off room (j.comes_off room))
             ends.mode,
       )
 

@@ -1,48 +1,55 @@
 -- How a connect goes on a link that begins anew.
-use Rattle.std.proofs.Common.{◌≡◌, ℕ, ◌+◌, ◌<◌, ◌≤◌, ◌^◌, true, List, [], ◌∷◌, ◌++◌, length, None, Some, refl, ap, ◌∙◌, arith, length-append}
+use Rattle.std.proofs.Common.{◌≡◌, ℕ, ◌+◌, ◌<◌, ◌≤◌, true, List, [], ◌∷◌, ◌++◌, length, None, Some, refl, ap, sym, ◌∙◌, subst, arith, length-append, append-nil}
+use Rattle.std.specs.Prelude.{slice_get}
 use Rattle.s7_tpkt.specs.Packets.{packet_of}
 use Rattle.s7_cotp.specs.Told.{ConnectionTold}
 use Rattle.s7_cotp.specs.Reading.{tpdu_of}
 use Rattle.s7_cotp.specs.Spelling.{IsWritable, tsap_octets, spelling_of_confirm, spelling_of_data}
 use Rattle.s7_cotp.proofs.SpellLemmas.{confirm_again}
 use Rattle.s7_wire.specs.Bounds.{size_of_code}
+use Rattle.s7_wire.specs.Sent.{sent_message}
 use Rattle.s7_header.specs.declared.negotiation.Negotiation.{Negotiation}
 use Rattle.s7_header.specs.Negotiation.{negotiation_spelling}
 use Rattle.s7_session.specs.Judgement.{answer_octets}
+use Rattle.s7_client.specs.declared.config.Config.{Config}
 use Rattle.s7_client.specs.declared.job.Job.TheVariants as job
 use Rattle.s7_client.specs.declared.grant.Grant.{Grant}
-use Rattle.s7_client.specs.Question.{Question, negotiates}
-use Rattle.s7_client.specs.Answer.{Answer, confirms, grants}
-use Rattle.s7_client.specs.Dialogue.{Next, sends, ends, connect_request, numbered, asked_by, taken_grant, by_grant, dialogue}
-use Rattle.s7_client.specs.Course.{Origin, Course, for_confirm, next_sequence, with_next, with_answer, begins_anew, sequence_at, by_awaits, confirming, with_packet, course, limit_in, limit_where}
+use Rattle.s7_client.specs.Question.{negotiates, question_octets}
+use Rattle.s7_client.specs.Answer.{grants}
+use Rattle.s7_client.specs.Flight.{Row, answers_of, open_count, filled}
+use Rattle.s7_client.specs.Dialogue.{Plan, connect_request, asked_by, taken_grant, by_grant, negotiating, connecting_plan, plan_of}
+use Rattle.s7_client.specs.Course.{Origin, Course, for_confirm, for_answers, for_nothing, conduct_of, asked_on, asking}
+use Rattle.s7_client.specs.Course.{begins_anew, sequence_at, by_awaits, confirming, with_packet, course, limit_in, limit_where}
+use Rattle.s7_client.proofs.FlightLemmas.{with_answer}
 use Rattle.s7_rig.specs.Heard.{connected_end}
-use Rattle.s7_rig.specs.Awaiting.{Awaiting, BeginsConnecting, AsksOn, EndsBy}
-use Rattle.s7_rig.proofs.BeginLemmas.{question_sent, clear_at_first, first_course}
+use Rattle.s7_rig.specs.Awaiting.{telegrams_of, AreAsked, BeginsConnecting, negotiation_row, AsksNegotiation, EndsBy}
+use Rattle.s7_rig.proofs.BeginLemmas.{clear_at_first, first_course}
 use Rattle.s7_rig.proofs.AnsweredLemmas.{length-grant, negotiation_is_heard}
-use Rattle.s7_rig.proofs.HeardLemmas.{front_heard, packet_heard, packet_whole, heard_ends}
+use Rattle.s7_rig.proofs.TelegramLemmas.{awaits_none, filled_behind, AsksAll, asks_all}
+use Rattle.s7_rig.proofs.HeardLemmas.{front_heard, packet_heard, packet_whole, HearsOn, heard_answer}
 
--- the dialogue of a connect on a client that isn't connected
-connecting_by : (origin : Origin) (answers known : List Answer) → origin.granted ≡ None → origin.job ≡ job.Connect → answers ≡ known
-    → dialogue origin.job origin.config origin.granted answers ≡ dialogue job.Connect origin.config None known
-connecting_by origin answers known fresh connect same =
-    ap (λ g. dialogue origin.job origin.config g answers) fresh
-    ∙ ap (λ j. dialogue j origin.config None answers) connect
-    ∙ ap (dialogue job.Connect origin.config None) same
+-- the plan of a connect on a client that isn't connected
+connects_by : (origin : Origin) → origin.granted ≡ None → origin.job ≡ job.Connect
+    → plan_of origin.job origin.config origin.granted ≡ connecting_plan origin.config
+connects_by origin fresh connect =
+    ap (λ g. plan_of origin.job origin.config g) fresh ∙ ap (λ j. plan_of j origin.config None) connect
 
-anew : (origin : Origin) → origin.granted ≡ None → origin.job ≡ job.Connect → begins_anew origin.granted origin.job ≡ true
+anew : (origin : Origin) → origin.granted ≡ None → origin.job ≡ job.Connect
+    → begins_anew origin.granted origin.job ≡ true
 anew origin fresh connect = ap (λ g. begins_anew g origin.job) fresh ∙ ap (begins_anew None) connect
 
 -- A connect asks for a link first.
 pub begins_connecting : (origin : Origin) → origin.granted ≡ None → origin.job ≡ job.Connect → BeginsConnecting origin
 begins_connecting origin fresh connect =
-    let is = first_course origin (sends connect_request) (connecting_by origin [] [] fresh connect refl) in
+    let is = first_course origin connect_request (ap (λ (p : Plan). p.first) (connects_by origin fresh connect)) in
     record {
       rest = clear_at_first origin;
-      awaits = ap (λ (c : Course). c.awaits) is;
-      answers = ap (λ (c : Course). c.answers) is;
-      unfinished = ap (λ (c : Course). c.unfinished) is;
-      sequence = ap (λ (c : Course). c.sequence) is ∙ ap (λ b. sequence_at b origin.sequence) (anew origin fresh connect);
-      out = ap (λ (c : Course). c.out) is;
+      awaits = ap (λ (k : Course). k.awaits) is;
+      rows = ap (λ (k : Course). k.rows) is;
+      unfinished = ap (λ (k : Course). k.unfinished) is;
+      sequence = ap (λ (k : Course). k.sequence) is
+          ∙ ap (λ b. sequence_at b origin.sequence) (anew origin fresh connect);
+      out = ap (λ (k : Course). k.out) is;
     }
 
 -- ---- the confirm
@@ -53,9 +60,17 @@ tsap_short code (x ∷ t) = omega arith
 
 confirm_short : (c : ConnectionTold) → IsWritable c → length (spelling_of_confirm c) ≤ 46
 confirm_short c w =
-    omega (arith, length-append (tsap_octets 0xC1 c.calling) (tsap_octets 0xC2 c.called), tsap_short 0xC1 c.calling, tsap_short 0xC2 c.called, w.calling, w.called)
+    omega (
+      arith,
+      length-append (tsap_octets 0xC1 c.calling) (tsap_octets 0xC2 c.called),
+      tsap_short 0xC1 c.calling,
+      tsap_short 0xC2 c.called,
+      w.calling,
+      w.called,
+    )
 
-confirm_fits : (origin : Origin) (c : ConnectionTold) → BeginsConnecting origin → IsWritable c → length (spelling_of_confirm c) + 4 ≤ limit_in (course origin [])
+confirm_fits : (origin : Origin) (c : ConnectionTold) → BeginsConnecting origin → IsWritable c
+    → length (spelling_of_confirm c) + 4 ≤ limit_in (course origin [])
 confirm_fits origin c h w =
     omega (arith, confirm_short c w, ap (λ a. limit_where a (course origin []).size) h.awaits)
 
@@ -65,59 +80,123 @@ pub confirm_front : (origin : Origin) (c : ConnectionTold) (u v : List ℕ) → 
 confirm_front origin c u v h w e some =
     front_heard origin [] (spelling_of_confirm c) u v h.rest (omega arith) (confirm_fits origin c h w) e some
 
-packet_confirming : (origin : Origin) (c : Course) (body : List ℕ) → c.awaits ≡ for_confirm → with_packet origin c body ≡ confirming origin c (tpdu_of body)
+packet_confirming : (origin : Origin) (k : Course) (body : List ℕ) → k.awaits ≡ for_confirm
+    → with_packet origin k body ≡ confirming (conduct_of origin) k (tpdu_of body)
 unfolding with_packet
-packet_confirming origin c body h = ap (by_awaits origin c body) h
+packet_confirming origin k body h = ap (by_awaits (conduct_of origin) k body) h
 
 abbrev sized : Course → ℕ → Course
-sized c size = record c { size = size }
+sized k size = record k { size = size }
 
 confirmed_course : (origin : Origin) (c : ConnectionTold) → BeginsConnecting origin → IsWritable c → c.size_code ≡ 0x0A
-    → course origin (packet_of (spelling_of_confirm c)) ≡ with_answer origin (sized (course origin []) 1024) confirms
+    → course origin (packet_of (spelling_of_confirm c)) ≡ asking (conduct_of origin) (sized (course origin []) 1024)
 confirmed_course origin c h w size =
     let body : List ℕ = spelling_of_confirm c in
     packet_heard origin [] body h.rest (omega arith) (confirm_fits origin c h w)
     ∙ (packet_confirming origin (course origin []) body h.awaits
-    ∙ (ap (confirming origin (course origin [])) (confirm_again c w)
-    ∙ ap (λ code. with_answer origin (sized (course origin []) (size_of_code code)) confirms) size))
+    ∙ (ap (confirming (conduct_of origin) (course origin [])) (confirm_again c w)
+    ∙ ap (λ code. asking (conduct_of origin) (sized (course origin []) (size_of_code code))) size))
 
--- the course after the confirm, by what comes next
-abbrev confirmed_by : Origin → Course → Next → Course
-confirmed_by origin c next = with_next origin.config (record c { size = 1024; answers = c.answers ++ confirms ∷ [] }) next
+-- ---- the negotiation
+
+-- a course that has asked nothing, on a link of 1,024 octets
+abbrev blank_of : Course → Course
+blank_of k = record k { rows = []; size = 1024; sequence = 0 }
+
+-- that has asked the negotiation alone
+abbrev negotiating_in : Config → Course → Course
+negotiating_in config k = record k {
+  rows = record { question = negotiates (asked_by config); number = 1; answer = None } ∷ [];
+  size = 1024;
+  sequence = 1;
+  out = k.out ++ sent_message 1024 (question_octets 1 (negotiates (asked_by config)));
+  awaits = for_answers;
+}
+
+negotiates_alone : (config : Config) (k : Course) → asking (negotiating config) (blank_of k) ≡ negotiating_in config k
+unfolding asked_on open_count
+negotiates_alone config k = refl
+
+same_blank : (k : Course) → k.rows ≡ [] → k.sequence ≡ 0 → sized k 1024 ≡ blank_of k
+same_blank k none first =
+    ap (λ rows. record k { rows = rows; size = 1024 }) none
+    ∙ ap (λ n. record k { rows = []; size = 1024; sequence = n }) first
 
 -- The confirm of 1,024 octets is taken, and the negotiation goes out.
-pub confirm_heard : (origin : Origin) (c : ConnectionTold) → origin.granted ≡ None → origin.job ≡ job.Connect → IsWritable c → c.size_code ≡ 0x0A
-    → AsksOn origin [] (packet_of (spelling_of_confirm c)) confirms (negotiates (asked_by origin.config)) 1
+pub confirm_heard : (origin : Origin) (c : ConnectionTold) → origin.granted ≡ None → origin.job ≡ job.Connect
+    → IsWritable c → c.size_code ≡ 0x0A → AsksNegotiation origin (packet_of (spelling_of_confirm c))
 confirm_heard origin c fresh connect w size =
     let h = begins_connecting origin fresh connect in
-    let question : Question = negotiates (asked_by origin.config) in
     let before : Course = course origin [] in
-    let then : dialogue origin.job origin.config origin.granted (before.answers ++ confirms ∷ []) ≡ sends (numbered question) =
-    connecting_by origin (before.answers ++ confirms ∷ []) (confirms ∷ []) fresh connect (ap (λ answers. answers ++ confirms ∷ []) h.answers) in
-    let is : course origin (packet_of (spelling_of_confirm c)) ≡ confirmed_by origin before (sends (numbered question)) =
-    confirmed_course origin c h w size ∙ ap (confirmed_by origin before) then in
-    let first : next_sequence before.sequence ≡ 1 = ap next_sequence h.sequence in
+    let conduct = conduct_of origin in
+    let confirmed = confirmed_course origin c h w size in
+    let asks : AsksAll conduct (sized before 1024) (course origin (packet_of (spelling_of_confirm c))) =
+    subst (AsksAll conduct (sized before 1024)) (sym confirmed)
+    (asks_all conduct (sized before 1024) refl (omega (arith, h.sequence))) in
+    let is : course origin (packet_of (spelling_of_confirm c)) ≡ negotiating_in origin.config before =
+    confirmed
+    ∙ (ap (λ (p : Plan). asking p.conduct (sized before 1024)) (connects_by origin fresh connect)
+    ∙ (ap (asking (negotiating origin.config)) (same_blank before h.rows h.sequence)
+    ∙ negotiates_alone origin.config before)) in
     record {
       awaiting = record {
         rest = packet_whole origin [] (spelling_of_confirm c) h.rest (omega arith) (confirm_fits origin c h w);
-        awaits = ap (λ (k : Course). k.awaits) is;
-        unfinished = ap (λ (k : Course). k.unfinished) is ∙ h.unfinished;
-        size = ap (λ (k : Course). k.size) is;
-        sequence = ap (λ (k : Course). k.sequence) is ∙ first;
+        unfinished = asks.unfinished ∙ h.unfinished;
+        size = asks.size;
+        sequence = asks.sequence;
+        none_more = asks.none_more;
+        awaits = asks.awaits;
       };
-      answers = ap (λ (k : Course). k.answers) is;
-      out = ap (λ (k : Course). k.out) is ∙ ap (λ n. before.out ++ question_sent n question 1024) first;
+      awaits = ap (λ (k : Course). k.awaits) is;
+      rows = ap (λ (k : Course). k.rows) is;
+      out = ap (λ (k : Course). k.out) is
+          ∙ ap (λ x. x ++ sent_message 1024 (question_octets 1 (negotiates (asked_by origin.config)))) h.out;
     }
 
 -- ---- the grant
 
+-- nothing is asked behind the negotiation
+none_behind : (config : Config) (new : List Row) → AreAsked (negotiating config) 1 new → new ≡ []
+none_behind config [] asked = refl
+none_behind config (row ∷ new) asked =
+    let no_more =
+    subst (λ n. slice_get (negotiates (asked_by config) ∷ []) n ≡ Some row.question) asked.0.long asked.0.asks in
+    absurd (cc)
+
+over_by : (config : Config) (n : Negotiation) (granted : Grant) → taken_grant config n ≡ Some granted
+    → (negotiating config).ended (Some (grants n) ∷ []) ≡ connected_end granted
+over_by config n granted taken = ap by_grant taken
+
 -- A grant that is taken ends the connect.
-pub grant_heard : (origin : Origin) (b : List ℕ) (n : Negotiation) (granted : Grant) (s : ℕ) → origin.granted ≡ None → origin.job ≡ job.Connect → s < 2 ^ 16
-    → Awaiting origin b (negotiates (asked_by origin.config)) s → (course origin b).answers ≡ confirms ∷ [] → taken_grant origin.config n ≡ Some granted
-    → EndsBy origin b (packet_of (spelling_of_data true (answer_octets s (negotiation_spelling n) []))) (connected_end granted) []
-grant_heard origin b n granted s fresh connect fits h before taken =
-    let answers : List Answer = (course origin b).answers ++ grants n ∷ [] in
-    let then : dialogue origin.job origin.config origin.granted answers ≡ ends (connected_end granted) =
-    connecting_by origin answers (confirms ∷ grants n ∷ []) fresh connect (ap (λ known. known ++ grants n ∷ []) before) ∙ ap by_grant taken in
-    heard_ends origin b (answer_octets s (negotiation_spelling n) []) (negotiates (asked_by origin.config)) s (grants n) (connected_end granted) h
-    (omega (arith, length-grant s n)) (omega (arith, length-grant s n)) (negotiation_is_heard (asked_by origin.config) n s fits) then
+pub grant_heard : (origin : Origin) (b : List ℕ) (n : Negotiation) (granted : Grant) → origin.granted ≡ None
+    → origin.job ≡ job.Connect → AsksNegotiation origin b → taken_grant origin.config n ≡ Some granted
+    → EndsBy origin b (packet_of (spelling_of_data true (answer_octets 1 (negotiation_spelling n) [])))
+    (connected_end granted)
+unfolding open_count
+grant_heard origin b n granted fresh connect h taken =
+    let message = answer_octets 1 (negotiation_spelling n) [] in
+    let packet = packet_of (spelling_of_data true message) in
+    let row : Row = negotiation_row origin in
+    let answered : List Row = with_answer row (grants n) ∷ [] in
+    let is : filled (course origin b).rows message ≡ Some answered =
+    ap (λ rows. filled rows message) h.rows
+    ∙ filled_behind [] row [] message (grants n) refl
+    (negotiation_is_heard (asked_by origin.config) n 1 (omega arith)) in
+    let hears : HearsOn origin b packet answered =
+    heard_answer origin b message answered (record { awaiting = h.awaiting; awaits = h.awaits })
+    (omega (arith, length-grant 1 n)) (omega (arith, length-grant 1 n)) is in
+    let before : Course = record (course origin b) { rows = answered } in
+    let asks : AsksAll (negotiating origin.config) before (course origin (b ++ packet)) =
+    subst (λ c. AsksAll c before (course origin (b ++ packet)))
+    (ap (λ (p : Plan). p.conduct) (connects_by origin fresh connect)) hears.asks in
+    let none : asks.new ≡ [] = none_behind origin.config asks.new asks.asked in
+    let rows : (course origin (b ++ packet)).rows ≡ answered = asks.rows ∙ ap (λ new. answered ++ new) none in
+    record {
+      awaits = asks.awaits
+          ∙ (awaits_none (negotiating origin.config) (course origin (b ++ packet)).rows (ap open_count rows)
+          ∙ (ap (λ rows. for_nothing ((negotiating origin.config).ended (answers_of rows)) []) rows
+          ∙ ap (λ end. for_nothing end []) (over_by origin.config n granted taken)));
+      out = asks.out ∙ (ap (λ new. (course origin b).out ++ telegrams_of new) none ∙ append-nil (course origin b).out);
+      size = asks.size;
+      sequence = asks.sequence;
+    }

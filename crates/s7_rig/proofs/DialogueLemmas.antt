@@ -1,5 +1,6 @@
--- A whole job over one link, from exchange to exchange.
-use Rattle.std.proofs.Common.{◌≡◌, inl, inr, true, ℕ, ◌<◌, ◌≤◌, Some, List, [], ◌∷◌, ◌++◌, length, ap, ap₂, sym, ◌∙◌, subst, arith, length-append, append_assoc, append-nil}
+-- A whole job over one link: where both ends are between two messages, and what becomes of the first question that is
+-- out.
+use Rattle.std.proofs.Common.{◌≡◌, inl, inr, true, ℕ, ◌<◌, ◌≤◌, Option, Some, List, [], ◌∷◌, ◌++◌, length, ap, ap₂, sym, ◌∙◌, subst, arith, length-append, append_assoc, append-nil}
 use Rattle.std.proofs.lemmas.List.{append_cancel_left}
 use Rattle.s7_tpkt.specs.Packets.{packet_of}
 use Rattle.s7_cotp.specs.Spelling.{spelling_of_data}
@@ -7,12 +8,12 @@ use Rattle.s7_plant.specs.declared.request.Ask.{Ask}
 use Rattle.s7_plant.specs.Replies.{Said}
 use Rattle.s7_wire.specs.Sent.{sent_message}
 use Rattle.s7_client.specs.declared.grant.Grant.{Grant}
-use Rattle.s7_client.specs.declared.grant.Leaves.TheVariants.{AsItWas, Closed}
-use Rattle.s7_client.specs.Question.{Question, question_octets}
 use Rattle.s7_client.specs.Answer.{Answer}
-use Rattle.s7_client.specs.Dialogue.{End, Next, sends, numbered, fault_end, conversing, dialogue}
-use Rattle.s7_client.specs.Course.{Origin, Course, Awaits, for_answer, for_departure, for_nothing, course}
+use Rattle.s7_client.specs.Flight.{Row, open_count}
+use Rattle.s7_client.specs.Dialogue.{End, plan_of}
+use Rattle.s7_client.specs.Course.{Origin, Course, Awaits, for_answers, for_nothing, conduct_of, course}
 use Rattle.s7_client.specs.Standing.{IsByOctets}
+use Rattle.s7_client.proofs.FlightLemmas.{row_message}
 use Rattle.s7_client.proofs.FitLemmas.{sent_short}
 use Rattle.s7_session.specs.LinkState.{LinkState}
 use Rattle.s7_session.specs.Telegrams.{entered_of}
@@ -20,22 +21,24 @@ use Rattle.s7_session.specs.Verdict.{Verdict}
 use Rattle.s7_session.specs.Owed.{Past, past, owed, entered}
 use Rattle.s7_session.proofs.PastLemmas.{with_more, past_grows}
 use Rattle.s7_rig.specs.Settled.{Settled}
-use Rattle.s7_rig.specs.Awaiting.{Awaiting}
+use Rattle.s7_rig.specs.Awaiting.{telegrams_of, AreAsked, Awaiting}
 use Rattle.s7_rig.specs.Dialogues.{AreReplies}
-use Rattle.s7_rig.specs.Exchanges.{IsAskable, Replies, Exchange, entries_of, Converses}
+use Rattle.s7_rig.specs.Exchanges.{IsHeard, Replies, Exchange, entries_of, rows_of, AreTold, Converses}
 use Rattle.s7_rig.proofs.OneFragment.{message_is_one_packet}
 use Rattle.s7_rig.proofs.FrontLemmas.{served_front}
 use Rattle.s7_rig.proofs.JudgedLemmas.{question_is_s7}
-use Rattle.s7_rig.proofs.HeardLemmas.{heard_front}
+use Rattle.s7_rig.proofs.HeardLemmas.{AwaitsAnswers, heard_front}
+use Rattle.s7_rig.proofs.TelegramLemmas.{IsOut, AreOut, open_behind, awaits_more, asked_at}
 use Rattle.s7_rig.proofs.GrowthLemmas.{course_grows}
 use Rattle.s7_rig.proofs.PastFacts.{past_with, entered_grows}
 use Rattle.s7_rig.proofs.ListFacts.{Parts, parts, some_of}
-use Rattle.s7_rig.proofs.ReplyLemmas.{lives_on, replied}
-use Rattle.s7_rig.proofs.AskableLemmas.{askable}
+use Rattle.s7_rig.proofs.ReplyLemmas.{lives_on}
+use Rattle.s7_rig.proofs.AnsweringLemmas.{question_answered}
 
 -- ---- what stands fixed, and where both ends are
 
--- What both ends have of a job in the end: the octets that the session used and its verdicts are those of the whole link.
+-- What both ends have of a job in the end: the octets that the session used and its verdicts are those of the whole
+-- link.
 pub record Whole : Type 0 where
   -- the state with which the link began
   pub first : LinkState
@@ -49,8 +52,9 @@ pub record Whole : Type 0 where
   pub verdicts : List Verdict
   -- what the session left of what was sent
   pub unused : List ℕ
-  -- what was owed before the job, and what is owed behind what was heard
+  -- what was owed and entered before the job, and what is owed behind what was heard
   pub before : List ℕ
+  pub entries : List (Ask × Said)
   pub behind : List ℕ
 
 pub record IsWhole (w : Whole) : Type 0 where
@@ -60,16 +64,16 @@ pub record IsWhole (w : Whole) : Type 0 where
   pub least : 64 ≤ w.pdu
   pub most : w.pdu ≤ 960
   pub over : IsByOctets w.origin w.end w.carried w.heard w.sent
-  pub leaves : w.end.leaves ≡ AsItWas
   pub met : (past w.first w.used w.verdicts).verdicts ≡ []
   pub replies : AreReplies (entered w.first w.used w.verdicts)
   pub owed_is : owed w.first w.used w.verdicts ≡ (w.before ++ w.heard) ++ w.behind
 
--- between two messages, once a question is asked
+-- between two messages, once all is asked that may be
 pub record Place : Type 0 where
-  pub question : Question
-  pub number : ℕ
-  -- what the client heard so far and what it comes to hear, and what it sent before the question
+  -- the exchanges so far, and the questions that are out
+  pub gone : List Exchange
+  pub rows : List Row
+  -- what the client heard so far and what it comes to hear, and what it sent before the questions that are out
   pub heard : List ℕ
   pub more : List ℕ
   pub out : List ℕ
@@ -79,124 +83,41 @@ pub record Place : Type 0 where
   pub taken : List ℕ
   pub left : List Verdict
 
+-- The session used and answered what the exchanges so far asked, and nothing of the questions that are out.
 pub record IsAt (w : Whole) (p : Place) : Type 0 where
-  pub awaiting : Awaiting w.origin p.heard p.question p.number
-  pub asked : dialogue w.origin.job w.origin.config w.origin.granted (course w.origin p.heard).answers ≡ sends (numbered p.question)
-  pub low : p.number < 65536
+  pub awaiting : Awaiting w.origin p.heard
+  pub rows_are : (course w.origin p.heard).rows ≡ rows_of p.gone ++ p.rows
+  pub are_out : AreOut p.rows
+  pub asked : AreAsked (conduct_of w.origin) 0 (rows_of p.gone ++ p.rows)
+  pub told : AreTold w.verdicts p.gone
   pub settled : Settled w.first p.used p.verdicts (Some w.pdu)
   pub heard_is : w.heard ≡ p.heard ++ p.more
-  pub out_is : (course w.origin p.heard).out ≡ p.out ++ sent_message 1024 (question_octets p.number p.question)
+  pub out_is : (course w.origin p.heard).out ≡ p.out ++ telegrams_of p.rows
   pub sent_is : w.sent ≡ p.out ++ (p.taken ++ w.unused)
   pub used_is : w.used ≡ p.used ++ p.taken
   pub verdicts_are : w.verdicts ≡ p.verdicts ++ p.left
   pub owed_is : owed w.first p.used p.verdicts ≡ w.before ++ p.heard
+  pub entered_is : entered w.first p.used p.verdicts ≡ w.entries ++ entries_of p.gone
 
--- Both stand between two messages again, and from these answers and entries on the job went by exchanges.
-pub record IsDone (w : Whole) (answers : List Answer) (entries : List (Ask × Said)) : Type 0 where
+-- Both stand between two messages again, and the job went by exchanges.
+pub record IsDone (w : Whole) : Type 0 where
   pub none_unused : w.unused ≡ []
   pub nothing_behind : w.behind ≡ []
   pub settled : Settled w.first w.used w.verdicts (Some w.pdu)
   pub size : (course w.origin w.heard).size ≡ 1024
   pub sequence : (course w.origin w.heard).sequence < 65536
   pub exchanges : List Exchange
-  pub entered_is : entered w.first w.used w.verdicts ≡ entries ++ entries_of exchanges
-  pub converses : Converses w.origin answers w.end exchanges
+  pub entered_is : entered w.first w.used w.verdicts ≡ w.entries ++ entries_of exchanges
+  pub converses : Converses w.verdicts (conduct_of w.origin) w.end exchanges
 
 -- ---- small lemmas
 
-not_answer : (a : Awaits) (q : Question) (end : End) (carried : List ℕ) → a ≡ for_answer q → a ≡ for_nothing end carried → ⊥
-not_answer a q end carried e h = cc
-
-pub not_departure : (a : Awaits) (end : End) (carried : List ℕ) → a ≡ for_departure → a ≡ for_nothing end carried → ⊥
-not_departure a end carried e h = cc
-
-pub same_end : (a : Awaits) (end other : End) (carried others : List ℕ) → a ≡ for_nothing end carried → a ≡ for_nothing other others → end ≡ other
-same_end a end other carried others e h = cc
+not_answers : (a : Awaits) (end : End) (carried : List ℕ) → a ≡ for_answers → a ≡ for_nothing end carried → ⊥
+not_answers a end carried e h = cc
 
 regrouped : (a h g m b : List ℕ) → h ≡ g ++ m → (a ++ h) ++ b ≡ (a ++ g) ++ (m ++ b)
-regrouped a h g m b e = ap (λ x. (a ++ x) ++ b) e ∙ (ap (λ x. x ++ b) (sym (append_assoc a g m)) ∙ append_assoc (a ++ g) m b)
-
-pub not_closed : (end : End) (code : ℕ) → end.leaves ≡ AsItWas → end ≡ fault_end code → ⊥
-not_closed end code as_it_was is = closed (sym (ap (λ (e : End). e.leaves) is) ∙ as_it_was)
-  where
-    closed : Closed ≡ AsItWas → ⊥
-    closed e = cc
-
--- ---- the question
-
-abbrev pub packet_at : Place → List ℕ
-packet_at p = sent_message 1024 (question_octets p.number p.question)
-
-converses_of : (w : Whole) (i : IsWhole w) (answers : List Answer) (next : Next) → dialogue w.origin.job w.origin.config w.origin.granted answers ≡ next
-    → conversing w.origin.job w.origin.config i.grant answers ≡ next
-converses_of w i answers next e = ap (λ g. dialogue w.origin.job w.origin.config g answers) (sym i.granted) ∙ e
-
-fits_pdu : (w : Whole) (p : Place) → IsWhole w → IsAt w p → length (question_octets p.number p.question) ≤ w.pdu
-fits_pdu w p i h =
-    let short = sent_short w.origin.job w.origin.config i.grant (course w.origin p.heard).answers p.question (omega (arith, i.pdu_is, i.least)) (converses_of w i _ _ h.asked) p.number in
-    omega (arith, short, i.pdu_is)
-
-can_ask : (w : Whole) (p : Place) → IsWhole w → IsAt w p → IsAskable w.pdu p.question
-can_ask w p i h =
-    subst (λ n. IsAskable n p.question) i.pdu_is
-    (askable w.origin.job w.origin.config i.grant (course w.origin p.heard).answers p.question (omega (arith, i.pdu_is, i.least)) (converses_of w i _ _ h.asked))
-
--- while the answer is awaited, the job isn't over
-not_over : (w : Whole) (p : Place) → IsWhole w → IsAt w p → course w.origin (p.heard ++ p.more) ≡ course w.origin p.heard → ⊥
-not_over w p i h same =
-    not_answer (course w.origin w.heard).awaits p.question w.end w.carried
-    (ap (λ x. (course w.origin x).awaits) h.heard_is ∙ (ap (λ (c : Course). c.awaits) same ∙ h.awaiting.awaits)) i.over.over
-
-pub some_more : (w : Whole) (p : Place) → IsWhole w → IsAt w p → 0 < length p.more
-some_more w p i h = some_of p.more (λ none. not_over w p i h (ap (course w.origin) (ap (λ x. p.heard ++ x) none ∙ append-nil p.heard)))
-
-pub owes_more : (w : Whole) (p : Place) → IsWhole w → IsAt w p → owed w.first w.used w.verdicts ≡ owed w.first p.used p.verdicts ++ (p.more ++ w.behind)
-owes_more w p i h =
-    i.owed_is ∙ (regrouped w.before w.heard p.heard p.more w.behind h.heard_is ∙ ap (λ x. x ++ (p.more ++ w.behind)) (sym h.owed_is))
-
-taken_front : (w : Whole) (p : Place) → IsAt w p → (rest : List ℕ) → (course w.origin w.heard).out ≡ (course w.origin p.heard).out ++ rest → w.sent ≡ (course w.origin w.heard).out
-    → packet_at p ++ rest ≡ p.taken ++ w.unused
-taken_front w p h rest grown sent =
-    append_cancel_left p.out (packet_at p ++ rest) (p.taken ++ w.unused)
-    (sym (append_assoc p.out (packet_at p) rest) ∙ (ap (λ x. x ++ rest) (sym h.out_is) ∙ (sym grown ∙ (sym sent ∙ h.sent_is))))
-
-taken_by : (w : Whole) (p : Place) → IsWhole w → IsAt w p → (rest : List ℕ) → Parts (packet_at p) rest p.taken w.unused → (z : List ℕ) × (p.taken ≡ packet_at p ++ z)
-taken_by w p i h rest (inr k) = (k.0, k.1)
-taken_by w p i h rest (inl k) =
-    let waits = served_front p.used p.taken k.0 (question_octets p.number p.question) p.verdicts p.left (Some w.pdu) h.settled (omega (arith, fits_pdu w p i h, i.most)) k.1 k.2 in
-    let same : owed w.first w.used w.verdicts ≡ owed w.first p.used p.verdicts = ap₂ (owed w.first) h.used_is h.verdicts_are ∙ waits.owed in
-    absurd (omega (arith, ap length (sym same ∙ owes_more w p i h), length-append (owed w.first p.used p.verdicts) (p.more ++ w.behind), length-append p.more w.behind, some_more w p i h))
-
--- the session used the whole question
-whole_taken : (w : Whole) (p : Place) → IsWhole w → IsAt w p → (z : List ℕ) × (p.taken ≡ packet_at p ++ z)
-whole_taken w p i h =
-    let grown = course_grows w.origin p.heard p.more in
-    taken_by w p i h grown.0
-    (parts (packet_at p) grown.0 p.taken w.unused (taken_front w p h grown.0 (ap (λ x. (course w.origin x).out) h.heard_is ∙ grown.1) i.over.sent))
-
--- ---- the reply
-
-pub used_past : (w : Whole) (p : Place) (z : List ℕ) → IsAt w p → p.taken ≡ packet_at p ++ z → w.used ≡ (p.used ++ packet_at p) ++ z
-used_past w p z h is = h.used_is ∙ (ap (λ x. p.used ++ x) is ∙ sym (append_assoc p.used (packet_at p) z))
-
-reply_at : (w : Whole) (p : Place) (z : List ℕ) → IsWhole w → IsAt w p → p.taken ≡ packet_at p ++ z → Replies w.first p.used p.verdicts p.left w.pdu p.question p.number
-reply_at w p z i h is =
-    let fits = fits_pdu w p i h in
-    let m = question_octets p.number p.question in
-    replied p.used p.verdicts p.left w.pdu p.question p.number h.settled h.low i.most fits (can_ask w p i h)
-    (lives_on p.used m z (p.more ++ w.behind) p.verdicts p.left (Some w.pdu) h.settled (omega (arith, fits, i.most)) (question_is_s7 p.number p.question)
-    (ap₂ (owed w.first) (sym (used_past w p z h is)) (sym h.verdicts_are) ∙ owes_more w p i h)
-    (omega (arith, length-append p.more w.behind, some_more w p i h)))
-
--- The session used the question and gave this reply, and the client heard the reply whole.
-pub record IsReplied (w : Whole) (p : Place) : Type 0 where
-  pub reply : Replies w.first p.used p.verdicts p.left w.pdu p.question p.number
-  pub taken : List ℕ
-  pub taken_is : p.taken ≡ packet_at p ++ taken
-  pub least : 10 ≤ length reply.message
-  pub most : length reply.message ≤ 1021
-  pub more : List ℕ
-  pub more_is : p.more ≡ packet_of (spelling_of_data true reply.message) ++ more
+regrouped a h g m b e =
+    ap (λ x. (a ++ x) ++ b) e ∙ (ap (λ x. x ++ b) (sym (append_assoc a g m)) ∙ append_assoc (a ++ g) m b)
 
 replies_front : (new es : List (Ask × Said)) → AreReplies (new ++ es) → AreReplies new
 replies_front [] es h = tt
@@ -206,50 +127,201 @@ replies_in : (xs new es : List (Ask × Said)) → AreReplies ((xs ++ new) ++ es)
 replies_in [] new es h = replies_front new es h
 replies_in (x ∷ xs) new es h = replies_in xs new es h.1
 
+-- what a place owes beyond it
+pub owes_more : (w : Whole) (p : Place) → IsWhole w → IsAt w p
+    → owed w.first w.used w.verdicts ≡ owed w.first p.used p.verdicts ++ (p.more ++ w.behind)
+owes_more w p i h =
+    i.owed_is
+    ∙ (regrouped w.before w.heard p.heard p.more w.behind h.heard_is
+    ∙ ap (λ x. x ++ (p.more ++ w.behind)) (sym h.owed_is))
+
+-- ---- the first question that is out
+
+-- the octets of a question
+abbrev pub packet_with : Row → List ℕ
+packet_with q = sent_message 1024 (row_message q)
+
+-- what the session replies to it at a place
+abbrev pub RepliesAt : Whole → Place → Row → Type 0
+RepliesAt w p q = Replies w.first p.used p.verdicts p.left w.pdu q.question q.number
+
+-- The session used the question and gave this reply, and the client heard the reply whole.
+pub record IsReplied (w : Whole) (p : Place) (q : Row) : Type 0 where
+  pub reply : RepliesAt w p q
+  pub taken : List ℕ
+  pub taken_is : p.taken ≡ packet_with q ++ taken
+  pub least : 10 ≤ length reply.message
+  pub most : length reply.message ≤ 1021
+  pub heard : IsHeard w.verdicts q.question q.number reply.message reply.new
+  pub more : List ℕ
+  pub more_is : p.more ≡ packet_of (spelling_of_data true reply.message) ++ more
+
+pub used_past : (w : Whole) (p : Place) (q : Row) (z : List ℕ) → IsAt w p → p.taken ≡ packet_with q ++ z
+    → w.used ≡ (p.used ++ packet_with q) ++ z
+used_past w p q z h is =
+    h.used_is ∙ (ap (λ x. p.used ++ x) is ∙ sym (append_assoc p.used (packet_with q) z))
+
 -- what the session has after the reply, with the verdicts to come
-pub past_replied : (w : Whole) (p : Place) (r : Replies w.first p.used p.verdicts p.left w.pdu p.question p.number) → past w.first (p.used ++ packet_at p) (r.met ++ r.left) ≡ with_more (past w.first (p.used ++ packet_at p) r.met) r.left
-past_replied w p r = past_with w.first (p.used ++ packet_at p) r.met r.left r.serves.settled.lives
+past_replied : (w : Whole) (p : Place) (q : Row) (r : RepliesAt w p q)
+    → past w.first (p.used ++ packet_with q) (r.met ++ r.left)
+    ≡ with_more (past w.first (p.used ++ packet_with q) r.met) r.left
+past_replied w p q r = past_with w.first (p.used ++ packet_with q) r.met r.left r.serves.settled.lives
 
-pub past_whole : (w : Whole) (p : Place) (z : List ℕ) (r : Replies w.first p.used p.verdicts p.left w.pdu p.question p.number) → IsAt w p → p.taken ≡ packet_at p ++ z
-    → past w.first w.used w.verdicts ≡ past w.first ((p.used ++ packet_at p) ++ z) (r.met ++ r.left)
-past_whole w p z r h is = ap₂ (past w.first) (used_past w p z h is) (h.verdicts_are ∙ r.split)
+past_whole : (w : Whole) (p : Place) (q : Row) (z : List ℕ) (r : RepliesAt w p q) → IsAt w p
+    → p.taken ≡ packet_with q ++ z
+    → past w.first w.used w.verdicts ≡ past w.first ((p.used ++ packet_with q) ++ z) (r.met ++ r.left)
+past_whole w p q z r h is = ap₂ (past w.first) (used_past w p q z h is) (h.verdicts_are ∙ r.split)
 
-new_replies : (w : Whole) (p : Place) (z : List ℕ) (r : Replies w.first p.used p.verdicts p.left w.pdu p.question p.number) → IsWhole w → IsAt w p → p.taken ≡ packet_at p ++ z → AreReplies r.new
-new_replies w p z r i h is =
-    let g = entered_grows w.first (p.used ++ packet_at p) z (r.met ++ r.left) in
-    let same : entered w.first w.used w.verdicts ≡ (entered w.first p.used p.verdicts ++ r.new) ++ g.0 =
-    ap (λ (q : Past). entered_of q.mets) (past_whole w p z r h is)
-    ∙ (g.1 ∙ ap (λ x. x ++ g.0) (ap (λ (q : Past). entered_of q.mets) (past_replied w p r) ∙ r.serves.entered)) in
-    replies_in (entered w.first p.used p.verdicts) r.new g.0 (subst AreReplies same i.replies)
+module _ (w : Whole) (p : Place) (q : Row) (later : List Row) (i : IsWhole w) (h : IsAt w p)
+    (is : p.rows ≡ q ∷ later) where
+  -- answers are awaited
+  pub awaits_answers : AwaitsAnswers w.origin p.heard
+  awaits_answers =
+      let rows = (course w.origin p.heard).rows in
+      let long : open_count rows ≡ length (q ∷ later) =
+      ap open_count h.rows_are ∙ (open_behind p.gone p.rows h.are_out ∙ ap length is) in
+      record {
+        awaiting = h.awaiting;
+        awaits = h.awaiting.awaits ∙ awaits_more (conduct_of w.origin) rows (omega (arith, long));
+      }
 
-more_front : (w : Whole) (p : Place) (z : List ℕ) (r : Replies w.first p.used p.verdicts p.left w.pdu p.question p.number) → IsWhole w → IsAt w p → p.taken ≡ packet_at p ++ z
-    → (rest : List ℕ) × (sent_message 1024 r.message ++ rest ≡ p.more ++ w.behind)
-more_front w p z r i h is =
-    let g = past_grows w.first (p.used ++ packet_at p) z (r.met ++ r.left) in
-    let a = sent_message 1024 r.message in
-    let same : owed w.first w.used w.verdicts ≡ (owed w.first p.used p.verdicts ++ a) ++ g.tail =
-    ap (λ (q : Past). q.owed) (past_whole w p z r h is)
-    ∙ (g.owed ∙ ap (λ x. x ++ g.tail) (ap (λ (q : Past). q.owed) (past_replied w p r) ∙ r.serves.owed)) in
-    (g.tail, append_cancel_left (owed w.first p.used p.verdicts) (a ++ g.tail) (p.more ++ w.behind) (sym (append_assoc (owed w.first p.used p.verdicts) a g.tail) ∙ (sym same ∙ owes_more w p i h)))
+  is_out : IsOut q
+  is_out = (subst AreOut is h.are_out).0
 
-heard_by : (w : Whole) (p : Place) (m rest : List ℕ) → IsWhole w → IsAt w p → length m ≤ 1021 → Parts (packet_of (spelling_of_data true m)) rest p.more w.behind
-    → (more : List ℕ) × (p.more ≡ packet_of (spelling_of_data true m) ++ more)
-heard_by w p m rest i h most (inr k) = (k.0, k.1)
-heard_by w p m rest i h most (inl k) =
-    absurd (not_over w p i h (heard_front w.origin p.heard m p.more k.0 p.question p.number h.awaiting most k.1 k.2))
+  asks_it : (answers : List (Option Answer)) × ((conduct_of w.origin).question_at answers ≡ Some q.question)
+  asks_it =
+      let c = conduct_of w.origin in
+      asked_at c 0 (rows_of p.gone) q later (subst (λ rows. AreAsked c 0 (rows_of p.gone ++ rows)) is h.asked)
 
-reply_heard : (w : Whole) (p : Place) (z : List ℕ) (r : Replies w.first p.used p.verdicts p.left w.pdu p.question p.number) → IsWhole w → IsAt w p → p.taken ≡ packet_at p ++ z
-    → AreReplies r.new → IsReplied w p
-reply_heard w p z r i h is given =
-    let front = more_front w p z r i h is in
-    let most = r.most given in
-    let packet = packet_of (spelling_of_data true r.message) in
-    let heard = heard_by w p r.message front.0 i h most
-    (parts packet front.0 p.more w.behind (ap (λ x. x ++ front.0) (sym (message_is_one_packet r.message most)) ∙ front.1)) in
-    record { reply = r; taken = z; taken_is = is; least = r.least given; most = most; more = heard.0; more_is = heard.1 }
+  fits_pdu : length (row_message q) ≤ w.pdu
+  fits_pdu =
+      let asks = asks_it in
+      let planned =
+      subst (λ g. (plan_of w.origin.job w.origin.config g).conduct.question_at asks.0 ≡ Some q.question) i.granted
+      asks.1 in
+      let least : 64 ≤ i.grant.pdu = omega (arith, i.pdu_is, i.least) in
+      omega (arith, sent_short w.origin.job w.origin.config i.grant asks.0 q.question least planned q.number, i.pdu_is)
 
-pub is_replied : (w : Whole) (p : Place) → IsWhole w → IsAt w p → IsReplied w p
-is_replied w p i h =
-    let t = whole_taken w p i h in
-    let r = reply_at w p t.0 i h t.1 in
-    reply_heard w p t.0 r i h t.1 (new_replies w p t.0 r i h t.1)
+  -- while answers are awaited, the job isn't over
+  not_over : course w.origin (p.heard ++ p.more) ≡ course w.origin p.heard → ⊥
+  not_over same =
+      not_answers (course w.origin w.heard).awaits w.end w.carried
+      (ap (λ x. (course w.origin x).awaits) h.heard_is ∙ (ap (λ (c : Course). c.awaits) same ∙ awaits_answers.awaits))
+      i.over.over
+
+  some_more : 0 < length p.more
+  some_more =
+      some_of p.more (λ none. not_over (ap (course w.origin) (ap (λ x. p.heard ++ x) none ∙ append-nil p.heard)))
+
+  -- ---- the session used the whole question
+
+  taken_front : (rest : List ℕ) → (course w.origin w.heard).out ≡ (course w.origin p.heard).out ++ rest
+      → packet_with q ++ (telegrams_of later ++ rest) ≡ p.taken ++ w.unused
+  taken_front rest grown =
+      let out : w.sent ≡ p.out ++ (packet_with q ++ (telegrams_of later ++ rest)) =
+      i.over.sent
+      ∙ (grown
+      ∙ (ap (λ x. x ++ rest) (h.out_is ∙ ap (λ rows. p.out ++ telegrams_of rows) is)
+      ∙ (append_assoc p.out (packet_with q ++ telegrams_of later) rest
+      ∙ ap (λ x. p.out ++ x) (append_assoc (packet_with q) (telegrams_of later) rest)))) in
+      append_cancel_left p.out (packet_with q ++ (telegrams_of later ++ rest)) (p.taken ++ w.unused)
+      (sym out ∙ h.sent_is)
+
+  taken_by : (rest : List ℕ) → Parts (packet_with q) rest p.taken w.unused
+      → (z : List ℕ) × (p.taken ≡ packet_with q ++ z)
+  taken_by rest (inr k) = (k.0, k.1)
+  taken_by rest (inl k) =
+      let waits =
+      served_front p.used p.taken k.0 (row_message q) p.verdicts p.left (Some w.pdu) h.settled
+      (omega (arith, fits_pdu, i.most)) k.1 k.2 in
+      let same : owed w.first w.used w.verdicts ≡ owed w.first p.used p.verdicts =
+      ap₂ (owed w.first) h.used_is h.verdicts_are ∙ waits.owed in
+      absurd
+      (omega (
+        arith,
+        ap length (sym same ∙ owes_more w p i h),
+        length-append (owed w.first p.used p.verdicts) (p.more ++ w.behind),
+        length-append p.more w.behind,
+        some_more,
+      ))
+
+  whole_taken : (z : List ℕ) × (p.taken ≡ packet_with q ++ z)
+  whole_taken =
+      let grown = course_grows w.origin p.heard p.more in
+      let rest = telegrams_of later ++ grown.0 in
+      taken_by rest
+      (parts (packet_with q) rest p.taken w.unused
+      (taken_front grown.0 (ap (λ x. (course w.origin x).out) h.heard_is ∙ grown.1)))
+
+  -- ---- and replied
+
+  reply_at : (z : List ℕ) → p.taken ≡ packet_with q ++ z → RepliesAt w p q
+  reply_at z taken =
+      let asks = asks_it in
+      let live =
+      lives_on p.used (row_message q) z (p.more ++ w.behind) p.verdicts p.left (Some w.pdu) h.settled
+      (omega (arith, fits_pdu, i.most)) (question_is_s7 q.number q.question)
+      (ap₂ (owed w.first) (sym (used_past w p q z h taken)) (sym h.verdicts_are) ∙ owes_more w p i h)
+      (omega (arith, length-append p.more w.behind, some_more)) in
+      subst
+      (λ n. Settled w.first p.used p.verdicts (Some n)
+      → Replies w.first p.used p.verdicts p.left n q.question q.number) i.pdu_is
+      (λ settled. question_answered w.origin i.grant asks.0 q.question q.number w.first p.used p.verdicts p.left
+      i.granted (omega (arith, i.pdu_is, i.least)) (omega (arith, i.pdu_is, i.most)) is_out.low asks.1 settled live)
+      h.settled
+
+  new_replies : (z : List ℕ) (r : RepliesAt w p q) → p.taken ≡ packet_with q ++ z → AreReplies r.new
+  new_replies z r taken =
+      let g = entered_grows w.first (p.used ++ packet_with q) z (r.met ++ r.left) in
+      let same : entered w.first w.used w.verdicts ≡ (entered w.first p.used p.verdicts ++ r.new) ++ g.0 =
+      ap (λ (k : Past). entered_of k.mets) (past_whole w p q z r h taken)
+      ∙ (g.1 ∙ ap (λ x. x ++ g.0) (ap (λ (k : Past). entered_of k.mets) (past_replied w p q r) ∙ r.serves.entered)) in
+      replies_in (entered w.first p.used p.verdicts) r.new g.0 (subst AreReplies same i.replies)
+
+  more_front : (z : List ℕ) (r : RepliesAt w p q) → p.taken ≡ packet_with q ++ z
+      → (rest : List ℕ) × (sent_message 1024 r.message ++ rest ≡ p.more ++ w.behind)
+  more_front z r taken =
+      let g = past_grows w.first (p.used ++ packet_with q) z (r.met ++ r.left) in
+      let a = sent_message 1024 r.message in
+      let before = owed w.first p.used p.verdicts in
+      let same : owed w.first w.used w.verdicts ≡ (before ++ a) ++ g.tail =
+      ap (λ (k : Past). k.owed) (past_whole w p q z r h taken)
+      ∙ (g.owed ∙ ap (λ x. x ++ g.tail) (ap (λ (k : Past). k.owed) (past_replied w p q r) ∙ r.serves.owed)) in (
+        g.tail,
+        append_cancel_left before (a ++ g.tail) (p.more ++ w.behind)
+            (sym (append_assoc before a g.tail) ∙ (sym same ∙ owes_more w p i h)),
+      )
+
+  -- ---- the client heard the whole reply
+
+  heard_by : (m rest : List ℕ) → length m ≤ 1021 → Parts (packet_of (spelling_of_data true m)) rest p.more w.behind
+      → (more : List ℕ) × (p.more ≡ packet_of (spelling_of_data true m) ++ more)
+  heard_by m rest most (inr k) = (k.0, k.1)
+  heard_by m rest most (inl k) =
+      absurd (not_over (heard_front w.origin p.heard m p.more k.0 awaits_answers most k.1 k.2))
+
+  reply_heard : (z : List ℕ) (r : RepliesAt w p q) → p.taken ≡ packet_with q ++ z → AreReplies r.new → IsReplied w p q
+  reply_heard z r taken given =
+      let front = more_front z r taken in
+      let most = r.most given in
+      let packet = packet_of (spelling_of_data true r.message) in
+      let heard =
+      heard_by r.message front.0 most
+      (parts packet front.0 p.more w.behind
+      (ap (λ x. x ++ front.0) (sym (message_is_one_packet r.message most)) ∙ front.1)) in
+      record {
+        reply = r;
+        taken = z;
+        taken_is = taken;
+        least = r.least given;
+        most = most;
+        heard = subst (λ vs. IsHeard vs q.question q.number r.message r.new) (sym h.verdicts_are) (r.heard given);
+        more = heard.0;
+        more_is = heard.1;
+      }
+
+  pub is_replied : IsReplied w p q
+  is_replied =
+      let t = whole_taken in
+      let r = reply_at t.0 t.1 in
+      reply_heard t.0 r t.1 (new_replies t.0 r t.1)

@@ -14,7 +14,7 @@ use Rattle.s7_client.specs.declared.job.Job.{Job}
 use Rattle.s7_client.specs.declared.job.JobResult.{JobResult}
 use Rattle.s7_client.specs.declared.job.Polled.{Polled}
 use Rattle.s7_client.specs.declared.job.Polled.TheVariants as polled
-use Rattle.s7_client.specs.Course.{Origin, course}
+use Rattle.s7_client.specs.Course.{Origin}
 use Rattle.s7_client.specs.Dialogue.{End, fault_end}
 use Rattle.s7_client.specs.Form.{HasForm, EndsHaveForm}
 use Rattle.s7_client.specs.Polling.{IsPoll, IsDoneBy, StandsFor, Comes, job_of, waited_of, origin_at}
@@ -35,7 +35,8 @@ fault_formed law asked end code bad is = subst (HasForm asked) (sym is) (law.fau
 cause_formed : EndsHaveForm → (origin : Origin) (k k' : Shown) (kept : List ℕ) (end : End) (carried b w : List ℕ)
     → HasCause origin k k' kept end carried b w → HasForm origin.job end
 cause_formed law origin k k' kept end carried b w (inl h) = law.octets origin b end carried h.over
-cause_formed law origin k k' kept end carried b w (inr (inl h)) = (law.departure origin b (course origin b).answers end h.awaited h.next).1
+cause_formed law origin k k' kept end carried b w (inr (inl h)) =
+    subst (HasForm origin.job) (sym h.is) (law.departure origin b h.awaited).1
 cause_formed law origin k k' kept end carried b w (inr (inr (inl h))) = fault_formed law origin.job end link_ended (λ e. absurd (omega (arith, e))) h.fault.0
 cause_formed law origin k k' kept end carried b w (inr (inr (inr (inl h)))) = fault_formed law origin.job end receive_failed (λ e. absurd (omega (arith, e))) h.fault.0
 cause_formed law origin k k' kept end carried b w (inr (inr (inr (inr h)))) = fault_formed law origin.job end send_failed (λ e. absurd (omega (arith, e))) h.fault.0

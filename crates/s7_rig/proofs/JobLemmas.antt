@@ -1,266 +1,238 @@
--- How a job goes on after a reply, and comes to its end.
-use Rattle.std.proofs.Common.{◌≡◌, ℕ, zero, suc, ◌+◌, ◌<◌, ◌≤◌, Bool, true, false, cond, eqb, Option, None, Some, List, [], ◌∷◌, ◌++◌, length, refl, ap, ap₂, sym, ◌∙◌, subst, arith, length-append, append_assoc, append-nil}
-use Rattle.std.proofs.lemmas.List.{append_cancel_left, nil_from_length}
-use Rattle.std.proofs.lemmas.Bool.{eqb-false}
+-- How a job goes on from place to place, and comes to its end.
+use Rattle.std.proofs.Common.{◌≡◌, ℕ, zero, suc, ◌+◌, ◌<◌, true, Some, List, [], ◌∷◌, ◌++◌, length, refl, ap, ap₂, sym, ◌∙◌, subst, arith, length-append, append_assoc, append-nil}
+use Rattle.std.proofs.lemmas.List.{append_cancel_left, map-append, nil_from_length}
+use Rattle.std.proofs.lemmas.List.Concat.{flat_map-append}
 use Rattle.s7_tpkt.specs.Packets.{packet_of}
 use Rattle.s7_cotp.specs.Spelling.{spelling_of_data}
-use Rattle.s7_plant.specs.declared.request.Ask.{Ask}
-use Rattle.s7_plant.specs.Replies.{Said}
-use Rattle.s7_wire.specs.Sent.{sent_message}
-use Rattle.s7_client.specs.Codes.{invalid_answer}
-use Rattle.s7_client.specs.Question.{Question, question_octets}
-use Rattle.s7_client.specs.Answer.{Answer, answer_of}
-use Rattle.s7_client.specs.Dialogue.{End, Next, sends, ends, numbered, disconnect_request, fault_end, conversing, dialogue}
-use Rattle.s7_client.specs.Course.{Course, for_departure, for_nothing, next_sequence, awaits_by, course}
+use Rattle.s7_client.specs.Flight.{Row, answers_of, open_count, filled}
+use Rattle.s7_client.specs.Dialogue.{End}
+use Rattle.s7_client.specs.Course.{Course, Awaits, for_nothing, conduct_of, next_question, course}
 use Rattle.s7_client.specs.Standing.{AwaitsOctets}
-use Rattle.s7_session.specs.LinkState.{LinkState}
-use Rattle.s7_session.specs.Telegrams.{entered_of}
+use Rattle.s7_client.proofs.FlightLemmas.{with_answer}
+use Rattle.s7_client.proofs.RowLemmas.{all_append}
 use Rattle.s7_session.specs.Verdict.{Verdict}
 use Rattle.s7_session.specs.Owed.{Past, past, owed, entered}
 use Rattle.s7_session.proofs.PastLemmas.{with_more}
 use Rattle.s7_rig.specs.Settled.{Settled}
-use Rattle.s7_rig.specs.Awaiting.{AsksOn, EndsBy}
-use Rattle.s7_rig.specs.Exchanges.{HasTold, Exchange, entries_of, Converses}
+use Rattle.s7_rig.specs.Awaiting.{telegrams_of, AreAsked}
+use Rattle.s7_rig.specs.Exchanges.{HasTold, Exchange, entries_of, rows_of}
 use Rattle.s7_rig.proofs.OneFragment.{message_is_one_packet}
-use Rattle.s7_rig.proofs.HeardLemmas.{heard_nothing, heard_answer, heard_asks_on, heard_ends}
-use Rattle.s7_rig.proofs.AskableLemmas.{IsNext, asks, leaves, is_over, conversing_next}
+use Rattle.s7_rig.proofs.HeardLemmas.{HearsOn, heard_answer}
+use Rattle.s7_rig.proofs.TelegramLemmas.{IsOut, AreOut, open_behind, awaits_none, filled_behind, asked_both, asked_filled}
+use Rattle.s7_rig.proofs.PastFacts.{past_with}
 use Rattle.s7_rig.proofs.ListFacts.{none_of}
-use Rattle.s7_rig.proofs.DialogueLemmas.{Whole, IsWhole, Place, IsAt, IsDone, IsReplied, packet_at, not_departure, same_end, not_closed, some_more, owes_more, used_past, past_replied, past_whole, is_replied}
+use Rattle.s7_rig.proofs.DialogueLemmas.{Whole, IsWhole, Place, IsAt, IsDone, IsReplied, packet_with, owes_more, used_past, awaits_answers, is_replied}
 
--- ---- what the client heard
+-- ---- lists that are grouped anew
 
--- the packet of the reply
-abbrev answer_packet : (w : Whole) (p : Place) → IsReplied w p → List ℕ
-answer_packet w p k = packet_of (spelling_of_data true k.reply.message)
-
-heard_split : (w : Whole) (p : Place) (k : IsReplied w p) → IsAt w p → w.heard ≡ (p.heard ++ answer_packet w p k) ++ k.more
-heard_split w p k h = h.heard_is ∙ (ap (λ x. p.heard ++ x) k.more_is ∙ sym (append_assoc p.heard (answer_packet w p k) k.more))
-
--- where no octet is awaited, none more was heard
-no_more : (w : Whole) (p : Place) (k : IsReplied w p) → IsWhole w → IsAt w p → (AwaitsOctets (course w.origin (p.heard ++ answer_packet w p k)).awaits → ⊥) → k.more ≡ []
-no_more w p k i h none = none_of k.more (λ some. none (i.over.all_awaited (p.heard ++ answer_packet w p k) k.more (heard_split w p k h) some))
-
-heard_all : (w : Whole) (p : Place) (k : IsReplied w p) → IsWhole w → IsAt w p → (AwaitsOctets (course w.origin (p.heard ++ answer_packet w p k)).awaits → ⊥)
-    → w.heard ≡ p.heard ++ answer_packet w p k
-heard_all w p k i h none =
-    heard_split w p k h ∙ (ap (λ x. (p.heard ++ answer_packet w p k) ++ x) (no_more w p k i h none) ∙ append-nil (p.heard ++ answer_packet w p k))
-
--- a course that awaits nothing is the whole
-awaits_nothing : (w : Whole) (p : Place) (k : IsReplied w p) (end : End) (carried : List ℕ) → IsWhole w → IsAt w p
-    → (course w.origin (p.heard ++ answer_packet w p k)).awaits ≡ for_nothing end carried → (w.heard ≡ p.heard ++ answer_packet w p k) × (w.end ≡ end)
-awaits_nothing w p k end carried i h awaits =
-    let all = heard_all w p k i h (λ a. subst AwaitsOctets awaits a) in
-    (all, same_end (course w.origin w.heard).awaits w.end end w.carried carried i.over.over (ap (λ x. (course w.origin x).awaits) all ∙ awaits))
-
--- ---- an answer that is none
-
-unanswered : (w : Whole) (p : Place) (k : IsReplied w p) → IsWhole w → IsAt w p → answer_of p.question p.number k.reply.message ≡ None → ⊥
-unanswered w p k i h none =
-    let e = heard_nothing w.origin p.heard k.reply.message p.question p.number h.awaiting k.least k.most none in
-    not_closed w.end invalid_answer i.leaves (awaits_nothing w p k (fault_end invalid_answer) k.reply.message i h e.awaits).1
-
--- ---- an answer after which the client would leave
-
-abbrev next_after : Whole → Place → Answer → Next
-next_after w p a = dialogue w.origin.job w.origin.config w.origin.granted ((course w.origin p.heard).answers ++ a ∷ [])
-
-not_leaving : (w : Whole) (p : Place) (k : IsReplied w p) (a : Answer) → IsWhole w → IsAt w p → answer_of p.question p.number k.reply.message ≡ Some a
-    → next_after w p a ≡ sends disconnect_request → ⊥
-not_leaving w p k a i h heard next =
-    let awaits : (course w.origin (p.heard ++ answer_packet w p k)).awaits ≡ for_departure =
-    ap (λ (c : Course). c.awaits) (heard_answer w.origin p.heard k.reply.message p.question p.number a h.awaiting k.least k.most heard) ∙ ap (awaits_by []) next in
-    let all = heard_all w p k i h (λ x. subst AwaitsOctets awaits x) in
-    not_departure (course w.origin w.heard).awaits w.end w.carried (ap (λ x. (course w.origin x).awaits) all ∙ awaits) i.over.over
-
--- ---- the last answer
-
-record IsLast (w : Whole) (p : Place) (k : IsReplied w p) (end : End) : Type 0 where
-  heard : w.heard ≡ p.heard ++ answer_packet w p k
-  end_is : w.end ≡ end
-  out : (course w.origin w.heard).out ≡ (course w.origin p.heard).out
-  size : (course w.origin w.heard).size ≡ 1024
-  sequence : (course w.origin w.heard).sequence ≡ p.number
-
-is_last_by : (w : Whole) (p : Place) (k : IsReplied w p) (end : End) → IsWhole w → IsAt w p → EndsBy w.origin p.heard (answer_packet w p k) end [] → IsLast w p k end
-is_last_by w p k end i h e =
-    let is = awaits_nothing w p k end [] i h e.awaits in
-    record {
-      heard = is.0;
-      end_is = is.1;
-      out = ap (λ x. (course w.origin x).out) is.0 ∙ e.out;
-      size = ap (λ x. (course w.origin x).size) is.0 ∙ (e.size ∙ h.awaiting.size);
-      sequence = ap (λ x. (course w.origin x).sequence) is.0 ∙ (e.sequence ∙ h.awaiting.sequence);
-    }
-
--- all that was sent is the question, and the session used it
-sent_all : (w : Whole) (p : Place) (k : IsReplied w p) (end : End) → IsWhole w → IsAt w p → IsLast w p k end → (k.taken ≡ []) × (w.unused ≡ [])
-sent_all w p k end i h l =
-    let same : p.taken ++ w.unused ≡ packet_at p =
-    append_cancel_left p.out (p.taken ++ w.unused) (packet_at p) (sym h.sent_is ∙ (i.over.sent ∙ (l.out ∙ h.out_is))) in
-    let long = length-append p.taken w.unused in
-    let parted = ap length k.taken_is ∙ length-append (packet_at p) k.taken in (
-      nil_from_length k.taken (omega (arith, ap length same, long, parted)),
-      nil_from_length w.unused (omega (arith, ap length same, long, parted)),
-    )
-
-past_last : (w : Whole) (p : Place) (k : IsReplied w p) → IsAt w p → k.taken ≡ [] → past w.first w.used w.verdicts ≡ with_more (past w.first (p.used ++ packet_at p) k.reply.met) k.reply.left
-past_last w p k h none =
-    past_whole w p k.taken k.reply h k.taken_is
-    ∙ (ap (λ x. past w.first x (k.reply.met ++ k.reply.left)) (ap (λ x. (p.used ++ packet_at p) ++ x) none ∙ append-nil (p.used ++ packet_at p))
-    ∙ past_replied w p k.reply)
-
-verdicts_last : (w : Whole) (p : Place) (k : IsReplied w p) → IsWhole w → IsAt w p → k.taken ≡ [] → k.reply.left ≡ []
-verdicts_last w p k i h none =
-    sym (ap (λ (vs : List Verdict). vs ++ k.reply.left) k.reply.serves.settled.met) ∙ (sym (ap (λ (q : Past). q.verdicts) (past_last w p k h none)) ∙ i.met)
-
-used_last : (w : Whole) (p : Place) (k : IsReplied w p) → IsAt w p → k.taken ≡ [] → w.used ≡ p.used ++ packet_at p
-used_last w p k h none = used_past w p k.taken h k.taken_is ∙ (ap (λ x. (p.used ++ packet_at p) ++ x) none ∙ append-nil (p.used ++ packet_at p))
-
-met_last : (w : Whole) (p : Place) (k : IsReplied w p) → IsWhole w → IsAt w p → k.taken ≡ [] → w.verdicts ≡ k.reply.met
-met_last w p k i h none = h.verdicts_are ∙ (k.reply.split ∙ (ap (λ (vs : List Verdict). k.reply.met ++ vs) (verdicts_last w p k i h none) ∙ append-nil k.reply.met))
-
-behind_last : (w : Whole) (p : Place) (k : IsReplied w p) → IsWhole w → IsAt w p → k.taken ≡ [] → w.behind ≡ []
-behind_last w p k i h none =
-    let a = sent_message 1024 k.reply.message in
-    let owes : owed w.first w.used w.verdicts ≡ owed w.first p.used p.verdicts ++ a = ap (λ (q : Past). q.owed) (past_last w p k h none) ∙ k.reply.serves.owed in
-    let same : p.more ++ w.behind ≡ a = append_cancel_left (owed w.first p.used p.verdicts) (p.more ++ w.behind) a (sym (owes_more w p i h) ∙ owes) in
-    nil_from_length w.behind
-    (omega (
-      arith,
-      ap length same,
-      ap length (message_is_one_packet k.reply.message k.most),
-      length-append p.more w.behind,
-      ap length k.more_is,
-      length-append (answer_packet w p k) k.more,
-    ))
-
-pub settled_as : {first : LinkState} (b c : List ℕ) (js ks : List Verdict) (granted : Option ℕ) → b ≡ c → js ≡ ks → Settled first c ks granted → Settled first b js granted
-settled_as {first} b c js ks granted e f s = subst (λ x. Settled first x js granted) (sym e) (subst (λ vs. Settled first c vs granted) (sym f) s)
-
-abbrev exchange_of : (w : Whole) (p : Place) → IsReplied w p → Answer → Exchange
-exchange_of w p k a = record { question = p.question; answer = a; entries = k.reply.new }
-
--- the job is done with the last answer
-done_last : (w : Whole) (p : Place) (k : IsReplied w p) (a : Answer) (end : End) → IsWhole w → IsAt w p → answer_of p.question p.number k.reply.message ≡ Some a
-    → next_after w p a ≡ ends end → IsLast w p k end → k.taken ≡ [] → w.unused ≡ [] → IsDone w (course w.origin p.heard).answers (entered w.first p.used p.verdicts)
-done_last w p k a end i h heard next l none unused = record {
-  none_unused = unused;
-  nothing_behind = behind_last w p k i h none;
-  settled = settled_as w.used (p.used ++ packet_at p) w.verdicts k.reply.met (Some w.pdu) (used_last w p k h none) (met_last w p k i h none) k.reply.serves.settled;
-  size = l.size;
-  sequence = omega (arith, l.sequence, h.low);
-  exchanges = exchange_of w p k a ∷ [];
-  entered_is =
-      ap (λ (q : Past). entered_of q.mets) (past_last w p k h none)
-      ∙ (k.reply.serves.entered ∙ ap (λ x. entered w.first p.used p.verdicts ++ x) (sym (append-nil k.reply.new)));
-  converses = (h.asked, k.reply.told a heard, next ∙ ap ends (sym l.end_is));
-}
-
--- ---- an answer after which the client asks on
-
-pub low_next : (s : ℕ) (b : Bool) → eqb s 65535 ≡ b → s < 65536 → cond b 1 (s + 1) < 65536
-low_next s true e low = omega arith
-low_next s false e low =
-    let other = eqb-false s 65535 e in
-    omega (arith, low, other)
-
-abbrev place_after : (w : Whole) (p : Place) → IsReplied w p → Question → Place
-place_after w p k question = record {
-  question = question;
-  number = next_sequence p.number;
-  heard = p.heard ++ answer_packet w p k;
-  more = k.more;
-  out = p.out ++ packet_at p;
-  used = p.used ++ packet_at p;
-  verdicts = k.reply.met;
-  taken = k.taken;
-  left = k.reply.left;
-}
+moved : {A : Type 0} (xs : List A) (y : A) (ys zs : List A) → (xs ++ y ∷ ys) ++ zs ≡ (xs ++ y ∷ []) ++ (ys ++ zs)
+moved xs y ys zs = append_assoc xs (y ∷ ys) zs ∙ sym (append_assoc xs (y ∷ []) (ys ++ zs))
 
 regrouped : (o p t u taken : List ℕ) → taken ≡ p ++ t → o ++ (taken ++ u) ≡ (o ++ p) ++ (t ++ u)
-regrouped o p t u taken is = ap (λ x. o ++ (x ++ u)) is ∙ (ap (λ x. o ++ x) (append_assoc p t u) ∙ sym (append_assoc o p (t ++ u)))
+regrouped o p t u taken is =
+    ap (λ x. o ++ (x ++ u)) is ∙ (ap (λ x. o ++ x) (append_assoc p t u) ∙ sym (append_assoc o p (t ++ u)))
 
-at_next : (w : Whole) (p : Place) (k : IsReplied w p) (a : Answer) (question : Question) → IsAt w p → next_after w p a ≡ sends (numbered question)
-    → AsksOn w.origin p.heard (answer_packet w p k) a question (next_sequence p.number) → IsAt w (place_after w p k question)
-at_next w p k a question h next on = record {
-  awaiting = on.awaiting;
-  asked = ap (dialogue w.origin.job w.origin.config w.origin.granted) on.answers ∙ next;
-  low = low_next p.number (eqb p.number 65535) refl h.low;
-  settled = k.reply.serves.settled;
-  heard_is = heard_split w p k h;
-  out_is = on.out ∙ ap (λ x. x ++ sent_message 1024 (question_octets (next_sequence p.number) question)) h.out_is;
-  sent_is = h.sent_is ∙ regrouped p.out (packet_at p) k.taken w.unused p.taken k.taken_is;
-  used_is = used_past w p k.taken h k.taken_is;
-  verdicts_are = h.verdicts_are ∙ k.reply.split;
-  owed_is =
-      k.reply.serves.owed
-      ∙ (ap₂ (λ x y. x ++ y) h.owed_is (message_is_one_packet k.reply.message k.most)
-      ∙ append_assoc w.before p.heard (answer_packet w p k));
-}
+telegrams-append : (xs ys : List Row) → telegrams_of (xs ++ ys) ≡ telegrams_of xs ++ telegrams_of ys
+telegrams-append [] ys = refl
+telegrams-append (x ∷ xs) ys =
+    ap (λ z. packet_with x ++ z) (telegrams-append xs ys)
+    ∙ sym (append_assoc (packet_with x) (telegrams_of xs) (telegrams_of ys))
 
-less_more : (w : Whole) (p : Place) (k : IsReplied w p) → length k.more < length p.more
-less_more w p k = omega (arith, ap length k.more_is, length-append (answer_packet w p k) k.more)
+entries_more : (xs : List Exchange) (x : Exchange) → entries_of (xs ++ x ∷ []) ≡ entries_of xs ++ x.entries
+entries_more xs x =
+    flat_map-append (λ (x : Exchange). x.entries) xs (x ∷ []) ∙ ap (λ es. entries_of xs ++ es) (append-nil x.entries)
 
--- ---- from exchange to exchange
+-- ---- from a place to the next
 
--- the job is done with the reply, or goes on at another place
-data Goes (w : Whole) (p : Place) : Type 0 where
-  is_last : IsDone w (course w.origin p.heard).answers (entered w.first p.used p.verdicts) → Goes w p
-  is_on : (next : Place) (x : Exchange) → IsAt w next → length next.more < length p.more
-      → dialogue w.origin.job w.origin.config w.origin.granted (course w.origin p.heard).answers ≡ sends (numbered x.question) → HasTold x.question x.answer x.entries
-      → (course w.origin next.heard).answers ≡ (course w.origin p.heard).answers ++ x.answer ∷ []
-      → entered w.first next.used next.verdicts ≡ entered w.first p.used p.verdicts ++ x.entries → Goes w p
+module _ (w : Whole) (p : Place) (q : Row) (later : List Row) (i : IsWhole w) (h : IsAt w p) (is : p.rows ≡ q ∷ later)
+    (k : IsReplied w p q) where
+  -- the packet of the reply
+  abbrev answer_packet : List ℕ
+  answer_packet = packet_of (spelling_of_data true k.reply.message)
 
-goes_next : (w : Whole) (p : Place) (k : IsReplied w p) (a : Answer) (next : Next) → IsWhole w → IsAt w p → answer_of p.question p.number k.reply.message ≡ Some a
-    → next_after w p a ≡ next → IsNext next → Goes w p
-goes_next w p k a next i h heard then (asks question is) =
-    let on = heard_asks_on w.origin p.heard k.reply.message p.question p.number a question h.awaiting k.least k.most heard (then ∙ is) in
-    is_on (place_after w p k question) (exchange_of w p k a) (at_next w p k a question h (then ∙ is) on) (less_more w p k) h.asked (k.reply.told a heard) on.answers k.reply.serves.entered
-goes_next w p k a next i h heard then (leaves is) = absurd (not_leaving w p k a i h heard (then ∙ is))
-goes_next w p k a next i h heard then (is_over end is) =
-    let l = is_last_by w p k end i h (heard_ends w.origin p.heard k.reply.message p.question p.number a end h.awaiting k.least k.most heard (then ∙ is)) in
-    let all = sent_all w p k end i h l in
-    is_last (done_last w p k a end i h heard (then ∙ is) l all.0 all.1)
+  -- the rows with the answer
+  abbrev answered : List Row
+  answered = rows_of p.gone ++ with_answer q k.heard.answer ∷ later
 
-goes_by : (w : Whole) (p : Place) (k : IsReplied w p) (told : Option Answer) → IsWhole w → IsAt w p → answer_of p.question p.number k.reply.message ≡ told → Goes w p
-goes_by w p k None i h heard = absurd (unanswered w p k i h heard)
-goes_by w p k (Some a) i h heard =
-    let answers = (course w.origin p.heard).answers ++ a ∷ [] in
-    goes_next w p k a (conversing w.origin.job w.origin.config i.grant answers) i h heard (ap (λ g. dialogue w.origin.job w.origin.config g answers) i.granted)
-    (conversing_next w.origin.job w.origin.config i.grant answers)
+  -- the answer is that to the first question that is out, and more may be asked then
+  hears : HearsOn w.origin p.heard answer_packet answered
+  hears =
+      let out : AreOut (q ∷ later) = subst AreOut is h.are_out in
+      heard_answer w.origin p.heard k.reply.message answered (awaits_answers w p q later i h is) k.least k.most
+      (ap (λ rows. filled rows k.reply.message) (h.rows_are ∙ ap (λ rows. rows_of p.gone ++ rows) is)
+      ∙ filled_behind p.gone q later k.reply.message k.heard.answer out.0.unanswered k.heard.is)
 
-goes : (w : Whole) (p : Place) → IsWhole w → IsAt w p → Goes w p
-goes w p i h =
-    let k = is_replied w p i h in
-    goes_by w p k (answer_of p.question p.number k.reply.message) i h refl
+  abbrev exchange : Exchange
+  exchange = record { question = q.question; number = q.number; answer = k.heard.answer; entries = k.reply.new }
 
--- one more exchange before the others
-done_before : (w : Whole) (answers others : List Answer) (entries more : List (Ask × Said)) (x : Exchange)
-    → dialogue w.origin.job w.origin.config w.origin.granted answers ≡ sends (numbered x.question) → HasTold x.question x.answer x.entries
-    → others ≡ answers ++ x.answer ∷ [] → more ≡ entries ++ x.entries → IsDone w others more → IsDone w answers entries
-done_before w answers others entries more x asked told on is d = record {
-  none_unused = d.none_unused;
-  nothing_behind = d.nothing_behind;
-  settled = d.settled;
-  size = d.size;
-  sequence = d.sequence;
-  exchanges = x ∷ d.exchanges;
-  entered_is = d.entered_is ∙ (ap (λ y. y ++ entries_of d.exchanges) is ∙ append_assoc entries x.entries (entries_of d.exchanges));
-  converses = (asked, told, subst (λ (xs : List Answer). Converses w.origin xs w.end d.exchanges) on d.converses);
-}
+  abbrev next : Place
+  next = record {
+    gone = p.gone ++ exchange ∷ [];
+    rows = later ++ hears.asks.new;
+    heard = p.heard ++ answer_packet;
+    more = k.more;
+    out = p.out ++ packet_with q;
+    used = p.used ++ packet_with q;
+    verdicts = k.reply.met;
+    taken = k.taken;
+    left = k.reply.left;
+  }
 
-done_by : (n : ℕ) (w : Whole) (p : Place) → length p.more ≤ suc n → Goes w p
-    → ((next : Place) → IsAt w next → length next.more ≤ n → IsDone w (course w.origin next.heard).answers (entered w.first next.used next.verdicts))
-    → IsDone w (course w.origin p.heard).answers (entered w.first p.used p.verdicts)
-done_by n w p most (is_last d) rest = d
-done_by n w p most (is_on next x at less asked told answers entries) rest =
-    done_before w (course w.origin p.heard).answers (course w.origin next.heard).answers (entered w.first p.used p.verdicts) (entered w.first next.used next.verdicts) x asked told answers entries
-    (rest next at (omega (arith, less, most)))
+  rows_next : answered ++ hears.asks.new ≡ rows_of next.gone ++ next.rows
+  rows_next =
+      moved (rows_of p.gone) (with_answer q k.heard.answer) later hears.asks.new
+      ∙ ap (λ rows. rows ++ (later ++ hears.asks.new)) (sym (map-append _ p.gone (exchange ∷ [])))
 
-done_within : (n : ℕ) (w : Whole) (p : Place) → IsWhole w → IsAt w p → length p.more ≤ n → IsDone w (course w.origin p.heard).answers (entered w.first p.used p.verdicts)
-done_within zero w p i h most = absurd (omega (arith, some_more w p i h, most))
-done_within (suc n) w p i h most = done_by n w p most (goes w p i h) (λ next at fewer. done_within n w next i at fewer)
+  asked_next : AreAsked (conduct_of w.origin) 0 (rows_of next.gone ++ next.rows)
+  asked_next =
+      let c = conduct_of w.origin in
+      let before = subst (λ rows. AreAsked c 0 (rows_of p.gone ++ rows)) is h.asked in
+      subst (AreAsked c 0) rows_next
+      (asked_both c 0 answered hears.asks.new (asked_filled c 0 (rows_of p.gone) q k.heard.answer later before)
+      (subst (λ n. AreAsked c n hears.asks.new) (omega arith) hears.asks.asked))
 
--- Once a question is asked, the job goes on by exchanges until it is done.
-pub done : (w : Whole) (p : Place) → IsWhole w → IsAt w p → IsDone w (course w.origin p.heard).answers (entered w.first p.used p.verdicts)
-done w p i h = done_within (length p.more) w p i h (omega arith)
+  out_next : (course w.origin next.heard).out ≡ next.out ++ telegrams_of next.rows
+  out_next =
+      let new = hears.asks.new in
+      let before : List ℕ = packet_with q ++ telegrams_of later in
+      hears.asks.out
+      ∙ (ap (λ x. x ++ telegrams_of new) (h.out_is ∙ ap (λ rows. p.out ++ telegrams_of rows) is)
+      ∙ (append_assoc p.out before (telegrams_of new)
+      ∙ (regrouped p.out (packet_with q) (telegrams_of later) (telegrams_of new) before refl
+      ∙ ap (λ x. next.out ++ x) (sym (telegrams-append later new)))))
+
+  at_next : IsAt w next
+  at_next = record {
+    awaiting = hears.awaiting;
+    rows_are = hears.asks.rows ∙ rows_next;
+    are_out = all_append IsOut later hears.asks.new (subst AreOut is h.are_out).1 hears.asks.are_out;
+    asked = asked_next;
+    told = all_append (λ (x : Exchange). HasTold w.verdicts x.question x.answer x.entries) p.gone (exchange ∷ []) h.told
+        (k.heard.told, tt);
+    settled = k.reply.serves.settled;
+    heard_is = h.heard_is ∙ (ap (λ x. p.heard ++ x) k.more_is ∙ sym (append_assoc p.heard answer_packet k.more));
+    out_is = out_next;
+    sent_is = h.sent_is ∙ regrouped p.out (packet_with q) k.taken w.unused p.taken k.taken_is;
+    used_is = used_past w p q k.taken h k.taken_is;
+    verdicts_are = h.verdicts_are ∙ k.reply.split;
+    owed_is =
+        k.reply.serves.owed
+        ∙ (ap₂ (λ x y. x ++ y) h.owed_is (message_is_one_packet k.reply.message k.most)
+        ∙ append_assoc w.before p.heard answer_packet);
+    entered_is =
+        k.reply.serves.entered
+        ∙ (ap (λ x. x ++ k.reply.new) h.entered_is
+        ∙ (append_assoc w.entries (entries_of p.gone) k.reply.new
+        ∙ ap (λ x. w.entries ++ x) (sym (entries_more p.gone exchange))));
+  }
+
+  less_more : length next.more < length p.more
+  less_more = omega (arith, ap length k.more_is, length-append answer_packet k.more)
+
+-- ---- the last place
+
+pub same_end : (a : Awaits) (end other : End) (carried others : List ℕ) → a ≡ for_nothing end carried
+    → a ≡ for_nothing other others → end ≡ other
+same_end a end other carried others e h = cc
+
+settled_as : {first : _} (b c : List ℕ) (js ks : List Verdict) (granted : _) → b ≡ c → js ≡ ks
+    → Settled first c ks granted → Settled first b js granted
+settled_as {first} b c js ks granted e f s =
+    subst (λ x. Settled first x js granted) (sym e) (subst (λ vs. Settled first c vs granted) (sym f) s)
+
+-- where no question is out
+module _ (w : Whole) (p : Place) (i : IsWhole w) (h : IsAt w p) (none : p.rows ≡ []) where
+  rows_last : (course w.origin p.heard).rows ≡ rows_of p.gone
+  rows_last = h.rows_are ∙ (ap (λ rows. rows_of p.gone ++ rows) none ∙ append-nil (rows_of p.gone))
+
+  -- the job is over
+  over_last : (course w.origin p.heard).awaits
+      ≡ for_nothing ((conduct_of w.origin).ended (answers_of (rows_of p.gone))) []
+  over_last =
+      let rows = (course w.origin p.heard).rows in
+      let answered : open_count rows ≡ 0 =
+      ap open_count h.rows_are ∙ (open_behind p.gone p.rows h.are_out ∙ ap length none) in
+      h.awaiting.awaits
+      ∙ (awaits_none (conduct_of w.origin) rows answered
+      ∙ ap (λ rows. for_nothing ((conduct_of w.origin).ended (answers_of rows)) []) rows_last)
+
+  -- all was heard
+  heard_last : w.heard ≡ p.heard
+  heard_last =
+      let none : p.more ≡ [] =
+      none_of p.more (λ some. subst AwaitsOctets over_last (i.over.all_awaited p.heard p.more h.heard_is some)) in
+      h.heard_is ∙ (ap (λ x. p.heard ++ x) none ∙ append-nil p.heard)
+
+  course_last : course w.origin w.heard ≡ course w.origin p.heard
+  course_last = ap (course w.origin) heard_last
+
+  -- all that was sent was used
+  sent_last : p.taken ++ w.unused ≡ []
+  sent_last =
+      append_cancel_left p.out (p.taken ++ w.unused) []
+      (sym h.sent_is
+      ∙ (i.over.sent
+      ∙ (ap (λ (c : Course). c.out) course_last ∙ (h.out_is ∙ ap (λ rows. p.out ++ telegrams_of rows) none))))
+
+  taken_last : p.taken ≡ []
+  taken_last = nil_from_length p.taken (omega (arith, ap length sent_last, length-append p.taken w.unused))
+
+  used_last : w.used ≡ p.used
+  used_last = h.used_is ∙ (ap (λ x. p.used ++ x) taken_last ∙ append-nil p.used)
+
+  -- the verdicts that are left met no telegram
+  past_last : past w.first w.used w.verdicts ≡ with_more (past w.first p.used p.verdicts) p.left
+  past_last = ap₂ (past w.first) used_last h.verdicts_are ∙ past_with w.first p.used p.verdicts p.left h.settled.lives
+
+  verdicts_last : w.verdicts ≡ p.verdicts
+  verdicts_last =
+      let none : p.left ≡ [] =
+      sym (ap (λ (vs : List Verdict). vs ++ p.left) h.settled.met)
+      ∙ (sym (ap (λ (k : Past). k.verdicts) past_last) ∙ i.met) in
+      h.verdicts_are ∙ (ap (λ (vs : List Verdict). p.verdicts ++ vs) none ∙ append-nil p.verdicts)
+
+  behind_last : w.behind ≡ []
+  behind_last =
+      let owes = ap length (sym (ap (λ (k : Past). k.owed) past_last) ∙ owes_more w p i h) in
+      nil_from_length w.behind
+      (omega (
+        arith,
+        owes,
+        length-append (owed w.first p.used p.verdicts) (p.more ++ w.behind),
+        length-append p.more w.behind,
+      ))
+
+  -- and the job went by the exchanges so far
+  done_last : IsDone w
+  done_last = record {
+    none_unused = nil_from_length w.unused (omega (arith, ap length sent_last, length-append p.taken w.unused));
+    nothing_behind = behind_last;
+    settled = settled_as w.used p.used w.verdicts p.verdicts (Some w.pdu) used_last verdicts_last h.settled;
+    size = ap (λ (c : Course). c.size) course_last ∙ h.awaiting.size;
+    sequence = subst (λ (c : Course). c.sequence < 65536) (sym course_last) h.awaiting.sequence;
+    exchanges = p.gone;
+    entered_is = ap₂ (entered w.first) used_last verdicts_last ∙ h.entered_is;
+    converses = record {
+      asked = subst (AreAsked (conduct_of w.origin) 0) (sym h.rows_are ∙ rows_last) h.asked;
+      told = h.told;
+      none_more = ap (next_question (conduct_of w.origin)) (sym rows_last) ∙ h.awaiting.none_more;
+      is = same_end (course w.origin w.heard).awaits w.end _ w.carried [] i.over.over
+          (ap (λ (c : Course). c.awaits) course_last ∙ over_last);
+    };
+  }
+
+-- ---- from place to place
+
+done_within : (n : ℕ) (w : Whole) (p : Place) (rows : List Row) → IsWhole w → IsAt w p → p.rows ≡ rows
+    → length p.more < n → IsDone w
+done_within zero w p rows i h is most = absurd (omega (arith, most))
+done_within (suc n) w p [] i h is most = done_last w p i h is
+done_within (suc n) w p (q ∷ later) i h is most =
+    let k = is_replied w p q later i h is in
+    let after = next w p q later i h is k in
+    done_within n w after after.rows i (at_next w p q later i h is k) refl
+    (omega (arith, less_more w p q later i h is k, most))
+
+-- From any place the job comes to its end.
+pub done : (w : Whole) (p : Place) → IsWhole w → IsAt w p → IsDone w
+done w p i h = done_within (length p.more + 1) w p p.rows i h refl (omega arith)

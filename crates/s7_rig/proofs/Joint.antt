@@ -21,7 +21,9 @@ use Rattle.s7_rig.specs.Runs.{moment}
 use Rattle.s7_rig.specs.Scripts.{IsNoConnect, NoneConnects, ConnectsFirst}
 use Rattle.s7_rig.specs.Settled.{Settled}
 use Rattle.s7_rig.specs.Split.{AllStand}
+use Rattle.s7_rig.specs.Complete.{AllComeOff}
 use Rattle.s7_rig.specs.Turns.{is_full_in, lacks_in}
+use Rattle.s7_rig.proofs.ResultLemmas.{HaveGone}
 
 -- the octets of a link: those that the client transmitted and its session used, those that the session transmitted and
 -- the client used, and the verdicts, with the telegrams that met them
@@ -105,6 +107,8 @@ pub record IsFailing (p : Post) : Type 0 where
 -- the client isn't connected, and won't be
 pub record IsLost (p : Post) : Type 0 where
   pub ungranted : client.grant_of p.client ≡ None
+  -- a job met its last poll, or disconnected
+  pub gone : HaveGone p.results
   pub job : (client.job_of p.client ≡ None) ⊎ IsFailing p
   pub jobs : NoneConnects p.rest
 
@@ -138,4 +142,5 @@ pub record Joint (opening : Memory) (limit : ℕ) (config : Config) (book : Book
   -- the client
   pub config_is : client.config_of p.client ≡ config
   pub done : AllStand (begins_with opening) (history_of book) p.link config.pdu p.results p.places
+  pub comes_off : length (history_of book) < limit → AllComeOff opening config.pdu p.results
   pub mode : Mode opening config book p o

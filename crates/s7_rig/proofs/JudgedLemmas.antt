@@ -1,6 +1,6 @@
 -- How a session judges the questions of a client.
 use Rattle.std.proofs.Common.{◌≡◌, ℕ, ◌+◌, ◌<◌, ◌≤◌, Bool, true, false, ◌&&◌, cond, min, Ok, Err, List, [], ◌∷◌, length, refl, ap, sym, ◌∙◌, subst, arith, length-append}
-use Rattle.std.specs.Prelude.{Some, Result}
+use Rattle.std.specs.Prelude.{Some}
 use Rattle.std.proofs.lemmas.Bool.{le-ltb, le-leb}
 use Rattle.std.proofs.Math.Seq.{take-append_seam, drop-append_seam}
 use Rattle.s7_header.specs.declared.header.Kind.TheVariants.{Job}
@@ -13,17 +13,13 @@ use Rattle.s7_header.proofs.HeaderLemmas.{spelled}
 use Rattle.s7_header.proofs.NegotiationLemmas.{spelled_negotiation}
 use Rattle.s7_header.proofs.OctetLemmas.{two_of_number}
 use Rattle.s7_item.specs.declared.item.Item.{Item}
-use Rattle.s7_item.specs.declared.places.DataPlace.{DataPlace}
-use Rattle.s7_item.specs.declared.read_data.DataFault.{DataFault}
-use Rattle.s7_item.specs.DataItem.{data_places_of}
 use Rattle.s7_item.specs.Sizes.{answer_size}
 use Rattle.s7_item.proofs.ItemLaws.{reads_back}
-use Rattle.s7_plant.specs.declared.request.Request.TheVariants.{Read, Write}
-use Rattle.s7_client.specs.Question.{Question, negotiates, reads, writes, params_of, body_of, job_octets, question_octets}
+use Rattle.s7_plant.specs.declared.request.Request.TheVariants.{Read}
+use Rattle.s7_client.specs.Question.{Question, negotiates, reads, params_of, body_of, job_octets, question_octets}
 use Rattle.s7_session.specs.LinkState.{LinkState}
-use Rattle.s7_session.specs.Judgement.{Judgement, refuse, own, judge, asks_plainly, answer_octets, sequence_of, headed, job, function_at, pdu_limit, read, write, write_of, negotiation, negotiated}
+use Rattle.s7_session.specs.Judgement.{Judgement, own, judge, asks_plainly, answer_octets, sequence_of, headed, job, function_at, pdu_limit, read, negotiation, negotiated}
 use Rattle.s7_session.specs.Events.{is_s7}
-use Rattle.s7_rig.specs.Asked.{IsWriteJudged, is_refused, is_asked}
 
 -- ---- jobs
 
@@ -88,28 +84,6 @@ judged_read link pdu sequence items granted low most fits some few room =
     ∙ (ap (λ g. function_at link g 0x04 sequence (params_of (reads items)) []) granted
     ∙ (ap (read link pdu sequence []) (reads_back 0x04 items some few)
     ∙ not_refused _ _ _ (le-ltb pdu (answer_size items) room)))
-
-judged_room : (link : LinkState) (sequence : ℕ) (items : List Item) (places : List DataPlace) (body : List ℕ) (refusal : _) (t : Bool)
-    → IsWriteJudged link sequence items body (cond t (refuse refusal) (asks_plainly link sequence (Write items places body)))
-judged_room link sequence items places body refusal true = is_refused refusal refl
-judged_room link sequence items places body refusal false = is_asked places refl
-
-judged_places : (link : LinkState) (pdu sequence : ℕ) (items : List Item) (body : List ℕ) (r : Result (List DataPlace) DataFault)
-    → IsWriteJudged link sequence items body (write_of link pdu sequence items body r)
-judged_places link pdu sequence items body (Err fault) = is_refused _ refl
-judged_places link pdu sequence items body (Ok places) = judged_room link sequence items places body _ _
-
--- new octets for items are asked of the plant, or refused
-pub judged_write : (link : LinkState) (pdu sequence : ℕ) (items : List Item) (octets : List ℕ) → link.granted ≡ Some pdu → sequence < 65536 → pdu ≤ 960
-    → length (question_octets sequence (writes items octets)) ≤ pdu → 0 < length items → length items ≤ 20
-    → IsWriteJudged link sequence items (body_of (writes items octets)) (judge link (question_octets sequence (writes items octets)))
-judged_write link pdu sequence items octets granted low most fits some few =
-    let params = params_of (writes items octets) in
-    let body = body_of (writes items octets) in
-    let P : Judgement → Type 0 = λ j. IsWriteJudged link sequence items body j in
-    let same = judged_job link sequence params body low (omega (arith, most, fits)) (within link pdu _ granted fits)
-    ∙ (ap (λ g. function_at link g 0x05 sequence params body) granted ∙ ap (write link pdu sequence body) (reads_back 0x05 items some few)) in
-    subst P (sym same) (judged_places link pdu sequence items body (data_places_of (length items) body))
 
 -- a negotiation is answered with what is granted
 pub judged_negotiation : (link : LinkState) (sequence : ℕ) (asked n : Negotiation) → sequence < 65536 → 18 ≤ pdu_limit link.granted → granted asked ≡ Ok n

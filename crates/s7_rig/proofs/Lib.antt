@@ -29,6 +29,8 @@ pub mod EndLemmas
 pub mod GrowthLemmas
 pub mod ReplyLemmas
 pub mod AskableLemmas
+pub mod TelegramLemmas
+pub mod AnsweringLemmas
 pub mod DialogueLemmas
 pub mod JobLemmas
 pub mod SettledLemmas
@@ -42,3 +44,9 @@ pub mod RunSteps
 pub mod OpeningLemmas
 pub mod RigLemmas
 pub mod FormedLemmas
+pub mod ShapeLemmas
+pub mod PlacedLemmas
+pub mod AsksLemmas
+pub mod AskedItems
+pub mod ResultLemmas
+pub mod ComeOffLemmas

@@ -1,5 +1,5 @@
 -- The first connect over one link, once its client is done with it.
-use Rattle.std.proofs.Common.{◌≡◌, inl, inr, ℕ, cond, min, max, None, Some, List, [], ◌∷◌, ◌++◌, refl, ap, sym, ◌∙◌, subst, arith, append_assoc, append-nil}
+use Rattle.std.proofs.Common.{◌≡◌, inl, inr, ℕ, ◌<◌, cond, min, max, None, Some, List, [], ◌∷◌, ◌++◌, refl, ap, sym, ◌∙◌, subst, arith, append_assoc, append-nil}
 use Rattle.std.specs.Prelude.{Option, nat_lt, ◌||◌}
 use Rattle.std.proofs.lemmas.Bool.{le-ltb}
 use Rattle.std.proofs.lemmas.List.{append_cancel_left}
@@ -18,16 +18,13 @@ use Rattle.s7_session.specs.Owed.{Past, past, owed, entered}
 use Rattle.s7_session.proofs.PastLemmas.{with_more, past_nothing, past_grows}
 use Rattle.s7_client.specs.declared.config.Config.{Config}
 use Rattle.s7_client.specs.declared.grant.Grant.{Grant}
-use Rattle.s7_client.specs.declared.grant.Leaves.{Leaves}
-use Rattle.s7_client.specs.declared.grant.Leaves.TheVariants.{AsItWas, Connected}
 use Rattle.s7_client.specs.Question.{negotiates, question_octets}
-use Rattle.s7_client.specs.Answer.{confirms}
 use Rattle.s7_client.specs.Dialogue.{End, asked_by, taken_grant}
 use Rattle.s7_client.specs.Standing.{AwaitsOctets}
-use Rattle.s7_client.specs.Course.{Origin, Course, Awaits, for_confirm, for_answer, for_departure, for_nothing, request_of, connect_octets, course}
+use Rattle.s7_client.specs.Course.{Origin, Course, Awaits, for_nothing, request_of, connect_octets, course}
 use Rattle.s7_client.proofs.FrontLemmas.{IsSplit, split_front}
 use Rattle.s7_rig.specs.Settled.{Settled, Serves}
-use Rattle.s7_rig.specs.Awaiting.{BeginsConnecting, AsksOn, EndsBy}
+use Rattle.s7_rig.specs.Awaiting.{BeginsConnecting, AsksNegotiation, EndsBy}
 use Rattle.s7_rig.specs.Heard.{connected_end}
 use Rattle.s7_rig.specs.Dialogues.{IsConnectOver, IsConnectSettled}
 use Rattle.s7_rig.proofs.OneFragment.{message_is_one_packet}
@@ -35,7 +32,7 @@ use Rattle.s7_rig.proofs.FrontLemmas.{served_front}
 use Rattle.s7_rig.proofs.OpenedLemmas.{opened, opening_front}
 use Rattle.s7_rig.proofs.JudgedLemmas.{is_granted}
 use Rattle.s7_rig.proofs.QuestionLemmas.{served_negotiation}
-use Rattle.s7_rig.proofs.HeardLemmas.{heard_front}
+use Rattle.s7_rig.proofs.HeardLemmas.{AwaitsAnswers, heard_front}
 use Rattle.s7_rig.proofs.ConnectLemmas.{begins_connecting, confirm_front, confirm_heard, grant_heard}
 use Rattle.s7_rig.proofs.GrowthLemmas.{course_grows}
 use Rattle.s7_rig.proofs.PastFacts.{past_with}
@@ -92,18 +89,8 @@ none_behind xs ys same = append_cancel_left xs ys [] (sym same ∙ sym (append-n
 not_over : (end : End) (carried : List ℕ) (awaits : Awaits) → AwaitsOctets awaits → awaits ≡ for_nothing end carried → ⊥
 not_over end carried awaits octets over = subst AwaitsOctets over octets
 
--- what the end of a job leaves
-abbrev leaves_in : Awaits → Leaves
-leaves_in for_confirm = AsItWas
-leaves_in (for_answer question) = AsItWas
-leaves_in for_departure = AsItWas
-leaves_in (for_nothing end carried) = end.leaves
-
-same_end : (end end' : End) (carried carried' : List ℕ) → for_nothing end carried ≡ for_nothing end' carried' → end.leaves ≡ end'.leaves
-same_end end end' carried carried' same = ap leaves_in same
-
-same_grant : (grant grant' : Grant) → Connected grant ≡ Connected grant' → grant ≡ grant'
-same_grant grant grant' same = cc
+same_end : (end end' : End) (carried carried' : List ℕ) → for_nothing end carried ≡ for_nothing end' carried' → end ≡ end'
+same_end end end' carried carried' same = cc
 
 confirm_is_writable : (config : Config) → IsWritable (confirm_of config)
 confirm_is_writable config = record { least_size = omega arith; most_size = omega arith; calling = omega arith; called = omega arith }
@@ -166,17 +153,18 @@ module _ (guard : Option Guard) (origin : Origin) (heard sent : List ℕ) (end :
       (ap (λ b. owed first b verdicts) (sym request.1) ∙ over.owed_is) in
       confirm_cases front.0 (split_front (confirm_octets origin.config) front.0 heard behind front.1)
 
-  negotiation_awaited : AsksOn origin [] (confirm_octets origin.config) confirms (negotiates (asked_by origin.config)) 1
+  negotiation_awaited : AsksNegotiation origin (confirm_octets origin.config)
   negotiation_awaited = confirm_heard origin (confirm_of origin.config) over.unconnected over.connects (confirm_is_writable origin.config) refl
 
   -- behind the confirm octets were used
   answer_begun : (more : List ℕ) → heard ≡ confirm_octets origin.config ++ more → more ≡ [] → ⊥
   answer_begun more is none =
       let confirm = confirm_octets origin.config in
-      not_all_heard confirm (ap (course origin) (is ∙ (ap (λ x. confirm ++ x) none ∙ append-nil confirm))) (subst AwaitsOctets (sym negotiation_awaited.awaiting.awaits) tt)
+      not_all_heard confirm (ap (course origin) (is ∙ (ap (λ x. confirm ++ x) none ∙ append-nil confirm)))
+      (subst AwaitsOctets (sym negotiation_awaited.awaits) tt)
 
   opening_out : (course origin (confirm_octets origin.config)).out ≡ opening_sent origin.config
-  opening_out = negotiation_awaited.out ∙ ap (λ x. x ++ negotiation_octets origin.config) begins.out
+  opening_out = negotiation_awaited.out
 
   negotiation_cases : (rest : List ℕ) → IsSplit (opening_sent origin.config) rest used over.unused → (u : List ℕ) × (used ≡ opening_sent origin.config ++ u)
   negotiation_cases rest (inl y) =
@@ -217,9 +205,13 @@ module _ (guard : Option Guard) (origin : Origin) (heard sent : List ℕ) (end :
       let begun = confirm_used in
       let front : begun.0 ++ y.0 ≡ grant_octets origin.config =
       append_cancel_left confirm (begun.0 ++ y.0) (grant_octets origin.config) (sym (append_assoc confirm begun.0 y.0) ∙ (ap (λ x. x ++ y.0) (sym begun.1) ∙ sym y.1)) in
-      let still = heard_front origin confirm (grant_of origin.config) begun.0 y.0 (negotiates (asked_by origin.config)) 1 negotiation_awaited.awaiting (omega arith)
+      let awaits : AwaitsAnswers origin confirm =
+      record { awaiting = negotiation_awaited.awaiting; awaits = negotiation_awaited.awaits } in
+      let still = heard_front origin confirm (grant_of origin.config) begun.0 y.0 awaits (omega arith)
       (front ∙ message_is_one_packet (grant_of origin.config) (omega arith)) y.2 in
-      absurd (not_all_heard confirm (ap (course origin) begun.1 ∙ still) (subst AwaitsOctets (sym negotiation_awaited.awaiting.awaits) tt))
+      absurd
+      (not_all_heard confirm (ap (course origin) begun.1 ∙ still)
+      (subst AwaitsOctets (sym negotiation_awaited.awaits) tt))
   grant_cases rest (inr y) = (y.0, y.1)
 
   -- the client has used the grant
@@ -237,12 +229,12 @@ module _ (guard : Option Guard) (origin : Origin) (heard sent : List ℕ) (end :
       ap (λ t. cond (t || nat_lt origin.config.pdu n.pdu) None (Some (taken_of origin.config))) (le-ltb n.pdu 64 (omega (arith, granted_is, over.least)))
       ∙ ap (λ t. cond t None (Some (taken_of origin.config))) (le-ltb origin.config.pdu n.pdu (omega (arith, granted_is)))
 
-  grant_ends : EndsBy origin (confirm_octets origin.config) (grant_octets origin.config) (connected_end (taken_of origin.config)) []
+  grant_ends : EndsBy origin (confirm_octets origin.config) (grant_octets origin.config) (connected_end (taken_of origin.config))
   grant_ends =
-      let P : List ℕ → Type 0 = λ x. EndsBy origin (confirm_octets origin.config) x (connected_end (taken_of origin.config)) [] in
+      let P : List ℕ → Type 0 = λ x. EndsBy origin (confirm_octets origin.config) x (connected_end (taken_of origin.config)) in
       subst P (sym (message_is_one_packet (grant_of origin.config) (omega arith)))
-      (grant_heard origin (confirm_octets origin.config) (granted_of origin.config) (taken_of origin.config) 1 over.unconnected over.connects (omega arith) negotiation_awaited.awaiting
-      (negotiation_awaited.answers ∙ ap (λ x. x ++ confirms ∷ []) begins.answers) taken_is)
+      (grant_heard origin (confirm_octets origin.config) (granted_of origin.config) (taken_of origin.config)
+      over.unconnected over.connects negotiation_awaited taken_is)
 
   -- nothing behind it is used
   all_heard : heard ≡ opening_heard origin.config
@@ -278,33 +270,33 @@ module _ (guard : Option Guard) (origin : Origin) (heard sent : List ℕ) (end :
       (sym opening_owed ∙ (ap (λ (p : Past). p.owed) (sym verdicts_wait) ∙ (ap (λ b. owed first b verdicts) (sym all_used) ∙ (over.owed_is ∙ ap (λ x. x ++ behind) all_heard))))
 
   -- the client has the grant that was taken
-  grant_is : over.grant ≡ taken_of origin.config
-  grant_is =
-      same_grant over.grant (taken_of origin.config)
-      (sym over.leaves ∙ sym (same_end (connected_end (taken_of origin.config)) end [] carried (sym grant_ends.awaits ∙ (ap (λ b. (course origin b).awaits) (sym all_heard) ∙ over.over.over))))
+  end_is : end ≡ connected_end (taken_of origin.config)
+  end_is =
+      sym
+      (same_end (connected_end (taken_of origin.config)) end [] carried
+      (sym grant_ends.awaits ∙ (ap (λ b. (course origin b).awaits) (sym all_heard) ∙ over.over.over)))
 
-  grant_pdu : over.grant.pdu ≡ (granted_of origin.config).pdu
-  grant_pdu = ap (λ (g : Grant). g.pdu) grant_is
-
-  settles : IsConnectSettled guard origin heard sent over.grant used verdicts behind
+  settles : IsConnectSettled guard origin heard sent end used verdicts behind
   settles =
       let as_sent = sym all_sent in
       let settled = negotiation_served.settled in
+      let pdu = (granted_of origin.config).pdu in
       record {
+        grant = taken_of origin.config;
+        is = end_is;
         all_used = all_used ∙ as_sent;
         nothing_behind = nothing_behind;
         no_verdicts = no_verdicts;
-        granted = grant_pdu ∙ granted_is;
-        settled = subst (λ b. Settled first b verdicts (Some over.grant.pdu)) as_sent
-            (subst (λ js. Settled first (opening_sent origin.config) js (Some over.grant.pdu)) (sym no_verdicts)
-            (subst (λ pdu. Settled first (opening_sent origin.config) [] (Some pdu)) (sym grant_pdu) settled));
+        granted = granted_is;
+        settled = subst (λ b. Settled first b verdicts (Some pdu)) as_sent
+            (subst (λ js. Settled first (opening_sent origin.config) js (Some pdu)) (sym no_verdicts) settled);
         owed_is = ap (λ b. owed first b verdicts) all_sent ∙ (ap (owed first (opening_sent origin.config)) no_verdicts ∙ (opening_owed ∙ sym all_heard));
         entered_is = ap (λ b. entered first b verdicts) all_sent ∙ (ap (entered first (opening_sent origin.config)) no_verdicts ∙ (negotiation_served.entered ∙ (append-nil (entered first (connect_octets origin.config) []) ∙ (opened guard origin.config).entered)));
-        size = ap (λ b. (course origin b).size) all_heard ∙ (grant_ends.size ∙ negotiation_awaited.awaiting.size);
-        sequence = omega (arith, ap (λ b. (course origin b).sequence) all_heard, grant_ends.sequence, negotiation_awaited.awaiting.sequence);
+        size = ap (λ b. (course origin b).size) all_heard ∙ grant_ends.size;
+        sequence = subst (λ b. (course origin b).sequence < 65536) (sym all_heard) grant_ends.sequence;
       }
 
 -- BOTH ENDS stand between two messages, with the PDU that was asked for.
 pub connect_is_settled : (guard : Option Guard) (origin : Origin) (heard sent : List ℕ) (end : End) (carried used : List ℕ) (verdicts : List Verdict) (behind : List ℕ)
-    → (over : IsConnectOver guard origin heard sent end carried used verdicts behind) → IsConnectSettled guard origin heard sent over.grant used verdicts behind
+    → IsConnectOver guard origin heard sent end carried used verdicts behind → IsConnectSettled guard origin heard sent end used verdicts behind
 connect_is_settled = settles

@@ -11,7 +11,7 @@ use Rattle.s7_session.specs.Verdict.{Verdict}
 use Rattle.s7_session.specs.Owed.{owed, entered}
 use Rattle.s7_rig.specs.Settled.{Settled}
 use Rattle.s7_rig.specs.Dialogues.{AreReplies, ReadsParts, IsJobOver, IsJobSettled}
-use Rattle.s7_rig.specs.Exchanges.{entries_of}
+use Rattle.s7_rig.specs.Exchanges.{entries_of, WentBy}
 use Rattle.s7_rig.proofs.SettledLemmas.{over_is_done}
 use Rattle.s7_rig.proofs.PartLemmas.{item_read}
 
@@ -42,4 +42,17 @@ job_is_settled first origin pdu heard sent end carried b used js verdicts behind
             (item_read origin o.grant item end d.exchanges o.granted job_is good d.converses
             (replies_behind (entered first b js) (entries_of d.exchanges) (subst AreReplies d.entered_is o.replies))),
       );
+    }
+
+-- It went by exchanges.
+pub job_went : (first : LinkState) (origin : Origin) (pdu : ℕ) (heard sent : List ℕ) (end : End) (carried b used : List ℕ) (js verdicts : List Verdict) (behind : List ℕ)
+    → IsJobOver first origin pdu heard sent end carried b used js verdicts behind
+    → WentBy first origin end b sent js verdicts
+job_went first origin pdu heard sent end carried b used js verdicts behind o =
+    let d = over_is_done first origin pdu heard sent end carried b used js verdicts behind o in
+    let all : sent ≡ used = o.taken ∙ (ap (λ x. used ++ x) d.none_unused ∙ append-nil used) in
+    record {
+      exchanges = d.exchanges;
+      entered_is = ap (λ x. entered first (b ++ x) (js ++ verdicts)) all ∙ d.entered_is;
+      converses = d.converses;
     }

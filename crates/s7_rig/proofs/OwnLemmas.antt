@@ -26,6 +26,7 @@ use Rattle.s7_session.specs.Books.{History, history_of, entry_at, own_from, own,
 use Rattle.s7_rig.specs.Numbers.{count_from}
 use Rattle.s7_rig.specs.Dialogues.{AreReplies, ReadsParts}
 use Rattle.s7_rig.specs.Split.{state_at, IsReadAt, Rise, AreReadAt, SplitRead, StandsAtPlaces, AllStand}
+use Rattle.s7_rig.proofs.ShapeLemmas.{AreShaped, state_same}
 
 is_same : (a b : ℕ) → a ≡ b → (a == b) ≡ true
 is_same a b e = grind (arith, nat_tests)
@@ -153,6 +154,15 @@ replies_of s history link (e ∷ es) all = ((state_at s history e.number, all.0.
 
 pub own_replies : (s : State) (link : ℕ) (history : History) → AreReplies (map answered (own s link history))
 own_replies s link history = replies_of s history link (own s link history) (own_at s link history)
+
+shapes_of : (s : State) (history : History) (link : ℕ) (es : List Entry) → AreOwnAt s history link es → AreShaped s.memory (map answered es)
+shapes_of s history link [] all = tt
+shapes_of s history link (e ∷ es) all = ((state_at s history e.number, state_same s history e.number, all.0.reply), shapes_of s history link es all.1)
+
+-- the replies of a back part are those of states of the opening's shape
+pub own_shaped : (s : State) (link : ℕ) (history : History) (before mine : List Entry) → own s link history ≡ before ++ mine → AreShaped s.memory (map answered mine)
+own_shaped s link history before mine split =
+    shapes_of s history link mine (own_back_at s history link before mine (subst (AreOwnAt s history link) split (own_at s link history)))
 
 -- ---- their numbers rise
 

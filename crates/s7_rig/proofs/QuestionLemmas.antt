@@ -7,16 +7,18 @@ use Rattle.s7_item.specs.declared.item.Item.{Item}
 use Rattle.s7_item.specs.Sizes.{answer_size}
 use Rattle.s7_plant.specs.declared.request.Request.TheVariants.{Read}
 use Rattle.s7_wire.specs.Sent.{sent_message}
-use Rattle.s7_client.specs.Question.{negotiates, reads, writes, body_of, question_octets}
+use Rattle.s7_client.specs.Question.{negotiates, reads, writes, question_octets}
 use Rattle.s7_session.specs.Verdict.{Verdict}
-use Rattle.s7_session.specs.Judgement.{judge, answer_octets, pdu_limit}
+use Rattle.s7_session.specs.Judgement.{answer_octets, pdu_limit}
 use Rattle.s7_session.specs.Events.{lives}
 use Rattle.s7_session.specs.LinkState.{LinkState}
 use Rattle.s7_session.specs.Owed.{past}
 use Rattle.s7_rig.specs.Settled.{Settled, Serves}
-use Rattle.s7_rig.specs.Asked.{IsAnswered, IsWriteJudged, is_refused, is_asked, IsWriteAnswered, is_unasked, is_answered}
-use Rattle.s7_rig.proofs.ServedLemmas.{served_own, served_refusal, served_asking}
-use Rattle.s7_rig.proofs.JudgedLemmas.{question_is_s7, judged_negotiation, judged_read, judged_write}
+use Rattle.s7_rig.specs.Asked.{IsAnswered}
+use Rattle.s7_rig.specs.Written.{AreKnown, own_write}
+use Rattle.s7_rig.proofs.ServedLemmas.{served_own, served_asking}
+use Rattle.s7_rig.proofs.JudgedLemmas.{question_is_s7, judged_negotiation, judged_read}
+use Rattle.s7_rig.proofs.AsksLemmas.{write_is_asked}
 
 -- a negotiation is granted
 pub served_negotiation : {first : LinkState} (b : List ℕ) (js : List Verdict) (held : Option ℕ) (sequence : ℕ) (asked n : Negotiation) → Settled first b js held → sequence < 65536 → 18 ≤ pdu_limit held → granted asked ≡ Ok n
@@ -39,19 +41,12 @@ served_read {first} b js vs pdu sequence items s low most fits some few room =
     served_asking b (question_octets sequence (reads items)) js vs (Some pdu) sequence (Read items) s (omega (arith, most, fits)) (question_is_s7 sequence (reads items))
     (judged_read (past first b js).link pdu sequence items s.grants low most fits some few room)
 
-write_answered : {first : LinkState} (b : List ℕ) (js vs : List Verdict) (pdu sequence : ℕ) (items : List Item) (octets : List ℕ) → Settled first b js (Some pdu) → length (question_octets sequence (writes items octets)) ≤ 1021
+-- and so is a write
+pub served_write : {first : LinkState} (b : List ℕ) (js vs : List Verdict) (pdu sequence : ℕ) (items : List Item) (octets : List ℕ)
+    → Settled first b js (Some pdu) → sequence < 65536 → pdu ≤ 960 → length (question_octets sequence (writes items octets)) ≤ pdu
+    → 0 < length items → length items ≤ 20 → AreKnown items
     → (past first (b ++ sent_message 1024 (question_octets sequence (writes items octets))) (js ++ vs)).standing ≡ lives
-    → IsWriteJudged (past first b js).link sequence items (body_of (writes items octets)) (judge (past first b js).link (question_octets sequence (writes items octets)))
-    → IsWriteAnswered first b js (question_octets sequence (writes items octets)) vs (Some pdu) sequence items (body_of (writes items octets))
-write_answered b js vs pdu sequence items octets s most live (is_refused refusal judged) =
-    is_unasked refusal (served_refusal b (question_octets sequence (writes items octets)) js (Some pdu) refusal s most (question_is_s7 sequence (writes items octets)) judged)
-write_answered b js vs pdu sequence items octets s most live (is_asked places judged) =
-    is_answered places (served_asking b (question_octets sequence (writes items octets)) js vs (Some pdu) sequence _ s most (question_is_s7 sequence (writes items octets)) judged live)
-
--- a write is refused at once, or answered as a read is
-pub served_write : {first : LinkState} (b : List ℕ) (js vs : List Verdict) (pdu sequence : ℕ) (items : List Item) (octets : List ℕ) → Settled first b js (Some pdu) → sequence < 65536 → pdu ≤ 960
-    → length (question_octets sequence (writes items octets)) ≤ pdu → 0 < length items → length items ≤ 20
-    → (past first (b ++ sent_message 1024 (question_octets sequence (writes items octets))) (js ++ vs)).standing ≡ lives
-    → IsWriteAnswered first b js (question_octets sequence (writes items octets)) vs (Some pdu) sequence items (body_of (writes items octets))
-served_write {first} b js vs pdu sequence items octets s low most fits some few live =
-    write_answered b js vs pdu sequence items octets s (omega (arith, most, fits)) live (judged_write (past first b js).link pdu sequence items octets s.grants low most fits some few)
+    → IsAnswered first b js (question_octets sequence (writes items octets)) vs (Some pdu) sequence (own_write items octets)
+served_write {first} b js vs pdu sequence items octets s low most fits some few known =
+    served_asking b (question_octets sequence (writes items octets)) js vs (Some pdu) sequence (own_write items octets) s (omega (arith, most, fits)) (question_is_s7 sequence (writes items octets))
+    (write_is_asked (past first b js).link pdu sequence items octets s.grants low most fits some few known)

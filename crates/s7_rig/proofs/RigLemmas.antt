@@ -1,5 +1,5 @@
 -- What a whole rig comes to, by what it began with and its run.
-use Rattle.std.proofs.Common.{◌≡◌, ℕ, zero, suc, ◌+◌, ◌≤◌, List, [], ◌∷◌, ◌++◌, length, refl, ap, sym, ◌∙◌, subst, arith}
+use Rattle.std.proofs.Common.{◌≡◌, ℕ, zero, suc, ◌+◌, ◌<◌, ◌≤◌, List, [], ◌∷◌, ◌++◌, length, refl, ap, sym, ◌∙◌, subst, arith}
 use Rattle.std.specs.Prelude.{Option, None, Some, Result, Ok, Err, IfOk, unwrap_or, slice_get, map}
 use Rattle.std.specs.List.{AllByRecursion}
 use Rattle.s7_outer.specs.PipesHeld.{PipesHeld}
@@ -30,8 +30,10 @@ use Rattle.s7_rig.specs.Rigs.{Turning, RigRan}
 use Rattle.s7_rig.specs.Scripts.{ConnectsFirst}
 use Rattle.s7_rig.specs.Shown.{EndTold, state_told, post_told, ClientTold}
 use Rattle.s7_rig.specs.Split.{AllStand}
+use Rattle.s7_rig.specs.Complete.{AllComeOff}
 use Rattle.s7_rig.specs.Turns.{is_full_in, lacks_in}
 use Rattle.s7_rig.proofs.Joint.{untouched}
+use Rattle.s7_rig.proofs.ResultLemmas.{none_come_off}
 use Rattle.s7_rig.proofs.OwnLemmas.{AllLinks, no_links, none_stand}
 use Rattle.s7_rig.proofs.RunSteps.{Holds, HasJoint, run_holds}
 use Rattle.s7_rig.proofs.SumLemmas.{posts_numbered, posts_counted, calls_within}
@@ -98,6 +100,7 @@ joint_fresh opening limit config book p link f opened journal =
         config_is = f.fresh.client.config;
         done = subst (λ rs. AllStand s history p.link config.pdu rs p.places) (sym f.fresh.results)
             (subst (λ ps. AllStand s history p.link config.pdu [] ps) (sym f.fresh.places) (none_stand s history p.link config.pdu));
+        comes_off = λ room. subst (AllComeOff opening config.pdu) (sym f.fresh.results) (none_come_off opening config.pdu);
         mode = untouched (record {
           fresh = f.fresh.client;
           jobs = subst ConnectsFirst (sym f.fresh.rest) f.connects;
@@ -144,6 +147,11 @@ module _ (opening : Memory) (limit : ℕ) (config : Config) where
   all_told book [] each = tt
   all_told book (p ∷ posts) each = (each 0 p refl, all_told book posts (λ k q at. each (suc k) q at))
 
+  all_come : (posts : List Post) → ((k : ℕ) (p : Post) → slice_get posts k ≡ Some p → AllComeOff opening config.pdu p.results)
+      → AllByRecursion (λ (c : ClientTold). AllComeOff opening config.pdu c.results) (map post_told posts)
+  all_come [] each = tt
+  all_come (p ∷ posts) each = (each 0 p refl, all_come posts (λ k q at. each (suc k) q at))
+
   legal_book : (last : State) (sent answered : ℕ → List ℕ) → Holds opening limit config last sent answered → IsLegalBook (begins_with opening) limit (links_of last.posts) last.book
   legal_book last sent answered holds =
       let history = history_of last.book in
@@ -189,6 +197,8 @@ module _ (opening : Memory) (limit : ℕ) (config : Config) where
         legal = λ k p at. legal_by last.book p _ _ (holds.each k p at);
         reads = subst (λ (e : EndTold). AllByRecursion (λ (c : ClientTold). AllStand (begins_with opening) (history_of e.book) c.link config.pdu c.results c.places) e.clients) (sym ends)
             (all_told last.book last.posts (λ k p at. (holds.each k p at).joint.done));
+        complete = subst (λ (e : EndTold). length (history_of e.book) < limit → AllByRecursion (λ (c : ClientTold). AllComeOff opening config.pdu c.results) e.clients) (sym ends)
+            (λ room. all_come last.posts (λ k p at. (holds.each k p at).joint.comes_off room));
       }
 
 pub if_ok : {A E : Type 0} (P Q : A → Type 0) (r : Result A E) → IfOk r P → ((x : A) → P x → Q x) → IfOk r Q

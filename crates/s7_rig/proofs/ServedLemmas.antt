@@ -19,8 +19,8 @@ use Rattle.s7_wire.specs.Sent.{sent_message, sent_messages}
 use Rattle.s7_wire.proofs.ReadingLemmas.{reading_whole, body_at}
 use Rattle.s7_session.specs.Verdict.{Verdict, Entered, Full, ClockFailed, NoMemory}
 use Rattle.s7_session.specs.LinkState.{LinkState}
-use Rattle.s7_session.specs.Judgement.{Judgement, refuse, own, judge, plainly, asks_plainly, sequence_of, reply_octets}
-use Rattle.s7_session.specs.Errors.{error_of, FULL}
+use Rattle.s7_session.specs.Judgement.{Judgement, own, judge, plainly, asks_plainly, sequence_of, reply_octets}
+use Rattle.s7_session.specs.Errors.{FULL}
 use Rattle.s7_session.specs.Events.{lives, Made, made, by_judgement, is_s7, refusal_sent}
 use Rattle.s7_session.specs.Owed.{Past, past, with_made, telegrams}
 use Rattle.s7_session.specs.Telegrams.{Met, met, entered_of}
@@ -124,13 +124,6 @@ serves {first} b m js js' granted granted' link out new s most same grants =
 -- where a message meets no verdict
 none_met : (first : LinkState) (b m : List ℕ) (js : List Verdict) (p : Past) → past first (b ++ sent_message 1024 m) (js ++ []) ≡ p → past first (b ++ sent_message 1024 m) js ≡ p
 none_met first b m js p same = ap (past first (b ++ sent_message 1024 m)) (sym (append-nil js)) ∙ same
-
--- a refusal leaves the link as it is
-pub served_refusal : {first : LinkState} (b m : List ℕ) (js : List Verdict) (granted : Option ℕ) (refusal : _) → Settled first b js granted → length m ≤ 1021 → is_s7 m ≡ true
-    → judge (past first b js).link m ≡ refuse refusal → Serves first b js m js granted (refusal_sent 1024 (sequence_of m) (error_of refusal)) []
-served_refusal {first} b m js granted refusal s most is judged =
-    serves b m js js granted granted (past first b js).link (refusal_sent 1024 (sequence_of m) (error_of refusal)) [] s most
-    (none_met first b m js _ (served_by b m js [] granted (refuse refusal) s most is judged)) s.grants
 
 -- an answer of the link's own may grant another PDU
 pub served_own : {first : LinkState} (b m : List ℕ) (js : List Verdict) (granted granted' : Option ℕ) (messages : List (List ℕ)) (link : LinkState) → Settled first b js granted → length m ≤ 1021 → is_s7 m ≡ true

@@ -300,6 +300,7 @@ module _ (opening : Memory) (limit : ℕ) (config : Config) (old : Post) (book b
   lost_on : IsLost old → IsLost post
   lost_on l = record {
     ungranted = l.ungranted;
+    gone = l.gone;
     job = elim l.job [ inl none ↦ inl none | inr failing ↦ inr (failing_on failing) ];
     jobs = l.jobs;
   }
@@ -330,6 +331,7 @@ module _ (opening : Memory) (limit : ℕ) (config : Config) (old : Post) (book b
     last = last_is;
     config_is = j.config_is;
     done = stand_on opening book book' old.link takes.goes_on j.opened old.link config.pdu old.results old.places j.done;
+    comes_off = λ room. j.comes_off (omega (arith, room, ap length takes.goes_on.history, length-append (history_of book) takes.goes_on.calls));
     mode = mode_on j.mode;
   }
 
@@ -425,6 +427,7 @@ other_step opening limit config p book book' other o apart j goes_on still_full 
       last = j.last ∙ ap (last_number None) (sym same);
       config_is = j.config_is;
       done = stand_on opening book book' other goes_on j.opened p.link config.pdu p.results p.places j.done;
+      comes_off = λ room. j.comes_off (omega (arith, room, ap length goes_on.history, length-append (history_of book) goes_on.calls));
       mode = mode_beside opening config p book book' o same j.mode;
     }
 

@@ -4,7 +4,6 @@ use Rattle.std.specs.List.{AllByRecursion}
 use Rattle.s7_area.specs.Memory.{read_code, read_octets}
 use Rattle.s7_area.specs.declared.guard.Guard.{Guard}
 use Rattle.s7_client.specs.declared.grant.Grant.{Grant}
-use Rattle.s7_client.specs.declared.grant.Leaves.TheVariants.{AsItWas, Connected}
 use Rattle.s7_client.specs.declared.job.Job.TheVariants as job
 use Rattle.s7_client.specs.Codes.{no_fault}
 use Rattle.s7_client.specs.Course.{Origin, course}
@@ -21,6 +20,7 @@ use Rattle.s7_session.specs.LinkState.{LinkState, first_link}
 use Rattle.s7_session.specs.Owed.{past, owed, entered}
 use Rattle.s7_session.specs.Verdict.{Verdict}
 use Rattle.s7_split.specs.Parts.{parts_of}
+use Rattle.s7_rig.specs.Heard.{connected_end}
 use Rattle.s7_rig.specs.Settled.{Settled}
 
 -- each reply is the one that some state gives to what was asked
@@ -40,7 +40,7 @@ ReadsParts (part ∷ parts) (e ∷ entries) octets =
     → (read_code s.memory right part ≡ 0xFF) × (front ≡ read_octets s.memory right part))
     × ReadsParts parts entries rest
 
--- A job is over that left the client connected. The client used and transmitted these octets for it. The session stood
+-- A job on a connected client is over by octets: the client used and transmitted these for it. The session stood
 -- between two messages before the job, and has used octets of those that the client transmitted since; it owes what
 -- the client used, with octets behind it.
 pub record IsJobOver (first : LinkState) (origin : Origin) (pdu : ℕ) (heard sent : List ℕ) (end : End)
@@ -53,7 +53,6 @@ pub record IsJobOver (first : LinkState) (origin : Origin) (pdu : ℕ) (heard se
   pub size : origin.size ≡ 1024
   pub sequence : origin.sequence < 65536
   pub over : IsByOctets origin end carried heard sent
-  pub leaves : end.leaves ≡ AsItWas
   pub settled : Settled first b js (Some pdu)
   pub unused : List ℕ
   pub taken : sent ≡ used ++ unused
@@ -74,8 +73,8 @@ pub record IsJobSettled (first : LinkState) (origin : Origin) (pdu : ℕ) (heard
       → (entries : List (Ask × Said)) × (entered first (b ++ sent) (js ++ verdicts) ≡ entered first b js ++ entries)
       × ReadsParts (parts_of item pdu false) entries end.octets
 
--- The first connect of a client came off, on a link to areas with this guard of which the session has used these
--- octets.
+-- The first connect of a client is over by octets, on a link to areas with this guard of which the session has used
+-- these octets.
 pub record IsConnectOver (guard : Option Guard) (origin : Origin) (heard sent : List ℕ) (end : End)
     (carried : List ℕ) (used : List ℕ) (verdicts : List Verdict) (behind : List ℕ) : Type 0 where
   pub unconnected : origin.granted ≡ None
@@ -83,16 +82,16 @@ pub record IsConnectOver (guard : Option Guard) (origin : Origin) (heard sent : 
   pub least : 64 ≤ origin.config.pdu
   pub most : origin.config.pdu ≤ 960
   pub over : IsByOctets origin end carried heard sent
-  pub grant : Grant
-  pub leaves : end.leaves ≡ Connected grant
   pub unused : List ℕ
   pub taken : sent ≡ used ++ unused
   pub met : (past (first_link guard) used verdicts).verdicts ≡ []
   pub owed_is : owed (first_link guard) used verdicts ≡ heard ++ behind
 
--- Then both stand between two messages, with the PDU that was asked for.
-pub record IsConnectSettled (guard : Option Guard) (origin : Origin) (heard sent : List ℕ) (grant : Grant)
+-- Then it came off, and both stand between two messages, with the PDU that was asked for.
+pub record IsConnectSettled (guard : Option Guard) (origin : Origin) (heard sent : List ℕ) (end : End)
     (used : List ℕ) (verdicts : List Verdict) (behind : List ℕ) : Type 0 where
+  pub grant : Grant
+  pub is : end ≡ connected_end grant
   pub all_used : used ≡ sent
   pub nothing_behind : behind ≡ []
   pub no_verdicts : verdicts ≡ []

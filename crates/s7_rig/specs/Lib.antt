@@ -10,9 +10,12 @@ pub mod Settled
 pub mod Asked
 pub mod Awaiting
 pub mod Heard
+pub mod Written
 pub mod Dialogues
 pub mod Split
 pub mod Legal
 pub mod Scripts
 pub mod Exchanges
+pub mod Questions
 pub mod Formed
+pub mod Complete

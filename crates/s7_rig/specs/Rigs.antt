@@ -1,5 +1,5 @@
 -- What a whole rig comes to.
-use Rattle.std.specs.Prelude.{◌≡◌, ℕ, List, [], slice_get, Some}
+use Rattle.std.specs.Prelude.{◌≡◌, ℕ, ◌<◌, List, [], length, slice_get, Some}
 use Rattle.std.specs.List.{AllByRecursion}
 use Rattle.s7_area.specs.Memory.{Memory}
 use Rattle.s7_client.specs.declared.config.Config.{Config}
@@ -13,6 +13,7 @@ use Rattle.s7_rig.specs.Shown.{ClientTold, EndTold, state_told}
 use Rattle.s7_rig.specs.Legal.{IsLegalPost, links_of}
 use Rattle.s7_rig.specs.Sent.{sent_by, answered_by}
 use Rattle.s7_rig.specs.Split.{AllStand}
+use Rattle.s7_rig.specs.Complete.{AllComeOff}
 use Rattle.s7_rig.specs.Runs.{AreFresh, IsRun}
 
 -- which turns are made: the stated ones, and so many drawn from a seed
@@ -44,3 +45,6 @@ pub record RigRan (opening : Memory) (limit : ℕ) (config : Config) (scripts : 
   -- each read with code 0 is the split read at its places
   pub reads : AllByRecursion (λ (c : ClientTold). AllStand (plant.begins_with opening) (history_of end.book) c.link
       config.pdu c.results c.places) end.clients
+  -- and where the journal has room left, each job that can come off does, unless it met its last poll
+  pub complete : length (history_of end.book) < limit
+      → AllByRecursion (λ (c : ClientTold). AllComeOff opening config.pdu c.results) end.clients

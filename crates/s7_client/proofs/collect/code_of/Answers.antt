@@ -6,5 +6,6 @@ use Rattle.s7_client.proofs.collect.code_of.Goals as goal
 pub returns : goal.returns
 returns c answers is =
     let code : c.unwrap_or.result ≡ slice_index c.args.body.now 0 =
-    c.unwrap_or.ensures ∙ (ap (λ o. unwrap_or o 0) (c.copied.ensures ∙ c.first.ensures.value) ∙ first_octet c.args.body.now) in
+    c.unwrap_or.ensures
+    ∙ (ap (λ o. unwrap_or o 0) (c.copied.ensures ∙ c.first.ensures.value) ∙ first_octet c.args.body.now) in
     one_code c.args.items.now c.args.body.now answers c.requires is ∙ ap (λ x. x ∷ []) (sym code)

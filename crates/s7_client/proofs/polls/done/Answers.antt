@@ -3,5 +3,6 @@ use Rattle.s7_client.specs.Running.{IsResult}
 use Rattle.s7_client.proofs.polls.done.Goals as goal
 
 pub returns : goal.returns
-returns c = λ config end e.
-    subst (λ (x : List ℕ). IsResult c.into_result.result c.args.job.running.job end x) c.take.ensures.taken (c.into_result.ensures.result config end e)
+returns c = λ end e.
+    subst (λ (x : List ℕ). IsResult c.into_result.result c.args.job.running.job end x) c.take.ensures.taken
+    (c.into_result.ensures.result end e)

@@ -1,9 +1,33 @@
-use Rattle.std.proofs.Common.{◌≡◌, true, false, sym, ◌∙◌}
+use Rattle.std.proofs.Common.{◌≡◌, true, false, sym, ◌∙◌, arith}
+use Rattle.std.proofs.lemmas.Bool.{ltb-false}
 use Rattle.s7_client.specs.Checks.{check_items}
-use Rattle.s7_client.proofs.StartLemmas.{read_many_begins}
+use Rattle.s7_client.proofs.CheckLemmas.{items_checked}
+use Rattle.s7_client.proofs.GroupLemmas.{groups_cut}
+use Rattle.s7_client.proofs.StartLemmas.{many_few, starts_asking, read_many_can}
 use Rattle.s7_client.proofs.starting.read_many.Goals as goal
+
+pub asking-requires-clause-few : goal.asking-requires-clause-few
+asking-requires-clause-few c =
+    let items = c.args.items.now in
+    let pdu = c.args.granted.now.pdu in
+    let told =
+    items_checked items true pdu false (sym c.check_items-check.ensures.check ∙ c.if-check-ne-GOOD.false) in
+    many_few items pdu false c.grouped.result
+    (c.grouped.ensures
+    ∙ groups_cut pdu false items _ told.4 (c.check_items-check.ensures.ends c.if-check-ne-GOOD.false)) told.4
+    (ltb-false _ _ told.0)
+    (omega (arith, ltb-false _ _ told.0, c.octet_count_of.ensures.count, c.octet_count_of.ensures.most))
 
 pub returns : goal.returns
 returns c =
-    let good : check_items c.args.items.now true c.args.granted.now.pdu false ≡ 0 = sym c.check_items-check.ensures.check ∙ c.if-check-ne-GOOD.false in
-    read_many_begins c.args.items.now c.args.granted.now c.octet_count_of.result c.ask_groups.result c.requires.most good c.octet_count_of.ensures.count c.ask_groups.ensures
+    let items = c.args.items.now in
+    let pdu = c.args.granted.now.pdu in
+    let good : check_items items true pdu false ≡ 0 =
+    sym c.check_items-check.ensures.check ∙ c.if-check-ne-GOOD.false in
+    let told = items_checked items true pdu false good in
+    starts_asking _ c.args.granted.now false c.grouped.result _ _ _ _
+    (c.grouped.ensures
+    ∙ groups_cut pdu false items _ told.4 (c.check_items-check.ensures.ends c.if-check-ne-GOOD.false))
+    (read_many_can items c.args.granted.now c.asking.result.octets c.asking.result.codes c.requires good
+    (c.asking.ensures.octets ∙ c.octet_count_of.ensures.count) c.asking.ensures.codes)
+    c.requires c.asking.ensures.stage

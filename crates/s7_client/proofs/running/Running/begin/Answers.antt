@@ -1,8 +1,11 @@
-use Rattle.s7_client.proofs.StartLemmas.{begun}
+use Rattle.std.proofs.Common.{sym, ◌∙◌}
+use Rattle.s7_client.proofs.StartLemmas.{begun, filled_new}
 use Rattle.s7_client.proofs.running.Running.begin.Goals as goal
 
-pub returns-in-Ok-clause-begins : goal.returns-in-Ok-clause-begins
-returns-in-Ok-clause-begins c =
-    let both = begun c.args.job c.args.granted c.start_of-stage.result.stage c.start_of-stage.result.room c.args.config.now c.in-Ok.found c.new-in-Ok.result
-    c.start_of-stage.ensures c.in-Ok.ensures.0 c.in-Ok.ensures.1 c.new-in-Ok.ensures in
-    record { next = both.0; goes_on = both.1 }
+pub returns-clause-begins : goal.returns-clause-begins
+returns-clause-begins c =
+    begun _ c.args.granted c.start_of-stage.result.octets c.start_of-stage.result.codes c.start_of-stage.ensures
+    (filled_new c.resize.result c.start_of-stage.result.octets _ c.new-found.result.items c.resize.new.self.items
+    (sym c.is_err.ensures.value ∙ c.if-is_err.false) c.resize.ensures.items c.new-found.ensures.items
+    c.new-found.ensures.len)
+    c.new.ensures

@@ -1,30 +1,37 @@
-use Rattle.s7_client.specs.Left.{groups_left}
-use Rattle.s7_client.proofs.FollowLemmas.{refused_follows, answered_follows}
-use Rattle.s7_client.proofs.ReadyLemmas.{can_send_rest, room_left, moved_ready}
+use Rattle.std.proofs.Common.{length, refl, sym, ap, ◌∙◌}
+use Rattle.s7_client.specs.declared.running.Stage.TheVariants as stage
+use Rattle.s7_client.specs.Stages.{is_ready}
+use Rattle.s7_client.proofs.UnputLemmas.{few_unput}
+use Rattle.s7_client.proofs.FollowLemmas.{follows_at, conducts_at}
+use Rattle.s7_client.proofs.ReachLemmas.{reached_waiting, reached_end}
 use Rattle.s7_client.proofs.running.Running.go_on.Goals as goal
 
-pub returns-in-Some-clause-follows : goal.returns-in-Some-clause-follows
-returns-in-Some-clause-follows c = λ config granted answers x h tells.
-    refused_follows c.end.new.self config granted answers x c.args.self.now.job c.args.self.now.found c.args.self.now.codes c.is_alone-alone.result c.args.write c.args.is_first _ _ c.in-Some.number c.number_by-code.result
-    c.end.ensures.job (c.end.ensures.ends config) c.end.ensures.over c.is_alone-alone.ensures
-    (c.in-Some.ensures c.args.write x tells) c.number_by-code.ensures h
+pub returns-then-is_empty-clause-reached : goal.returns-then-is_empty-clause-reached
+returns-then-is_empty-clause-reached c = λ config granted course follows same none.
+    let r = c.args.self.now in
+    reached_end r c.settle.new.self config granted c.in-Asking.asking c.ask_on-last.new.self course
+    c.ask_on-last.result c.is_empty.result
+    c.in-Asking.is
+    (c.ask_on-last.ensures.asks config granted r.job r.found.items r.codes course
+    (conducts_at r c.in-Asking.asking config granted course.rows c.in-Asking.is follows) same)
+    none c.is_empty.ensures c.if-is_empty.true c.ask_on-last.ensures.all
+    (λ rows done conducts. c.settle.ensures.settles config granted rows done
+    (follows_at _ c.ask_on-last.new.self config granted rows refl conducts))
+    c.settle.ensures.over
 
-pub next_place-next-requires : goal.next_place-next-requires
-next_place-next-requires c =
-    room_left c.args.self.now.job c.args.write c.args.from c.args.items.now (groups_left c.args.left) c.octets_of.result.now c.requires.sendable c.octets_of.ensures
+pub returns-else-is_empty-clause-reached : goal.returns-else-is_empty-clause-reached
+returns-else-is_empty-clause-reached c = λ config granted course follows same none.
+    let r = c.args.self.now in
+    reached_waiting r _ config granted c.in-Asking.asking c.ask_on-last.new.self course c.ask_on-last.result
+    c.is_empty.result
+    c.in-Asking.is refl refl refl refl
+    (c.ask_on-last.ensures.asks config granted r.job r.found.items r.codes course
+    (conducts_at r c.in-Asking.asking config granted course.rows c.in-Asking.is follows) same)
+    none c.is_empty.ensures c.if-is_empty.false
 
-pub invariant_of-self : goal.invariant_of-self
-invariant_of-self c = record {
-  ready =
-      moved_ready c.args.self.now.job c.args.write (groups_left c.args.left) c.next_place-next.result _ c.ask-self.result
-      (can_send_rest c.args.self.now.job c.args.write c.args.from c.next_place-next.result c.args.items.now (groups_left c.args.left) c.requires.sendable c.next_place-next.ensures) c.ask-self.ensures;
-}
-
-pub returns-clause-follows : goal.returns-clause-follows
-returns-clause-follows c = λ config granted answers x h tells.
-    let both = answered_follows config granted answers x c.args.self.now.job c.args.self.now.found c.gather_octets.new.found c.args.self.now.codes c.gather_codes.new.codes
-    c.is_alone-alone.result c.args.write c.args.is_first c.args.items.now (groups_left c.args.left) c.args.from c.next_place-next.result c.ask-self.result c.refusal_of.result
-    c.is_alone-alone.ensures c.in_default.is (c.refusal_of.ensures c.args.write x tells) c.next_place-next.ensures h
-    (c.gather_octets.ensures.octets c.args.write x tells) (c.gather_octets.ensures.most c.args.write x tells) c.gather_octets.ensures.room
-    (c.gather_codes.ensures.codes c.args.write x tells) (c.gather_codes.ensures.most c.args.write x tells) c.ask-self.ensures in
-    record { next = both.0; goes_on = both.1 }
+pub returns-else-is_empty-clause-few : goal.returns-else-is_empty-clause-few
+returns-else-is_empty-clause-few c = λ config size least.
+    let r = c.args.self.now in
+    few_unput config size r.job (length r.found.items) (stage.Asking c.ask_on-last.new.self) least
+    (c.ask_on-last.ensures.ready r.job (length r.found.items)
+    (ap (is_ready r.job (length r.found.items)) (sym c.in-Asking.is) ∙ r.ready))

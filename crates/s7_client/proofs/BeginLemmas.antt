@@ -1,0 +1,226 @@
+-- Laws of jobs that begin: the client stands at the beginning of the course.
+use Rattle.std.proofs.Common.{◌≡◌, ℕ, ◌-◌, List, [], ◌++◌, length, drop, map, refl, ap, sym, ◌∙◌, subst, arith}
+use Rattle.std.specs.Prelude.{Option}
+use Rattle.std.proofs.lemmas.List.{append-nil, nil_from_length, length-drop}
+use Rattle.s7_wire.specs.Sent.{sent_messages}
+use Rattle.s7_client.specs.declared.config.Config.{Config}
+use Rattle.s7_client.specs.declared.job.Job.{Job}
+use Rattle.s7_client.specs.declared.grant.Grant.{Grant}
+use Rattle.s7_client.specs.declared.grant.Leaves.{Leaves}
+use Rattle.s7_client.specs.declared.asking.Asking.{Asking}
+use Rattle.s7_client.specs.declared.flight.Flight.{Flight}
+use Rattle.s7_client.specs.declared.talk.Talk.{Talk}
+use Rattle.s7_client.specs.declared.running.Running.{Running}
+use Rattle.s7_client.specs.declared.running.Stage.{Stage}
+use Rattle.s7_client.specs.declared.running.Stage.TheVariants as stage
+use Rattle.s7_client.specs.Flight.{open_count}
+use Rattle.s7_client.specs.Dialogue.{End, First, nothing, connect_request, disconnect_request, Plan, silent, over, plan_of}
+use Rattle.s7_client.specs.Course.{Origin, Course, for_confirm, for_departure, for_nothing, blank, begun, by_first, conduct_of, asking, asked_on, connect_octets, disconnect_octets}
+use Rattle.s7_client.specs.Stages.{message_of}
+use Rattle.s7_client.specs.Running.{awaited_in, awaited_by, unput_of, unput_by, conduct_in, Begins, BeginsAt, Reached, Follows, IsOver, IsOpening, IsAsking, IsLeaving}
+use Rattle.s7_client.specs.At.{StartsAt, BeginsTalk, pending}
+use Rattle.s7_client.proofs.FlightLemmas.{asks_on}
+use Rattle.s7_client.proofs.PacketLemmas.{IsSettled, asking_settled, conduct_same, follows_as, not_opening, not_leaving}
+
+-- ---- what is begun
+
+plan_same : (done done' : Job) (config config' : Config) (granted : Option Grant) → done ≡ done' → config' ≡ config
+    → plan_of done' config' granted ≡ plan_of done config granted
+plan_same done done' config config' granted a b = ap (λ (x : Config). plan_of done' x granted) b
+    ∙ ap (λ x. plan_of x config granted) (sym a)
+
+pub begun_by : (origin : Origin) (plan : Plan) → plan_of origin.job origin.config origin.granted ≡ plan
+    → begun origin ≡ by_first origin.config plan.conduct (blank origin) plan.first
+unfolding begun
+begun_by origin plan e = ap (λ (x : Plan). by_first origin.config x.conduct (blank origin) x.first) e
+
+begun_first : (origin : Origin) (first : First) → (plan_of origin.job origin.config origin.granted).first ≡ first
+    → begun origin ≡ by_first origin.config (conduct_of origin) (blank origin) first
+unfolding begun
+begun_first origin first e = ap (by_first origin.config (conduct_of origin) (blank origin)) e
+
+pub silent_asked : (origin : Origin) (end : End)
+    → asking (silent end) (blank origin) ≡ record (blank origin) { awaits = for_nothing end [] }
+unfolding asked_on open_count
+silent_asked origin end = refl
+
+starts_as : (origin : Origin) (c : Course) (t : Talk) (r : Running) → begun origin ≡ c → StartsAt origin c t r
+    → StartsAt origin (begun origin) t r
+starts_as origin c t r e h = subst (λ x. StartsAt origin x t r) (sym e) h
+
+begins_as : (r : Running) (config : Config) (granted : Option Grant) (s : Stage) → r.stage ≡ s
+    → Begins r config granted → BeginsAt r config granted s
+begins_as r config granted s is h = subst (BeginsAt r config granted) is h
+
+pending_one : (config : Config) (size : ℕ) (t : Talk) (r : Running) (octets : List ℕ) → t.outbox.unsent ≡ octets
+    → unput_of config t.size r ≡ [] → octets ≡ pending config t r
+pending_one config size t r octets put none = sym (append-nil octets)
+    ∙ (ap (λ x. octets ++ x) (sym none) ∙ ap (λ x. x ++ unput_of config t.size r) (sym put))
+
+-- ---- a connect
+
+starts_opening : (origin : Origin) (t t' : Talk) (r : Running) (config : Config) → origin.config ≡ config
+    → r.job ≡ origin.job → t.size ≡ (blank origin).size → t.sequence ≡ (blank origin).sequence
+    → r.stage ≡ stage.Opening → Begins r config origin.granted → t'.outbox.unsent ≡ connect_octets config
+    → t'.size ≡ t.size → t'.sequence ≡ t.sequence
+    → StartsAt origin (begun origin) t' r
+starts_opening origin t t' r config ec ej size sequence is begins put size' sequence' =
+    let first : (plan_of origin.job origin.config origin.granted).first ≡ connect_request =
+    ap (λ (x : Plan). x.first) (plan_same r.job origin.job config origin.config origin.granted ej ec)
+    ∙ begins_as r config origin.granted stage.Opening is begins in
+    starts_as origin (record (blank origin) { out = connect_octets origin.config; awaits = for_confirm }) t' r
+    (begun_first origin connect_request first) (record {
+      size = size' ∙ size;
+      sequence = sequence' ∙ sequence;
+      awaits = ap (awaited_by r.found.items r.codes []) (sym is);
+      opens = λ h. (first, refl);
+      follows = λ h. absurd (subst IsAsking is h);
+      departs = λ h. absurd (subst IsLeaving is h);
+      out = pending_one origin.config t'.size t' r (connect_octets origin.config) (put ∙ ap connect_octets (sym ec))
+          (ap (unput_by origin.config t'.size r.job) is);
+    })
+
+pub begins_opening : (config : Config) (t t' : Talk) (r : Running) → r.stage ≡ stage.Opening
+    → t'.outbox.unsent ≡ connect_octets config → t'.size ≡ t.size → t'.sequence ≡ t.sequence → t'.joiner ≡ t.joiner
+    → BeginsTalk config t r t' r
+begins_opening config t t' r is put size sequence joiner = record {
+  starts = λ origin ec ej size' sequence' begins. starts_opening origin t t' r config ec ej size' sequence' is begins
+      put size sequence;
+  few = omega (arith, ap length put);
+  quiet = λ h. absurd (subst IsOver is h);
+  size = size;
+  joiner = joiner;
+  job = refl;
+}
+
+-- ---- a disconnect
+
+starts_leaving : (origin : Origin) (t t' : Talk) (r : Running) (config : Config) → origin.config ≡ config
+    → r.job ≡ origin.job → t.size ≡ (blank origin).size → t.sequence ≡ (blank origin).sequence
+    → r.stage ≡ stage.Leaving → Begins r config origin.granted → t'.outbox.unsent ≡ disconnect_octets
+    → t'.size ≡ t.size → t'.sequence ≡ t.sequence
+    → StartsAt origin (begun origin) t' r
+starts_leaving origin t t' r config ec ej size sequence is begins put size' sequence' =
+    let first : (plan_of origin.job origin.config origin.granted).first ≡ disconnect_request =
+    ap (λ (x : Plan). x.first) (plan_same r.job origin.job config origin.config origin.granted ej ec)
+    ∙ begins_as r config origin.granted stage.Leaving is begins in
+    starts_as origin (record (blank origin) { out = disconnect_octets; awaits = for_departure }) t' r
+    (begun_first origin disconnect_request first) (record {
+      size = size' ∙ size;
+      sequence = sequence' ∙ sequence;
+      awaits = ap (awaited_by r.found.items r.codes []) (sym is);
+      opens = λ h. absurd (subst IsOpening is h);
+      follows = λ h. absurd (subst IsAsking is h);
+      departs = λ h. first;
+      out = pending_one origin.config t'.size t' r disconnect_octets put (ap (unput_by origin.config t'.size r.job) is);
+    })
+
+pub begins_leaving : (config : Config) (t t' : Talk) (r : Running) → r.stage ≡ stage.Leaving
+    → t'.outbox.unsent ≡ disconnect_octets → t'.size ≡ t.size → t'.sequence ≡ t.sequence → t'.joiner ≡ t.joiner
+    → BeginsTalk config t r t' r
+begins_leaving config t t' r is put size sequence joiner = record {
+  starts = λ origin ec ej size' sequence' begins. starts_leaving origin t t' r config ec ej size' sequence' is begins
+      put size sequence;
+  few = omega (arith, ap length put);
+  quiet = λ h. absurd (subst IsOver is h);
+  size = size;
+  joiner = joiner;
+  job = refl;
+}
+
+-- ---- a job that is over at once
+
+starts_over : (origin : Origin) (t t' : Talk) (r : Running) (config : Config) (code : ℕ) (leaves : Leaves)
+    → origin.config ≡ config → r.job ≡ origin.job → t.size ≡ (blank origin).size
+    → t.sequence ≡ (blank origin).sequence → r.stage ≡ stage.Over code leaves → Begins r config origin.granted
+    → t'.outbox.unsent ≡ [] → t'.size ≡ t.size → t'.sequence ≡ t.sequence
+    → StartsAt origin (begun origin) t' r
+starts_over origin t t' r config code leaves ec ej size sequence is begins put size' sequence' =
+    let end : End = record { code = code; octets = r.found.items; codes = r.codes; leaves = leaves } in
+    let plan : plan_of origin.job origin.config origin.granted ≡ over end =
+    plan_same r.job origin.job config origin.config origin.granted ej ec
+    ∙ begins_as r config origin.granted (stage.Over code leaves) is begins in
+    starts_as origin (record (blank origin) { awaits = for_nothing end [] }) t' r (begun_by origin (over end) plan
+    ∙ silent_asked origin end) (record {
+      size = size' ∙ size;
+      sequence = sequence' ∙ sequence;
+      awaits = ap (awaited_by r.found.items r.codes []) (sym is);
+      opens = λ h. absurd (subst IsOpening is h);
+      follows = λ h. absurd (subst IsAsking is h);
+      departs = λ h. absurd (subst IsLeaving is h);
+      out = pending_one origin.config t'.size t' r [] put (ap (unput_by origin.config t'.size r.job) is);
+    })
+
+pub begins_over : (config : Config) (t t' : Talk) (r : Running) (code : ℕ) (leaves : Leaves)
+    → r.stage ≡ stage.Over code leaves → t'.outbox.unsent ≡ [] → t'.size ≡ t.size → t'.sequence ≡ t.sequence
+    → t'.joiner ≡ t.joiner → BeginsTalk config t r t' r
+begins_over config t t' r code leaves is put size sequence joiner = record {
+  starts = λ origin ec ej size' sequence' begins. starts_over origin t t' r config code leaves ec ej size' sequence' is
+      begins put size sequence;
+  few = omega (arith, ap length put);
+  quiet = λ h. put;
+  size = size;
+  joiner = joiner;
+  job = refl;
+}
+
+-- ---- questions
+
+none_unput : (config : Config) (size : ℕ) (done : Job) (a : Asking) → a.unput ≡ 0
+    → unput_by config size done (stage.Asking a) ≡ []
+none_unput config size done a none =
+    let all : List Flight = a.flights.items in
+    ap (λ x. sent_messages size (map (message_of config done) x))
+    (nil_from_length (drop (length all - a.unput) all) (omega (arith, none, length-drop (length all - a.unput) all)))
+
+starts_asking : (origin : Origin) (t t' : Talk) (r r' : Running) (config : Config) (a : Asking) (last : ℕ)
+    → origin.config ≡ config → r.job ≡ origin.job → t.size ≡ (blank origin).size
+    → t.sequence ≡ (blank origin).sequence → r.stage ≡ stage.Asking a → Begins r config origin.granted
+    → ((before : Course) → Follows r config origin.granted before.rows → before.sequence ≡ t.sequence
+    → unput_of config before.size r ≡ []
+    → Reached config origin.granted before (asking (conduct_in r config origin.granted) before) r' last)
+    → t'.outbox.unsent ≡ [] → t'.size ≡ t.size → t'.sequence ≡ last → r'.job ≡ r.job
+    → StartsAt origin (begun origin) t' r'
+starts_asking origin t t' r r' config a last ec ej size sequence is begins reached put size' sequence' done =
+    let granted = origin.granted in
+    let first = blank origin in
+    let h = begins_as r config granted (stage.Asking a) is begins in
+    let nothing_first : (plan_of origin.job origin.config granted).first ≡ nothing = ap (λ (x : Plan). x.first)
+    (plan_same r.job origin.job config origin.config granted ej ec) ∙ h.0 in
+    let same = conduct_same r.job origin.job config origin.config granted granted ej (sym ec) refl in
+    let k = reached first h.2 (sym sequence) (ap (unput_by config first.size r.job) is
+    ∙ none_unput config first.size r.job a h.1) in
+    let c = asking (conduct_in r config granted) first in
+    let asks = conduct_in r config granted in
+    let keeps = asks_on asks.width asks first in
+    let is_settled : IsSettled (awaited_in r' []) = subst IsSettled k.awaits
+    (asking_settled (conduct_in r config granted) first) in
+    starts_as origin c t' r' (begun_first origin nothing nothing_first ∙ ap (λ x. asking x first) (sym same)) (record {
+      size = size' ∙ (size ∙ sym keeps.size);
+      sequence = sequence' ∙ k.sequence;
+      awaits = k.awaits;
+      opens = λ h. absurd (not_opening r'.found.items r'.codes [] r'.stage is_settled h);
+      follows = λ h. follows_as r' config origin.config granted granted c.rows ec refl (k.follows h);
+      departs = λ h. absurd (not_leaving r'.found.items r'.codes [] r'.stage is_settled h);
+      out =
+          k.out
+          ∙ (ap (λ n. unput_of config n r') (sym (size' ∙ size))
+          ∙ (ap (λ (x : Config). unput_of x t'.size r') (sym ec)
+          ∙ ap (λ x. x ++ unput_of origin.config t'.size r') (sym put)));
+    })
+
+pub begins_asking : (config : Config) (t t' : Talk) (r r' : Running) (a : Asking) (last : ℕ) → r.stage ≡ stage.Asking a
+    → ((granted : Option Grant) (before : Course) → Follows r config granted before.rows → before.sequence ≡ t.sequence
+    → unput_of config before.size r ≡ []
+    → Reached config granted before (asking (conduct_in r config granted) before) r' last)
+    → t'.outbox.unsent ≡ [] → t'.size ≡ t.size → t'.sequence ≡ last → t'.joiner ≡ t.joiner → r'.job ≡ r.job
+    → BeginsTalk config t r t' r'
+begins_asking config t t' r r' a last is reached put size sequence joiner done = record {
+  starts = λ origin ec ej size' sequence' begins. starts_asking origin t t' r r' config a last ec ej size' sequence' is
+      begins (reached origin.granted) put size sequence done;
+  few = omega (arith, ap length put);
+  quiet = λ h. put;
+  size = size;
+  joiner = joiner;
+  job = done;
+}

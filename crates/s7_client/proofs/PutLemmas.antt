@@ -1,0 +1,218 @@
+-- Laws of telegrams that are put: nothing more is to be sent than before.
+use Rattle.std.proofs.Common.{◌≡◌, ◌⊎◌, inl, inr, ℕ, zero, suc, ◌+◌, ◌-◌, ◌*◌, ◌<◌, ◌≤◌, min, List, [], ◌++◌, length, ap, sym, ◌∙◌, subst, arith, length-append}
+use Rattle.std.specs.Prelude.{Option}
+use Rattle.std.specs.List.{flat_map}
+use Rattle.s7_outer.specs.Shown.{Shown}
+use Rattle.s7_cotp.specs.Gathered.{is_fault}
+use Rattle.s7_cotp.specs.Pairs.{pairs_of, pairs_from, fragments_of}
+use Rattle.s7_wire.specs.Bounds.{limit_of_size, most_packets}
+use Rattle.s7_wire.specs.Sent.{fragment_octets, sent_message}
+use Rattle.s7_client.specs.declared.config.Config.{Config}
+use Rattle.s7_client.specs.declared.grant.Grant.{Grant}
+use Rattle.s7_client.specs.declared.talk.Talk.{Talk}
+use Rattle.s7_client.specs.declared.running.Running.{Running}
+use Rattle.s7_client.specs.declared.running.Stage.{Stage}
+use Rattle.s7_client.specs.declared.running.Stage.TheVariants as stage
+use Rattle.s7_client.specs.declared.line.Line.{Line}
+use Rattle.s7_client.specs.declared.under_way.UnderWay.{UnderWay}
+use Rattle.s7_client.specs.declared.steps.Step.{Step}
+use Rattle.s7_client.specs.Flight.{Row}
+use Rattle.s7_client.specs.Running.{awaited_in, unput_of, Follows, IsOver, IsOpening, IsAsking, IsLeaving, answers_left}
+use Rattle.s7_client.specs.Course.{Origin, Course, course}
+use Rattle.s7_client.specs.At.{IsAt, IsClear, LeavesOpen, Puts, messages_left, pending, unfinished_of}
+use Rattle.s7_client.specs.Standing.{Stands, Fits, IsBetween, IsStep, unsent}
+use Rattle.s7_client.proofs.PacketLemmas.{asking_awaits, one_is_none, over_not_asking}
+use Rattle.s7_client.proofs.StepLemmas.{left_over}
+
+-- the stage is the same, or both ask
+abbrev AreAlike : Stage → Stage → Type 0
+AreAlike s s' = (s' ≡ s) ⊎ (IsAsking s × IsAsking s')
+
+alike : (config : Config) (t t' : Talk) (r r' : Running) → Puts config t r t' r' → AreAlike r.stage r'.stage
+alike config t t' r r' p = elim p.same [ inl h ↦ inl (ap (λ (x : Running). x.stage) h.1) | inr h ↦ inr h ]
+
+-- a job has what no job that asks has before a telegram is put where it has it then, and has it still
+back : (P : Stage → Type 0) → ((s : Stage) → P s → IsAsking s → ⊥) → (s s' : Stage) → AreAlike s s' → P s' → P s
+back P apart s s' (inl e) h = subst P e h
+back P apart s s' (inr a) h = absurd (apart s' h a.1)
+
+forth : (P : Stage → Type 0) → ((s : Stage) → P s → IsAsking s → ⊥) → (s s' : Stage) → AreAlike s s' → P s → P s'
+forth P apart s s' (inl e) h = subst P (sym e) h
+forth P apart s s' (inr a) h = absurd (apart s h a.0)
+
+opening_not_asking : (s : Stage) → IsOpening s → IsAsking s → ⊥
+opening_not_asking stage.Opening h a = a
+opening_not_asking (stage.Asking asked) h a = h
+opening_not_asking stage.Leaving h a = h
+opening_not_asking (stage.Over code leaves) h a = h
+
+leaving_not_asking : (s : Stage) → IsLeaving s → IsAsking s → ⊥
+leaving_not_asking stage.Opening h a = h
+leaving_not_asking (stage.Asking asked) h a = h
+leaving_not_asking stage.Leaving h a = a
+leaving_not_asking (stage.Over code leaves) h a = h
+
+open_not_asking : (s : Stage) → LeavesOpen s → IsAsking s → ⊥
+open_not_asking s h a = over_not_asking s (left_over s h) a
+
+asking_back : (s s' : Stage) → AreAlike s s' → IsAsking s' → IsAsking s
+asking_back s s' (inl e) h = subst IsAsking e h
+asking_back s s' (inr a) h = a.0
+
+same_messages : (s s' : Stage) → AreAlike s s' → answers_left s' ≡ answers_left s → messages_left s' ≡ messages_left s
+same_messages s s' (inl e) same = ap messages_left e
+same_messages s s' (inr a) same =
+    omega (arith, one_is_none s (asking_awaits s a.0), one_is_none s' (asking_awaits s' a.1), same)
+
+-- ---- where the client stands
+
+at_put : (origin : Origin) (c : Course) (t t' : Talk) (u : UnderWay) (r : Running) (config : Config)
+    → origin.config ≡ config → Puts config t u.running t' r → IsAt origin c t u
+    → IsAt origin c t' (record u { running = r })
+at_put origin c t t' u r config ec p at =
+    let s = u.running.stage in
+    let same = alike config t t' u.running r p in
+    record {
+      job = p.job ∙ at.job;
+      size = p.size ∙ at.size;
+      sequence = p.sequence ∙ at.sequence;
+      unfinished = λ h. ap unfinished_of p.joiner
+          ∙ at.unfinished (λ o. h (forth IsOver over_not_asking s r.stage same o));
+      awaits = at.awaits ∙ sym (p.awaits u.carried.octets);
+      opens = λ h. at.opens (back IsOpening opening_not_asking s r.stage same h);
+      follows = λ h.
+          let before = subst (λ (k : Config). Follows u.running k origin.granted c.rows) ec
+          (at.follows (asking_back s r.stage same h)) in
+          subst (λ (k : Config). Follows r k origin.granted c.rows) (sym ec) (p.follows origin.granted c.rows before);
+      departs = λ h. at.departs (back IsLeaving leaving_not_asking s r.stage same h);
+      silent = λ h. at.silent (λ o. h (forth IsOver over_not_asking s r.stage same o));
+    }
+
+stands_put : (origin : Origin) (l : Line) (t : Talk) (u : UnderWay) (r : Running) (b w : List ℕ) (config : Config)
+    → origin.config ≡ config → Puts config l.talk u.running t r
+    → Stands origin l u b w → Stands origin (record l { talk = t }) (record u { running = r }) b w
+stands_put origin l t u r b w config ec p s = record {
+  at = at_put origin (course origin b) l.talk t u r config ec p s.at;
+  owed = s.owed ∙ ap (λ x. w ++ x)
+      (sym (subst (λ (k : Config). pending k t r ≡ pending k l.talk u.running) (sym ec) p.pending));
+  rest = λ h. s.rest (λ o. h
+      (forth IsOver over_not_asking u.running.stage r.stage (alike config l.talk t u.running r p) o));
+  sent_first = s.sent_first;
+  all_awaited = s.all_awaited;
+}
+
+-- ---- what fits
+
+between_put : (config : Config) (l : Line) (t : Talk) (r r' : Running) → Puts config l.talk r t r' → IsBetween l
+    → t.outbox.unsent ≡ unsent l → IsBetween (record l { talk = t })
+between_put config l t r r' p h same = record {
+  held = h.held;
+  limit = h.limit ∙ ap limit_of_size (sym p.size);
+  clear = subst IsClear (sym p.joiner) h.clear;
+  sent = same ∙ h.sent;
+}
+
+unsent_by : (config : Config) (t t' : Talk) (r r' : Running) → ((t'.outbox.unsent ≡ t.outbox.unsent) × (r' ≡ r))
+    ⊎ (IsAsking r.stage × IsAsking r'.stage) → IsOver r'.stage
+    → t'.outbox.unsent ≡ t.outbox.unsent
+unsent_by config t t' r r' (inl h) over = h.0
+unsent_by config t t' r r' (inr a) over = absurd (over_not_asking r'.stage over a.1)
+
+pub fits_put : (config : Config) (l : Line) (t : Talk) (u : UnderWay) (r : Running) → Puts config l.talk u.running t r
+    → Fits l u → Fits (record l { talk = t }) (record u { running = r })
+fits_put config l t u r p f =
+    let s = u.running.stage in
+    let same = alike config l.talk t u.running r p in
+    let going : (IsOver r.stage → ⊥) → IsOver s → ⊥ = λ h o. h (forth IsOver over_not_asking s r.stage same o) in
+    record {
+      going = λ h. ap (λ x. is_fault x.state) p.joiner ∙ f.going (going h);
+      more = λ h. f.more (going h);
+      limit = λ h. f.limit (going h);
+      opening = λ h. subst IsClear (sym p.joiner) (f.opening (back IsOpening opening_not_asking s r.stage same h));
+      between = λ h.
+          let over = left_over r.stage h in
+          between_put config l t u.running r p (f.between (back LeavesOpen open_not_asking s r.stage same h))
+          (unsent_by config l.talk t u.running r p.same over);
+      many = λ h. omega (arith, f.many (going h), ap (λ x. x.count) p.joiner);
+      few = p.few f.few;
+      quiet = λ h. unsent_by config l.talk t u.running r p.same h
+          ∙ f.quiet (back IsOver over_not_asking s r.stage same h);
+      carried = f.carried;
+    }
+
+-- ---- a step after it
+
+less_put : (n n' count count' held out out' now : ℕ) → n' ≡ n → count' ≡ count → out' ≡ out
+    → now < (n' * 533000 - (count' * 8200 + held)) * 16384 + out'
+    → now < (n * 533000 - (count * 8200 + held)) * 16384 + out
+less_put n n' count count' held out out' now a b c h = omega (arith, a, b, c, h)
+
+pub step_put : (l l' : Line) (t : Talk) (u u' : UnderWay) (r : Running) (link link' : Shown) (config : Config)
+    (granted : Option Grant) (result : Step) → Puts config l.talk u.running t r
+    → IsStep (record l { talk = t }) (record u { running = r }) link l' u' link' config granted result
+    → IsStep l u link l' u' link' config granted result
+step_put l l' t u u' r link link' config granted result p k = record {
+  moves = k.moves;
+  fits = k.fits;
+  left = k.left;
+  waited = k.waited;
+  stood = λ origin b w ec eg s h. k.stood origin b w ec eg (stands_put origin l t u r b w config ec p s) h;
+  less = λ e. less_put (messages_left u.running.stage) (messages_left r.stage) l.talk.joiner.count t.joiner.count
+      (length l.cutter.held)
+      (length (pending config l.talk u.running)) (length (pending config t r)) _
+      (same_messages u.running.stage r.stage (alike config l.talk t u.running r p) p.as_many)
+      (ap (λ x. x.count) p.joiner) (ap length p.pending) (k.less e);
+  not_yet = k.not_yet;
+  met = λ origin b w ec eg s e. k.met origin b w ec eg (stands_put origin l t u r b w config ec p s) e;
+  over = k.over;
+  cause = λ origin b w ec eg s e. k.cause origin b w ec eg (stands_put origin l t u r b w config ec p s) e;
+}
+
+-- ---- what is put
+
+some_fragment : (message : List ℕ) (place : ℕ × ℕ) → 0 < length (fragment_octets message place)
+some_fragment message place = omega arith
+
+some_fragments : (n room from to : ℕ) (message : List ℕ) → 0 < n
+    → 0 < length (flat_map (fragment_octets message) (pairs_from n room from to))
+some_fragments zero room from to message some = absurd (omega (arith, some))
+some_fragments (suc n) room from to message some =
+    let end = min (from + room) to in
+    let rest = flat_map (fragment_octets message) (pairs_from n room end to) in
+    omega (arith, length-append (fragment_octets message (from, end)) rest, some_fragment message (from, end))
+
+-- every message takes octets
+sent_some : (message : List ℕ) (size : ℕ) → 0 < length (sent_message size message)
+unfolding pairs_of
+sent_some message size =
+    let n = length message in
+    let room = size - 3 in
+    some_fragments (fragments_of n room) room 0 n message (omega arith)
+
+pub puts_telegram : (config : Config) (t t' : Talk) (r r' : Running) (message : List ℕ) → t.outbox.unsent ≡ []
+    → t'.outbox.unsent ≡ sent_message t.size message
+    → length (sent_message t.size message) ≤ most_packets
+    → ((size : ℕ) → unput_of config size r ≡ sent_message size message ++ unput_of config size r') → IsAsking r.stage
+    → IsAsking r'.stage
+    → t'.size ≡ t.size → t'.sequence ≡ t.sequence → t'.joiner ≡ t.joiner
+    → ((granted : Option Grant) (rows : List Row) → Follows r config granted rows → Follows r' config granted rows)
+    → ((carried : List ℕ) → awaited_in r' carried ≡ awaited_in r carried)
+    → answers_left r'.stage ≡ answers_left r.stage → r'.job ≡ r.job
+    → Puts config t r t' r'
+puts_telegram config t t' r r' message none put few unput asks asks' size sequence joiner follows awaits as_many
+    done = record {
+      pending =
+          ap (λ x. x ++ unput_of config t'.size r') put
+          ∙ (ap (λ n. sent_message t.size message ++ unput_of config n r') size
+          ∙ (sym (unput t.size) ∙ ap (λ x. x ++ unput_of config t.size r) (sym none)));
+      none = λ empty. absurd (omega (arith, ap length (sym put ∙ empty), sent_some message t.size));
+      few = λ h. omega (arith, few, ap length put);
+      size = size;
+      sequence = sequence;
+      joiner = joiner;
+      same = inr (asks, asks');
+      follows = follows;
+      awaits = awaits;
+      as_many = as_many;
+      job = done;
+    }

@@ -1,0 +1,27 @@
+use Rattle.std.proofs.Common.{refl, ap}
+use Rattle.s7_client.proofs.BeginLemmas.{begins_opening, begins_asking, begins_leaving, begins_over}
+use Rattle.s7_client.proofs.talk.Talk.begin.Goals as goal
+
+pub returns-in-Opening : goal.returns-in-Opening
+returns-in-Opening c =
+    begins_opening c.args.config.now c.args.self.now c.put_connect.new.self c.args.running.now c.in-Opening.is
+    c.put_connect.ensures.unsent
+    c.put_connect.ensures.size c.put_connect.ensures.sequence c.put_connect.ensures.joiner
+
+pub returns-in-Asking : goal.returns-in-Asking
+returns-in-Asking c =
+    begins_asking c.args.config.now c.args.self.now _ c.args.running.now c.go_on-self.new.self c.in-Asking.field-0
+    c.go_on-self.result c.in-Asking.is
+    (c.go_on-self.ensures.reached c.args.config.now) (ap (λ x. x.unsent) c.clear.ensures) refl refl refl
+    c.go_on-self.ensures.job
+
+pub returns-in-Leaving : goal.returns-in-Leaving
+returns-in-Leaving c =
+    begins_leaving c.args.config.now c.args.self.now c.put_disconnect.new.self c.args.running.now c.in-Leaving.is
+    c.put_disconnect.ensures.unsent
+    c.put_disconnect.ensures.size c.put_disconnect.ensures.sequence c.put_disconnect.ensures.joiner
+
+pub returns-in-Over : goal.returns-in-Over
+returns-in-Over c =
+    begins_over c.args.config.now c.args.self.now _ c.args.running.now c.in-Over.code c.in-Over.leaves c.in-Over.is
+    (ap (λ x. x.unsent) c.clear.ensures) refl refl refl

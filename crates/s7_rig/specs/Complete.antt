@@ -1,0 +1,46 @@
+-- Which jobs of a rig come off.
+use Rattle.std.specs.Prelude.{◌≡◌, ◌≢◌, ℕ, true, false, ◌==◌, List, [], ◌∷◌, length}
+use Rattle.s7_item.specs.declared.item.Item.{Item}
+use Rattle.s7_item.specs.Item.{octet_count}
+use Rattle.s7_area.specs.Guards.{is_read_barred, is_write_barred}
+use Rattle.s7_area.specs.Memory.{Memory, place_code}
+use Rattle.s7_client.specs.declared.job.Job.{Job}
+use Rattle.s7_client.specs.declared.job.Job.TheVariants as job
+use Rattle.s7_client.specs.declared.job.JobResult.{JobResult}
+use Rattle.s7_client.specs.Checks.{check_item, check_items, octet_count_of}
+use Rattle.s7_client.specs.Codes.{no_fault, timed_out}
+
+-- the item stands in the areas
+abbrev pub IsThere : Memory → Item → Type 0
+IsThere m item = place_code m item ≡ 0xFF
+
+-- The job can be asked with telegrams of this PDU, and where it reads or writes one item, that stands in the areas and
+-- wants no password. Of several items each has a code of its own, and the job comes off whatever these are.
+abbrev pub CanComeOff : Memory → ℕ → Job → Type 0
+CanComeOff m pdu job.Connect = Unit {0}
+CanComeOff m pdu (job.ReadArea item) =
+    (check_item item true ≡ no_fault) × IsThere m item × (is_read_barred m.guard false ≡ false)
+CanComeOff m pdu (job.WriteArea item octets) =
+    (check_item item (length octets == octet_count item) ≡ no_fault) × IsThere m item
+    × (is_write_barred m.guard false ≡ false)
+CanComeOff m pdu (job.ReadMany items) = check_items items true pdu false ≡ no_fault
+CanComeOff m pdu (job.WriteMany items octets) =
+    check_items items (length octets == octet_count_of items) pdu true ≡ no_fault
+CanComeOff m pdu job.Disconnect = Unit {0}
+
+abbrev pub IsNoDisconnect : Job → Type 0
+IsNoDisconnect job.Connect = Unit {0}
+IsNoDisconnect (job.ReadArea item) = Unit {0}
+IsNoDisconnect (job.WriteArea item octets) = Unit {0}
+IsNoDisconnect (job.ReadMany items) = Unit {0}
+IsNoDisconnect (job.WriteMany items octets) = Unit {0}
+IsNoDisconnect job.Disconnect = ⊥
+
+-- The results of a client, in order: up to the first that met its last poll, and up to a disconnect, each job that can
+-- come off has code 0.
+unfoldable pub AllComeOff : Memory → ℕ → List JobResult → Type 0
+AllComeOff m pdu [] = Unit {0}
+AllComeOff m pdu (told ∷ results) =
+    told.code ≢ timed_out
+    → (CanComeOff m pdu told.job → told.code ≡ no_fault)
+    × (IsNoDisconnect told.job → AllComeOff m pdu results)

@@ -1,0 +1,33 @@
+-- What a client's write of items asks of the plant, and the codes that it is answered with.
+use Rattle.std.specs.Prelude.{ℕ, Bool, List, [], ◌∷◌, take, drop, IsSome}
+use Rattle.std.specs.List.{AllByRecursion}
+use Rattle.s7_item.specs.declared.item.Item.{Item}
+use Rattle.s7_item.specs.declared.places.DataPlace.{DataPlace}
+use Rattle.s7_item.specs.Item.{octet_count}
+use Rattle.s7_item.specs.Word.{size_of}
+use Rattle.s7_item.specs.DataItem.{data_octets}
+use Rattle.s7_item.specs.DataLaws.{places_of}
+use Rattle.s7_area.specs.Memory.{Memory, write_code}
+use Rattle.s7_plant.specs.declared.request.Request.{Request}
+use Rattle.s7_plant.specs.declared.request.Request.TheVariants.{Write}
+use Rattle.s7_client.specs.Question.{written}
+
+-- the words of these items are known
+abbrev pub AreKnown : List Item → Type 0
+AreKnown items = AllByRecursion (λ (item : Item). IsSome (size_of item.word)) items
+
+-- the data of a write, the places of the items' octets there, and what it asks
+abbrev pub own_data : List Item → List ℕ → List ℕ
+own_data items octets = data_octets (written items octets)
+
+abbrev pub own_places : List Item → List ℕ → List DataPlace
+own_places items octets = places_of 0 (written items octets)
+
+abbrev pub own_write : List Item → List ℕ → Request
+own_write items octets = Write items (own_places items octets) (own_data items octets)
+
+-- the code of each item with its own of the octets
+abbrev pub own_codes : Memory → Bool → List Item → List ℕ → List ℕ
+own_codes m right [] octets = []
+own_codes m right (item ∷ items) octets =
+    write_code m right item (take (octet_count item) octets) ∷ own_codes m right items (drop (octet_count item) octets)
