@@ -2,9 +2,9 @@
 use Rattle.std.proofs.Common.{refl, codes}
 use Rattle.s7_words.specs.Fields.{port, journal}
 use Rattle.s7_words.specs.Server.{pipe_line, serve_line, links}
-use Rattle.s7_words.specs.Tool.{run_line, kind, rack, slot, pdu, polls, rig_line, seed, steps}
+use Rattle.s7_words.specs.Tool.{run_line, kind, rack, slot, pdu, polls, jobs, rig_line, seed, steps, gen_line, made_from}
 use Rattle.s7_words.proofs.Commands.{ReadsNumber, number_or_is}
-use Rattle.s7_words.proofs.Lines.{pipe_is, serve_is, run_is, rig_is}
+use Rattle.s7_words.proofs.Lines.{pipe_is, serve_is, run_is, rig_is, gen_is}
 
 pub port_is : ReadsNumber (codes "run") run_line run_is port 16 1 65535 102
 port_is = number_or_is (codes "run") run_line run_is port 16 1 65535 102 refl refl refl refl
@@ -23,6 +23,9 @@ pdu_is = number_or_is (codes "run") run_line run_is pdu 16 64 960 480 refl refl 
 
 pub polls_is : ReadsNumber (codes "run") run_line run_is polls 32 1 4294967295 50
 polls_is = number_or_is (codes "run") run_line run_is polls 32 1 4294967295 50 refl refl refl refl
+
+pub jobs_is : ReadsNumber (codes "run") run_line run_is jobs 16 1 8 1
+jobs_is = number_or_is (codes "run") run_line run_is jobs 16 1 8 1 refl refl refl refl
 
 pub journal_is : ReadsNumber (codes "pipe") pipe_line pipe_is journal 64 1 262144 65536
 journal_is = number_or_is (codes "pipe") pipe_line pipe_is journal 64 1 262144 65536 refl refl refl refl
@@ -47,3 +50,9 @@ rig_pdu_is = number_or_is (codes "rig") rig_line rig_is pdu 16 64 960 480 refl r
 
 pub rig_journal_is : ReadsNumber (codes "rig") rig_line rig_is journal 64 1 262144 65536
 rig_journal_is = number_or_is (codes "rig") rig_line rig_is journal 64 1 262144 65536 refl refl refl refl
+
+pub rig_jobs_is : ReadsNumber (codes "rig") rig_line rig_is jobs 16 1 8 1
+rig_jobs_is = number_or_is (codes "rig") rig_line rig_is jobs 16 1 8 1 refl refl refl refl
+
+pub made_from_is : ReadsNumber (codes "gen") gen_line gen_is made_from 32 0 4294967295 0
+made_from_is = number_or_is (codes "gen") gen_line gen_is made_from 32 0 4294967295 0 refl refl refl refl

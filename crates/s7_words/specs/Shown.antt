@@ -1,13 +1,13 @@
 -- Commands as contracts see them: their texts in the place of the references to them.
 use Rattle.std.specs.Prelude.{◌≤◌, map, option_map}
 use Rattle.s7_words.specs.Server.{ServerTold, pipe, serve}
-use Rattle.s7_words.specs.Tool.{RunTold, RigTold, ToolTold, run, rig}
+use Rattle.s7_words.specs.Tool.{RunTold, RigTold, ToolTold, gen, run, rig}
 use Rattle.s7_words.specs.declared.rig_words.RigWords.{RigWords}
 use Rattle.s7_words.specs.declared.run_words.RunWords.{RunWords}
 use Rattle.s7_words.specs.declared.server.ServerWords.{ServerWords}
 use Rattle.s7_words.specs.declared.server.ServerWords.TheVariants.{Pipe, Serve}
 use Rattle.s7_words.specs.declared.tool.ToolWords.{ToolWords}
-use Rattle.s7_words.specs.declared.tool.ToolWords.TheVariants.{Run, Rig}
+use Rattle.s7_words.specs.declared.tool.ToolWords.TheVariants.{Run, Rig, Gen}
 
 abbrev pub server_told_of : ServerWords → ServerTold
 server_told_of (Pipe areas save journal) = pipe areas.now (option_map (λ s. s.now) save) journal
@@ -38,6 +38,7 @@ run_told_of r = record {
   slot = r.slot;
   pdu = r.pdu;
   polls = r.polls;
+  jobs = r.jobs;
 }
 
 abbrev pub rig_told_of : RigWords → RigTold
@@ -49,8 +50,10 @@ rig_told_of r = record {
   steps = r.steps;
   pdu = r.pdu;
   journal = r.journal;
+  jobs = r.jobs;
 }
 
 abbrev pub tool_told_of : ToolWords → ToolTold
 tool_told_of (Run r) = run (run_told_of r)
 tool_told_of (Rig r) = rig (rig_told_of r)
+tool_told_of (Gen seed) = gen seed

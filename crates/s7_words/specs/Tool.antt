@@ -4,9 +4,9 @@ use Rattle.std.specs.Prelude.{Option, Some, None, option_map, option_and_then, i
 use Rattle.std.specs.List.{list_all, slice_split}
 use Rattle.std.specs.Str.{bytes_eq}
 use Rattle.s7_words.specs.Line.{Text, Field, Line, Given, given_by, is_number, number_of, value_of, values_of}
-use Rattle.s7_words.specs.Fields.{operand, operands, text, number, areas, port, journal, text_or, number_or}
+use Rattle.s7_words.specs.Fields.{operand, operands, numeral, text, number, areas, port, journal, text_or, number_or}
 
--- how a script is run: against which controller, over which connection, with how many polls
+-- how a script is run: against which controller, over which connection, with how many polls and parallel jobs
 pub record RunTold : Type 0 where
   pub script : Text
   pub host : Text
@@ -16,9 +16,10 @@ pub record RunTold : Type 0 where
   pub slot : ℕ
   pub pdu : ℕ
   pub polls : ℕ
+  pub jobs : ℕ
 
 -- how scripts are run together: on which areas, in which turns, over which connections, with how
--- large a journal
+-- large a journal and how many parallel jobs
 pub record RigTold : Type 0 where
   pub areas : Text
   pub scripts : List Text
@@ -27,11 +28,13 @@ pub record RigTold : Type 0 where
   pub steps : ℕ
   pub pdu : ℕ
   pub journal : ℕ
+  pub jobs : ℕ
 
 -- a command with its operands and options
 pub data ToolTold : Type 0 where
   run : RunTold → ToolTold
   rig : RigTold → ToolTold
+  gen : (seed : ℕ) → ToolTold
 
 -- ---- run SCRIPT, with these options
 
@@ -56,10 +59,14 @@ pdu = number (codes "pdu") 64 960
 abbrev pub polls : Field
 polls = number (codes "polls") 1 4294967295
 
+-- how many parallel jobs are asked for
+abbrev pub jobs : Field
+jobs = number (codes "jobs") 1 8
+
 abbrev pub run_line : Line
 run_line = record {
   operands = script ∷ [];
-  options = host ∷ port ∷ kind ∷ rack ∷ slot ∷ pdu ∷ polls ∷ [];
+  options = host ∷ port ∷ kind ∷ rack ∷ slot ∷ pdu ∷ polls ∷ jobs ∷ [];
 }
 
 abbrev pub run_of : Given → ToolTold
@@ -72,6 +79,7 @@ run_of given = run (record {
   slot = number_or given slot 2;
   pdu = number_or given pdu 480;
   polls = number_or given polls 50;
+  jobs = number_or given jobs 1;
 })
 
 -- ---- rig AREAS SCRIPT.., with these options
@@ -91,7 +99,7 @@ steps = number (codes "steps") 0 1000000
 abbrev pub rig_line : Line
 rig_line = record {
   operands = areas ∷ scripts ∷ [];
-  options = turns ∷ seed ∷ steps ∷ pdu ∷ journal ∷ [];
+  options = turns ∷ seed ∷ steps ∷ pdu ∷ journal ∷ jobs ∷ [];
 }
 
 abbrev pub most_scripts : ℕ
@@ -128,6 +136,7 @@ rig_with given paths order = rig (record {
   steps = number_or given steps 0;
   pdu = number_or given pdu 480;
   journal = number_or given journal 65536;
+  jobs = number_or given jobs 1;
 })
 
 abbrev pub rig_of : Given → Option ToolTold
@@ -137,6 +146,18 @@ rig_of given =
     then option_map (rig_with given paths) (turns_or_none (actors paths) (value_of given turns.name))
     else None
 
+-- ---- gen N
+
+-- the number that all is made from
+abbrev pub made_from : Field
+made_from = numeral (codes "N") 0 4294967295
+
+abbrev pub gen_line : Line
+gen_line = record { operands = made_from ∷ []; options = [] }
+
+abbrev pub gen_of : Given → ToolTold
+gen_of given = gen (number_or given made_from 0)
+
 -- ---- all commands
 
 -- the command that the words name, or nothing where they are usage
@@ -144,4 +165,5 @@ abbrev pub tool_words : List Text → Option ToolTold
 tool_words [] = None
 tool_words (name ∷ rest) =
     if bytes_eq name (codes "run") then option_map run_of (given_by run_line rest)
-    else (if bytes_eq name (codes "rig") then option_and_then rig_of (given_by rig_line rest) else None)
+    else (if bytes_eq name (codes "rig") then option_and_then rig_of (given_by rig_line rest)
+    else (if bytes_eq name (codes "gen") then option_map gen_of (given_by gen_line rest) else None))

@@ -2,7 +2,7 @@
 ghost use Rattle.std.specs.Prelude.{◌≡◌, ◌≢◌, IfOk, IfSome, IfNone, IsErrAnd, Ok, false};
 ghost use Rattle.clap.specs.Words.{app_of, kind_of, rule_of};
 ghost use Rattle.s7_words.specs.Built.{operand_rule, option_rule, without_help};
-ghost use Rattle.s7_words.specs.Fields.{operand, operands, text, number};
+ghost use Rattle.s7_words.specs.Fields.{numeral, operand, operands, text, number};
 
 use clap::builder::ValueParser;
 use clap::error::ErrorKind;
@@ -35,15 +35,32 @@ pub(crate) fn operands<'a>(alloc: Global, name: &'a str) -> Arg<'a>
         .action(ArgAction::Append)
 }
 
+/// An operand of a number from `low` to `high`, which has to be there.
+pub(crate) fn numeral<'a>(alloc: Global, name: &'a str, low: u64, high: u64) -> Arg<'a>
+    ensures rule { rule_of result ≡ operand_rule (numeral name.entry.now low high) }
+    ensures local { result.global ≡ false }
+{
+    Arg::new(alloc, name)
+        .required(true)
+        .value_parser(number_parser(low, high))
+}
+
 /// An option of a number from `low` to `high`.
 pub(crate) fn number<'a>(alloc: Global, name: &'a str, low: u64, high: u64) -> Arg<'a>
     ensures rule { rule_of result ≡ option_rule (number name.entry.now low high) }
     ensures local { result.global ≡ false }
 {
-    // the parsers of the signed and the small types would take `-0`
     Arg::new(alloc, name)
         .long(name)
-        .value_parser(ValueParser::Unsigned(low, high))
+        .value_parser(number_parser(low, high))
+}
+
+// The parser of a number from `low` to `high`.
+fn number_parser<'a>(low: u64, high: u64) -> ValueParser<'a>
+    ensures { result ≡ ValueParser.Unsigned low high }
+{
+    // those of the signed and the small types would take `-0`
+    ValueParser::Unsigned(low, high)
 }
 
 /// An option of any text.

@@ -17,3 +17,5 @@ pub use tool::{ToolWords, read_tool_words};
 
 #[cfg(test)]
 mod tests;
+#[cfg(test)]
+mod tool_tests;

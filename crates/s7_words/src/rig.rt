@@ -42,6 +42,7 @@ pub(crate) fn read_rig<'a>(
         steps: matches.get_one::<u32>("steps").unwrap_or(0),
         pdu: matches.get_one::<u16>("pdu").unwrap_or(480),
         journal: matches.get_one::<u64>("journal").unwrap_or(65_536),
+        jobs: matches.get_one::<u16>("jobs").unwrap_or(1),
     };
     Ok(Some(ToolWords::Rig(rig)))
 }
@@ -56,5 +57,6 @@ fn rig_command<'a>(alloc: Global) -> Result<Command<'a>, AllocError>
         .arg(number(alloc, "seed", 0, 4_294_967_295))?
         .arg(number(alloc, "steps", 0, 1_000_000))?
         .arg(number(alloc, "pdu", 64, 960))?
-        .arg(number(alloc, "journal", 1, 262_144))
+        .arg(number(alloc, "journal", 1, 262_144))?
+        .arg(number(alloc, "jobs", 1, 8))
 }

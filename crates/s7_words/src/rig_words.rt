@@ -19,6 +19,8 @@ pub struct RigWords<'a> {
     pub pdu: u16,
     /// `--journal`, how many entries the journal takes, 1 to 262,144: 65,536 where it isn't given.
     pub journal: u64,
+    /// `--jobs`, the number of parallel jobs that is asked for, 1 to 8: 1 where it isn't given.
+    pub jobs: u16,
     ghost least_scripts: { 1 ≤ vec_len scripts },
     ghost most_scripts: { vec_len scripts ≤ 1024 },
     ghost actors: { All (λ turn. turn < 2 * vec_len scripts) turns.items },
@@ -27,4 +29,6 @@ pub struct RigWords<'a> {
     ghost most_pdu: { pdu ≤ 960 },
     ghost least_journal: { 1 ≤ journal },
     ghost most_journal: { journal ≤ 262144 },
+    ghost least_jobs: { 1 ≤ jobs },
+    ghost most_jobs: { jobs ≤ 8 },
 }

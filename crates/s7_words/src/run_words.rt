@@ -20,6 +20,8 @@ pub struct RunWords<'a> {
     pub pdu: u16,
     /// `--polls`, the number of polls, 1 to 4,294,967,295: 50 where it isn't given.
     pub polls: u32,
+    /// `--jobs`, the number of parallel jobs that is asked for, 1 to 8: 1 where it isn't given.
+    pub jobs: u16,
     ghost least_port: { 1 ≤ port },
     ghost least_kind: { 1 ≤ kind },
     ghost most_kind: { kind ≤ 3 },
@@ -28,4 +30,6 @@ pub struct RunWords<'a> {
     ghost least_pdu: { 64 ≤ pdu },
     ghost most_pdu: { pdu ≤ 960 },
     ghost least_polls: { 1 ≤ polls },
+    ghost least_jobs: { 1 ≤ jobs },
+    ghost most_jobs: { jobs ≤ 8 },
 }

@@ -3,10 +3,10 @@ ghost use Rattle.std.specs.Prelude.{◌≡◌, IfOk, codes, drop, map, option_ma
 ghost use Rattle.clap.specs.Words.{app_of};
 ghost use Rattle.s7_words.specs.Built.{app_by};
 ghost use Rattle.s7_words.specs.Line.{given_by};
-ghost use Rattle.s7_words.specs.Tool.{run_line, run_of, tool_words};
+ghost use Rattle.s7_words.specs.Tool.{gen_line, gen_of, run_line, run_of, tool_words};
 ghost use Rattle.s7_words.specs.Shown.{tool_told_of};
 
-use crate::command::{accepted, bare, number, operand, text};
+use crate::command::{accepted, bare, number, numeral, operand, text};
 use crate::rig::read_rig;
 use crate::{RigWords, RunWords};
 use clap::Command;
@@ -16,13 +16,16 @@ use std::alloc::{AllocError, Global};
 /// A command of the tool with its operands and options.
 #[derive(Debug, PartialEq, Eq, Drop)]
 pub enum ToolWords<'a> {
-    /// `run SCRIPT [--host HOST] [--port N] [--type N] [--rack N] [--slot N] [--pdu N] [--polls N]`:
-    /// runs a script against a controller. The fields of `RunWords` have the ranges and defaults.
+    /// `run SCRIPT [--host HOST] [--port N] [--type N] [--rack N] [--slot N] [--pdu N] [--polls N]
+    /// [--jobs N]`: runs a script against a controller. The fields of `RunWords` have the ranges and
+    /// defaults.
     Run(RunWords<'a>),
-    /// `rig AREAS SCRIPT... [--turns LIST] [--seed N] [--steps N] [--pdu N] [--journal N]`: runs
-    /// scripts together, on one set of areas. LIST is one or more numbers, joined by `,`. The fields
-    /// of `RigWords` have the ranges and defaults.
+    /// `rig AREAS SCRIPT... [--turns LIST] [--seed N] [--steps N] [--pdu N] [--journal N] [--jobs N]`:
+    /// runs scripts together, on one set of areas. LIST is one or more numbers, joined by `,`. The
+    /// fields of `RigWords` have the ranges and defaults.
     Rig(RigWords<'a>),
+    /// `gen N`: makes areas and scripts from N, 0 to 4,294,967,295, and runs them together.
+    Gen(u32),
 }
 
 /// The command that the words name, or `None` where they are usage: where there are none, where the
@@ -44,6 +47,7 @@ pub fn read_tool_words<'a>(
     match *name {
         "run" => read_run(alloc, words),
         "rig" => read_rig(alloc, words),
+        "gen" => read_gen(alloc, words),
         _ => Ok(None),
     }
 }
@@ -64,6 +68,7 @@ fn read_run<'a>(alloc: Global, words: &'a [&'a str]) -> Result<Option<ToolWords<
         slot: matches.get_one::<u8>("slot").unwrap_or(2),
         pdu: matches.get_one::<u16>("pdu").unwrap_or(480),
         polls: matches.get_one::<u32>("polls").unwrap_or(50),
+        jobs: matches.get_one::<u16>("jobs").unwrap_or(1),
     };
     Ok(Some(ToolWords::Run(run)))
 }
@@ -79,5 +84,23 @@ fn run_command<'a>(alloc: Global) -> Result<Command<'a>, AllocError>
         .arg(number(alloc, "rack", 0, 7))?
         .arg(number(alloc, "slot", 0, 31))?
         .arg(number(alloc, "pdu", 64, 960))?
-        .arg(number(alloc, "polls", 1, 4_294_967_295))
+        .arg(number(alloc, "polls", 1, 4_294_967_295))?
+        .arg(number(alloc, "jobs", 1, 8))
+}
+
+fn read_gen<'a>(alloc: Global, words: &'a [&'a str]) -> Result<Option<ToolWords<'a>>, Memory>
+    ensures { IfOk result (λ r. option_map tool_told_of r
+        ≡ option_map gen_of (given_by gen_line (drop 1 (map (λ w. w.now) words.entry.now)))) }
+{
+    let Some(matches) = accepted(gen_command(alloc)?.try_get_matches_from(words))? else {
+        return Ok(None);
+    };
+    let seed = matches.get_one::<u32>("N").unwrap_or(0);
+    Ok(Some(ToolWords::Gen(seed)))
+}
+
+fn gen_command<'a>(alloc: Global) -> Result<Command<'a>, AllocError>
+    ensures { IfOk result (λ c. app_of c ≡ app_by (codes "gen") gen_line) }
+{
+    bare(alloc, "gen").arg(numeral(alloc, "N", 0, 4_294_967_295))
 }

@@ -3,7 +3,6 @@ use Rattle.std.proofs.Common.{◌≡◌, ◌∙◌, ℕ, ◌+◌, ◌<◌, refl,
 use Rattle.std.proofs.Common.{drop, length, map, slice_index_or, take}
 use Rattle.std.specs.Prelude.{IsTrue}
 use Rattle.std.proofs.lemmas.List.{drop_more, map-append, take-append-drop}
-use Rattle.s7_outer.specs.Count.{Rose}
 use Rattle.s7_outer.specs.FilesShown.{FilesShown}
 use Rattle.s7_outer.specs.Files.{IsCutFrom}
 use Rattle.s7_script.specs.Loading.{LeavesFiles}
@@ -12,7 +11,7 @@ use Rattle.s7_script.specs.declared.script_list.ScriptLine.{ScriptLine}
 use Rattle.s7tool.specs.declared.load.LoadFault.{LoadFault}
 use Rattle.s7tool.specs.declared.load.LoadFault.TheVariants as fault
 use Rattle.s7tool.specs.Loading.{IsRefusedFor, IsUnloaded, KeepsPaths, ReadsScript}
-use Rattle.s7tool.specs.Scripts.{AddsScript, ReadsBefore, ReadsScripts, StopsAt}
+use Rattle.s7tool.specs.Scripts.{AddsScript, ReadsScripts, StopsAt}
 
 -- ---- paths that are kept
 

@@ -1,5 +1,5 @@
 -- What a rig gives, and how it ended.
-use Rattle.std.proofs.Common.{◌≡◌, ◌⊎◌, refl, inr, List, ℕ, map, Option, None, Some, Result, Ok, Err}
+use Rattle.std.proofs.Common.{◌≡◌, refl, inr, List, ℕ, map, None, Some, Result, Ok, Err}
 use Rattle.std.specs.Prelude.{All, IfOk, IsSomeAnd}
 use Rattle.std.proofs.lemmas.List.Elements.{All-weaker}
 use Rattle.s7_outer.specs.FilesShown.{FilesShown}
@@ -20,6 +20,9 @@ use Rattle.s7tool.specs.declared.ended.Ended.{Ended}
 use Rattle.s7tool.specs.declared.ended.Ended.TheVariants as ended
 use Rattle.s7tool.specs.declared.load.LoadFault.{LoadFault}
 use Rattle.s7tool.specs.declared.load.LoadFault.TheVariants as fault
+use Rattle.s7tool.specs.Drawn.{made_scripts}
+use Rattle.s7tool.specs.Gen.{GenEnds, made_areas, made_config, made_turning}
+use Rattle.s7tool.specs.GenText.{are_made_good, made_text}
 use Rattle.s7tool.specs.Loading.{IsRefusedFor, RefusesScript, refusal_line}
 use Rattle.s7tool.specs.Report.{Printed, PrintsText, TellsFault}
 use Rattle.s7tool.specs.RigText.{ArePrintable, are_clients_good, rig_text}
@@ -103,3 +106,20 @@ module _ (told : RigTold) (old new : FilesShown) (out out' : OutShown) where
     rigged ended.Refused opened read ran printed = absurd printed
     rigged ended.File opened read ran printed = absurd printed
     rigged ended.Dial opened read ran printed = absurd printed
+
+-- the rig of a seed ran
+module _ (seed : ℕ) (out out' : OutShown) (rig : RigEnd) where
+  abbrev RanSeed : Type 0
+  RanSeed = RigRan made_areas 65536 made_config (made_scripts seed) (made_turning seed) (end_told rig)
+
+  abbrev PrintsMade : Ended → Type 0
+  PrintsMade how = PrintsText (made_text (end_told rig)) (are_made_good (end_told rig).clients) out out' how
+
+  pub seed_rigged : (how : Ended) → RanSeed → PrintsMade how → GenEnds seed out out' (Some rig) how
+  seed_rigged ended.Done ran printed = record { ran = ran; printed = printed }
+  seed_rigged ended.Jobs ran printed = record { ran = ran; printed = printed }
+  seed_rigged ended.Output ran printed = record { ran = ran; printed = printed }
+  seed_rigged ended.Memory ran printed = absurd printed
+  seed_rigged ended.Refused ran printed = absurd printed
+  seed_rigged ended.File ran printed = absurd printed
+  seed_rigged ended.Dial ran printed = absurd printed

@@ -45,3 +45,8 @@ pub all_mapped : {A B C D : Type 0} (p : C × D → Bool) (f : A → C) (g : B �
 all_mapped p f g [] ys = refl
 all_mapped p f g (x ∷ xs) [] = refl
 all_mapped p f g (x ∷ xs) (y ∷ ys) = ap (λ b. p (f x, g y) && b) (all_mapped p f g xs ys)
+
+pub all_told : {A C : Type 0} (p : C → Bool) (f : A → C) (xs : List A)
+    → list_all (λ (x : A). p (f x)) xs ≡ list_all p (map f xs)
+all_told p f [] = refl
+all_told p f (x ∷ xs) = ap (λ b. p (f x) && b) (all_told p f xs)

@@ -9,20 +9,19 @@ use Rattle.s7_words.specs.Tool.{RigTold, RunTold, ToolTold, tool_words}
 abbrev pub command_of : List (Bor (List ℕ)) → Option ToolTold
 command_of words = tool_words (map (λ w. w.now) words)
 
--- how the client of `run` connects: the calling TSAP 0100, the called one of kind, rack and slot, and one job at a time
+-- how the client of `run` connects: the calling TSAP 0100, and the called one of kind, rack and slot
 abbrev pub config_by : RunTold → Config
 config_by told = record {
   calling = 0x0100;
   called = told.kind * 256 + told.rack * 32 + told.slot;
   pdu = told.pdu;
-  jobs = 1;
+  jobs = told.jobs;
   polls = told.polls;
 }
 
--- how the clients of `rig` connect: as programming devices to rack 0 and slot 2, with one job at a time and 1,000,000
--- polls each
-abbrev pub rig_config : ℕ → Config
-rig_config pdu = record { calling = 0x0100; called = 0x0102; pdu = pdu; jobs = 1; polls = 1000000 }
+-- how the clients of a rig connect: as programming devices to rack 0 and slot 2, with 1,000,000 polls each
+abbrev pub rig_config : ℕ → ℕ → Config
+rig_config pdu jobs = record { calling = 0x0100; called = 0x0102; pdu = pdu; jobs = jobs; polls = 1000000 }
 
 -- the turns that `rig` makes
 abbrev pub turning_of : RigTold → Turning

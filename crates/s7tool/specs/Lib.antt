@@ -1,5 +1,9 @@
 pub mod Asked
+pub mod Drawing
+pub mod Drawn
 pub mod End
+pub mod Gen
+pub mod GenText
 pub mod Loading
 pub mod Ran
 pub mod Report

@@ -1,5 +1,5 @@
 -- What the command `run` does.
-use Rattle.std.specs.Prelude.{◌≡◌, ℕ, List, Option, Some, None, IsNone, IsSomeAnd, MatchOption}
+use Rattle.std.specs.Prelude.{◌≡◌, ℕ, List, Option, Some, IsNone, IsSomeAnd, MatchOption}
 use Rattle.s7_outer.specs.Count.{Rose}
 use Rattle.s7_outer.specs.DialShown.{DialShown}
 use Rattle.s7_outer.specs.FilesShown.{FilesShown}

@@ -73,7 +73,7 @@ pub record FailsOneFile (told : RigTold) (old new : FilesShown) (printed : List 
 
 -- a rig ran over these areas, with these jobs of each client, as the words have it
 abbrev pub RanJobs : RigTold → Memory → List (List Job) → EndTold → Type 0
-RanJobs told opening jobs end = RigRan opening told.journal (rig_config told.pdu) jobs (turning_of told) end
+RanJobs told opening jobs end = RigRan opening told.journal (rig_config told.pdu told.jobs) jobs (turning_of told) end
 
 -- A RIG RAN over the areas and the scripts that the words name, which are those of the files where that is told, and
 -- its text was printed

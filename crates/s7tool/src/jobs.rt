@@ -188,7 +188,8 @@ pub(crate) fn all_good(results: &[JobResult]) -> bool
     results.iter().all(|told| is_good(told))
 }
 
-fn is_good(told: &JobResult) -> bool
+/// Whether a result's code is 0.
+pub(crate) fn is_good(told: &JobResult) -> bool
     ensures { result ≡ is_good told.now }
 {
     told.code == 0

@@ -1,9 +1,16 @@
 //! Runs scripts against controllers, and in rigs.
 #![tactic(auto)]
 
+mod draw;
 mod ended;
+mod gen_run;
+#[cfg(test)]
+mod gen_tests;
 mod jobs;
 mod load;
+mod made_areas;
+mod made_report;
+mod made_scripts;
 mod output;
 mod report;
 mod rig_report;

@@ -108,7 +108,8 @@ fn unfinished_line(alloc: Global, link: u32) -> Result<String, AllocError>
     format!(in alloc; "client {link} unfinished\n")
 }
 
-fn journal_line(alloc: Global, entries: u64) -> Result<String, AllocError>
+/// The line of the journal's length.
+pub(crate) fn journal_line(alloc: Global, entries: u64) -> Result<String, AllocError>
     ensures { IfOk result (λ text. string_bytes text ≡ journal_line entries) }
 {
     format!(in alloc; "journal {entries}\n")

@@ -19,7 +19,7 @@ const FILES: [(&str, &str); 3] = [
 
 /// Calls the tool with these words over these files and an output with so much room, and gives what
 /// is left.
-fn rig(
+pub(crate) fn rig(
     alloc: Global,
     words: &str,
     files: &mut MemoryFiles,
@@ -99,6 +99,17 @@ fn a_write_falls_between_two_parts(rt: HostRuntime) -> Result<(), Fail> {
     )?;
     assert_eq!(rt; status, 0);
     assert!(rt; out.text() == text.as_slice());
+    assert!(rt; end.is_some_and(|end| end.clients.len() == 2));
+    Ok(())
+}
+
+#[test]
+fn several_jobs_may_be_asked_for(rt: HostRuntime) -> Result<(), Fail> {
+    let alloc = rt.alloc();
+    let words = "rig areas.txt reader.txt writer.txt --pdu 240 --jobs 2";
+    let (status, end, out) = rig(alloc, words, &mut long_files(alloc)?, ROOM)?;
+    assert_eq!(rt; status, 0);
+    assert!(rt; out.text().ends_with(b"\njournal 4\n"));
     assert!(rt; end.is_some_and(|end| end.clients.len() == 2));
     Ok(())
 }

@@ -24,10 +24,10 @@ use std::alloc::{AllocError, Global};
 
 /// A rig that ran, its text, and whether all went well.
 #[derive(Drop)]
-struct Rigged {
-    end: RigEnd,
-    text: Vec<u8>,
-    is_good: bool,
+pub(crate) struct Rigged {
+    pub end: RigEnd,
+    pub text: Vec<u8>,
+    pub is_good: bool,
 }
 
 /// Loads the areas and the scripts that the words name, runs a client for each script, and prints what
@@ -102,16 +102,17 @@ fn run_jobs(
         seed: words.seed,
         steps: words.steps,
     };
-    let config = rig_config(words.pdu);
+    let config = rig_config(words.pdu, words.jobs);
     run_rig(alloc, areas, words.journal, jobs, config, schedule)
 }
 
-// How the clients connect.
-fn rig_config(pdu: u16) -> Config
-    ensures { result ≡ rig_config pdu }
+/// How the clients connect.
+pub(crate) fn rig_config(pdu: u16, jobs: u16) -> Config
+    ensures { result ≡ rig_config pdu jobs }
 {
     Config {
         pdu,
+        jobs,
         polls: 1_000_000,
         ..Config::new(1, 0, 2)
     }

@@ -77,12 +77,14 @@ fn config_of(words: &RunWords<'_>) -> Config
     ensures value { result ≡ config_by (run_told_of words.now) }
     ensures least_pdu { 64 ≤ result.pdu }
     ensures most_pdu { result.pdu ≤ 960 }
-    ensures jobs { result.jobs ≡ 1 }
+    ensures least_jobs { 1 ≤ result.jobs }
+    ensures most_jobs { result.jobs ≤ 8 }
     ensures polls { 1 ≤ result.polls }
 {
     let usual = Config::new(words.kind, words.rack, words.slot);
     Config {
         pdu: words.pdu,
+        jobs: words.jobs,
         polls: words.polls,
         ..usual
     }

@@ -249,7 +249,10 @@ fn words_are_usage(rt: HostRuntime) -> Result<(), Fail> {
     refuses(&rt, alloc, &["run"], "", 1, USAGE)?;
     refuses(&rt, alloc, &["walk", "a.txt"], "", 1, USAGE)?;
     refuses(&rt, alloc, &["run", "a.txt", "--port", "0"], "", 1, USAGE)?;
-    refuses(&rt, alloc, &["run", "a.txt", "--pdu=63"], "", 1, USAGE)
+    refuses(&rt, alloc, &["run", "a.txt", "--pdu=63"], "", 1, USAGE)?;
+    refuses(&rt, alloc, &["run", "a.txt", "--jobs=9"], "", 1, USAGE)?;
+    refuses(&rt, alloc, &["gen"], "", 1, USAGE)?;
+    refuses(&rt, alloc, &["gen", "seven"], "", 1, USAGE)
 }
 
 #[test]
@@ -300,7 +303,7 @@ const FEWER_GRANTED: &str =
     "0300001611d00001000100c0010ac1020100c2020102 0300001b02f080320300000001000800000000f0000001000100f0";
 
 /// Words, the connect request with the negotiation, and the grant.
-const ASKED: [(&str, &str, &str); 3] = [
+const ASKED: [(&str, &str, &str); 4] = [
     (
         "--type 2 --rack 1 --slot 3",
         "0300001611e00000000100c0010ac1020100c2020223 0300001902f08032010000000100080000f0000001000101e0",
@@ -310,6 +313,11 @@ const ASKED: [(&str, &str, &str); 3] = [
         "--pdu 240",
         "0300001611e00000000100c0010ac1020100c2020102 0300001902f08032010000000100080000f0000001000100f0",
         FEWER_GRANTED,
+    ),
+    (
+        "--jobs 8",
+        "0300001611e00000000100c0010ac1020100c2020102 0300001902f08032010000000100080000f0000008000801e0",
+        GRANTED,
     ),
     (
         "--type=3 --rack=7 --slot=31 --pdu=960",

@@ -10,6 +10,7 @@ ghost use Rattle.s7tool.specs.Statuses as status;
 
 pub use crate::ended::RunEnd;
 use crate::ended::{Ended, ToolEnd};
+use crate::gen_run::run_gen;
 use crate::output::print_line;
 use crate::rigging::run_rigging;
 use crate::script_run::run_script;
@@ -48,7 +49,10 @@ pub const MEMORY: u8 = 9;
 /// connect's as that of line 0. `rig` reads the areas and then the scripts in order, and runs a client
 /// for each script, with a connect before and a disconnect after it, on one book of these areas. What
 /// came of it is printed in the end: of each client its results but the disconnect's, and a line where
-/// not all of its jobs were done; and then the journal's length.
+/// not all of its jobs were done; and then the journal's length. `gen` makes areas and four scripts from
+/// its number, and runs them as `rig` does. It prints of each client how many results but the disconnect's
+/// it has, how many of them have a code other than 0, and how many octets they have; and then the
+/// journal's length, and the sum of the octets that the areas have in the end.
 ///
 /// The status is 1 where the words are no command; 2 where a script or the areas can't be read: a faulty
 /// line, or more than 67,108,864 octets; 3 where a file that the words name failed; 4 where the dial
@@ -59,7 +63,8 @@ pub const MEMORY: u8 = 9;
 ///
 /// No path changes. A run is there exactly where a link was dialled. With status 0 or 6 it has the
 /// result of each job, and with 5 or 9 those of the jobs that were done. Where none is there the dial is
-/// as it was, but for status 4. A rig is there exactly for `rig` with status 0, 5 or 6; it dials nothing.
+/// as it was, but for status 4. A rig is there exactly for `rig` and `gen` with status 0, 5 or 6; these
+/// dial nothing, and `gen` reads no file.
 pub fn tool_main<F: Files, L: Link + Drop, K: Dial<L>, O: Out>(
     alloc: Global,
     words: &[&str],
@@ -116,6 +121,14 @@ pub fn tool_main<F: Files, L: Link + Drop, K: Dial<L>, O: Out>(
         }
         Ok(Some(ToolWords::Rig(words))) => {
             let (ended, rig) = run_rigging(alloc, words, files, out);
+            ToolEnd {
+                status: status_of(ended),
+                rig,
+                run: None,
+            }
+        }
+        Ok(Some(ToolWords::Gen(seed))) => {
+            let (ended, rig) = run_gen(alloc, seed, out);
             ToolEnd {
                 status: status_of(ended),
                 rig,

@@ -5,7 +5,7 @@ use Rattle.s7_words.specs.Fields.{areas}
 use Rattle.s7_words.specs.Tool.{ToolTold, rig, rig_line, rig_of, rig_with, scripts, turns, turns_or_none}
 use Rattle.s7_words.proofs.Commands.{accepted, refused, text_or_is, text_read, texts_read}
 use Rattle.s7_words.proofs.Lines.{rig_is}
-use Rattle.s7_words.proofs.RunLemmas.{seed_is, steps_is, rig_pdu_is, rig_journal_is}
+use Rattle.s7_words.proofs.RunLemmas.{seed_is, steps_is, rig_pdu_is, rig_journal_is, rig_jobs_is}
 use Rattle.s7_words.proofs.RigLemmas.{no_turns, one_script, paths_of, rig_told, same_length, texts_or_none, too_many}
 use Rattle.s7_words.proofs.rig.read_rig.Goals as goal
 
@@ -61,6 +61,7 @@ invariant_of-rig c =
     let steps_read = steps_is _ m read c.get_one-2.result _ c.unwrap_or-3.ensures c.get_one-2.ensures.none c.get_one-2.ensures.value in
     let pdu_read = rig_pdu_is _ m read c.get_one-3.result _ c.unwrap_or-4.ensures c.get_one-3.ensures.none c.get_one-3.ensures.value in
     let journal_read = rig_journal_is _ m read c.get_one-4.result _ c.unwrap_or-5.ensures c.get_one-4.ensures.none c.get_one-4.ensures.value in
+    let jobs_read = rig_jobs_is _ m read c.get_one-5.result _ c.unwrap_or-6.ensures c.get_one-5.ensures.none c.get_one-5.ensures.value in
     record {
       least_scripts = rw (long, count) one;
       most_scripts = rw long most;
@@ -70,6 +71,8 @@ invariant_of-rig c =
       most_pdu = pdu_read.most;
       least_journal = journal_read.least;
       most_journal = journal_read.most;
+      least_jobs = jobs_read.least;
+      most_jobs = jobs_read.most;
     }
 
 pub returns : goal.returns
@@ -92,6 +95,7 @@ returns c =
     let steps_read = steps_is _ m read c.get_one-2.result _ c.unwrap_or-3.ensures c.get_one-2.ensures.none c.get_one-2.ensures.value in
     let pdu_read = rig_pdu_is _ m read c.get_one-3.result _ c.unwrap_or-4.ensures c.get_one-3.ensures.none c.get_one-3.ensures.value in
     let journal_read = rig_journal_is _ m read c.get_one-4.result _ c.unwrap_or-5.ensures c.get_one-4.ensures.none c.get_one-4.ensures.value in
+    let jobs_read = rig_jobs_is _ m read c.get_one-5.result _ c.unwrap_or-6.ensures c.get_one-5.ensures.none c.get_one-5.ensures.value in
     let copied = c.in_ok-to_vec.ensures.items_if_clones_equal (λ x y same. same) in
     let scripts_are = ap (map (λ s. s.now)) copied ∙ paths in
     let told_is : ◌≡◌ {A = ToolTold} _ (rig_with read.given (paths_of read.given) c.in-Some-2.turns.items) = λ i. rig (record {
@@ -102,5 +106,6 @@ returns c =
       steps = steps_read.same i;
       pdu = pdu_read.same i;
       journal = journal_read.same i;
+      jobs = jobs_read.same i;
     }) in
     ap Some told_is ∙ rig_told read.given c.in-Some-2.turns.items (rw (← count) most) (order ∙ λ i. turns_or_none (2 * count i) (given i)) ∙ sym (ap (option_and_then rig_of) read.by_line)

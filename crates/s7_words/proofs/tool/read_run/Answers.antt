@@ -3,7 +3,7 @@ use Rattle.clap.specs.Words.{is_simple_and_free}
 use Rattle.s7_words.specs.Tool.{ToolTold, host, run, run_line, run_of, script}
 use Rattle.s7_words.proofs.Commands.{accepted, refused, text_or_is, text_read}
 use Rattle.s7_words.proofs.Lines.{run_is}
-use Rattle.s7_words.proofs.RunLemmas.{port_is, kind_is, rack_is, slot_is, pdu_is, polls_is}
+use Rattle.s7_words.proofs.RunLemmas.{port_is, kind_is, rack_is, slot_is, pdu_is, polls_is, jobs_is}
 use Rattle.s7_words.proofs.tool.read_run.Goals as goal
 
 pub returns-in_default : goal.returns-in_default
@@ -26,6 +26,7 @@ invariant_of-run c =
     let slot_read = slot_is _ m read c.get_one-4.result _ c.unwrap_or-6.ensures c.get_one-4.ensures.none c.get_one-4.ensures.value in
     let pdu_read = pdu_is _ m read c.get_one-5.result _ c.unwrap_or-7.ensures c.get_one-5.ensures.none c.get_one-5.ensures.value in
     let polls_read = polls_is _ m read c.get_one-6.result _ c.unwrap_or-8.ensures c.get_one-6.ensures.none c.get_one-6.ensures.value in
+    let jobs_read = jobs_is _ m read c.get_one-7.result _ c.unwrap_or-9.ensures c.get_one-7.ensures.none c.get_one-7.ensures.value in
     record {
       least_port = port_read.least;
       least_kind = kind_read.least;
@@ -35,6 +36,8 @@ invariant_of-run c =
       least_pdu = pdu_read.least;
       most_pdu = pdu_read.most;
       least_polls = polls_read.least;
+      least_jobs = jobs_read.least;
+      most_jobs = jobs_read.most;
     }
 
 pub returns : goal.returns
@@ -54,6 +57,7 @@ returns c =
     let slot_read = slot_is _ m read c.get_one-4.result _ c.unwrap_or-6.ensures c.get_one-4.ensures.none c.get_one-4.ensures.value in
     let pdu_read = pdu_is _ m read c.get_one-5.result _ c.unwrap_or-7.ensures c.get_one-5.ensures.none c.get_one-5.ensures.value in
     let polls_read = polls_is _ m read c.get_one-6.result _ c.unwrap_or-8.ensures c.get_one-6.ensures.none c.get_one-6.ensures.value in
+    let jobs_read = jobs_is _ m read c.get_one-7.result _ c.unwrap_or-9.ensures c.get_one-7.ensures.none c.get_one-7.ensures.value in
     let told : ◌≡◌ {A = ToolTold} _ (run_of read.given) = λ i. run (record {
       script = script_is i;
       host = host_is i;
@@ -63,5 +67,6 @@ returns c =
       slot = slot_read.same i;
       pdu = pdu_read.same i;
       polls = polls_read.same i;
+      jobs = jobs_read.same i;
     }) in
     ap Some told ∙ sym (ap (option_map run_of) read.by_line)

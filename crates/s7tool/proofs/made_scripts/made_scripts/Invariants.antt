@@ -1,0 +1,11 @@
+use Rattle.std.proofs.Common.{◌≡◌, ◌-◌, ◌++◌, ◌%◌, map, vec_len}
+use Rattle.s7tool.specs.Drawing.{scripts_at}
+use Rattle.s7tool.proofs.made_scripts.made_scripts.Given as goal
+
+-- the scripts that are left to draw follow those drawn
+abbrev pub invariant-loop : goal.invariant-loop
+invariant-loop l = record {
+  scripts : map (λ s. s.items) l.all.items ++ scripts_at (4 - l.counter) l.draw.x
+      ≡ scripts_at 4 (l.fn.seed % 2147483648);
+  len : vec_len l.all ≡ l.counter;
+}
