@@ -4,6 +4,7 @@ use Rattle.std.specs.Prelude.{◌==◌, ◌&&◌, if◌then◌else◌, IfSome, I
 use Rattle.std.proofs.lemmas.Bool.{eq-eqb}
 use Rattle.s7_header.specs.Header.{header_of}
 use Rattle.s7_header.specs.declared.header.Header.{Header}
+use Rattle.s7_header.specs.declared.header.Kind.{Kind}
 use Rattle.s7_header.specs.declared.header.Kind.TheVariants.{Ack}
 use Rattle.s7_client.specs.declared.answer.Answer.{Answer}
 use Rattle.s7_client.specs.Question.{Question}
@@ -11,23 +12,28 @@ use Rattle.s7_client.specs.Answer as spelled
 use Rattle.s7_client.specs.Answered.{IsTold}
 use Rattle.s7_client.specs.Told.{TellsSome}
 
-pub told_some : (question : Question) (result : Option Answer) (answer : Option spelled.Answer) → IsTold question result answer → IfSome result (λ told. TellsSome question told answer)
+pub told_some : (question : Question) (result : Option Answer) (answer : Option spelled.Answer)
+    → IsTold question result answer → IfSome result (λ told. TellsSome question told answer)
 told_some question None answer told = tt
 told_some question (Some result) answer told = told
 
-pub told_none : (question : Question) (result : Option Answer) (answer : Option spelled.Answer) → IsTold question result answer → IfNone result (answer ≡ None)
+pub told_none : (question : Question) (result : Option Answer) (answer : Option spelled.Answer)
+    → IsTold question result answer → IfNone result (answer ≡ None)
 told_none question None answer told = told
 told_none question (Some result) answer told = tt
 
--- a message with the header of an acknowledgement without data, and the sequence
-refusal_at : (question : Question) (sequence : ℕ) (message : List ℕ) (h : Header) → header_of message ≡ Ok h → h.sequence ≡ sequence → h.kind ≡ Ack
-    → spelled.answer_of question sequence message ≡ (if h.param_len == 0 && h.body_len == 0 then Some (spelled.refuses h.error) else None)
+-- a message with a header of this kind, and the sequence
+pub at_kind : (question : Question) (sequence : ℕ) (message : List ℕ) (h : Header) (kind : Kind)
+    → header_of message ≡ Ok h → h.sequence ≡ sequence → h.kind ≡ kind
+    → spelled.answer_of question sequence message ≡ spelled.by_kind kind question h message
 unfolding spelled.answer_of
-refusal_at question sequence message h read same kind =
+at_kind question sequence message h kind read same is =
     ap (spelled.by_header question sequence message) read
-    ∙ rw (eq-eqb h.sequence sequence same) (ap (λ k. spelled.by_kind k question h message) kind)
+    ∙ rw (eq-eqb h.sequence sequence same) (ap (λ k. spelled.by_kind k question h message) is)
 
-pub refusal_told : (question : Question) (sequence : ℕ) (message : List ℕ) (h : Header) (result : Option Answer) → header_of message ≡ Ok h → h.sequence ≡ sequence → h.kind ≡ Ack
-    → IsTold question result (if h.param_len == 0 && h.body_len == 0 then Some (spelled.refuses h.error) else None) → IsTold question result (spelled.answer_of question sequence message)
+pub refusal_told : (question : Question) (sequence : ℕ) (message : List ℕ) (h : Header) (result : Option Answer)
+    → header_of message ≡ Ok h → h.sequence ≡ sequence → h.kind ≡ Ack
+    → IsTold question result (if h.param_len == 0 && h.body_len == 0 then Some (spelled.refuses h.error) else None)
+    → IsTold question result (spelled.answer_of question sequence message)
 refusal_told question sequence message h result read same kind told =
-    subst (IsTold question result) (sym (refusal_at question sequence message h read same kind)) told
+    subst (IsTold question result) (sym (at_kind question sequence message h Ack read same kind)) told

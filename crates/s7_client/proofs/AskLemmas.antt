@@ -79,7 +79,7 @@ pub past_end : {A : Type 0} (xs : List A) → slice_get (xs ++ []) (length xs) �
 past_end [] = refl
 past_end (x ∷ xs) = past_end xs
 
-may_ask : (less : Bool) (refused : Option (ℕ × ℕ)) (next : Option Question) → less ≡ true → refused ≡ None
+pub may_ask : (less : Bool) (refused : Option (ℕ × ℕ)) (next : Option Question) → less ≡ true → refused ≡ None
     → cond (less && is_none refused) next None ≡ next
 may_ask true None next is unrefused = refl
 may_ask true (Some r) next is unrefused = absurd (cc)

@@ -20,6 +20,7 @@ use Rattle.s7_client.specs.Stages.{message_of}
 use Rattle.s7_client.specs.Running.{awaited_in, awaited_by, unput_of, unput_by, conduct_in, Begins, BeginsAt, Reached, Follows, IsOver, IsOpening, IsAsking, IsLeaving}
 use Rattle.s7_client.specs.At.{StartsAt, BeginsTalk, pending}
 use Rattle.s7_client.proofs.FlightLemmas.{asks_on}
+use Rattle.s7_client.proofs.SingleLemmas.{unasked_unput}
 use Rattle.s7_client.proofs.PacketLemmas.{IsSettled, asking_settled, conduct_same, follows_as, not_opening, not_leaving}
 
 -- ---- what is begun
@@ -173,26 +174,47 @@ none_unput config size done a none =
     ap (λ x. sent_messages size (map (message_of config done) x))
     (nil_from_length (drop (length all - a.unput) all) (omega (arith, none, length-drop (length all - a.unput) all)))
 
-starts_asking : (origin : Origin) (t t' : Talk) (r r' : Running) (config : Config) (a : Asking) (last : ℕ)
+-- the job asks first, and nothing was asked yet
+record AsksFirst (r : Running) (config : Config) (granted : Option Grant) : Type 0 where
+  nothing_first : (plan_of r.job config granted).first ≡ nothing
+  none : (size : ℕ) → unput_of config size r ≡ []
+  follows : Follows r config granted []
+
+asks_first : (r : Running) (config : Config) (granted : Option Grant) (s : Stage) → IsAsking s → r.stage ≡ s
+    → BeginsAt r config granted s → AsksFirst r config granted
+asks_first r config granted stage.Opening asks is begins = absurd asks
+asks_first r config granted (stage.Asking a) asks is begins = record {
+  nothing_first = begins.0;
+  none = λ size. ap (unput_by config size r.job) is ∙ none_unput config size r.job a begins.1;
+  follows = begins.2;
+}
+asks_first r config granted (stage.Single s) asks is begins = record {
+  nothing_first = begins.0;
+  none = λ size. ap (unput_by config size r.job) is ∙ unasked_unput config size r.job s begins.1;
+  follows = begins.2;
+}
+asks_first r config granted stage.Leaving asks is begins = absurd asks
+asks_first r config granted (stage.Over code leaves) asks is begins = absurd asks
+
+starts_asking : (origin : Origin) (t t' : Talk) (r r' : Running) (config : Config) (last : ℕ)
     → origin.config ≡ config → r.job ≡ origin.job → t.size ≡ (blank origin).size
-    → t.sequence ≡ (blank origin).sequence → r.stage ≡ stage.Asking a → Begins r config origin.granted
+    → t.sequence ≡ (blank origin).sequence → IsAsking r.stage → Begins r config origin.granted
     → ((before : Course) → Follows r config origin.granted before.rows → before.sequence ≡ t.sequence
     → unput_of config before.size r ≡ []
     → Reached config origin.granted before (asking (conduct_in r config origin.granted) before) r' last)
     → t'.outbox.unsent ≡ [] → t'.size ≡ t.size → t'.sequence ≡ last → r'.job ≡ r.job
     → StartsAt origin (begun origin) t' r'
-starts_asking origin t t' r r' config a last ec ej size sequence is begins reached put size' sequence' done =
+starts_asking origin t t' r r' config last ec ej size sequence asks begins reached put size' sequence' done =
     let granted = origin.granted in
     let first = blank origin in
-    let h = begins_as r config granted (stage.Asking a) is begins in
+    let h = asks_first r config granted r.stage asks refl begins in
     let nothing_first : (plan_of origin.job origin.config granted).first ≡ nothing = ap (λ (x : Plan). x.first)
-    (plan_same r.job origin.job config origin.config granted ej ec) ∙ h.0 in
+    (plan_same r.job origin.job config origin.config granted ej ec) ∙ h.nothing_first in
     let same = conduct_same r.job origin.job config origin.config granted granted ej (sym ec) refl in
-    let k = reached first h.2 (sym sequence) (ap (unput_by config first.size r.job) is
-    ∙ none_unput config first.size r.job a h.1) in
+    let k = reached first h.follows (sym sequence) (h.none first.size) in
     let c = asking (conduct_in r config granted) first in
-    let asks = conduct_in r config granted in
-    let keeps = asks_on asks.width asks first in
+    let conduct = conduct_in r config granted in
+    let keeps = asks_on conduct.width conduct first in
     let is_settled : IsSettled (awaited_in r' []) = subst IsSettled k.awaits
     (asking_settled (conduct_in r config granted) first) in
     starts_as origin c t' r' (begun_first origin nothing nothing_first ∙ ap (λ x. asking x first) (sym same)) (record {
@@ -209,14 +231,14 @@ starts_asking origin t t' r r' config a last ec ej size sequence is begins reach
           ∙ ap (λ x. x ++ unput_of origin.config t'.size r') (sym put)));
     })
 
-pub begins_asking : (config : Config) (t t' : Talk) (r r' : Running) (a : Asking) (last : ℕ) → r.stage ≡ stage.Asking a
+pub begins_asking : (config : Config) (t t' : Talk) (r r' : Running) (last : ℕ) → IsAsking r.stage
     → ((granted : Option Grant) (before : Course) → Follows r config granted before.rows → before.sequence ≡ t.sequence
     → unput_of config before.size r ≡ []
     → Reached config granted before (asking (conduct_in r config granted) before) r' last)
     → t'.outbox.unsent ≡ [] → t'.size ≡ t.size → t'.sequence ≡ last → t'.joiner ≡ t.joiner → r'.job ≡ r.job
     → BeginsTalk config t r t' r'
-begins_asking config t t' r r' a last is reached put size sequence joiner done = record {
-  starts = λ origin ec ej size' sequence' begins. starts_asking origin t t' r r' config a last ec ej size' sequence' is
+begins_asking config t t' r r' last asks reached put size sequence joiner done = record {
+  starts = λ origin ec ej size' sequence' begins. starts_asking origin t t' r r' config last ec ej size' sequence' asks
       begins (reached origin.granted) put size sequence done;
   few = omega (arith, ap length put);
   quiet = λ h. put;

@@ -6,8 +6,8 @@ use Rattle.std.specs.List.{flat_map, AllByRecursion}
 use Rattle.std.proofs.lemmas.List.{length-append, length-map, length-replicate, length-take-le, take_at, drop_at}
 use Rattle.s7_item.specs.declared.item.Item.{Item}
 use Rattle.s7_item.specs.Item.{octet_count}
-use Rattle.s7_client.specs.Question.{Question, negotiates, reads, writes}
-use Rattle.s7_client.specs.Answer.{Answer, ItemAnswer, grants, tells, notes, refuses}
+use Rattle.s7_client.specs.Question.{Question, reads, writes}
+use Rattle.s7_client.specs.Answer.{Answer, ItemAnswer, tells, notes, refuses}
 use Rattle.s7_client.specs.Refusals.{number_of_code, telegram_refusal, part_refusal}
 use Rattle.s7_client.specs.Flight.{Row, answers_of}
 use Rattle.s7_client.specs.Left.{joined}
@@ -36,7 +36,7 @@ pub record IsGood (refusal : Answer → Option ℕ) (row : Row) : Type 0 where
   pub unrefused : refusal answer ≡ None
   pub fits : FitsQuestion row.question answer
 
-first_none : (o : Option ℕ) (place : ℕ) (later : Option (ℕ × ℕ)) → first_or o place later ≡ None
+pub first_none : (o : Option ℕ) (place : ℕ) (later : Option (ℕ × ℕ)) → first_or o place later ≡ None
     → (o ≡ None) × (later ≡ None)
 first_none None place later none = (refl, none)
 first_none (Some n) place later none = absurd (cc)
@@ -69,22 +69,20 @@ length-told (item ∷ items) (a ∷ answers) told = omega (arith, length-told it
 
 -- a read or a write, which is answered by as many codes as it has items
 abbrev pub AsksItems : Question → Type 0
-AsksItems (negotiates told) = ⊥
 AsksItems (reads items) = Unit {0}
 AsksItems (writes items octets) = Unit {0}
+AsksItems _ = ⊥
 
 many_codes : (question : Question) (answer : Answer) → AsksItems question → FitsQuestion question answer
     → telegram_refusal answer ≡ None → length (codes_in answer) ≡ length (items_of question)
-many_codes (negotiates told) answer asks fits good = absurd asks
-many_codes (reads items) (grants granted) asks fits good = absurd fits
 many_codes (reads items) (tells answers) asks fits good =
     length-map answers (λ (item : ItemAnswer). item.code) ∙ length-told items answers fits
-many_codes (reads items) (notes codes) asks fits good = absurd fits
 many_codes (reads items) (refuses error) asks fits good = absurd (cc)
-many_codes (writes items octets) (grants granted) asks fits good = absurd fits
-many_codes (writes items octets) (tells answers) asks fits good = absurd fits
+many_codes (reads items) _ asks fits good = absurd fits
 many_codes (writes items octets) (notes codes) asks fits good = fits
 many_codes (writes items octets) (refuses error) asks fits good = absurd (cc)
+many_codes (writes items octets) _ asks fits good = absurd fits
+many_codes _ answer asks fits good = absurd asks
 
 row_codes : (row : Row) → AsksItems row.question → (good : IsGood telegram_refusal row)
     → codes_of_row row ≡ of_answer codes_in row.answer
@@ -141,10 +139,9 @@ ReadTold items answer = (answers : List ItemAnswer) × (answer ≡ tells answers
 
 told_as : (items : List Item) (answer : Answer) → FitsQuestion (reads items) answer → telegram_refusal answer ≡ None
     → ReadTold items answer
-told_as items (grants granted) fits good = absurd fits
 told_as items (tells answers) fits good = (answers, refl, fits)
-told_as items (notes codes) fits good = absurd fits
 told_as items (refuses error) fits good = absurd (cc)
+told_as items _ fits good = absurd fits
 
 read_told : (question : Question) (items : List Item) (answer : Answer) → question ≡ reads items
     → FitsQuestion question answer
@@ -203,8 +200,6 @@ part_octets : (item : Item) (items : List Item) (answer : Answer) → FitsQuesti
     → length (item ∷ items) ≡ 1
     → part_refusal answer ≡ None
     → octets_at_places (item ∷ items) (items_told answer) ≡ told_octets (items_told answer)
-part_octets item items (grants granted) fits one good = absurd fits
-part_octets item items (notes codes) fits one good = absurd fits
 part_octets item items (refuses error) fits one good = absurd (cc)
 part_octets item items (tells []) fits one good = absurd fits
 part_octets item (next ∷ items) (tells (a ∷ answers)) fits one good = absurd (omega (arith, one))
@@ -214,6 +209,7 @@ part_octets item [] (tells (a ∷ [])) fits one good =
     let whole : length a.octets ≡ octet_count item =
     subst (λ (b : Bool). MatchBool b (length a.octets ≡ octet_count item) (a.octets ≡ [])) read fits.0 in
     ap (λ xs. xs ++ []) (filled_whole (octet_count item) a.octets whole)
+part_octets item items _ fits one good = absurd fits
 
 part_found : (row : Row) (group : List Item) → row.question ≡ reads group → length group ≡ 1 → IsGood part_refusal row
     → octets_of_row row ≡ of_answer (λ answer. told_octets (items_told answer)) row.answer

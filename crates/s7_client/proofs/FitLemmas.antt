@@ -1,9 +1,13 @@
 -- Laws of what is sent: no message is longer than the PDU, and no more are unanswered than may be.
-use Rattle.std.proofs.Common.{◌≡◌, ℕ, zero, suc, ◌+◌, ◌≤◌, Bool, true, false, cond, eqb, leb, Option, Some, None, List, [], ◌∷◌, ◌++◌, map, length, take, drop, refl, sym, ap, ◌∙◌, subst, arith}
-use Rattle.std.specs.Prelude.{max, slice_get}
+use Rattle.std.proofs.Common.{◌≡◌, ℕ, zero, suc, ◌+◌, ◌-◌, ◌≤◌, Bool, true, false, cond, eqb, leb, ltb, Option, Some, None, List, [], ◌∷◌, ◌++◌, map, length, take, drop, refl, sym, ap, ◌∙◌, subst, arith}
+use Rattle.std.specs.Prelude.{◌&&◌, max, bit_xor, replicate, slice_get}
 use Rattle.std.specs.List.{AllByRecursion}
 use Rattle.std.proofs.lemmas.Bool.{and_parts, eqb-true, leb-true}
-use Rattle.std.proofs.lemmas.List.{length-append, length-drop, length-take-le}
+use Rattle.std.proofs.lemmas.List.{length-append, length-drop, length-replicate, length-take-le}
+use Rattle.s7_header.specs.declared.header.Kind.{Kind}
+use Rattle.s7_header.specs.declared.header.Kind.TheVariants as kind
+use Rattle.s7_header.specs.Header.{has_error}
+use Rattle.s7_header.specs.UserParams.{user_spelling}
 use Rattle.s7_item.specs.declared.item.Item.{Item}
 use Rattle.s7_item.specs.Item.{octet_count}
 use Rattle.s7_item.specs.Params.{items_params}
@@ -14,23 +18,31 @@ use Rattle.s7_split.specs.Fits.{fits, answer_length}
 use Rattle.s7_split.specs.Parts.{parts_of, CanBeAsked, CanBeSplit}
 use Rattle.s7_split.specs.Groups.{groups_of, IsGroup, AreGroups}
 use Rattle.s7_split.proofs.PartLaws.{parts_asked}
+use Rattle.s7_clock.specs.declared.control.Control.{Control}
+use Rattle.s7_clock.specs.declared.control.Control.TheVariants as control
+use Rattle.s7_clock.specs.Control.{control_spelling}
+use Rattle.s7_clock.specs.Moment.{octets_at}
 use Rattle.s7_client.specs.declared.config.Config.{Config}
 use Rattle.s7_client.specs.declared.grant.Grant.{Grant}
 use Rattle.s7_client.specs.declared.grant.Leaves.TheVariants.{AsItWas}
 use Rattle.s7_client.specs.declared.job.Job.{Job}
 use Rattle.s7_client.specs.declared.job.Job.TheVariants as job
-use Rattle.s7_client.specs.Question.{Question, reads, writes, written, job_octets, question_octets}
+use Rattle.s7_client.specs.declared.subject.Subject.{Subject}
+use Rattle.s7_client.specs.declared.subject.Subject.TheVariants.{StatusList, RunState, Clock, ClockSetting, Password, PasswordClearing}
+use Rattle.s7_client.specs.UserData.{request_params, further_params, no_data, data_of, filled_text, encoded_after, encoded}
+use Rattle.s7_client.specs.Question.{Question, reads, writes, controls, asks, asks_further, written, message_octets, question_octets}
 use Rattle.s7_client.specs.Answer.{Answer}
-use Rattle.s7_client.specs.Checks.{octet_count_of, check_item, check_items}
+use Rattle.s7_client.specs.Checks.{octet_count_of, check_item, check_items, check_moment, check_password}
 use Rattle.s7_client.specs.Stages.{joined}
 use Rattle.s7_client.specs.Flight.{Row, open_count}
-use Rattle.s7_client.specs.Dialogue.{End, Conduct, Plan, over, number_end, read_questions, write_questions, alone, if_good, connected_plan, plan_of}
+use Rattle.s7_client.specs.Dialogue.{Conduct, Plan, over, End, number_end, read_questions, write_questions, alone, controlling, octets_brought, last_answer, asking_about, list_octets, if_good, connected_plan, plan_of}
 use Rattle.s7_client.specs.Course.{Origin, conduct_of, course}
 use Rattle.s7_client.proofs.CheckLemmas.{item_checked, items_checked, can_split}
 use Rattle.s7_client.proofs.MessageLemmas.{written_sent}
 use Rattle.s7_client.proofs.GroupLemmas.{octet_count_append, groups_right, parts_together}
 use Rattle.s7_client.proofs.FlightLemmas.{same_some, open_append, ComesNext, filled_open}
 use Rattle.s7_client.proofs.RowLemmas.{RowsKept, course_rows}
+use Rattle.s7_client.proofs.BringLemmas.{asks_behind}
 
 -- ---- general lemmas
 
@@ -64,9 +76,11 @@ IsShort pdu question = (sequence : ℕ) → length (question_octets sequence que
 abbrev Fits : ℕ → Bool → List Item → Type 0
 Fits pdu write group = fits pdu write group ≡ true
 
-job_long : (sequence : ℕ) (params body : List ℕ)
-    → length (job_octets sequence params body) ≡ 10 + length params + length body
-job_long sequence params body = omega (arith, length-append params body)
+message_long : (kind : Kind) (sequence : ℕ) (params body : List ℕ) → has_error kind ≡ false
+    → length (message_octets kind sequence params body) ≡ 10 + length params + length body
+message_long kind.Job sequence params body bare = omega (arith, length-append params body)
+message_long kind.User sequence params body bare = omega (arith, length-append params body)
+message_long _ sequence params body bare = absurd (cc)
 
 request_short : (pdu : ℕ) (write : Bool) (group : List Item) → Fits pdu write group → request_size group write ≤ pdu
 unfolding fits
@@ -78,7 +92,7 @@ read_short : (pdu : ℕ) (group : List Item) → Fits pdu false group → IsShor
 read_short pdu group fit = λ sequence.
     omega (
       arith,
-      job_long sequence (items_params 0x04 group) [],
+      message_long kind.Job sequence (items_params 0x04 group) [] refl,
       reads_sized 0x04 group,
       request_short pdu false group fit,
     )
@@ -88,10 +102,35 @@ write_short : (pdu : ℕ) (group : List Item) (octets : List ℕ) → Fits pdu t
 write_short pdu group octets fit all = λ sequence.
     omega (
       arith,
-      job_long sequence (items_params 0x05 group) (data_octets (written group octets)),
+      message_long kind.Job sequence (items_params 0x05 group) (data_octets (written group octets)) refl,
       writes_sized 0x05 group (written group octets) (written_sent group octets all),
       request_short pdu true group fit,
     )
+
+control_short : (pdu : ℕ) (control : Control) → 64 ≤ pdu → length (control_spelling control) ≤ 54
+    → IsShort pdu (controls control)
+control_short pdu control least few = λ sequence.
+    omega (arith, least, few, message_long kind.Job sequence (control_spelling control) [] refl)
+
+data_short : (octets : List ℕ) → length (data_of octets) ≤ 4 + length octets
+data_short [] = omega arith
+data_short (octet ∷ octets) = omega arith
+
+asks_short : (pdu : ℕ) (subject : Subject) (octets : List ℕ) → 64 ≤ pdu → length octets ≤ 42
+    → IsShort pdu (asks subject octets)
+asks_short pdu subject octets least few = λ sequence.
+    omega (
+      arith,
+      least,
+      few,
+      data_short octets,
+      message_long kind.User sequence (user_spelling (request_params subject)) (data_of octets) refl,
+    )
+
+further_short : (pdu : ℕ) (subject : Subject) (octet : ℕ) (so_far : List ℕ) → 64 ≤ pdu
+    → IsShort pdu (asks_further subject octet so_far)
+further_short pdu subject octet so_far least = λ sequence.
+    omega (arith, least, message_long kind.User sequence (user_spelling (further_params subject octet)) no_data refl)
 
 -- ---- the messages of all questions
 
@@ -141,6 +180,53 @@ pub good_sent : (check : ℕ) (plan : Plan) (answers : List (Option Answer)) (qu
     → (if_good check plan).conduct.question_at answers ≡ Some question
     → (check ≡ 0) × (plan.conduct.question_at answers ≡ Some question)
 good_sent check plan answers question is = good_by check plan answers question (eqb check 0) refl is
+
+-- the one call of a control
+control_sent : (pdu : ℕ) (control : Control) (answers : List (Option Answer)) (question : Question) → 64 ≤ pdu
+    → length (control_spelling control) ≤ 54
+    → (controlling control).question_at answers ≡ Some question → IsShort pdu question
+control_sent pdu control answers question least few is =
+    listed_short pdu (controls control ∷ []) answers question (control_short pdu control least few, tt) is
+
+-- user data with few octets, and what is asked behind its answers
+piece_short : (pdu : ℕ) (subject : Subject) (octets : List ℕ) (answers : List (Option Answer)) (question : Question)
+    → 64 ≤ pdu → length octets ≤ 42
+    → (asking_about subject octets).question_at answers ≡ Some question → IsShort pdu question
+piece_short pdu subject octets [] question least few is =
+    subst (IsShort pdu) (same_some (asks subject octets) question is) (asks_short pdu subject octets least few)
+piece_short pdu subject octets (first ∷ answers) question least few is =
+    let so_far : List ℕ = octets_brought (first ∷ answers) in
+    let next = asks_behind subject so_far (last_answer first answers) question is in
+    subst (IsShort pdu) next.1 (further_short pdu subject next.0 so_far least)
+
+-- ---- the octets of user data
+
+length-clock : (moment : ℕ) → length (octets_at moment) ≡ 10
+unfolding octets_at
+length-clock moment = refl
+
+length-encoded_after : (second first : ℕ) (text : List ℕ) → length (encoded_after second first text) ≡ length text
+length-encoded_after second first [] = refl
+length-encoded_after second first (octet ∷ text) =
+    ap suc (length-encoded_after first (bit_xor (bit_xor octet 0x55) second) text)
+
+good_text : (b : Bool) → ◌≡◌ {A = ℕ} (cond b 0 2097152) 0 → b ≡ true
+good_text true good = refl
+good_text false good = absurd (omega (arith, good))
+
+length-password : (text : List ℕ) → check_password text ≡ 0 → length (encoded (filled_text text)) ≡ 8
+unfolding encoded
+length-password text good =
+    let some : Bool = ltb 0 (length text) in
+    let few : Bool = leb (length text) 8 in
+    let blanks : ℕ = 8 - length text in
+    omega (
+      arith,
+      leb-true (length text) 8 (and_parts some few (good_text (some && few) good)).1,
+      length-encoded_after 0 0 (filled_text text),
+      length-append text (replicate blanks 0x20),
+      length-replicate {A = ℕ} blanks 0x20,
+    )
 
 -- ---- each job
 
@@ -201,6 +287,32 @@ sent_short (job.WriteMany items octets) config granted answers question least is
     let sent = good_sent good _ answers question is in
     listed_short granted.pdu (write_questions (groups_of granted.pdu true items) octets) answers question
     (items_written items octets granted.pdu sent.0) sent.1
+sent_short (job.Szl id index) config granted answers question least is =
+    piece_short granted.pdu StatusList (list_octets id index) answers question least (omega arith) is
+sent_short job.ClockRead config granted answers question least is =
+    piece_short granted.pdu Clock [] answers question least (omega arith) is
+sent_short (job.ClockSet moment) config granted answers question least is =
+    let sent = good_sent (check_moment moment) _ answers question is in
+    piece_short granted.pdu ClockSetting (octets_at moment) answers question least (omega (arith, length-clock moment))
+    sent.1
+sent_short job.Start config granted answers question least is =
+    control_sent granted.pdu control.Start answers question least (omega arith) is
+sent_short job.ColdStart config granted answers question least is =
+    control_sent granted.pdu control.ColdStart answers question least (omega arith) is
+sent_short job.Stop config granted answers question least is =
+    control_sent granted.pdu control.Stop answers question least (omega arith) is
+sent_short job.Compress config granted answers question least is =
+    control_sent granted.pdu control.Compress answers question least (omega arith) is
+sent_short job.CopyRam config granted answers question least is =
+    control_sent granted.pdu control.CopyRam answers question least (omega arith) is
+sent_short job.Status config granted answers question least is =
+    piece_short granted.pdu RunState (list_octets 0x0424 0) answers question least (omega arith) is
+sent_short (job.PasswordSet text) config granted answers question least is =
+    let sent = good_sent (check_password text) _ answers question is in
+    piece_short granted.pdu Password (encoded (filled_text text)) answers question least
+    (omega (arith, length-password text sent.0)) sent.1
+sent_short job.PasswordClear config granted answers question least is =
+    piece_short granted.pdu PasswordClearing [] answers question least (omega arith) is
 sent_short job.Disconnect config granted answers question least is = absurd (cc)
 
 -- ---- how many are unanswered
@@ -236,7 +348,6 @@ checked_width n plan end true few = few
 checked_width n plan end false few = omega arith
 
 width_connected : (asked : Job) (granted : Grant) → (connected_plan asked granted).conduct.width ≤ max 1 granted.jobs
-width_connected job.Connect granted = omega arith
 width_connected (job.ReadArea item) granted =
     checked_width (max 1 granted.jobs) _ _ (eqb (check_item item true) 0) (omega arith)
 width_connected (job.WriteArea item octets) granted =
@@ -247,7 +358,11 @@ width_connected (job.ReadMany items) granted =
 width_connected (job.WriteMany items octets) granted =
     checked_width (max 1 granted.jobs) _ _
     (eqb (check_items items (eqb (length octets) (octet_count_of items)) granted.pdu true) 0) (omega arith)
-width_connected job.Disconnect granted = omega arith
+width_connected (job.ClockSet moment) granted =
+    checked_width (max 1 granted.jobs) _ _ (eqb (check_moment moment) 0) (omega arith)
+width_connected (job.PasswordSet text) granted =
+    checked_width (max 1 granted.jobs) _ _ (eqb (check_password text) 0) (omega arith)
+width_connected _ granted = omega arith
 
 width_granted : (asked : Job) (config : Config) (known : Option Grant) (granted : Grant) → known ≡ Some granted
     → (plan_of asked config known).conduct.width ≤ max 1 granted.jobs

@@ -397,7 +397,7 @@ fills rows message rows' f =
     ∙ (filled_at f.front f.back f.row message f.answer f.first f.unanswered f.answers
     ∙ ap (λ (rs : List Row). Some rs) (sym f.after))
 
-answered_pass : (message : List ℕ) (rows : List Row) → AllByRecursion IsAnswered rows
+pub answered_pass : (message : List ℕ) (rows : List Row) → AllByRecursion IsAnswered rows
     → AllByRecursion (PassesBy message) rows
 answered_pass message [] each = tt
 answered_pass message (row ∷ rows) each =

@@ -13,7 +13,7 @@ use Rattle.s7_client.specs.declared.asking.Asking.{Asking}
 use Rattle.s7_client.specs.declared.running.Stage.{Stage}
 use Rattle.s7_client.specs.declared.running.Stage.TheVariants as stage
 use Rattle.s7_client.specs.declared.running.Running.{Running}
-use Rattle.s7_client.specs.Checks.{check_item, check_items, octet_count_of}
+use Rattle.s7_client.specs.Checks.{check_item, check_items, check_moment, check_password, octet_count_of}
 use Rattle.s7_client.specs.Flight.{Row}
 use Rattle.s7_client.specs.Dialogue.{nothing, connect_request, Plan, plan_of}
 use Rattle.s7_client.specs.Stages.{can_fly, can_ask_all, has_places, is_ready, IsOpening}
@@ -49,12 +49,7 @@ connects : (done : Job) (config : Config) (granted : Option Grant)
     → (plan_of done config granted).first ≡ connect_request
     → (done ≡ job.Connect) × (granted ≡ None)
 connects job.Connect config None e = (refl, refl)
-connects (job.ReadArea item) config None e = absurd (cc)
-connects (job.WriteArea item octets) config None e = absurd (cc)
-connects (job.ReadMany items) config None e = absurd (cc)
-connects (job.WriteMany items octets) config None e = absurd (cc)
-connects job.Disconnect config None e = absurd (cc)
-connects job.Connect config (Some g) e = absurd (cc)
+connects _ config None e = absurd (cc)
 connects (job.ReadArea item) config (Some g) e = absurd (checked_first (eqb (check_item item true) 0) _ _ refl refl e)
 connects (job.WriteArea item octets) config (Some g) e =
     absurd (checked_first (eqb (check_item item (eqb (length octets) (octet_count item))) 0) _ _ refl refl e)
@@ -63,7 +58,11 @@ connects (job.ReadMany items) config (Some g) e =
 connects (job.WriteMany items octets) config (Some g) e =
     absurd (checked_first (eqb (check_items items (eqb (length octets) (octet_count_of items)) g.pdu true) 0) _ _ refl
     refl e)
-connects job.Disconnect config (Some g) e = absurd (cc)
+connects (job.ClockSet moment) config (Some g) e =
+    absurd (checked_first (eqb (check_moment moment) 0) _ _ refl refl e)
+connects (job.PasswordSet text) config (Some g) e =
+    absurd (checked_first (eqb (check_password text) 0) _ _ refl refl e)
+connects _ config (Some g) e = absurd (cc)
 
 negotiates_first : (config : Config) (found codes : List ℕ) (a : Asking) → IsNew a 1 left.Negotiation
     → Conducts config None [] [] job.Connect found codes a
@@ -98,6 +97,7 @@ opening_places : (done : Job) (found : ℕ) (st : Stage) → IsOpening st → is
     → has_places done found ≡ true
 opening_places done found stage.Opening opens ready = ready
 opening_places done found (stage.Asking a) opens ready = absurd opens
+opening_places done found (stage.Single single) opens ready = absurd opens
 opening_places done found stage.Leaving opens ready = absurd opens
 opening_places done found (stage.Over code leaves) opens ready = absurd opens
 

@@ -1,15 +1,10 @@
 -- Laws of the form of ends: at the end all telegrams have answers that fit them.
-use Rattle.std.proofs.Common.{◌≡◌, ◌≢◌, ◌⊎◌, inl, inr, ℕ, suc, ◌+◌, ◌<◌, ◌≤◌, Bool, true, false, not, cond, eqb, leb, Option, Some, None, Ok, Err, List, [], ◌∷◌, ◌++◌, map, length, take, drop, slice_index, refl, sym, ap, ◌∙◌, subst, arith}
-use Rattle.std.specs.Prelude.{◌&&◌, ◌||◌, Result, max, slice_get, option_map}
+use Rattle.std.proofs.Common.{◌≡◌, ◌≢◌, ◌⊎◌, inl, inr, ℕ, suc, ◌+◌, ◌<◌, ◌≤◌, Bool, true, false, not, cond, eqb, leb, Option, Some, None, List, [], ◌∷◌, ◌++◌, map, length, take, drop, slice_index, refl, sym, ap, ◌∙◌, subst, arith}
+use Rattle.std.specs.Prelude.{◌&&◌, ◌||◌, max, slice_get, option_map}
 use Rattle.std.specs.List.{AllByRecursion, flat_map}
 use Rattle.std.specs.Option.{ForSome}
 use Rattle.std.proofs.lemmas.Bool.{and_parts, eqb-true, eqb-false, leb-true, ltb-false}
 use Rattle.std.proofs.lemmas.List.{length-append, length-drop, length-take-le}
-use Rattle.s7_header.specs.declared.header.Header.{Header}
-use Rattle.s7_header.specs.declared.header.Kind.{Kind}
-use Rattle.s7_header.specs.declared.header.Kind.TheVariants as kind
-use Rattle.s7_header.specs.declared.faults.HeaderFault.{HeaderFault}
-use Rattle.s7_header.specs.Header.{header_of, params_of, body_of}
 use Rattle.s7_item.specs.declared.item.Item.{Item}
 use Rattle.s7_item.specs.Item.{octet_count}
 use Rattle.s7_item.specs.Word.{transport_of}
@@ -17,40 +12,36 @@ use Rattle.s7_item.specs.DataItem.{stated_length, padding_of}
 use Rattle.s7_header.specs.Octets.{number_at}
 use Rattle.s7_split.specs.Parts.{parts_of, CanBeSplit}
 use Rattle.s7_split.specs.Groups.{groups_of}
+use Rattle.s7_clock.specs.declared.control.Control.{Control}
+use Rattle.s7_clock.specs.declared.control.Control.TheVariants as control
 use Rattle.s7_client.specs.declared.config.Config.{Config}
 use Rattle.s7_client.specs.declared.grant.Grant.{Grant}
 use Rattle.s7_client.specs.declared.grant.Leaves.{Leaves}
 use Rattle.s7_client.specs.declared.grant.Leaves.TheVariants.{AsItWas, Connected, Disconnected, Closed}
 use Rattle.s7_client.specs.declared.job.Job.{Job}
 use Rattle.s7_client.specs.declared.job.Job.TheVariants as job
-use Rattle.s7_client.specs.Question.{Question, negotiates, reads, writes}
-use Rattle.s7_client.specs.Answer.{Answer, ItemAnswer, grants, tells, notes, refuses, begins_read, begins_refused, item_first, item_answers, counts_items, acknowledged, by_kind, by_header, answer_of}
-use Rattle.s7_client.specs.Refusals.{number_of_error, number_of_code, code_refusal, telegram_refusal, part_refusal}
-use Rattle.s7_client.specs.Checks.{octet_count_of, check_item, check_items}
+use Rattle.s7_client.specs.declared.subject.Subject.{Subject}
+use Rattle.s7_client.specs.declared.subject.Subject.TheVariants.{StatusList, RunState, Clock, ClockSetting, Password, PasswordClearing}
+use Rattle.s7_client.specs.UserData.{is_whole}
+use Rattle.s7_client.specs.Question.{Question}
+use Rattle.s7_client.specs.Answer.{Answer, ItemAnswer, grants, tells, notes, stands, refuses, begins_read, begins_refused, item_first, item_answers}
+use Rattle.s7_client.specs.Refusals.{number_of_error, number_of_code, number_of_status, code_refusal, telegram_refusal, part_refusal, control_refusal}
+use Rattle.s7_client.specs.Checks.{octet_count_of, check_item, check_items, check_moment, check_password}
 use Rattle.s7_client.specs.Stages.{joined}
 use Rattle.s7_client.specs.Flight.{Row, answers_of}
-use Rattle.s7_client.specs.Dialogue.{End, Conduct, Plan, departed_end, number_end, fault_end, over, taken_grant, by_grant, negotiated_by, negotiated, read_questions, write_questions, first_or, refusal_in, first_refusal, plain_number, write_number, by_refusal, octets_told, codes_told, good_end, alone, listed, if_good, connected_plan, unconnected_plan, plan_of}
+use Rattle.s7_client.specs.Dialogue.{End, Conduct, Plan, departed_end, number_end, fault_end, over, taken_grant, by_grant, negotiated_by, negotiated, read_questions, write_questions, first_or, refusal_in, first_refusal, plain_number, write_number, by_refusal, octets_told, codes_told, octets_brought, good_end, alone, listed, controlling, asking_about, if_good, connected_plan, unconnected_plan, plan_of}
 use Rattle.s7_client.specs.Course.{Origin, for_departure, for_nothing, conduct_of, course}
 use Rattle.s7_client.specs.Form.{count_read, octets_read, FormOf, HasForm, IsWhole}
 use Rattle.s7_client.proofs.CheckLemmas.{item_checked, items_checked, can_split}
 use Rattle.s7_client.proofs.GroupLemmas.{joined_alone, parts_together, groups_right}
 use Rattle.s7_client.proofs.FlightLemmas.{same_some, IsAnswered, all_answered, IsEnded}
-use Rattle.s7_client.proofs.RowLemmas.{HasAnswer, RowsFit}
-use Rattle.s7_client.proofs.PlanLemmas.{questions_if, connected_questions, questions_of, course_fit, IsFaulted, course_over, course_leaves, plan_leaves}
+use Rattle.s7_client.proofs.RowLemmas.{IsListed, HasAnswer, RowsFit, rows_fit}
+use Rattle.s7_client.proofs.PlanLemmas.{IsFaulted, course_over, course_leaves, plan_leaves}
+use Rattle.s7_client.proofs.EndLemmas.{first_none}
+use Rattle.s7_client.proofs.BringLastLemmas.{AsksLast, course_last}
+use Rattle.s7_client.proofs.BringLemmas.{Fits, answer_fits, whole_brought}
 
 -- ---- answers that fit
-
--- the answer fits the question
-abbrev Fits : Question → Answer → Type 0
-Fits (negotiates asked) answer = Unit {0}
-Fits (reads items) (grants granted) = ⊥
-Fits (reads items) (tells answers) = (body : List ℕ) × (item_answers items body ≡ Some answers)
-Fits (reads items) (notes codes) = ⊥
-Fits (reads items) (refuses error) = Unit {0}
-Fits (writes items octets) (grants granted) = ⊥
-Fits (writes items octets) (tells answers) = ⊥
-Fits (writes items octets) (notes codes) = length codes ≡ length items
-Fits (writes items octets) (refuses error) = Unit {0}
 
 -- all answers are there, and fit the first of the questions
 abbrev FitAll : List (Option Answer) → List Question → Type 0
@@ -68,12 +59,8 @@ Formed granted done end = HasForm done end × (IsEnough granted → IsWhole done
 -- ---- ends without octets and codes
 
 whole_bare : (done : Job) (end : End) → end.code ≢ 0 → IsWhole done end
-whole_bare job.Connect end bad = tt
 whole_bare (job.ReadArea item) end bad = λ good. absurd (bad good)
-whole_bare (job.WriteArea item octets) end bad = tt
-whole_bare (job.ReadMany items) end bad = tt
-whole_bare (job.WriteMany items octets) end bad = tt
-whole_bare job.Disconnect end bad = tt
+whole_bare _ end bad = tt
 
 bare_form : (granted : Option Grant) (done : Job) (code : ℕ) (leaves : Leaves) → code ≢ 0
     → Formed granted done (record { code = code; octets = []; codes = []; leaves = leaves })
@@ -102,9 +89,7 @@ some_code code =
 
 telegram_positive : (answer : Answer) (n : ℕ) → telegram_refusal answer ≡ Some n → 0 < n
 telegram_positive (refuses error) n is = subst (λ m. 0 < m) (same_some (number_of_error error) n is) (some_error error)
-telegram_positive (grants granted) n is = absurd (cc)
-telegram_positive (tells items) n is = absurd (cc)
-telegram_positive (notes codes) n is = absurd (cc)
+telegram_positive _ n is = absurd (cc)
 
 code_by : (b : Bool) (m n : ℕ) → 0 < m → cond b None (Some m) ≡ Some n → 0 < n
 code_by true m n some is = absurd (cc)
@@ -121,7 +106,20 @@ part_positive (tells (item ∷ next ∷ items)) n is = absurd (cc)
 part_positive (notes []) n is = absurd (cc)
 part_positive (notes (code ∷ [])) n is = code_positive code n is
 part_positive (notes (code ∷ next ∷ codes)) n is = absurd (cc)
-part_positive (grants granted) n is = absurd (cc)
+part_positive _ n is = absurd (cc)
+
+status_positive : (control : Control) (status : ℕ) → 0 < number_of_status control status
+status_positive control.Start status = some_if (eqb status 2) _ _ (omega arith) (omega arith)
+status_positive control.ColdStart status = some_if (eqb status 2) _ _ (omega arith) (omega arith)
+status_positive control.Stop status = some_if (eqb status 7) _ _ (omega arith) (omega arith)
+status_positive _ status = omega arith
+
+control_positive : (control : Control) (answer : Answer) (n : ℕ) → control_refusal control answer ≡ Some n → 0 < n
+control_positive control (refuses error) n is =
+    subst (λ m. 0 < m) (same_some (number_of_error error) n is) (some_error error)
+control_positive control (stands status) n is =
+    code_by (eqb status 0) (number_of_status control status) n (status_positive control status) is
+control_positive control _ n is = absurd (cc)
 
 first_or_positive : (o : Option ℕ) (k : ℕ) (later : Option (ℕ × ℕ)) (r : ℕ × ℕ)
     → ((n : ℕ) → o ≡ Some n → 0 < n) → ((s : ℕ × ℕ) → later ≡ Some s → 0 < s.1) → first_or o k later ≡ Some r → 0 < r.1
@@ -144,11 +142,6 @@ first_positive refusal k (answer ∷ answers) r positive is =
 
 write_positive : (place number : ℕ) → 0 < number → 0 < write_number place number
 write_positive place number some = some_if (eqb place 0) number _ some (omega arith)
-
-pub none_first : (o : Option ℕ) (k : ℕ) (later : Option (ℕ × ℕ)) → first_or o k later ≡ None
-    → (o ≡ None) × (later ≡ None)
-none_first None k later none = (refl, none)
-none_first (Some n) k later none = absurd (cc)
 
 -- ---- the answers for items
 
@@ -275,8 +268,7 @@ many_read (group ∷ groups) (Some (tells items) ∷ answers) k fit all none =
           rest.1 (read_append group (joined groups) codes (codes_told answers) one.0),
     )
 many_read (group ∷ groups) (Some (refuses error) ∷ answers) k fit all none = absurd (cc)
-many_read (group ∷ groups) (Some (grants granted) ∷ answers) k fit all none = absurd fit.0
-many_read (group ∷ groups) (Some (notes codes) ∷ answers) k fit all none = absurd fit.0
+many_read (group ∷ groups) (Some _ ∷ answers) k fit all none = absurd fit.0
 
 -- groups of items that were all written
 many_written : (groups : List (List Item)) (octets : List ℕ) (answers : List (Option Answer)) (k : ℕ)
@@ -294,8 +286,7 @@ many_written (group ∷ groups) octets (Some (notes codes) ∷ answers) k fit al
     (many_written groups (drop (octet_count_of group) octets) answers (k + 1) fit.1 all none)
     (length-append group (joined groups))
 many_written (group ∷ groups) octets (Some (refuses error) ∷ answers) k fit all none = absurd (cc)
-many_written (group ∷ groups) octets (Some (grants granted) ∷ answers) k fit all none = absurd fit.0
-many_written (group ∷ groups) octets (Some (tells items) ∷ answers) k fit all none = absurd fit.0
+many_written (group ∷ groups) octets (Some _ ∷ answers) k fit all none = absurd fit.0
 
 -- parts of an item that were all read
 read_by : (b : Bool) (m n : ℕ) → cond b None (Some m) ≡ None → cond b n 0 ≡ n
@@ -323,7 +314,7 @@ parts_read (part ∷ parts) (None ∷ answers) k fit all none = absurd fit
 parts_read (part ∷ parts) (Some (tells []) ∷ answers) k fit all none =
     absurd (omega (arith, (form_items (part ∷ []) fit.0.0 [] fit.0.1).0))
 parts_read (part ∷ parts) (Some (tells (item ∷ [])) ∷ answers) k fit all none =
-    let both = none_first (code_refusal item.code) k (first_refusal part_refusal (k + 1) answers) none in
+    let both = first_none (code_refusal item.code) k (first_refusal part_refusal (k + 1) answers) none in
     let octets : List ℕ = flat_map (λ (a : ItemAnswer). a.octets) (item ∷ []) in
     together (length octets) (length (octets_told answers)) (octet_count part) (octet_count_of parts) _ _
     (length-append octets (octets_told answers))
@@ -332,63 +323,9 @@ parts_read (part ∷ parts) (Some (tells (item ∷ [])) ∷ answers) k fit all n
 parts_read (part ∷ parts) (Some (tells (item ∷ next ∷ items)) ∷ answers) k fit all none =
     absurd (omega (arith, (form_items (part ∷ []) fit.0.0 (item ∷ next ∷ items) fit.0.1).0))
 parts_read (part ∷ parts) (Some (refuses error) ∷ answers) k fit all none = absurd (cc)
-parts_read (part ∷ parts) (Some (grants granted) ∷ answers) k fit all none = absurd fit.0
-parts_read (part ∷ parts) (Some (notes codes) ∷ answers) k fit all none = absurd fit.0
+parts_read (part ∷ parts) (Some _ ∷ answers) k fit all none = absurd fit.0
 
 -- ---- answers fit their questions
-
-if_some : (b : Bool) (o : Option Answer) (answer : Answer) → cond b o None ≡ Some answer
-    → (b ≡ true) × (o ≡ Some answer)
-if_some true o answer is = (refl, is)
-if_some false o answer is = absurd (cc)
-
-refuses_fits : (question : Question) (error : ℕ) → Fits question (refuses error)
-refuses_fits (negotiates asked) error = tt
-refuses_fits (reads items) error = tt
-refuses_fits (writes items octets) error = tt
-
-told_fits : (items : List Item) (body : List ℕ) (told : Option (List ItemAnswer)) (answer : Answer)
-    → item_answers items body ≡ told
-    → option_map tells told ≡ Some answer → Fits (reads items) answer
-told_fits items body None answer same is = absurd (cc)
-told_fits items body (Some answers) answer same is =
-    subst (Fits (reads items)) (same_some (tells answers) answer is) (body, same)
-
-acknowledged_fits : (question : Question) (params body : List ℕ) (answer : Answer)
-    → acknowledged question params body ≡ Some answer → Fits question answer
-acknowledged_fits (negotiates asked) params body answer is = tt
-acknowledged_fits (reads items) params body answer is =
-    let told = if_some (counts_items 0x04 items params) (option_map tells (item_answers items body)) answer is in
-    told_fits items body (item_answers items body) answer refl told.1
-acknowledged_fits (writes items octets) params body answer is =
-    let counts : Bool = counts_items 0x05 items params in
-    let told = if_some (counts && eqb (length body) (length items)) (Some (notes body)) answer is in
-    let both = and_parts counts (eqb (length body) (length items)) told.0 in
-    let long : length body ≡ length items = eqb-true (length body) (length items) both.1 in
-    subst (Fits (writes items octets)) (same_some (notes body) answer told.1) long
-
-kind_fits : (k : Kind) (question : Question) (h : Header) (message : List ℕ) (answer : Answer)
-    → by_kind k question h message ≡ Some answer → Fits question answer
-kind_fits kind.Job question h message answer is = absurd (cc)
-kind_fits kind.Ack question h message answer is =
-    let told = if_some (eqb h.param_len 0 && eqb h.body_len 0) (Some (refuses h.error)) answer is in
-    subst (Fits question) (same_some (refuses h.error) answer told.1) (refuses_fits question h.error)
-kind_fits kind.AckData question h message answer is =
-    acknowledged_fits question (params_of message h) (body_of message h) answer
-    (if_some (eqb h.error 0) (acknowledged question (params_of message h) (body_of message h)) answer is).1
-kind_fits kind.User question h message answer is = absurd (cc)
-
-header_fits : (question : Question) (sequence : ℕ) (message : List ℕ) (r : Result Header HeaderFault) (answer : Answer)
-    → by_header question sequence message r ≡ Some answer → Fits question answer
-header_fits question sequence message (Err fault) answer is = absurd (cc)
-header_fits question sequence message (Ok h) answer is =
-    kind_fits h.kind question h message answer
-    (if_some (eqb h.sequence sequence) (by_kind h.kind question h message) answer is).1
-
-answer_fits : (question : Question) (sequence : ℕ) (message : List ℕ) (answer : Answer)
-    → answer_of question sequence message ≡ Some answer → Fits question answer
-unfolding answer_of
-answer_fits question sequence message answer is = header_fits question sequence message (header_of message) answer is
 
 -- the telegrams have answers that fit the questions
 fit_first : (row : Row) (rows : List Row) (question : Question) (questions : List Question) (answer : Answer)
@@ -418,6 +355,12 @@ fit_ended : (conduct : Conduct) (questions : List Question) (rows : List Row) (e
 fit_ended conduct questions rows end carried ended fit =
     fit_all questions rows fit.asked fit.answered (all_answered rows ended.answered)
 
+-- What is known of the telegrams of every job: their questions are those of a list, where they come in its order, and
+-- the last one asks what comes behind the answers before it, where one is asked at a time.
+record AreAsked (conduct : Conduct) (rows : List Row) : Type 0 where
+  listed : (questions : List Question) → IsListed conduct questions → RowsFit questions rows
+  last : conduct.width ≤ 1 → AsksLast conduct rows
+
 -- ---- ends of plans
 
 refused_formed : (granted : Option Grant) (done : Job) (number : ℕ → ℕ → ℕ) (refused : Option (ℕ × ℕ)) (finished : End)
@@ -434,36 +377,43 @@ listed_formed : (done : Job) (granted : Grant) (questions : List Question) (refu
     → (FitAll (answers_of rows) questions → first_refusal refusal 0 (answers_of rows) ≡ None
     → slice_get questions (length (answers_of rows)) ≡ None
     → Formed (Some granted) done (finished (answers_of rows)))
-    → RowsFit questions rows → IsEnded (listed granted questions refusal number finished).conduct rows end carried
+    → AreAsked (listed granted questions refusal number finished).conduct rows
+    → IsEnded (listed granted questions refusal number finished).conduct rows end carried
     → Formed (Some granted) done end
-listed_formed done granted questions refusal number finished rows end carried positive last fit ended =
+listed_formed done granted questions refusal number finished rows end carried positive last asked ended =
     let conduct = (listed granted questions refusal number finished).conduct in
+    let fit : RowsFit questions rows = asked.listed questions (λ answers. refl) in
     let some : 0 < max 1 granted.jobs = omega arith in
     subst (Formed (Some granted) done) (sym ended.is)
     (refused_formed (Some granted) done number (first_refusal refusal 0 (answers_of rows)) (finished (answers_of rows))
     positive (λ none. last (fit_ended conduct questions rows end carried ended fit) none (ended.last some none)))
 
-good_by : (done : Job) (granted : Option Grant) (check : ℕ) (plan : Plan) (questions : List Question) (rows : List Row)
-    (end : End) (carried : List ℕ) (b : Bool) → eqb check 0 ≡ b
-    → (check ≡ 0 → RowsFit questions rows → IsEnded plan.conduct rows end carried → Formed granted done end)
-    → RowsFit (cond b questions []) rows
+good_by : (done : Job) (granted : Option Grant) (check : ℕ) (plan : Plan) (rows : List Row) (end : End)
+    (carried : List ℕ) (b : Bool) → eqb check 0 ≡ b
+    → (check ≡ 0 → AreAsked plan.conduct rows → IsEnded plan.conduct rows end carried → Formed granted done end)
+    → AreAsked (cond b plan (over (number_end check AsItWas))).conduct rows
     → IsEnded (cond b plan (over (number_end check AsItWas))).conduct rows end carried
     → Formed granted done end
-good_by done granted check plan questions rows end carried true is formed fit ended =
-    formed (eqb-true check 0 is) fit ended
-good_by done granted check plan questions rows end carried false is formed fit ended =
+good_by done granted check plan rows end carried true is formed asked ended =
+    formed (eqb-true check 0 is) asked ended
+good_by done granted check plan rows end carried false is formed asked ended =
     subst (Formed granted done) (sym ended.is) (bare_form granted done check AsItWas (eqb-false check 0 is))
 
 -- a job is asked once it was checked
-good_formed : (done : Job) (granted : Option Grant) (check : ℕ) (plan : Plan) (questions : List Question)
-    (rows : List Row) (end : End) (carried : List ℕ)
-    → (check ≡ 0 → RowsFit questions rows → IsEnded plan.conduct rows end carried → Formed granted done end)
-    → RowsFit (questions_if check questions) rows → IsEnded (if_good check plan).conduct rows end carried
+good_formed : (done : Job) (granted : Option Grant) (check : ℕ) (plan : Plan) (rows : List Row) (end : End)
+    (carried : List ℕ)
+    → (check ≡ 0 → AreAsked plan.conduct rows → IsEnded plan.conduct rows end carried → Formed granted done end)
+    → AreAsked (if_good check plan).conduct rows → IsEnded (if_good check plan).conduct rows end carried
     → Formed granted done end
-good_formed done granted check plan questions rows end carried formed fit ended =
-    good_by done granted check plan questions rows end carried (eqb check 0) refl formed fit ended
+good_formed done granted check plan rows end carried formed asked ended =
+    good_by done granted check plan rows end carried (eqb check 0) refl formed asked ended
 
 -- ---- on a connected client
+
+-- an end that gives what was found
+found_formed : (granted : Option Grant) (done : Job) (found codes : List ℕ) → FormOf done found codes
+    → IsWhole done (good_end found codes) → Formed granted done (good_end found codes)
+found_formed granted done found codes form is_all = (((λ e. form), (λ bad. absurd (bad refl))), (λ enough. is_all))
 
 -- an end that gives nothing
 nothing_formed : (granted : Option Grant) (done : Job) (leaves : Leaves) → FormOf done [] []
@@ -527,36 +477,98 @@ written_formed items octets granted answers good fit none all =
       (λ enough. tt),
     )
 
-connected_formed : (done : Job) (granted : Grant) (rows : List Row) (end : End) (carried : List ℕ)
-    → RowsFit (connected_questions done granted) rows → IsEnded (connected_plan done granted).conduct rows end carried
+-- the call of a control gives nothing
+control_formed : (done : Job) (granted : Grant) (control : Control) (rows : List Row) (end : End) (carried : List ℕ)
+    → FormOf done [] [] → IsWhole done (good_end [] [])
+    → IsEnded (controlling control) rows end carried → Formed (Some granted) done end
+control_formed done granted control rows end carried form is_all ended =
+    let refused = first_refusal (control_refusal control) 0 (answers_of rows) in
+    subst (Formed (Some granted) done) (sym ended.is)
+    (refused_formed (Some granted) done plain_number refused (good_end [] [])
+    (λ r e. first_positive (control_refusal control) 0 (answers_of rows) r (control_positive control) e)
+    (λ none. found_formed (Some granted) done [] [] form is_all))
+
+-- user data gives what the answers brought, which is whole
+about_formed : (done : Job) (granted : Grant) (subject : Subject) (octets : List ℕ) (rows : List Row) (end : End)
+    (carried : List ℕ)
+    → ((found : List ℕ) → is_whole subject found ≡ true → FormOf done found [])
+    → ((found : List ℕ) → IsWhole done (good_end found []))
+    → AreAsked (asking_about subject octets) rows → IsEnded (asking_about subject octets) rows end carried
     → Formed (Some granted) done end
-connected_formed job.Connect granted rows end carried fit ended =
+about_formed done granted subject octets rows end carried form is_all asked ended =
+    let found : List ℕ = octets_brought (answers_of rows) in
+    let refused = first_refusal telegram_refusal 0 (answers_of rows) in
+    subst (Formed (Some granted) done) (sym ended.is)
+    (refused_formed (Some granted) done plain_number refused (good_end found [])
+    (λ r e. first_positive telegram_refusal 0 (answers_of rows) r telegram_positive e)
+    (λ none. found_formed (Some granted) done found []
+    (form found
+    (whole_brought subject octets rows (asked.last (omega arith)) (all_answered rows ended.answered) none
+    (ended.last (omega arith) none)))
+    (is_all found)))
+
+no_octets : (xs : List ℕ) → eqb (length xs) 0 ≡ true → xs ≡ []
+no_octets [] is = refl
+no_octets (x ∷ xs) is = absurd (omega (arith, eqb-true (length (x ∷ xs)) 0 is))
+
+connected_formed : (done : Job) (granted : Grant) (rows : List Row) (end : End) (carried : List ℕ)
+    → AreAsked (connected_plan done granted).conduct rows
+    → IsEnded (connected_plan done granted).conduct rows end carried → Formed (Some granted) done end
+connected_formed job.Connect granted rows end carried asked ended =
     subst (Formed (Some granted) job.Connect) (sym ended.is)
     (nothing_formed (Some granted) job.Connect AsItWas (refl, refl) tt)
-connected_formed (job.ReadArea item) granted rows end carried fit ended =
-    good_formed (job.ReadArea item) (Some granted) (check_item item true) _ _ rows end carried
-    (λ good fit ended. listed_formed (job.ReadArea item) granted _ part_refusal plain_number _ rows end carried
+connected_formed (job.ReadArea item) granted rows end carried asked ended =
+    good_formed (job.ReadArea item) (Some granted) (check_item item true) _ rows end carried
+    (λ good asked ended. listed_formed (job.ReadArea item) granted _ part_refusal plain_number _ rows end carried
     (λ r e. first_positive part_refusal 0 (answers_of rows) r part_positive e)
-    (parts_formed item granted (answers_of rows) good) fit ended) fit ended
-connected_formed (job.WriteArea item octets) granted rows end carried fit ended =
+    (parts_formed item granted (answers_of rows) good) asked ended) asked ended
+connected_formed (job.WriteArea item octets) granted rows end carried asked ended =
     good_formed (job.WriteArea item octets) (Some granted)
-    (check_item item (eqb (length octets) (octet_count item))) _ _ rows end carried
-    (λ good fit ended. listed_formed (job.WriteArea item octets) granted _ part_refusal write_number _ rows end carried
-    (λ r e. write_positive r.0 r.1 (first_positive part_refusal 0 (answers_of rows) r part_positive e))
-    (λ fit none all. nothing_formed (Some granted) (job.WriteArea item octets) AsItWas (refl, refl) tt) fit ended)
-    fit ended
-connected_formed (job.ReadMany items) granted rows end carried fit ended =
-    good_formed (job.ReadMany items) (Some granted) (check_items items true granted.pdu false) _ _ rows end carried
-    (λ good fit ended. listed_formed (job.ReadMany items) granted _ telegram_refusal plain_number _ rows end carried
+    (check_item item (eqb (length octets) (octet_count item))) _ rows end carried
+    (λ good asked ended. listed_formed (job.WriteArea item octets) granted _ part_refusal write_number _ rows end
+    carried (λ r e. write_positive r.0 r.1 (first_positive part_refusal 0 (answers_of rows) r part_positive e))
+    (λ fit none all. nothing_formed (Some granted) (job.WriteArea item octets) AsItWas (refl, refl) tt) asked ended)
+    asked ended
+connected_formed (job.ReadMany items) granted rows end carried asked ended =
+    good_formed (job.ReadMany items) (Some granted) (check_items items true granted.pdu false) _ rows end carried
+    (λ good asked ended. listed_formed (job.ReadMany items) granted _ telegram_refusal plain_number _ rows end carried
     (λ r e. first_positive telegram_refusal 0 (answers_of rows) r telegram_positive e)
-    (items_formed items granted (answers_of rows) good) fit ended) fit ended
-connected_formed (job.WriteMany items octets) granted rows end carried fit ended =
+    (items_formed items granted (answers_of rows) good) asked ended) asked ended
+connected_formed (job.WriteMany items octets) granted rows end carried asked ended =
     good_formed (job.WriteMany items octets) (Some granted)
-    (check_items items (eqb (length octets) (octet_count_of items)) granted.pdu true) _ _ rows end carried
-    (λ good fit ended. listed_formed (job.WriteMany items octets) granted _ telegram_refusal plain_number _ rows end
+    (check_items items (eqb (length octets) (octet_count_of items)) granted.pdu true) _ rows end carried
+    (λ good asked ended. listed_formed (job.WriteMany items octets) granted _ telegram_refusal plain_number _ rows end
     carried (λ r e. first_positive telegram_refusal 0 (answers_of rows) r telegram_positive e)
-    (written_formed items octets granted (answers_of rows) good) fit ended) fit ended
-connected_formed job.Disconnect granted rows end carried fit ended =
+    (written_formed items octets granted (answers_of rows) good) asked ended) asked ended
+connected_formed (job.Szl id index) granted rows end carried asked ended =
+    about_formed (job.Szl id index) granted StatusList _ rows end carried (λ found is. (is, refl)) (λ found. tt) asked
+    ended
+connected_formed job.ClockRead granted rows end carried asked ended =
+    about_formed job.ClockRead granted Clock _ rows end carried (λ found is. (is, refl)) (λ found. tt) asked ended
+connected_formed (job.ClockSet moment) granted rows end carried asked ended =
+    good_formed (job.ClockSet moment) (Some granted) (check_moment moment) _ rows end carried
+    (λ good asked ended. about_formed (job.ClockSet moment) granted ClockSetting _ rows end carried
+    (λ found is. (no_octets found is, refl)) (λ found. tt) asked ended) asked ended
+connected_formed job.Start granted rows end carried asked ended =
+    control_formed job.Start granted control.Start rows end carried (refl, refl) tt ended
+connected_formed job.ColdStart granted rows end carried asked ended =
+    control_formed job.ColdStart granted control.ColdStart rows end carried (refl, refl) tt ended
+connected_formed job.Stop granted rows end carried asked ended =
+    control_formed job.Stop granted control.Stop rows end carried (refl, refl) tt ended
+connected_formed job.Compress granted rows end carried asked ended =
+    control_formed job.Compress granted control.Compress rows end carried (refl, refl) tt ended
+connected_formed job.CopyRam granted rows end carried asked ended =
+    control_formed job.CopyRam granted control.CopyRam rows end carried (refl, refl) tt ended
+connected_formed job.Status granted rows end carried asked ended =
+    about_formed job.Status granted RunState _ rows end carried (λ found is. (is, refl)) (λ found. tt) asked ended
+connected_formed (job.PasswordSet text) granted rows end carried asked ended =
+    good_formed (job.PasswordSet text) (Some granted) (check_password text) _ rows end carried
+    (λ good asked ended. about_formed (job.PasswordSet text) granted Password _ rows end carried
+    (λ found is. (no_octets found is, refl)) (λ found. tt) asked ended) asked ended
+connected_formed job.PasswordClear granted rows end carried asked ended =
+    about_formed job.PasswordClear granted PasswordClearing _ rows end carried (λ found is. (no_octets found is, refl))
+    (λ found. tt) asked ended
+connected_formed job.Disconnect granted rows end carried asked ended =
     subst (Formed (Some granted) job.Disconnect) (sym ended.is)
     (nothing_formed (Some granted) job.Disconnect Disconnected (refl, refl) tt)
 
@@ -569,9 +581,7 @@ grant_formed granted (Some grant) = nothing_formed granted job.Connect (Connecte
 answer_formed : (granted : Option Grant) (config : Config) (answer : Answer)
     → Formed granted job.Connect (negotiated_by config answer)
 answer_formed granted config (grants n) = grant_formed granted (taken_grant config n)
-answer_formed granted config (refuses error) = grant_formed granted None
-answer_formed granted config (tells items) = grant_formed granted None
-answer_formed granted config (notes codes) = grant_formed granted None
+answer_formed granted config _ = grant_formed granted None
 
 negotiated_formed : (granted : Option Grant) (config : Config) (answers : List (Option Answer))
     → Formed granted job.Connect (negotiated config answers)
@@ -585,35 +595,36 @@ not_connected done = bare_form None done 0x00010000 Disconnected (λ e. absurd (
 unconnected_formed : (done : Job) (config : Config) (answers : List (Option Answer))
     → Formed None done ((unconnected_plan done config).conduct.ended answers)
 unconnected_formed job.Connect config answers = negotiated_formed None config answers
-unconnected_formed (job.ReadArea item) config answers = not_connected (job.ReadArea item)
-unconnected_formed (job.WriteArea item octets) config answers = not_connected (job.WriteArea item octets)
-unconnected_formed (job.ReadMany items) config answers = not_connected (job.ReadMany items)
-unconnected_formed (job.WriteMany items octets) config answers = not_connected (job.WriteMany items octets)
-unconnected_formed job.Disconnect config answers = not_connected job.Disconnect
+unconnected_formed done config answers = not_connected done
 
 -- ---- each end
 
 plan_formed : (done : Job) (config : Config) (granted : Option Grant) (rows : List Row) (end : End) (carried : List ℕ)
-    → RowsFit (questions_of done config granted) rows → IsEnded (plan_of done config granted).conduct rows end carried
-    → Formed granted done end
-plan_formed done config None rows end carried fit ended =
+    → AreAsked (plan_of done config granted).conduct rows
+    → IsEnded (plan_of done config granted).conduct rows end carried → Formed granted done end
+plan_formed done config None rows end carried asked ended =
     subst (Formed None done) (sym ended.is) (unconnected_formed done config (answers_of rows))
-plan_formed done config (Some granted) rows end carried fit ended =
-    connected_formed done granted rows end carried fit ended
+plan_formed done config (Some granted) rows end carried asked ended =
+    connected_formed done granted rows end carried asked ended
 
-over_formed : (origin : Origin) (rows : List Row) (end : End) (carried : List ℕ)
-    → RowsFit (questions_of origin.job origin.config origin.granted) rows
+over_formed : (origin : Origin) (rows : List Row) (end : End) (carried : List ℕ) → AreAsked (conduct_of origin) rows
     → IsEnded (conduct_of origin) rows end carried ⊎ IsFaulted end → Formed origin.granted origin.job end
-over_formed origin rows end carried fit (inl ended) =
-    plan_formed origin.job origin.config origin.granted rows end carried fit ended
-over_formed origin rows end carried fit (inr fault) =
+over_formed origin rows end carried asked (inl ended) =
+    plan_formed origin.job origin.config origin.granted rows end carried asked ended
+over_formed origin rows end carried asked (inr fault) =
     subst (Formed origin.granted origin.job) (sym fault.2)
     (bare_form origin.granted origin.job fault.0 Closed fault.1)
+
+course_asked : (origin : Origin) (b : List ℕ) → AreAsked (conduct_of origin) (course origin b).rows
+course_asked origin b = record {
+  listed = λ questions listed. rows_fit origin questions listed b;
+  last = λ one. course_last origin one b;
+}
 
 ends_formed : (origin : Origin) (b : List ℕ) (end : End) (carried : List ℕ)
     → (course origin b).awaits ≡ for_nothing end carried → Formed origin.granted origin.job end
 ends_formed origin b end carried is =
-    over_formed origin (course origin b).rows end carried (course_fit origin b) (course_over origin b end carried is)
+    over_formed origin (course origin b).rows end carried (course_asked origin b) (course_over origin b end carried is)
 
 pub octets_have_form : (origin : Origin) (b : List ℕ) (end : End) (carried : List ℕ)
     → (course origin b).awaits ≡ for_nothing end carried → HasForm origin.job end

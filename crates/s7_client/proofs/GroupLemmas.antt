@@ -4,6 +4,7 @@ use Rattle.std.specs.Prelude.{unwrap_or, ◌&&◌}
 use Rattle.std.specs.List.{list_all, AllByRecursion}
 use Rattle.std.proofs.lemmas.Bool.{and_parts, and_from, leb-true, le-leb, lt-ltb}
 use Rattle.std.proofs.lemmas.List.Folds.{list_all-append}
+use Rattle.s7_header.specs.Negotiation.{most_pdu}
 use Rattle.s7_item.specs.declared.item.Item.{Item}
 use Rattle.s7_item.specs.Item.{octet_count}
 use Rattle.s7_item.specs.Word.{size_of}
@@ -19,7 +20,7 @@ use Rattle.s7_client.specs.Stages.{joined, is_addressed, is_sendable}
 use Rattle.s7_client.proofs.CheckLemmas.{all_addressed}
 
 -- the request of what fits is no longer than any message may be
-request_fits : (pdu : ℕ) (write : Bool) (items : List Item) → fits pdu write items ≡ true → pdu ≤ 960 → request_size items write ≤ 960
+request_fits : (pdu : ℕ) (write : Bool) (items : List Item) → fits pdu write items ≡ true → pdu ≤ most_pdu → request_size items write ≤ most_pdu
 unfolding fits
 request_fits pdu write items fit most =
     omega (arith, most, leb-true (request_size items write) pdu (and_parts (leb (request_size items write) pdu) (leb (answer_length items write) pdu) fit).0)
@@ -58,18 +59,18 @@ one_sendable write false known small a k s = absurd (cc)
 one_sendable write true false small a k s = absurd (cc)
 one_sendable write true true false a k s = absurd (cc)
 
-parts_each : (item : Item) (pdu : ℕ) (write : Bool) (parts : List Item) → is_known item ≡ true → pdu ≤ 960 → AllByRecursion (IsAlike item) parts → AllByRecursion (CanBeAsked pdu write) parts → list_all (is_sendable true write) (alone parts) ≡ true
+parts_each : (item : Item) (pdu : ℕ) (write : Bool) (parts : List Item) → is_known item ≡ true → pdu ≤ most_pdu → AllByRecursion (IsAlike item) parts → AllByRecursion (CanBeAsked pdu write) parts → list_all (is_sendable true write) (alone parts) ≡ true
 parts_each item pdu write [] known most alike asked = refl
 parts_each item pdu write (part ∷ parts) known most alike asked =
     and_from (is_sendable true write (part ∷ [])) (list_all (is_sendable true write) (alone parts))
-    (one_sendable write (is_addressed part) (is_known part) (leb (request_size (part ∷ []) write) 960)
+    (one_sendable write (is_addressed part) (is_known part) (leb (request_size (part ∷ []) write) most_pdu)
     (lt-ltb part.address 16777216 asked.0.address)
     (ap (λ w. is_known (record part { word = w })) alike.0.word ∙ known)
-    (le-leb (request_size (part ∷ []) write) 960 (request_fits pdu write (part ∷ []) asked.0.fits most)))
+    (le-leb (request_size (part ∷ []) write) most_pdu (request_fits pdu write (part ∷ []) asked.0.fits most)))
     (parts_each item pdu write parts known most alike.1 asked.1)
 
 -- each part can be sent alone
-pub parts_sendable : (item : Item) (pdu : ℕ) (write : Bool) → is_known item ≡ true → CanBeSplit item → 64 ≤ pdu → pdu ≤ 960 → list_all (is_sendable true write) (alone (parts_of item pdu write)) ≡ true
+pub parts_sendable : (item : Item) (pdu : ℕ) (write : Bool) → is_known item ≡ true → CanBeSplit item → 64 ≤ pdu → pdu ≤ most_pdu → list_all (is_sendable true write) (alone (parts_of item pdu write)) ≡ true
 parts_sendable item pdu write known split least most =
     let right : AreParts item pdu write (parts_of item pdu write) = (parts_exact item pdu write (parts_of item pdu write) split least).0 refl in
     parts_each item pdu write (parts_of item pdu write) known most right.alike (parts_asked item pdu write split least)
@@ -93,19 +94,19 @@ group_sendable true false known small s a k m = absurd (cc)
 group_sendable true true false small s a k m = absurd (cc)
 group_sendable true true true false s a k m = absurd (cc)
 
-groups_each : (pdu : ℕ) (write : Bool) (groups : List (List Item)) → pdu ≤ 960 → list_all is_known (joined groups) ≡ true → list_all is_addressed (joined groups) ≡ true → AllByRecursion (IsGroup pdu write) groups → list_all (is_sendable false write) groups ≡ true
+groups_each : (pdu : ℕ) (write : Bool) (groups : List (List Item)) → pdu ≤ most_pdu → list_all is_known (joined groups) ≡ true → list_all is_addressed (joined groups) ≡ true → AllByRecursion (IsGroup pdu write) groups → list_all (is_sendable false write) groups ≡ true
 groups_each pdu write [] most known addressed each = refl
 groups_each pdu write (group ∷ groups) most known addressed each =
     let k = and_parts (list_all is_known group) (list_all is_known (joined groups)) (sym (list_all-append is_known group (joined groups)) ∙ known) in
     let a = and_parts (list_all is_addressed group) (list_all is_addressed (joined groups)) (sym (list_all-append is_addressed group (joined groups)) ∙ addressed) in
     and_from (is_sendable false write group) (list_all (is_sendable false write) groups)
-    (group_sendable (ltb 0 (length group)) (list_all is_addressed group) (list_all is_known group) (leb (request_size group write) 960)
+    (group_sendable (ltb 0 (length group)) (list_all is_addressed group) (list_all is_known group) (leb (request_size group write) most_pdu)
     (lt-ltb 0 (length group) each.0.some) a.0 k.0
-    (le-leb (request_size group write) 960 (request_fits pdu write group each.0.fits most)))
+    (le-leb (request_size group write) most_pdu (request_fits pdu write group each.0.fits most)))
     (groups_each pdu write groups most k.1 a.1 each.1)
 
 -- each group can be sent
-pub groups_sendable : (pdu : ℕ) (write : Bool) (items : List Item) → pdu ≤ 960 → list_all is_known items ≡ true → list_all is_placed items ≡ true → packed_of pdu write items ≡ Ok tt → list_all (is_sendable false write) (groups_of pdu write items) ≡ true
+pub groups_sendable : (pdu : ℕ) (write : Bool) (items : List Item) → pdu ≤ most_pdu → list_all is_known items ≡ true → list_all is_placed items ≡ true → packed_of pdu write items ≡ Ok tt → list_all (is_sendable false write) (groups_of pdu write items) ≡ true
 groups_sendable pdu write items most known placed packed =
     let right : AreGroups pdu write items (groups_of pdu write items) = groups_right pdu write items packed in
     groups_each pdu write (groups_of pdu write items) most

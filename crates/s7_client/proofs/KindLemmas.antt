@@ -30,6 +30,7 @@ abbrev pub MayAsk : Job → Question → Type 0
 MayAsk done (negotiates n) = done ≡ job.Connect
 MayAsk done (reads items) = (brings_octets done ≡ true) × (asks_groups done ≡ true)
 MayAsk done (writes items octets) = asks_groups done ≡ true
+MayAsk done _ = ⊥
 
 all_read : (done : Job) (groups : List (List Item)) → brings_octets done ≡ true → asks_groups done ≡ true
     → AllByRecursion (MayAsk done) (read_questions groups)
@@ -49,7 +50,7 @@ all_asked config (job.ReadArea item) groups = all_read (job.ReadArea item) group
 all_asked config (job.WriteArea item octets) groups = all_written (job.WriteArea item octets) groups octets refl
 all_asked config (job.ReadMany items) groups = all_read (job.ReadMany items) groups refl refl
 all_asked config (job.WriteMany items octets) groups = all_written (job.WriteMany items octets) groups octets refl
-all_asked config job.Disconnect groups = tt
+all_asked config _ groups = tt
 
 one_of : {A : Type 0} (P : A → Type 0) (xs ys zs : List A) (y : A) → zs ≡ xs ++ y ∷ ys → AllByRecursion P zs → P y
 one_of P [] ys zs y is each = (subst (AllByRecursion P) is each).0
@@ -78,12 +79,12 @@ writes_same xs ys is = cc
 
 pub question_by : (question : Question) (write : Bool) (items : List Item) → asked_of question ≡ asked_by write items
     → (octets : List ℕ) × (question ≡ question_for write items octets)
-question_by (negotiates n) true items is = absurd (cc)
-question_by (negotiates n) false items is = absurd (cc)
 question_by (reads others) true items is = absurd (cc)
 question_by (reads others) false items is = ([], ap reads (reads_same others items is))
 question_by (writes others octets) true items is = (octets, ap (λ xs. writes xs octets) (writes_same others items is))
 question_by (writes others octets) false items is = absurd (cc)
+question_by _ true items is = absurd (cc)
+question_by _ false items is = absurd (cc)
 
 pub items_for : (write : Bool) (items : List Item) (octets : List ℕ)
     → items_of (question_for write items octets) ≡ items

@@ -2,6 +2,8 @@ pub mod FlightLemmas
 pub mod ItemLemmas
 pub mod AnswerLemmas
 pub mod MessageLemmas
+pub mod UserLemmas
+pub mod UserReadLemmas
 pub mod CheckLemmas
 pub mod GroupLemmas
 pub mod ProgressLemmas
@@ -10,7 +12,9 @@ pub mod SpotLemmas
 pub mod AskLemmas
 pub mod ReadyLemmas
 pub mod StartLemmas
+pub mod SingleAskLemmas
 pub mod FollowLemmas
+pub mod SingleLemmas
 pub mod UnputLemmas
 pub mod GapLemmas
 pub mod TakingLemmas
@@ -24,6 +28,7 @@ pub mod PlaceLemmas
 pub mod KindLemmas
 pub mod NoteLemmas
 pub mod TakeLemmas
+pub mod SingleTakeLemmas
 pub mod CourseLemmas
 pub mod RowLemmas
 pub mod PlanLemmas
@@ -31,6 +36,7 @@ pub mod FrontLemmas
 pub mod JoinLemmas
 pub mod PacketLemmas
 pub mod StepLemmas
+pub mod OrderLemmas
 pub mod LinkLemmas
 pub mod SendLemmas
 pub mod RoundLemmas
@@ -38,6 +44,8 @@ pub mod PutLemmas
 pub mod BeginLemmas
 pub mod PollLemmas
 pub mod StartingLemmas
+pub mod BringLemmas
+pub mod BringLastLemmas
 pub mod FormLemmas
 pub mod FitLemmas
 pub mod RunLemmas

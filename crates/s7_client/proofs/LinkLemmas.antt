@@ -18,6 +18,7 @@ use Rattle.s7_client.specs.At.{IsAwaiting, pending}
 use Rattle.s7_client.specs.Standing.{Stands, Fits, Consumes, Moves, IsStep, IsWaiting, HasMetNotYet, HasCause, HasEnded, unread, unsent}
 use Rattle.s7_client.proofs.PacketLemmas.{awaiting_goes_on, closed_stage}
 use Rattle.s7_client.proofs.StepLemmas.{awaits_here, sent_whole}
+use Rattle.s7_client.proofs.OrderLemmas.{orderly_none, orderly_used, orderly_taken}
 
 pub prepend_none : (o : Option (List ℕ)) → o ≡ prepend_known [] o
 prepend_none None = refl
@@ -144,10 +145,10 @@ stands_with origin l octets u b w s = record {
 }
 
 pub step_used : (l l' : Line) (u u' : UnderWay) (link : Shown) (config : Config) (granted : Option Grant)
-    → Consumes l u l' u' config granted
+    → pending config l.talk u.running ≡ [] → Consumes l u l' u' config granted
     → IsStep l u link l' u' link config granted step.Went
 unfolding moves_received
-step_used l l' u u' link config granted k = record {
+step_used l l' u u' link config granted sent k = record {
   moves = moves_received l l' link link [] k.used (append-nil (unread l) ∙ k.inbox) (prepend_none link.left) refl
       (omega arith) (omega arith);
   fits = λ h. k.fits;
@@ -155,6 +156,8 @@ step_used l l' u u' link config granted k = record {
   waited = k.waited;
   stood = λ origin b w ec eg s h. subst (λ x. Stands origin l' u' (b ++ k.used) x) (sym (append-nil w))
       (k.stood origin b w ec eg s);
+  orderly = λ origin b w ec eg s. orderly_used origin (unread l) b w _
+      (sym (sent_whole origin l u b w config ec s sent)) k.some k.inbox refl refl;
   less = λ e. k.less;
   not_yet = λ e. absurd (went_not_yet e);
   met = λ origin b w ec eg s e. absurd (went_not_yet e);
@@ -164,13 +167,13 @@ step_used l l' u u' link config granted k = record {
 
 -- octets came, and are used
 pub step_taken : (l l' : Line) (u u' : UnderWay) (link link' : Shown) (received : List ℕ) (config : Config)
-    (granted : Option Grant) → unread l ≡ []
+    (granted : Option Grant) → pending config l.talk u.running ≡ [] → unread l ≡ []
     → Consumes (record l { inbox = received }) u l' u' config granted → link.left ≡ prepend_known received link'.left
     → link' ≡ record link { left = link'.left; has_ended = link'.has_ended; faults = link'.faults; waits = link'.waits }
     → link.faults ≤ link'.faults → link.waits ≤ link'.waits
     → IsStep l u link l' u' link' config granted step.Went
 unfolding moves_received
-step_taken l l' u u' link link' received config granted none k took same faults waits = record {
+step_taken l l' u u' link link' received config granted sent none k took same faults waits = record {
   moves = moves_received l l' link link' received k.used (ap (λ x. x ++ received) none ∙ k.inbox) took
       same faults waits;
   fits = λ h. k.fits;
@@ -178,6 +181,8 @@ step_taken l l' u u' link link' received config granted none k took same faults 
   waited = k.waited;
   stood = λ origin b w ec eg s h. subst (λ x. Stands origin l' u' (b ++ k.used) x) (sym (append-nil w))
       (k.stood origin b w ec eg (stands_with origin l received u b w s));
+  orderly = λ origin b w ec eg s. orderly_taken origin (unread l) b w _
+      (sym (sent_whole origin l u b w config ec s sent)) none k.some k.inbox refl;
   less = λ e. k.less;
   not_yet = λ e. absurd (went_not_yet e);
   met = λ origin b w ec eg s e. absurd (went_not_yet e);
@@ -266,6 +271,7 @@ step_waiting l octets u link link' config granted fits awaiting sent none none' 
       left = (fits_with l u octets fits).between;
       waited = refl;
       stood = λ origin b w ec eg s h. same_stands origin l' u b w (stands_with origin l octets u b w s);
+      orderly = λ origin b w ec eg s. orderly_none origin (unread l) b w _ refl refl refl;
       less = λ e. absurd (not_yet_not_went e);
       not_yet = λ e. rose;
       met = λ origin b w ec eg s e. same_met origin (unread l') link' b w (record {
@@ -304,6 +310,7 @@ step_broken l octets u u' link link' config granted code awaiting sent none none
       left = λ h. absurd (closed_stage u'.running code (e []) h);
       waited = waited;
       stood = λ origin b w ec eg s h. absurd (h refl);
+      orderly = λ origin b w ec eg s. orderly_none origin (unread l) b w _ refl refl refl;
       less = λ h. absurd (over_not_went h);
       not_yet = λ h. absurd (over_not_yet h);
       met = λ origin b w ec eg s h. absurd (over_not_yet h);

@@ -4,6 +4,7 @@ use Rattle.std.proofs.Math.Path.{ap₂}
 use Rattle.std.proofs.lemmas.List.{length-drop, length-map, length-take-le, drop_more, take_at}
 use Rattle.s7_header.specs.declared.header.Kind.TheVariants.{Job}
 use Rattle.s7_header.specs.Header.{spelling_of}
+use Rattle.s7_header.specs.Negotiation.{most_pdu}
 use Rattle.s7_item.specs.declared.item.Item.{Item}
 use Rattle.s7_item.specs.Item.{octet_count}
 use Rattle.s7_item.specs.Params.{items_params}
@@ -85,7 +86,7 @@ size_more items k d less =
 
 -- the data items of the items after the k-th fit too
 pub fits_step : (items : List Item) (k n : ℕ) (d : Item) (rest front message now : List ℕ) → k < length items → n ≡ octet_count (get_or items k d) → front ≡ take n rest → length rest ≡ octet_count_of (drop k items)
-    → length now ≡ length message + (4 + length front + padding_of (length front) (eqb (k + 1) (length items))) → length message + data_size (map octet_count (drop k items)) ≤ 960 → length now + data_size (map octet_count (drop (k + 1) items)) ≤ 960
+    → length now ≡ length message + (4 + length front + padding_of (length front) (eqb (k + 1) (length items))) → length message + data_size (map octet_count (drop k items)) ≤ most_pdu → length now + data_size (map octet_count (drop (k + 1) items)) ≤ most_pdu
 fits_step items k n d rest front message now less count is left adds fits =
     let taken : length front ≡ octet_count (get_or items k d) =
     ap length is ∙ (length-take-le n rest (omega (arith, left, count, count_more items k d less)) ∙ count) in

@@ -18,14 +18,14 @@ use Rattle.s7_client.specs.declared.asking.Asking.{Asking}
 use Rattle.s7_client.specs.declared.running.Stage.{Stage}
 use Rattle.s7_client.specs.declared.running.Stage.TheVariants as stage
 use Rattle.s7_client.specs.declared.running.Running.{Running}
-use Rattle.s7_client.specs.Question.{Question, negotiates, reads, writes}
-use Rattle.s7_client.specs.Answer.{Answer, ItemAnswer, grants, tells, notes, refuses}
+use Rattle.s7_client.specs.Question.{Question, reads, writes}
+use Rattle.s7_client.specs.Answer.{Answer, ItemAnswer, tells, notes, refuses}
 use Rattle.s7_client.specs.Refusals.{number_of_error, number_of_code, code_refusal, telegram_refusal, part_refusal}
 use Rattle.s7_client.specs.Told.{Tells}
 use Rattle.s7_client.specs.Flight.{Row, answers_of}
 use Rattle.s7_client.specs.Left.{octets_left, items_left}
 use Rattle.s7_client.specs.Dialogue.{first_refusal, items_told, codes_in, of_answer}
-use Rattle.s7_client.specs.Stages.{is_alone}
+use Rattle.s7_client.specs.Stages.{is_alone, IsListing}
 use Rattle.s7_client.specs.Asks.{items_of, Spot, first_spot, spot_behind, questions_behind, earlier, Refuses}
 use Rattle.s7_client.specs.GoesOn.{refusal_by, refusal_of, conducted, filled_up, octets_at_places, told_of_items, octets_of_row, codes_of_row, octets_so_far, codes_so_far, brings_octets, brings_codes, TellAll, FitsQuestion, Conducts, ConductsAt, RefusesAt}
 use Rattle.s7_client.specs.Taking.{question_for, TellsFor, Taken, rows_with, with_codes, with_octets, Keeps}
@@ -55,36 +55,29 @@ one_refused (item ∷ []) a number refusing all =
     ap (λ xs. filled_up (octet_count item) xs ++ []) none
 
 no_codes_in : (x : Answer) (number : ℕ) → telegram_refusal x ≡ Some number → codes_in x ≡ []
-no_codes_in (grants n) number refusing = refl
-no_codes_in (tells answers) number refusing = absurd (cc)
-no_codes_in (notes codes) number refusing = absurd (cc)
 no_codes_in (refuses error) number refusing = refl
+no_codes_in _ number refusing = absurd (cc)
 
 -- no octets
 refused_octets : (alone : Bool) (items : List Item) (question : Question) (x : Answer) (number : ℕ)
     → items_of question ≡ items
     → refusal_by alone x ≡ Some number → FitsQuestion question x → AsksItems question
     → octets_at_places items (items_told x) ≡ octets_at_places items []
-refused_octets alone items question (grants n) number is refusing fits asks = refl
-refused_octets alone items question (notes codes) number is refusing fits asks = refl
-refused_octets alone items question (refuses error) number is refusing fits asks = refl
 refused_octets false items question (tells answers) number is refusing fits asks = absurd (cc)
 refused_octets true items question (tells []) number is refusing fits asks = refl
 refused_octets true items question (tells (a ∷ b ∷ answers)) number is refusing fits asks = absurd (cc)
-refused_octets true items (negotiates n) (tells (a ∷ [])) number is refusing fits asks = absurd asks
 refused_octets true items (writes others octets) (tells (a ∷ [])) number is refusing fits asks = absurd fits
 refused_octets true items (reads others) (tells (a ∷ [])) number is refusing fits asks =
     one_refused items a number refusing (subst (λ xs. TellAll xs (a ∷ [])) is fits)
+refused_octets true items _ (tells (a ∷ [])) number is refusing fits asks = absurd asks
+refused_octets alone items question _ number is refusing fits asks = refl
 
 -- and no codes, where these are kept
 refused_codes : (done : Job) (x : Answer) (number : ℕ) → brings_codes done ≡ true
     → refusal_by (is_alone done) x ≡ Some number → codes_in x ≡ []
-refused_codes job.Connect x number brings refusing = absurd (cc)
-refused_codes (job.ReadArea item) x number brings refusing = absurd (cc)
-refused_codes (job.WriteArea item octets) x number brings refusing = absurd (cc)
 refused_codes (job.ReadMany items) x number brings refusing = no_codes_in x number refusing
 refused_codes (job.WriteMany items octets) x number brings refusing = no_codes_in x number refusing
-refused_codes job.Disconnect x number brings refusing = absurd (cc)
+refused_codes _ x number brings refusing = absurd (cc)
 
 same_if : (b : Bool) (xs ys : List ℕ) → (b ≡ true → xs ≡ ys) → cond b xs [] ≡ cond b ys []
 same_if true xs ys same = same refl
@@ -440,6 +433,8 @@ refused_stage r r' config granted rows st (stage.Asking b) flight t write items 
     (subst (λ (xs : List ℕ). Conducts config granted rows' rows' r.job r.found.items xs b) (sym codes)
     (notes_refusal config granted rows r.job r.found.items r.codes refusing.0 b flight t write items number taken is
     refusal refusing.2 h))))
+refused_stage r r' config granted rows st (stage.Single single) flight t write items number taken is refusal refusing
+    now same found codes conducts = absurd refusing
 refused_stage r r' config granted rows st stage.Leaving flight t write items number taken is refusal refusing now same
     found codes conducts = absurd refusing
 refused_stage r r' config granted rows st (stage.Over code leaves) flight t write items number taken is refusal
@@ -447,21 +442,24 @@ refused_stage r r' config granted rows st (stage.Over code leaves) flight t writ
 
 pub kept_stage : (r r' : Running) (config : Config) (granted : Option Grant) (rows : List Row) (st : Stage)
     (flight : Flight) (t : kept.Answer) (write : Bool) (items : List Item)
-    → (taken : Taken rows flight t) → flight.asked ≡ asked_by write items
+    → IsListing st → (taken : Taken rows flight t) → flight.asked ≡ asked_by write items
     → ((w : Bool) (x : Answer) → TellsFor w items t x → None ≡ refusal_by (is_alone r.job) x)
     → Keeps items flight t r.found.items r.codes r'.found.items r'.codes → r'.stage ≡ st → r'.job ≡ r.job
     → ConductsAt config granted (rows_with taken.front taken.row taken.back taken.answer) rows r.job r.found.items
     r.codes st
     → Follows r' config granted (rows_with taken.front taken.row taken.back taken.answer)
-kept_stage r r' config granted rows stage.Opening flight t write items taken is refusal keeps now same conducts =
-    absurd conducts
-kept_stage r r' config granted rows (stage.Asking a) flight t write items taken is refusal keeps now same conducts =
+kept_stage r r' config granted rows stage.Opening flight t write items listing taken is refusal keeps now same
+    conducts = absurd conducts
+kept_stage r r' config granted rows (stage.Asking a) flight t write items listing taken is refusal keeps now same
+    conducts =
     let rows' = rows_with taken.front taken.row taken.back taken.answer in
     follows_at r' a config granted rows' now
     (subst (λ (j : Job). Conducts config granted rows' rows' j r'.found.items r'.codes a) (sym same)
     (notes_kept config granted rows r.job r.found.items r.codes r'.found.items r'.codes a flight t write items taken
     is refusal keeps conducts))
-kept_stage r r' config granted rows stage.Leaving flight t write items taken is refusal keeps now same conducts =
-    absurd conducts
-kept_stage r r' config granted rows (stage.Over code leaves) flight t write items taken is refusal keeps now same
+kept_stage r r' config granted rows (stage.Single single) flight t write items listing taken is refusal keeps now same
+    conducts = absurd listing
+kept_stage r r' config granted rows stage.Leaving flight t write items listing taken is refusal keeps now same
     conducts = absurd conducts
+kept_stage r r' config granted rows (stage.Over code leaves) flight t write items listing taken is refusal keeps now
+    same conducts = absurd conducts

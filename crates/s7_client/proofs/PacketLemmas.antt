@@ -24,30 +24,35 @@ use Rattle.s7_client.proofs.FlightLemmas.{asks_on}
 pub asking_awaits : (s : Stage) → IsAsking s → IsAwaiting s
 asking_awaits stage.Opening h = absurd h
 asking_awaits (stage.Asking a) h = tt
+asking_awaits (stage.Single single) h = tt
 asking_awaits stage.Leaving h = absurd h
 asking_awaits (stage.Over code leaves) h = absurd h
 
 pub opening_awaits : (s : Stage) → IsOpening s → IsAwaiting s
 opening_awaits stage.Opening h = tt
 opening_awaits (stage.Asking a) h = absurd h
+opening_awaits (stage.Single single) h = absurd h
 opening_awaits stage.Leaving h = absurd h
 opening_awaits (stage.Over code leaves) h = absurd h
 
 pub awaiting_goes_on : (s : Stage) → IsAwaiting s → IsOver s → ⊥
 awaiting_goes_on stage.Opening h over = over
 awaiting_goes_on (stage.Asking a) h over = over
+awaiting_goes_on (stage.Single single) h over = over
 awaiting_goes_on stage.Leaving h over = h
 awaiting_goes_on (stage.Over code leaves) h over = h
 
 pub over_not_opening : (s : Stage) → IsOver s → IsOpening s → ⊥
 over_not_opening stage.Opening over h = over
 over_not_opening (stage.Asking a) over h = over
+over_not_opening (stage.Single single) over h = over
 over_not_opening stage.Leaving over h = over
 over_not_opening (stage.Over code leaves) over h = h
 
 pub over_not_leaving : (s : Stage) → IsOver s → IsLeaving s → ⊥
 over_not_leaving stage.Opening over h = over
 over_not_leaving (stage.Asking a) over h = over
+over_not_leaving (stage.Single single) over h = over
 over_not_leaving stage.Leaving over h = over
 over_not_leaving (stage.Over code leaves) over h = h
 
@@ -59,6 +64,7 @@ over_not_asking s over h = awaiting_goes_on s (asking_awaits s h) over
 pub one_is_none : (s : Stage) → IsAwaiting s → messages_left s ≡ answers_left s + 1
 one_is_none stage.Opening h = refl
 one_is_none (stage.Asking a) h = refl
+one_is_none (stage.Single single) h = refl
 one_is_none stage.Leaving h = absurd h
 one_is_none (stage.Over code leaves) h = absurd h
 
@@ -68,6 +74,7 @@ awaits_some s h = omega (arith, one_is_none s h)
 pub over_none : (s : Stage) → IsOver s → messages_left s ≡ 0
 over_none stage.Opening h = absurd h
 over_none (stage.Asking a) h = absurd h
+over_none (stage.Single single) h = absurd h
 over_none stage.Leaving h = absurd h
 over_none (stage.Over code leaves) h = refl
 
@@ -84,6 +91,7 @@ pub left_by : (found codes carried message : List ℕ) (end : _) (s : Stage)
     → awaited_by found codes carried s ≡ for_nothing end message → LeavesOpen s → LeavesLink end.leaves
 left_by found codes carried message end stage.Opening e h = absurd h
 left_by found codes carried message end (stage.Asking a) e h = absurd h
+left_by found codes carried message end (stage.Single single) e h = absurd h
 left_by found codes carried message end stage.Leaving e h = absurd h
 left_by found codes carried message end (stage.Over code leaves) e h = subst LeavesLink (ap leaves_of e) h
 
@@ -94,6 +102,7 @@ closed_stage r code e h = left_by r.found.items r.codes [] [] (fault_end code) r
 pub over_unput : (config : Config) (size : ℕ) (job : Job) (s : Stage) → IsOver s → unput_by config size job s ≡ []
 over_unput config size job stage.Opening h = absurd h
 over_unput config size job (stage.Asking a) h = absurd h
+over_unput config size job (stage.Single single) h = absurd h
 over_unput config size job stage.Leaving h = absurd h
 over_unput config size job (stage.Over code leaves) h = refl
 
@@ -159,6 +168,7 @@ pub not_opening : (found codes carried : List ℕ) (s : Stage) → IsSettled (aw
     → IsOpening s → ⊥
 not_opening found codes carried stage.Opening a h = a
 not_opening found codes carried (stage.Asking a) b h = h
+not_opening found codes carried (stage.Single single) b h = h
 not_opening found codes carried stage.Leaving a h = h
 not_opening found codes carried (stage.Over code leaves) a h = h
 
@@ -166,6 +176,7 @@ pub not_leaving : (found codes carried : List ℕ) (s : Stage) → IsSettled (aw
     → IsLeaving s → ⊥
 not_leaving found codes carried stage.Opening a h = h
 not_leaving found codes carried (stage.Asking a) b h = h
+not_leaving found codes carried (stage.Single single) b h = h
 not_leaving found codes carried stage.Leaving a h = a
 not_leaving found codes carried (stage.Over code leaves) a h = h
 

@@ -1,94 +1,18 @@
--- Laws of the plans of jobs: which questions they ask, and how a course stands at what it awaits.
-use Rattle.std.proofs.Common.{◌≡◌, ◌≢◌, ◌⊎◌, inl, inr, ℕ, ◌<◌, Bool, true, false, cond, eqb, Option, Some, None, List, [], ◌∷◌, length, refl, subst, arith}
-use Rattle.std.specs.Prelude.{◌==◌, if◌then◌else◌}
+-- Laws of the plans of jobs: how a course stands at what it awaits, and which of them begins with a disconnect request.
+use Rattle.std.proofs.Common.{◌≡◌, ◌≢◌, ◌⊎◌, inl, inr, ℕ, ◌<◌, Bool, true, false, cond, eqb, Option, Some, None, List, [], length, refl, subst, arith}
 use Rattle.std.proofs.lemmas.Bool.{eqb-true, eqb-false}
 use Rattle.s7_item.specs.Item.{octet_count}
-use Rattle.s7_split.specs.Parts.{parts_of}
-use Rattle.s7_split.specs.Groups.{groups_of}
 use Rattle.s7_client.specs.declared.config.Config.{Config}
 use Rattle.s7_client.specs.declared.grant.Grant.{Grant}
+use Rattle.s7_client.specs.declared.grant.Leaves.TheVariants.{Disconnected}
 use Rattle.s7_client.specs.declared.job.Job.{Job}
 use Rattle.s7_client.specs.declared.job.Job.TheVariants as job
-use Rattle.s7_client.specs.Codes.{no_fault}
-use Rattle.s7_client.specs.Question.{Question, negotiates}
-use Rattle.s7_client.specs.Checks.{check_item, check_items, octet_count_of}
+use Rattle.s7_client.specs.Checks.{check_item, check_items, check_moment, check_password, octet_count_of}
 use Rattle.s7_client.specs.Flight.{Row, answers_of, open_count}
-use Rattle.s7_client.specs.Dialogue.{End, fault_end, departed_end, First, nothing, connect_request, disconnect_request, Plan, over, read_questions, write_questions, alone, asked_by, connected_plan, unconnected_plan, plan_of}
+use Rattle.s7_client.specs.Dialogue.{End, fault_end, number_end, departed_end, First, nothing, connect_request, disconnect_request, Plan, over, connecting_plan, is_connect, connected_plan, plan_of}
 use Rattle.s7_client.specs.Course.{Origin, Course, Awaits, for_confirm, for_answers, for_departure, for_nothing, conduct_of, next_question, asked_on, asking, by_first, blank, begun, course}
 use Rattle.s7_client.proofs.FlightLemmas.{nothing_more, settled_ends, IsEnded, asking_ends}
-use Rattle.s7_client.proofs.RowLemmas.{IsKept, course_kept, IsListed, RowsFit, rows_fit}
-
--- ---- how the questions of each job are listed
-
--- the questions of a job that was checked
-abbrev pub questions_if : ℕ → List Question → List Question
-questions_if check questions = if check == no_fault then questions else []
-
-abbrev pub connected_questions : Job → Grant → List Question
-connected_questions job.Connect granted = []
-connected_questions (job.ReadArea item) granted =
-    questions_if (check_item item true) (read_questions (alone (parts_of item granted.pdu false)))
-connected_questions (job.WriteArea item octets) granted =
-    questions_if (check_item item (length octets == octet_count item))
-    (write_questions (alone (parts_of item granted.pdu true)) octets)
-connected_questions (job.ReadMany items) granted =
-    questions_if (check_items items true granted.pdu false) (read_questions (groups_of granted.pdu false items))
-connected_questions (job.WriteMany items octets) granted =
-    questions_if (check_items items (length octets == octet_count_of items) granted.pdu true)
-    (write_questions (groups_of granted.pdu true items) octets)
-connected_questions job.Disconnect granted = []
-
-abbrev pub unconnected_questions : Job → Config → List Question
-unconnected_questions job.Connect config = negotiates (asked_by config) ∷ []
-unconnected_questions (job.ReadArea item) config = []
-unconnected_questions (job.WriteArea item octets) config = []
-unconnected_questions (job.ReadMany items) config = []
-unconnected_questions (job.WriteMany items octets) config = []
-unconnected_questions job.Disconnect config = []
-
--- all that a job asks where no answer refuses
-abbrev pub questions_of : Job → Config → Option Grant → List Question
-questions_of done config None = unconnected_questions done config
-questions_of done config (Some granted) = connected_questions done granted
-
-listed_if : (b : Bool) (plan : Plan) (end : End) (questions : List Question) → IsListed plan.conduct questions
-    → IsListed (cond b plan (over end)).conduct (cond b questions [])
-listed_if true plan end questions listed = listed
-listed_if false plan end questions listed = λ answers. refl
-
-connected_listed : (done : Job) (granted : Grant)
-    → IsListed (connected_plan done granted).conduct (connected_questions done granted)
-connected_listed job.Connect granted = λ answers. refl
-connected_listed (job.ReadArea item) granted = listed_if (eqb (check_item item true) 0) _ _ _ (λ answers. refl)
-connected_listed (job.WriteArea item octets) granted =
-    listed_if (eqb (check_item item (eqb (length octets) (octet_count item))) 0) _ _ _ (λ answers. refl)
-connected_listed (job.ReadMany items) granted =
-    listed_if (eqb (check_items items true granted.pdu false) 0) _ _ _ (λ answers. refl)
-connected_listed (job.WriteMany items octets) granted =
-    listed_if (eqb (check_items items (eqb (length octets) (octet_count_of items)) granted.pdu true) 0) _ _ _
-    (λ answers. refl)
-connected_listed job.Disconnect granted = λ answers. refl
-
-unconnected_listed : (done : Job) (config : Config)
-    → IsListed (unconnected_plan done config).conduct (unconnected_questions done config)
-unconnected_listed job.Connect config = λ answers. refl
-unconnected_listed (job.ReadArea item) config = λ answers. refl
-unconnected_listed (job.WriteArea item octets) config = λ answers. refl
-unconnected_listed (job.ReadMany items) config = λ answers. refl
-unconnected_listed (job.WriteMany items octets) config = λ answers. refl
-unconnected_listed job.Disconnect config = λ answers. refl
-
-pub plan_listed : (done : Job) (config : Config) (granted : Option Grant)
-    → IsListed (plan_of done config granted).conduct (questions_of done config granted)
-plan_listed done config None = unconnected_listed done config
-plan_listed done config (Some granted) = connected_listed done granted
-
--- the telegrams of every job follow its questions
-pub course_fit : (origin : Origin) (b : List ℕ)
-    → RowsFit (questions_of origin.job origin.config origin.granted) (course origin b).rows
-course_fit origin b =
-    rows_fit origin (questions_of origin.job origin.config origin.granted)
-    (plan_listed origin.job origin.config origin.granted) b
+use Rattle.s7_client.proofs.RowLemmas.{IsKept, course_kept}
 
 -- ---- how a course stands at what it awaits
 
@@ -178,7 +102,6 @@ asks_if false plan end asks leaves = absurd (cc)
 
 connected_leaves : (done : Job) (granted : Grant) → (connected_plan done granted).first ≡ disconnect_request
     → (done ≡ job.Disconnect) × (departed_end ≡ (connected_plan done granted).conduct.ended [])
-connected_leaves job.Connect granted is = absurd (cc)
 connected_leaves (job.ReadArea item) granted is =
     absurd (asks_if (eqb (check_item item true) 0) _ _ refl is)
 connected_leaves (job.WriteArea item octets) granted is =
@@ -188,19 +111,19 @@ connected_leaves (job.ReadMany items) granted is =
 connected_leaves (job.WriteMany items octets) granted is =
     absurd
     (asks_if (eqb (check_items items (eqb (length octets) (octet_count_of items)) granted.pdu true) 0) _ _ refl is)
+connected_leaves (job.ClockSet moment) granted is = absurd (asks_if (eqb (check_moment moment) 0) _ _ refl is)
+connected_leaves (job.PasswordSet text) granted is = absurd (asks_if (eqb (check_password text) 0) _ _ refl is)
 connected_leaves job.Disconnect granted is = (refl, refl)
+connected_leaves _ granted is = absurd (cc)
 
-unconnected_leaves : (done : Job) (config : Config) → (unconnected_plan done config).first ≡ disconnect_request → ⊥
-unconnected_leaves job.Connect config is = cc
-unconnected_leaves (job.ReadArea item) config is = cc
-unconnected_leaves (job.WriteArea item octets) config is = cc
-unconnected_leaves (job.ReadMany items) config is = cc
-unconnected_leaves (job.WriteMany items octets) config is = cc
-unconnected_leaves job.Disconnect config is = cc
+unconnected_leaves : (asks : Bool) (config : Config)
+    → (cond asks (connecting_plan config) (over (number_end 0x00010000 Disconnected))).first ≡ disconnect_request → ⊥
+unconnected_leaves true config is = absurd (cc)
+unconnected_leaves false config is = absurd (cc)
 
 -- only that of a disconnect, which ends with its departure
 pub plan_leaves : (done : Job) (config : Config) (granted : Option Grant)
     → (plan_of done config granted).first ≡ disconnect_request
     → (done ≡ job.Disconnect) × (departed_end ≡ (plan_of done config granted).conduct.ended [])
-plan_leaves done config None is = absurd (unconnected_leaves done config is)
+plan_leaves done config None is = absurd (unconnected_leaves (is_connect done) config is)
 plan_leaves done config (Some granted) is = connected_leaves done granted is

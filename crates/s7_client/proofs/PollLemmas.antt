@@ -19,10 +19,14 @@ none_is : (o : Option UnderWay) (empty : Bool) → is_some o ≡ not empty → e
 none_is None empty e h = refl
 none_is (Some u) empty e h = absurd (cc)
 
+none_under : (o : Option UnderWay) (u : UnderWay) → o ≡ None → o ≡ Some u → ⊥
+none_under o u none some = cc
+
 pub poll_idle : (c : Client) (link : Shown) (empty : Bool) → is_some c.job ≡ not empty → empty ≡ true
     → IsPoll c link c link polled.Idle
 poll_idle c link empty e h = record {
   moves = moves_none c.line link;
+  orderly = λ origin b w s. absurd (none_under c.job s.under_way (none_is c.job empty e h) s.is);
   config = refl;
   comes = (ap (option_map (λ (u : UnderWay). u.running.job)) (none_is c.job empty e h), refl, refl);
 }
@@ -41,6 +45,7 @@ pub poll_pending : (old new : Client) (u u' : UnderWay) (link link' : Shown) →
     → RoundGoesOn old.line u link new.line u' link' old.config old.granted → IsPoll old link new link' polled.Pending
 poll_pending old new u u' link link' is is' config granted closed r = record {
   moves = r.moves;
+  orderly = λ origin b w s. r.orderly origin b w s.config s.granted (stands_at old u origin b w is s);
   config = config;
   comes = (
     record {
@@ -101,6 +106,9 @@ poll_done old new u u' line link link' leaves told is none config granted closed
         lent = r.moves.lent;
         space = r.moves.space;
       };
+      orderly = λ origin b w s.
+          let o = r.orderly origin b w s.config s.granted (stands_at old u origin b w is s) in
+          record { deeds = o.deeds; written = o.written; used = o.used; received = o.received; order = o.order };
       config = config;
       comes = (
         some_of old u is,

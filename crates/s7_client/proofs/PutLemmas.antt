@@ -43,12 +43,14 @@ forth P apart s s' (inr a) h = absurd (apart s h a.0)
 opening_not_asking : (s : Stage) → IsOpening s → IsAsking s → ⊥
 opening_not_asking stage.Opening h a = a
 opening_not_asking (stage.Asking asked) h a = h
+opening_not_asking (stage.Single single) h a = h
 opening_not_asking stage.Leaving h a = h
 opening_not_asking (stage.Over code leaves) h a = h
 
 leaving_not_asking : (s : Stage) → IsLeaving s → IsAsking s → ⊥
 leaving_not_asking stage.Opening h a = h
 leaving_not_asking (stage.Asking asked) h a = h
+leaving_not_asking (stage.Single single) h a = h
 leaving_not_asking stage.Leaving h a = a
 leaving_not_asking (stage.Over code leaves) h a = h
 
@@ -157,6 +159,7 @@ step_put l l' t u u' r link link' config granted result p k = record {
   left = k.left;
   waited = k.waited;
   stood = λ origin b w ec eg s h. k.stood origin b w ec eg (stands_put origin l t u r b w config ec p s) h;
+  orderly = λ origin b w ec eg s. k.orderly origin b w ec eg (stands_put origin l t u r b w config ec p s);
   less = λ e. less_put (messages_left u.running.stage) (messages_left r.stage) l.talk.joiner.count t.joiner.count
       (length l.cutter.held)
       (length (pending config l.talk u.running)) (length (pending config t r)) _

@@ -24,12 +24,14 @@ use Rattle.s7_client.proofs.FollowLemmas.{follows_at}
 pub asking_not_over : (st : Stage) → IsOver st → IsAsking st → ⊥
 asking_not_over stage.Opening over asks = over
 asking_not_over (stage.Asking a) over asks = over
+asking_not_over (stage.Single single) over asks = over
 asking_not_over stage.Leaving over asks = over
 asking_not_over (stage.Over code leaves) over asks = asks
 
 pub over_unput : (config : Config) (size : ℕ) (job : Job) (st : Stage) → IsOver st → unput_by config size job st ≡ []
 over_unput config size job stage.Opening over = refl
 over_unput config size job (stage.Asking a) over = absurd over
+over_unput config size job (stage.Single single) over = absurd over
 over_unput config size job stage.Leaving over = refl
 over_unput config size job (stage.Over code leaves) over = refl
 

@@ -73,9 +73,8 @@ refusal_same refusal place (answer ∷ front) back x is =
 -- the refusal of an answer by what the job is
 pub refusal_by_job : (done : Job) (x : Answer) → asks_groups done ≡ true
     → refusal_by (is_alone done) x ≡ refusal_of done x
-refusal_by_job job.Connect x asks = absurd (cc)
 refusal_by_job (job.ReadArea item) x asks = refl
 refusal_by_job (job.WriteArea item octets) x asks = refl
 refusal_by_job (job.ReadMany items) x asks = refl
 refusal_by_job (job.WriteMany items octets) x asks = refl
-refusal_by_job job.Disconnect x asks = absurd (cc)
+refusal_by_job _ x asks = absurd (cc)

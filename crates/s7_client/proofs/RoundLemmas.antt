@@ -15,10 +15,11 @@ use Rattle.s7_client.specs.Dialogue.{End, fault_end}
 use Rattle.s7_client.specs.Running.{awaited_by, IsOver}
 use Rattle.s7_client.specs.Course.{Origin, for_nothing, course}
 use Rattle.s7_client.specs.At.{pending}
-use Rattle.s7_client.specs.Standing.{Stands, Fits, Moves, IsStep, HasMetNotYet, IsUnderWay, HasCause, AwaitsOctets, unread}
+use Rattle.s7_client.specs.Standing.{Stands, Fits, Moves, IsOrderly, IsStep, HasMetNotYet, IsUnderWay, HasCause, AwaitsOctets, unread}
 use Rattle.s7_client.specs.Polling.{Waits, Round, RoundGoesOn, RoundEnds}
 use Rattle.s7_client.proofs.PacketLemmas.{closed_stage, none_over}
 use Rattle.s7_client.proofs.StepLemmas.{sent_whole}
+use Rattle.s7_client.proofs.OrderLemmas.{orderly_none, orderly_both}
 use Rattle.s7_client.proofs.LinkLemmas.{went_not_over, not_yet_not_over, moves_received, moves_none, moves_both, same_stands}
 use Rattle.s7_client.proofs.SendLemmas.{ends_at}
 
@@ -51,6 +52,9 @@ pub record Walks (l : Line) (u : UnderWay) (link : Shown) (l' : Line) (u' : Unde
   pub stood : (origin : Origin) (b w : List ℕ) → origin.config ≡ config → origin.granted ≡ granted
       → Stands origin l u b w
       → Stands origin l' u' (b ++ moves.used) (w ++ moves.written)
+  pub orderly : (origin : Origin) (b w : List ℕ) → origin.config ≡ config → origin.granted ≡ granted
+      → Stands origin l u b w
+      → IsOrderly origin (unread l) b w moves
 
 pub walks_none : (l : Line) (u : UnderWay) (link : Shown) (config : Config) (granted : Option Grant) → Fits l u
     → Walks l u link l u link config granted
@@ -60,6 +64,7 @@ walks_none l u link config granted fits = record {
   fits = fits;
   waited = refl;
   stood = λ origin b w ec eg s. same_stands origin l u b w s;
+  orderly = λ origin b w ec eg s. orderly_none origin (unread l) b w _ refl refl refl;
 }
 
 stands_on : (origin : Origin) (l : Line) (u : UnderWay) (b w x y x' y' : List ℕ)
@@ -67,6 +72,17 @@ stands_on : (origin : Origin) (l : Line) (u : UnderWay) (b w x y x' y' : List �
 stands_on origin l u b w x y x' y' s =
     subst (λ z. Stands origin l u z (w ++ (y ++ y'))) (append_assoc b x x')
     (subst (λ z. Stands origin l u ((b ++ x) ++ x') z) (append_assoc w y y') s)
+
+-- a step after steps that came in order
+walk_orderly : (origin : Origin) (l l1 l2 : Line) (u u1 u2 : UnderWay) (k k1 k2 : Shown) (b w : List ℕ)
+    (config : Config) (granted : Option Grant) (result : Step) → origin.config ≡ config → origin.granted ≡ granted
+    → (m : Walks l u k l1 u1 k1 config granted) → (n : IsStep l1 u1 k1 l2 u2 k2 config granted result)
+    → Stands origin l u b w
+    → IsOrderly origin (unread l) b w (moves_both l l1 l2 k k1 k2 m.moves n.moves)
+unfolding moves_both
+walk_orderly origin l l1 l2 u u1 u2 k k1 k2 b w config granted result ec eg m n s =
+    orderly_both origin (unread l) b w m.moves n.moves _ refl refl refl (m.orderly origin b w ec eg s)
+    (n.orderly origin (b ++ m.moves.used) (w ++ m.moves.written) ec eg (m.stood origin b w ec eg s))
 
 pub walks_on : (l l1 l2 : Line) (u u1 u2 : UnderWay) (k k1 k2 : Shown) (config : Config) (granted : Option Grant)
     → Walks l u k l1 u1 k1 config granted → IsStep l1 u1 k1 l2 u2 k2 config granted step.Went
@@ -78,6 +94,7 @@ walks_on l l1 l2 u u1 u2 k k1 k2 config granted m n = record {
   waited = n.waited ∙ m.waited;
   stood = λ origin b w ec eg s. stands_on origin l2 u2 b w m.moves.used m.moves.written n.moves.used n.moves.written
       (n.stood origin (b ++ m.moves.used) (w ++ m.moves.written) ec eg (m.stood origin b w ec eg s) went_not_over);
+  orderly = λ origin b w ec eg s. walk_orderly origin l l1 l2 u u1 u2 k k1 k2 b w config granted step.Went ec eg m n s;
 }
 
 -- the last step ends a poll
@@ -93,6 +110,7 @@ ends_walk l l1 l2 u u1 u2 k k1 k2 config granted result rests m n = record {
   waited = n.waited ∙ m.waited;
   stood = λ origin b w ec eg s h. stands_on origin l2 u2 b w m.moves.used m.moves.written n.moves.used n.moves.written
       (n.stood origin (b ++ m.moves.used) (w ++ m.moves.written) ec eg (m.stood origin b w ec eg s) h);
+  orderly = λ origin b w ec eg s. walk_orderly origin l l1 l2 u u1 u2 k k1 k2 b w config granted result ec eg m n s;
   less = λ e. absurd (rests e);
   not_yet = λ e. omega (arith, n.not_yet e, m.moves.waits);
   met = λ origin b w ec eg s e.
@@ -136,6 +154,7 @@ not_over_awaits : (found codes carried : List ℕ) (s : Stage) → (IsOver s →
     → awaited_by found codes carried s ≡ for_nothing end message → ⊥
 not_over_awaits found codes carried stage.Opening going end message e = cc
 not_over_awaits found codes carried (stage.Asking a) going end message e = cc
+not_over_awaits found codes carried (stage.Single single) going end message e = cc
 not_over_awaits found codes carried stage.Leaving going end message e = cc
 not_over_awaits found codes carried (stage.Over code leaves) going end message e = going tt
 
@@ -195,6 +214,7 @@ round_goes_on l l' u u1 u' link link' config granted k v =
       rose = k.not_yet refl;
       waited = ap (λ x. x.waited) same ∙ ap (λ n. n + 1) k.waited;
       patient = omega (arith, ap (λ x. x.waited) same, v.patient refl);
+      orderly = k.orderly;
       stood = λ origin b w ec eg s. (
         subst (λ x. Stands origin l' x (b ++ k.moves.used) (w ++ k.moves.written)) (sym same)
             (stands_waited origin l' u1 _ _ _ (k.stood origin b w ec eg s not_yet_not_over)),
@@ -209,6 +229,7 @@ round_tires l l' u u1 u' link link' config granted k v = record {
   moves = k.moves;
   over = v.over refl;
   left = λ h. absurd (closed_stage u'.running timed_out (v.fails refl) h);
+  orderly = k.orderly;
   ends_by = λ origin b w ec eg s.
       let s' = k.stood origin b w ec eg s not_yet_not_over in
       let met = k.met origin b w ec eg s refl in
@@ -238,6 +259,7 @@ round_ends l l' u u' link link' config granted k = record {
   moves = k.moves;
   over = k.over refl;
   left = k.left;
+  orderly = k.orderly;
   ends_by = λ origin b w ec eg s.
       let h = k.cause origin b w ec eg s refl in
       record {

@@ -145,12 +145,8 @@ completes_now old c c2 k k1 k2 told m p = record {
 -- ---- the form of ends
 
 fault_whole : (done : Job) (code : ℕ) → code ≢ 0 → IsWhole done (fault_end code)
-fault_whole job.Connect code bad = tt
 fault_whole (job.ReadArea item) code bad = λ good. absurd (bad good)
-fault_whole (job.WriteArea item octets) code bad = tt
-fault_whole (job.ReadMany items) code bad = tt
-fault_whole (job.WriteMany items octets) code bad = tt
-fault_whole job.Disconnect code bad = tt
+fault_whole _ code bad = tt
 
 fault_formed : (done : Job) (end : End) (code : ℕ) → code ≢ 0 → end ≡ fault_end code → HasForm done end
     × IsWhole done end

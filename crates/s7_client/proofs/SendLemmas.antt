@@ -24,6 +24,7 @@ use Rattle.s7_client.specs.Standing.{Stands, Fits, IsStep, unread, unsent}
 use Rattle.s7_client.proofs.PlanLemmas.{plan_leaves}
 use Rattle.s7_client.proofs.PacketLemmas.{closed_stage, left_by, none_over}
 use Rattle.s7_client.proofs.StepLemmas.{prefix_on, sent_whole}
+use Rattle.s7_client.proofs.OrderLemmas.{orderly_none, orderly_sent}
 use Rattle.s7_client.proofs.LinkLemmas.{went_not_yet, went_not_over, not_yet_not_went, not_yet_not_over, over_not_went, over_not_yet, moves_received, moves_sent, moves_none, same_cause, same_met, not_all_sent, some_not_none}
 
 -- ---- octets are sent
@@ -106,6 +107,7 @@ step_sent l l' u link link' written config granted fits some k sent wrote space 
   waited = refl;
   stood = λ origin b w ec eg s h. subst (λ x. Stands origin l' u x (w ++ written)) (sym (append-nil b))
       (stands_sent origin l l' u b w written k s);
+  orderly = λ origin b w ec eg s. orderly_sent origin (unread l) b w _ sent refl refl;
   less = λ e. less_sent u.running.stage l.talk.joiner.count l'.talk.joiner.count (length l.cutter.held)
       (length l'.cutter.held)
       (length (pending config l.talk u.running)) (length (pending config l'.talk u.running)) (length written)
@@ -141,6 +143,7 @@ step_full l l' u link link' config granted fits some k wrote space same faults w
       waited = refl;
       stood = λ origin b w ec eg s h. subst (λ x. Stands origin l' u x (w ++ [])) (sym (append-nil b))
           (stands_sent origin l l' u b w [] k s);
+      orderly = λ origin b w ec eg s. orderly_none origin (unread l) b w _ refl refl refl;
       less = λ e. absurd (not_yet_not_went e);
       not_yet = λ e. rose;
       met = λ origin b w ec eg s e. same_met origin (unread l') link' b w (record {
@@ -172,6 +175,7 @@ step_unsent l l' u u' link link' config granted fits some k wrote space same fau
       left = λ h. absurd (closed_stage u'.running send_failed (e []) h);
       waited = waited;
       stood = λ origin b w ec eg s h. absurd (h refl);
+      orderly = λ origin b w ec eg s. orderly_none origin (unread l) b w _ refl refl refl;
       less = λ h. absurd (over_not_went h);
       not_yet = λ h. absurd (over_not_yet h);
       met = λ origin b w ec eg s h. absurd (over_not_yet h);
@@ -202,6 +206,7 @@ step_unsent l l' u u' link link' config granted fits some k wrote space same fau
 pub end_at : (s : Stage) (found codes : List ℕ) → End
 end_at stage.Opening found codes = departed_end
 end_at (stage.Asking a) found codes = departed_end
+end_at (stage.Single single) found codes = departed_end
 end_at stage.Leaving found codes = departed_end
 end_at (stage.Over code leaves) found codes = record { code = code; octets = found; codes = codes; leaves = leaves }
 
@@ -210,6 +215,7 @@ pub ends_at : (found codes carried : List ℕ) (s : Stage) → IsOver s
 unfolding end_at
 ends_at found codes carried stage.Opening h = absurd h
 ends_at found codes carried (stage.Asking a) h = absurd h
+ends_at found codes carried (stage.Single single) h = absurd h
 ends_at found codes carried stage.Leaving h = absurd h
 ends_at found codes carried (stage.Over code leaves) h = refl
 
@@ -224,6 +230,7 @@ step_over l u link config granted fits sent over =
       left = fits.between;
       waited = refl;
       stood = λ origin b w ec eg s h. absurd (h refl);
+      orderly = λ origin b w ec eg s. orderly_none origin (unread l) b w _ refl refl refl;
       less = λ h. absurd (over_not_went h);
       not_yet = λ h. absurd (over_not_yet h);
       met = λ origin b w ec eg s h. absurd (over_not_yet h);
@@ -250,12 +257,14 @@ leaving_awaits : (found codes carried : List ℕ) (s : Stage) → IsLeaving s
     → awaited_by found codes carried s ≡ for_departure
 leaving_awaits found codes carried stage.Opening h = absurd h
 leaving_awaits found codes carried (stage.Asking a) h = absurd h
+leaving_awaits found codes carried (stage.Single single) h = absurd h
 leaving_awaits found codes carried stage.Leaving h = refl
 leaving_awaits found codes carried (stage.Over code leaves) h = absurd h
 
 leaving_goes_on : (s : Stage) → IsLeaving s → IsOver s → ⊥
 leaving_goes_on stage.Opening h over = h
 leaving_goes_on (stage.Asking a) h over = h
+leaving_goes_on (stage.Single single) h over = h
 leaving_goes_on stage.Leaving h over = over
 leaving_goes_on (stage.Over code leaves) h over = h
 
@@ -275,6 +284,7 @@ step_departed l u u' link config granted sent leaving e over job carried waited 
       left = λ h. absurd (left_by r'.found.items r'.codes [] [] departed_end r'.stage e h);
       waited = waited;
       stood = λ origin b w ec eg s h. absurd (h refl);
+      orderly = λ origin b w ec eg s. orderly_none origin (unread l) b w _ refl refl refl;
       less = λ h. absurd (over_not_went h);
       not_yet = λ h. absurd (over_not_yet h);
       met = λ origin b w ec eg s h. absurd (over_not_yet h);

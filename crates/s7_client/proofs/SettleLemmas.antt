@@ -1,6 +1,6 @@
 -- Lemmas on jobs of which no telegram is unanswered: they end as their conduct says.
-use Rattle.std.proofs.Common.{◌≡◌, ℕ, ◌+◌, ◌≤◌, true, Option, Some, None, List, [], ◌∷◌, ◌++◌, length, map, take, drop, refl, sym, ap, ◌∙◌, subst, arith}
-use Rattle.std.specs.Prelude.{replicate}
+use Rattle.std.proofs.Common.{◌≡◌, ◌⊎◌, inl, inr, ◌==◌, ℕ, ◌+◌, ◌≤◌, Bool, true, false, cond, Option, Some, None, List, [], ◌∷◌, ◌++◌, length, map, take, drop, refl, sym, ap, ◌∙◌, subst, arith}
+use Rattle.std.specs.Prelude.{replicate, slice_get}
 use Rattle.std.specs.List.{flat_map, AllByRecursion}
 use Rattle.std.proofs.lemmas.List.{append-nil, length-map, nil_from_length}
 use Rattle.s7_item.specs.declared.item.Item.{Item}
@@ -16,13 +16,14 @@ use Rattle.s7_client.specs.declared.asking.Refused.{Refused}
 use Rattle.s7_client.specs.declared.running.Stage.{Stage}
 use Rattle.s7_client.specs.declared.running.Stage.TheVariants as stage
 use Rattle.s7_client.specs.declared.running.Running.{Running}
-use Rattle.s7_client.specs.Question.{reads, writes}
+use Rattle.s7_client.specs.Question.{Question, reads, writes}
 use Rattle.s7_client.specs.Answer.{Answer}
 use Rattle.s7_client.specs.Refusals.{telegram_refusal, part_refusal}
+use Rattle.s7_client.specs.Codes.{no_fault}
 use Rattle.s7_client.specs.Flight.{Row, answers_of, open_count}
-use Rattle.s7_client.specs.Checks.{octet_count_of}
+use Rattle.s7_client.specs.Checks.{octet_count_of, check_moment, check_password}
 use Rattle.s7_client.specs.Left.{joined, groups_in, groups_left, questions_left, octets_left, items_left}
-use Rattle.s7_client.specs.Dialogue.{Conduct, read_questions, write_questions, first_or, first_refusal, by_refusal, octets_told, codes_told, good_end, number_end, plan_of}
+use Rattle.s7_client.specs.Dialogue.{End, Conduct, Plan, over, is_connect, read_questions, write_questions, first_or, first_refusal, by_refusal, octets_told, codes_told, good_end, number_end, plan_of}
 use Rattle.s7_client.specs.Asks.{first_spot, refused_at}
 use Rattle.s7_client.specs.GoesOn.{questions_of, refusal_of, number_of, finished, ended_by, ended_of, conducted, octets_of_row, codes_of_row, octets_so_far, codes_so_far, asks_groups, Conducts, IsDone}
 use Rattle.s7_client.specs.Running.{Follows}
@@ -98,7 +99,6 @@ finishes : (config : Config) (granted : Option Grant) (rows : List Row) (job : J
     → asks_groups job ≡ true → Conducts config granted rows rows job found codes a → a.flights.items ≡ []
     → questions_left a.left ≡ 0 → first_refusal (refusal_of job) 0 (answers_of rows) ≡ None
     → finished job (answers_of rows) ≡ good_end (closed job codes found) codes
-finishes config granted rows job.Connect found codes a asks h none left unrefused = absurd (cc)
 finishes config granted rows (job.ReadArea item) found codes a asks h none left unrefused =
     let good =
     all_good part_refusal 0 rows
@@ -132,7 +132,7 @@ finishes config granted rows (job.WriteMany items octets) found codes a asks h n
     good_same [] found (codes_told (answers_of rows)) codes (sym (h.octets refl))
     (sym (h.noted refl
     ∙ (codes_whole rows a.left left ∙ codes_found rows (asks_writes rows h.groups octets out) good)))
-finishes config granted rows job.Disconnect found codes a asks h none left unrefused = absurd (cc)
+finishes config granted rows _ found codes a asks h none left unrefused = absurd (cc)
 
 -- ---- jobs that ask for no groups don't end so
 
@@ -145,11 +145,54 @@ never_refused refusal place (Some answer ∷ answers) never =
     ap (λ o. first_or o place (first_refusal refusal (place + 1) answers)) (never answer)
     ∙ never_refused refusal (place + 1) answers never
 
--- no job departs by its telegrams
-disconnects_none : (config : Config) (granted : Option Grant) (width : ℕ) (groups : List (List Item)) → 1 ≤ width
-    → (plan_of job.Disconnect config granted).conduct ≡ conducted config job.Disconnect width groups → ⊥
-disconnects_none config None width groups some is = omega (arith, some, ap (λ (c : Conduct). c.width) is)
-disconnects_none config (Some g) width groups some is = omega (arith, some, ap (λ (c : Conduct). c.width) is)
+-- nothing may be asked, or there is a first question
+abbrev RestsOrAsks : Conduct → Type 0
+RestsOrAsks c = (c.width ≡ 0) ⊎ ((question : Question) × (c.question_at [] ≡ Some question))
+
+rests_if : (b : Bool) (plan : Plan) (end : End) → RestsOrAsks plan.conduct
+    → RestsOrAsks (cond b plan (over end)).conduct
+rests_if true plan end asks = asks
+rests_if false plan end asks = inl refl
+
+-- a job that asks neither for groups nor for a negotiation
+rests_or_asks : (config : Config) (granted : Option Grant) (done : Job) → asks_groups done ≡ false
+    → is_connect done ≡ false → RestsOrAsks (plan_of done config granted).conduct
+rests_or_asks config granted job.Connect groups connects = absurd (cc)
+rests_or_asks config granted (job.ReadArea item) groups connects = absurd (cc)
+rests_or_asks config granted (job.WriteArea item octets) groups connects = absurd (cc)
+rests_or_asks config granted (job.ReadMany items) groups connects = absurd (cc)
+rests_or_asks config granted (job.WriteMany items octets) groups connects = absurd (cc)
+rests_or_asks config None _ groups connects = inl refl
+rests_or_asks config (Some g) (job.ClockSet moment) groups connects =
+    rests_if (check_moment moment == no_fault) _ _ (inr (_, refl))
+rests_or_asks config (Some g) (job.PasswordSet text) groups connects =
+    rests_if (check_password text == no_fault) _ _ (inr (_, refl))
+rests_or_asks config (Some g) job.Disconnect groups connects = inl refl
+rests_or_asks config (Some g) _ groups connects = inr (_, refl)
+
+no_questions : (config : Config) (done : Job) (groups : List (List Item)) → asks_groups done ≡ false
+    → is_connect done ≡ false → questions_of config done groups ≡ []
+no_questions config job.Connect groups none connects = absurd (cc)
+no_questions config (job.ReadArea item) groups none connects = absurd (cc)
+no_questions config (job.WriteArea item octets) groups none connects = absurd (cc)
+no_questions config (job.ReadMany items) groups none connects = absurd (cc)
+no_questions config (job.WriteMany items octets) groups none connects = absurd (cc)
+no_questions config _ groups none connects = refl
+
+-- a list that is empty would do neither
+none_first : (c d : Conduct) → c ≡ d → 1 ≤ d.width → d.question_at [] ≡ None → RestsOrAsks c → ⊥
+none_first c d is some none (inl idle) = omega (arith, some, ap (λ (c : Conduct). c.width) is, idle)
+none_first c d is some none (inr asks) =
+    let e : Some asks.0 ≡ None = sym asks.1 ∙ (ap (λ (c : Conduct). c.question_at []) is ∙ none) in cc
+
+-- it has no list of questions
+unlisted : (config : Config) (granted : Option Grant) (done : Job) (width : ℕ) (groups : List (List Item))
+    → 1 ≤ width → asks_groups done ≡ false → is_connect done ≡ false
+    → (plan_of done config granted).conduct ≡ conducted config done width groups → ⊥
+unlisted config granted done width groups some none connects is =
+    none_first (plan_of done config granted).conduct (conducted config done width groups) is some
+    (ap (λ qs. slice_get qs 0) (no_questions config done groups none connects))
+    (rests_or_asks config granted done none connects)
 
 -- the one question of a negotiation is out as long as nothing else is left
 negotiation_out : (config : Config) (granted : Option Grant) (rows : List Row) (found codes : List ℕ) (a : Asking)
@@ -170,12 +213,11 @@ negotiation_out config granted rows found codes a h none left =
 
 ends_groups : (config : Config) (job : Job) (answers : List (Option Answer)) → asks_groups job ≡ true
     → ended_of config job answers ≡ ended_by job answers
-ends_groups config job.Connect answers asks = absurd (cc)
 ends_groups config (job.ReadArea item) answers asks = refl
 ends_groups config (job.WriteArea item octets) answers asks = refl
 ends_groups config (job.ReadMany items) answers asks = refl
 ends_groups config (job.WriteMany items octets) answers asks = refl
-ends_groups config job.Disconnect answers asks = absurd (cc)
+ends_groups config _ answers asks = absurd (cc)
 
 -- a job of which nothing is out and which was refused, or has nothing left to ask, asks for groups
 asks_if_done : (config : Config) (granted : Option Grant) (rows : List Row) (job : Job) (found codes : List ℕ)
@@ -191,8 +233,8 @@ asks_if_done config granted rows (job.ReadArea item) found codes a h none left =
 asks_if_done config granted rows (job.WriteArea item octets) found codes a h none left = refl
 asks_if_done config granted rows (job.ReadMany items) found codes a h none left = refl
 asks_if_done config granted rows (job.WriteMany items octets) found codes a h none left = refl
-asks_if_done config granted rows job.Disconnect found codes a h none left =
-    absurd (disconnects_none config granted a.width h.groups a.least_width h.conduct)
+asks_if_done config granted rows done found codes a h none left =
+    absurd (unlisted config granted done a.width h.groups a.least_width refl refl h.conduct)
 
 -- the first refusal ends it
 pub ends_refused : (config : Config) (granted : Option Grant) (rows : List Row) (job : Job) (found codes : List ℕ)
@@ -231,6 +273,7 @@ settles_refused r config granted rows stage.Opening refused first is some done f
 settles_refused r config granted rows (stage.Asking a) refused first is some done follows =
     ends_refused config granted rows r.job r.found.items r.codes a first
     (conducts_at r a config granted rows is follows) done.0 (done.1 ∙ some)
+settles_refused r config granted rows (stage.Single single) refused first is some done follows = absurd done
 settles_refused r config granted rows stage.Leaving refused first is some done follows = absurd done
 settles_refused r config granted rows (stage.Over code leaves) refused first is some done follows = absurd done
 
@@ -243,6 +286,7 @@ settles_found r config granted rows stage.Opening refused is none done follows =
 settles_found r config granted rows (stage.Asking a) refused is none done follows =
     ends_found config granted rows r.job r.found.items r.codes a (conducts_at r a config granted rows is follows)
     done.0 (done.1 ∙ none) (done.2 none)
+settles_found r config granted rows (stage.Single single) refused is none done follows = absurd done
 settles_found r config granted rows stage.Leaving refused is none done follows = absurd done
 settles_found r config granted rows (stage.Over code leaves) refused is none done follows = absurd done
 

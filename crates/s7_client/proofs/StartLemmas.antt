@@ -216,6 +216,7 @@ pub starts_asking : (done : Job) (granted : Grant) (write : Bool) (grouped : Gro
     → groups_in grouped ≡ gs → CanStart done granted write gs octets codes → IsGrant granted
     → AsksFirst st granted.jobs (left_by write grouped) → Starts done (Some granted) st octets codes
 starts_asking done granted write grouped gs octets codes stage.Opening is can g first = absurd first
+starts_asking done granted write grouped gs octets codes (stage.Single s) is can g first = absurd first
 starts_asking done granted write grouped gs octets codes stage.Leaving is can g first = absurd first
 starts_asking done granted write grouped gs octets codes (stage.Over code leaves) is can g first = absurd first
 starts_asking done granted write grouped gs octets codes (stage.Asking a) is can g first =
@@ -336,6 +337,11 @@ begun_at : (r : Running) (config : Config) (granted : Option Grant) (st : Stage)
     → BeginsWith r.job config granted r.found.items r.codes st → BeginsAt r config granted st
 begun_at r config granted stage.Opening is begins = begins
 begun_at r config granted (stage.Asking a) is begins = (
+  begins.0,
+  begins.1,
+  record { goes_on = subst (λ st. ConductsAt config granted [] [] r.job r.found.items r.codes st) (sym is) begins.2 },
+)
+begun_at r config granted (stage.Single s) is begins = (
   begins.0,
   begins.1,
   record { goes_on = subst (λ st. ConductsAt config granted [] [] r.job r.found.items r.codes st) (sym is) begins.2 },

@@ -146,17 +146,14 @@ turned_by : (done : Job) (config : Config) (granted : Option Grant) → granted 
     → plan_of done config granted ≡ over turned_end
 unfolding turned_end
 turned_by job.Connect config None none anew = absurd (cc)
-turned_by (job.ReadArea item) config None none anew = refl
-turned_by (job.WriteArea item octets) config None none anew = refl
-turned_by (job.ReadMany items) config None none anew = refl
-turned_by (job.WriteMany items octets) config None none anew = refl
-turned_by job.Disconnect config None none anew = refl
 turned_by done config (Some g) none anew = absurd (cc)
+turned_by _ config None none anew = refl
 
 over_by : (found codes carried message : List ℕ) (s : Stage) (end : End)
     → awaited_by found codes carried s ≡ for_nothing end message → IsOver s
 over_by found codes carried message stage.Opening end e = absurd (cc)
 over_by found codes carried message (stage.Asking a) end e = absurd (cc)
+over_by found codes carried message (stage.Single s) end e = absurd (cc)
 over_by found codes carried message stage.Leaving end e = absurd (cc)
 over_by found codes carried message (stage.Over code leaves) end e = tt
 

@@ -31,6 +31,7 @@ prefix_on front all more h = (h.0 ++ more, ap (λ x. x ++ more) h.1 ∙ append_a
 pub left_not_awaiting : (s : Stage) → LeavesOpen s → IsAwaiting s → ⊥
 left_not_awaiting stage.Opening h a = h
 left_not_awaiting (stage.Asking asked) h a = h
+left_not_awaiting (stage.Single single) h a = h
 left_not_awaiting stage.Leaving h a = h
 left_not_awaiting (stage.Over code leaves) h a = a
 
@@ -40,6 +41,7 @@ awaits_octets : (found codes carried : List ℕ) (s : Stage) → IsAwaiting s
     → AwaitsOctets (awaited_by found codes carried s)
 awaits_octets found codes carried stage.Opening h = tt
 awaits_octets found codes carried (stage.Asking a) h = tt
+awaits_octets found codes carried (stage.Single single) h = tt
 awaits_octets found codes carried stage.Leaving h = absurd h
 awaits_octets found codes carried (stage.Over code leaves) h = absurd h
 
@@ -127,6 +129,7 @@ unless_awaiting : (found codes carried : List ℕ) (next c : Course) (s : Stage)
     → unless_over next c (awaited_by found codes carried s) ≡ next
 unless_awaiting found codes carried next c stage.Opening h = refl
 unless_awaiting found codes carried next c (stage.Asking a) h = refl
+unless_awaiting found codes carried next c (stage.Single single) h = refl
 unless_awaiting found codes carried next c stage.Leaving h = absurd h
 unless_awaiting found codes carried next c (stage.Over code leaves) h = absurd h
 
@@ -224,6 +227,7 @@ limit_by_stage : (found codes carried : List ℕ) (size : ℕ) (s : Stage)
     → limit_where (awaited_by found codes carried s) size ≡ limit_at s size
 limit_by_stage found codes carried size stage.Opening = refl
 limit_by_stage found codes carried size (stage.Asking a) = refl
+limit_by_stage found codes carried size (stage.Single single) = refl
 limit_by_stage found codes carried size stage.Leaving = refl
 limit_by_stage found codes carried size (stage.Over code leaves) = refl
 
@@ -237,12 +241,14 @@ limit_here c r carried size awaits same =
 pub left_limit : (s : Stage) (size : ℕ) → LeavesOpen s → limit_at s size ≡ limit_of_size size
 left_limit stage.Opening size h = absurd h
 left_limit (stage.Asking a) size h = refl
+left_limit (stage.Single single) size h = refl
 left_limit stage.Leaving size h = refl
 left_limit (stage.Over code leaves) size h = refl
 
 pub left_over : (s : Stage) → LeavesOpen s → IsOver s
 left_over stage.Opening h = h
 left_over (stage.Asking a) h = h
+left_over (stage.Single single) h = h
 left_over stage.Leaving h = h
 left_over (stage.Over code leaves) h = tt
 

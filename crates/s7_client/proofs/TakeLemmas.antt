@@ -23,8 +23,8 @@ use Rattle.s7_client.specs.Told.{Tells}
 use Rattle.s7_client.specs.Flight.{Row, answers_of, open_count, filled_by, filled}
 use Rattle.s7_client.specs.Dialogue.{End, Conduct, negotiated, negotiated_by, first_refusal, plan_of}
 use Rattle.s7_client.specs.Course.{Course, for_nothing, next_question, settled, asking}
-use Rattle.s7_client.specs.Stages.{message_of, unput_by, IsOver}
-use Rattle.s7_client.specs.Asks.{asked_of, items_of, Spot, first_spot, spot_past, flight_at, if_open, flights_of, questions_behind, Asks, IsSilent, TakesFirst, refused_at}
+use Rattle.s7_client.specs.Stages.{question_of, message_of, unput_by, IsOver}
+use Rattle.s7_client.specs.Asks.{asked_of, items_of, Spot, first_spot, spot_past, flight_at, if_open, flights_of, AreMadeAgain, questions_behind, Asks, IsSilent, TakesFirst, refused_at}
 use Rattle.s7_client.specs.GoesOn.{questions_of, conducted, asks_groups, brings_octets, brings_codes, octets_so_far, codes_so_far, Conducts}
 use Rattle.s7_client.specs.Taking.{Taken, rows_with}
 use Rattle.s7_client.specs.Running.{Follows, Reached, awaited_in, unput_of}
@@ -39,30 +39,31 @@ use Rattle.s7_client.proofs.ReachLemmas.{asking_not_over, over_unput}
 
 -- ---- no answer
 
-passes_open : (answer : Option Answer) (message : List ℕ) (spot : Spot) (row : Row) (flights : List Flight)
+passes_open : (answer : Option Answer) (message : List ℕ) (config : Config) (job : Job) (spot : Spot) (row : Row)
+    (flights : List Flight) → question_of config job spot.from (asked_of row.question) ≡ row.question
     → row.answer ≡ answer
     → AllByRecursion (IsSilent message) (if_open answer (flight_at spot row) flights)
     → PassesBy message row × AllByRecursion (IsSilent message) flights
-passes_open None message spot row flights is silent =
-    (silent_row message spot row (flight_at spot row) refl silent.0, silent.1)
-passes_open (Some x) message spot row flights is silent =
+passes_open None message config job spot row flights again is silent =
+    (silent_row message config job spot row (flight_at spot row) again refl silent.0, silent.1)
+passes_open (Some x) message config job spot row flights again is silent =
     ((λ unanswered. absurd (let e : Some x ≡ None = sym is ∙ unanswered in cc)), silent)
 
-all_pass : (message : List ℕ) (spot : Spot) (rows : List Row)
-    → AllByRecursion (IsSilent message) (flights_of spot rows)
+all_pass : (message : List ℕ) (config : Config) (job : Job) (spot : Spot) (rows : List Row)
+    → AreMadeAgain config job spot rows → AllByRecursion (IsSilent message) (flights_of spot rows)
     → AllByRecursion (PassesBy message) rows
-all_pass message spot [] silent = tt
-all_pass message spot (row ∷ rows) silent =
+all_pass message config job spot [] again silent = tt
+all_pass message config job spot (row ∷ rows) again silent =
     let next = spot_past spot (items_of row.question) in
-    let both = passes_open row.answer message spot row (flights_of next rows) refl silent in
-    (both.0, all_pass message next rows both.1)
+    let both = passes_open row.answer message config job spot row (flights_of next rows) again.0 refl silent in
+    (both.0, all_pass message config job next rows again.1 both.1)
 
 no_answer : (known by_told : Option Answer) → (known ≡ None → by_told ≡ None)
     → cond (is_none known) by_told None ≡ None
 no_answer None by_told passes = passes refl
 no_answer (Some x) by_told passes = refl
 
-none_filled : (message : List ℕ) (rows : List Row) → AllByRecursion (PassesBy message) rows
+pub none_filled : (message : List ℕ) (rows : List Row) → AllByRecursion (PassesBy message) rows
     → filled rows message ≡ None
 unfolding filled
 none_filled message [] passes = refl
@@ -78,7 +79,8 @@ pub none_taken : (message : List ℕ) (r : Running) (a : Asking) (config : Confi
 none_taken message r a config granted rows is silent follows =
     let h = conducts_at r a config granted rows is follows in
     none_filled message rows
-    (all_pass message first_spot rows (subst (AllByRecursion (IsSilent message)) h.asks.flights silent))
+    (all_pass message config r.job first_spot rows h.asks.again
+    (subst (AllByRecursion (IsSilent message)) h.asks.flights silent))
 
 -- ---- where nothing was left to put
 
@@ -196,11 +198,12 @@ taken_on message config granted course r r1 r' a a' flight t write items last is
 
 -- ---- the answer to a negotiation
 
-negotiates_by : (question : Question) → asked_of question ≡ asked.Negotiation
+negotiates_by : (done : Job) (question : Question) → asked_of question ≡ asked.Negotiation → MayAsk done question
     → (n : Negotiation) × (question ≡ negotiates n)
-negotiates_by (negotiates n) is = (n, refl)
-negotiates_by (reads items) is = absurd (cc)
-negotiates_by (writes items octets) is = absurd (cc)
+negotiates_by done (negotiates n) is may = (n, refl)
+negotiates_by done (reads items) is may = absurd (cc)
+negotiates_by done (writes items octets) is may = absurd (cc)
+negotiates_by done _ is may = absurd may
 
 either_none : (b : Bool) (next : Option Question) → next ≡ None → cond b next None ≡ None
 either_none true next none = none
@@ -260,9 +263,10 @@ taken_grant message config granted course r r' a a' flight t end last is takes w
     let rows' = rows_with taken.front row taken.back x in
     let now : Course = record course { rows = rows' } in
     let c = (plan_of r.job config granted).conduct in
-    let n = negotiates_by row.question (ap (λ (f : Flight). f.asked) (sym taken.kept) ∙ wanted) in
-    let connects : r.job ≡ job.Connect =
-    subst (MayAsk r.job) n.1 (may_ask_with config r.job h.groups taken.front taken.back row x a' took.asks) in
+    let may : MayAsk r.job row.question =
+    may_ask_with config r.job h.groups taken.front taken.back row x a' took.asks in
+    let n = negotiates_by r.job row.question (ap (λ (f : Flight). f.asked) (sym taken.kept) ∙ wanted) may in
+    let connects : r.job ≡ job.Connect = subst (MayAsk r.job) n.1 may in
     let one : rows' ≡ record row { answer = Some x } ∷ [] =
     one_row config r.job h.groups taken.front taken.back row x a' connects took.asks in
     let settles : asking c now ≡ settled c now =

@@ -22,6 +22,7 @@ use Rattle.s7_client.specs.Question.{Question, negotiates, reads, writes}
 use Rattle.s7_client.specs.Answer.{Answer, ItemAnswer, begins_read, begins_refused, item_first, item_answers, answer_of}
 use Rattle.s7_client.specs.DataItems.{First, first_of}
 use Rattle.s7_client.specs.Told.{IsAsked, Tells, TellsSome}
+use Rattle.s7_client.specs.Stages.{question_of}
 use Rattle.s7_client.specs.Flight.{Row, filled}
 use Rattle.s7_client.specs.Asks.{asked_of, items_of, Spot, first_spot, spot_past, spot_behind, flight_at, if_open, flights_of, AreMadeAgain, questions_behind, Asks, IsSilent, TakesFirst}
 use Rattle.s7_client.specs.GoesOn.{TellsItem, TellAll, FitsQuestion, IsFit}
@@ -33,10 +34,20 @@ use Rattle.s7_client.proofs.ItemLemmas.{answer_of_first, then_others, answers_fi
 
 -- ---- the first telegram that the message answers
 
-pub kept_of : (question : Question) → IsAsked (asked_of question) question
-kept_of (negotiates n) = tt
-kept_of (reads items) = refl
-kept_of (writes items octets) = refl
+-- a question that is made again of what is kept of it
+pub kept_of : (config : Config) (job : Job) (from : ℕ) (question : Question)
+    → question_of config job from (asked_of question) ≡ question → IsAsked (asked_of question) question
+kept_of config job from (negotiates n) again = tt
+kept_of config job from (reads items) again = refl
+kept_of config job from (writes items octets) again = refl
+kept_of config job from _ again = absurd (cc)
+
+again_at : (config : Config) (job : Job) (spot : Spot) (front back : List Row) (row : Row)
+    → AreMadeAgain config job spot (front ++ row ∷ back)
+    → question_of config job (spot_behind spot front).from (asked_of row.question) ≡ row.question
+again_at config job spot [] back row again = again.0
+again_at config job spot (r ∷ front) back row again =
+    again_at config job (spot_past spot (items_of r.question)) front back row again.1
 
 -- The telegram is that of this row, which no telegram before it answers.
 record IsFound (message : List ℕ) (spot : Spot) (rows : List Row) (before : List Flight) (flight : Flight)
@@ -88,14 +99,16 @@ found_here message spot row rows flight after unanswered is =
     }
 
 -- the message is no answer to the telegram of a row
-pub silent_row : (message : List ℕ) (spot : Spot) (row : Row) (flight : Flight) → flight_at spot row ≡ flight
+pub silent_row : (message : List ℕ) (config : Config) (job : Job) (spot : Spot) (row : Row) (flight : Flight)
+    → question_of config job spot.from (asked_of row.question) ≡ row.question → flight_at spot row ≡ flight
     → IsSilent message flight → PassesBy message row
-silent_row message spot row flight is silent =
+silent_row message config job spot row flight again is silent =
     let s : IsSilent message (flight_at spot row) = subst (IsSilent message) (sym is) silent in
-    λ unanswered. s row.question (kept_of row.question)
+    λ unanswered. s row.question (kept_of config job spot.from row.question again)
 
-find_by : (message : List ℕ) (spot : Spot) (row : Row) (rows : List Row) (answer : Option Answer)
-    (before : List Flight) (flight : Flight) (after : List Flight)
+find_by : (message : List ℕ) (config : Config) (job : Job) (spot : Spot) (row : Row) (rows : List Row)
+    (answer : Option Answer) (before : List Flight) (flight : Flight) (after : List Flight)
+    → question_of config job spot.from (asked_of row.question) ≡ row.question
     → row.answer ≡ answer → AllByRecursion (IsSilent message) before
     → ((bs : List Flight) → AllByRecursion (IsSilent message) bs
     → flights_of (spot_past spot (items_of row.question)) rows ≡ bs ++ flight ∷ after
@@ -103,19 +116,19 @@ find_by : (message : List ℕ) (spot : Spot) (row : Row) (rows : List Row) (answ
     → if_open answer (flight_at spot row)
     (flights_of (spot_past spot (items_of row.question)) rows) ≡ before ++ flight ∷ after
     → IsFound message spot (row ∷ rows) before flight after
-find_by message spot row rows (Some x) before flight after answer silent later is =
+find_by message config job spot row rows (Some x) before flight after again answer silent later is =
     found_past message spot row rows before before flight after
     (λ unanswered. absurd (let e : Some x ≡ None = sym answer ∙ unanswered in cc))
     (ap (λ o. if_open o (flight_at spot row) before) (sym answer))
     (later before silent is)
-find_by message spot row rows None [] flight after answer silent later is =
+find_by message config job spot row rows None [] flight after again answer silent later is =
     found_here message spot row rows flight after answer is
-find_by message spot row rows None (b ∷ before) flight after answer silent later is =
+find_by message config job spot row rows None (b ∷ before) flight after again answer silent later is =
     let both =
     heads_same (flight_at spot row) b (flights_of (spot_past spot (items_of row.question)) rows)
     (before ++ flight ∷ after) is in
     found_past message spot row rows before (b ∷ before) flight after
-    (silent_row message spot row b both.0 silent.0)
+    (silent_row message config job spot row b again both.0 silent.0)
     (ap (λ f. f ∷ before) (sym both.0) ∙ ap (λ o. if_open o (flight_at spot row) before) (sym answer))
     (later before silent.1 both.1)
 
@@ -123,14 +136,16 @@ none_found : (before after : List Flight) (flight : Flight) → [] ≡ before ++
 none_found [] after flight is = omega (arith, ap length is)
 none_found (b ∷ before) after flight is = omega (arith, ap length is)
 
-find : (message : List ℕ) (spot : Spot) (rows : List Row) (before : List Flight) (flight : Flight)
-    (after : List Flight)
-    → AllByRecursion (IsSilent message) before → flights_of spot rows ≡ before ++ flight ∷ after
+find : (message : List ℕ) (config : Config) (job : Job) (spot : Spot) (rows : List Row) (before : List Flight)
+    (flight : Flight) (after : List Flight)
+    → AreMadeAgain config job spot rows → AllByRecursion (IsSilent message) before
+    → flights_of spot rows ≡ before ++ flight ∷ after
     → IsFound message spot rows before flight after
-find message spot [] before flight after silent is = absurd (none_found before after flight is)
-find message spot (row ∷ rows) before flight after silent is =
-    find_by message spot row rows row.answer before flight after refl silent
-    (λ bs quiet there. find message (spot_past spot (items_of row.question)) rows bs flight after quiet there) is
+find message config job spot [] before flight after again silent is = absurd (none_found before after flight is)
+find message config job spot (row ∷ rows) before flight after again silent is =
+    let next = spot_past spot (items_of row.question) in
+    find_by message config job spot row rows row.answer before flight after again.0 refl silent
+    (λ bs quiet there. find message config job next rows bs flight after again.1 quiet there) is
 
 -- ---- what it tells fits the question
 
@@ -202,7 +217,6 @@ tell_all (item ∷ items) octets answers is =
     (λ os others e. tell_all items os others e) (sym (answers_first item items octets) ∙ is)
 
 pub tells_fit : (question : Question) (t : kept.Answer) (x : Answer) → Tells question t x → FitsQuestion question x
-tells_fit (negotiates n) t x telling = tt
 tells_fit (reads items) (told.Refused error) x telling = subst (FitsQuestion (reads items)) (sym telling) tt
 tells_fit (reads items) (told.Granted n) x telling = absurd telling
 tells_fit (reads items) (told.Items body) x telling =
@@ -214,6 +228,7 @@ tells_fit (writes items octets) (told.Granted n) x telling = absurd telling
 tells_fit (writes items octets) (told.Items body) x telling = absurd telling
 tells_fit (writes items octets) (told.Codes noted) x telling =
     subst (FitsQuestion (writes items octets)) (sym telling.0) telling.1
+tells_fit _ t x telling = tt
 
 -- ---- the rows with the answer
 
@@ -256,7 +271,10 @@ taking_found : (message : List ℕ) (config : Config) (job : Job) (questions : L
 taking_found message config job questions rows a a' flight t asks takes f =
     let spot = spot_behind first_spot f.front in
     let asked : IsAsked flight.asked f.row.question =
-    subst (λ (g : Flight). IsAsked g.asked f.row.question) (sym f.kept) (kept_of f.row.question) in
+    subst (λ (g : Flight). IsAsked g.asked f.row.question) (sym f.kept)
+    (kept_of config job spot.from f.row.question
+    (again_at config job first_spot f.front f.back f.row
+    (subst (AreMadeAgain config job first_spot) f.are asks.again))) in
     let found =
     told_answer f.row.question t (answer_of f.row.question flight.sequence message)
     (takes.answers f.row.question asked) in
@@ -313,4 +331,5 @@ pub taking : (message : List ℕ) (config : Config) (job : Job) (questions : Lis
     → IsTaking message config job questions rows a' flight t
 taking message config job questions rows a a' flight t asks takes =
     taking_found message config job questions rows a a' flight t asks takes
-    (find message first_spot rows takes.front flight takes.back takes.first (sym asks.flights ∙ takes.out))
+    (find message config job first_spot rows takes.front flight takes.back asks.again takes.first
+    (sym asks.flights ∙ takes.out))

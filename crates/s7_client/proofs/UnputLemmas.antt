@@ -4,6 +4,7 @@ use Rattle.std.specs.Prelude.{◌&&◌, ◌||◌, slice_index_or}
 use Rattle.std.specs.List.{list_all}
 use Rattle.std.proofs.lemmas.Bool.{and_parts, leb-true, ltb-true, eqb-true}
 use Rattle.std.proofs.lemmas.List.{length-append, length-drop, length-take-le, drop_all, drop_more}
+use Rattle.s7_header.specs.Negotiation.{most_pdu}
 use Rattle.s7_wire.specs.Sent.{sent_message, sent_messages}
 use Rattle.s7_wire.proofs.SendLemmas.{length-sent}
 use Rattle.s7_item.specs.declared.item.Item.{Item}
@@ -25,6 +26,7 @@ use Rattle.s7_client.specs.Checks.{is_known, octet_count_of}
 use Rattle.s7_client.specs.Stages.{octets_of, is_alone, question_of, message_of, unput_by, is_addressed, is_sendable, can_ask, can_ask_all, can_fly, has_places, is_ready}
 use Rattle.s7_client.proofs.MessageLemmas.{written_sent}
 use Rattle.s7_client.proofs.ReadyLemmas.{split_ask}
+use Rattle.s7_client.proofs.SingleLemmas.{single_few}
 
 -- ---- items that can be sent
 
@@ -34,7 +36,7 @@ pub record IsSent (alone write : Bool) (items : List Item) : Type 0 where
   pub one : alone ≡ true → length items ≡ 1
   pub addressed : list_all is_addressed items ≡ true
   pub known : list_all is_known items ≡ true
-  pub short : request_size items write ≤ 960
+  pub short : request_size items write ≤ most_pdu
 
 only_one : (alone one : Bool) → (not alone || one) ≡ true → alone ≡ true → one ≡ true
 only_one true one h is = h
@@ -44,17 +46,18 @@ pub is_sent : (alone write : Bool) (items : List Item) → is_sendable alone wri
     → IsSent alone write items
 is_sent alone write items can =
     let outer = and_parts (ltb 0 (length items) && (not alone || eqb (length items) 1))
-    (list_all is_addressed items && (list_all is_known items && leb (request_size items write) 960)) can in
+    (list_all is_addressed items && (list_all is_known items && leb (request_size items write) most_pdu)) can in
     let shape = and_parts (ltb 0 (length items)) (not alone || eqb (length items) 1) outer.0 in
     let rest =
-    and_parts (list_all is_addressed items) (list_all is_known items && leb (request_size items write) 960) outer.1 in
-    let last = and_parts (list_all is_known items) (leb (request_size items write) 960) rest.1 in
+    and_parts (list_all is_addressed items)
+    (list_all is_known items && leb (request_size items write) most_pdu) outer.1 in
+    let last = and_parts (list_all is_known items) (leb (request_size items write) most_pdu) rest.1 in
     record {
       some = ltb-true 0 (length items) shape.0;
       one = λ single. eqb-true (length items) 1 (only_one alone (eqb (length items) 1) shape.1 single);
       addressed = rest.0;
       known = last.0;
-      short = leb-true (request_size items write) 960 last.1;
+      short = leb-true (request_size items write) most_pdu last.1;
     }
 
 -- each address fits its field
@@ -92,7 +95,7 @@ piece_long octets from n within = length-take-le n (drop from octets) (omega (ar
 
 -- a message has a header, and is no longer than any message may be
 abbrev pub IsShort : List ℕ → Type 0
-IsShort message = (10 ≤ length message) × (length message ≤ 960)
+IsShort message = (10 ≤ length message) × (length message ≤ most_pdu)
 
 pub question_short : (config : Config) (job : Job) (found from sequence : ℕ) (told : Asked)
     → can_ask job found from told ≡ true
@@ -155,6 +158,7 @@ few_unput config size job found (stage.Asking a) least ready =
     let short =
     flights_short config size job found waiting least (all_dropped (can_fly job found) n a.flights.items parts.0) in
     omega (arith, short, length-drop n a.flights.items, a.few, a.most_width)
+few_unput config size job found (stage.Single s) least ready = single_few config size job found s least ready
 few_unput config size job found stage.Leaving least ready = omega arith
 few_unput config size job found (stage.Over code leaves) least ready = omega arith
 

@@ -1,7 +1,7 @@
 -- What answers a client's telegrams (Snap7 1.4 reference manual, and its public sources). An answer
--- has the sequence of its telegram. It is an acknowledgement with data and no error, or a refusal,
--- an acknowledgement with an error word alone.
-use Rattle.std.specs.Prelude.{ℕ, ◌+◌, Bool, not, ◌==◌, ◌&&◌, nat_le, List, [], ◌∷◌, length, drop, take, slice_index, Option, None, Some, option_map, Result, Ok, Err, if◌then◌else◌}
+-- has the sequence of its telegram. A job is answered by an acknowledgement with data and no error,
+-- user data by user data, and either by a refusal, an acknowledgement with an error word alone.
+use Rattle.std.specs.Prelude.{ℕ, ◌+◌, Bool, true, not, ◌==◌, ◌&&◌, nat_le, List, [], ◌∷◌, length, drop, take, slice_index, Option, None, Some, option_map, Result, Ok, Err, if◌then◌else◌}
 use Rattle.s7_header.specs.Octets.{number_at}
 use Rattle.s7_header.specs.declared.header.Header.{Header}
 use Rattle.s7_header.specs.declared.header.Kind.{Kind}
@@ -15,7 +15,13 @@ use Rattle.s7_item.specs.declared.item.Item.{Item}
 use Rattle.s7_item.specs.Item.{octet_count}
 use Rattle.s7_item.specs.Word.{transport_of}
 use Rattle.s7_item.specs.DataItem.{stated_length, padding_of}
-use Rattle.s7_client.specs.Question.{Question, negotiates, reads, writes}
+use Rattle.s7_header.specs.declared.user_params.UserParams.{UserParams}
+use Rattle.s7_header.specs.UserParams.{user_params_of}
+use Rattle.s7_clock.specs.declared.control.Control.{Control}
+use Rattle.s7_clock.specs.declared.control.Control.TheVariants as control
+use Rattle.s7_client.specs.declared.subject.Subject.{Subject}
+use Rattle.s7_client.specs.UserData.{octets_in, answers_about, goes_on_with}
+use Rattle.s7_client.specs.Question.{Question, negotiates, reads, writes, controls, asks, asks_further}
 
 -- the answer for one item that was read: its return code, and its octets where that is FF
 pub record ItemAnswer : Type 0 where
@@ -29,6 +35,10 @@ pub data Answer : Type 0 where
   tells : (items : List ItemAnswer) → Answer
   -- the return codes of the items that were written
   notes : (codes : List ℕ) → Answer
+  -- the status of a control
+  stands : (status : ℕ) → Answer
+  -- octets of user data under a sequence octet, and whether more follow them
+  brings : (octet : ℕ) → (more : Bool) → (octets : List ℕ) → Answer
   -- the error word of a refusal
   refuses : (error : ℕ) → Answer
 
@@ -73,6 +83,20 @@ abbrev pub grant_in : Result Negotiation BadParams → Option Answer
 grant_in (Ok granted) = Some (grants granted)
 grant_in (Err bad) = None
 
+-- the function of a control: 29 of a stop, and else 28
+abbrev pub function_of : Control → ℕ
+function_of control.Start = 0x28
+function_of control.ColdStart = 0x28
+function_of control.Stop = 0x29
+function_of control.Compress = 0x28
+function_of control.CopyRam = 0x28
+function_of (control.Insert kind number) = 0x28
+function_of (control.Delete kind number) = 0x28
+
+-- the parameters are the function of a control and a status
+abbrev pub tells_status : Control → List ℕ → Bool
+tells_status control params = length params == 2 && slice_index params 0 == function_of control
+
 -- what an acknowledgement with these parameters and data answers
 abbrev pub acknowledged : Question → List ℕ → List ℕ → Option Answer
 acknowledged (negotiates asked) params body =
@@ -81,6 +105,46 @@ acknowledged (reads items) params body =
     if counts_items 0x04 items params then option_map tells (item_answers items body) else None
 acknowledged (writes items octets) params body =
     if counts_items 0x05 items params && length body == length items then Some (notes body) else None
+acknowledged (controls control) params body =
+    if tells_status control params && length body == 0 then Some (stands (slice_index params 1)) else None
+acknowledged (asks subject octets) params body = None
+acknowledged (asks_further subject octet so_far) params body = None
+
+-- ---- user data
+
+-- Octets of user data with these parameters, behind those that came: an error word comes without octets, and else they
+-- go on with what came.
+abbrev pub brought : Subject → List ℕ → UserParams → List ℕ → Option Answer
+brought subject so_far params octets =
+    if params.error == 0
+    then (if goes_on_with subject so_far (params.more == 1) octets
+    then Some (brings params.sequence (params.more == 1) octets) else None)
+    else (if length octets == 0 then Some (refuses params.error) else None)
+
+abbrev pub if_data : Subject → List ℕ → UserParams → Option (List ℕ) → Option Answer
+if_data subject so_far params None = None
+if_data subject so_far params (Some octets) = brought subject so_far params octets
+
+-- the answer has the sequence octet that is asked for, if one is
+abbrev pub is_under : Option ℕ → ℕ → Bool
+is_under None octet = true
+is_under (Some asked) octet = octet == asked
+
+abbrev pub by_params : Subject → Option ℕ → List ℕ → List ℕ → Result UserParams BadParams → Option Answer
+by_params subject under so_far body (Err bad) = None
+by_params subject under so_far body (Ok params) =
+    if answers_about subject params && is_under under params.sequence
+    then if_data subject so_far params (octets_in body) else None
+
+-- what user data with these parameters and data answers
+abbrev pub answered_by_user : Question → List ℕ → List ℕ → Option Answer
+answered_by_user (negotiates asked) params body = None
+answered_by_user (reads items) params body = None
+answered_by_user (writes items octets) params body = None
+answered_by_user (controls control) params body = None
+answered_by_user (asks subject octets) params body = by_params subject None [] body (user_params_of params)
+answered_by_user (asks_further subject octet so_far) params body =
+    by_params subject (Some octet) so_far body (user_params_of params)
 
 abbrev pub by_kind : Kind → Question → Header → List ℕ → Option Answer
 by_kind Job question h message = None
@@ -88,7 +152,7 @@ by_kind Ack question h message =
     if h.param_len == 0 && h.body_len == 0 then Some (refuses h.error) else None
 by_kind AckData question h message =
     if h.error == 0 then acknowledged question (params_of message h) (body_of message h) else None
-by_kind User question h message = None
+by_kind User question h message = answered_by_user question (params_of message h) (body_of message h)
 
 abbrev pub by_header : Question → ℕ → List ℕ → Result Header HeaderFault → Option Answer
 by_header question sequence message (Err fault) = None

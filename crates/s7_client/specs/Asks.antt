@@ -21,11 +21,11 @@ use Rattle.s7_client.specs.Left.{groups_in, questions_left, items_asked, TakesNe
 use Rattle.s7_client.specs.Dialogue.{asked_by, read_questions, write_questions}
 use Rattle.s7_client.specs.Stages.{octets_of, question_of}
 
--- what is kept of a question, and its items
+-- what is kept of a question of those that may be out together, and its items
 abbrev pub asked_of : Question → Asked
-asked_of (negotiates told) = asked.Negotiation
 asked_of (reads items) = asked.Read items
 asked_of (writes items octets) = asked.Write items
+asked_of _ = asked.Negotiation
 
 abbrev pub items_of : Question → List Item
 items_of question = items_asked (asked_of question)

@@ -25,6 +25,7 @@ unfinished_of joiner = record { octets = open_octets joiner; count = joiner.coun
 abbrev pub limit_at : Stage → ℕ → ℕ
 limit_at stage.Opening size = first_limit
 limit_at (stage.Asking a) size = limit_of_size size
+limit_at (stage.Single s) size = limit_of_size size
 limit_at stage.Leaving size = limit_of_size size
 limit_at (stage.Over code leaves) size = limit_of_size size
 
@@ -57,6 +58,7 @@ pub record Reaches (origin : Origin) (before course : Course) (t : Talk) (u : Un
 abbrev pub IsAwaiting : Stage → Type 0
 IsAwaiting stage.Opening = Unit {0}
 IsAwaiting (stage.Asking a) = Unit {0}
+IsAwaiting (stage.Single s) = Unit {0}
 IsAwaiting stage.Leaving = ⊥
 IsAwaiting (stage.Over code leaves) = ⊥
 
@@ -70,6 +72,7 @@ LeavesLink leaving.Closed = ⊥
 abbrev pub LeavesOpen : Stage → Type 0
 LeavesOpen stage.Opening = ⊥
 LeavesOpen (stage.Asking a) = ⊥
+LeavesOpen (stage.Single s) = ⊥
 LeavesOpen stage.Leaving = ⊥
 LeavesOpen (stage.Over code leaves) = LeavesLink leaves
 
@@ -87,6 +90,7 @@ octets_of_message = 65 * 8200
 abbrev pub messages_left : Stage → ℕ
 messages_left stage.Opening = answers_left stage.Opening + 1
 messages_left (stage.Asking a) = answers_left (stage.Asking a) + 1
+messages_left (stage.Single s) = answers_left (stage.Single s) + 1
 messages_left stage.Leaving = 0
 messages_left (stage.Over code leaves) = 0
 

@@ -7,6 +7,7 @@ use Rattle.s7_item.specs.Item.{octet_count}
 use Rattle.s7_split.specs.Parts.{range_end}
 use Rattle.s7_split.specs.Groups.{packed_of}
 use Rattle.s7_split.specs.declared.packing.PackFault.{PackFault}
+use Rattle.s7_clock.specs.Moment.{first_moment, last_moment}
 use Rattle.s7_client.specs.Codes.{no_fault, invalid_parameters, too_many_items, invalid_word, over_pdu}
 
 abbrev pub is_known : Item → Bool
@@ -32,6 +33,16 @@ check_item item has_octets =
     if not (is_known item) then invalid_word
     else (if not (is_placed item && has_octets) then invalid_parameters
     else no_fault)
+
+-- of a moment that a clock is set to: one that clock octets have
+abbrev pub check_moment : ℕ → ℕ
+check_moment moment =
+    if nat_le first_moment moment && nat_le moment last_moment then no_fault else invalid_parameters
+
+-- of a password: one to eight octets
+abbrev pub check_password : List ℕ → ℕ
+check_password text =
+    if nat_lt 0 (length text) && nat_le (length text) 8 then no_fault else invalid_parameters
 
 -- of a read or write of several
 abbrev pub check_items : List Item → Bool → ℕ → Bool → ℕ

@@ -1,6 +1,6 @@
 -- The course of a job on its link: what the octets that were used make of it, and what may be sent.
 -- The octets are packets of RFC 1006 with TPDUs of ISO 8073, class 0, as a server's link has them.
-use Rattle.std.specs.Prelude.{ℕ, ◌+◌, zero, suc, Bool, true, false, ◌==◌, ◌&&◌, nat_lt, List, [], ◌∷◌, ◌++◌, length, is_none, Option, None, Some, Result, Ok, Err, if◌then◌else◌}
+use Rattle.std.specs.Prelude.{ℕ, ◌+◌, zero, suc, Bool, false, ◌==◌, ◌&&◌, nat_lt, List, [], ◌∷◌, ◌++◌, length, is_none, Option, None, Some, Result, Ok, Err, if◌then◌else◌}
 use Rattle.s7_outer.specs.Numbers.{two_octets}
 use Rattle.s7_tpkt.specs.Packets.{packet_of, packets_of, rest_of, state_of}
 use Rattle.s7_tpkt.specs.declared.state.FedState.{FedState}
@@ -14,12 +14,11 @@ use Rattle.s7_wire.specs.Bounds.{message_limit, first_limit, size_of_code, limit
 use Rattle.s7_wire.specs.Sent.{sent_message}
 use Rattle.s7_client.specs.declared.config.Config.{Config}
 use Rattle.s7_client.specs.declared.job.Job.{Job}
-use Rattle.s7_client.specs.declared.job.Job.TheVariants as job
 use Rattle.s7_client.specs.declared.grant.Grant.{Grant}
 use Rattle.s7_client.specs.Codes.{not_connected, link_ended, bad_packet, short_message, message_too_fragmented, message_too_long, invalid_answer}
 use Rattle.s7_client.specs.Question.{Question, question_octets}
 use Rattle.s7_client.specs.Flight.{Row, answers_of, open_count, filled}
-use Rattle.s7_client.specs.Dialogue.{End, fault_end, Conduct, First, nothing, connect_request, disconnect_request, first_refusal, plan_of}
+use Rattle.s7_client.specs.Dialogue.{End, fault_end, Conduct, First, nothing, connect_request, disconnect_request, first_refusal, is_connect, plan_of}
 
 -- where a job starts: what the client has by then
 pub record Origin : Type 0 where
@@ -180,14 +179,6 @@ unfoldable pub with_packet : Origin → Course → List ℕ → Course
 with_packet origin course body = by_awaits (conduct_of origin) course body course.awaits
 
 -- ---- whole courses
-
-abbrev pub is_connect : Job → Bool
-is_connect job.Connect = true
-is_connect (job.ReadArea item) = false
-is_connect (job.WriteArea item octets) = false
-is_connect (job.ReadMany items) = false
-is_connect (job.WriteMany items octets) = false
-is_connect job.Disconnect = false
 
 -- a connect on a client that isn't connected begins the link anew
 abbrev pub begins_anew : Option Grant → Job → Bool

@@ -1,24 +1,31 @@
 -- The dialogue of a job: what goes out first, which question may be asked next, and how the job ends, by the answers
 -- so far.
-use Rattle.std.specs.Prelude.{ℕ, ◌+◌, true, false, ◌==◌, ◌||◌, nat_lt, min, max, List, [], ◌∷◌, length, take, drop, map, slice_get, Option, None, Some, if◌then◌else◌}
+use Rattle.std.specs.Prelude.{ℕ, ◌+◌, Bool, true, false, ◌==◌, ◌||◌, ◌&&◌, nat_lt, min, max, List, [], ◌∷◌, ◌++◌, length, take, drop, map, slice_get, Option, None, Some, if◌then◌else◌}
 use Rattle.std.specs.List.{flat_map}
+use Rattle.s7_outer.specs.Numbers.{two_octets}
 use Rattle.s7_header.specs.declared.negotiation.Negotiation.{Negotiation}
 use Rattle.s7_header.specs.Negotiation.{least_pdu}
 use Rattle.s7_item.specs.declared.item.Item.{Item}
 use Rattle.s7_item.specs.Item.{octet_count}
 use Rattle.s7_split.specs.Parts.{parts_of}
 use Rattle.s7_split.specs.Groups.{groups_of}
+use Rattle.s7_clock.specs.declared.control.Control.{Control}
+use Rattle.s7_clock.specs.declared.control.Control.TheVariants as control
+use Rattle.s7_clock.specs.Moment.{octets_at}
 use Rattle.s7_client.specs.declared.config.Config.{Config}
 use Rattle.s7_client.specs.declared.grant.Grant.{Grant}
 use Rattle.s7_client.specs.declared.grant.Leaves.{Leaves}
 use Rattle.s7_client.specs.declared.grant.Leaves.TheVariants.{AsItWas, Connected, Disconnected, Closed}
 use Rattle.s7_client.specs.declared.job.Job.{Job}
 use Rattle.s7_client.specs.declared.job.Job.TheVariants as job
+use Rattle.s7_client.specs.declared.subject.Subject.{Subject}
+use Rattle.s7_client.specs.declared.subject.Subject.TheVariants.{StatusList, RunState, Clock, ClockSetting, Password, PasswordClearing}
 use Rattle.s7_client.specs.Codes.{no_fault, not_connected, negotiation_failed, partly_written}
-use Rattle.s7_client.specs.Question.{Question, negotiates, reads, writes}
-use Rattle.s7_client.specs.Answer.{Answer, grants, tells, notes, refuses, ItemAnswer}
-use Rattle.s7_client.specs.Refusals.{telegram_refusal, part_refusal}
-use Rattle.s7_client.specs.Checks.{check_item, check_items, octet_count_of}
+use Rattle.s7_client.specs.UserData.{comes_in_pieces, filled_text, encoded}
+use Rattle.s7_client.specs.Question.{Question, negotiates, reads, writes, controls, asks, asks_further}
+use Rattle.s7_client.specs.Answer.{Answer, grants, tells, notes, stands, brings, refuses, ItemAnswer}
+use Rattle.s7_client.specs.Refusals.{telegram_refusal, part_refusal, control_refusal}
+use Rattle.s7_client.specs.Checks.{check_item, check_items, check_moment, check_password, octet_count_of}
 
 pub record End : Type 0 where
   -- 0, or the number of an error
@@ -88,6 +95,8 @@ negotiated_by config (grants n) = by_grant (taken_grant config n)
 negotiated_by config (refuses error) = number_end negotiation_failed Closed
 negotiated_by config (tells items) = number_end negotiation_failed Closed
 negotiated_by config (notes codes) = number_end negotiation_failed Closed
+negotiated_by config (stands status) = number_end negotiation_failed Closed
+negotiated_by config (brings octet more octets) = number_end negotiation_failed Closed
 
 abbrev pub negotiated : Config → List (Option Answer) → End
 negotiated config [] = number_end negotiation_failed Closed
@@ -154,6 +163,8 @@ abbrev pub items_told : Answer → List ItemAnswer
 items_told (tells items) = items
 items_told (grants granted) = []
 items_told (notes codes) = []
+items_told (stands status) = []
+items_told (brings octet more octets) = []
 items_told (refuses error) = []
 
 -- the return codes of items, read or written
@@ -161,6 +172,8 @@ abbrev pub codes_in : Answer → List ℕ
 codes_in (tells items) = map (λ (item : ItemAnswer). item.code) items
 codes_in (notes codes) = codes
 codes_in (grants granted) = []
+codes_in (stands status) = []
+codes_in (brings octet more octets) = []
 codes_in (refuses error) = []
 
 abbrev pub of_answer : (Answer → List ℕ) → Option Answer → List ℕ
@@ -199,6 +212,69 @@ listed granted questions refusal number finished = record {
   };
 }
 
+-- ---- one question at a time
+
+-- one question, the call of a control
+abbrev pub controlling : Control → Conduct
+controlling control = record {
+  width = 1;
+  question_at = λ (answers : List (Option Answer)). slice_get (controls control ∷ []) (length answers);
+  refusal = control_refusal control;
+  ended = λ (answers : List (Option Answer)).
+      by_refusal plain_number (first_refusal (control_refusal control) 0 answers) (good_end [] []);
+}
+
+-- the octets that an answer in user data brings
+abbrev pub octets_in : Answer → List ℕ
+octets_in (brings octet more octets) = octets
+octets_in (grants granted) = []
+octets_in (tells items) = []
+octets_in (notes codes) = []
+octets_in (stands status) = []
+octets_in (refuses error) = []
+
+abbrev pub octets_brought : List (Option Answer) → List ℕ
+octets_brought answers = flat_map (of_answer octets_in) answers
+
+-- what is asked behind the octets that came, by the last answer: the next octets, where more follow of what comes in
+-- pieces
+abbrev pub behind : Subject → List ℕ → Option Answer → Option Question
+behind subject so_far (Some (brings octet more octets)) =
+    if more && comes_in_pieces subject then Some (asks_further subject octet so_far) else None
+behind subject so_far (Some (grants granted)) = None
+behind subject so_far (Some (tells items)) = None
+behind subject so_far (Some (notes codes)) = None
+behind subject so_far (Some (stands status)) = None
+behind subject so_far (Some (refuses error)) = None
+behind subject so_far None = None
+
+abbrev pub last_answer : Option Answer → List (Option Answer) → Option Answer
+last_answer answer [] = answer
+last_answer answer (next ∷ answers) = last_answer next answers
+
+-- User data about something, with these octets, and then the further octets of its answer, piece by piece.
+abbrev pub next_piece : Subject → List ℕ → List (Option Answer) → Option Question
+next_piece subject octets [] = Some (asks subject octets)
+next_piece subject octets (answer ∷ answers) =
+    behind subject (octets_brought (answer ∷ answers)) (last_answer answer answers)
+
+abbrev pub asking_about : Subject → List ℕ → Conduct
+asking_about subject octets = record {
+  width = 1;
+  question_at = next_piece subject octets;
+  refusal = telegram_refusal;
+  ended = λ (answers : List (Option Answer)).
+      by_refusal plain_number (first_refusal telegram_refusal 0 answers) (good_end (octets_brought answers) []);
+}
+
+-- a job that asks from its start on
+abbrev pub at_once : Conduct → Plan
+at_once conduct = record { first = nothing; conduct = conduct }
+
+-- the id and the index of a status list
+abbrev pub list_octets : ℕ → ℕ → List ℕ
+list_octets id index = two_octets id ++ two_octets index
+
 -- ---- each job
 
 abbrev pub if_good : ℕ → Plan → Plan
@@ -223,20 +299,33 @@ connected_plan (job.WriteMany items octets) granted =
     if_good (check_items items (length octets == octet_count_of items) granted.pdu true)
     (listed granted (write_questions (groups_of granted.pdu true items) octets) telegram_refusal plain_number
     (λ answers. good_end [] (codes_told answers)))
+connected_plan (job.Szl id index) granted = at_once (asking_about StatusList (list_octets id index))
+connected_plan job.ClockRead granted = at_once (asking_about Clock [])
+connected_plan (job.ClockSet moment) granted =
+    if_good (check_moment moment) (at_once (asking_about ClockSetting (octets_at moment)))
+connected_plan job.Start granted = at_once (controlling control.Start)
+connected_plan job.ColdStart granted = at_once (controlling control.ColdStart)
+connected_plan job.Stop granted = at_once (controlling control.Stop)
+connected_plan job.Compress granted = at_once (controlling control.Compress)
+connected_plan job.CopyRam granted = at_once (controlling control.CopyRam)
+connected_plan job.Status granted = at_once (asking_about RunState (list_octets 0x0424 0))
+connected_plan (job.PasswordSet text) granted =
+    if_good (check_password text) (at_once (asking_about Password (encoded (filled_text text))))
+connected_plan job.PasswordClear granted = at_once (asking_about PasswordClearing [])
 connected_plan job.Disconnect granted = record { first = disconnect_request; conduct = silent departed_end }
 
 -- a connect request, then the negotiation
 abbrev pub connecting_plan : Config → Plan
 connecting_plan config = record { first = connect_request; conduct = negotiating config }
 
--- that of a job on a client that isn't connected
+abbrev pub is_connect : Job → Bool
+is_connect job.Connect = true
+is_connect _ = false
+
+-- that of a job on a client that isn't connected: only a connect asks something
 abbrev pub unconnected_plan : Job → Config → Plan
-unconnected_plan job.Connect config = connecting_plan config
-unconnected_plan (job.ReadArea item) config = over (number_end not_connected Disconnected)
-unconnected_plan (job.WriteArea item octets) config = over (number_end not_connected Disconnected)
-unconnected_plan (job.ReadMany items) config = over (number_end not_connected Disconnected)
-unconnected_plan (job.WriteMany items octets) config = over (number_end not_connected Disconnected)
-unconnected_plan job.Disconnect config = over (number_end not_connected Disconnected)
+unconnected_plan job config =
+    if is_connect job then connecting_plan config else over (number_end not_connected Disconnected)
 
 -- THE PLAN of a job by what was granted before it
 abbrev pub plan_of : Job → Config → Option Grant → Plan

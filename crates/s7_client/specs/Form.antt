@@ -1,5 +1,5 @@
 -- The form of ends: what a job gives where it came off, by what was asked.
-use Rattle.std.specs.Prelude.{◌≡◌, ◌≢◌, ℕ, ◌+◌, ◌≤◌, ◌==◌, if◌then◌else◌, List, [], ◌∷◌, length}
+use Rattle.std.specs.Prelude.{◌≡◌, ◌≢◌, ℕ, ◌+◌, ◌≤◌, ◌==◌, true, if◌then◌else◌, IsSome, List, [], ◌∷◌, length}
 use Rattle.std.specs.Option.{ForSome}
 use Rattle.s7_item.specs.declared.item.Item.{Item}
 use Rattle.s7_item.specs.Item.{octet_count}
@@ -7,6 +7,9 @@ use Rattle.s7_client.specs.declared.grant.Grant.{Grant}
 use Rattle.s7_client.specs.declared.job.Job.{Job}
 use Rattle.s7_client.specs.declared.job.Job.TheVariants as job
 use Rattle.s7_header.specs.Negotiation.{least_pdu}
+use Rattle.s7_szl.specs.Images.{adds_up}
+use Rattle.s7_szl.specs.Readers.{mode_of}
+use Rattle.s7_clock.specs.Moment.{moment_in}
 use Rattle.s7_client.specs.Codes.{no_fault}
 use Rattle.s7_client.specs.Dialogue.{End, fault_end}
 use Rattle.s7_client.specs.Course.{Origin, for_departure, for_nothing, conduct_of, course}
@@ -22,7 +25,8 @@ octets_read (item ∷ items) [] = 0
 octets_read (item ∷ items) (code ∷ cs) = count_read item code + octets_read items cs
 
 -- Of several items there are as many codes as items, and the octets of those that were read. Other
--- jobs have no codes, and only reads have octets.
+-- jobs have no codes, and only what reads has octets: an image of a status list adds up, one that tells whether the
+-- controller runs does so, and the octets of a clock are ten and have a date and time.
 abbrev pub FormOf : Job → List ℕ → List ℕ → Type 0
 FormOf job.Connect octets codes = (octets ≡ []) × (codes ≡ [])
 FormOf (job.ReadArea item) octets codes = codes ≡ []
@@ -31,6 +35,17 @@ FormOf (job.ReadMany items) octets codes =
     (length codes ≤ 20) × (length codes ≡ length items) × (length octets ≡ octets_read items codes)
 FormOf (job.WriteMany items written) octets codes =
     (length codes ≤ 20) × (length codes ≡ length items) × (octets ≡ [])
+FormOf (job.Szl id index) octets codes = (adds_up octets ≡ true) × (codes ≡ [])
+FormOf job.ClockRead octets codes = IsSome (moment_in octets) × (codes ≡ [])
+FormOf (job.ClockSet moment) octets codes = (octets ≡ []) × (codes ≡ [])
+FormOf job.Start octets codes = (octets ≡ []) × (codes ≡ [])
+FormOf job.ColdStart octets codes = (octets ≡ []) × (codes ≡ [])
+FormOf job.Stop octets codes = (octets ≡ []) × (codes ≡ [])
+FormOf job.Compress octets codes = (octets ≡ []) × (codes ≡ [])
+FormOf job.CopyRam octets codes = (octets ≡ []) × (codes ≡ [])
+FormOf job.Status octets codes = IsSome (mode_of octets) × (codes ≡ [])
+FormOf (job.PasswordSet text) octets codes = (octets ≡ []) × (codes ≡ [])
+FormOf job.PasswordClear octets codes = (octets ≡ []) × (codes ≡ [])
 FormOf job.Disconnect octets codes = (octets ≡ []) × (codes ≡ [])
 
 -- the end has the form of the job where it came off, and else neither octets nor codes
@@ -41,12 +56,8 @@ HasForm job end =
 
 -- a read of one item has as many octets as the item
 abbrev pub IsWhole : Job → End → Type 0
-IsWhole job.Connect end = Unit {0}
 IsWhole (job.ReadArea item) end = end.code ≡ no_fault → length end.octets ≡ octet_count item
-IsWhole (job.WriteArea item written) end = Unit {0}
-IsWhole (job.ReadMany items) end = Unit {0}
-IsWhole (job.WriteMany items written) end = Unit {0}
-IsWhole job.Disconnect end = Unit {0}
+IsWhole _ end = Unit {0}
 
 -- Every end of a job has its form.
 pub record EndsHaveForm : Type 0 where

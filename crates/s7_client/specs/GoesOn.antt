@@ -1,5 +1,5 @@
 -- What a job under way keeps, so that it goes on from answer to answer as its conduct says.
-use Rattle.std.specs.Prelude.{◌≡◌, ℕ, ◌==◌, Bool, true, false, if◌then◌else◌, List, [], ◌∷◌, ◌++◌, length, take, replicate, slice_get, Option, None, Some}
+use Rattle.std.specs.Prelude.{◌≡◌, ℕ, ◌==◌, Bool, true, false, if◌then◌else◌, List, [], ◌∷◌, ◌++◌, length, take, replicate, slice_get, IsSome, Option, None, Some}
 use Rattle.std.specs.Bool.{MatchBool}
 use Rattle.std.specs.List.{flat_map, AllByRecursion}
 use Rattle.s7_item.specs.declared.item.Item.{Item}
@@ -14,13 +14,14 @@ use Rattle.s7_client.specs.declared.running.Running.{Running}
 use Rattle.s7_client.specs.declared.running.Stage.{Stage}
 use Rattle.s7_client.specs.declared.running.Stage.TheVariants as stage
 use Rattle.s7_client.specs.Question.{Question, negotiates, reads, writes}
-use Rattle.s7_client.specs.Answer.{Answer, ItemAnswer, grants, tells, notes, refuses}
+use Rattle.s7_client.specs.Answer.{Answer, ItemAnswer, tells, notes, refuses}
 use Rattle.s7_client.specs.Refusals.{telegram_refusal, part_refusal}
 use Rattle.s7_client.specs.Flight.{Row, answers_of}
 use Rattle.s7_client.specs.Left.{joined, questions_left, items_left, octets_left}
-use Rattle.s7_client.specs.Dialogue.{End, Conduct, asked_by, negotiated, departed_end, read_questions, write_questions, first_refusal, write_number, by_refusal, items_told, codes_in, of_answer, octets_told, codes_told, good_end, plan_of}
+use Rattle.s7_client.specs.Dialogue.{End, Conduct, asked_by, negotiated, departed_end, read_questions, write_questions, first_refusal, write_number, by_refusal, items_told, codes_in, of_answer, octets_told, codes_told, octets_brought, good_end, plan_of}
 use Rattle.s7_client.specs.Course.{Course}
-use Rattle.s7_client.specs.Stages.{unput_by}
+use Rattle.s7_client.specs.declared.single.Single.{Single}
+use Rattle.s7_client.specs.Stages.{unput_by, conduct_of_single, question_of_single}
 use Rattle.s7_client.specs.declared.asking.Refused.{Refused}
 use Rattle.s7_client.specs.Asks.{Asks, items_of, refused_at, Refuses}
 
@@ -37,34 +38,27 @@ questions_of config (job.ReadArea item) groups = read_questions groups
 questions_of config (job.WriteArea item octets) groups = write_questions groups octets
 questions_of config (job.ReadMany items) groups = read_questions groups
 questions_of config (job.WriteMany items octets) groups = write_questions groups octets
-questions_of config job.Disconnect groups = []
+questions_of config _ groups = []
 
 -- the number of the refusal that an answer is
 abbrev pub refusal_of : Job → Answer → Option ℕ
-refusal_of job.Connect answer = None
 refusal_of (job.ReadArea item) answer = part_refusal answer
 refusal_of (job.WriteArea item octets) answer = part_refusal answer
 refusal_of (job.ReadMany items) answer = telegram_refusal answer
 refusal_of (job.WriteMany items octets) answer = telegram_refusal answer
-refusal_of job.Disconnect answer = None
+refusal_of _ answer = None
 
 -- the number that the refusal at a place ends the job with
 abbrev pub number_of : Job → ℕ → ℕ → ℕ
-number_of job.Connect place number = number
-number_of (job.ReadArea item) place number = number
 number_of (job.WriteArea item octets) place number = write_number place number
-number_of (job.ReadMany items) place number = number
-number_of (job.WriteMany items octets) place number = number
-number_of job.Disconnect place number = number
+number_of _ place number = number
 
 -- the end of a read or write that no answer refuses
 abbrev pub finished : Job → List (Option Answer) → End
-finished job.Connect answers = good_end [] []
 finished (job.ReadArea item) answers = good_end (octets_told answers) []
-finished (job.WriteArea item octets) answers = good_end [] []
 finished (job.ReadMany items) answers = good_end (octets_told answers) (codes_told answers)
 finished (job.WriteMany items octets) answers = good_end [] (codes_told answers)
-finished job.Disconnect answers = good_end [] []
+finished _ answers = good_end [] []
 
 abbrev pub ended_by : Job → List (Option Answer) → End
 ended_by job answers = by_refusal (number_of job) (first_refusal (refusal_of job) 0 answers) (finished job answers)
@@ -75,7 +69,7 @@ ended_of config (job.ReadArea item) answers = ended_by (job.ReadArea item) answe
 ended_of config (job.WriteArea item octets) answers = ended_by (job.WriteArea item octets) answers
 ended_of config (job.ReadMany items) answers = ended_by (job.ReadMany items) answers
 ended_of config (job.WriteMany items octets) answers = ended_by (job.WriteMany items octets) answers
-ended_of config job.Disconnect answers = departed_end
+ended_of config _ answers = departed_end
 
 abbrev pub conducted : Config → Job → ℕ → List (List Item) → Conduct
 conducted config job width groups = record {
@@ -91,12 +85,9 @@ AreAlone groups = AllByRecursion (λ (group : List Item). length group ≡ 1) gr
 
 -- the groups of a read of one item are one item each, and those of a read of several are these items
 abbrev pub AreGroupsOf : Job → List (List Item) → Type 0
-AreGroupsOf job.Connect groups = Unit {0}
 AreGroupsOf (job.ReadArea item) groups = AreAlone groups
-AreGroupsOf (job.WriteArea item octets) groups = Unit {0}
 AreGroupsOf (job.ReadMany items) groups = joined groups ≡ items
-AreGroupsOf (job.WriteMany items octets) groups = Unit {0}
-AreGroupsOf job.Disconnect groups = Unit {0}
+AreGroupsOf _ groups = Unit {0}
 
 -- ---- what was found
 
@@ -131,30 +122,23 @@ codes_so_far rows left = flat_map codes_of_row rows ++ replicate (items_left lef
 
 -- reads and writes ask for groups
 abbrev pub asks_groups : Job → Bool
-asks_groups job.Connect = false
 asks_groups (job.ReadArea item) = true
 asks_groups (job.WriteArea item octets) = true
 asks_groups (job.ReadMany items) = true
 asks_groups (job.WriteMany items octets) = true
-asks_groups job.Disconnect = false
+asks_groups _ = false
 
 -- reads bring octets
 abbrev pub brings_octets : Job → Bool
-brings_octets job.Connect = false
 brings_octets (job.ReadArea item) = true
-brings_octets (job.WriteArea item octets) = false
 brings_octets (job.ReadMany items) = true
-brings_octets (job.WriteMany items octets) = false
-brings_octets job.Disconnect = false
+brings_octets _ = false
 
 -- and reads and writes of several items bring codes
 abbrev pub brings_codes : Job → Bool
-brings_codes job.Connect = false
-brings_codes (job.ReadArea item) = false
-brings_codes (job.WriteArea item octets) = false
 brings_codes (job.ReadMany items) = true
 brings_codes (job.WriteMany items octets) = true
-brings_codes job.Disconnect = false
+brings_codes _ = false
 
 -- ---- answers that fit their questions
 
@@ -170,15 +154,13 @@ TellAll (item ∷ items) [] = ⊥
 TellAll (item ∷ items) (answer ∷ answers) = TellsItem item answer × TellAll items answers
 
 abbrev pub FitsQuestion : Question → Answer → Type 0
-FitsQuestion (negotiates told) answer = Unit {0}
-FitsQuestion (reads items) (grants granted) = ⊥
 FitsQuestion (reads items) (tells answers) = TellAll items answers
-FitsQuestion (reads items) (notes codes) = ⊥
 FitsQuestion (reads items) (refuses error) = Unit {0}
-FitsQuestion (writes items octets) (grants granted) = ⊥
-FitsQuestion (writes items octets) (tells answers) = ⊥
+FitsQuestion (reads items) _ = ⊥
 FitsQuestion (writes items octets) (notes codes) = length codes ≡ length items
 FitsQuestion (writes items octets) (refuses error) = Unit {0}
+FitsQuestion (writes items octets) _ = ⊥
+FitsQuestion _ _ = Unit {0}
 
 abbrev pub FitsIfTold : Question → Option Answer → Type 0
 FitsIfTold question None = Unit {0}
@@ -207,6 +189,30 @@ pub record Conducts (config : Config) (granted : Option Grant) (rows told : List
   pub octets : asks_groups job ≡ true → found ≡ (if brings_octets job then octets_so_far told a.left else [])
   pub noted : asks_groups job ≡ true → codes ≡ (if brings_codes job then codes_so_far told a.left else [])
 
+-- ---- one question at a time
+
+-- the telegram that is out, if one is
+abbrev pub rows_out : Question → Option ℕ → List Row
+rows_out question None = []
+rows_out question (Some number) = record { question = question; number = number; answer = None } ∷ []
+
+abbrev pub IsAnswered : Row → Type 0
+IsAnswered row = IsSome row.answer
+
+-- A job that asks one question at a time asks as its conduct says: of its telegrams all but the one that is out are
+-- answered, no answer refuses, and their octets came.
+pub record AsksSingly (config : Config) (granted : Option Grant) (rows : List Row) (job : Job) (found codes : List ℕ)
+    (s : Single) : Type 0 where
+  pub conduct : (plan_of job config granted).conduct ≡ conduct_of_single job s.ask
+  pub before : List Row
+  pub answered : AllByRecursion IsAnswered before
+  pub out : rows ≡ before ++ rows_out (question_of_single job s.ask (take s.len found)) s.out
+  pub next : (conduct_of_single job s.ask).question_at (answers_of before)
+      ≡ Some (question_of_single job s.ask (take s.len found))
+  pub unrefused : first_refusal (conduct_of_single job s.ask).refusal 0 (answers_of before) ≡ None
+  pub brought : octets_brought (answers_of before) ≡ take s.len found
+  pub no_codes : codes ≡ []
+
 -- All that it asked since went out, under sequences up to this last one, and it goes on with it.
 pub record HasAsked (config : Config) (granted : Option Grant) (job : Job) (found codes : List ℕ) (a : Asking)
     (course now : Course) (a' : Asking) (last : ℕ) : Type 0 where
@@ -220,6 +226,7 @@ abbrev pub ConductsAt : Config → Option Grant → List Row → List Row → Jo
 ConductsAt config granted rows told job found codes stage.Opening = ⊥
 ConductsAt config granted rows told job found codes (stage.Asking a) =
     Conducts config granted rows told job found codes a
+ConductsAt config granted rows told job found codes (stage.Single s) = AsksSingly config granted rows job found codes s
 ConductsAt config granted rows told job found codes stage.Leaving = ⊥
 ConductsAt config granted rows told job found codes (stage.Over code leaves) = ⊥
 
@@ -227,6 +234,7 @@ ConductsAt config granted rows told job found codes (stage.Over code leaves) = �
 abbrev pub RefusesAt : Stage → ℕ → ℕ → Stage → Type 0
 RefusesAt before place number stage.Opening = ⊥
 RefusesAt before place number (stage.Asking b) = (a : Asking) × (before ≡ stage.Asking a) × Refuses a place number b
+RefusesAt before place number (stage.Single s) = ⊥
 RefusesAt before place number stage.Leaving = ⊥
 RefusesAt before place number (stage.Over code leaves) = ⊥
 
@@ -235,6 +243,7 @@ abbrev pub IsDone : Stage → Option Refused → Type 0
 IsDone stage.Opening refused = ⊥
 IsDone (stage.Asking a) refused =
     (a.flights.items ≡ []) × (a.refused ≡ refused) × (refused ≡ None → questions_left a.left ≡ 0)
+IsDone (stage.Single s) refused = ⊥
 IsDone stage.Leaving refused = ⊥
 IsDone (stage.Over code leaves) refused = ⊥
 

@@ -1,4 +1,5 @@
 pub mod Codes
+pub mod UserData
 pub mod Question
 pub mod Answer
 pub mod DataItems
@@ -12,12 +13,14 @@ pub mod Course
 pub mod Told
 pub mod Left
 pub mod Stages
+pub mod Singles
 pub mod Asks
 pub mod GoesOn
 pub mod Starting
 pub mod Running
 pub mod Taking
 pub mod At
+pub mod Order
 pub mod Standing
 pub mod Polling
 pub mod Form

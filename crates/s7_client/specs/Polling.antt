@@ -21,7 +21,7 @@ use Rattle.s7_client.specs.Dialogue.{End, fault_end}
 use Rattle.s7_client.specs.Running.{IsResult, IsOver, awaited_in}
 use Rattle.s7_client.specs.Course.{Origin, begins_anew, course, for_nothing, asked_size_code}
 use Rattle.s7_client.specs.At.{LeavesOpen, BeginsTalk, limit_at}
-use Rattle.s7_client.specs.Standing.{Stands, Fits, IsBetween, Moves, HasCause, HasMetNotYet, IsUnderWay, IsFault, unread, unsent}
+use Rattle.s7_client.specs.Standing.{Stands, Fits, IsBetween, Moves, IsOrderly, HasCause, HasMetNotYet, IsUnderWay, IsFault, unread, unsent}
 
 -- the job that is outstanding
 abbrev pub job_of : Client → Option Job
@@ -172,6 +172,10 @@ Comes old link new link' used written polled.Idle =
 
 pub record IsPoll (old : Client) (link : Shown) (new : Client) (link' : Shown) (result : Polled) : Type 0 where
   pub moves : Moves (unread_of old) link (unread_of new) link'
+  -- what it moved falls into deeds in order: octets were used only where all was sent, and received only where none was
+  -- unused
+  pub orderly : (origin : Origin) (b w : List ℕ) → StandsFor old origin b w
+      → IsOrderly origin (unread_of old) b w moves
   pub config : config_of new ≡ config_of old
   pub comes : Comes old link new link' moves.used moves.written result
 
@@ -207,6 +211,9 @@ pub record RoundGoesOn (l : Line) (u : UnderWay) (link : Shown) (l' : Line) (u' 
   pub rose : Rose link.waits link'.waits
   pub waited : u'.waited ≡ u.waited + 1
   pub patient : u'.waited < config.polls
+  pub orderly : (origin : Origin) (b w : List ℕ) → origin.config ≡ config → origin.granted ≡ granted
+      → Stands origin l u b w
+      → IsOrderly origin (unread l) b w moves
   pub stood : (origin : Origin) (b w : List ℕ) → origin.config ≡ config → origin.granted ≡ granted
       → Stands origin l u b w
       → Stands origin l' u' (b ++ moves.used) (w ++ moves.written)
@@ -230,6 +237,9 @@ pub record RoundEnds (l : Line) (u : UnderWay) (link : Shown) (l' : Line) (u' : 
   pub moves : Moves (unread l) link (unread l') link'
   pub over : IsOver u'.running.stage
   pub left : LeavesOpen u'.running.stage → IsBetween l'
+  pub orderly : (origin : Origin) (b w : List ℕ) → origin.config ≡ config → origin.granted ≡ granted
+      → Stands origin l u b w
+      → IsOrderly origin (unread l) b w moves
   pub ends_by : (origin : Origin) (b w : List ℕ) → origin.config ≡ config → origin.granted ≡ granted
       → Stands origin l u b w
       → EndsBy origin link link' l' u' (b ++ moves.used) (w ++ moves.written) u.waited

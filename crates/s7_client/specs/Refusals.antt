@@ -1,7 +1,9 @@
 -- The numbers of errors that refusals end a job with (Snap7 1.4 sources, `CpuError`).
 use Rattle.std.specs.Prelude.{ℕ, ◌==◌, ◌||◌, [], ◌∷◌, Option, None, Some, if◌then◌else◌}
-use Rattle.s7_client.specs.Codes.{over_pdu, address_out_of_range, invalid_transport, size_mismatch, not_available, invalid_value, no_such_function, password_needed, wrong_password, no_password, refused_otherwise}
-use Rattle.s7_client.specs.Answer.{Answer, grants, tells, notes, refuses}
+use Rattle.s7_client.specs.Codes.{over_pdu, address_out_of_range, invalid_transport, size_mismatch, not_available, invalid_value, no_such_function, already_runs, already_stopped, password_needed, wrong_password, no_password, refused_otherwise}
+use Rattle.s7_clock.specs.declared.control.Control.{Control}
+use Rattle.s7_clock.specs.declared.control.Control.TheVariants as control
+use Rattle.s7_client.specs.Answer.{Answer, grants, tells, notes, stands, brings, refuses}
 
 -- by the error word of a header
 abbrev pub number_of_error : ℕ → ℕ
@@ -28,12 +30,24 @@ number_of_code code =
 abbrev pub code_refusal : ℕ → Option ℕ
 code_refusal code = if code == 0xFF then None else Some (number_of_code code)
 
+-- by the status that answers a control, which isn't 00
+abbrev pub number_of_status : Control → ℕ → ℕ
+number_of_status control.Start status = if status == 0x02 then already_runs else refused_otherwise
+number_of_status control.ColdStart status = if status == 0x02 then already_runs else refused_otherwise
+number_of_status control.Stop status = if status == 0x07 then already_stopped else refused_otherwise
+number_of_status control.Compress status = refused_otherwise
+number_of_status control.CopyRam status = refused_otherwise
+number_of_status (control.Insert kind number) status = refused_otherwise
+number_of_status (control.Delete kind number) status = refused_otherwise
+
 -- the refusal of a telegram, whatever became of its items
 abbrev pub telegram_refusal : Answer → Option ℕ
 telegram_refusal (refuses error) = Some (number_of_error error)
 telegram_refusal (grants granted) = None
 telegram_refusal (tells items) = None
 telegram_refusal (notes codes) = None
+telegram_refusal (stands status) = None
+telegram_refusal (brings octet more octets) = None
 
 -- the refusal of a telegram or of its one item
 abbrev pub part_refusal : Answer → Option ℕ
@@ -45,3 +59,15 @@ part_refusal (notes (code ∷ [])) = code_refusal code
 part_refusal (notes []) = None
 part_refusal (notes (code ∷ next ∷ codes)) = None
 part_refusal (grants granted) = None
+part_refusal (stands status) = None
+part_refusal (brings octet more octets) = None
+
+-- the refusal of a control, by its telegram or by its status
+abbrev pub control_refusal : Control → Answer → Option ℕ
+control_refusal control (refuses error) = Some (number_of_error error)
+control_refusal control (stands status) =
+    if status == 0x00 then None else Some (number_of_status control status)
+control_refusal control (grants granted) = None
+control_refusal control (tells items) = None
+control_refusal control (notes codes) = None
+control_refusal control (brings octet more octets) = None

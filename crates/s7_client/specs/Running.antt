@@ -1,5 +1,5 @@
 -- What contracts see of a job under way.
-use Rattle.std.specs.Prelude.{◌≡◌, ℕ, ◌≤◌, List, [], ◌++◌, length, take, slice_index, Option}
+use Rattle.std.specs.Prelude.{◌≡◌, ℕ, ◌≤◌, List, [], ◌++◌, length, take, slice_index, Option, None}
 use Rattle.s7_client.specs.declared.config.Config.{Config}
 use Rattle.s7_client.specs.declared.grant.Grant.{Grant}
 use Rattle.s7_client.specs.declared.job.Job.{Job}
@@ -33,6 +33,8 @@ abbrev pub BeginsAt : Running → Config → Option Grant → Stage → Type 0
 BeginsAt r config granted stage.Opening = (plan_of r.job config granted).first ≡ connect_request
 BeginsAt r config granted (stage.Asking a) =
     ((plan_of r.job config granted).first ≡ nothing) × (a.unput ≡ 0) × Follows r config granted []
+BeginsAt r config granted (stage.Single s) =
+    ((plan_of r.job config granted).first ≡ nothing) × (s.out ≡ None) × Follows r config granted []
 BeginsAt r config granted stage.Leaving = (plan_of r.job config granted).first ≡ disconnect_request
 BeginsAt r config granted (stage.Over code leaves) =
     plan_of r.job config granted ≡ over (record { code = code; octets = r.found.items; codes = r.codes; leaves = leaves })

@@ -18,6 +18,7 @@ use Rattle.s7_client.specs.Dialogue.{End, fault_end}
 use Rattle.s7_client.specs.Running.{awaited_in, IsOver, IsOpening}
 use Rattle.s7_client.specs.Course.{Origin, Awaits, for_confirm, for_answers, for_departure, for_nothing, conduct_of, course, may_send, limits}
 use Rattle.s7_client.specs.At.{IsAt, IsClear, LeavesOpen, budget, pending}
+use Rattle.s7_client.specs.Order.{Deed, transmitted_in, used_in, received_in, AreInOrder}
 
 abbrev pub unread : Line → List ℕ
 unread l = l.inbox
@@ -162,6 +163,15 @@ pub record Moves (kept : List ℕ) (link : Shown) (kept' : List ℕ) (link' : Sh
   pub lent : link'.lent ≡ link.lent
   pub space : link'.space ≡ option_map (λ space. space - length written) link.space
 
+-- What they moved falls into deeds that come in order, where a job that used b and transmitted w kept octets unused.
+pub record IsOrderly (origin : Origin) (kept b w : List ℕ) {link : Shown} {kept' : List ℕ} {link' : Shown}
+    (moves : Moves kept link kept' link') : Type 0 where
+  pub deeds : List Deed
+  pub written : transmitted_in deeds ≡ moves.written
+  pub used : used_in deeds ≡ moves.used
+  pub received : received_in deeds ≡ moves.received
+  pub order : AreInOrder origin kept b w deeds
+
 -- The job has met not yet: where the link tells its space, there is none for what is still to be sent, or nothing is
 -- left on it.
 pub record HasMetNotYet (origin : Origin) (kept : List ℕ) (link : Shown) (b written : List ℕ) : Type 0 where
@@ -194,6 +204,9 @@ pub record IsStep (l : Line) (u : UnderWay) (link : Shown) (l' : Line) (u' : Und
   pub stood : (origin : Origin) (b w : List ℕ) → origin.config ≡ config → origin.granted ≡ granted
       → Stands origin l u b w
       → (result ≡ step.Over → ⊥) → Stands origin l' u' (b ++ moves.used) (w ++ moves.written)
+  pub orderly : (origin : Origin) (b w : List ℕ) → origin.config ≡ config → origin.granted ≡ granted
+      → Stands origin l u b w
+      → IsOrderly origin (unread l) b w moves
   pub less : result ≡ step.Went → work config l' u' < work config l u
   pub not_yet : result ≡ step.NotYet → Rose link.waits link'.waits
   pub met : (origin : Origin) (b w : List ℕ) → origin.config ≡ config → origin.granted ≡ granted → Stands origin l u b w

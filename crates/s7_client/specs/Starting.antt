@@ -1,5 +1,5 @@
 -- How a job begins.
-use Rattle.std.specs.Prelude.{◌≡◌, ℕ, ◌≤◌, true, List, [], replicate, Option}
+use Rattle.std.specs.Prelude.{◌≡◌, ℕ, ◌≤◌, true, List, [], replicate, Option, None}
 use Rattle.s7_client.specs.declared.config.Config.{Config}
 use Rattle.s7_client.specs.declared.grant.Grant.{Grant}
 use Rattle.s7_client.specs.declared.job.Job.{Job}
@@ -9,12 +9,13 @@ use Rattle.s7_client.specs.declared.running.Stage.TheVariants as stage
 use Rattle.s7_client.specs.Dialogue.{nothing, connect_request, disconnect_request, over, plan_of}
 use Rattle.s7_client.specs.Stages.{is_ready}
 use Rattle.s7_client.specs.Asks.{IsNew}
-use Rattle.s7_client.specs.GoesOn.{Conducts}
+use Rattle.s7_client.specs.GoesOn.{Conducts, AsksSingly}
 
 -- the stage asks these questions from the first on
 abbrev pub AsksFirst : Stage → ℕ → Left → Type 0
 AsksFirst stage.Opening width questions = ⊥
 AsksFirst (stage.Asking a) width questions = IsNew a width questions
+AsksFirst (stage.Single s) width questions = ⊥
 AsksFirst stage.Leaving width questions = ⊥
 AsksFirst (stage.Over code leaves) width questions = ⊥
 
@@ -23,6 +24,8 @@ abbrev pub BeginsWith : Job → Config → Option Grant → List ℕ → List �
 BeginsWith job config granted found codes stage.Opening = (plan_of job config granted).first ≡ connect_request
 BeginsWith job config granted found codes (stage.Asking a) =
     ((plan_of job config granted).first ≡ nothing) × (a.unput ≡ 0) × Conducts config granted [] [] job found codes a
+BeginsWith job config granted found codes (stage.Single s) =
+    ((plan_of job config granted).first ≡ nothing) × (s.out ≡ None) × AsksSingly config granted [] job found codes s
 BeginsWith job config granted found codes stage.Leaving = (plan_of job config granted).first ≡ disconnect_request
 BeginsWith job config granted found codes (stage.Over code leaves) =
     plan_of job config granted ≡ over (record { code = code; octets = found; codes = codes; leaves = leaves })

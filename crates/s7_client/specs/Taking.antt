@@ -80,9 +80,5 @@ without_gaps (item ∷ items) codes found =
 
 -- the octets that a job read, once it is over
 abbrev pub closed : Job → List ℕ → List ℕ → List ℕ
-closed job.Connect codes found = found
-closed (job.ReadArea item) codes found = found
-closed (job.WriteArea item octets) codes found = found
 closed (job.ReadMany items) codes found = without_gaps items codes found
-closed (job.WriteMany items octets) codes found = found
-closed job.Disconnect codes found = found
+closed _ codes found = found

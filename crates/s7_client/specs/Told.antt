@@ -11,31 +11,23 @@ use Rattle.s7_client.specs.Answer as spelled
 -- the question is of the kind that is kept, and for the same items
 abbrev pub IsAsked : Asked → Question → Type 0
 IsAsked asked.Negotiation (negotiates n) = Unit {0}
-IsAsked asked.Negotiation (reads items) = ⊥
-IsAsked asked.Negotiation (writes items octets) = ⊥
-IsAsked (asked.Read kept) (negotiates n) = ⊥
 IsAsked (asked.Read kept) (reads items) = items ≡ kept
-IsAsked (asked.Read kept) (writes items octets) = ⊥
-IsAsked (asked.Write kept) (negotiates n) = ⊥
-IsAsked (asked.Write kept) (reads items) = ⊥
 IsAsked (asked.Write kept) (writes items octets) = items ≡ kept
+IsAsked _ _ = ⊥
 
 -- data items that are the answers for these items
 abbrev pub TellsItems : Question → List ℕ → spelled.Answer → Type 0
 TellsItems (reads items) body answer =
     (answers : List spelled.ItemAnswer) × (spelled.item_answers items body ≡ Some answers) × (answer ≡ spelled.tells answers)
-TellsItems (negotiates n) body answer = ⊥
-TellsItems (writes items octets) body answer = ⊥
+TellsItems _ body answer = ⊥
 
 abbrev pub TellsCodes : Question → List ℕ → spelled.Answer → Type 0
 TellsCodes (writes items octets) body answer = (answer ≡ spelled.notes body) × (length body ≡ length items)
-TellsCodes (negotiates n) body answer = ⊥
-TellsCodes (reads items) body answer = ⊥
+TellsCodes _ body answer = ⊥
 
 abbrev pub TellsGrant : Question → Negotiation → spelled.Answer → Type 0
 TellsGrant (negotiates asked) n answer = answer ≡ spelled.grants n
-TellsGrant (reads items) n answer = ⊥
-TellsGrant (writes items octets) n answer = ⊥
+TellsGrant _ n answer = ⊥
 
 -- what an answer tells to a question
 abbrev pub Tells : Question → Answer → spelled.Answer → Type 0

@@ -4,14 +4,19 @@ ghost use Rattle.std.specs.List.{list_all};
 ghost use Rattle.s7_split.specs.Parts.{range_end};
 ghost use Rattle.s7_split.specs.Groups.{groups_of, ends_of};
 ghost use Rattle.s7_client.specs.Checks.{is_known, is_placed, octet_count_of, check_item, check_items};
+ghost use Rattle.s7_client.specs.Checks.{check_moment, check_password};
 
 use crate::codes::{GOOD, INVALID_PARAMETERS, INVALID_WORD, OVER_PDU, TOO_MANY_ITEMS};
+use s7_clock::{FIRST_MOMENT, LAST_MOMENT};
 use s7_item::codes::{BIT, COUNTERS, TIMERS};
 use s7_item::{Item, MOST_ITEMS, size_of};
 use s7_split::{Groups, pack};
 
 /// One more than the highest address.
 const ADDRESSES: u64 = 0x0100_0000;
+
+/// The most octets of a password.
+const MOST_PASSWORD: usize = 8;
 
 /// The check of a read or write of one item: `has_octets` says whether a write has as many octets
 /// as the item, and is true of a read.
@@ -52,6 +57,28 @@ pub(crate) fn check_items(
     match pack(items, pdu, write, groups) {
         Ok(()) => GOOD,
         Err(_) => OVER_PDU,
+    }
+}
+
+/// The check of a moment that a clock is set to.
+pub(crate) fn check_moment(moment: u64) -> u32
+    ensures { result ≡ check_moment moment }
+{
+    if (FIRST_MOMENT..=LAST_MOMENT).contains(&moment) {
+        GOOD
+    } else {
+        INVALID_PARAMETERS
+    }
+}
+
+/// The check of a password.
+pub(crate) fn check_password(text: &[u8]) -> u32
+    ensures { result ≡ check_password text.now }
+{
+    if text.is_empty() || text.len() > MOST_PASSWORD {
+        INVALID_PARAMETERS
+    } else {
+        GOOD
     }
 }
 

@@ -1,6 +1,7 @@
 // A client.
 ghost use Rattle.std.specs.Prelude.{◌≡◌, ◌<◌, ◌≤◌, [], None, IsSome};
 ghost use Rattle.std.specs.Option.{ForSome};
+ghost use Rattle.s7_header.specs.Negotiation.{most_pdu};
 ghost use Rattle.s7_client.specs.Stages.{IsGrant};
 ghost use Rattle.s7_client.specs.Standing.{Fits, IsBetween, unsent};
 
@@ -24,7 +25,7 @@ pub struct Client {
     ghost grants: { ForSome granted IsGrant },
     ghost between: { job ≡ None → IsSome granted → IsBetween line },
     ghost quiet: { job ≡ None → unsent line ≡ [] },
-    ghost most_pdu: { config.pdu ≤ 960 },
+    ghost most_pdu: { config.pdu ≤ most_pdu },
     ghost most_jobs: { config.jobs ≤ 8 },
     ghost least_polls: { 1 ≤ config.polls },
 }

@@ -64,6 +64,12 @@ pub const NOT_AVAILABLE: u32 = 0x00C0_0000;
 /// A value that the server doesn't take.
 pub const INVALID_VALUE: u32 = 0x00D0_0000;
 
+/// The controller runs already.
+pub const ALREADY_RUNS: u32 = 0x00F0_0000;
+
+/// The controller is stopped already.
+pub const ALREADY_STOPPED: u32 = 0x0130_0000;
+
 /// The server doesn't have the function.
 pub const NO_SUCH_FUNCTION: u32 = 0x0140_0000;
 

@@ -1,5 +1,5 @@
 // What the data items of a read's answer tell.
-ghost use Rattle.std.specs.Prelude.{◌≡◌, ◌+◌, ◌≤◌, [], ◌∷◌, List, length, map, slice_index, Some};
+ghost use Rattle.std.specs.Prelude.{◌≡◌, ◌+◌, ◌≤◌, [], ◌∷◌, ◌++◌, List, length, map, take, drop, slice_index, Some};
 ghost use Rattle.s7_client.specs.Answer.{ItemAnswer, item_answers};
 ghost use Rattle.s7_client.specs.Checks.{octet_count_of};
 ghost use Rattle.s7_client.specs.Taking.{with_codes, with_octets, without_gaps};
@@ -46,6 +46,15 @@ pub(crate) fn place_codes(noted: &[u8], codes: &mut Codes, place: usize)
     for (k, code) in noted.iter().enumerate() {
         codes.set(place + k, *code);
     }
+}
+
+/// Puts octets at a place.
+pub(crate) fn place_octets(octets: &[u8], found: &mut [u8], at: usize)
+    requires { at + length octets.now ≤ length found.old }
+    ensures octets { found.new ≡ take at found.old ++ octets.now ++ drop (at + length octets.now) found.old }
+    ensures len { length found.new ≡ length found.old }
+{
+    found[at..at + octets.len()].copy_from_slice(octets);
 }
 
 /// Closes up the octets of the items whose code isn't FF.

@@ -11,7 +11,7 @@ pub struct Config {
     pub calling: u16,
     /// The called TSAP: the connection type, then rack times 32 and slot.
     pub called: u16,
-    /// The PDU that is asked for, from 64 to 960 octets.
+    /// The PDU that is asked for, from 64 to 1,920 octets.
     pub pdu: u16,
     /// How many telegrams may be unanswered at a time (parallel jobs), as it is asked for, from 1 to 8.
     pub jobs: u16,

@@ -18,6 +18,29 @@ pub enum Job {
     ReadMany { items: ItemList },
     /// Write at most twenty items, with the octets of all of them joined.
     WriteMany { items: ItemList, octets: Octets },
+    /// Read the status list (SZL) of this id and index.
+    Szl { id: u16, index: u16 },
+    /// Read the server's clock.
+    ClockRead,
+    /// Set the server's clock to this moment, in milliseconds since 1970, from 631,152,000,000 to
+    /// 3,786,911,999,999, which is 1990 to the end of 2089.
+    ClockSet { moment: u64 },
+    /// Have the controller run.
+    Start,
+    /// Have it run by a cold start.
+    ColdStart,
+    /// Have it stop.
+    Stop,
+    /// Have its memory compressed.
+    Compress,
+    /// Have its memory copied to the module.
+    CopyRam,
+    /// Read whether it runs: the status list 0424.
+    Status,
+    /// Set the password of the link, of 1 to 8 octets.
+    PasswordSet { text: Octets },
+    /// Give back the right that a password gave.
+    PasswordClear,
     /// Tell the server that the link ends.
     Disconnect,
 }
@@ -29,8 +52,9 @@ pub struct JobResult {
     pub job: Job,
     /// 0, or the number of an error, one of the constants of the module `codes`.
     pub code: u32,
-    /// The octets that were read, of several items those of each that was read, joined. None where
-    /// the code isn't 0.
+    /// The octets that were read, of several items those of each that was read, joined; the image of
+    /// a status list, which that of `Status` is too; the ten octets of a clock that was read. None
+    /// where the code isn't 0.
     pub octets: Octets,
     /// The return codes of the items of `ReadMany` and `WriteMany`, in the first `count` places;
     /// the other places are 0.

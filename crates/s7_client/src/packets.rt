@@ -4,6 +4,7 @@ ghost use Rattle.s7_outer.specs.Numbers.{two_octets};
 ghost use Rattle.s7_cotp.specs.Told.{told_of, tsap_of, CanBeWrittenAgain, fragment};
 ghost use Rattle.s7_cotp.specs.declared.joining.Joined.{Joined};
 ghost use Rattle.s7_cotp.specs.Gathered.{is_fault};
+ghost use Rattle.s7_header.specs.Negotiation.{most_pdu};
 ghost use Rattle.s7_client.specs.Running.{IsAsking, IsOpening, unput_of};
 ghost use Rattle.s7_client.specs.Course.{Origin, Course, conduct_of, connect_octets, disconnect_octets};
 ghost use Rattle.s7_client.specs.Course.{with_packet, with_message, confirming, connected};
@@ -43,6 +44,7 @@ impl Talk {
         match &running.stage {
             Stage::Opening => self.put_connect(config),
             Stage::Asking(_) => self.sequence = running.go_on(self.sequence),
+            Stage::Single(_) => self.sequence = running.go_on(self.sequence),
             Stage::Leaving => self.put_disconnect(),
             Stage::Over { .. } => {}
         }
@@ -123,7 +125,7 @@ impl Talk {
         requires sent { self.old.outbox.unsent ≡ [] }
         requires unput { (size : ℕ) → unput_of config.now size job.old.running ≡ [] }
         requires carried { job.old.carried.room ≡ 8192 }
-        requires pdu { config.now.pdu ≤ 960 }
+        requires pdu { config.now.pdu ≤ most_pdu }
         requires jobs { config.now.jobs ≤ 8 }
         ensures reaches { (origin : Origin) (course : Course) → origin.config ≡ config.now → origin.granted ≡ granted
             → IsAt origin course self.old job.old
@@ -139,6 +141,7 @@ impl Talk {
         match &job.running.stage {
             Stage::Opening => self.confirming(job, config, &tpdu),
             Stage::Asking(_) => self.connected(job, config, granted, &tpdu),
+            Stage::Single(_) => self.connected(job, config, granted, &tpdu),
             Stage::Leaving | Stage::Over { .. } => unreachable!(),
         }
     }
@@ -151,7 +154,7 @@ impl Talk {
         requires unput { (size : ℕ) → unput_of config.now size job.old.running ≡ [] }
         requires writable { CanBeWrittenAgain tpdu.now }
         requires carried { job.old.carried.room ≡ 8192 }
-        requires pdu { config.now.pdu ≤ 960 }
+        requires pdu { config.now.pdu ≤ most_pdu }
         requires jobs { config.now.jobs ≤ 8 }
         ensures reaches { (origin : Origin) (course : Course) → origin.config ≡ config.now
             → IsAt origin course self.old job.old
@@ -186,7 +189,7 @@ impl Talk {
         requires sent { self.old.outbox.unsent ≡ [] }
         requires unput { (size : ℕ) → unput_of config.now size job.old.running ≡ [] }
         requires carried { job.old.carried.room ≡ 8192 }
-        requires pdu { config.now.pdu ≤ 960 }
+        requires pdu { config.now.pdu ≤ most_pdu }
         requires jobs { config.now.jobs ≤ 8 }
         ensures reaches { (origin : Origin) (course : Course) → origin.config ≡ config.now
             → origin.granted ≡ granted → IsAt origin course self.old job.old
@@ -218,7 +221,7 @@ impl Talk {
         requires sent { self.old.outbox.unsent ≡ [] }
         requires unput { (size : ℕ) → unput_of config.now size job.old.running ≡ [] }
         requires carried { job.old.carried.room ≡ 8192 }
-        requires pdu { config.now.pdu ≤ 960 }
+        requires pdu { config.now.pdu ≤ most_pdu }
         requires jobs { config.now.jobs ≤ 8 }
         ensures reaches { (origin : Origin) (course : Course) → origin.config ≡ config.now
             → origin.granted ≡ granted → IsAt origin course self.old job.old
@@ -245,7 +248,7 @@ impl Talk {
         requires sent { self.old.outbox.unsent ≡ [] }
         requires unput { (size : ℕ) → unput_of config.now size job.old.running ≡ [] }
         requires carried { job.old.carried.room ≡ 8192 }
-        requires pdu { config.now.pdu ≤ 960 }
+        requires pdu { config.now.pdu ≤ most_pdu }
         requires jobs { config.now.jobs ≤ 8 }
         ensures reaches { (origin : Origin) (course : Course) → origin.config ≡ config.now
             → origin.granted ≡ granted → IsAt origin course self.old job.old

@@ -1,5 +1,6 @@
 // How jobs are started and polled.
 ghost use Rattle.std.specs.Prelude.{◌≡◌, ◌<◌, ◌≤◌, [], true, false, None, IsSome, IfOk, OnOk, IfErr, OnErr};
+ghost use Rattle.s7_header.specs.Negotiation.{most_pdu};
 ghost use Rattle.s7_client.specs.Polling.{IsFresh, IsStarted, IsPoll, job_of, granted_pdu, closed_of, IsNew, IsBlank};
 ghost use Rattle.s7_client.specs.Polling.{BeginsLine, Waits, Round, grant_after, closed_after};
 ghost use Rattle.s7_client.specs.At.{LeavesLink};
@@ -29,11 +30,11 @@ use std::alloc::Global;
 const ASKED_SIZE: u16 = 1_024;
 
 impl Client {
-    /// A client that isn't connected and has no job. The PDU is from 64 to 960, the jobs from 1 to
+    /// A client that isn't connected and has no job. The PDU is from 64 to 1,920, the jobs from 1 to
     /// 8, the polls at least 1. `Memory` comes where there is none for its buffers.
     pub fn new(alloc: Global, config: Config) -> Result<Client, Memory>
         requires least_pdu { 64 ≤ config.pdu }
-        requires most_pdu { config.pdu ≤ 960 }
+        requires most_pdu { config.pdu ≤ most_pdu }
         requires least_jobs { 1 ≤ config.jobs }
         requires most_jobs { config.jobs ≤ 8 }
         requires polls { 1 ≤ config.polls }
@@ -255,7 +256,7 @@ impl Line {
         link: &mut L,
     ) -> bool
         requires fits { Fits self.old job.old }
-        requires pdu { config.now.pdu ≤ 960 }
+        requires pdu { config.now.pdu ≤ most_pdu }
         requires jobs { config.now.jobs ≤ 8 }
         requires waited { job.old.waited < config.now.polls }
         ensures { Round self.old job.old (L.shows link.old) self.new job.new

@@ -2,6 +2,7 @@
 ghost use Rattle.std.specs.Prelude.{◌≡◌, ℕ, ◌+◌, ◌≤◌, true, false, List, [], ◌++◌, length, take, drop};
 ghost use Rattle.std.specs.Prelude.{Option, None, Some, IfSome, IfNone, OnSome, IfOk, IfErr};
 ghost use Rattle.std.specs.Option.{ForSome};
+ghost use Rattle.s7_header.specs.Negotiation.{most_pdu};
 ghost use Rattle.s7_wire.specs.Sent.{sent_message};
 ghost use Rattle.s7_client.specs.declared.config.Config.{Config};
 ghost use Rattle.s7_client.specs.declared.grant.Grant.{Grant};
@@ -14,7 +15,7 @@ ghost use Rattle.s7_client.specs.Taking.{IsFor, Taken, answered_rows, Keeps, clo
 ghost use Rattle.s7_client.specs.Dialogue.{End, fault_end, departed_end, number_end, asked_by};
 ghost use Rattle.s7_client.specs.Dialogue.{connect_request, plan_of};
 ghost use Rattle.s7_client.specs.Course.{Course, asking, for_nothing};
-ghost use Rattle.s7_client.specs.Stages.{octets_of, message_of, can_ask, can_fly, has_places, IsGoodLeave};
+ghost use Rattle.s7_client.specs.Stages.{octets_of, message_of, can_ask, can_fly, has_places, IsListing, IsGoodLeave};
 ghost use Rattle.s7_client.specs.Running.{Begins, Follows, Reached, IsOver, IsAsking, IsOpening, IsLeaving};
 ghost use Rattle.s7_client.specs.Running.{awaited_in, unput_of, conduct_in, answers_left, IsResult, IsGrant};
 ghost use Rattle.s7_client.specs.At.{LeavesLink, LeavesOpen};
@@ -34,6 +35,7 @@ use crate::message::{write_negotiation, write_read, write_write};
 use crate::running::{Running, Stage};
 use crate::starting::{Start, start_of};
 use crate::taking::{is_alone, negotiated, number_by, octets_of, refusal_of};
+use crate::user_data::write_single;
 use s7_header::Negotiation;
 use s7_item::Items;
 use s7_outer::{Buffer, Octets};
@@ -78,6 +80,9 @@ impl Running {
         ensures few { (config : Config) (size : ℕ) → 128 ≤ size → length (unput_of config size self.new) ≤ 16256 }
         ensures job { self.new.job ≡ self.old.job }
     {
+        if let Stage::Single(single) = &mut self.stage {
+            return single.ask_on(sequence);
+        }
         let Stage::Asking(asking) = &mut self.stage else {
             unreachable!()
         };
@@ -92,10 +97,10 @@ impl Running {
     /// Writes the message of the next telegram that is to be put, as the one that the buffer holds.
     /// Says whether there is one.
     pub(crate) fn write_next(&mut self, config: &Config, message: &mut Buffer) -> bool
-        requires room { message.old.room ≡ 960 }
+        requires room { message.old.room ≡ most_pdu }
         ensures some { result ≡ true → (size : ℕ) → unput_of config.now size self.old
             ≡ sent_message size message.new.octets ++ unput_of config.now size self.new }
-        ensures fits { result ≡ true → (10 ≤ length message.new.octets) × (length message.new.octets ≤ 960) }
+        ensures fits { result ≡ true → (10 ≤ length message.new.octets) × (length message.new.octets ≤ most_pdu) }
         ensures asking { result ≡ true → IsAsking self.old.stage }
         ensures none { result ≡ false → (self.new ≡ self.old)
             × ((size : ℕ) → unput_of config.now size self.old ≡ []) }
@@ -105,25 +110,35 @@ impl Running {
         ensures asking_on { IsAsking self.old.stage → IsAsking self.new.stage }
         ensures as_many { answers_left self.new.stage ≡ answers_left self.old.stage }
         ensures job { self.new.job ≡ self.old.job }
-        ensures room { message.new.room ≡ 960 }
+        ensures room { message.new.room ≡ most_pdu }
     {
-        let Stage::Asking(asking) = &mut self.stage else {
-            return false;
-        };
-        if asking.unput == 0 {
-            return false;
+        match &mut self.stage {
+            Stage::Asking(asking) => {
+                if asking.unput == 0 {
+                    return false;
+                }
+                let flight = &asking.flights[asking.flights.len() - asking.unput];
+                write_flight(flight, &self.job, config, message);
+                asking.unput -= 1;
+                true
+            }
+            Stage::Single(single) => {
+                let Some(sequence) = single.unput_sequence() else {
+                    return false;
+                };
+                write_single(&self.job, &single.ask, sequence, message);
+                single.unput = false;
+                true
+            }
+            Stage::Opening | Stage::Leaving | Stage::Over { .. } => false,
         }
-        let flight = &asking.flights[asking.flights.len() - asking.unput];
-        write_flight(flight, &self.job, config, message);
-        asking.unput -= 1;
-        true
     }
 
     /// Takes a message as the answer to the first unanswered telegram that it answers, and asks on
     /// under the sequences after this one. Gives the last sequence; `None` where it answers none.
     pub(crate) fn take(&mut self, config: &Config, sequence: u16, message: &[u8]) -> Option<u16>
         requires asking { IsAsking self.old.stage }
-        requires pdu { config.now.pdu ≤ 960 }
+        requires pdu { config.now.pdu ≤ most_pdu }
         requires jobs { config.now.jobs ≤ 8 }
         ensures some { IfSome result (λ last. (granted : Option Grant) (course : Course)
             → Follows self.old config.now granted course.rows → course.sequence ≡ sequence
@@ -139,6 +154,9 @@ impl Running {
         ensures few { (config : Config) (size : ℕ) → 128 ≤ size → length (unput_of config size self.new) ≤ 16256 }
         ensures job { self.new.job ≡ self.old.job }
     {
+        if let Stage::Single(_) = &self.stage {
+            return self.take_alone(sequence, message);
+        }
         let Stage::Asking(asking) = &mut self.stage else {
             unreachable!()
         };
@@ -160,7 +178,7 @@ impl Running {
 
     // Notes what an answer to this telegram for items tells: that it refuses, or what is kept.
     fn note(&mut self, flight: &Flight, items: &Items, answer: &Answer<'_>)
-        requires asking { IsAsking self.old.stage }
+        requires listing { IsListing self.old.stage }
         requires asked { IsFor items.now flight.now.asked }
         requires flies { can_fly self.old.job (length self.old.found.items) flight.now ≡ true }
         requires told { (question : Question) → IsAsked flight.now.asked question
@@ -183,7 +201,7 @@ impl Running {
 
     // The question at a place was refused with this number.
     fn refuse(&mut self, place: usize, number: u32)
-        requires asking { IsAsking self.old.stage }
+        requires listing { IsListing self.old.stage }
         ensures refuses { RefusesAt self.old.stage place number self.new.stage }
         ensures found { self.new.found ≡ self.old.found }
         ensures codes { self.new.codes ≡ self.old.codes }
@@ -263,7 +281,7 @@ impl Running {
     {
         match &self.stage {
             Stage::Over { leaves, .. } => *leaves,
-            Stage::Opening | Stage::Asking(_) | Stage::Leaving => unreachable!(),
+            Stage::Opening | Stage::Asking(_) | Stage::Single(_) | Stage::Leaving => unreachable!(),
         }
     }
 
@@ -288,12 +306,12 @@ impl Running {
                 count: codes.len(),
                 carried,
             },
-            Stage::Opening | Stage::Asking(_) | Stage::Leaving => unreachable!(),
+            Stage::Opening | Stage::Asking(_) | Stage::Single(_) | Stage::Leaving => unreachable!(),
         }
     }
 
-    // Ends with this number, with nothing found.
-    fn end(&mut self, code: u32, leaves: Leaves)
+    /// Ends with this number, with nothing found.
+    pub(crate) fn end(&mut self, code: u32, leaves: Leaves)
         requires { IsGoodLeave leaves }
         ensures ends { (carried : List ℕ) → awaited_in self.new carried ≡ for_nothing (number_end code leaves) carried }
         ensures over { IsOver self.new.stage }
@@ -307,7 +325,7 @@ impl Running {
     // Ends the job, of which no telegram is unanswered, by the first refusal or with what was
     // found.
     fn settle(&mut self, refused: Option<Refused>)
-        requires asking { IsAsking self.old.stage }
+        requires listing { IsListing self.old.stage }
         ensures settles { (config : Config) (granted : Option Grant) (rows : List Row)
             → IsDone self.old.stage refused → Follows self.old config granted rows
             → awaited_in self.new [] ≡ for_nothing ((conduct_in self.old config granted).ended (answers_of rows)) [] }
@@ -340,9 +358,9 @@ fn close_found(job: &Job, codes: &Codes, found: &mut Vec<u8>)
 // Writes the message of a telegram of the job.
 fn write_flight(flight: &Flight, job: &Job, config: &Config, message: &mut Buffer)
     requires asked { (found : ℕ) × (can_ask job.now found flight.now.from flight.now.asked ≡ true) }
-    requires room { message.old.room ≡ 960 }
+    requires room { message.old.room ≡ most_pdu }
     ensures octets { message.new.octets ≡ message_of config.now job.now flight.now }
-    ensures room { message.new.room ≡ 960 }
+    ensures room { message.new.room ≡ most_pdu }
 {
     match &flight.asked {
         Asked::Negotiation => write_negotiation(&asked_by(config), flight.sequence, message),

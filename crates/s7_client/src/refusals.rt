@@ -1,11 +1,12 @@
 // The numbers of errors that refusals end a job with.
 ghost use Rattle.std.specs.Prelude.{◌≡◌};
-ghost use Rattle.s7_client.specs.Refusals.{number_of_error, number_of_code};
+ghost use Rattle.s7_client.specs.Refusals.{number_of_error, number_of_code, number_of_status};
 
 use crate::codes::{
-    INVALID_TRANSPORT, INVALID_VALUE, NO_PASSWORD, NO_SUCH_FUNCTION, NOT_AVAILABLE, OUT_OF_RANGE,
-    OVER_PDU, PASSWORD_NEEDED, REFUSED, SIZE_MISMATCH, WRONG_PASSWORD,
+    ALREADY_RUNS, ALREADY_STOPPED, INVALID_TRANSPORT, INVALID_VALUE, NO_PASSWORD, NO_SUCH_FUNCTION,
+    NOT_AVAILABLE, OUT_OF_RANGE, OVER_PDU, PASSWORD_NEEDED, REFUSED, SIZE_MISMATCH, WRONG_PASSWORD,
 };
+use s7_clock::Control;
 
 /// The number for the error word of a header.
 pub(crate) fn number_of_error(error: u16) -> u32
@@ -32,6 +33,17 @@ pub(crate) fn number_of_code(code: u8) -> u32
         0x06 => INVALID_TRANSPORT,
         0x07 => SIZE_MISMATCH,
         0x0A => NOT_AVAILABLE,
+        _ => REFUSED,
+    }
+}
+
+/// The number for the status that answers a control, which isn't 00.
+pub(crate) fn number_of_status(control: &Control, status: u8) -> u32
+    ensures { result ≡ number_of_status control.now status }
+{
+    match control {
+        Control::Start | Control::ColdStart if status == 0x02 => ALREADY_RUNS,
+        Control::Stop if status == 0x07 => ALREADY_STOPPED,
         _ => REFUSED,
     }
 }

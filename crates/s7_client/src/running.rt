@@ -6,14 +6,17 @@ use crate::asking::Asking;
 use crate::codes_list::Codes;
 use crate::grant::Leaves;
 use crate::job::Job;
+use crate::single::Single;
 
 /// What a job waits for.
 #[derive(Drop)]
 pub(crate) enum Stage {
     /// The confirm of its connect request.
     Opening,
-    /// Answers to what is asked.
+    /// Answers to what is asked, of which several may be awaited.
     Asking(Asking),
+    /// An answer to the one question that is asked.
+    Single(Single),
     /// That its disconnect request is transmitted.
     Leaving,
     /// Nothing: it is over.
@@ -26,7 +29,7 @@ pub(crate) struct Running {
     pub(crate) job: Job,
     pub(crate) stage: Stage,
     /// The octets that are read, at their places: 00 where none came yet, and where an item was
-    /// refused.
+    /// refused. Those of user data stand at the front.
     pub(crate) found: Vec<u8>,
     /// The return codes of several items, at their places.
     pub(crate) codes: Codes,

@@ -1,20 +1,28 @@
 // How a job begins.
 ghost use Rattle.std.specs.Prelude.{◌≡◌, ◌≤◌, length, take, Some, None, true};
 ghost use Rattle.std.specs.Option.{ForSome};
+ghost use Rattle.s7_szl.specs.Joining.{most_joined};
 ghost use Rattle.s7_split.specs.Groups.{cut_at};
+ghost use Rattle.s7_client.specs.declared.grant.Grant.{Grant};
 ghost use Rattle.s7_client.specs.declared.job.Job.TheVariants as job;
-ghost use Rattle.s7_client.specs.declared.running.Stage.TheVariants.{Over};
+ghost use Rattle.s7_client.specs.declared.single.Ask.TheVariants as asked;
+ghost use Rattle.s7_client.specs.declared.single.Single.{Single};
+ghost use Rattle.s7_client.specs.declared.running.Stage.TheVariants as stage;
 ghost use Rattle.s7_client.specs.Left.{groups_in, AreFew};
 ghost use Rattle.s7_client.specs.Stages.{IsGrant};
 ghost use Rattle.s7_client.specs.Starting.{AsksFirst, Starts};
 
 use crate::asking::Asking;
-use crate::checks::{check_item, check_items, octet_count_of};
+use crate::checks::{check_item, check_items, check_moment, check_password, octet_count_of};
 use crate::codes::{GOOD, NOT_CONNECTED, TOO_MANY_ITEMS};
 use crate::grant::{Grant, Leaves};
 use crate::job::Job;
 use crate::left::{Grouped, Left, items_of};
 use crate::running::Stage;
+use crate::single::{Ask, Single};
+use crate::subject::Subject;
+use crate::user_data::MOST_JOINED;
+use s7_clock::Control;
 use s7_item::{Item, MOST_ITEMS};
 use s7_split::{Groups, parts};
 
@@ -43,11 +51,7 @@ fn start_unconnected(job: &Job) -> Start
 {
     match job {
         Job::Connect => at(Stage::Opening),
-        Job::ReadArea { .. } => over(NOT_CONNECTED, Leaves::Disconnected),
-        Job::WriteArea { .. } => over(NOT_CONNECTED, Leaves::Disconnected),
-        Job::ReadMany { .. } => over(NOT_CONNECTED, Leaves::Disconnected),
-        Job::WriteMany { .. } => over(NOT_CONNECTED, Leaves::Disconnected),
-        Job::Disconnect => over(NOT_CONNECTED, Leaves::Disconnected),
+        _ => over(NOT_CONNECTED, Leaves::Disconnected),
     }
 }
 
@@ -63,6 +67,17 @@ fn start_connected(granted: &Grant, job: &Job) -> Start
         Job::WriteMany { items, octets } => {
             write_many(granted, items.as_slice(), octets.as_slice())
         }
+        Job::Szl { .. } => asking_about(Subject::StatusList),
+        Job::ClockRead => asking_about(Subject::Clock),
+        Job::ClockSet { moment } => set_clock(*moment),
+        Job::Start => controlling(Control::Start),
+        Job::ColdStart => controlling(Control::ColdStart),
+        Job::Stop => controlling(Control::Stop),
+        Job::Compress => controlling(Control::Compress),
+        Job::CopyRam => controlling(Control::CopyRam),
+        Job::Status => asking_about(Subject::RunState),
+        Job::PasswordSet { text } => set_password(text.as_slice()),
+        Job::PasswordClear => asking_about(Subject::PasswordClearing),
         Job::Disconnect => at(Stage::Leaving),
     }
 }
@@ -81,7 +96,7 @@ fn at(stage: Stage) -> Start
 }
 
 fn over(code: u32, leaves: Leaves) -> Start
-    ensures stage { result.stage ≡ Over code leaves }
+    ensures stage { result.stage ≡ stage.Over code leaves }
     ensures octets { result.octets ≡ 0 }
     ensures codes { result.codes ≡ 0 }
 {
@@ -155,6 +170,66 @@ fn write_many(granted: &Grant, items: &[Item], octets: &[u8]) -> Start
     }
     let left = Left::Writes(grouped(items, &groups));
     asking(granted, left, 0, items.len() as u8)
+}
+
+fn set_clock(moment: u64) -> Start
+    ensures { (granted : Grant) → Starts (job.ClockSet moment) (Some granted) result.stage result.octets result.codes }
+{
+    let check = check_moment(moment);
+    if check != GOOD {
+        return over(check, Leaves::AsItWas);
+    }
+    asking_about(Subject::ClockSetting)
+}
+
+fn set_password(text: &[u8]) -> Start
+    ensures { (granted : Grant)
+        → Starts (job.PasswordSet text.now) (Some granted) result.stage result.octets result.codes }
+{
+    let check = check_password(text);
+    if check != GOOD {
+        return over(check, Leaves::AsItWas);
+    }
+    asking_about(Subject::Password)
+}
+
+// A job that asks for this control.
+fn controlling(control: Control) -> Start
+    ensures stage { (s : Single) × (result.stage ≡ stage.Single s)
+        × (s.ask ≡ asked.Control control) × (s.out ≡ None) × (s.len ≡ 0) }
+    ensures octets { result.octets ≡ 0 }
+    ensures codes { result.codes ≡ 0 }
+{
+    asking_singly(Ask::Control(control), 0)
+}
+
+// A job that asks for user data about this.
+fn asking_about(subject: Subject) -> Start
+    ensures stage { (s : Single) × (result.stage ≡ stage.Single s)
+        × (s.ask ≡ asked.About subject) × (s.out ≡ None) × (s.len ≡ 0) }
+    ensures octets { result.octets ≡ most_joined }
+    ensures codes { result.codes ≡ 0 }
+{
+    asking_singly(Ask::About(subject), MOST_JOINED)
+}
+
+// A job that asks one question at a time, from this one on.
+fn asking_singly(ask: Ask, octets: usize) -> Start
+    ensures stage { (s : Single) × (result.stage ≡ stage.Single s)
+        × (s.ask ≡ ask) × (s.out ≡ None) × (s.len ≡ 0) }
+    ensures octets { result.octets ≡ octets }
+    ensures codes { result.codes ≡ 0 }
+{
+    Start {
+        stage: Stage::Single(Single {
+            ask,
+            out: None,
+            unput: false,
+            len: 0,
+        }),
+        octets,
+        codes: 0,
+    }
 }
 
 // The groups of these items.

@@ -1,5 +1,6 @@
 // The steps of a poll.
 ghost use Rattle.std.specs.Prelude.{◌≡◌, ◌≢◌, ℕ, ◌<◌, ◌≤◌, [], length};
+ghost use Rattle.s7_header.specs.Negotiation.{most_pdu};
 ghost use Rattle.s7_client.specs.Running.{unput_of};
 ghost use Rattle.s7_client.specs.At.{IsAwaiting, limit_at};
 ghost use Rattle.s7_client.specs.Standing.{Fits, IsStep, Consumes, unread, unsent};
@@ -35,7 +36,7 @@ impl Line {
         link: &mut L,
     ) -> Step
         requires fits { Fits self.old job.old }
-        requires pdu { config.now.pdu ≤ 960 }
+        requires pdu { config.now.pdu ≤ most_pdu }
         requires jobs { config.now.jobs ≤ 8 }
         ensures steps { IsStep self.old job.old (L.shows link.old) self.new job.new
             (L.shows link.new) config.now granted result }
@@ -60,7 +61,7 @@ impl Line {
         link: &mut L,
     ) -> Step
         requires fits { Fits self.old job.old }
-        requires pdu { config.now.pdu ≤ 960 }
+        requires pdu { config.now.pdu ≤ most_pdu }
         requires jobs { config.now.jobs ≤ 8 }
         ensures { IsStep self.old job.old (L.shows link.old) self.new job.new
             (L.shows link.new) config.now granted result }
@@ -84,6 +85,7 @@ impl Line {
             }
             Stage::Opening => self.go_on(job, config, granted, link),
             Stage::Asking(_) => self.go_on(job, config, granted, link),
+            Stage::Single(_) => self.go_on(job, config, granted, link),
         }
     }
 
@@ -96,7 +98,7 @@ impl Line {
         link: &mut L,
     ) -> Step
         requires fits { Fits self.old job.old }
-        requires pdu { config.now.pdu ≤ 960 }
+        requires pdu { config.now.pdu ≤ most_pdu }
         requires jobs { config.now.jobs ≤ 8 }
         requires sent { unsent self.old ≡ [] }
         requires unput { (size : ℕ) → unput_of config.now size job.old.running ≡ [] }
@@ -128,7 +130,7 @@ impl Line {
     // Uses octets that were read, up to the end of one packet.
     fn consume(&mut self, job: &mut UnderWay, config: &Config, granted: Option<Grant>)
         requires fits { Fits self.old job.old }
-        requires pdu { config.now.pdu ≤ 960 }
+        requires pdu { config.now.pdu ≤ most_pdu }
         requires jobs { config.now.jobs ≤ 8 }
         requires sent { unsent self.old ≡ [] }
         requires unput { (size : ℕ) → unput_of config.now size job.old.running ≡ [] }
@@ -161,6 +163,6 @@ pub(crate) fn packet_limit(stage: &Stage, size: u16) -> u16
 {
     match stage {
         Stage::Opening => FIRST_LIMIT,
-        Stage::Asking(_) | Stage::Leaving | Stage::Over { .. } => size + HEADERS,
+        Stage::Asking(_) | Stage::Single(_) | Stage::Leaving | Stage::Over { .. } => size + HEADERS,
     }
 }

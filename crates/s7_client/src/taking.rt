@@ -1,6 +1,7 @@
 // What an answer comes to.
 ghost use Rattle.std.specs.Prelude.{◌≡◌, ◌≤◌, IfSome, length, true};
 ghost use Rattle.s7_header.specs.declared.negotiation.Negotiation.{Negotiation};
+ghost use Rattle.s7_header.specs.Negotiation.{most_pdu};
 ghost use Rattle.s7_client.specs.Question.{negotiates};
 ghost use Rattle.s7_client.specs.Answer as spelled;
 ghost use Rattle.s7_client.specs.Told.{Tells};
@@ -29,7 +30,7 @@ pub(crate) fn is_alone(job: &Job) -> bool
 {
     match job {
         Job::ReadArea { .. } | Job::WriteArea { .. } => true,
-        Job::Connect | Job::ReadMany { .. } | Job::WriteMany { .. } | Job::Disconnect => false,
+        _ => false,
     }
 }
 
@@ -103,7 +104,7 @@ pub(crate) fn number_by(job: &Job, refused: Refused) -> u32
 
 /// The number and what it leaves, by the answer to the negotiation.
 pub(crate) fn negotiated(config: &Config, answer: &Answer<'_>) -> (u32, Leaves)
-    requires pdu { config.now.pdu ≤ 960 }
+    requires pdu { config.now.pdu ≤ most_pdu }
     requires jobs { config.now.jobs ≤ 8 }
     ensures granted { IsGoodLeave result.1 }
     ensures ends { (asked : Negotiation) (x : spelled.Answer) → Tells (negotiates asked) answer.now x
@@ -120,7 +121,7 @@ pub(crate) fn negotiated(config: &Config, answer: &Answer<'_>) -> (u32, Leaves)
 
 // The grant that is taken: a PDU from 64 to the one asked for, and jobs up to those asked for.
 fn taken_grant(config: &Config, granted: &Negotiation) -> Option<Grant>
-    requires pdu { config.now.pdu ≤ 960 }
+    requires pdu { config.now.pdu ≤ most_pdu }
     requires jobs { config.now.jobs ≤ 8 }
     ensures within { IfSome result IsGrant }
     ensures taken { result ≡ taken_grant config.now granted.now }

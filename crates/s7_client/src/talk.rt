@@ -1,5 +1,6 @@
 // The messages of a client's link.
 ghost use Rattle.std.specs.Prelude.{◌≡◌, ◌≤◌};
+ghost use Rattle.s7_header.specs.Negotiation.{most_pdu};
 
 use s7_cotp::Joiner;
 use s7_outer::Buffer;
@@ -18,5 +19,5 @@ pub(crate) struct Talk {
     ghost joins: { joiner.limit ≡ 8192 },
     ghost least_size: { 128 ≤ size },
     ghost most_size: { size ≤ 8192 },
-    ghost room: { message.room ≡ 960 },
+    ghost room: { message.room ≡ most_pdu },
 }

@@ -5,10 +5,16 @@
 #[cfg(test)]
 mod answers;
 #[cfg(test)]
+mod days;
+#[cfg(test)]
 mod faults;
 #[cfg(test)]
 mod flights;
 #[cfg(test)]
 mod jobs;
 #[cfg(test)]
+mod larger_pdu;
+#[cfg(test)]
 mod steps;
+#[cfg(test)]
+mod user_data;

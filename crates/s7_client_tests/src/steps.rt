@@ -53,6 +53,17 @@ pub(crate) enum Ask<'a> {
     Write(Item, &'a str),
     ReadMany(&'a [Item]),
     WriteMany(&'a [Item], &'a str),
+    Szl(u16, u16),
+    ClockRead,
+    ClockSet(u64),
+    Start,
+    ColdStart,
+    Stop,
+    Compress,
+    CopyRam,
+    Status,
+    Password(&'a str),
+    ClearPassword,
     Disconnect,
 }
 
@@ -92,6 +103,19 @@ pub(crate) fn job_of(alloc: Global, ask: Ask<'_>) -> Result<Job, Fail> {
             items: ItemList::of_vec(Vec::from_slice(alloc, items)?),
             octets: Octets::of_vec(hex::decode(alloc, octets)?),
         },
+        Ask::Szl(id, index) => Job::Szl { id, index },
+        Ask::ClockRead => Job::ClockRead,
+        Ask::ClockSet(moment) => Job::ClockSet { moment },
+        Ask::Start => Job::Start,
+        Ask::ColdStart => Job::ColdStart,
+        Ask::Stop => Job::Stop,
+        Ask::Compress => Job::Compress,
+        Ask::CopyRam => Job::CopyRam,
+        Ask::Status => Job::Status,
+        Ask::Password(text) => Job::PasswordSet {
+            text: Octets::of_vec(hex::decode(alloc, text)?),
+        },
+        Ask::ClearPassword => Job::PasswordClear,
         Ask::Disconnect => Job::Disconnect,
     })
 }

@@ -30,7 +30,8 @@ use Rattle.s7_rig.proofs.DataItemLemmas.{items_are_told, read_fits}
 of_sequence : (s : ℕ) (told : Option Answer) → cond (eqb s s) told None ≡ told
 of_sequence s told = ap (λ b. cond b told None) (eq-eqb s s refl)
 
-heard_by : (q : Question) (s : ℕ) (message : List ℕ) (h : Header) → header_of message ≡ Ok h → h.sequence ≡ s → answer_of q s message ≡ by_kind h.kind q h message
+pub heard_by : (q : Question) (s : ℕ) (message : List ℕ) (h : Header) → header_of message ≡ Ok h → h.sequence ≡ s
+    → answer_of q s message ≡ by_kind h.kind q h message
 unfolding answer_of
 heard_by q s message h is same =
     ap (by_header q s message) is

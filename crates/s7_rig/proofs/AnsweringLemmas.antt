@@ -15,27 +15,29 @@ use Rattle.s7_session.specs.LinkState.{LinkState}
 use Rattle.s7_session.specs.Owed.{past}
 use Rattle.s7_session.specs.Verdict.{Verdict}
 use Rattle.s7_rig.specs.Settled.{Settled}
-use Rattle.s7_rig.specs.Exchanges.{Replies}
+use Rattle.s7_rig.specs.Exchanges.{IsReadyFor, Replies}
 use Rattle.s7_rig.specs.Questions.{IsNegotiated}
 use Rattle.s7_rig.proofs.JudgedLemmas.{is_granted}
 use Rattle.s7_rig.proofs.QuestionLemmas.{served_negotiation}
 use Rattle.s7_rig.proofs.AnsweredLemmas.{negotiation_is_heard}
-use Rattle.s7_rig.proofs.ReplyLemmas.{replied}
+use Rattle.s7_rig.proofs.UserReplyLemmas.{replied}
 use Rattle.s7_rig.proofs.AskableLemmas.{askable}
 
 -- a question of a job on a connected client
 pub question_answered : (origin : Origin) (granted : Grant) (answers : List (Option Answer)) (question : Question)
     (number : ℕ) (first : LinkState) (b : List ℕ) (js vs : List Verdict) → origin.granted ≡ Some granted
-    → 64 ≤ granted.pdu → granted.pdu ≤ 960 → number < 65536 → (conduct_of origin).question_at answers ≡ Some question
-    → Settled first b js (Some granted.pdu)
+    → 64 ≤ granted.pdu → granted.pdu ≤ most_pdu → number < 65536
+    → (conduct_of origin).question_at answers ≡ Some question
+    → Settled first b js (Some granted.pdu) → IsReadyFor (past first b js).link question
     → (past first (b ++ sent_message 1024 (question_octets number question)) (js ++ vs)).standing ≡ lives
     → Replies first b js vs granted.pdu question number
-question_answered origin granted answers question number first b js vs connected least most low asks settled live =
+question_answered origin granted answers question number first b js vs connected least most low asks settled ready
+    live =
     let planned =
     subst (λ g. (plan_of origin.job origin.config g).conduct.question_at answers ≡ Some question) connected asks in
-    replied b js vs granted.pdu question number settled low most
+    replied b js vs granted.pdu question number settled low least most
     (sent_short origin.job origin.config granted answers question least planned number)
-    (askable origin.job origin.config granted answers question least planned) live
+    (askable origin.job origin.config granted answers question least planned) ready live
 
 -- a negotiation
 pub negotiation_answered : (origin : Origin) (number : ℕ) (first : LinkState) (b : List ℕ) (js : List Verdict)

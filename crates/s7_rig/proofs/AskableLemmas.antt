@@ -1,12 +1,15 @@
--- What a job on a connected client asks: reads and writes of one to twenty items, whose answers have room.
-use Rattle.std.proofs.Common.{◌≡◌, ℕ, ◌≤◌, Bool, true, false, eqb, leb, Option, Some, List, [], ◌∷◌, length, drop, arith}
-use Rattle.std.specs.Prelude.{IsSome}
+-- What a job on a connected client asks: reads and writes of one to twenty items, whose answers have room; controls
+-- that the plant is asked for; user data with its octets, and further octets of what comes in pieces.
+use Rattle.std.proofs.Common.{◌≡◌, ℕ, ◌<◌, ◌≤◌, Bool, true, false, ◌&&◌, cond, eqb, leb, ltb, Option, None, Some, List, [], ◌∷◌, length, drop, refl, ap, subst, arith}
+use Rattle.std.specs.Prelude.{IsSome, is_some, slice_get}
 use Rattle.std.specs.List.{AllByRecursion}
 use Rattle.std.proofs.lemmas.Bool.{and_parts, leb-true}
 use Rattle.s7_item.specs.declared.item.Item.{Item}
 use Rattle.s7_item.specs.Item.{octet_count}
 use Rattle.s7_item.specs.Word.{size_of}
 use Rattle.s7_item.specs.Sizes.{request_size, answer_size}
+use Rattle.s7_clock.specs.Moment.{IsHeld, first_moment, last_moment, octets_at}
+use Rattle.s7_clock.specs.declared.control.Control.TheVariants as control
 use Rattle.s7_split.specs.Fits.{fits}
 use Rattle.s7_split.specs.Parts.{parts_of, CanBeAsked}
 use Rattle.s7_split.specs.Groups.{groups_of, IsGroup}
@@ -16,16 +19,23 @@ use Rattle.s7_client.specs.declared.config.Config.{Config}
 use Rattle.s7_client.specs.declared.grant.Grant.{Grant}
 use Rattle.s7_client.specs.declared.job.Job.{Job}
 use Rattle.s7_client.specs.declared.job.Job.TheVariants as job
-use Rattle.s7_client.specs.Question.{Question}
-use Rattle.s7_client.specs.Answer.{Answer}
-use Rattle.s7_client.specs.Checks.{octet_count_of, check_item, check_items}
-use Rattle.s7_client.specs.Dialogue.{End, read_questions, write_questions, alone, listed, if_good, plan_of}
+use Rattle.s7_client.specs.declared.subject.Subject.{Subject}
+use Rattle.s7_client.specs.declared.subject.Subject.TheVariants.{StatusList, RunState, Clock, ClockSetting, Password, PasswordClearing}
+use Rattle.s7_client.specs.Codes.{invalid_parameters}
+use Rattle.s7_client.specs.UserData.{comes_in_pieces, filled_text, encoded}
+use Rattle.s7_client.specs.Question.{Question, controls, asks_further}
+use Rattle.s7_client.specs.Answer.{Answer, grants, tells, notes, stands, brings, refuses}
+use Rattle.s7_client.specs.Checks.{octet_count_of, check_item, check_items, check_moment, check_password}
+use Rattle.s7_client.specs.Dialogue.{End, read_questions, write_questions, alone, listed, if_good, at_once, asking_about, next_piece, behind, last_answer, octets_brought, list_octets, plan_of}
 use Rattle.s7_client.proofs.CheckLemmas.{item_checked, items_checked, can_split}
 use Rattle.s7_client.proofs.GroupLemmas.{groups_right}
 use Rattle.s7_client.proofs.FitLemmas.{one_of_all, good_sent}
-use Rattle.s7_rig.specs.Exchanges.{AreSome, IsAskable}
+use Rattle.s7_client.proofs.FlightLemmas.{same_some}
+use Rattle.s7_rig.specs.Exchanges.{AreSome, CanGoWith, IsAskable}
 use Rattle.s7_rig.specs.Written.{AreKnown}
 use Rattle.s7_rig.proofs.PlacedLemmas.{parts_known}
+use Rattle.s7_rig.proofs.UserClockLemmas.{clock_read, length-clock}
+use Rattle.s7_rig.proofs.UserPasswordLemmas.{length-password}
 use Rattle.s7_rig.proofs.AskedItems.{alone_each, groups_each, items_known}
 
 -- ---- all questions of a job
@@ -80,6 +90,62 @@ checked_askable granted check questions refusal number finished answers q each i
     let good = good_sent check (listed granted questions refusal number finished) answers q is in
     one_of_all (IsAskable granted.pdu) questions (length answers) q (each good.0) good.1
 
+-- ---- one question after another
+
+one_askable : (pdu : ℕ) (question q : Question) (k : ℕ) → IsAskable pdu question
+    → slice_get (question ∷ []) k ≡ Some q → IsAskable pdu q
+one_askable pdu question q k can is = one_of_all (IsAskable pdu) (question ∷ []) k q (can, tt) is
+
+further_askable : (pdu : ℕ) (subject : Subject) (octet : ℕ) (so_far : List ℕ) (more : Bool) (q : Question)
+    → (more ≡ true → comes_in_pieces subject ≡ true)
+    → cond more (Some (asks_further subject octet so_far)) None ≡ Some q → IsAskable pdu q
+further_askable pdu subject octet so_far true q pieces is =
+    subst (IsAskable pdu) (same_some (asks_further subject octet so_far) q is) (pieces refl)
+further_askable pdu subject octet so_far false q pieces is = absurd (cc)
+
+behind_askable : (pdu : ℕ) (subject : Subject) (so_far : List ℕ) (last : Option Answer) (q : Question)
+    → behind subject so_far last ≡ Some q → IsAskable pdu q
+behind_askable pdu subject so_far (Some (brings octet more octets)) q is =
+    further_askable pdu subject octet so_far (more && comes_in_pieces subject) q
+    (λ both. (and_parts more (comes_in_pieces subject) both).1) is
+behind_askable pdu subject so_far (Some (grants granted)) q is = absurd (cc)
+behind_askable pdu subject so_far (Some (tells items)) q is = absurd (cc)
+behind_askable pdu subject so_far (Some (notes codes)) q is = absurd (cc)
+behind_askable pdu subject so_far (Some (stands status)) q is = absurd (cc)
+behind_askable pdu subject so_far (Some (refuses error)) q is = absurd (cc)
+behind_askable pdu subject so_far None q is = absurd (cc)
+
+piece_askable : (pdu : ℕ) (subject : Subject) (octets : List ℕ) (answers : List (Option Answer)) (q : Question)
+    → CanGoWith subject octets → next_piece subject octets answers ≡ Some q → IsAskable pdu q
+piece_askable pdu subject octets [] q can is = subst (IsAskable pdu) (same_some _ q is) can
+piece_askable pdu subject octets (answer ∷ answers) q can is =
+    behind_askable pdu subject (octets_brought (answer ∷ answers)) (last_answer answer answers) q is
+
+-- ---- what is checked of user data
+
+both_good : (a b : Bool) (code : ℕ) → 0 < code → cond (a && b) 0 code ≡ 0 → (a ≡ true) × (b ≡ true)
+both_good true true code bad good = (refl, refl)
+both_good true false code bad good = absurd (omega (arith, bad, good))
+both_good false b code bad good = absurd (omega (arith, bad, good))
+
+moment_checked : (moment : ℕ) → check_moment moment ≡ 0 → IsHeld moment
+moment_checked moment good =
+    let both = both_good (leb first_moment moment) (leb moment last_moment) invalid_parameters (omega arith) good in
+    record {
+      from = leb-true first_moment moment both.0;
+      to = leb-true moment last_moment both.1;
+    }
+
+setting_can : (moment : ℕ) → IsHeld moment → CanGoWith ClockSetting (octets_at moment)
+setting_can moment held = (length-clock moment, ap is_some (clock_read moment held))
+
+password_can : (text : List ℕ) → check_password text ≡ 0 → CanGoWith Password (encoded (filled_text text))
+password_can text good =
+    let both = both_good (ltb 0 (length text)) (leb (length text) 8) invalid_parameters (omega arith) good in
+    length-password text (leb-true (length text) 8 both.1)
+
+-- ---- each job
+
 pub askable : (asked : Job) (config : Config) (granted : Grant) (answers : List (Option Answer)) (q : Question)
     → 64 ≤ granted.pdu → (plan_of asked config (Some granted)).conduct.question_at answers ≡ Some q
     → IsAskable granted.pdu q
@@ -104,4 +170,29 @@ askable (job.WriteMany items octets) config granted answers q least is =
     (write_questions (groups_of granted.pdu true items) octets) _ _ _ answers q
     (λ good. writes_askable granted.pdu _ octets (items_groups items has granted.pdu true good)
     (groups_each HasWord items has granted.pdu true good (items_known items has granted.pdu true good))) is
+askable (job.Szl id index) config granted answers q least is =
+    piece_askable granted.pdu StatusList (list_octets id index) answers q refl is
+askable job.ClockRead config granted answers q least is = piece_askable granted.pdu Clock [] answers q refl is
+askable (job.ClockSet moment) config granted answers q least is =
+    let sent = good_sent (check_moment moment) (at_once (asking_about ClockSetting (octets_at moment))) answers q is in
+    piece_askable granted.pdu ClockSetting (octets_at moment) answers q
+    (setting_can moment (moment_checked moment sent.0)) sent.1
+askable job.Start config granted answers q least is =
+    one_askable granted.pdu (controls control.Start) q (length answers) refl is
+askable job.ColdStart config granted answers q least is =
+    one_askable granted.pdu (controls control.ColdStart) q (length answers) refl is
+askable job.Stop config granted answers q least is =
+    one_askable granted.pdu (controls control.Stop) q (length answers) refl is
+askable job.Compress config granted answers q least is =
+    one_askable granted.pdu (controls control.Compress) q (length answers) refl is
+askable job.CopyRam config granted answers q least is =
+    one_askable granted.pdu (controls control.CopyRam) q (length answers) refl is
+askable job.Status config granted answers q least is =
+    piece_askable granted.pdu RunState (list_octets 0x0424 0) answers q refl is
+askable (job.PasswordSet text) config granted answers q least is =
+    let octets = encoded (filled_text text) in
+    let sent = good_sent (check_password text) (at_once (asking_about Password octets)) answers q is in
+    piece_askable granted.pdu Password octets answers q (password_can text sent.0) sent.1
+askable job.PasswordClear config granted answers q least is =
+    piece_askable granted.pdu PasswordClearing [] answers q refl is
 askable job.Disconnect config granted answers q least is = absurd (cc)

@@ -7,7 +7,7 @@ use Rattle.s7_item.specs.declared.item.Item.{Item}
 use Rattle.s7_item.specs.Item.{octet_count}
 use Rattle.s7_split.specs.Parts.{parts_of}
 use Rattle.s7_split.specs.Groups.{groups_of}
-use Rattle.s7_client.specs.Question.{Question, negotiates, reads, writes}
+use Rattle.s7_client.specs.Question.{Question, reads, writes}
 use Rattle.s7_client.specs.Checks.{is_known, octet_count_of, check_item, check_items}
 use Rattle.s7_client.specs.Dialogue.{read_questions, write_questions, alone}
 use Rattle.s7_client.proofs.CheckLemmas.{item_checked, items_checked, can_split}
@@ -17,9 +17,9 @@ use Rattle.s7_rig.specs.Written.{AreKnown}
 
 -- this holds of each item that is read or written, and a write has as many octets as its items
 abbrev pub AsksFor : (Item → Type 0) → Question → Type 0
-AsksFor P (negotiates n) = ⊥
 AsksFor P (reads items) = AllByRecursion P items
 AsksFor P (writes items octets) = AllByRecursion P items × (length octets ≡ octet_count_of items)
+AsksFor P _ = ⊥
 
 -- ---- lists of items
 

@@ -15,6 +15,7 @@ use Rattle.s7_item.proofs.DataLaws.{data_reads_back, are_as_many}
 use Rattle.s7_item.proofs.SizeLaws.{reads_sized}
 use Rattle.s7_area.specs.Guards.{is_write_barred}
 use Rattle.s7_area.specs.Memory.{Memory, place_code, read_code, write_code}
+use Rattle.s7_header.specs.Negotiation.{most_pdu}
 use Rattle.s7_plant.specs.Answers.{write_codes}
 use Rattle.s7_plant.specs.Answers as plant
 use Rattle.s7_plant.specs.Requests.{asked}
@@ -36,7 +37,7 @@ use Rattle.s7_rig.proofs.ShapeLemmas.{SameShape, read_code_same, write_code_same
 
 -- the telegram of a write fits any PDU
 abbrev pub IsShort : ℕ → List Item → List ℕ → Type 0
-IsShort number items octets = length (question_octets number (writes items octets)) ≤ 960
+IsShort number items octets = length (question_octets number (writes items octets)) ≤ most_pdu
 
 length-written : (items : List Item) (octets : List ℕ) → length (written items octets) ≡ length items
 length-written [] octets = refl
@@ -62,7 +63,7 @@ length-one word octets rest last =
       length-append octets (padding (length octets) last),
     )
 
-have_octets : (items : List Item) (octets : List ℕ) → AreKnown items → length (own_data items octets) ≤ 960
+have_octets : (items : List Item) (octets : List ℕ) → AreKnown items → length (own_data items octets) ≤ most_pdu
     → AllByRecursion HasOctets (written items octets)
 have_octets [] octets known short = tt
 have_octets (item ∷ items) octets known short =
@@ -104,7 +105,8 @@ own_octets number items octets known short =
 
 -- new octets for items are asked of the plant, and never refused
 pub write_is_asked : (link : LinkState) (pdu number : ℕ) (items : List Item) (octets : List ℕ)
-    → link.granted ≡ Some pdu → number < 65536 → pdu ≤ 960 → length (question_octets number (writes items octets)) ≤ pdu
+    → link.granted ≡ Some pdu → number < 65536 → pdu ≤ most_pdu
+    → length (question_octets number (writes items octets)) ≤ pdu
     → 0 < length items → length items ≤ 20 → AreKnown items
     → judge link (question_octets number (writes items octets)) ≡ asks_plainly link number (own_write items octets)
 write_is_asked link pdu number items octets granted low most fits some few known =

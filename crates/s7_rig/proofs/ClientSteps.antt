@@ -8,6 +8,7 @@ use Rattle.s7_outer.specs.Pipes.{end_of}
 use Rattle.s7_outer.specs.Shown.{Shown}
 use Rattle.s7_outer.specs.declared.pipes.Side.TheVariants as side
 use Rattle.s7_area.specs.Memory.{Memory}
+use Rattle.s7_header.specs.Negotiation.{most_pdu}
 use Rattle.s7_client.specs.declared.client.Client.{Client}
 use Rattle.s7_client.specs.declared.config.Config.{Config}
 use Rattle.s7_client.specs.declared.grant.Grant.{Grant}
@@ -47,9 +48,9 @@ use Rattle.s7_rig.proofs.ResultLemmas.{IsGone, ComesOff, come_off_more, come_off
 use Rattle.s7_rig.proofs.ComeOffLemmas.{comes_off}
 use Rattle.s7_rig.proofs.ShapeLemmas.{AreShaped}
 use Rattle.s7_rig.specs.Complete.{CanComeOff, AllComeOff}
-use Rattle.s7_rig.specs.Exchanges.{entries_of, rows_of, Converses, WentBy}
+use Rattle.s7_rig.specs.Exchanges.{AnyUndone, entries_of, rows_of, Converses, WentBy}
 use Rattle.s7_rig.specs.Turns.{is_full_in, lacks_in}
-use Rattle.s7_session.specs.Telegrams.{AnyFull}
+use Rattle.s7_session.specs.Telegrams.{AnyFull, clock_failures}
 use Rattle.s7_session.proofs.DoerLemmas.{full_end}
 use Rattle.s7_client.specs.Answer.{Answer}
 use Rattle.s7_client.specs.Codes.{timed_out}
@@ -62,20 +63,12 @@ use Rattle.s7_rig.proofs.ClientFacts.{pipes_quiet, has_job, waits_for_none, some
 
 connects_first : (j : Job) (rest : List Job) → ConnectsFirst (j ∷ rest) → (j ≡ job.Connect) × NoneConnects rest
 connects_first job.Connect rest h = (refl, h)
-connects_first (job.ReadArea item) rest h = absurd h
-connects_first (job.WriteArea item octets) rest h = absurd h
-connects_first (job.ReadMany items) rest h = absurd h
-connects_first (job.WriteMany items octets) rest h = absurd h
-connects_first job.Disconnect rest h = absurd h
+connects_first _ rest h = absurd h
 
 not_anew : (g : Option Grant) (j : Job) → IsNoConnect j → begins_anew g j ≡ false
 not_anew (Some g) j h = refl
 not_anew None job.Connect h = absurd h
-not_anew None (job.ReadArea item) h = refl
-not_anew None (job.WriteArea item octets) h = refl
-not_anew None (job.ReadMany items) h = refl
-not_anew None (job.WriteMany items octets) h = refl
-not_anew None job.Disconnect h = refl
+not_anew None _ h = refl
 
 -- a job is of one kind
 not_connect : (j : Job) (item : _) → j ≡ job.ReadArea item → j ≡ job.Connect → ⊥
@@ -372,7 +365,7 @@ module _ (opening : Memory) (limit : ℕ) (config : Config) (book : Book) where
   owes p c pipes o heard j given =
       j.stands.owed ∙ ap (λ x. x ++ unsent p.session) given ∙ append_assoc heard (client.unread_of c ++ pipes.to_client) (unsent p.session)
 
-  connect_done : 64 ≤ config.pdu → config.pdu ≤ 960 → (p : Post) (c : Client) (pipes : PipesHeld) (link link' : Shown) (used written : List ℕ) (o : Octets) (told : JobResult)
+  connect_done : 64 ≤ config.pdu → config.pdu ≤ most_pdu → (p : Post) (c : Client) (pipes : PipesHeld) (link link' : Shown) (used written : List ℕ) (o : Octets) (told : JobResult)
       → Joint opening limit config book p o
       → o.sent ++ written ≡ o.used ++ (unread p.session ++ pipes.to_server)
       → o.answered ≡ (o.heard ++ used) ++ (client.unread_of c ++ pipes.to_client)
@@ -407,7 +400,7 @@ module _ (opening : Memory) (limit : ℕ) (config : Config) (book : Book) where
             unconnected = k.granted;
             connects = k.job;
             least = subst (λ (x : Config). 64 ≤ x.pdu) (sym k.config_is) least;
-            most = subst (λ (x : Config). x.pdu ≤ 960) (sym k.config_is) most;
+            most = subst (λ (x : Config). x.pdu ≤ most_pdu) (sym k.config_is) most;
             over = octets;
             unused = unread p.session ++ pipes.to_server;
             taken = taken;
@@ -433,7 +426,7 @@ module _ (opening : Memory) (limit : ℕ) (config : Config) (book : Book) where
             });
           }
 
-  module _ (least : 64 ≤ config.pdu) (most : config.pdu ≤ 960) (p : Post) (c : Client) (pipes : PipesHeld) (link : Shown) (link' : Shown) (used : List ℕ) (written : List ℕ) (o : Octets) (told : JobResult)
+  module _ (least : 64 ≤ config.pdu) (most : config.pdu ≤ most_pdu) (p : Post) (c : Client) (pipes : PipesHeld) (link : Shown) (link' : Shown) (used : List ℕ) (written : List ℕ) (o : Octets) (told : JobResult)
       (j : Joint opening limit config book p o)
       (taken : o.sent ++ written ≡ o.used ++ (unread p.session ++ pipes.to_server))
       (given : o.answered ≡ (o.heard ++ used) ++ (client.unread_of c ++ pipes.to_client))
@@ -542,14 +535,18 @@ module _ (opening : Memory) (limit : ℕ) (config : Config) (book : Book) where
           (append_cancel_left (entered first w.before w.judged) (map answered w.mine) (entries_of went.exchanges) (sym entered_mine ∙ went.entered_is))
           (own_shaped (begins_with opening) p.link (history_of book) w.earlier w.mine w.entries_are)
 
-      no_full : length (history_of book) < limit → AnyFull (w.judged ++ w.verdicts) → ⊥
-      no_full room any = never_full p o j room (subst AnyFull (sym w.verdicts_are) any)
+      -- no telegram met a full history, or a clock that failed
+      all_done : length (history_of book) < limit → AnyUndone (w.judged ++ w.verdicts) → ⊥
+      all_done room (inl any) = never_full p o j room (subst AnyFull (sym w.verdicts_are) any)
+      all_done room (inr failed) = absurd (omega (arith, failed, j.clock, ap clock_failures w.verdicts_are))
 
       well_done : length (history_of book) < limit → ComesOff opening config.pdu told
       well_done room in_time can =
           d.result.code
-          ∙ comes_off opening (w.judged ++ w.verdicts) (no_full room) w.origin.job w.grant d.end went.exchanges w.job (subst (λ n. 64 ≤ n) (sym w.pdu) least) shaped converses
-          (subst (λ n. CanComeOff opening n w.origin.job) (sym w.pdu) (subst (CanComeOff opening config.pdu) d.result.job can))
+          ∙ comes_off opening (w.judged ++ w.verdicts) (all_done room) w.origin.job w.grant d.end went.exchanges w.job
+          (subst (λ n. 64 ≤ n) (sym w.pdu) least) shaped converses
+          (subst (λ n. CanComeOff opening n w.origin.job) (sym w.pdu)
+          (subst (CanComeOff opening config.pdu) d.result.job can))
 
       stays_connected : d.end.leaves ≡ AsItWas → Ends p c pipes told (after o used written)
       stays_connected stays =
@@ -607,7 +604,7 @@ module _ (opening : Memory) (limit : ℕ) (config : Config) (book : Book) where
     });
   }
 
-  done_by : 64 ≤ config.pdu → config.pdu ≤ 960 → (p : Post) (c : Client) (pipes : PipesHeld) (link link' : Shown) (used written : List ℕ) (o : Octets) (told : JobResult)
+  done_by : 64 ≤ config.pdu → config.pdu ≤ most_pdu → (p : Post) (c : Client) (pipes : PipesHeld) (link link' : Shown) (used written : List ℕ) (o : Octets) (told : JobResult)
       → Joint opening limit config book p o
       → o.sent ++ written ≡ o.used ++ (unread p.session ++ pipes.to_server)
       → o.answered ≡ (o.heard ++ used) ++ (client.unread_of c ++ pipes.to_client)
@@ -628,7 +625,7 @@ module _ (opening : Memory) (limit : ℕ) (config : Config) (book : Book) where
 
   -- ---- a poll
 
-  poll_by : 64 ≤ config.pdu → config.pdu ≤ 960 → (p : Post) (c : Client) (pipes : PipesHeld) (loan : GName) (o : Octets)
+  poll_by : 64 ≤ config.pdu → config.pdu ≤ most_pdu → (p : Post) (c : Client) (pipes : PipesHeld) (loan : GName) (o : Octets)
       → Joint opening limit config book p o
       → (m : Moves (client.unread_of p.client) (end_of loan p.pipes side.Client) (client.unread_of c) (end_of loan pipes side.Client))
       → client.config_of c ≡ client.config_of p.client
@@ -658,7 +655,7 @@ module _ (opening : Memory) (limit : ℕ) (config : Config) (book : Book) where
       )
 
   -- A client's turn keeps what holds, and what it transmitted stands behind what it had.
-  pub client_step : 64 ≤ config.pdu → config.pdu ≤ 960 → (p q : Post) (stirs : _) (o : Octets) → Joint opening limit config book p o → (turn : IsClientTurn p q stirs)
+  pub client_step : 64 ≤ config.pdu → config.pdu ≤ most_pdu → (p q : Post) (stirs : _) (o : Octets) → Joint opening limit config book p o → (turn : IsClientTurn p q stirs)
       → (o' : Octets) × (o'.sent ≡ o.sent ++ turn.polls.poll.poll.moves.written) × (o'.answered ≡ o.answered) × Joint opening limit config book q o'
   client_step least most p q stirs o j turn =
       let r = turn.ready in

@@ -4,7 +4,7 @@ use Rattle.std.specs.Prelude.{slice_get}
 use Rattle.s7_tpkt.specs.Packets.{packet_of}
 use Rattle.s7_cotp.specs.Told.{ConnectionTold}
 use Rattle.s7_cotp.specs.Reading.{tpdu_of}
-use Rattle.s7_cotp.specs.Spelling.{IsWritable, tsap_octets, spelling_of_confirm, spelling_of_data}
+use Rattle.s7_cotp.specs.Spelling.{IsWritable, tsap_octets, spelling_of_confirm}
 use Rattle.s7_cotp.proofs.SpellLemmas.{confirm_again}
 use Rattle.s7_wire.specs.Bounds.{size_of_code}
 use Rattle.s7_wire.specs.Sent.{sent_message}
@@ -170,12 +170,11 @@ over_by config n granted taken = ap by_grant taken
 -- A grant that is taken ends the connect.
 pub grant_heard : (origin : Origin) (b : List ℕ) (n : Negotiation) (granted : Grant) → origin.granted ≡ None
     → origin.job ≡ job.Connect → AsksNegotiation origin b → taken_grant origin.config n ≡ Some granted
-    → EndsBy origin b (packet_of (spelling_of_data true (answer_octets 1 (negotiation_spelling n) [])))
-    (connected_end granted)
+    → EndsBy origin b (sent_message 1024 (answer_octets 1 (negotiation_spelling n) [])) (connected_end granted)
 unfolding open_count
 grant_heard origin b n granted fresh connect h taken =
     let message = answer_octets 1 (negotiation_spelling n) [] in
-    let packet = packet_of (spelling_of_data true message) in
+    let packet = sent_message 1024 message in
     let row : Row = negotiation_row origin in
     let answered : List Row = with_answer row (grants n) ∷ [] in
     let is : filled (course origin b).rows message ≡ Some answered =

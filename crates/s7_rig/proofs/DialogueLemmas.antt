@@ -1,17 +1,17 @@
 -- A whole job over one link: where both ends are between two messages, and what becomes of the first question that is
 -- out.
-use Rattle.std.proofs.Common.{◌≡◌, inl, inr, true, ℕ, ◌<◌, ◌≤◌, Option, Some, List, [], ◌∷◌, ◌++◌, length, ap, ap₂, sym, ◌∙◌, subst, arith, length-append, append_assoc, append-nil}
+use Rattle.std.proofs.Common.{◌≡◌, inl, inr, ℕ, ◌<◌, ◌≤◌, Option, Some, List, [], ◌∷◌, ◌++◌, length, ap, ap₂, sym, ◌∙◌, subst, arith, length-append, append_assoc, append-nil}
 use Rattle.std.proofs.lemmas.List.{append_cancel_left}
-use Rattle.s7_tpkt.specs.Packets.{packet_of}
-use Rattle.s7_cotp.specs.Spelling.{spelling_of_data}
+use Rattle.s7_header.specs.Negotiation.{most_pdu}
 use Rattle.s7_plant.specs.declared.request.Ask.{Ask}
 use Rattle.s7_plant.specs.Replies.{Said}
+use Rattle.s7_wire.specs.Bounds.{message_limit}
 use Rattle.s7_wire.specs.Sent.{sent_message}
 use Rattle.s7_client.specs.declared.grant.Grant.{Grant}
 use Rattle.s7_client.specs.Answer.{Answer}
 use Rattle.s7_client.specs.Flight.{Row, open_count}
 use Rattle.s7_client.specs.Dialogue.{End, plan_of}
-use Rattle.s7_client.specs.Course.{Origin, Course, Awaits, for_answers, for_nothing, conduct_of, course}
+use Rattle.s7_client.specs.Course.{Origin, Awaits, for_answers, for_nothing, conduct_of, course}
 use Rattle.s7_client.specs.Standing.{IsByOctets}
 use Rattle.s7_client.proofs.FlightLemmas.{row_message}
 use Rattle.s7_client.proofs.FitLemmas.{sent_short}
@@ -23,8 +23,7 @@ use Rattle.s7_session.proofs.PastLemmas.{with_more, past_grows}
 use Rattle.s7_rig.specs.Settled.{Settled}
 use Rattle.s7_rig.specs.Awaiting.{telegrams_of, AreAsked, Awaiting}
 use Rattle.s7_rig.specs.Dialogues.{AreReplies}
-use Rattle.s7_rig.specs.Exchanges.{IsHeard, Replies, Exchange, entries_of, rows_of, AreTold, Converses}
-use Rattle.s7_rig.proofs.OneFragment.{message_is_one_packet}
+use Rattle.s7_rig.specs.Exchanges.{IsReadyFor, IsHeard, link_past, Replies, Exchange, entries_of, rows_of, AreTold, Converses}
 use Rattle.s7_rig.proofs.FrontLemmas.{served_front}
 use Rattle.s7_rig.proofs.JudgedLemmas.{question_is_s7}
 use Rattle.s7_rig.proofs.HeardLemmas.{AwaitsAnswers, heard_front}
@@ -34,6 +33,7 @@ use Rattle.s7_rig.proofs.PastFacts.{past_with, entered_grows}
 use Rattle.s7_rig.proofs.ListFacts.{Parts, parts, some_of}
 use Rattle.s7_rig.proofs.ReplyLemmas.{lives_on}
 use Rattle.s7_rig.proofs.AnsweringLemmas.{question_answered}
+use Rattle.s7_rig.proofs.HoldLemmas.{AreReady}
 
 -- ---- what stands fixed, and where both ends are
 
@@ -62,7 +62,7 @@ pub record IsWhole (w : Whole) : Type 0 where
   pub granted : w.origin.granted ≡ Some grant
   pub pdu_is : grant.pdu ≡ w.pdu
   pub least : 64 ≤ w.pdu
-  pub most : w.pdu ≤ 960
+  pub most : w.pdu ≤ most_pdu
   pub over : IsByOctets w.origin w.end w.carried w.heard w.sent
   pub met : (past w.first w.used w.verdicts).verdicts ≡ []
   pub replies : AreReplies (entered w.first w.used w.verdicts)
@@ -91,6 +91,8 @@ pub record IsAt (w : Whole) (p : Place) : Type 0 where
   pub asked : AreAsked (conduct_of w.origin) 0 (rows_of p.gone ++ p.rows)
   pub told : AreTold w.verdicts p.gone
   pub settled : Settled w.first p.used p.verdicts (Some w.pdu)
+  -- further octets are asked of a link that holds them
+  pub ready : AreReady (past w.first p.used p.verdicts).link p.rows
   pub heard_is : w.heard ≡ p.heard ++ p.more
   pub out_is : (course w.origin p.heard).out ≡ p.out ++ telegrams_of p.rows
   pub sent_is : w.sent ≡ p.out ++ (p.taken ++ w.unused)
@@ -151,10 +153,12 @@ pub record IsReplied (w : Whole) (p : Place) (q : Row) : Type 0 where
   pub taken : List ℕ
   pub taken_is : p.taken ≡ packet_with q ++ taken
   pub least : 10 ≤ length reply.message
-  pub most : length reply.message ≤ 1021
-  pub heard : IsHeard w.verdicts q.question q.number reply.message reply.new
+  pub most : length reply.message ≤ most_pdu
+  pub heard :
+      IsHeard w.verdicts (link_past w.first p.used q.number q.question reply.met) q.question q.number reply.message
+      reply.new
   pub more : List ℕ
-  pub more_is : p.more ≡ packet_of (spelling_of_data true reply.message) ++ more
+  pub more_is : p.more ≡ sent_message 1024 reply.message ++ more
 
 pub used_past : (w : Whole) (p : Place) (q : Row) (z : List ℕ) → IsAt w p → p.taken ≡ packet_with q ++ z
     → w.used ≡ (p.used ++ packet_with q) ++ z
@@ -193,6 +197,9 @@ module _ (w : Whole) (p : Place) (q : Row) (later : List Row) (i : IsWhole w) (h
       let c = conduct_of w.origin in
       asked_at c 0 (rows_of p.gone) q later (subst (λ rows. AreAsked c 0 (rows_of p.gone ++ rows)) is h.asked)
 
+  is_ready : IsReadyFor (past w.first p.used p.verdicts).link q.question
+  is_ready = (subst (AreReady (past w.first p.used p.verdicts).link) is h.ready).0
+
   fits_pdu : length (row_message q) ≤ w.pdu
   fits_pdu =
       let asks = asks_it in
@@ -203,15 +210,17 @@ module _ (w : Whole) (p : Place) (q : Row) (later : List Row) (i : IsWhole w) (h
       omega (arith, sent_short w.origin.job w.origin.config i.grant asks.0 q.question least planned q.number, i.pdu_is)
 
   -- while answers are awaited, the job isn't over
-  not_over : course w.origin (p.heard ++ p.more) ≡ course w.origin p.heard → ⊥
-  not_over same =
+  not_over : (course w.origin (p.heard ++ p.more)).awaits ≡ for_answers → ⊥
+  not_over awaits =
       not_answers (course w.origin w.heard).awaits w.end w.carried
-      (ap (λ x. (course w.origin x).awaits) h.heard_is ∙ (ap (λ (c : Course). c.awaits) same ∙ awaits_answers.awaits))
-      i.over.over
+      (ap (λ x. (course w.origin x).awaits) h.heard_is ∙ awaits) i.over.over
 
   some_more : 0 < length p.more
   some_more =
-      some_of p.more (λ none. not_over (ap (course w.origin) (ap (λ x. p.heard ++ x) none ∙ append-nil p.heard)))
+      some_of p.more
+      (λ none. not_over
+      (ap (λ x. (course w.origin x).awaits) (ap (λ x. p.heard ++ x) none ∙ append-nil p.heard)
+      ∙ awaits_answers.awaits))
 
   -- ---- the session used the whole question
 
@@ -267,7 +276,8 @@ module _ (w : Whole) (p : Place) (q : Row) (later : List Row) (i : IsWhole w) (h
       (λ n. Settled w.first p.used p.verdicts (Some n)
       → Replies w.first p.used p.verdicts p.left n q.question q.number) i.pdu_is
       (λ settled. question_answered w.origin i.grant asks.0 q.question q.number w.first p.used p.verdicts p.left
-      i.granted (omega (arith, i.pdu_is, i.least)) (omega (arith, i.pdu_is, i.most)) is_out.low asks.1 settled live)
+      i.granted (omega (arith, i.pdu_is, i.least)) (omega (arith, i.pdu_is, i.most)) is_out.low asks.1 settled
+      is_ready live)
       h.settled
 
   new_replies : (z : List ℕ) (r : RepliesAt w p q) → p.taken ≡ packet_with q ++ z → AreReplies r.new
@@ -294,8 +304,8 @@ module _ (w : Whole) (p : Place) (q : Row) (later : List Row) (i : IsWhole w) (h
 
   -- ---- the client heard the whole reply
 
-  heard_by : (m rest : List ℕ) → length m ≤ 1021 → Parts (packet_of (spelling_of_data true m)) rest p.more w.behind
-      → (more : List ℕ) × (p.more ≡ packet_of (spelling_of_data true m) ++ more)
+  heard_by : (m rest : List ℕ) → length m ≤ message_limit → Parts (sent_message 1024 m) rest p.more w.behind
+      → (more : List ℕ) × (p.more ≡ sent_message 1024 m ++ more)
   heard_by m rest most (inr k) = (k.0, k.1)
   heard_by m rest most (inl k) =
       absurd (not_over (heard_front w.origin p.heard m p.more k.0 awaits_answers most k.1 k.2))
@@ -304,18 +314,19 @@ module _ (w : Whole) (p : Place) (q : Row) (later : List Row) (i : IsWhole w) (h
   reply_heard z r taken given =
       let front = more_front z r taken in
       let most = r.most given in
-      let packet = packet_of (spelling_of_data true r.message) in
       let heard =
-      heard_by r.message front.0 most
-      (parts packet front.0 p.more w.behind
-      (ap (λ x. x ++ front.0) (sym (message_is_one_packet r.message most)) ∙ front.1)) in
+      heard_by r.message front.0 (omega (arith, most))
+      (parts (sent_message 1024 r.message) front.0 p.more w.behind front.1) in
       record {
         reply = r;
         taken = z;
         taken_is = taken;
         least = r.least given;
         most = most;
-        heard = subst (λ vs. IsHeard vs q.question q.number r.message r.new) (sym h.verdicts_are) (r.heard given);
+        heard = subst
+            (λ vs. IsHeard vs (link_past w.first p.used q.number q.question r.met) q.question q.number r.message
+            r.new)
+            (sym h.verdicts_are) (r.heard given);
         more = heard.0;
         more_is = heard.1;
       }

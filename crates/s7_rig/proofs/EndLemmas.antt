@@ -4,19 +4,23 @@ use Rattle.std.specs.Prelude.{IsTrue}
 use Rattle.s7_outer.specs.Shown.{Shown}
 use Rattle.s7_outer.specs.Count.{Rose}
 use Rattle.s7_item.specs.Item.{octet_count}
+use Rattle.s7_clock.specs.declared.control.Control.{Control}
+use Rattle.s7_clock.specs.declared.control.Control.TheVariants as control
 use Rattle.s7_client.specs.declared.config.Config.{Config}
 use Rattle.s7_client.specs.declared.grant.Grant.{Grant}
 use Rattle.s7_client.specs.declared.grant.Leaves.{Leaves}
 use Rattle.s7_client.specs.declared.grant.Leaves.TheVariants.{AsItWas, Connected, Disconnected, Closed}
 use Rattle.s7_client.specs.declared.job.Job.{Job}
 use Rattle.s7_client.specs.declared.job.Job.TheVariants as job
-use Rattle.s7_client.specs.Answer.{Answer, grants, tells, notes, refuses}
+use Rattle.s7_client.specs.declared.subject.Subject.{Subject}
+use Rattle.s7_client.specs.declared.subject.Subject.TheVariants.{StatusList, RunState, Clock, ClockSetting, Password, PasswordClearing}
+use Rattle.s7_client.specs.Answer.{Answer, grants, tells, notes, stands, brings, refuses}
 use Rattle.s7_client.specs.Codes.{not_connected, timed_out}
-use Rattle.s7_client.specs.Checks.{check_item, check_items, octet_count_of}
+use Rattle.s7_client.specs.Checks.{check_item, check_items, check_moment, check_password, octet_count_of}
 use Rattle.s7_client.specs.Flight.{answers_of, open_count}
 use Rattle.s7_client.specs.Dialogue.{End, First, nothing, connect_request, disconnect_request, Plan, over, number_end, fault_end, departed_end}
 use Rattle.s7_client.specs.Dialogue.{taken_grant, by_grant, negotiated, connected_plan, unconnected_plan, plan_of}
-use Rattle.s7_client.specs.Dialogue.{Conduct, plain_number, write_number, by_refusal, good_end}
+use Rattle.s7_client.specs.Dialogue.{Conduct, plain_number, write_number, by_refusal, good_end, controlling, asking_about, at_once}
 use Rattle.s7_client.specs.Course.{Origin, Course, Awaits, for_confirm, for_answers, for_departure, for_nothing, conduct_of}
 use Rattle.s7_client.specs.Course.{asked_on, asking, blank, by_first, begun, course}
 use Rattle.s7_client.specs.Standing.{IsFault, IsByOctets, IsByDeparture}
@@ -75,6 +79,17 @@ checked_leaves : (done : Job) (granted : Grant) (code : ℕ) (plan : Plan) (good
 checked_leaves done granted code plan true leaves = leaves
 checked_leaves done granted code plan false leaves = over_leaves done granted code
 
+-- one that asks from its start on
+control_leaves : (done : Job) (granted : Grant) (control : Control)
+    → PlanLeaves done (Some granted) (at_once (controlling control))
+control_leaves done granted control =
+    record { ends = λ answers. refusal_leaves done granted _ _ _ _; departs = λ e. not_departing _ e }
+
+about_leaves : (done : Job) (granted : Grant) (subject : Subject) (octets : List ℕ)
+    → PlanLeaves done (Some granted) (at_once (asking_about subject octets))
+about_leaves done granted subject octets =
+    record { ends = λ answers. refusal_leaves done granted _ _ _ _; departs = λ e. not_departing _ e }
+
 connected_leaves : (done : Job) (granted : Grant) → PlanLeaves done (Some granted) (connected_plan done granted)
 connected_leaves job.Connect granted = over_leaves job.Connect granted 0
 connected_leaves (job.ReadArea item) granted =
@@ -101,6 +116,23 @@ connected_leaves (job.WriteMany items octets) granted =
       ends = λ answers. refusal_leaves (job.WriteMany items octets) granted _ _ _ _;
       departs = λ e. not_departing _ e;
     })
+connected_leaves (job.Szl id index) granted = about_leaves (job.Szl id index) granted StatusList _
+connected_leaves job.ClockRead granted = about_leaves job.ClockRead granted Clock _
+connected_leaves (job.ClockSet moment) granted =
+    let check = check_moment moment in
+    checked_leaves (job.ClockSet moment) granted check _ (eqb check 0)
+    (about_leaves (job.ClockSet moment) granted ClockSetting _)
+connected_leaves job.Start granted = control_leaves job.Start granted control.Start
+connected_leaves job.ColdStart granted = control_leaves job.ColdStart granted control.ColdStart
+connected_leaves job.Stop granted = control_leaves job.Stop granted control.Stop
+connected_leaves job.Compress granted = control_leaves job.Compress granted control.Compress
+connected_leaves job.CopyRam granted = control_leaves job.CopyRam granted control.CopyRam
+connected_leaves job.Status granted = about_leaves job.Status granted RunState _
+connected_leaves (job.PasswordSet text) granted =
+    let check = check_password text in
+    checked_leaves (job.PasswordSet text) granted check _ (eqb check 0)
+    (about_leaves (job.PasswordSet text) granted Password _)
+connected_leaves job.PasswordClear granted = about_leaves job.PasswordClear granted PasswordClearing _
 connected_leaves job.Disconnect granted =
     record { ends = λ answers good. (refl, is_granted granted); departs = λ e. refl }
 
@@ -131,7 +163,14 @@ stays_or_leaves (job.ReadMany items) grant answers =
 stays_or_leaves (job.WriteMany items octets) grant answers =
     let check = check_items items (eqb (length octets) (octet_count_of items)) grant.pdu true in
     inl (checked_stays check _ (eqb check 0) answers (refusal_stays plain_number _ _ _))
+stays_or_leaves (job.ClockSet moment) grant answers =
+    let check = check_moment moment in
+    inl (checked_stays check _ (eqb check 0) answers (refusal_stays plain_number _ _ _))
+stays_or_leaves (job.PasswordSet text) grant answers =
+    let check = check_password text in
+    inl (checked_stays check _ (eqb check 0) answers (refusal_stays plain_number _ _ _))
 stays_or_leaves job.Disconnect grant answers = inr refl
+stays_or_leaves _ grant answers = inl (refusal_stays plain_number _ _ _)
 
 -- ---- on a client that isn't connected
 
@@ -147,6 +186,8 @@ negotiated_leaves config (Some (grants n) ∷ answers) = grant_leaves (taken_gra
 negotiated_leaves config (Some (refuses error) ∷ answers) = grant_leaves None
 negotiated_leaves config (Some (tells items) ∷ answers) = grant_leaves None
 negotiated_leaves config (Some (notes codes) ∷ answers) = grant_leaves None
+negotiated_leaves config (Some (stands status) ∷ answers) = grant_leaves None
+negotiated_leaves config (Some (brings octet more octets) ∷ answers) = grant_leaves None
 
 not_connected_leaves : (done : Job) → PlanLeaves done None (over (number_end not_connected Disconnected))
 not_connected_leaves done =
@@ -157,11 +198,7 @@ unconnected_leaves job.Connect config = record {
   ends = negotiated_leaves config;
   departs = λ e. absurd (cc);
 }
-unconnected_leaves (job.ReadArea item) config = not_connected_leaves (job.ReadArea item)
-unconnected_leaves (job.WriteArea item octets) config = not_connected_leaves (job.WriteArea item octets)
-unconnected_leaves (job.ReadMany items) config = not_connected_leaves (job.ReadMany items)
-unconnected_leaves (job.WriteMany items octets) config = not_connected_leaves (job.WriteMany items octets)
-unconnected_leaves job.Disconnect config = not_connected_leaves job.Disconnect
+unconnected_leaves done config = not_connected_leaves done
 
 plan_leaves : (done : Job) (config : Config) (granted : Option Grant)
     → PlanLeaves done granted (plan_of done config granted)

@@ -1,17 +1,17 @@
 -- What a client makes of the packets that it awaits.
-use Rattle.std.proofs.Common.{◌≡◌, ℕ, ◌+◌, ◌<◌, ◌≤◌, true, false, ltb, cond, Bool, List, [], ◌++◌, length, Some, Ok, refl, ap, sym, ◌∙◌, subst, arith}
+use Rattle.std.proofs.Common.{◌≡◌, ℕ, ◌+◌, ◌-◌, ◌<◌, ◌≤◌, true, false, cond, Bool, List, [], ◌++◌, length, Some, refl, ap, sym, ◌∙◌, subst, arith}
 use Rattle.std.proofs.lemmas.Bool.{le-ltb}
 use Rattle.s7_tpkt.specs.Cut.{Cut}
 use Rattle.s7_tpkt.specs.Packets.{packet_of, packets_of, rest_of, state_of, HoldsRest, GoesOn, EndsPacket}
 use Rattle.s7_tpkt.specs.declared.state.FedState.TheVariants.{More}
 use Rattle.s7_tpkt.proofs.PacketLemmas.{goes_on_at, ends_packet_at}
 use Rattle.s7_tpkt.proofs.WriteLemmas.{packet_written}
-use Rattle.s7_cotp.specs.Told.{fragment}
 use Rattle.s7_cotp.specs.Reading.{tpdu_of}
 use Rattle.s7_cotp.specs.Spelling.{spelling_of_data}
-use Rattle.s7_cotp.specs.Messages.{whole, too_long, joined_with}
+use Rattle.s7_cotp.specs.Messages.{Step, more, whole, joined_with}
 use Rattle.s7_cotp.proofs.SpellLemmas.{data_again}
 use Rattle.s7_wire.specs.Bounds.{message_limit, limit_of_size}
+use Rattle.s7_wire.specs.Sent.{sent_message}
 use Rattle.s7_client.specs.Flight.{Row, filled}
 use Rattle.s7_client.specs.Dialogue.{Conduct}
 use Rattle.s7_client.specs.Codes.{short_message}
@@ -22,6 +22,7 @@ use Rattle.s7_client.proofs.CourseLemmas.{course_held, course_on_more, course_en
 use Rattle.s7_rig.specs.Awaiting.{Awaiting}
 use Rattle.s7_rig.proofs.TelegramLemmas.{AsksAll, asks_all}
 use Rattle.s7_rig.proofs.PacketFronts.{front_more}
+use Rattle.s7_rig.proofs.PartedLemmas.{few_fragments, joined_by, Joins, message_whole, message_front}
 
 -- ---- packets behind whole packets
 
@@ -64,78 +65,122 @@ pub packet_whole : (origin : Origin) (b body : List ℕ) → rest_of (limits ori
     → rest_of (limits origin) (b ++ packet_of body) ≡ []
 packet_whole origin b body clear least most = (ends_next origin b body clear least most).rest
 
--- ---- a message in one fragment
+-- ---- a message in fragments
 
--- where answers are awaited
-pub record AwaitsAnswers (origin : Origin) (b : List ℕ) : Type 0 where
-  pub awaiting : Awaiting origin b
-  pub awaits : (course origin b).awaits ≡ for_answers
+-- what was heard, with fragments of a message behind it
+abbrev with_fragments : Course → List ℕ → ℕ → Course
+with_fragments k octets count = record k { unfinished = record { octets = octets; count = count } }
 
-limit_awaiting : (origin : Origin) (b : List ℕ) → AwaitsAnswers origin b → limit_in (course origin b) ≡ 1031
-limit_awaiting origin b h = ap (λ a. limit_where a (course origin b).size) h.awaits ∙ ap limit_of_size h.awaiting.size
+-- Behind what was heard the octets bring whole packets with fragments of a message, or more octets too, or all of it.
+record HasFragments (origin : Origin) (k : Course) (c octets : List ℕ) (count : ℕ) : Type 0 where
+  rest : rest_of (limits origin) c ≡ []
+  is : course origin c ≡ with_fragments k octets count
 
-fits : (origin : Origin) (b m : List ℕ) → AwaitsAnswers origin b → length m ≤ 1021
-    → length (spelling_of_data true m) + 4 ≤ limit_in (course origin b)
-fits origin b m h most = omega (arith, limit_awaiting origin b h, most)
+record HasBegun (origin : Origin) (k : Course) (c : List ℕ) : Type 0 where
+  octets : List ℕ
+  count : ℕ
+  is : course origin c ≡ with_fragments k octets count
 
--- a strict front of the packet changes nothing
-pub heard_front : (origin : Origin) (b m u v : List ℕ) → AwaitsAnswers origin b → length m ≤ 1021
-    → u ++ v ≡ packet_of (spelling_of_data true m) → 0 < length v → course origin (b ++ u) ≡ course origin b
-heard_front origin b m u v h most e some =
-    front_heard origin b (spelling_of_data true m) u v h.awaiting.rest (omega arith) (fits origin b m h most) e some
-
-pub heard_whole : (origin : Origin) (b m : List ℕ) → AwaitsAnswers origin b → length m ≤ 1021
-    → rest_of (limits origin) (b ++ packet_of (spelling_of_data true m)) ≡ []
-heard_whole origin b m h most =
-    packet_whole origin b (spelling_of_data true m) h.awaiting.rest (omega arith) (fits origin b m h most)
-
--- ---- what it makes of the course
-
-abbrev kept : Course → Unfinished → Course
-kept k unfinished = record k { unfinished = unfinished }
-
-same_kept : (k : Course) → k.unfinished ≡ nothing_unfinished → kept k nothing_unfinished ≡ k
-same_kept k h = ap (kept k) (sym h)
-
-abbrev joined_at : Conduct → Course → List ℕ → Unfinished → Course
-joined_at c k m u =
-    by_joining c k (joined_with message_limit u.octets u.count (record { last = true; user = m }))
-
-joined_whole : (c : Conduct) (k : Course) (m : List ℕ) (b : Bool) → b ≡ false
-    → by_joining c k (cond b too_long (whole m)) ≡ with_message c (kept k nothing_unfinished) m
-joined_whole c k m true h = absurd (cc)
-joined_whole c k m false h = refl
-
--- a last fragment with no message begun
-one_fragment : (c : Conduct) (k : Course) (m : List ℕ) → k.unfinished ≡ nothing_unfinished → length m ≤ 8192
-    → connected c k (Ok (fragment true m)) ≡ with_message c k m
-one_fragment c k m h most =
-    ap (joined_at c k m) h
-    ∙ joined_whole c k m (ltb 8192 (0 + length m)) (le-ltb 8192 (0 + length m) (omega (arith, most)))
-    ∙ ap (λ n. with_message c n m) (same_kept k h)
-
-long_message : (c : Conduct) (k : Course) (m : List ℕ) → 10 ≤ length m
-    → with_message c k m ≡ by_rows c k m (filled k.rows m)
-long_message c k m least =
-    ap (λ b. cond b (with_fault k short_message) (by_rows c k m (filled k.rows m))) (le-ltb (length m) 10 least)
+record HasMessage (origin : Origin) (k : Course) (c m : List ℕ) : Type 0 where
+  rest : rest_of (limits origin) c ≡ []
+  is : course origin c ≡ with_message (conduct_of origin) (with_fragments k [] 0) m
 
 packet_awaited : (origin : Origin) (k : Course) (body : List ℕ) → k.awaits ≡ for_answers
     → with_packet origin k body ≡ connected (conduct_of origin) k (tpdu_of body)
 unfolding with_packet
 packet_awaited origin k body h = ap (by_awaits (conduct_of origin) k body) h
 
--- A message in one fragment is taken as an answer.
-heard_message : (origin : Origin) (b m : List ℕ) → AwaitsAnswers origin b → 10 ≤ length m → length m ≤ 1021
-    → course origin (b ++ packet_of (spelling_of_data true m))
-    ≡ by_rows (conduct_of origin) (course origin b) m (filled (course origin b).rows m)
-heard_message origin b m h least most =
-    let body = spelling_of_data true m in
-    let c = conduct_of origin in
-    packet_heard origin b body h.awaiting.rest (omega arith) (fits origin b m h most)
-    ∙ (packet_awaited origin (course origin b) body h.awaits
-    ∙ (ap (connected c (course origin b)) (data_again true m)
-    ∙ (one_fragment c (course origin b) m h.awaiting.unfinished (omega (arith, most))
-    ∙ long_message c (course origin b) m least)))
+module _ (origin : Origin) (k : Course) (size : ℕ) (least : 4 ≤ size) (awaits : k.awaits ≡ for_answers)
+    (sized : k.size ≡ size) where
+  fits_with : (c octets user : List ℕ) (count : ℕ) (last : Bool) → HasFragments origin k c octets count
+      → length user ≤ size - 3 → length (spelling_of_data last user) + 4 ≤ limit_in (course origin c)
+  fits_with c octets user count last h fits =
+      let limit : limit_in (course origin c) ≡ size + 7 =
+      ap limit_in h.is ∙ (ap (λ a. limit_where a k.size) awaits ∙ ap limit_of_size sized) in
+      omega (arith, limit, least, fits)
+
+  begun_with : (c octets user u v : List ℕ) (count : ℕ) (last : Bool) → HasFragments origin k c octets count
+      → length user ≤ size - 3 → u ++ v ≡ packet_of (spelling_of_data last user) → 0 < length v
+      → HasBegun origin k (c ++ u)
+  begun_with c octets user u v count last h fits is some = record {
+    octets = octets;
+    count = count;
+    is = front_heard origin c (spelling_of_data last user) u v h.rest (omega arith)
+        (fits_with c octets user count last h fits) is some
+        ∙ h.is;
+  }
+
+  -- one packet more
+  packet_joins : (c octets user : List ℕ) (count : ℕ) (last : Bool) (step : Step)
+      → HasFragments origin k c octets count → length user ≤ size - 3
+      → joined_with message_limit octets count (record { last = last; user = user }) ≡ step
+      → course origin (c ++ packet_of (spelling_of_data last user))
+      ≡ by_joining (conduct_of origin) (with_fragments k octets count) step
+  packet_joins c octets user count last step h fits is =
+      let body = spelling_of_data last user in
+      let q = with_fragments k octets count in
+      packet_heard origin c body h.rest (omega arith) (fits_with c octets user count last h fits)
+      ∙ (ap (λ q. with_packet origin q body) h.is
+      ∙ (packet_awaited origin q body awaits
+      ∙ (ap (connected (conduct_of origin) q) (data_again last user) ∙ ap (by_joining (conduct_of origin) q) is)))
+
+  packet_rest : (c octets user : List ℕ) (count : ℕ) (last : Bool) → HasFragments origin k c octets count
+      → length user ≤ size - 3 → rest_of (limits origin) (c ++ packet_of (spelling_of_data last user)) ≡ []
+  packet_rest c octets user count last h fits =
+      packet_whole origin c (spelling_of_data last user) h.rest (omega arith)
+      (fits_with c octets user count last h fits)
+
+  course_joins : Joins (size - 3) (HasFragments origin k) (HasBegun origin k) (HasMessage origin k)
+  course_joins = record {
+    front = λ c octets user u v count last h fits is some. begun_with c octets user u v count last h fits is some;
+    early = λ c octets user count h fits few most. record {
+      rest = packet_rest c octets user count false h fits;
+      is = packet_joins c octets user count false (more (octets ++ user) (count + 1)) h fits
+          (joined_by octets user count false few most);
+    };
+    final = λ c octets user count h fits few most. record {
+      rest = packet_rest c octets user count true h fits;
+      is = packet_joins c octets user count true (whole (octets ++ user)) h fits
+          (joined_by octets user count true few most);
+    };
+  }
+
+-- ---- a message where answers are awaited
+
+pub record AwaitsAnswers (origin : Origin) (b : List ℕ) : Type 0 where
+  pub awaiting : Awaiting origin b
+  pub awaits : (course origin b).awaits ≡ for_answers
+
+-- no fragment came before it
+same_course : (k : Course) → k.unfinished ≡ nothing_unfinished → k ≡ with_fragments k [] 0
+same_course k h = ap (λ (u : Unfinished). with_fragments k u.octets u.count) h
+
+none_came : (origin : Origin) (b : List ℕ) → AwaitsAnswers origin b → HasFragments origin (course origin b) b [] 0
+none_came origin b h =
+    record { rest = h.awaiting.rest; is = same_course (course origin b) h.awaiting.unfinished }
+
+-- while it comes, answers are awaited still
+pub heard_front : (origin : Origin) (b m u v : List ℕ) → AwaitsAnswers origin b → length m ≤ message_limit
+    → u ++ v ≡ sent_message 1024 m → 0 < length v → (course origin (b ++ u)).awaits ≡ for_answers
+heard_front origin b m u v h most is some =
+    let joins = course_joins origin (course origin b) 1024 (omega arith) h.awaits h.awaiting.size in
+    let begun =
+    message_front 1024 b m u v joins (omega arith) most
+    (few_fragments (length m) 1024 (omega arith) (omega (arith, most))) (none_came origin b h) is some in
+    ap (λ (k : Course). k.awaits) begun.is ∙ h.awaits
+
+-- and all of it is a message
+message_heard : (origin : Origin) (b m : List ℕ) → AwaitsAnswers origin b → length m ≤ message_limit
+    → HasMessage origin (course origin b) (b ++ sent_message 1024 m) m
+message_heard origin b m h most =
+    message_whole 1024 b m
+    (course_joins origin (course origin b) 1024 (omega arith) h.awaits h.awaiting.size) (omega arith) most
+    (few_fragments (length m) 1024 (omega arith) (omega (arith, most))) (none_came origin b h)
+
+long_message : (c : Conduct) (k : Course) (m : List ℕ) → 10 ≤ length m
+    → with_message c k m ≡ by_rows c k m (filled k.rows m)
+long_message c k m least =
+    ap (λ b. cond b (with_fault k short_message) (by_rows c k m (filled k.rows m))) (le-ltb (length m) 10 least)
 
 -- ---- an answer, and what is asked then
 
@@ -145,18 +190,23 @@ pub record HearsOn (origin : Origin) (b used : List ℕ) (rows : List Row) : Typ
   pub asks : AsksAll (conduct_of origin) (record (course origin b) { rows = rows }) (course origin (b ++ used))
 
 pub heard_answer : (origin : Origin) (b m : List ℕ) (rows : List Row) → AwaitsAnswers origin b → 10 ≤ length m
-    → length m ≤ 1021 → filled (course origin b).rows m ≡ Some rows
-    → HearsOn origin b (packet_of (spelling_of_data true m)) rows
+    → length m ≤ message_limit → filled (course origin b).rows m ≡ Some rows
+    → HearsOn origin b (sent_message 1024 m) rows
 heard_answer origin b m rows h least most is =
     let c = conduct_of origin in
-    let before : Course = record (course origin b) { rows = rows } in
-    let same : course origin (b ++ packet_of (spelling_of_data true m)) ≡ asking c before =
-    heard_message origin b m h least most ∙ ap (by_rows c (course origin b) m) is in
-    let asks : AsksAll c before (course origin (b ++ packet_of (spelling_of_data true m))) =
+    let k = course origin b in
+    let used = sent_message 1024 m in
+    let before : Course = record k { rows = rows } in
+    let message = message_heard origin b m h most in
+    let same : course origin (b ++ used) ≡ asking c before =
+    message.is
+    ∙ (ap (λ q. with_message c q m) (sym (same_course k h.awaiting.unfinished))
+    ∙ (long_message c k m least ∙ ap (by_rows c k m) is)) in
+    let asks : AsksAll c before (course origin (b ++ used)) =
     subst (AsksAll c before) (sym same) (asks_all c before h.awaiting.size h.awaiting.sequence) in
     record {
       awaiting = record {
-        rest = heard_whole origin b m h most;
+        rest = message.rest;
         unfinished = asks.unfinished ∙ h.awaiting.unfinished;
         size = asks.size;
         sequence = asks.sequence;

@@ -1,9 +1,8 @@
 -- How a job goes on from place to place, and comes to its end.
-use Rattle.std.proofs.Common.{◌≡◌, ℕ, zero, suc, ◌+◌, ◌<◌, true, Some, List, [], ◌∷◌, ◌++◌, length, refl, ap, ap₂, sym, ◌∙◌, subst, arith, length-append, append_assoc, append-nil}
+use Rattle.std.proofs.Common.{◌≡◌, ℕ, zero, suc, ◌+◌, ◌<◌, Some, List, [], ◌∷◌, ◌++◌, length, refl, ap, ap₂, sym, ◌∙◌, subst, arith, length-append, append_assoc, append-nil}
 use Rattle.std.proofs.lemmas.List.{append_cancel_left, map-append, nil_from_length}
 use Rattle.std.proofs.lemmas.List.Concat.{flat_map-append}
-use Rattle.s7_tpkt.specs.Packets.{packet_of}
-use Rattle.s7_cotp.specs.Spelling.{spelling_of_data}
+use Rattle.s7_wire.specs.Sent.{sent_message}
 use Rattle.s7_client.specs.Flight.{Row, answers_of, open_count, filled}
 use Rattle.s7_client.specs.Dialogue.{End}
 use Rattle.s7_client.specs.Course.{Course, Awaits, for_nothing, conduct_of, next_question, course}
@@ -16,11 +15,12 @@ use Rattle.s7_session.proofs.PastLemmas.{with_more}
 use Rattle.s7_rig.specs.Settled.{Settled}
 use Rattle.s7_rig.specs.Awaiting.{telegrams_of, AreAsked}
 use Rattle.s7_rig.specs.Exchanges.{HasTold, Exchange, entries_of, rows_of}
-use Rattle.s7_rig.proofs.OneFragment.{message_is_one_packet}
+use Rattle.s7_rig.proofs.PartedLemmas.{some_sent}
 use Rattle.s7_rig.proofs.HeardLemmas.{HearsOn, heard_answer}
 use Rattle.s7_rig.proofs.TelegramLemmas.{IsOut, AreOut, open_behind, awaits_none, filled_behind, asked_both, asked_filled}
 use Rattle.s7_rig.proofs.PastFacts.{past_with}
 use Rattle.s7_rig.proofs.ListFacts.{none_of}
+use Rattle.s7_rig.proofs.HoldLemmas.{AreReady, next_ready}
 use Rattle.s7_rig.proofs.DialogueLemmas.{Whole, IsWhole, Place, IsAt, IsDone, IsReplied, packet_with, owes_more, used_past, awaits_answers, is_replied}
 
 -- ---- lists that are grouped anew
@@ -46,19 +46,20 @@ entries_more xs x =
 
 module _ (w : Whole) (p : Place) (q : Row) (later : List Row) (i : IsWhole w) (h : IsAt w p) (is : p.rows ≡ q ∷ later)
     (k : IsReplied w p q) where
-  -- the packet of the reply
-  abbrev answer_packet : List ℕ
-  answer_packet = packet_of (spelling_of_data true k.reply.message)
+  -- the packets of the reply
+  abbrev answer_packets : List ℕ
+  answer_packets = sent_message 1024 k.reply.message
 
   -- the rows with the answer
   abbrev answered : List Row
   answered = rows_of p.gone ++ with_answer q k.heard.answer ∷ later
 
   -- the answer is that to the first question that is out, and more may be asked then
-  hears : HearsOn w.origin p.heard answer_packet answered
+  hears : HearsOn w.origin p.heard answer_packets answered
   hears =
       let out : AreOut (q ∷ later) = subst AreOut is h.are_out in
-      heard_answer w.origin p.heard k.reply.message answered (awaits_answers w p q later i h is) k.least k.most
+      heard_answer w.origin p.heard k.reply.message answered (awaits_answers w p q later i h is) k.least
+      (omega (arith, k.most))
       (ap (λ rows. filled rows k.reply.message) (h.rows_are ∙ ap (λ rows. rows_of p.gone ++ rows) is)
       ∙ filled_behind p.gone q later k.reply.message k.heard.answer out.0.unanswered k.heard.is)
 
@@ -69,7 +70,7 @@ module _ (w : Whole) (p : Place) (q : Row) (later : List Row) (i : IsWhole w) (h
   next = record {
     gone = p.gone ++ exchange ∷ [];
     rows = later ++ hears.asks.new;
-    heard = p.heard ++ answer_packet;
+    heard = p.heard ++ answer_packets;
     more = k.more;
     out = p.out ++ packet_with q;
     used = p.used ++ packet_with q;
@@ -101,24 +102,33 @@ module _ (w : Whole) (p : Place) (q : Row) (later : List Row) (i : IsWhole w) (h
       ∙ (regrouped p.out (packet_with q) (telegrams_of later) (telegrams_of new) before refl
       ∙ ap (λ x. next.out ++ x) (sym (telegrams-append later new)))))
 
+  out_now : AreOut next.rows
+  out_now = all_append IsOut later hears.asks.new (subst AreOut is h.are_out).1 hears.asks.are_out
+
+  ready_next : AreReady (past w.first next.used next.verdicts).link next.rows
+  ready_next =
+      next_ready w.origin i.grant i.granted (past w.first next.used next.verdicts).link p.heard next.heard p.gone q
+      later exchange next.rows (h.rows_are ∙ ap (λ rows. rows_of p.gone ++ rows) is)
+      (subst AreOut is h.are_out).0.unanswered refl (hears.asks.rows ∙ rows_next) out_now asked_next k.heard.goes_on
+
   at_next : IsAt w next
   at_next = record {
     awaiting = hears.awaiting;
     rows_are = hears.asks.rows ∙ rows_next;
-    are_out = all_append IsOut later hears.asks.new (subst AreOut is h.are_out).1 hears.asks.are_out;
+    are_out = out_now;
     asked = asked_next;
     told = all_append (λ (x : Exchange). HasTold w.verdicts x.question x.answer x.entries) p.gone (exchange ∷ []) h.told
         (k.heard.told, tt);
     settled = k.reply.serves.settled;
-    heard_is = h.heard_is ∙ (ap (λ x. p.heard ++ x) k.more_is ∙ sym (append_assoc p.heard answer_packet k.more));
+    ready = ready_next;
+    heard_is = h.heard_is ∙ (ap (λ x. p.heard ++ x) k.more_is ∙ sym (append_assoc p.heard answer_packets k.more));
     out_is = out_next;
     sent_is = h.sent_is ∙ regrouped p.out (packet_with q) k.taken w.unused p.taken k.taken_is;
     used_is = used_past w p q k.taken h k.taken_is;
     verdicts_are = h.verdicts_are ∙ k.reply.split;
     owed_is =
         k.reply.serves.owed
-        ∙ (ap₂ (λ x y. x ++ y) h.owed_is (message_is_one_packet k.reply.message k.most)
-        ∙ append_assoc w.before p.heard answer_packet);
+        ∙ (ap (λ x. x ++ answer_packets) h.owed_is ∙ append_assoc w.before p.heard answer_packets);
     entered_is =
         k.reply.serves.entered
         ∙ (ap (λ x. x ++ k.reply.new) h.entered_is
@@ -127,7 +137,13 @@ module _ (w : Whole) (p : Place) (q : Row) (later : List Row) (i : IsWhole w) (h
   }
 
   less_more : length next.more < length p.more
-  less_more = omega (arith, ap length k.more_is, length-append answer_packet k.more)
+  less_more =
+      omega (
+        arith,
+        ap length k.more_is,
+        length-append answer_packets k.more,
+        some_sent 1024 k.reply.message (omega arith),
+      )
 
 -- ---- the last place
 

@@ -9,6 +9,7 @@ pub mod RoundsLemmas
 pub mod FreshLemmas
 pub mod WalksLemmas
 pub mod OneFragment
+pub mod PartedLemmas
 pub mod PastFacts
 pub mod FrontLemmas
 pub mod ServedLemmas
@@ -30,6 +31,9 @@ pub mod GrowthLemmas
 pub mod ReplyLemmas
 pub mod AskableLemmas
 pub mod TelegramLemmas
+pub mod HoldTurns
+pub mod HoldLemmas
+pub mod HoldReplies
 pub mod AnsweringLemmas
 pub mod DialogueLemmas
 pub mod JobLemmas
@@ -50,3 +54,11 @@ pub mod AsksLemmas
 pub mod AskedItems
 pub mod ResultLemmas
 pub mod ComeOffLemmas
+pub mod UserPasswordLemmas
+pub mod UserClockLemmas
+pub mod UserJudgedLemmas
+pub mod UserHeardLemmas
+pub mod UserControlLemmas
+pub mod UserServedLemmas
+pub mod UserFitLemmas
+pub mod UserReplyLemmas

@@ -27,7 +27,6 @@ use Rattle.s7_rig.specs.Settled.{Settled, Serves}
 use Rattle.s7_rig.specs.Awaiting.{BeginsConnecting, AsksNegotiation, EndsBy}
 use Rattle.s7_rig.specs.Heard.{connected_end}
 use Rattle.s7_rig.specs.Dialogues.{IsConnectOver, IsConnectSettled}
-use Rattle.s7_rig.proofs.OneFragment.{message_is_one_packet}
 use Rattle.s7_rig.proofs.FrontLemmas.{served_front}
 use Rattle.s7_rig.proofs.OpenedLemmas.{opened, opening_front}
 use Rattle.s7_rig.proofs.JudgedLemmas.{is_granted}
@@ -207,11 +206,10 @@ module _ (guard : Option Guard) (origin : Origin) (heard sent : List ℕ) (end :
       append_cancel_left confirm (begun.0 ++ y.0) (grant_octets origin.config) (sym (append_assoc confirm begun.0 y.0) ∙ (ap (λ x. x ++ y.0) (sym begun.1) ∙ sym y.1)) in
       let awaits : AwaitsAnswers origin confirm =
       record { awaiting = negotiation_awaited.awaiting; awaits = negotiation_awaited.awaits } in
-      let still = heard_front origin confirm (grant_of origin.config) begun.0 y.0 awaits (omega arith)
-      (front ∙ message_is_one_packet (grant_of origin.config) (omega arith)) y.2 in
+      let still = heard_front origin confirm (grant_of origin.config) begun.0 y.0 awaits (omega arith) front y.2 in
       absurd
-      (not_all_heard confirm (ap (course origin) begun.1 ∙ still)
-      (subst AwaitsOctets (sym negotiation_awaited.awaits) tt))
+      (not_over end carried (course origin heard).awaits
+      (subst AwaitsOctets (sym (ap (λ x. (course origin x).awaits) begun.1 ∙ still)) tt) over.over.over)
   grant_cases rest (inr y) = (y.0, y.1)
 
   -- the client has used the grant
@@ -231,10 +229,8 @@ module _ (guard : Option Guard) (origin : Origin) (heard sent : List ℕ) (end :
 
   grant_ends : EndsBy origin (confirm_octets origin.config) (grant_octets origin.config) (connected_end (taken_of origin.config))
   grant_ends =
-      let P : List ℕ → Type 0 = λ x. EndsBy origin (confirm_octets origin.config) x (connected_end (taken_of origin.config)) in
-      subst P (sym (message_is_one_packet (grant_of origin.config) (omega arith)))
-      (grant_heard origin (confirm_octets origin.config) (granted_of origin.config) (taken_of origin.config)
-      over.unconnected over.connects negotiation_awaited taken_is)
+      grant_heard origin (confirm_octets origin.config) (granted_of origin.config) (taken_of origin.config)
+      over.unconnected over.connects negotiation_awaited taken_is
 
   -- nothing behind it is used
   all_heard : heard ≡ opening_heard origin.config

@@ -14,7 +14,7 @@ use Rattle.s7_plant.specs.State.{State}
 use Rattle.s7_client.specs.declared.grant.Grant.{Grant}
 use Rattle.s7_client.specs.declared.grant.Leaves.TheVariants.{AsItWas}
 use Rattle.s7_client.specs.declared.job.Job.TheVariants as job
-use Rattle.s7_client.specs.Question.{Question, reads, writes}
+use Rattle.s7_client.specs.Question.{Question, reads}
 use Rattle.s7_client.specs.Answer.{Answer, ItemAnswer, refuses, tells}
 use Rattle.s7_client.specs.Refusals.{number_of_code, part_refusal}
 use Rattle.s7_client.specs.Checks.{check_item}
@@ -23,12 +23,13 @@ use Rattle.s7_client.specs.Dialogue.{End, Plan, number_end, over, read_questions
 use Rattle.s7_client.specs.Dialogue.{octets_told, good_end, alone, listed, if_good, connected_plan, plan_of}
 use Rattle.s7_client.specs.Course.{Origin, conduct_of}
 use Rattle.s7_client.proofs.FlightLemmas.{nothing_left}
-use Rattle.s7_client.proofs.FormLemmas.{first_positive, part_positive, none_first}
+use Rattle.s7_client.proofs.EndLemmas.{first_none}
+use Rattle.s7_client.proofs.FormLemmas.{first_positive, part_positive}
 use Rattle.s7_session.specs.Verdict.{Verdict}
 use Rattle.s7_rig.specs.Heard.{told_of}
 use Rattle.s7_rig.specs.Awaiting.{AreAsked}
 use Rattle.s7_rig.specs.Dialogues.{AreReplies, ReadsParts}
-use Rattle.s7_rig.specs.Exchanges.{HasTold, is_refused, is_read, is_written, Exchange, entries_of, rows_of, AreTold, Converses}
+use Rattle.s7_rig.specs.Exchanges.{HasTold, is_refused, is_read, is_written, is_controlled, is_brought, is_secured, is_further, Exchange, entries_of, rows_of, AreTold, Converses}
 use Rattle.s7_rig.proofs.TelegramLemmas.{open_none}
 
 -- ---- a read that came off
@@ -121,19 +122,29 @@ data PartTold (part : Item) (answer : Answer) (new : List (Ask × Said)) : Type 
 same_items : (xs ys : List Item) → reads xs ≡ reads ys → ys ≡ xs
 same_items xs ys e = cc
 
-not_written : (xs ys : List Item) (octets : List ℕ) → reads xs ≡ writes ys octets → ⊥
-not_written xs ys octets e = cc
+-- the question reads items
+abbrev Reads : Question → Type 0
+Reads (reads items) = Unit {0}
+Reads _ = ⊥
 
 part_answered : {vs : List Verdict} (part : Item) (a : Answer) (new : List (Ask × Said))
     → HasTold vs (reads (part ∷ [])) a new → PartTold part a new
 part_answered part a new (is_refused error full is) = part_refused error is
 part_answered part a new (is_written items octets right reply is new_is told) =
-    absurd (not_written (part ∷ []) items octets is)
+    absurd (subst Reads is tt)
 part_answered part a new (is_read items right reply is new_is told) =
     let same : items ≡ part ∷ [] = same_items (part ∷ []) items is in
     part_told right reply (new_is ∙ ap (λ xs. (asked right (Read xs), reply) ∷ []) same)
     (λ s gives. told s (gives ∙ ap (λ xs. plant.answer_of s (asked right (Read xs))) (sym same))
     ∙ ap (λ xs. tells (map (told_of s.memory right) xs)) same)
+part_answered part a new (is_controlled control right request reply is wants new_is told) =
+    absurd (subst Reads is tt)
+part_answered part a new (is_brought subject octets moment right request reply pdu octet is wants new_is told) =
+    absurd (subst Reads is tt)
+part_answered part a new (is_secured subject octets octet error is secures new_is told) =
+    absurd (subst Reads is tt)
+part_answered part a new (is_further subject octet so_far piece more is new_is told) =
+    absurd (subst Reads is tt)
 
 -- ---- part by part
 
@@ -211,7 +222,7 @@ parts_read vs grant parts done left (x ∷ xs) whole all last none told replies 
     let answers = answers_of (rows_of xs) in
     let long : length done + 1 ≡ length (done ++ part ∷ []) = omega (arith, length-append done (part ∷ [])) in
     let unrefused =
-    none_first (part_refusal x.answer) (length done) (first_refusal part_refusal (length done + 1) answers) none in
+    first_none (part_refusal x.answer) (length done) (first_refusal part_refusal (length done + 1) answers) none in
     subst (λ ys. ReadsParts ys (x.entries ++ entries_of xs) (octets_told (Some x.answer ∷ answers))) (sym first.2)
     (part_by part rest x.entries (entries_of xs) x.answer answers
     (part_answered part x.answer x.entries (subst (λ q. HasTold vs q x.answer x.entries) first.3 told.0)) unrefused.0

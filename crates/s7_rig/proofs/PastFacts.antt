@@ -36,17 +36,24 @@ past_with first b js vs live =
     ∙ (run_with (start first js) vs es (ap (λ (q : Past). q.standing) (sym same) ∙ live)
     ∙ ap (λ (q : Past). with_more q vs) (sym same)))
 
--- octets that are read as those before change nothing
-pub past_same : (first : LinkState) (b c : List ℕ) (js : List Verdict) → reading Request c ≡ reading Request b → (reading Request b).ending ≡ None → past first c js ≡ past first b js
+-- octets that bring no event and end nothing change nothing
+pub past_alike : (first : LinkState) (b c : List ℕ) (js : List Verdict)
+    → (reading Request c).events ≡ (reading Request b).events → (reading Request c).ending ≡ None
+    → (reading Request b).ending ≡ None → past first c js ≡ past first b js
 unfolding past
-past_same first b c js same none =
+past_alike first b c js same none none' =
     let p = run (start first js) (reading Request b).events in
     let torn = torn_of Request b in
     let torn' = torn_of Request c in
-    ap (λ (q : Progress). with_ending torn' q.ending (run (start first js) q.events)) same
+    ap (λ es. with_ending torn' (reading Request c).ending (run (start first js) es)) same
     ∙ (ap (λ e. with_ending torn' e p) none
     ∙ (ending_none torn' p
-    ∙ sym (ap (λ e. with_ending torn e p) none ∙ ending_none torn p)))
+    ∙ sym (ap (λ e. with_ending torn e p) none' ∙ ending_none torn p)))
+
+-- nor do octets that are read as those before
+pub past_same : (first : LinkState) (b c : List ℕ) (js : List Verdict) → reading Request c ≡ reading Request b → (reading Request b).ending ≡ None → past first c js ≡ past first b js
+past_same first b c js same none =
+    past_alike first b c js (ap (λ (q : Progress). q.events) same) (ap (λ (q : Progress). q.ending) same ∙ none) none
 
 -- ---- what was entered grows
 

@@ -5,6 +5,7 @@ use Rattle.std.specs.List.{AllByRecursion}
 use Rattle.s7_outer.specs.PipesHeld.{PipesHeld}
 use Rattle.s7_area.specs.Memory.{Memory}
 use Rattle.s7_area.specs.declared.guard.Guard.{Guard}
+use Rattle.s7_header.specs.Negotiation.{most_pdu}
 use Rattle.s7_client.specs.declared.config.Config.{Config}
 use Rattle.s7_client.specs.declared.job.Job.{Job}
 use Rattle.s7_client.specs.Polling as client
@@ -170,7 +171,7 @@ module _ (opening : Memory) (limit : ℕ) (config : Config) where
             ∙ ap (λ s. replay after_call s history) holds.opened;
       }
 
-  pub rig_ran : 64 ≤ config.pdu → config.pdu ≤ 960 → (scripts : List (List Job)) (turning : Turning) (end : EndTold) (start last : State)
+  pub rig_ran : 64 ≤ config.pdu → config.pdu ≤ most_pdu → (scripts : List (List Job)) (turning : Turning) (end : EndTold) (start last : State)
       → AllByRecursion ConnectsFirst scripts
       → state_of start.book.opening ≡ begins_with opening → state_of start.book.plant ≡ begins_with opening → start.book.journal ≡ entries_of [] limit
       → AreFresh opening.guard config 1 scripts start.posts → IsRun turning.turns turning.seed turning.steps start last → end ≡ state_told last

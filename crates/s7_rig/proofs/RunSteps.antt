@@ -5,6 +5,7 @@ use Rattle.std.proofs.lemmas.Bool.Decides.{nat_tests}
 use Rattle.std.proofs.lemmas.Option.{slice_get_within}
 use Rattle.std.proofs.lemmas.List.{length-set}
 use Rattle.s7_area.specs.Memory.{Memory}
+use Rattle.s7_header.specs.Negotiation.{most_pdu}
 use Rattle.s7_client.specs.declared.config.Config.{Config}
 use Rattle.s7_client.specs.declared.job.Polled.{Polled}
 use Rattle.s7_client.specs.declared.job.Polled.TheVariants as polled
@@ -88,7 +89,7 @@ module _ (opening : Memory) (limit : ℕ) (config : Config) where
 
   -- ---- a turn
 
-  module _ (least : 64 ≤ config.pdu) (most : config.pdu ≤ 960) where
+  module _ (least : 64 ≤ config.pdu) (most : config.pdu ≤ most_pdu) where
     client_holds : (i : ℕ) (s s' : State) (stirs : Bool) (x y : ℕ → List ℕ) → Holds s x y → (t : ClientTurn i s s' stirs)
         → Holds s' (λ k. x k ++ (if i == k then t.turn.polls.poll.poll.moves.written else [])) (λ k. y k ++ [])
     client_holds i s s' stirs x y h t =

@@ -5,17 +5,18 @@ use Rattle.s7_client.specs.declared.grant.Grant.{Grant}
 use Rattle.s7_client.specs.declared.grant.Leaves.TheVariants.{AsItWas}
 use Rattle.s7_client.specs.declared.job.Job.{Job}
 use Rattle.s7_client.specs.declared.job.Job.TheVariants as job
-use Rattle.s7_client.specs.Checks.{check_item, check_items, octet_count_of}
+use Rattle.s7_client.specs.Checks.{check_item, check_items, check_moment, check_password, octet_count_of}
 use Rattle.s7_client.specs.Dialogue.{End, First, nothing, disconnect_request, Plan, over, number_end, connected_plan, plan_of}
 use Rattle.s7_client.specs.Course.{Origin, Course, Awaits, for_departure, for_nothing, course}
 use Rattle.s7_client.specs.Standing.{AwaitsOctets}
 use Rattle.s7_session.specs.LinkState.{LinkState}
 use Rattle.s7_session.specs.Verdict.{Verdict}
-use Rattle.s7_session.specs.Owed.{owed, entered}
+use Rattle.s7_session.specs.Owed.{past, owed, entered}
 use Rattle.s7_rig.specs.Settled.{Settled}
 use Rattle.s7_rig.specs.Dialogues.{IsJobOver}
 use Rattle.s7_rig.proofs.BeginLemmas.{first_course, BeginsAsking, begins_asking}
 use Rattle.s7_rig.proofs.ListFacts.{none_of}
+use Rattle.s7_rig.proofs.HoldLemmas.{first_ready}
 use Rattle.s7_rig.proofs.DialogueLemmas.{Whole, IsWhole, Place, IsAt, IsDone}
 use Rattle.s7_rig.proofs.JobLemmas.{done}
 
@@ -38,7 +39,10 @@ connected_first (job.WriteArea item octets) granted =
 connected_first (job.ReadMany items) granted = checked_first (check_items items true granted.pdu false) _ _ refl
 connected_first (job.WriteMany items octets) granted =
     checked_first (check_items items (eqb (length octets) (octet_count_of items)) granted.pdu true) _ _ refl
+connected_first (job.ClockSet moment) granted = checked_first (check_moment moment) _ _ refl
+connected_first (job.PasswordSet text) granted = checked_first (check_password text) _ _ refl
 connected_first job.Disconnect granted = inr refl
+connected_first _ granted = inl refl
 
 -- ---- from there on
 
@@ -67,14 +71,16 @@ first_place w b js u begins = record {
 }
 
 at_first : (w : Whole) (b : List ℕ) (js : List Verdict) (u : IsUnused w b js) (begins : BeginsAsking w.origin)
-    → IsAt w (first_place w b js u begins)
-at_first w b js u begins = record {
+    → IsWhole w → IsAt w (first_place w b js u begins)
+at_first w b js u begins i = record {
   awaiting = begins.awaiting;
   rows_are = begins.asks.rows;
   are_out = begins.asks.are_out;
   asked = begins.asks.asked;
   told = tt;
   settled = u.settled;
+  ready = first_ready w.origin i.grant i.granted (past w.first b js).link begins.asks.new begins.asks.rows
+      begins.asks.are_out begins.asks.asked;
   heard_is = refl;
   out_is = begins.asks.out;
   sent_is = u.sent_is;
@@ -102,7 +108,7 @@ done_by_first : (w : Whole) (b : List ℕ) (js : List Verdict) (u : IsUnused w b
     → AsksOrLeaves (plan_of w.origin.job w.origin.config w.origin.granted).first → IsDone w
 done_by_first w b js u size low i (inl asks) =
     let begins = begins_asking w.origin i.grant i.granted size low asks in
-    done w (first_place w b js u begins) i (at_first w b js u begins)
+    done w (first_place w b js u begins) i (at_first w b js u begins i)
 done_by_first w b js u size low i (inr leaves) = absurd (not_leaving w i leaves)
 
 job_done : (w : Whole) (b : List ℕ) (js : List Verdict) → IsUnused w b js → IsWhole w → w.origin.size ≡ 1024

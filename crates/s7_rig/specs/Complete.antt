@@ -1,13 +1,14 @@
 -- Which jobs of a rig come off.
-use Rattle.std.specs.Prelude.{◌≡◌, ◌≢◌, ℕ, true, false, ◌==◌, List, [], ◌∷◌, length}
+use Rattle.std.specs.Prelude.{◌≡◌, ◌≢◌, ℕ, true, false, ◌==◌, List, [], ◌∷◌, length, IsSome, None}
 use Rattle.s7_item.specs.declared.item.Item.{Item}
 use Rattle.s7_item.specs.Item.{octet_count}
 use Rattle.s7_area.specs.Guards.{is_read_barred, is_write_barred}
 use Rattle.s7_area.specs.Memory.{Memory, place_code}
+use Rattle.s7_szl.specs.Tables.{table_of}
 use Rattle.s7_client.specs.declared.job.Job.{Job}
 use Rattle.s7_client.specs.declared.job.Job.TheVariants as job
 use Rattle.s7_client.specs.declared.job.JobResult.{JobResult}
-use Rattle.s7_client.specs.Checks.{check_item, check_items, octet_count_of}
+use Rattle.s7_client.specs.Checks.{check_item, check_items, check_moment, octet_count_of}
 use Rattle.s7_client.specs.Codes.{no_fault, timed_out}
 
 -- the item stands in the areas
@@ -15,7 +16,9 @@ abbrev pub IsThere : Memory → Item → Type 0
 IsThere m item = place_code m item ≡ 0xFF
 
 -- The job can be asked with telegrams of this PDU, and where it reads or writes one item, that stands in the areas and
--- wants no password. Of several items each has a code of its own, and the job comes off whatever these are.
+-- wants no password. Of several items each has a code of its own, and the job comes off whatever these are. A status
+-- list comes off that there is, and the clock and the run state always tell; the clock is set, and the memory is tidied
+-- and copied, where no guard is. Of the other jobs nothing is said here: they hang on what was done before.
 abbrev pub CanComeOff : Memory → ℕ → Job → Type 0
 CanComeOff m pdu job.Connect = Unit {0}
 CanComeOff m pdu (job.ReadArea item) =
@@ -26,15 +29,18 @@ CanComeOff m pdu (job.WriteArea item octets) =
 CanComeOff m pdu (job.ReadMany items) = check_items items true pdu false ≡ no_fault
 CanComeOff m pdu (job.WriteMany items octets) =
     check_items items (length octets == octet_count_of items) pdu true ≡ no_fault
+CanComeOff m pdu (job.Szl id index) = IsSome (table_of id index true)
+CanComeOff m pdu job.ClockRead = Unit {0}
+CanComeOff m pdu (job.ClockSet moment) = (check_moment moment ≡ no_fault) × (m.guard ≡ None)
+CanComeOff m pdu job.Compress = m.guard ≡ None
+CanComeOff m pdu job.CopyRam = m.guard ≡ None
+CanComeOff m pdu job.Status = Unit {0}
 CanComeOff m pdu job.Disconnect = Unit {0}
+CanComeOff m pdu _ = ⊥
 
 abbrev pub IsNoDisconnect : Job → Type 0
-IsNoDisconnect job.Connect = Unit {0}
-IsNoDisconnect (job.ReadArea item) = Unit {0}
-IsNoDisconnect (job.WriteArea item octets) = Unit {0}
-IsNoDisconnect (job.ReadMany items) = Unit {0}
-IsNoDisconnect (job.WriteMany items octets) = Unit {0}
 IsNoDisconnect job.Disconnect = ⊥
+IsNoDisconnect _ = Unit {0}
 
 -- The results of a client, in order: up to the first that met its last poll, and up to a disconnect, each job that can
 -- come off has code 0.

@@ -9,6 +9,7 @@ use Rattle.s7_client.specs.Codes.{no_fault}
 use Rattle.s7_client.specs.Course.{Origin, course}
 use Rattle.s7_client.specs.Dialogue.{End}
 use Rattle.s7_client.specs.Standing.{IsByOctets}
+use Rattle.s7_header.specs.Negotiation.{most_pdu}
 use Rattle.s7_item.specs.declared.item.Item.{Item}
 use Rattle.s7_plant.specs.Answers as plant
 use Rattle.s7_plant.specs.declared.request.Ask.{Ask}
@@ -49,7 +50,7 @@ pub record IsJobOver (first : LinkState) (origin : Origin) (pdu : ℕ) (heard se
   pub granted : origin.granted ≡ Some grant
   pub pdu_is : grant.pdu ≡ pdu
   pub least : 64 ≤ pdu
-  pub most : pdu ≤ 960
+  pub most : pdu ≤ most_pdu
   pub size : origin.size ≡ 1024
   pub sequence : origin.sequence < 65536
   pub over : IsByOctets origin end carried heard sent
@@ -80,7 +81,7 @@ pub record IsConnectOver (guard : Option Guard) (origin : Origin) (heard sent : 
   pub unconnected : origin.granted ≡ None
   pub connects : origin.job ≡ job.Connect
   pub least : 64 ≤ origin.config.pdu
-  pub most : origin.config.pdu ≤ 960
+  pub most : origin.config.pdu ≤ most_pdu
   pub over : IsByOctets origin end carried heard sent
   pub unused : List ℕ
   pub taken : sent ≡ used ++ unused

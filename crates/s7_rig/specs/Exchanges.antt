@@ -1,23 +1,33 @@
 -- The questions of a job on a connected client, and what a session answers to each.
-use Rattle.std.specs.Prelude.{◌≡◌, ℕ, ◌<◌, ◌≤◌, Bool, List, [], ◌∷◌, ◌++◌, length, map, None, Some}
+use Rattle.std.specs.Prelude.{◌≡◌, ◌⊎◌, ℕ, ◌<◌, ◌≤◌, Bool, true, false, ◌==◌, nat_lt, if◌then◌else◌, List, [], ◌∷◌, ◌++◌, length, take, slice_index, map, IsSome, None, Some}
 use Rattle.std.specs.List.{AllByRecursion, flat_map}
 use Rattle.s7_item.specs.declared.item.Item.{Item}
 use Rattle.s7_item.specs.Sizes.{answer_size}
 use Rattle.s7_plant.specs.Answers as plant
 use Rattle.s7_plant.specs.declared.request.Ask.{Ask}
+use Rattle.s7_plant.specs.declared.request.Request.{Request}
 use Rattle.s7_plant.specs.declared.request.Request.TheVariants.{Read}
+use Rattle.s7_plant.specs.declared.request.Request.TheVariants as plain
 use Rattle.s7_plant.specs.Requests.{asked}
 use Rattle.s7_plant.specs.Replies.{Said}
 use Rattle.s7_plant.specs.State.{State}
 use Rattle.s7_wire.specs.Sent.{sent_message}
-use Rattle.s7_client.specs.Question.{Question, negotiates, reads, writes, question_octets}
-use Rattle.s7_client.specs.Answer.{Answer, refuses, tells, notes, answer_of}
+use Rattle.s7_header.specs.Negotiation.{most_pdu}
+use Rattle.s7_header.specs.Octets.{number_at}
+use Rattle.s7_clock.specs.declared.control.Control.{Control}
+use Rattle.s7_clock.specs.Moment.{moment_in}
+use Rattle.s7_client.specs.declared.subject.Subject.{Subject}
+use Rattle.s7_client.specs.declared.subject.Subject.TheVariants.{StatusList, RunState, Clock, ClockSetting, Password, PasswordClearing}
+use Rattle.s7_client.specs.UserData.{group_of, subfunction_of, comes_in_pieces, is_whole}
+use Rattle.s7_client.specs.Question.{Question, negotiates, reads, writes, controls, asks, asks_further, question_octets}
+use Rattle.s7_client.specs.Answer.{Answer, refuses, tells, notes, stands, brings, answer_of}
 use Rattle.s7_client.specs.Flight.{Row, answers_of}
-use Rattle.s7_client.specs.Dialogue.{End, Conduct}
+use Rattle.s7_client.specs.Dialogue.{End, Conduct, list_octets}
 use Rattle.s7_client.specs.Course.{Origin, conduct_of, next_question}
-use Rattle.s7_session.specs.LinkState.{LinkState}
-use Rattle.s7_session.specs.Owed.{entered}
-use Rattle.s7_session.specs.Telegrams.{AnyFull}
+use Rattle.s7_session.specs.LinkState.{LinkState, Sliced}
+use Rattle.s7_session.specs.Judgement.{request_of, slice_room}
+use Rattle.s7_session.specs.Owed.{past, entered}
+use Rattle.s7_session.specs.Telegrams.{AnyFull, clock_failures}
 use Rattle.s7_session.specs.Verdict.{Verdict}
 use Rattle.s7_rig.specs.Awaiting.{AreAsked}
 use Rattle.s7_rig.specs.Heard.{told_of}
@@ -29,18 +39,95 @@ use Rattle.s7_rig.specs.Written.{AreKnown, own_write, own_codes}
 abbrev pub AreSome : List Item → Type 0
 AreSome items = (0 < length items) × (length items ≤ 20)
 
--- a question that reads items, whose answer has room in the PDU, or writes items of known words
+-- the octets that go with user data about something
+abbrev pub CanGoWith : Subject → List ℕ → Type 0
+CanGoWith StatusList octets = length octets ≡ 4
+CanGoWith RunState octets = octets ≡ list_octets 0x0424 0
+CanGoWith Clock octets = octets ≡ []
+CanGoWith ClockSetting octets = (length octets ≡ 10) × IsSome (moment_in octets)
+CanGoWith Password octets = length octets ≡ 8
+CanGoWith PasswordClearing octets = octets ≡ []
+
+-- A question that reads items, whose answer has room in the PDU, or writes items of known words; a control that the
+-- plant is asked for; user data with its octets; or further octets of an answer that comes in pieces.
 abbrev pub IsAskable : ℕ → Question → Type 0
 IsAskable pdu (negotiates n) = ⊥
 IsAskable pdu (reads items) = AreSome items × (answer_size items ≤ pdu)
 IsAskable pdu (writes items octets) = AreSome items × AreKnown items
+IsAskable pdu (controls control) = IsSome (request_of control)
+IsAskable pdu (asks subject octets) = CanGoWith subject octets
+IsAskable pdu (asks_further subject octet so_far) = comes_in_pieces subject ≡ true
+
+-- ---- further octets
+
+-- The link holds the octets behind these of an answer in user data, under this sequence octet: together they are whole.
+pub record HoldsRest (link : LinkState) (subject : Subject) (octet : ℕ) (so_far : List ℕ) : Type 0 where
+  pub held : Sliced
+  pub is : link.sliced ≡ Some held
+  pub group : held.group ≡ group_of subject
+  pub subfunction : held.subfunction ≡ subfunction_of subject
+  pub sequence : held.sequence ≡ octet
+  pub some : 0 < length held.rest
+  pub whole : is_whole subject (so_far ++ held.rest) ≡ true
+  pub most : length (so_far ++ held.rest) ≤ 8448
+
+-- what a question wants of the link: further octets are held
+abbrev pub IsReadyFor : LinkState → Question → Type 0
+IsReadyFor link (asks_further subject octet so_far) = HoldsRest link subject octet so_far
+IsReadyFor link _ = Unit {0}
+
+-- where more octets follow, they are held
+abbrev pub HoldsMore : Bool → LinkState → Subject → ℕ → List ℕ → Type 0
+HoldsMore more link subject octet so_far = more ≡ true → HoldsRest link subject octet so_far
+
+abbrev pub GoesOn : LinkState → Question → Answer → Type 0
+GoesOn link (asks subject octets) (brings octet more piece) = HoldsMore more link subject octet piece
+GoesOn link (asks_further subject asked so_far) (brings octet more piece) =
+    HoldsMore more link subject octet (so_far ++ piece)
+GoesOn link _ _ = Unit {0}
+
+-- ---- what is told
+
+-- what user data about something asks at a moment
+abbrev pub AsksFor : Subject → List ℕ → ℕ → Request → Type 0
+AsksFor StatusList octets moment request = request ≡ plain.Szl (number_at octets 0) (number_at octets 2)
+AsksFor RunState octets moment request = request ≡ plain.Szl (number_at octets 0) (number_at octets 2)
+AsksFor Clock octets moment request = request ≡ plain.ClockRead moment
+AsksFor ClockSetting octets moment request =
+    (value : ℕ) × (moment_in octets ≡ Some value) × (request ≡ plain.ClockSet moment value)
+AsksFor Password octets moment request = ⊥
+AsksFor PasswordClearing octets moment request = ⊥
+
+-- a password is set or given back, which no plant is asked
+abbrev pub IsSecurity : Subject → Type 0
+IsSecurity Password = Unit {0}
+IsSecurity PasswordClearing = Unit {0}
+IsSecurity _ = ⊥
+
+-- what is heard of a reply to a control, and to user data with this PDU and under this sequence octet
+abbrev pub control_heard : Said → Answer
+control_heard reply = if reply.error == 0 then stands (slice_index reply.params 1) else refuses reply.error
+
+abbrev pub user_heard : ℕ → ℕ → Said → Answer
+user_heard pdu octet reply =
+    if reply.error == 0
+    then brings octet (nat_lt (slice_room pdu) (length reply.body)) (take (slice_room pdu) reply.body)
+    else refuses reply.error
+
+abbrev pub security_heard : ℕ → ℕ → Answer
+security_heard octet error = if error == 0 then brings octet false [] else refuses error
+
+-- a verdict is that the history was full, or that the clock failed
+abbrev pub AnyUndone : List Verdict → Type 0
+AnyUndone verdicts = AnyFull verdicts ⊎ (0 < clock_failures verdicts)
 
 -- What a question was answered, and what was entered for it. It is refused where one of the verdicts is that the
--- history was full. Otherwise its request was entered with a right or without: a read tells what the memory has of the
--- state that gave the reply, and a write notes the codes that this memory gives.
+-- history was full or the clock failed. Otherwise a request was entered with a right or without: a read tells what the
+-- memory has of the state that gave the reply, a write notes the codes that this memory gives, and of control and user
+-- data the reply is told. Passwords and further octets enter nothing.
 pub data HasTold (verdicts : List Verdict) (question : Question) (answer : Answer) (new : List (Ask × Said))
     : Type 0 where
-  is_refused : (error : ℕ) → AnyFull verdicts → answer ≡ refuses error → HasTold verdicts question answer new
+  is_refused : (error : ℕ) → AnyUndone verdicts → answer ≡ refuses error → HasTold verdicts question answer new
   is_read : (items : List Item) (right : Bool) (reply : Said) → question ≡ reads items
       → new ≡ (asked right (Read items), reply) ∷ []
       → ((s : State) → reply ≡ plant.answer_of s (asked right (Read items))
@@ -49,16 +136,34 @@ pub data HasTold (verdicts : List Verdict) (question : Question) (answer : Answe
       → new ≡ (asked right (own_write items octets), reply) ∷ []
       → ((s : State) → reply ≡ plant.answer_of s (asked right (own_write items octets))
       → answer ≡ notes (own_codes s.memory right items octets)) → HasTold verdicts question answer new
+  is_controlled : (control : Control) (right : Bool) (request : Request) (reply : Said)
+      → question ≡ controls control → request_of control ≡ Some request → new ≡ (asked right request, reply) ∷ []
+      → answer ≡ control_heard reply → HasTold verdicts question answer new
+  is_brought : (subject : Subject) (octets : List ℕ) (moment : ℕ) (right : Bool) (request : Request) (reply : Said)
+      (pdu octet : ℕ) → question ≡ asks subject octets → AsksFor subject octets moment request
+      → new ≡ (asked right request, reply) ∷ [] → answer ≡ user_heard pdu octet reply
+      → HasTold verdicts question answer new
+  is_secured : (subject : Subject) (octets : List ℕ) (octet error : ℕ) → question ≡ asks subject octets
+      → IsSecurity subject → new ≡ [] → answer ≡ security_heard octet error → HasTold verdicts question answer new
+  is_further : (subject : Subject) (octet : ℕ) (so_far piece : List ℕ) (more : Bool)
+      → question ≡ asks_further subject octet so_far → new ≡ [] → answer ≡ brings octet more piece
+      → HasTold verdicts question answer new
 
--- The message is an answer to the question, and this was entered for it.
-pub record IsHeard (verdicts : List Verdict) (question : Question) (number : ℕ) (message : List ℕ)
+-- The message is an answer to the question, this was entered for it, and the link goes on with the octets behind it.
+pub record IsHeard (verdicts : List Verdict) (link : LinkState) (question : Question) (number : ℕ) (message : List ℕ)
     (new : List (Ask × Said)) : Type 0 where
   pub answer : Answer
   pub is : answer_of question number message ≡ Some answer
   pub told : HasTold verdicts question answer new
+  pub goes_on : GoesOn link question answer
 
--- A question is answered by one message. Where the replies are those of states, it is short, and the client hears it
--- as an answer.
+-- the state of a link that used a question
+abbrev pub link_past : LinkState → List ℕ → ℕ → Question → List Verdict → LinkState
+link_past first b number question verdicts =
+    (past first (b ++ sent_message 1024 (question_octets number question)) verdicts).link
+
+-- A question is answered by one message. Where the replies are those of states, it is no longer than the greatest PDU,
+-- and the client hears it as an answer.
 pub record Replies (first : LinkState) (b : List ℕ) (js vs : List Verdict) (pdu : ℕ) (question : Question) (number : ℕ)
     : Type 0 where
   pub met : List Verdict
@@ -68,8 +173,8 @@ pub record Replies (first : LinkState) (b : List ℕ) (js vs : List Verdict) (pd
   pub new : List (Ask × Said)
   pub serves : Serves first b js (question_octets number question) met (Some pdu) (sent_message 1024 message) new
   pub least : AreReplies new → 10 ≤ length message
-  pub most : AreReplies new → length message ≤ 1021
-  pub heard : AreReplies new → IsHeard (js ++ vs) question number message new
+  pub most : AreReplies new → length message ≤ most_pdu
+  pub heard : AreReplies new → IsHeard (js ++ vs) (link_past first b number question met) question number message new
 
 -- a question, the sequence of its telegram, its answer, and what was entered for it
 pub record Exchange : Type 0 where

@@ -19,3 +19,4 @@ pub mod Exchanges
 pub mod Questions
 pub mod Formed
 pub mod Complete
+pub mod Passwords

@@ -1,6 +1,7 @@
 -- Every question of a job is answered.
 use Rattle.std.specs.Prelude.{◌≡◌, ℕ, ◌<◌, ◌≤◌, List, [], ◌++◌, Option, None, Some}
 use Rattle.s7_header.specs.declared.negotiation.Negotiation.{Negotiation}
+use Rattle.s7_header.specs.Negotiation.{most_pdu}
 use Rattle.s7_wire.specs.Sent.{sent_message}
 use Rattle.s7_client.specs.declared.grant.Grant.{Grant}
 use Rattle.s7_client.specs.Question.{Question, negotiates, question_octets}
@@ -12,7 +13,7 @@ use Rattle.s7_session.specs.LinkState.{LinkState}
 use Rattle.s7_session.specs.Owed.{past}
 use Rattle.s7_session.specs.Verdict.{Verdict}
 use Rattle.s7_rig.specs.Settled.{Settled, Serves}
-use Rattle.s7_rig.specs.Exchanges.{Replies}
+use Rattle.s7_rig.specs.Exchanges.{IsReadyFor, Replies}
 
 -- A negotiation is answered by one message, which the client hears as a grant.
 pub record IsNegotiated (first : LinkState) (b : List ℕ) (js : List Verdict) (asked : Negotiation) (number : ℕ)
@@ -25,11 +26,13 @@ pub record IsNegotiated (first : LinkState) (b : List ℕ) (js : List Verdict) (
 
 -- What a client asks is answered by a session between two messages, with an answer to it.
 pub record QuestionsAreHeard : Type 0 where
-  -- a question of a job on a connected client, where the session's link lives after it, whatever state gives the reply
+  -- a question of a job on a connected client, where the session's link holds what it wants and lives after it, whatever
+  -- state gives the reply
   pub asked : (origin : Origin) (granted : Grant) (answers : List (Option Answer)) (question : Question) (number : ℕ)
       (first : LinkState) (b : List ℕ) (js vs : List Verdict)
-      → origin.granted ≡ Some granted → 64 ≤ granted.pdu → granted.pdu ≤ 960 → number < 65536
+      → origin.granted ≡ Some granted → 64 ≤ granted.pdu → granted.pdu ≤ most_pdu → number < 65536
       → (conduct_of origin).question_at answers ≡ Some question → Settled first b js (Some granted.pdu)
+      → IsReadyFor (past first b js).link question
       → (past first (b ++ sent_message 1024 (question_octets number question)) (js ++ vs)).standing ≡ lives
       → Replies first b js vs granted.pdu question number
   -- the negotiation of a connect, on a link on which nothing was granted

@@ -7,11 +7,7 @@ use Rattle.s7_client.specs.declared.job.Job.TheVariants as job
 -- a job that doesn't connect
 abbrev pub IsNoConnect : Job → Type 0
 IsNoConnect job.Connect = ⊥
-IsNoConnect (job.ReadArea item) = Unit {0}
-IsNoConnect (job.WriteArea item octets) = Unit {0}
-IsNoConnect (job.ReadMany items) = Unit {0}
-IsNoConnect (job.WriteMany items octets) = Unit {0}
-IsNoConnect job.Disconnect = Unit {0}
+IsNoConnect _ = Unit {0}
 
 abbrev pub NoneConnects : List Job → Type 0
 NoneConnects jobs = AllByRecursion IsNoConnect jobs

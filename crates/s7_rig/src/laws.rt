@@ -1,5 +1,6 @@
 // Laws of rigs.
 ghost use Rattle.s7_rig.specs.Formed.{RigsAreFormed};
+ghost use Rattle.s7_rig.specs.Passwords.{PasswordsAreRead};
 ghost use Rattle.s7_rig.specs.Questions.{QuestionsAreHeard};
 
 use s7_client::ends_have_form;
@@ -12,8 +13,14 @@ pub fn rigs_are_formed()
 }
 
 /// A law: a session that stands between two messages answers each question that a job of its client can ask, by one
-/// message, and the client hears it as an answer to that question. Of a read or write this holds whatever state gives
-/// the reply, and where the history is full.
+/// message, and the client hears it as an answer to that question. This holds whatever state gives the reply, and where
+/// the history is full or the clock fails; and where an answer in user data has more octets than a telegram takes, the
+/// link holds them, and further octets are answered from there.
 pub fn questions_are_heard()
     ensures { QuestionsAreHeard }
+{}
+
+/// A law: a session reads the password that a client sends.
+pub fn passwords_are_read()
+    ensures { PasswordsAreRead }
 {}

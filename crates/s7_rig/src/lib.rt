@@ -13,7 +13,7 @@ mod station;
 mod turns;
 
 pub use end::{RigClient, RigEnd};
-pub use laws::{questions_are_heard, rigs_are_formed};
+pub use laws::{passwords_are_read, questions_are_heard, rigs_are_formed};
 pub use places::Places;
 pub use runs::{Schedule, run_rig};
 

@@ -1,5 +1,6 @@
 // A rig: clients and the sessions that serve them, on one book.
 ghost use Rattle.std.specs.Prelude.{◌≡◌, ◌<◌, ◌≤◌, ◌*◌, Bool, All, length, map, [], IfOk, OnOk};
+ghost use Rattle.s7_header.specs.Negotiation.{most_pdu};
 ghost use Rattle.s7_plant.specs.Journals.{entries_of};
 ghost use Rattle.s7_plant.specs.State.{begins_with, state_of as plant_state};
 ghost use Rattle.s7_rig.specs.Shown.{state_of, end_told, state_told};
@@ -40,7 +41,7 @@ impl Rig {
         requires some { 1 ≤ limit }
         requires few { limit ≤ 262144 }
         requires least_pdu { 64 ≤ config.pdu }
-        requires most_pdu { config.pdu ≤ 960 }
+        requires most_pdu { config.pdu ≤ most_pdu }
         requires least_jobs { 1 ≤ config.jobs }
         requires most_jobs { config.jobs ≤ 8 }
         requires polls { 1 ≤ config.polls }

@@ -1,6 +1,7 @@
 // A whole run of a rig.
 ghost use Rattle.std.specs.Prelude.{◌≤◌, ◌<◌, ◌*◌, All, length, map, IfOk};
 ghost use Rattle.std.specs.List.{AllByRecursion};
+ghost use Rattle.s7_header.specs.Negotiation.{most_pdu};
 ghost use Rattle.s7_rig.specs.Scripts.{ConnectsFirst};
 ghost use Rattle.s7_rig.specs.Shown.{end_told};
 ghost use Rattle.s7_rig.specs.Rigs.{Turning, RigRan};
@@ -26,7 +27,7 @@ pub struct Schedule<'a> {
 
 /// Runs a rig over these areas, with a journal of this limit, from 1 to 262,144, and a client for
 /// each list of jobs, of 1 to 1,024, whose links are numbered from 1 in order. The first job of each
-/// list is a connect, and no other is. The clients ask for a PDU from 64 to 960 and for 1 to 8 jobs, and
+/// list is a connect, and no other is. The clients ask for a PDU from 64 to 1,920 and for 1 to 8 jobs, and
 /// have at least 1 poll for a job. A client's turn starts its next job where none is outstanding, and
 /// polls once; a session's turn is one turn on the book.
 ///
@@ -44,7 +45,7 @@ pub fn run_rig(
     requires some { 1 ≤ limit }
     requires few { limit ≤ 262144 }
     requires least_pdu { 64 ≤ config.pdu }
-    requires most_pdu { config.pdu ≤ 960 }
+    requires most_pdu { config.pdu ≤ most_pdu }
     requires least_jobs { 1 ≤ config.jobs }
     requires most_jobs { config.jobs ≤ 8 }
     requires polls { 1 ≤ config.polls }

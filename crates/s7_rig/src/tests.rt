@@ -1,5 +1,7 @@
-ghost use Rattle.std.specs.Prelude.{◌≡◌, ◌<◌, All, length, IfOk, ◌∷◌, []};
-ghost use Rattle.s7_client.specs.declared.job.Job.TheVariants.{Connect, Disconnect};
+ghost use Rattle.std.specs.Prelude.{◌≡◌, ◌<◌, ◌≤◌, All, length, IfOk, ◌∷◌, []};
+ghost use Rattle.s7_header.specs.Negotiation.{most_pdu};
+ghost use Rattle.s7_client.specs.declared.job.Job.TheVariants.{Connect, Szl, ClockRead, Stop, Status, Disconnect};
+ghost use Rattle.s7_rig.specs.Scripts.{ConnectsFirst};
 
 use crate::{RigEnd, Schedule, run_rig};
 use s7_area::{AreaKey, Areas};
@@ -8,6 +10,26 @@ use s7_item::Item;
 use s7_outer::{Memory, Octets};
 use std::alloc::Global;
 use std::test::Fail;
+
+// The image of list 0424 where the controller runs, and where it is stopped.
+const RUNS: &[u8] = b"\
+    \x04\x24\0\0\0\x14\0\x01\x51\x44\xFF\x08\0\0\0\0\0\0\0\0\0\0\0\0\0\0\0\0";
+
+const STOPPED: &[u8] = b"\
+    \x04\x24\0\0\0\x14\0\x01\x51\x44\xFF\x04\0\0\0\0\0\0\0\0\0\0\0\0\0\0\0\0";
+
+// The image of list 001C: six components, each with an index and a text filled to 32 octets.
+const COMPONENTS: &[u8] = b"\
+    \0\x1C\0\0\0\x22\0\x06\
+    \0\x01S7SERVER\0\0\0\0\0\0\0\0\0\0\0\0\0\0\0\0\0\0\0\0\0\0\0\0\
+    \0\x02AREA BOOK\0\0\0\0\0\0\0\0\0\0\0\0\0\0\0\0\0\0\0\0\0\0\0\
+    \0\x03\0\0\0\0\0\0\0\0\0\0\0\0\0\0\0\0\0\0\0\0\0\0\0\0\0\0\0\0\0\0\0\0\
+    \0\x04OPEN\0\0\0\0\0\0\0\0\0\0\0\0\0\0\0\0\0\0\0\0\0\0\0\0\0\0\0\0\
+    \0\x050000000001\0\0\0\0\0\0\0\0\0\0\0\0\0\0\0\0\0\0\0\0\0\0\
+    \0\x07S7SERVER PLC\0\0\0\0\0\0\0\0\0\0\0\0\0\0\0\0\0\0\0\0";
+
+// The clock octets of the first moment of 2024, a Monday.
+const NEW_YEAR: &[u8] = b"\x00\x19\x24\x01\x01\x00\x00\x00\x00\x02";
 
 // Data block 1 with so many octets 00.
 fn zeros(alloc: Global, count: usize) -> Result<Areas, Fail> {
@@ -116,5 +138,101 @@ fn rounds_finish(rt: HostRuntime) -> Result<(), Fail> {
     assert!(rt; end.book.journal.len() == 4);
     assert!(rt; end.clients.len() == 2);
     assert!(rt; end.clients.iter().all(|client| client.results.len() == 3));
+    Ok(())
+}
+
+// A connect, jobs that ask of the controller and its clock, and a disconnect.
+fn around_status(alloc: Global) -> Result<Vec<Job>, Fail>
+    ensures { IfOk result (λ jobs. jobs.items
+        ≡ Connect ∷ Status ∷ Stop ∷ Status ∷ Szl 0x001C 0 ∷ ClockRead ∷ Disconnect ∷ []) }
+{
+    let mut jobs = Vec::with_capacity(alloc, 7)?;
+    jobs.push_reserved(Job::Connect);
+    jobs.push_reserved(Job::Status);
+    jobs.push_reserved(Job::Stop);
+    jobs.push_reserved(Job::Status);
+    jobs.push_reserved(Job::Szl {
+        id: 0x001C,
+        index: 0,
+    });
+    jobs.push_reserved(Job::ClockRead);
+    jobs.push_reserved(Job::Disconnect);
+    Ok(jobs)
+}
+
+// A connect, a write of AA to bytes of data block 1, a read of more of them, and a disconnect.
+fn around_long(alloc: Global, written: u16, read: u16) -> Result<Vec<Job>, Fail>
+    ensures { IfOk result (λ jobs. ConnectsFirst jobs.items) }
+{
+    let mut jobs = Vec::with_capacity(alloc, 4)?;
+    jobs.push_reserved(Job::Connect);
+    jobs.push_reserved(Job::WriteArea {
+        item: bytes(written),
+        octets: Octets::of_vec(vec![in alloc; 0xAA; usize::from(written)]?),
+    });
+    jobs.push_reserved(Job::ReadArea { item: bytes(read) });
+    jobs.push_reserved(Job::Disconnect);
+    Ok(jobs)
+}
+
+// A client alone with these jobs and this PDU, over so many octets of data block 1.
+fn a_client_alone(alloc: Global, jobs: Vec<Job>, pdu: u16, count: usize) -> Result<RigEnd, Fail>
+    requires connects { ConnectsFirst jobs.items }
+    requires least { 64 ≤ pdu }
+    requires most { pdu ≤ most_pdu }
+{
+    let mut scripts = Vec::with_capacity(alloc, 1)?;
+    scripts.push_reserved(jobs);
+    let config = Config {
+        pdu,
+        ..Config::new(1, 0, 2)
+    };
+    let schedule = Schedule {
+        turns: &[],
+        seed: 0,
+        steps: 0,
+    };
+    match run_rig(alloc, zeros(alloc, count)?, 16, scripts, config, schedule) {
+        Ok(end) => Ok(end),
+        Err(_) => Err(Fail::from("no rig")),
+    }
+}
+
+// The first client's job at this place came off, and brought these octets.
+fn brings(end: &RigEnd, at: usize, octets: &[u8]) -> bool {
+    let Some(client) = end.clients.first() else {
+        return false;
+    };
+    let Some(told) = client.results.get(at) else {
+        return false;
+    };
+    told.code == 0 && told.octets.as_slice() == octets
+}
+
+// Lists, a stop and the clock come off, a list of 212 octets in three slices, for which one entry is made: a PDU of 128
+// octets has room for 102 octets of user data.
+#[test]
+fn user_data_comes_whole(rt: HostRuntime) -> Result<(), Fail> {
+    let alloc = rt.alloc();
+    let end = a_client_alone(alloc, around_status(alloc)?, 128, 4)?;
+    let expected: [&[u8]; 7] = [b"", RUNS, b"", STOPPED, COMPONENTS, NEW_YEAR, b""];
+    for (at, octets) in expected.iter().enumerate() {
+        assert!(rt; brings(&end, at, octets), "at {at}");
+    }
+    assert!(rt; end.book.journal.len() == 5);
+    Ok(())
+}
+
+// With the greatest PDU a telegram and an answer of two fragments come whole: a write of 1,885 bytes and a read of 1,902
+// are one part each.
+#[test]
+fn two_fragments_come_whole(rt: HostRuntime) -> Result<(), Fail> {
+    let alloc = rt.alloc();
+    let end = a_client_alone(alloc, around_long(alloc, 1_885, 1_902)?, 1_920, 1_902)?;
+    let mut expected = vec![in alloc; 0xAA; 1_885]?;
+    expected.extend_from_slice(&[0; 17])?;
+    assert!(rt; brings(&end, 1, b""));
+    assert!(rt; brings(&end, 2, &expected));
+    assert!(rt; end.book.journal.len() == 2);
     Ok(())
 }

@@ -1,6 +1,7 @@
 // The turns of a client and of the session that serves it.
 ghost use Rattle.std.specs.Prelude.{◌≡◌, ◌≢◌, ◌<◌, ◌≤◌, ◌⊎◌, ◌-◌, ◌++◌, ◌∷◌, [], length, vec_capacity, None, Some};
 ghost use Rattle.std.specs.Prelude.{false, option_map, unwrap_or, IfOk, OnOk, IsSome};
+ghost use Rattle.s7_header.specs.Negotiation.{most_pdu};
 ghost use Rattle.s7_client.specs.declared.config.Config.{Config};
 ghost use Rattle.s7_session.specs.Stands.{closed_by};
 ghost use Rattle.s7_rig.specs.Numbers.{count_from};
@@ -37,7 +38,7 @@ impl Station {
         guard: Option<Guard>,
     ) -> Result<Station, Memory>
         requires least_pdu { 64 ≤ config.pdu }
-        requires most_pdu { config.pdu ≤ 960 }
+        requires most_pdu { config.pdu ≤ most_pdu }
         requires least_jobs { 1 ≤ config.jobs }
         requires most_jobs { config.jobs ≤ 8 }
         requires polls { 1 ≤ config.polls }

@@ -1,6 +1,9 @@
 -- Laws of results that can be printed.
 use Rattle.std.proofs.Common.{◌≡◌, ℕ, ◌≤◌, List, [], length, take, sym, ap, ◌∙◌, subst, arith}
+use Rattle.std.specs.Prelude.{IsSome}
 use Rattle.std.proofs.lemmas.List.{length-take-le}
+use Rattle.s7_clock.specs.Moment.{moment_in}
+use Rattle.s7_szl.specs.Readers.{mode_of}
 use Rattle.s7_client.specs.declared.job.Job.{Job}
 use Rattle.s7_client.specs.declared.job.Job.TheVariants as job
 use Rattle.s7_client.specs.declared.job.JobResult.{JobResult}
@@ -29,6 +32,19 @@ by_job told (job.ReadMany items) octets cs same few is form =
 by_job told (job.WriteMany items written) octets cs same few is form =
     let count = count_is told cs few is in
     (omega (arith, count, form.0), count ∙ form.1)
+by_job told (job.Szl id index) octets cs same few is form = no_codes told cs few is form.1
+by_job told job.ClockRead octets cs same few is form =
+    (no_codes told cs few is form.1, subst (λ l. IsSome (moment_in l)) (sym same) form.0)
+by_job told (job.ClockSet moment) octets cs same few is form = no_codes told cs few is form.1
+by_job told job.Start octets cs same few is form = no_codes told cs few is form.1
+by_job told job.ColdStart octets cs same few is form = no_codes told cs few is form.1
+by_job told job.Stop octets cs same few is form = no_codes told cs few is form.1
+by_job told job.Compress octets cs same few is form = no_codes told cs few is form.1
+by_job told job.CopyRam octets cs same few is form = no_codes told cs few is form.1
+by_job told job.Status octets cs same few is form =
+    (no_codes told cs few is form.1, subst (λ l. IsSome (mode_of l)) (sym same) form.0)
+by_job told (job.PasswordSet text) octets cs same few is form = no_codes told cs few is form.1
+by_job told job.PasswordClear octets cs same few is form = no_codes told cs few is form.1
 by_job told job.Disconnect octets cs same few is form = no_codes told cs few is form.1
 
 pub formed_prints : (asked : Job) (end : End) (message : List ℕ) (told : JobResult) → IsResult told asked end message → HasForm asked end → IsPrintable told

@@ -14,3 +14,5 @@ pub mod PartLemmas
 pub mod PrintLemmas
 pub mod FormLemmas
 pub mod MoveLemmas
+pub mod MomentLemmas
+pub mod MomentPrintLemmas

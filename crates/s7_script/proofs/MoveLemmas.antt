@@ -1,15 +1,17 @@
--- Each line of a script reads or writes.
+-- No line of a script connects or disconnects.
 use Rattle.std.proofs.Common.{◌≡◌, ℕ, Bool, true, false, cond, List, [], ◌∷◌, ◌++◌, Option, None, Some, Result, Ok, Err, IfOk, subst}
-use Rattle.std.specs.Prelude.{codes}
-use Rattle.std.specs.List.{AllByRecursion}
+use Rattle.std.specs.Prelude.{IfSome, codes}
+use Rattle.std.specs.List.{AllByRecursion, list_all}
 use Rattle.std.specs.Str.{bytes_eq}
 use Rattle.s7_item.specs.declared.item.Item.{Item}
 use Rattle.s7_client.specs.declared.job.Job.{Job}
 use Rattle.s7_client.specs.declared.job.Job.TheVariants as job
 use Rattle.s7_script.specs.Lines.{Text, lines}
 use Rattle.s7_script.specs.Reading.{is_passed, next_line}
-use Rattle.s7_script.specs.Script.{Written, parts, read_item, read_items, written_item, written_items, read_job, write_job, read_many_job, write_many_job, job_named, job_of, at_line, line_jobs, script_lines, script, field_of, rest_of, ◌>>=◌}
-use Rattle.s7_script.specs.Laws.{MovesData}
+use Rattle.hex.specs.Hex.{decode_of}
+use Rattle.s7_script.specs.Moments.{moment_named}
+use Rattle.s7_script.specs.Script.{Written, parts, read_item, read_items, written_item, written_items, read_job, write_job, read_many_job, write_many_job, two_octets_in, with_index, list_job, moment_job, set_clock_job, is_printable, password_job, plain_job, or_unknown, ended, job_named, job_of, at_line, line_jobs, script_lines, script, field_of, rest_of, ◌>>=◌}
+use Rattle.s7_script.specs.Laws.{KeepsLink}
 use Rattle.s7_script.specs.declared.script_list.ScriptLine.{ScriptLine}
 use Rattle.s7_script.specs.declared.script_fault.ScriptFault.{ScriptFault}
 use Rattle.s7_script.specs.declared.script_fault.ScriptKind.{ScriptKind}
@@ -18,63 +20,122 @@ use Rattle.s7_script.specs.declared.script_fault.ScriptKind.TheVariants as kind
 -- ---- the job of a line
 
 -- a job that was read, of whatever was read before
-made : {X : Type 0} (make : X → Job) (r : Result X ScriptKind) → ((x : X) → MovesData (make x)) → IfOk (r >>= (λ x. Ok (make x))) MovesData
+made : {X : Type 0} (make : X → Job) (r : Result X ScriptKind) → ((x : X) → KeepsLink (make x)) → IfOk (r >>= (λ x. Ok (make x))) KeepsLink
 made make (Ok x) each = each x
 made make (Err e) each = tt
 
-read_moves : (rest : Option Text) → IfOk (read_job rest) MovesData
-read_moves None = tt
-read_moves (Some text) = made job.ReadArea (read_item text) (λ item. tt)
+read_keeps : (rest : Option Text) → IfOk (read_job rest) KeepsLink
+read_keeps None = tt
+read_keeps (Some text) = made job.ReadArea (read_item text) (λ item. tt)
 
-write_moves : (rest : Option Text) → IfOk (write_job rest) MovesData
-write_moves None = tt
-write_moves (Some text) = made (λ (w : Written). job.WriteArea w.0 w.1) (written_item text) (λ w. tt)
+write_keeps : (rest : Option Text) → IfOk (write_job rest) KeepsLink
+write_keeps None = tt
+write_keeps (Some text) = made (λ (w : Written). job.WriteArea w.0 w.1) (written_item text) (λ w. tt)
 
-read_many_moves : (rest : Option Text) → IfOk (read_many_job rest) MovesData
-read_many_moves None = tt
-read_many_moves (Some text) = made job.ReadMany (read_items (parts text)) (λ items. tt)
+read_many_keeps : (rest : Option Text) → IfOk (read_many_job rest) KeepsLink
+read_many_keeps None = tt
+read_many_keeps (Some text) = made job.ReadMany (read_items (parts text)) (λ items. tt)
 
-write_many_moves : (rest : Option Text) → IfOk (write_many_job rest) MovesData
-write_many_moves None = tt
-write_many_moves (Some text) = made (λ (w : List Item × List ℕ). job.WriteMany w.0 w.1) (written_items (parts text)) (λ w. tt)
+write_many_keeps : (rest : Option Text) → IfOk (write_many_job rest) KeepsLink
+write_many_keeps None = tt
+write_many_keeps (Some text) = made (λ (w : List Item × List ℕ). job.WriteMany w.0 w.1) (written_items (parts text)) (λ w. tt)
 
 either : {X E : Type 0} (P : X → Type 0) (t : Bool) (r s : Result X E) → IfOk r P → IfOk s P → IfOk (cond t r s) P
 either P true r s p q = p
 either P false r s p q = q
 
-named_moves : (name : Text) (rest : Option Text) → IfOk (job_named name rest) MovesData
-named_moves name rest =
-    either MovesData (bytes_eq name (codes "read")) (read_job rest) _ (read_moves rest)
-    (either MovesData (bytes_eq name (codes "write")) (write_job rest) _ (write_moves rest)
-    (either MovesData (bytes_eq name (codes "readmany")) (read_many_job rest) _ (read_many_moves rest)
-    (either MovesData (bytes_eq name (codes "writemany")) (write_many_job rest) (Err kind.Word) (write_many_moves rest) tt)))
+-- a job behind which there are no more fields
+ended_keeps : (found : Job) (rest : Option Text) → KeepsLink found → IfOk (ended found rest) KeepsLink
+ended_keeps found None keeps = keeps
+ended_keeps found (Some rest) keeps = tt
+
+-- a step before the job
+after : {X : Type 0} (r : Result X ScriptKind) (f : X → Result Job ScriptKind) → ((x : X) → IfOk (f x) KeepsLink) → IfOk (r >>= f) KeepsLink
+after (Ok x) f each = each x
+after (Err e) f each = tt
+
+index_keeps : (id : ℕ) (rest : Option Text) → IfOk (with_index id rest) KeepsLink
+index_keeps id None = tt
+index_keeps id (Some text) =
+    after (two_octets_in (decode_of (field_of text))) (λ index. ended (job.Szl id index) (rest_of text))
+    (λ index. ended_keeps (job.Szl id index) (rest_of text) tt)
+
+list_keeps : (rest : Option Text) → IfOk (list_job rest) KeepsLink
+list_keeps None = tt
+list_keeps (Some text) =
+    after (two_octets_in (decode_of (field_of text))) (λ id. with_index id (rest_of text)) (λ id. index_keeps id (rest_of text))
+
+moment_keeps : (o : Option ℕ) (rest : Option Text) → IfOk (moment_job o rest) KeepsLink
+moment_keeps None rest = tt
+moment_keeps (Some moment) rest = ended_keeps (job.ClockSet moment) rest tt
+
+set_clock_keeps : (rest : Option Text) → IfOk (set_clock_job rest) KeepsLink
+set_clock_keeps None = tt
+set_clock_keeps (Some text) = moment_keeps (moment_named (field_of text)) (rest_of text)
+
+password_keeps : (rest : Option Text) → IfOk (password_job rest) KeepsLink
+password_keeps None = tt
+password_keeps (Some text) =
+    either KeepsLink (list_all is_printable (field_of text)) (ended (job.PasswordSet (field_of text)) (rest_of text)) (Err kind.Word)
+    (ended_keeps (job.PasswordSet (field_of text)) (rest_of text) tt) tt
+
+-- of the jobs without fields
+known : (t : Bool) (found : Job) (o : Option Job) → KeepsLink found → IfSome o KeepsLink → IfSome (cond t (Some found) o) KeepsLink
+known true found o p q = p
+known false found o p q = q
+
+plain_keeps : (name : Text) → IfSome (plain_job name) KeepsLink
+plain_keeps name =
+    known (bytes_eq name (codes "clock")) job.ClockRead _ tt
+    (known (bytes_eq name (codes "start")) job.Start _ tt
+    (known (bytes_eq name (codes "coldstart")) job.ColdStart _ tt
+    (known (bytes_eq name (codes "stop")) job.Stop _ tt
+    (known (bytes_eq name (codes "compress")) job.Compress _ tt
+    (known (bytes_eq name (codes "copy")) job.CopyRam _ tt
+    (known (bytes_eq name (codes "status")) job.Status _ tt
+    (known (bytes_eq name (codes "clearpassword")) job.PasswordClear None tt tt)))))))
+
+unknown_keeps : (o : Option Job) (rest : Option Text) → IfSome o KeepsLink → IfOk (or_unknown o rest) KeepsLink
+unknown_keeps None rest keeps = tt
+unknown_keeps (Some found) rest keeps = ended_keeps found rest keeps
+
+named_keeps : (name : Text) (rest : Option Text) → IfOk (job_named name rest) KeepsLink
+named_keeps name rest =
+    either KeepsLink (bytes_eq name (codes "read")) (read_job rest) _ (read_keeps rest)
+    (either KeepsLink (bytes_eq name (codes "write")) (write_job rest) _ (write_keeps rest)
+    (either KeepsLink (bytes_eq name (codes "readmany")) (read_many_job rest) _ (read_many_keeps rest)
+    (either KeepsLink (bytes_eq name (codes "writemany")) (write_many_job rest) _ (write_many_keeps rest)
+    (either KeepsLink (bytes_eq name (codes "szl")) (list_job rest) _ (list_keeps rest)
+    (either KeepsLink (bytes_eq name (codes "setclock")) (set_clock_job rest) _ (set_clock_keeps rest)
+    (either KeepsLink (bytes_eq name (codes "password")) (password_job rest) (or_unknown (plain_job name) rest) (password_keeps rest)
+    (unknown_keeps (plain_job name) rest (plain_keeps name))))))))
 
 -- ---- the lines
 
-abbrev AllMove : List ScriptLine → Type 0
-AllMove lines = AllByRecursion (λ (l : ScriptLine). MovesData l.job) lines
+abbrev AllKeep : List ScriptLine → Type 0
+AllKeep lines = AllByRecursion (λ (l : ScriptLine). KeepsLink l.job) lines
 
-at_line_moves : (line : ℕ) (r : Result Job ScriptKind) → IfOk r MovesData → IfOk (at_line line r) AllMove
-at_line_moves line (Ok job) moves = (moves, tt)
-at_line_moves line (Err e) moves = tt
+at_line_keeps : (line : ℕ) (r : Result Job ScriptKind) → IfOk r KeepsLink → IfOk (at_line line r) AllKeep
+at_line_keeps line (Ok job) keeps = (keeps, tt)
+at_line_keeps line (Err e) keeps = tt
 
-line_moves : (line : ℕ) (text : Text) → IfOk (line_jobs line text) AllMove
-line_moves line text = either AllMove (is_passed text) (Ok []) (at_line line (job_of text)) tt (at_line_moves line (job_of text) (named_moves (field_of text) (rest_of text)))
+line_keeps : (line : ℕ) (text : Text) → IfOk (line_jobs line text) AllKeep
+line_keeps line text = either AllKeep (is_passed text) (Ok []) (at_line line (job_of text)) tt (at_line_keeps line (job_of text) (named_keeps (field_of text) (rest_of text)))
 
-both_move : (xs ys : List ScriptLine) → AllMove xs → AllMove ys → AllMove (xs ++ ys)
-both_move [] ys p q = q
-both_move (x ∷ xs) ys p q = (p.0, both_move xs ys p.1 q)
+both_keep : (xs ys : List ScriptLine) → AllKeep xs → AllKeep ys → AllKeep (xs ++ ys)
+both_keep [] ys p q = q
+both_keep (x ∷ xs) ys p q = (p.0, both_keep xs ys p.1 q)
 
-joined_move : (r s : Result (List ScriptLine) ScriptFault) → IfOk r AllMove → IfOk s AllMove → IfOk (r >>= (λ jobs. s >>= (λ more. Ok (jobs ++ more)))) AllMove
-joined_move (Ok xs) (Ok ys) p q = both_move xs ys p q
-joined_move (Ok xs) (Err e) p q = tt
-joined_move (Err e) s p q = tt
+joined_keep : (r s : Result (List ScriptLine) ScriptFault) → IfOk r AllKeep → IfOk s AllKeep → IfOk (r >>= (λ jobs. s >>= (λ more. Ok (jobs ++ more)))) AllKeep
+joined_keep (Ok xs) (Ok ys) p q = both_keep xs ys p q
+joined_keep (Ok xs) (Err e) p q = tt
+joined_keep (Err e) s p q = tt
 
-lines_move : (line : ℕ) (texts : List Text) → IfOk (script_lines line texts) AllMove
+lines_keep : (line : ℕ) (texts : List Text) → IfOk (script_lines line texts) AllKeep
 unfolding script_lines
-lines_move line [] = tt
-lines_move line (text ∷ rest) =
-    joined_move (line_jobs line text) (script_lines (next_line line) rest) (line_moves line text) (lines_move (next_line line) rest)
+lines_keep line [] = tt
+lines_keep line (text ∷ rest) =
+    joined_keep (line_jobs line text) (script_lines (next_line line) rest) (line_keeps line text) (lines_keep (next_line line) rest)
 
-pub scripts_move : (text : Text) (lines : List ScriptLine) → script text ≡ Ok lines → AllMove lines
-scripts_move text found is = subst (λ r. IfOk r AllMove) is (lines_move 1 (lines text))
+pub scripts_keep : (text : Text) (lines : List ScriptLine) → script text ≡ Ok lines → AllKeep lines
+scripts_keep text found is = subst (λ r. IfOk r AllKeep) is (lines_keep 1 (lines text))

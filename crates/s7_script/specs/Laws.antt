@@ -24,15 +24,13 @@ pub record EndsPrint : Type 0 where
   pub prints : (asked : Job) (end : End) (message : List ℕ) (told : JobResult) → IsResult told asked end message
       → HasForm asked end → IsPrintable told
 
--- a job that reads or writes, and so neither a connect nor a disconnect
-abbrev pub MovesData : Job → Type 0
-MovesData job.Connect = ⊥
-MovesData (job.ReadArea item) = Unit {0}
-MovesData (job.WriteArea item octets) = Unit {0}
-MovesData (job.ReadMany items) = Unit {0}
-MovesData (job.WriteMany items octets) = Unit {0}
-MovesData job.Disconnect = ⊥
+-- a job that neither connects nor disconnects
+abbrev pub KeepsLink : Job → Type 0
+KeepsLink job.Connect = ⊥
+KeepsLink job.Disconnect = ⊥
+KeepsLink _ = Unit {0}
 
--- Each line of a script reads or writes.
-pub record ScriptsMoveData : Type 0 where
-  pub moves : (text : Text) (lines : List ScriptLine) → script text ≡ Ok lines → AllByRecursion (λ (l : ScriptLine). MovesData l.job) lines
+-- No line of a script connects or disconnects.
+pub record ScriptsKeepLinks : Type 0 where
+  pub keeps : (text : Text) (lines : List ScriptLine) → script text ≡ Ok lines
+      → AllByRecursion (λ (l : ScriptLine). KeepsLink l.job) lines

@@ -5,6 +5,7 @@ pub mod Spelling
 pub mod Shown
 pub mod Naming
 pub mod Loading
+pub mod Moments
 pub mod Script
 pub mod ScriptShown
 pub mod Printing

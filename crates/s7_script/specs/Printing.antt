@@ -1,14 +1,18 @@
 -- The line that is printed for what came of a job.
-use Rattle.std.specs.Prelude.{◌≡◌, ◌≢◌, ℕ, ◌==◌, ◌≤◌, ◌/◌, ◌%◌, List, [], ◌∷◌, ◌++◌, length, map, take, drop, codes, if◌then◌else◌}
+use Rattle.std.specs.Prelude.{◌≡◌, ◌≢◌, ℕ, Bool, ◌==◌, ◌≤◌, ◌/◌, ◌%◌, Option, None, Some, IsSome, List, [], ◌∷◌, ◌++◌, length, map, take, drop, codes, if◌then◌else◌}
 use Rattle.std.specs.List.{flat_map}
 use Rattle.std.specs.Fmt.{decimal}
 use Rattle.hex.specs.Hex.{encode_lower, encode_upper}
 use Rattle.s7_item.specs.declared.item.Item.{Item}
+use Rattle.s7_szl.specs.Readers.{mode_of}
+use Rattle.s7_clock.specs.Clock.{parts_in}
+use Rattle.s7_clock.specs.Moment.{moment_in}
 use Rattle.s7_client.specs.declared.job.Job.{Job}
 use Rattle.s7_client.specs.declared.job.Job.TheVariants as job
 use Rattle.s7_client.specs.declared.job.JobResult.{JobResult}
 use Rattle.s7_client.specs.Form.{count_read, octets_read}
 use Rattle.s7_script.specs.Lines.{Text}
+use Rattle.s7_script.specs.Moments.{Parts, date_text}
 
 -- the word of a job
 abbrev pub word_of : Job → Text
@@ -17,6 +21,17 @@ word_of (job.ReadArea item) = codes "read"
 word_of (job.WriteArea item octets) = codes "write"
 word_of (job.ReadMany items) = codes "readmany"
 word_of (job.WriteMany items octets) = codes "writemany"
+word_of (job.Szl id index) = codes "szl"
+word_of job.ClockRead = codes "clock"
+word_of (job.ClockSet moment) = codes "setclock"
+word_of job.Start = codes "start"
+word_of job.ColdStart = codes "coldstart"
+word_of job.Stop = codes "stop"
+word_of job.Compress = codes "compress"
+word_of job.CopyRam = codes "copy"
+word_of job.Status = codes "status"
+word_of (job.PasswordSet text) = codes "password"
+word_of job.PasswordClear = codes "clearpassword"
 word_of job.Disconnect = codes "disconnect"
 
 -- a number below 4,294,967,296 in four octets
@@ -42,13 +57,24 @@ octets_value (b ∷ bs) = encode_lower (b ∷ bs) ∷ []
 abbrev pub codes_of : JobResult → List ℕ
 codes_of r = take r.count r.codes
 
+-- the date and time that the octets of a clock show
+abbrev pub clock_values : Option Parts → List Text
+clock_values None = []
+clock_values (Some parts) = date_text parts ∷ []
+
+-- whether the controller runs
+abbrev pub mode_values : Option Bool → List Text
+mode_values None = []
+mode_values (Some runs) = (if runs then codes "run" else codes "stop") ∷ []
+
 abbrev pub job_values : JobResult → Job → List Text
-job_values r job.Connect = []
 job_values r (job.ReadArea item) = octets_value r.octets
-job_values r (job.WriteArea item octets) = []
 job_values r (job.ReadMany items) = read_values items (codes_of r) r.octets
 job_values r (job.WriteMany items octets) = map code_text (codes_of r)
-job_values r job.Disconnect = []
+job_values r (job.Szl id index) = octets_value r.octets
+job_values r job.ClockRead = clock_values (parts_in r.octets)
+job_values r job.Status = mode_values (mode_of r.octets)
+job_values r _ = []
 
 -- there are values only where the job came off
 abbrev pub values : JobResult → List Text
@@ -70,10 +96,13 @@ abbrev pub print : ℕ → JobResult → Text
 print line r =
     decimal line ++ 32 ∷ word_of r.job ++ 32 ∷ encode_upper (four_octets r.code) ++ values_text (values r) ++ 10 ∷ []
 
--- of several items there are as many codes as items, and the octets of those that were read
+-- of several items there are as many codes as items, and the octets of those that were read; the octets of a clock have
+-- a date and time, and those of a run state tell it
 abbrev pub IsPrintableOf : JobResult → Job → Type 0
 IsPrintableOf r (job.ReadMany items) = (r.count ≤ 20) × (r.count ≡ length items) × (length r.octets ≡ octets_read items (codes_of r))
 IsPrintableOf r (job.WriteMany items octets) = (r.count ≤ 20) × (r.count ≡ length items)
+IsPrintableOf r job.ClockRead = (r.count ≡ 0) × IsSome (moment_in r.octets)
+IsPrintableOf r job.Status = (r.count ≡ 0) × IsSome (mode_of r.octets)
 IsPrintableOf r _ = r.count ≡ 0
 
 abbrev pub IsPrintable : JobResult → Type 0

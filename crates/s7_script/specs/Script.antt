@@ -1,6 +1,6 @@
 -- What a script says: its jobs line by line, or the first faulty line.
 use Rattle.std.specs.Prelude.{ℕ, Bool, ◌≡◌, ◌==◌, ◌&&◌, ◌+◌, ◌*◌, ◌/◌, ◌%◌, ◌||◌, nat_le, List, [], ◌∷◌, ◌++◌, length, take, drop, codes, unwrap_or, Option, Some, None, Result, Ok, Err, if◌then◌else◌}
-use Rattle.std.specs.List.{position}
+use Rattle.std.specs.List.{position, list_all}
 use Rattle.std.specs.Str.{bytes_eq}
 use Rattle.hex.specs.Hex.{decode_of}
 use Rattle.hex.specs.declared.error.FromHexError.{FromHexError}
@@ -12,6 +12,7 @@ use Rattle.s7_client.specs.declared.job.Job.{Job}
 use Rattle.s7_client.specs.declared.job.Job.TheVariants as job
 use Rattle.s7_script.specs.Lines.{Text, lines, with_first}
 use Rattle.s7_script.specs.Fields.{is_space, first_field, fields_after, number_of}
+use Rattle.s7_script.specs.Moments.{moment_named}
 use Rattle.s7_script.specs.Reading.{area_named, is_passed, next_line}
 use Rattle.s7_script.specs.declared.script_list.ScriptLine.{ScriptLine}
 use Rattle.s7_script.specs.declared.script_fault.ScriptFault.{ScriptFault}
@@ -236,13 +237,70 @@ write_many_job (Some text) = do
   written ← written_items (parts text)
   Ok (job.WriteMany written.0 written.1)
 
+-- a number of two octets, in four hexadecimal digits
+abbrev pub two_octets_in : Result (List ℕ) FromHexError → Result ℕ ScriptKind
+two_octets_in (Ok (high ∷ low ∷ [])) = Ok (high * 256 + low)
+two_octets_in _ = Err kind.Digits
+
+abbrev pub with_index : ℕ → Option Text → Result Job ScriptKind
+with_index id None = Err kind.Fields
+with_index id (Some text) = do
+  index ← two_octets_in (decode_of (field_of text))
+  ended (job.Szl id index) (rest_of text)
+
+-- ID INDEX
+abbrev pub list_job : Option Text → Result Job ScriptKind
+list_job None = Err kind.Fields
+list_job (Some text) = do
+  id ← two_octets_in (decode_of (field_of text))
+  with_index id (rest_of text)
+
+abbrev pub moment_job : Option ℕ → Option Text → Result Job ScriptKind
+moment_job None rest = Err kind.Number
+moment_job (Some moment) rest = ended (job.ClockSet moment) rest
+
+-- YYYY-MM-DDThh:mm:ss.mmm, a date and time of the years 1990 to 2089
+abbrev pub set_clock_job : Option Text → Result Job ScriptKind
+set_clock_job None = Err kind.Fields
+set_clock_job (Some text) = moment_job (moment_named (field_of text)) (rest_of text)
+
+-- printable ASCII, which may be none at all
+abbrev pub is_printable : ℕ → Bool
+is_printable b = nat_le 33 b && nat_le b 126
+
+abbrev pub password_job : Option Text → Result Job ScriptKind
+password_job None = Err kind.Fields
+password_job (Some text) =
+    if list_all is_printable (field_of text) then ended (job.PasswordSet (field_of text)) (rest_of text)
+    else Err kind.Word
+
+-- the jobs without fields
+abbrev pub plain_job : Text → Option Job
+plain_job name =
+    if bytes_eq name (codes "clock") then Some job.ClockRead
+    else (if bytes_eq name (codes "start") then Some job.Start
+    else (if bytes_eq name (codes "coldstart") then Some job.ColdStart
+    else (if bytes_eq name (codes "stop") then Some job.Stop
+    else (if bytes_eq name (codes "compress") then Some job.Compress
+    else (if bytes_eq name (codes "copy") then Some job.CopyRam
+    else (if bytes_eq name (codes "status") then Some job.Status
+    else (if bytes_eq name (codes "clearpassword") then Some job.PasswordClear
+    else None)))))))
+
+abbrev pub or_unknown : Option Job → Option Text → Result Job ScriptKind
+or_unknown None rest = Err kind.Word
+or_unknown (Some job) rest = ended job rest
+
 abbrev pub job_named : Text → Option Text → Result Job ScriptKind
 job_named name rest =
     if bytes_eq name (codes "read") then read_job rest
     else (if bytes_eq name (codes "write") then write_job rest
     else (if bytes_eq name (codes "readmany") then read_many_job rest
     else (if bytes_eq name (codes "writemany") then write_many_job rest
-    else Err kind.Word)))
+    else (if bytes_eq name (codes "szl") then list_job rest
+    else (if bytes_eq name (codes "setclock") then set_clock_job rest
+    else (if bytes_eq name (codes "password") then password_job rest
+    else or_unknown (plain_job name) rest))))))
 
 -- the job that a line names
 abbrev pub job_of : Text → Result Job ScriptKind

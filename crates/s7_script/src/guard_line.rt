@@ -41,7 +41,8 @@ fn is_word(text: &[u8]) -> bool
     !text.is_empty() && text.len() <= 8 && all_graphic(text)
 }
 
-fn all_graphic(text: &[u8]) -> bool
+/// Whether all octets are printable ASCII octets without space.
+pub(crate) fn all_graphic(text: &[u8]) -> bool
     ensures { result ≡ list_all is_graphic text.now }
 {
     text.iter().all(|b| b.is_ascii_graphic())

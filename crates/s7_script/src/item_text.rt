@@ -50,13 +50,13 @@ fn with_count(placed: Placed) -> Result<Item, ScriptKind>
     ended(item_at(placed, count as u16), rest)
 }
 
-/// The item, where there are no more fields.
-pub(crate) fn ended(item: Item, rest: Option<&[u8]>) -> Result<Item, ScriptKind>
-    ensures { result ≡ ended item (option_map (λ t. t.now) rest.entry) }
+/// What was read, where there are no more fields.
+pub(crate) fn ended<T: Drop>(found: T, rest: Option<&[u8]>) -> Result<T, ScriptKind>
+    ensures { result ≡ ended found (option_map (λ t. t.now) rest.entry) }
 {
     match rest {
         Some(_) => Err(ScriptKind::Fields),
-        None => Ok(item),
+        None => Ok(found),
     }
 }
 

@@ -1,5 +1,5 @@
 // Laws of area files, of printing and of scripts.
-ghost use Rattle.s7_script.specs.Laws.{AreasMigrate, EndsPrint, ScriptsMoveData};
+ghost use Rattle.s7_script.specs.Laws.{AreasMigrate, EndsPrint, ScriptsKeepLinks};
 
 use s7_area::areas_join;
 
@@ -16,7 +16,7 @@ pub fn ends_print()
     ensures { EndsPrint }
 {}
 
-/// A law: each line of a script reads or writes, and none connects or disconnects.
-pub fn scripts_move_data()
-    ensures { ScriptsMoveData }
+/// A law: no line of a script connects or disconnects.
+pub fn scripts_keep_links()
+    ensures { ScriptsKeepLinks }
 {}

@@ -8,6 +8,7 @@ mod item_text;
 mod laws;
 mod lines;
 mod load;
+mod moment;
 mod octet_lines;
 mod opening;
 mod print;
@@ -22,7 +23,7 @@ mod write;
 mod written;
 
 pub use fault::{AreasFault, AreasKind};
-pub use laws::{areas_migrate, ends_print, scripts_move_data};
+pub use laws::{areas_migrate, ends_print, scripts_keep_links};
 pub use load::{LoadFault, load_areas};
 pub use print::print_result;
 pub use read::read_areas;

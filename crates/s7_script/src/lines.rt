@@ -109,13 +109,15 @@ fn is_number(field: &[u8]) -> bool
     !field.is_empty() && field.len() <= 10 && all_digits(field)
 }
 
-fn all_digits(field: &[u8]) -> bool
+/// Whether all octets are decimal digits.
+pub(crate) fn all_digits(field: &[u8]) -> bool
     ensures { result ≡ list_all is_ascii_digit field.now }
 {
     field.iter().all(|b| b.is_ascii_digit())
 }
 
-fn value_of(digits: &[u8]) -> u64
+/// The number in decimal digits.
+pub(crate) fn value_of(digits: &[u8]) -> u64
     requires most { length digits.now ≤ 10 }
     requires digits { list_all is_ascii_digit digits.now ≡ true }
     ensures { result ≡ digits_value 10 digits.now }

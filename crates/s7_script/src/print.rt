@@ -1,25 +1,32 @@
 // Printing what came of jobs.
-ghost use Rattle.std.specs.Prelude.{◌≡◌, ◌≤◌, ◌+◌, ◌∷◌, ◌++◌, [], OnOk, IfOk, length, map};
+ghost use Rattle.std.specs.Prelude.{◌≡◌, ◌≤◌, ◌+◌, ◌∷◌, ◌++◌, [], OnOk, IfOk, IsSome, length, map};
 ghost use Rattle.std.specs.List.{flat_map};
 ghost use Rattle.std.specs.Fmt.{decimal};
 ghost use Rattle.hex.specs.Hex.{encode_lower, encode_upper};
+ghost use Rattle.s7_clock.specs.Clock.{parts_in};
+ghost use Rattle.s7_clock.specs.Moment.{moment_in};
+ghost use Rattle.s7_szl.specs.Readers.{mode_of};
 ghost use Rattle.s7_client.specs.Form.{count_read, octets_read};
-ghost use Rattle.s7_script.specs.Printing.{IsPrintable, IsPrintableOf, code_text, four_octets, job_values};
-ghost use Rattle.s7_script.specs.Printing.{octets_value, print, read_values, spaced, values, values_text, word_of};
+ghost use Rattle.s7_script.specs.Printing.{IsPrintable, IsPrintableOf, clock_values, code_text, four_octets};
+ghost use Rattle.s7_script.specs.Printing.{job_values, mode_values, octets_value, print, read_values, spaced};
+ghost use Rattle.s7_script.specs.Printing.{values, values_text, word_of};
 
+use crate::moment::clock_text;
 use s7_client::{Job, JobResult};
 use s7_item::Item;
 use s7_item::codes::GOOD;
 use s7_outer::{Memory, Octets};
+use s7_szl::read_mode;
 use std::alloc::Global;
 
 /// The line that tells what came of the job of a line: the line's number, the job's word, its code in
 /// eight upper-case hexadecimal digits, and the value, with one space between them and LF at the end.
 ///
-/// The value of `read` is its octets in lower case. That of `readmany` is of each item its code in
-/// two upper-case digits, a colon, and its octets where the code is FF; that of `writemany` the
-/// codes; with one space between two. The value is `-` where there is none, as after `connect`,
-/// `write` and `disconnect` and where the code isn't 0. `Memory` comes where there is none.
+/// The value of `read` and `szl` is their octets in lower case. That of `readmany` is of each item its
+/// code in two upper-case digits, a colon, and its octets where the code is FF; that of `writemany` the
+/// codes; with one space between two. That of `clock` is its date and time, `YYYY-MM-DDThh:mm:ss.mmm`,
+/// and that of `status` `run` or `stop`. The value is `-` where there is none, as after other jobs and
+/// where the code isn't 0. `Memory` comes where there is none.
 pub fn print_result(alloc: Global, line: u32, done: &JobResult) -> Result<Octets, Memory>
     requires { IsPrintable done.now }
     ensures { IfOk result (λ text. text ≡ print line done.now) }
@@ -58,6 +65,17 @@ fn word_of(job: &Job) -> &'static str
         Job::WriteArea { .. } => "write",
         Job::ReadMany { .. } => "readmany",
         Job::WriteMany { .. } => "writemany",
+        Job::Szl { .. } => "szl",
+        Job::ClockRead => "clock",
+        Job::ClockSet { .. } => "setclock",
+        Job::Start => "start",
+        Job::ColdStart => "coldstart",
+        Job::Stop => "stop",
+        Job::Compress => "compress",
+        Job::CopyRam => "copy",
+        Job::Status => "status",
+        Job::PasswordSet { .. } => "password",
+        Job::PasswordClear => "clearpassword",
         Job::Disconnect => "disconnect",
     }
 }
@@ -87,13 +105,25 @@ fn add_job_values(alloc: Global, text: &mut Vec<u8>, done: &JobResult) -> Result
         ≡ text.old.items ++ flat_map spaced (job_values done.now done.now.job)) }
 {
     match &done.job {
-        Job::ReadArea { .. } => add_octets(alloc, text, done.octets.as_slice()),
+        Job::ReadArea { .. } | Job::Szl { .. } => add_octets(alloc, text, done.octets.as_slice()),
         Job::ReadMany { items } => {
             let codes = &done.codes[..usize::from(done.count)];
             add_items(alloc, text, items.as_slice(), codes, done.octets.as_slice())
         }
         Job::WriteMany { .. } => add_codes(alloc, text, &done.codes[..usize::from(done.count)]),
-        Job::Connect | Job::WriteArea { .. } | Job::Disconnect => Ok(()),
+        Job::ClockRead => add_clock(text, done.octets.as_slice()),
+        Job::Status => add_mode(text, done.octets.as_slice()),
+        Job::Connect
+        | Job::WriteArea { .. }
+        | Job::ClockSet { .. }
+        | Job::Start
+        | Job::ColdStart
+        | Job::Stop
+        | Job::Compress
+        | Job::CopyRam
+        | Job::PasswordSet { .. }
+        | Job::PasswordClear
+        | Job::Disconnect => Ok(()),
     }
 }
 
@@ -107,6 +137,30 @@ fn add_octets(alloc: Global, text: &mut Vec<u8>, octets: &[u8]) -> Result<(), Me
     let digits = hex::encode(alloc, octets)?;
     text.extend_from_slice(b" ")?;
     text.extend_from_slice(digits.as_bytes())?;
+    Ok(())
+}
+
+/// Adds the date and time that the octets of a clock show.
+fn add_clock(text: &mut Vec<u8>, octets: &[u8]) -> Result<(), Memory>
+    requires { IsSome (moment_in octets.now) }
+    ensures { OnOk result (text.new.items
+        ≡ text.old.items ++ flat_map spaced (clock_values (parts_in octets.now))) }
+{
+    text.extend_from_slice(b" ")?;
+    text.extend_from_slice(clock_text(octets).as_slice())?;
+    Ok(())
+}
+
+/// Adds whether the controller runs, where the image of a status list tells it.
+fn add_mode(text: &mut Vec<u8>, octets: &[u8]) -> Result<(), Memory>
+    ensures { OnOk result (text.new.items
+        ≡ text.old.items ++ flat_map spaced (mode_values (mode_of octets.now))) }
+{
+    match read_mode(octets) {
+        Some(true) => text.extend_from_slice(b" run")?,
+        Some(false) => text.extend_from_slice(b" stop")?,
+        None => {}
+    }
     Ok(())
 }
 

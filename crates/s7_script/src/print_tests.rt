@@ -3,8 +3,10 @@ ghost use Rattle.s7_script.specs.Printing.{IsPrintable};
 
 use super::*;
 use s7_client::{ItemList, Job, JobResult};
+use s7_clock::from_octets;
 use s7_item::Item;
 use s7_outer::{Memory, Octets};
+use s7_szl::read_mode;
 use std::alloc::Global;
 use std::test::Fail;
 
@@ -27,7 +29,7 @@ fn octets(alloc: Global, octets: &[u8]) -> Result<Octets, Memory>
 }
 
 fn of_one(alloc: Global, job: Job, code: u32, octets: &[u8]) -> Result<JobResult, Memory>
-    ensures { IfOk result (λ r. (r.job ≡ job) × (r.code ≡ code) × (r.count ≡ 0)) }
+    ensures { IfOk result (λ r. (r.job ≡ job) × (r.code ≡ code) × (r.count ≡ 0) × (r.octets ≡ octets.now)) }
 {
     Ok(JobResult {
         job,
@@ -89,6 +91,124 @@ fn connections(rt: HostRuntime) -> Result<(), Fail> {
     assert!(rt; prints(alloc, 0, &done, "0 connect 00000000 -\n")?);
     let done = of_one(alloc, Job::Disconnect, 0xFEDC_BA98, &[])?;
     assert!(rt; prints(alloc, 4, &done, "4 disconnect FEDCBA98 -\n")?);
+    Ok(())
+}
+
+#[test]
+fn status_lists(rt: HostRuntime) -> Result<(), Fail> {
+    let alloc = rt.alloc();
+    let image: &[u8] = &[0x00, 0x11, 0x00, 0x00, 0x00, 0x02, 0x00, 0x01, 0xAB, 0xC0];
+    for (octets, expected) in [
+        (image, "5 szl 00000000 0011000000020001abc0\n"),
+        (&[], "5 szl 00000000 -\n"),
+    ] {
+        let job = Job::Szl {
+            id: 0x0011,
+            index: 0,
+        };
+        let done = of_one(alloc, job, 0, octets)?;
+        assert!(rt; prints(alloc, 5, &done, expected)?);
+    }
+    Ok(())
+}
+
+#[test]
+fn clocks(rt: HostRuntime) -> Result<(), Fail> {
+    let alloc = rt.alloc();
+    for (octets, expected) in [
+        (
+            [0x00, 0x19, 0x24, 0x02, 0x29, 0x13, 0x45, 0x30, 0x12, 0x35],
+            "7 clock 00000000 2024-02-29T13:45:30.123\n",
+        ),
+        (
+            [0x00, 0x19, 0x90, 0x01, 0x01, 0x00, 0x00, 0x00, 0x00, 0x02],
+            "7 clock 00000000 1990-01-01T00:00:00.000\n",
+        ),
+        (
+            [0x00, 0x19, 0x89, 0x12, 0x31, 0x23, 0x59, 0x59, 0x99, 0x97],
+            "7 clock 00000000 2089-12-31T23:59:59.999\n",
+        ),
+    ] {
+        assert!(rt; from_octets(octets.as_slice()).is_ok());
+        let done = of_one(alloc, Job::ClockRead, 0, octets.as_slice())?;
+        assert!(rt; prints(alloc, 7, &done, expected)?);
+    }
+    Ok(())
+}
+
+/// An image of list 0424 of one record, which tells this mode.
+fn run_state(mode: u8) -> [u8; 28] {
+    let mut image = [0; 28];
+    image[0] = 0x04;
+    image[1] = 0x24;
+    image[5] = 20;
+    image[7] = 1;
+    image[11] = mode;
+    image
+}
+
+#[test]
+fn run_states(rt: HostRuntime) -> Result<(), Fail> {
+    let alloc = rt.alloc();
+    for (mode, expected) in [
+        (0x08, "8 status 00000000 run\n"),
+        (0x04, "8 status 00000000 stop\n"),
+    ] {
+        let image = run_state(mode);
+        assert!(rt; read_mode(image.as_slice()).is_some());
+        let done = of_one(alloc, Job::Status, 0, image.as_slice())?;
+        assert!(rt; prints(alloc, 8, &done, expected)?);
+    }
+    Ok(())
+}
+
+#[test]
+fn starts(rt: HostRuntime) -> Result<(), Fail> {
+    let alloc = rt.alloc();
+    let done = of_one(alloc, Job::Start, 0, &[])?;
+    assert!(rt; prints(alloc, 9, &done, "9 start 00000000 -\n")?);
+    let done = of_one(alloc, Job::Start, 0x00F0_0000, &[])?;
+    assert!(rt; prints(alloc, 9, &done, "9 start 00F00000 -\n")?);
+    let done = of_one(alloc, Job::ColdStart, 0, &[])?;
+    assert!(rt; prints(alloc, 9, &done, "9 coldstart 00000000 -\n")?);
+    Ok(())
+}
+
+#[test]
+fn other_controls(rt: HostRuntime) -> Result<(), Fail> {
+    let alloc = rt.alloc();
+    let done = of_one(alloc, Job::Stop, 0, &[])?;
+    assert!(rt; prints(alloc, 10, &done, "10 stop 00000000 -\n")?);
+    let done = of_one(alloc, Job::Compress, 0, &[])?;
+    assert!(rt; prints(alloc, 10, &done, "10 compress 00000000 -\n")?);
+    let done = of_one(alloc, Job::CopyRam, 0, &[])?;
+    assert!(rt; prints(alloc, 10, &done, "10 copy 00000000 -\n")?);
+    Ok(())
+}
+
+#[test]
+fn settings(rt: HostRuntime) -> Result<(), Fail> {
+    let alloc = rt.alloc();
+    let done = of_one(alloc, Job::ClockSet { moment: 0 }, 0, &[])?;
+    assert!(rt; prints(alloc, 11, &done, "11 setclock 00000000 -\n")?);
+    let text = octets(alloc, b"secret")?;
+    let done = of_one(alloc, Job::PasswordSet { text }, 0, &[])?;
+    assert!(rt; prints(alloc, 11, &done, "11 password 00000000 -\n")?);
+    let done = of_one(alloc, Job::PasswordClear, 0, &[])?;
+    assert!(rt; prints(alloc, 11, &done, "11 clearpassword 00000000 -\n")?);
+    Ok(())
+}
+
+#[test]
+fn refused_questions(rt: HostRuntime) -> Result<(), Fail> {
+    let alloc = rt.alloc();
+    for (job, expected) in [
+        (Job::ClockRead, "9 clock 00000001 -\n"),
+        (Job::Status, "9 status 00000001 -\n"),
+    ] {
+        let done = of_one(alloc, job, 1, &[])?;
+        assert!(rt; prints(alloc, 9, &done, expected)?);
+    }
     Ok(())
 }
 

@@ -17,7 +17,11 @@ use std::alloc::Global;
 /// between fields:
 ///
 /// - `read KEY WORD START COUNT` and `write KEY WORD START HEX`: one item;
-/// - `readmany` and `writemany`: any number of items in the same form, with ` ; ` between two.
+/// - `readmany` and `writemany`: any number of items in the same form, with ` ; ` between two;
+/// - `szl ID INDEX`: a status list, by two numbers of four hexadecimal digits in either case;
+/// - `clock`, and `setclock MOMENT`: `MOMENT` is a date and time `YYYY-MM-DDThh:mm:ss.mmm` of the years 1990 to 2089;
+/// - `start`, `coldstart`, `stop`, `compress` and `copy`, which control, and `status`, which asks whether it runs;
+/// - `password TEXT`, where `TEXT` is printable ASCII octets without space, or nothing at all, and `clearpassword`.
 ///
 /// `KEY` is `PE`, `PA`, `MK`, `CT`, `TM`, or `DB` and the number of the data block from 1 to 65,535.
 /// `WORD` is `bit`, `byte`, `char`, `word`, `int`, `dword`, `dint`, `real`, `counter` or `timer`.

@@ -3,14 +3,19 @@ ghost use Rattle.std.specs.Prelude.{◌≡◌, ◌<◌, ◌≤◌, ◌+◌, [], 
 ghost use Rattle.std.specs.Prelude.{IsTrue, OnOk, IfErr, codes};
 ghost use Rattle.std.specs.Str.{bytes_eq};
 ghost use Rattle.s7_script.specs.declared.script_fault.ScriptKind.TheVariants.{Memory};
-ghost use Rattle.s7_script.specs.Script.{Gives, job_named, job_of, parts, read_items, read_job, read_many_job};
+ghost use Rattle.hex.specs.Hex.{decode_of};
+ghost use Rattle.s7_script.specs.Script.{Gives, job_named, job_of, list_job, parts, password_job, plain_job};
+ghost use Rattle.s7_script.specs.Script.{read_items, read_job, read_many_job, set_clock_job, two_octets_in, with_index};
 ghost use Rattle.s7_script.specs.Script.{write_job, write_many_job, written_items};
 ghost use Rattle.s7_script.specs.ScriptShown.{all_written, parts_left};
 
 use crate::ScriptKind;
-use crate::item_text::read_item;
+use crate::guard_line::all_graphic;
+use crate::item_text::{ended, read_item};
 use crate::lines::split_field;
+use crate::moment::read_moment;
 use crate::written::{WrittenItem, WrittenItems, written_item};
+use hex::FromHex;
 use s7_client::{ItemList, Job};
 use s7_item::Item;
 use s7_outer::Octets;
@@ -35,8 +40,42 @@ fn job_named(alloc: Global, name: &[u8], rest: Option<&[u8]>) -> Result<Job, Scr
         read_many_job(alloc, rest)
     } else if name == b"writemany".as_slice() {
         write_many_job(alloc, rest)
+    } else if name == b"szl".as_slice() {
+        list_job(rest)
+    } else if name == b"setclock".as_slice() {
+        set_clock_job(rest)
+    } else if name == b"password".as_slice() {
+        password_job(alloc, rest)
     } else {
-        Err(ScriptKind::Word)
+        let Some(job) = plain_job(name) else {
+            return Err(ScriptKind::Word);
+        };
+        ended(job, rest)
+    }
+}
+
+/// The job of this name, of those without fields.
+fn plain_job(name: &[u8]) -> Option<Job>
+    ensures { result ≡ plain_job name.now }
+{
+    if name == b"clock".as_slice() {
+        Some(Job::ClockRead)
+    } else if name == b"start".as_slice() {
+        Some(Job::Start)
+    } else if name == b"coldstart".as_slice() {
+        Some(Job::ColdStart)
+    } else if name == b"stop".as_slice() {
+        Some(Job::Stop)
+    } else if name == b"compress".as_slice() {
+        Some(Job::Compress)
+    } else if name == b"copy".as_slice() {
+        Some(Job::CopyRam)
+    } else if name == b"status".as_slice() {
+        Some(Job::Status)
+    } else if name == b"clearpassword".as_slice() {
+        Some(Job::PasswordClear)
+    } else {
+        None
     }
 }
 
@@ -86,6 +125,68 @@ fn write_many_job(alloc: Global, rest: Option<&[u8]>) -> Result<Job, ScriptKind>
         items: ItemList::of_vec(items),
         octets: Octets::of_vec(octets),
     })
+}
+
+/// The id and the index of a status list.
+fn list_job(rest: Option<&[u8]>) -> Result<Job, ScriptKind>
+    ensures { result ≡ list_job (option_map (λ t. t.now) rest.entry) }
+{
+    let Some(text) = rest else {
+        return Err(ScriptKind::Fields);
+    };
+    let (field, rest) = split_field(text);
+    let id = two_octets_in(field)?;
+    with_index(id, rest)
+}
+
+fn with_index(id: u16, rest: Option<&[u8]>) -> Result<Job, ScriptKind>
+    ensures { result ≡ with_index id (option_map (λ t. t.now) rest.entry) }
+{
+    let Some(text) = rest else {
+        return Err(ScriptKind::Fields);
+    };
+    let (field, rest) = split_field(text);
+    let index = two_octets_in(field)?;
+    ended(Job::Szl { id, index }, rest)
+}
+
+/// The number in four hexadecimal digits.
+fn two_octets_in(field: &[u8]) -> Result<u16, ScriptKind>
+    ensures { result ≡ two_octets_in (decode_of field.now) }
+{
+    match <[u8; 2]>::from_hex(field) {
+        Ok(octets) => Ok(u16::from_be_bytes(octets)),
+        Err(_) => Err(ScriptKind::Digits),
+    }
+}
+
+fn set_clock_job(rest: Option<&[u8]>) -> Result<Job, ScriptKind>
+    ensures { result ≡ set_clock_job (option_map (λ t. t.now) rest.entry) }
+{
+    let Some(text) = rest else {
+        return Err(ScriptKind::Fields);
+    };
+    let (field, rest) = split_field(text);
+    match read_moment(field) {
+        Some(moment) => ended(Job::ClockSet { moment }, rest),
+        None => Err(ScriptKind::Number),
+    }
+}
+
+fn password_job(alloc: Global, rest: Option<&[u8]>) -> Result<Job, ScriptKind>
+    ensures { Gives (λ j. j) result (password_job (option_map (λ t. t.now) rest.entry)) }
+{
+    let Some(text) = rest else {
+        return Err(ScriptKind::Fields);
+    };
+    let (field, rest) = split_field(text);
+    if !all_graphic(field) {
+        return Err(ScriptKind::Word);
+    }
+    match Octets::copy_of(alloc, field) {
+        Ok(text) => ended(Job::PasswordSet { text }, rest),
+        Err(_) => Err(ScriptKind::Memory),
+    }
 }
 
 /// The items that the parts of a text name.

@@ -80,6 +80,44 @@ fn first_wrong_line(rt: HostRuntime) -> Result<(), Fail> {
     Ok(())
 }
 
+#[test]
+fn wrong_lines_without_items(rt: HostRuntime) -> Result<(), Fail> {
+    for (text, kind) in [
+        ("szl", ScriptKind::Fields),
+        ("szl 0011", ScriptKind::Fields),
+        ("szl 0011 0000 1", ScriptKind::Fields),
+        ("szl 011 0000", ScriptKind::Digits),
+        ("szl 00g1 0000", ScriptKind::Digits),
+        ("szl 001100 0000", ScriptKind::Digits),
+        ("szl 0011 00", ScriptKind::Digits),
+        ("szl 0011 ", ScriptKind::Digits),
+        ("clock 1", ScriptKind::Fields),
+        ("start x", ScriptKind::Fields),
+        ("status ", ScriptKind::Fields),
+        ("Stop", ScriptKind::Word),
+        ("setclock", ScriptKind::Fields),
+        ("setclock 2024-02-29T13:45:30.123 x", ScriptKind::Fields),
+        ("setclock 2024-02-29", ScriptKind::Number),
+        ("setclock 2024-02-30T00:00:00.000", ScriptKind::Number),
+        ("setclock 1989-12-31T23:59:59.999", ScriptKind::Number),
+        ("setclock 2090-01-01T00:00:00.000", ScriptKind::Number),
+        ("setclock 2024-02-29T24:00:00.000", ScriptKind::Number),
+        ("setclock 2024-02-29 13:45:30.123", ScriptKind::Number),
+        ("setclock 2024-02-29T13:45:30.12a", ScriptKind::Number),
+        ("password", ScriptKind::Fields),
+        ("password a b", ScriptKind::Fields),
+        ("password a\x07", ScriptKind::Word),
+        ("password \x7F", ScriptKind::Word),
+        ("passwort x", ScriptKind::Word),
+    ] {
+        match read_script(rt.alloc(), text.as_bytes()) {
+            Ok(_) => return Err(Fail::from("no fault")),
+            Err(fault) => assert!(rt; fault == ScriptFault { line: 1, kind }, "{text:?}"),
+        }
+    }
+    Ok(())
+}
+
 fn item(area: u8, db: u16, word: u8, count: u16, address: u32) -> Item {
     Item {
         area,
@@ -216,6 +254,121 @@ fn writes_many(job: &Job, expected: &[Item], written: &[u8]) -> bool {
         Job::WriteMany { items, octets } => {
             items.as_slice() == expected && octets.as_slice() == written
         }
+        _ => false,
+    }
+}
+
+#[test]
+fn status_lists(rt: HostRuntime) -> Result<(), Fail> {
+    for (text, id, index) in [
+        ("szl 0011 0000", 0x0011, 0),
+        ("szl 0424 0001\r\n", 0x0424, 1),
+        ("szl aBcD FFfe", 0xABCD, 0xFFFE),
+    ] {
+        let Ok(script) = read_script(rt.alloc(), text.as_bytes()) else {
+            return Err(Fail::from("not read"));
+        };
+        assert!(rt; asks_list(script.as_slice(), id, index), "{text:?}");
+    }
+    Ok(())
+}
+
+fn asks_list(lines: &[ScriptLine], expected: u16, place: u16) -> bool {
+    match lines {
+        [line] => match &line.job {
+            Job::Szl { id, index } => *id == expected && *index == place,
+            _ => false,
+        },
+        _ => false,
+    }
+}
+
+#[test]
+fn moments(rt: HostRuntime) -> Result<(), Fail> {
+    for (text, moment) in [
+        ("setclock 2024-02-29T13:45:30.123", 1_709_214_330_123),
+        ("setclock 1990-01-01T00:00:00.000", 631_152_000_000),
+        ("setclock 2089-12-31T23:59:59.999\n", 3_786_911_999_999),
+    ] {
+        let Ok(script) = read_script(rt.alloc(), text.as_bytes()) else {
+            return Err(Fail::from("not read"));
+        };
+        assert!(rt; sets_clock(script.as_slice(), moment), "{text:?}");
+    }
+    Ok(())
+}
+
+fn sets_clock(lines: &[ScriptLine], expected: u64) -> bool {
+    match lines {
+        [line] => match &line.job {
+            Job::ClockSet { moment } => *moment == expected,
+            _ => false,
+        },
+        _ => false,
+    }
+}
+
+#[test]
+fn passwords(rt: HostRuntime) -> Result<(), Fail> {
+    for (text, password) in [
+        ("password ", ""),
+        ("password secret", "secret"),
+        ("password !~123456789", "!~123456789"),
+    ] {
+        let Ok(script) = read_script(rt.alloc(), text.as_bytes()) else {
+            return Err(Fail::from("not read"));
+        };
+        assert!(rt;
+            sets_password(script.as_slice(), password.as_bytes()),
+            "{text:?}"
+        );
+    }
+    Ok(())
+}
+
+fn sets_password(lines: &[ScriptLine], expected: &[u8]) -> bool {
+    match lines {
+        [line] => match &line.job {
+            Job::PasswordSet { text } => text.as_slice() == expected,
+            _ => false,
+        },
+        _ => false,
+    }
+}
+
+#[test]
+fn jobs_without_fields(rt: HostRuntime) -> Result<(), Fail> {
+    for name in [
+        "clock",
+        "start",
+        "coldstart",
+        "stop",
+        "compress",
+        "copy",
+        "status",
+        "clearpassword",
+    ] {
+        let Ok(script) = read_script(rt.alloc(), name.as_bytes()) else {
+            return Err(Fail::from("not read"));
+        };
+        assert!(rt; is_named(script.as_slice(), name), "{name:?}");
+    }
+    Ok(())
+}
+
+fn is_named(lines: &[ScriptLine], name: &str) -> bool {
+    match lines {
+        [line] => match &line.job {
+            Job::ClockRead => name == "clock",
+            Job::Start => name == "start",
+            Job::ColdStart => name == "coldstart",
+            Job::Stop => name == "stop",
+            Job::Compress => name == "compress",
+            Job::CopyRam => name == "copy",
+            Job::Status => name == "status",
+            Job::PasswordClear => name == "clearpassword",
+            _ => false,
+        },
         _ => false,
     }
 }

@@ -18,8 +18,8 @@ rack_is = number_or_is (codes "run") run_line run_is rack 8 0 7 0 refl refl refl
 pub slot_is : ReadsNumber (codes "run") run_line run_is slot 8 0 31 2
 slot_is = number_or_is (codes "run") run_line run_is slot 8 0 31 2 refl refl refl refl
 
-pub pdu_is : ReadsNumber (codes "run") run_line run_is pdu 16 64 960 480
-pdu_is = number_or_is (codes "run") run_line run_is pdu 16 64 960 480 refl refl refl refl
+pub pdu_is : ReadsNumber (codes "run") run_line run_is pdu 16 64 1920 480
+pdu_is = number_or_is (codes "run") run_line run_is pdu 16 64 1920 480 refl refl refl refl
 
 pub polls_is : ReadsNumber (codes "run") run_line run_is polls 32 1 4294967295 50
 polls_is = number_or_is (codes "run") run_line run_is polls 32 1 4294967295 50 refl refl refl refl
@@ -45,8 +45,8 @@ seed_is = number_or_is (codes "rig") rig_line rig_is seed 32 0 4294967295 0 refl
 pub steps_is : ReadsNumber (codes "rig") rig_line rig_is steps 32 0 1000000 0
 steps_is = number_or_is (codes "rig") rig_line rig_is steps 32 0 1000000 0 refl refl refl refl
 
-pub rig_pdu_is : ReadsNumber (codes "rig") rig_line rig_is pdu 16 64 960 480
-rig_pdu_is = number_or_is (codes "rig") rig_line rig_is pdu 16 64 960 480 refl refl refl refl
+pub rig_pdu_is : ReadsNumber (codes "rig") rig_line rig_is pdu 16 64 1920 480
+rig_pdu_is = number_or_is (codes "rig") rig_line rig_is pdu 16 64 1920 480 refl refl refl refl
 
 pub rig_journal_is : ReadsNumber (codes "rig") rig_line rig_is journal 64 1 262144 65536
 rig_journal_is = number_or_is (codes "rig") rig_line rig_is journal 64 1 262144 65536 refl refl refl refl

@@ -54,7 +54,7 @@ abbrev pub slot : Field
 slot = number (codes "slot") 0 31
 
 abbrev pub pdu : Field
-pdu = number (codes "pdu") 64 960
+pdu = number (codes "pdu") 64 1920
 
 abbrev pub polls : Field
 polls = number (codes "polls") 1 4294967295

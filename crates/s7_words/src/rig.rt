@@ -56,7 +56,7 @@ fn rig_command<'a>(alloc: Global) -> Result<Command<'a>, AllocError>
         .arg(text(alloc, "turns"))?
         .arg(number(alloc, "seed", 0, 4_294_967_295))?
         .arg(number(alloc, "steps", 0, 1_000_000))?
-        .arg(number(alloc, "pdu", 64, 960))?
+        .arg(number(alloc, "pdu", 64, 1_920))?
         .arg(number(alloc, "journal", 1, 262_144))?
         .arg(number(alloc, "jobs", 1, 8))
 }

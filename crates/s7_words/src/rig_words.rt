@@ -15,7 +15,7 @@ pub struct RigWords<'a> {
     pub seed: u32,
     /// `--steps`, the number of turns that are drawn, 0 to 1,000,000: 0 where it isn't given.
     pub steps: u32,
-    /// `--pdu`, the length of a PDU in octets that is asked for, 64 to 960: 480 where it isn't given.
+    /// `--pdu`, the length of a PDU in octets that is asked for, 64 to 1,920: 480 where it isn't given.
     pub pdu: u16,
     /// `--journal`, how many entries the journal takes, 1 to 262,144: 65,536 where it isn't given.
     pub journal: u64,
@@ -26,7 +26,7 @@ pub struct RigWords<'a> {
     ghost actors: { All (λ turn. turn < 2 * vec_len scripts) turns.items },
     ghost most_steps: { steps ≤ 1000000 },
     ghost least_pdu: { 64 ≤ pdu },
-    ghost most_pdu: { pdu ≤ 960 },
+    ghost most_pdu: { pdu ≤ 1920 },
     ghost least_journal: { 1 ≤ journal },
     ghost most_journal: { journal ≤ 262144 },
     ghost least_jobs: { 1 ≤ jobs },

@@ -16,7 +16,7 @@ pub struct RunWords<'a> {
     pub rack: u8,
     /// `--slot`, the slot of the controller, 0 to 31: 2 where it isn't given.
     pub slot: u8,
-    /// `--pdu`, the length of a PDU in octets that is asked for, 64 to 960: 480 where it isn't given.
+    /// `--pdu`, the length of a PDU in octets that is asked for, 64 to 1,920: 480 where it isn't given.
     pub pdu: u16,
     /// `--polls`, the number of polls, 1 to 4,294,967,295: 50 where it isn't given.
     pub polls: u32,
@@ -28,7 +28,7 @@ pub struct RunWords<'a> {
     ghost most_rack: { rack ≤ 7 },
     ghost most_slot: { slot ≤ 31 },
     ghost least_pdu: { 64 ≤ pdu },
-    ghost most_pdu: { pdu ≤ 960 },
+    ghost most_pdu: { pdu ≤ 1920 },
     ghost least_polls: { 1 ≤ polls },
     ghost least_jobs: { 1 ≤ jobs },
     ghost most_jobs: { jobs ≤ 8 },

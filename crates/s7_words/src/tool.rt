@@ -83,7 +83,7 @@ fn run_command<'a>(alloc: Global) -> Result<Command<'a>, AllocError>
         .arg(number(alloc, "type", 1, 3))?
         .arg(number(alloc, "rack", 0, 7))?
         .arg(number(alloc, "slot", 0, 31))?
-        .arg(number(alloc, "pdu", 64, 960))?
+        .arg(number(alloc, "pdu", 64, 1_920))?
         .arg(number(alloc, "polls", 1, 4_294_967_295))?
         .arg(number(alloc, "jobs", 1, 8))
 }

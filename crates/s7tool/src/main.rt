@@ -12,6 +12,8 @@ mod made_areas;
 mod made_report;
 mod made_scripts;
 mod output;
+#[cfg(test)]
+mod panel_tests;
 mod report;
 mod rig_report;
 #[cfg(test)]

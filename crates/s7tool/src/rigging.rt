@@ -18,7 +18,7 @@ use s7_area::Areas;
 use s7_client::{Config, Job};
 use s7_outer::{Files, Memory, Out};
 use s7_rig::{RigEnd, Schedule, rigs_are_formed, run_rig};
-use s7_script::{Script, ends_print, load_areas, scripts_move_data};
+use s7_script::{Script, ends_print, load_areas, scripts_keep_links};
 use s7_words::RigWords;
 use std::alloc::{AllocError, Global};
 
@@ -46,7 +46,7 @@ pub(crate) fn run_rigging<F: Files, O: Out>(
         Ok(areas) => areas,
         Err(fault) => return (print_areas_refusal(alloc, fault, words.areas, out), None),
     };
-    scripts_move_data();
+    scripts_keep_links();
     let scripts = match load_scripts(alloc, files, words.scripts.as_slice()) {
         Ok(scripts) => scripts,
         Err(refused) => return (print_refusal(alloc, refused.fault, refused.path, out), None),

@@ -76,7 +76,7 @@ fn results_for(alloc: Global, lines: usize) -> Result<Vec<JobResult>, AllocError
 fn config_of(words: &RunWords<'_>) -> Config
     ensures value { result ≡ config_by (run_told_of words.now) }
     ensures least_pdu { 64 ≤ result.pdu }
-    ensures most_pdu { result.pdu ≤ 960 }
+    ensures most_pdu { result.pdu ≤ 1920 }
     ensures least_jobs { 1 ≤ result.jobs }
     ensures most_jobs { result.jobs ≤ 8 }
     ensures polls { 1 ≤ result.polls }

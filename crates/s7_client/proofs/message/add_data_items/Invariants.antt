@@ -1,4 +1,5 @@
 use Rattle.std.proofs.Common.{◌≡◌, ◌+◌, ◌≤◌, ◌++◌, length, map, drop}
+use Rattle.s7_header.specs.Negotiation.{most_pdu}
 use Rattle.s7_item.specs.Item.{octet_count}
 use Rattle.s7_item.specs.DataItem.{data_octets}
 use Rattle.s7_item.specs.Sizes.{data_size}
@@ -11,6 +12,6 @@ abbrev pub invariant-loop-k : goal.invariant-loop-k
 invariant-loop-k l = record {
   told : l.message.octets ++ data_octets (written (drop l.k l.items) l.rest) ≡ l.fn.message.octets ++ data_octets (written l.items l.octets);
   left : length l.rest ≡ octet_count_of (drop l.k l.items);
-  fits : length l.message.octets + data_size (map octet_count (drop l.k l.items)) ≤ 960;
-  same : l.message.room ≡ 960;
+  fits : length l.message.octets + data_size (map octet_count (drop l.k l.items)) ≤ most_pdu;
+  same : l.message.room ≡ most_pdu;
 }

@@ -29,7 +29,7 @@ returns-in-Err-load_scripts-clause-ended g c =
 
 pub run_scripts-requires-clause-connects : goal.run_scripts-requires-clause-connects
 run_scripts-requires-clause-connects g c =
-    connect_first c.scripts_move_data.ensures _ (g.F.Files.shows c.load_areas.new.files)
+    connect_first c.scripts_keep_links.ensures _ (g.F.Files.shows c.load_areas.new.files)
     c.in-Ok-load_scripts.scripts.items c.in-Ok-load_scripts.ensures.ok
 
 pub returns-in-Ok-run_scripts-clause-ended : goal.returns-in-Ok-run_scripts-clause-ended

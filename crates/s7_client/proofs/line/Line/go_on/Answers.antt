@@ -7,13 +7,16 @@ use Rattle.s7_client.proofs.line.Line.go_on.Goals as goal
 pub returns-then-not-is_empty : goal.returns-then-not-is_empty
 returns-then-not-is_empty g c =
     step_used c.args.self.now c.consume.new.self c.args.job.now c.consume.new.job (g.L.Link.shows c.args.link.now)
-    c.args.config.now c.args.granted c.consume.ensures
+    c.args.config.now c.args.granted
+    (none_pending c.args.config.now c.args.self.now.talk c.args.job.now.running c.requires.sent c.requires.unput)
+    c.consume.ensures
 
 pub returns-in-Bytes : goal.returns-in-Bytes
 returns-in-Bytes g c =
     step_taken c.args.self.now c.consume-in-Bytes.new.self c.args.job.now c.consume-in-Bytes.new.job
     (g.L.Link.shows c.args.link.now) (g.L.Link.shows c.refill.new.line) c.refill.new.self
     c.args.config.now c.args.granted
+    (none_pending c.args.config.now c.args.self.now.talk c.args.job.now.running c.requires.sent c.requires.unput)
     (empty_of c.args.self.now.inbox c.is_empty.result c.is_empty.ensures c.if-not-is_empty.false)
     c.consume-in-Bytes.ensures
     c.refill.ensures.took c.refill.ensures.same c.refill.ensures.faults c.refill.ensures.waits

@@ -115,3 +115,10 @@ returns-in-Asking g c =
     c.put_next.new.running (g.L.Link.shows c.args.link.now)
     (g.L.Link.shows c.go_on-in-Asking.new.link) c.args.config.now c.args.granted c.go_on-in-Asking.result
     c.put_next.ensures c.go_on-in-Asking.ensures
+
+pub returns-in-Single : goal.returns-in-Single
+returns-in-Single g c =
+    step_put c.args.self.now c.go_on-in-Single.new.self c.put_next.new.self c.args.job.now c.go_on-in-Single.new.job
+    c.put_next.new.running (g.L.Link.shows c.args.link.now)
+    (g.L.Link.shows c.go_on-in-Single.new.link) c.args.config.now c.args.granted c.go_on-in-Single.result
+    c.put_next.ensures c.go_on-in-Single.ensures

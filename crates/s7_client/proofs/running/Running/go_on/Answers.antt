@@ -1,9 +1,11 @@
 use Rattle.std.proofs.Common.{length, refl, sym, ap, ◌∙◌}
 use Rattle.s7_client.specs.declared.running.Stage.TheVariants as stage
-use Rattle.s7_client.specs.Stages.{is_ready}
+use Rattle.s7_client.specs.Stages.{can_ask_single, is_ready}
 use Rattle.s7_client.proofs.UnputLemmas.{few_unput}
 use Rattle.s7_client.proofs.FollowLemmas.{follows_at, conducts_at}
 use Rattle.s7_client.proofs.ReachLemmas.{reached_waiting, reached_end}
+use Rattle.s7_client.proofs.SingleLemmas.{single_few}
+use Rattle.s7_client.proofs.SingleAskLemmas.{reached_alone}
 use Rattle.s7_client.proofs.running.Running.go_on.Goals as goal
 
 pub returns-then-is_empty-clause-reached : goal.returns-then-is_empty-clause-reached
@@ -35,3 +37,16 @@ returns-else-is_empty-clause-few c = λ config size least.
     few_unput config size r.job (length r.found.items) (stage.Asking c.ask_on-last.new.self) least
     (c.ask_on-last.ensures.ready r.job (length r.found.items)
     (ap (is_ready r.job (length r.found.items)) (sym c.in-Asking.is) ∙ r.ready))
+
+pub returns-in-Single-clause-reached : goal.returns-in-Single-clause-reached
+returns-in-Single-clause-reached c = λ config granted course follows same none.
+    reached_alone c.args.self.now _ c.in-Single.single c.ask_on.new.self config granted course c.ask_on.result
+    c.args.sequence c.in-Single.is refl refl refl refl c.ask_on.ensures.asks c.ask_on.ensures.waits
+    c.ask_on.ensures.ask c.ask_on.ensures.len follows same none
+
+pub returns-in-Single-clause-few : goal.returns-in-Single-clause-few
+returns-in-Single-clause-few c = λ config size least.
+    let r = c.args.self.now in
+    single_few config size r.job (length r.found.items) c.ask_on.new.self least
+    (ap (can_ask_single r.job (length r.found.items)) c.ask_on.ensures.ask
+    ∙ (ap (is_ready r.job (length r.found.items)) (sym c.in-Single.is) ∙ r.ready))

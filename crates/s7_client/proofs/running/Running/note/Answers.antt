@@ -17,6 +17,6 @@ pub returns-in-None-clause-notes : goal.returns-in-None-clause-notes
 returns-in-None-clause-notes c = λ config granted rows t conducts.
     let kind = by_kind c.args.items.now c.args.flight.now.asked c.requires.asked in
     kept_stage c.args.self.now c.keep.new.self config granted rows c.args.self.now.stage c.args.flight.now
-    c.args.answer.now kind.0 c.args.items.now t kind.1
+    c.args.answer.now kind.0 c.args.items.now c.requires.listing t kind.1
     (λ w x h. sym c.in-None.is ∙ (c.refusal_of.ensures w x h ∙ ap (λ a. refusal_by a x) c.is_alone.ensures))
     c.keep.ensures.keeps c.keep.ensures.stage c.keep.ensures.job conducts

@@ -1,10 +1,20 @@
-use Rattle.std.proofs.Common.{[], length, ◌∙◌}
+use Rattle.std.proofs.Common.{Option, Some, None, [], length, ◌∙◌}
+use Rattle.std.specs.Prelude.{IfNone}
 use Rattle.s7_client.specs.declared.running.Stage.TheVariants as stage
 use Rattle.s7_client.proofs.UnputLemmas.{few_unput}
 use Rattle.s7_client.proofs.KeepLemmas.{by_kind}
 use Rattle.s7_client.proofs.TakeLemmas.{none_taken, taken_on, taken_grant}
 use Rattle.s7_client.proofs.ReadyLemmas.{answered_ready, taken_flies}
 use Rattle.s7_client.proofs.running.Running.take.Goals as goal
+
+-- general: what follows where there is no value
+if_none : {A P Q : Type 0} (o : Option A) → (P → Q) → IfNone o P → IfNone o Q
+if_none None so h = so h
+if_none (Some x) so h = h
+
+pub returns-in-Single-clause-none : goal.returns-in-Single-clause-none
+returns-in-Single-clause-none c =
+    if_none c.take_alone.result (λ none. none c.args.config.now) c.take_alone.ensures.none
 
 pub invariant_of-self : goal.invariant_of-self
 invariant_of-self c = record {

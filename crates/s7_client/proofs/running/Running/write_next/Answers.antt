@@ -12,8 +12,8 @@ write_flight-requires-clause-asked c =
     c.len.ensures.value c.if-asking-eq0.false c.index-deref-len.is in
     (length r.found.items, (and_parts _ _ waits.flies).1)
 
-pub returns-clause-some : goal.returns-clause-some
-returns-clause-some c = λ yes size.
+pub returns-else-asking-eq0-clause-some : goal.returns-else-asking-eq0-clause-some
+returns-else-asking-eq0-clause-some c = λ yes size.
     let r = c.args.self.now in
     put_one r c.in-Asking.asking c.index-deref-len.result c.args.config.now size c.write_flight.new.message.octets
     c.in-Asking.is
@@ -22,8 +22,8 @@ returns-clause-some c = λ yes size.
     c.len.ensures.value c.if-asking-eq0.false c.index-deref-len.is)
     c.write_flight.ensures.octets
 
-pub returns-clause-fits : goal.returns-clause-fits
-returns-clause-fits c = λ yes.
+pub returns-else-asking-eq0-clause-fits : goal.returns-else-asking-eq0-clause-fits
+returns-else-asking-eq0-clause-fits c = λ yes.
     let r = c.args.self.now in
     let waits : IsWaiting r c.in-Asking.asking c.index-deref-len.result =
     is_waiting r c.in-Asking.asking c.deref.result.now c.len.result c.index-deref-len.result c.in-Asking.is

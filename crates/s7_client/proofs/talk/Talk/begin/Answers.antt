@@ -1,4 +1,5 @@
-use Rattle.std.proofs.Common.{refl, ap}
+use Rattle.std.proofs.Common.{refl, sym, ap, subst}
+use Rattle.s7_client.specs.Running.{IsAsking}
 use Rattle.s7_client.proofs.BeginLemmas.{begins_opening, begins_asking, begins_leaving, begins_over}
 use Rattle.s7_client.proofs.talk.Talk.begin.Goals as goal
 
@@ -10,10 +11,18 @@ returns-in-Opening c =
 
 pub returns-in-Asking : goal.returns-in-Asking
 returns-in-Asking c =
-    begins_asking c.args.config.now c.args.self.now _ c.args.running.now c.go_on-self.new.self c.in-Asking.field-0
-    c.go_on-self.result c.in-Asking.is
+    begins_asking c.args.config.now c.args.self.now _ c.args.running.now c.go_on-self.new.self c.go_on-self.result
+    (subst IsAsking (sym c.in-Asking.is) tt)
     (c.go_on-self.ensures.reached c.args.config.now) (ap (λ x. x.unsent) c.clear.ensures) refl refl refl
     c.go_on-self.ensures.job
+
+pub returns-in-Single : goal.returns-in-Single
+returns-in-Single c =
+    begins_asking c.args.config.now c.args.self.now _ c.args.running.now c.go_on-self-in-Single.new.self
+    c.go_on-self-in-Single.result
+    (subst IsAsking (sym c.in-Single.is) tt)
+    (c.go_on-self-in-Single.ensures.reached c.args.config.now) (ap (λ x. x.unsent) c.clear.ensures) refl refl refl
+    c.go_on-self-in-Single.ensures.job
 
 pub returns-in-Leaving : goal.returns-in-Leaving
 returns-in-Leaving c =

@@ -1,0 +1,189 @@
+// A job that asks one question at a time.
+ghost use Rattle.std.specs.Prelude.{◌≡◌, ◌≤◌, true, IsSome};
+ghost use Rattle.s7_client.specs.declared.subject.Subject.{Subject};
+ghost use Rattle.s7_client.specs.declared.single.Ask.TheVariants as asked;
+
+use crate::asking::sequence_after;
+use crate::codes::GOOD;
+use crate::collect::place_octets;
+use crate::grant::Leaves;
+use crate::running::{Running, Stage};
+use crate::subject::Subject;
+use crate::user_data::{Told, read_single};
+use s7_clock::Control;
+
+/// What such a job asks.
+#[derive(Clone, Copy, Drop)]
+pub(crate) enum Ask {
+    /// A control.
+    Control(Control),
+    /// User data about this.
+    About(Subject),
+    /// The next octets of an answer in user data, under this sequence octet.
+    Further(Subject, u8),
+}
+
+/// What a job that asks one question at a time has asked and asks next.
+#[derive(Drop)]
+pub(crate) struct Single {
+    /// What its telegram asks that is out, or else what it asks next.
+    pub(crate) ask: Ask,
+    /// The sequence of the telegram, where it went out.
+    pub(crate) out: Option<u16>,
+    /// It went out and wasn't put to be sent yet.
+    pub(crate) unput: bool,
+    /// How many octets of the answer came.
+    pub(crate) len: usize,
+    ghost first: { (subject : Subject) → ask ≡ asked.About subject → len ≡ 0 },
+    ghost most: { len ≤ 8448 },
+    ghost put: { unput ≡ true → IsSome out },
+}
+
+impl Single {
+    ghost use Rattle.std.specs.Prelude.{ℕ, false, length, take, Some, None, IfSome, IfNone};
+    ghost use Rattle.s7_client.specs.declared.job.Job.{Job};
+    ghost use Rattle.s7_client.specs.Answer.{answer_of};
+    ghost use Rattle.s7_client.specs.Course.{next_sequence};
+    ghost use Rattle.s7_client.specs.Stages.{question_of_single};
+    ghost use Rattle.s7_client.specs.Singles.{TellsIfSome};
+
+    /// Asks the question under the sequence after this one, where no telegram is out. Gives the last
+    /// sequence.
+    pub(crate) fn ask_on(&mut self, sequence: u16) -> u16
+        ensures asks { self.old.out ≡ None → (result ≡ next_sequence sequence)
+            × (self.new.out ≡ Some result) × (self.new.unput ≡ true) }
+        ensures waits { IsSome self.old.out → (result ≡ sequence) × (self.new ≡ self.old) }
+        ensures ask { self.new.ask ≡ self.old.ask }
+        ensures len { self.new.len ≡ self.old.len }
+    {
+        if self.out.is_some() {
+            return sequence;
+        }
+        let next = sequence_after(sequence);
+        self.out = Some(next);
+        self.unput = true;
+        next
+    }
+
+    /// The sequence of its telegram, where this wasn't put yet.
+    pub(crate) fn unput_sequence(&self) -> Option<u16>
+        ensures some { IfSome result (λ number. (self.now.unput ≡ true) × (self.now.out ≡ Some number)) }
+        ensures none { IfNone result (self.now.unput ≡ false) }
+    {
+        if self.unput { self.out } else { None }
+    }
+
+    /// What the message tells of the answer to the telegram that is out, behind the octets that came,
+    /// which stand at the front of these.
+    pub(crate) fn answered<'a>(&self, found: &[u8], message: &'a [u8]) -> Option<Told<'a>>
+        ensures some { IfSome result (λ told. (number : ℕ) × (self.now.out ≡ Some number) × ((job : Job)
+            → TellsIfSome self.now.ask (length (take self.now.len found.now)) told
+            (answer_of (question_of_single job self.now.ask (take self.now.len found.now)) number message.now))) }
+        ensures none { IfNone result ((job : Job) (number : ℕ) → self.now.out ≡ Some number
+            → answer_of (question_of_single job self.now.ask (take self.now.len found.now)) number message.now ≡ None) }
+    {
+        let Some(sequence) = self.out else {
+            return None;
+        };
+        // There is no place for octets where a control is asked.
+        let len = self.len.min(found.len());
+        read_single(&self.ask, &found[..len], sequence, message)
+    }
+}
+
+impl Ask {
+    ghost use Rattle.s7_client.specs.Singles.{IsAbout};
+
+    /// What asks for the next octets of its answer, which has this sequence octet.
+    pub(crate) fn further(&self, octet: u8) -> Ask
+        requires { (subject : Subject) × IsAbout subject self.now }
+        ensures { (subject : Subject) → IsAbout subject self.now → result ≡ asked.Further subject octet }
+    {
+        match self {
+            Ask::About(subject) | Ask::Further(subject, _) => Ask::Further(*subject, octet),
+            Ask::Control(_) => unreachable!(),
+        }
+    }
+}
+
+impl Running {
+    ghost use Rattle.std.specs.Prelude.{ℕ, ◌+◌, List, length, take, None, Some, Option, IfSome, IfNone, OnSome};
+    ghost use Rattle.s7_client.specs.declared.config.Config.{Config};
+    ghost use Rattle.s7_client.specs.declared.grant.Grant.{Grant};
+    ghost use Rattle.s7_client.specs.Flight.{Row, filled};
+    ghost use Rattle.s7_client.specs.Dialogue.{good_end};
+    ghost use Rattle.s7_client.specs.Course.{Course, asking, for_nothing};
+    ghost use Rattle.s7_client.specs.Stages.{IsSingle};
+    ghost use Rattle.s7_client.specs.Running.{Follows, Reached, IsOver, IsOpening, awaited_in, unput_of};
+    ghost use Rattle.s7_client.specs.Running.{conduct_in, answers_left};
+
+    /// Takes a message as the answer to the one telegram that is out, and asks on under the sequence
+    /// after this one where more is to be asked. Gives the last sequence; `None` where it is no
+    /// answer to it.
+    pub(crate) fn take_alone(&mut self, sequence: u16, message: &[u8]) -> Option<u16>
+        requires { IsSingle self.old.stage }
+        ensures some { IfSome result (λ last. (config : Config) (granted : Option Grant) (course : Course)
+            → Follows self.old config granted course.rows → course.sequence ≡ sequence
+            → (rows : List Row) × (filled course.rows message.now ≡ Some rows)
+            × Reached config granted course
+            (asking (conduct_in self.old config granted) (record course { rows = rows })) self.new last) }
+        ensures none { IfNone result ((config : Config) (granted : Option Grant) (rows : List Row)
+            → Follows self.old config granted rows → filled rows message.now ≡ None) }
+        ensures unchanged { IfNone result (self.new ≡ self.old) }
+        ensures fewer { OnSome result (answers_left self.new.stage + 1 ≤ answers_left self.old.stage) }
+        ensures not_before { IsOpening self.new.stage → ⊥ }
+        ensures few { (config : Config) (size : ℕ) → 128 ≤ size → length (unput_of config size self.new) ≤ 16256 }
+        ensures job { self.new.job ≡ self.old.job }
+    {
+        let Stage::Single(single) = &self.stage else {
+            unreachable!()
+        };
+        let Some(told) = single.answered(self.found.as_slice(), message) else {
+            return None;
+        };
+        let (ask, len) = (single.ask, single.len);
+        match told {
+            Told::Refused(number) => {
+                self.end(number, Leaves::AsItWas);
+                Some(sequence)
+            }
+            Told::Done => {
+                self.finish(len);
+                Some(sequence)
+            }
+            Told::Octets {
+                octet,
+                more,
+                octets,
+            } => {
+                place_octets(octets, self.found.as_mut_slice(), len);
+                let len = len + octets.len();
+                if !more {
+                    self.finish(len);
+                    return Some(sequence);
+                }
+                self.stage = Stage::Single(Single {
+                    ask: ask.further(octet),
+                    out: None,
+                    unput: false,
+                    len,
+                });
+                Some(self.go_on(sequence))
+            }
+        }
+    }
+
+    // Ends the job well with so many octets.
+    fn finish(&mut self, len: usize)
+        ensures ends { (carried : List ℕ) → awaited_in self.new carried
+            ≡ for_nothing (good_end (take len self.old.found.items) self.old.codes) carried }
+        ensures over { IsOver self.new.stage }
+        ensures job { self.new.job ≡ self.old.job }
+    {
+        self.found.truncate(len);
+        self.stage = Stage::Over {
+            code: GOOD,
+            leaves: Leaves::AsItWas,
+        };
+    }
+}

@@ -1,0 +1,427 @@
+// User data and controls: the questions of jobs that ask one at a time, and their answers (Snap7 1.4
+// sources, s7_types.h: TReqFunTypedParams, TS7Params7, and the data that follow them).
+ghost use Rattle.std.specs.Prelude.{◌≡◌, ℕ, ◌+◌, ◌++◌, ◌≤◌, ◌<◌, ◌==◌, ◌&&◌, true, [], List, length, if◌then◌else◌};
+ghost use Rattle.std.specs.Prelude.{None, Some, IfSome, IfNone, MatchOption};
+ghost use Rattle.s7_header.specs.declared.header.Kind.TheVariants as kind;
+ghost use Rattle.s7_header.specs.Octets.{number_at};
+ghost use Rattle.s7_header.specs.UserParams.{user_spelling, user_params_of, HasForm};
+ghost use Rattle.s7_header.specs.Negotiation.{most_pdu};
+ghost use Rattle.s7_clock.specs.Control.{control_spelling};
+ghost use Rattle.s7_szl.specs.Images.{adds_up};
+ghost use Rattle.s7_client.specs.declared.job.Job.{Job};
+ghost use Rattle.s7_client.specs.declared.single.Ask.{Ask};
+ghost use Rattle.s7_client.specs.declared.subject.Subject.{Subject};
+ghost use Rattle.s7_client.specs.declared.single.Ask.TheVariants as asked;
+ghost use Rattle.s7_client.specs.UserData.{request_params, further_params, data_of, octets_in, answers_about};
+ghost use Rattle.s7_client.specs.UserData.{is_whole, has_octets, goes_on_with};
+ghost use Rattle.s7_client.specs.Question.{message_octets, question_octets};
+ghost use Rattle.s7_client.specs.Answer.{answer_of, acknowledged, answered_by_user, by_params, brought, is_under};
+ghost use Rattle.s7_client.specs.Answer.{refuses, function_of, tells_status};
+ghost use Rattle.s7_client.specs.Dialogue.{list_octets};
+ghost use Rattle.s7_client.specs.Stages.{question_of_single, can_ask_single, is_plain, is_sent_well, data_of_job};
+ghost use Rattle.s7_client.specs.Singles.{IsAbout, TellsIfSome};
+
+use crate::job::Job;
+use crate::message::begin_message;
+use crate::password::encoded;
+use crate::refusals::{number_of_error, number_of_status};
+use crate::single::Ask;
+use crate::subject::Subject;
+use s7_clock::{Control, date_of, from_octets, to_octets, write_control};
+use s7_header::{Header, Kind, UserParams, parts, read_header, read_user, write_user};
+use s7_outer::Buffer;
+use s7_szl::read_mode;
+
+/// The most octets of an answer.
+pub(crate) const MOST_JOINED: usize = 8448;
+
+/// The octets of an image before its records.
+const HEAD: usize = 8;
+
+/// The data without octets.
+const NO_DATA: [u8; 4] = [0x0A, 0x00, 0x00, 0x00];
+
+/// The id of the list that tells whether the controller runs.
+const RUN_STATE: u16 = 0x0424;
+
+/// The function of a control that isn't a stop, and of a stop.
+const CONTROL_FUNCTION: u8 = 0x28;
+
+const STOP_FUNCTION: u8 = 0x29;
+
+/// What a message tells of the answer to what a job asks alone.
+#[derive(Clone, Copy, Debug)]
+pub(crate) enum Told<'a> {
+    /// It refuses with this number.
+    Refused(u32),
+    /// A control was done.
+    Done,
+    /// Octets of user data under this sequence octet, and whether more follow.
+    Octets {
+        octet: u8,
+        more: bool,
+        octets: &'a [u8],
+    },
+}
+
+/// Writes the message of what the job asks as the one message that the buffer holds.
+pub(crate) fn write_single(job: &Job, ask: &Ask, sequence: u16, message: &mut Buffer)
+    requires asks { (found : ℕ) × (can_ask_single job.now found ask.now ≡ true) }
+    requires room { message.old.room ≡ most_pdu }
+    ensures octets { message.new.octets ≡ question_octets sequence (question_of_single job.now ask.now []) }
+    ensures fits { (10 ≤ length message.new.octets) × (length message.new.octets ≤ 64) }
+    ensures room { message.new.room ≡ most_pdu }
+{
+    match ask {
+        Ask::Control(control) => write_call(control, sequence, message),
+        Ask::About(subject) => write_request(*subject, job, sequence, message),
+        Ask::Further(subject, octet) => write_further(*subject, *octet, sequence, message),
+    }
+}
+
+// Writes the call of a control.
+fn write_call(control: &Control, sequence: u16, message: &mut Buffer)
+    requires plain { is_plain control.now ≡ true }
+    requires room { message.old.room ≡ most_pdu }
+    ensures octets { message.new.octets ≡ message_octets kind.Job sequence (control_spelling control.now) [] }
+    ensures fits { (10 ≤ length message.new.octets) × (length message.new.octets ≤ 64) }
+    ensures room { message.new.room ≡ most_pdu }
+{
+    let mut params = [0u8; 26];
+    let len = write_control(control, &mut params);
+    begin_message(Kind::Job, sequence, &params[..len], 0, message);
+}
+
+// Writes the request for user data, with the octets that the job sends.
+fn write_request(subject: Subject, job: &Job, sequence: u16, message: &mut Buffer)
+    requires well { is_sent_well job.now ≡ true }
+    requires room { message.old.room ≡ most_pdu }
+    ensures octets { message.new.octets ≡ message_octets kind.User sequence (user_spelling (request_params subject))
+        (data_of (data_of_job job.now)) }
+    ensures fits { (10 ≤ length message.new.octets) × (length message.new.octets ≤ 64) }
+    ensures room { message.new.room ≡ most_pdu }
+{
+    let params = request_params(subject);
+    match job {
+        Job::Szl { id, index } => {
+            write_user_data(&params, &list_octets(*id, *index), sequence, message)
+        }
+        Job::Status => write_user_data(&params, &list_octets(RUN_STATE, 0), sequence, message),
+        Job::ClockSet { moment } => {
+            write_user_data(&params, &to_octets(date_of(*moment)), sequence, message)
+        }
+        Job::PasswordSet { text } => {
+            write_user_data(&params, &encoded(text.as_slice()), sequence, message)
+        }
+        _ => write_user_data(&params, &[], sequence, message),
+    }
+}
+
+// Writes the request for the next octets of an answer with this sequence octet.
+fn write_further(subject: Subject, octet: u8, sequence: u16, message: &mut Buffer)
+    requires { message.old.room ≡ most_pdu }
+    ensures octets { message.new.octets ≡ message_octets kind.User sequence
+        (user_spelling (further_params subject octet)) (data_of []) }
+    ensures fits { (10 ≤ length message.new.octets) × (length message.new.octets ≤ 64) }
+    ensures room { message.new.room ≡ most_pdu }
+{
+    let params = UserParams {
+        answer: true,
+        sequence: octet,
+        ..request_params(subject)
+    };
+    write_user_data(&params, &[], sequence, message);
+}
+
+// The parameters of a request.
+fn request_params(subject: Subject) -> UserParams
+    ensures { result ≡ request_params subject }
+{
+    UserParams {
+        answer: false,
+        group: subject.group(),
+        sub: subject.subfunction(),
+        sequence: 0,
+        unit: 0,
+        more: 0,
+        error: 0,
+    }
+}
+
+// The id and the index of a status list.
+fn list_octets(id: u16, index: u16) -> [u8; 4]
+    ensures { result ≡ list_octets id index }
+{
+    let [id_high, id_low] = id.to_be_bytes();
+    let [index_high, index_low] = index.to_be_bytes();
+    [id_high, id_low, index_high, index_low]
+}
+
+// Writes user data with these parameters and octets.
+fn write_user_data(params: &UserParams, octets: &[u8], sequence: u16, message: &mut Buffer)
+    requires form { HasForm params.now }
+    requires few { length octets.now ≤ 10 }
+    requires room { message.old.room ≡ most_pdu }
+    ensures octets { message.new.octets
+        ≡ message_octets kind.User sequence (user_spelling params.now) (data_of octets.now) }
+    ensures fits { (10 ≤ length message.new.octets) × (length message.new.octets ≤ 64) }
+    ensures room { message.new.room ≡ most_pdu }
+{
+    let mut spelled = [0u8; 12];
+    let len = write_user(params, &mut spelled);
+    let head = data_head(octets.len() as u16);
+    let body_len = (head.len() + octets.len()) as u16;
+    begin_message(Kind::User, sequence, &spelled[..len], body_len, message);
+    message.add(&head);
+    message.add(octets);
+}
+
+// What stands before so many octets in the data.
+fn data_head(len: u16) -> [u8; 4]
+    ensures { (octets : List ℕ) → length octets ≡ len → data_of octets ≡ result ++ octets }
+{
+    if len == 0 {
+        return NO_DATA;
+    }
+    let [high, low] = len.to_be_bytes();
+    [0xFF, 0x09, high, low]
+}
+
+/// What the message tells of the answer to what is asked, behind the octets that came; `None` exactly where it is no
+/// such answer.
+#[tactic(auto, unfolding(crate::specs::Answer::answer_of))]
+pub(crate) fn read_single<'a>(
+    ask: &Ask,
+    so_far: &[u8],
+    sequence: u16,
+    message: &'a [u8],
+) -> Option<Told<'a>>
+    requires first { (subject : Subject) → ask.now ≡ asked.About subject → length so_far.now ≡ 0 }
+    ensures some { IfSome result (λ told. (job : Job)
+        → TellsIfSome ask.now (length so_far.now) told
+        (answer_of (question_of_single job ask.now so_far.now) sequence message.now)) }
+    ensures none { IfNone result ((job : Job)
+        → answer_of (question_of_single job ask.now so_far.now) sequence message.now ≡ None) }
+{
+    let Ok(header) = read_header(message) else {
+        return None;
+    };
+    if header.sequence != sequence {
+        return None;
+    }
+    let (params, body) = parts(message, &header);
+    match header.kind {
+        Kind::Ack => read_refusal(&header),
+        Kind::AckData => read_acknowledgement(ask, header.error, params, body),
+        Kind::User => read_user_data(ask, so_far, params, body),
+        Kind::Job => None,
+    }
+}
+
+// The refusal that an acknowledgement without data is, where nothing follows its header.
+fn read_refusal<'a>(header: &Header) -> Option<Told<'a>>
+    ensures { (asked : Ask) (came : ℕ)
+        → let answer = (if header.now.param_len == 0 && header.now.body_len == 0 then Some (refuses header.now.error)
+        else None) in
+        MatchOption result (answer ≡ None) (λ told. TellsIfSome asked came told answer) }
+{
+    if header.param_len == 0 && header.body_len == 0 {
+        Some(Told::Refused(number_of_error(header.error)))
+    } else {
+        None
+    }
+}
+
+// What an acknowledgement with this error word, these parameters and data answers: only a control has such an answer.
+fn read_acknowledgement<'a>(ask: &Ask, error: u16, params: &[u8], body: &[u8]) -> Option<Told<'a>>
+    ensures { (job : Job) (so_far : List ℕ) (came : ℕ)
+        → let answer = (if error == 0 then acknowledged (question_of_single job ask.now so_far) params.now body.now
+        else None) in
+        MatchOption result (answer ≡ None) (λ told. TellsIfSome ask.now came told answer) }
+{
+    let Ask::Control(control) = ask else {
+        return None;
+    };
+    if error != 0 || !body.is_empty() || !tells_status(control, params) {
+        return None;
+    }
+    match params[1] {
+        0 => Some(Told::Done),
+        status => Some(Told::Refused(number_of_status(control, status))),
+    }
+}
+
+// The parameters are the function of a control and a status.
+fn tells_status(control: &Control, params: &[u8]) -> bool
+    ensures { result ≡ tells_status control.now params.now }
+{
+    params.len() == 2 && params[0] == function_of(control)
+}
+
+// The function of a control.
+fn function_of(control: &Control) -> u8
+    ensures { result ≡ function_of control.now }
+{
+    match control {
+        Control::Stop => STOP_FUNCTION,
+        _ => CONTROL_FUNCTION,
+    }
+}
+
+// What user data with these parameters and data answers.
+fn read_user_data<'a>(ask: &Ask, so_far: &[u8], params: &[u8], body: &'a [u8]) -> Option<Told<'a>>
+    requires first { (subject : Subject) → ask.now ≡ asked.About subject → length so_far.now ≡ 0 }
+    ensures { (job : Job)
+        → let answer = answered_by_user (question_of_single job ask.now so_far.now) params.now body.now in
+        MatchOption result (answer ≡ None) (λ told. TellsIfSome ask.now (length so_far.now) told answer) }
+{
+    match ask {
+        Ask::Control(_) => None,
+        Ask::About(subject) => read_piece(*subject, None, &[], params, body),
+        Ask::Further(subject, octet) => read_piece(*subject, Some(*octet), so_far, params, body),
+    }
+}
+
+// A piece of an answer in user data about this, under a sequence octet if one is asked for.
+fn read_piece<'a>(
+    subject: Subject,
+    under: Option<u8>,
+    so_far: &[u8],
+    params: &[u8],
+    body: &'a [u8],
+) -> Option<Told<'a>>
+    ensures { (asked : Ask) → IsAbout subject asked
+        → let answer = by_params subject under so_far.now body.now (user_params_of params.now) in
+        MatchOption result (answer ≡ None) (λ told. TellsIfSome asked (length so_far.now) told answer) }
+{
+    let Ok(params) = read_user(params) else {
+        return None;
+    };
+    if !answers_about(subject, &params) || !is_under(under, params.sequence) {
+        return None;
+    }
+    let octets = octets_in(body)?;
+    read_brought(subject, so_far, &params, octets)
+}
+
+// The parameters answer user data about this: the long form, the group of an answer, and a last-unit octet 00 or 01.
+fn answers_about(subject: Subject, params: &UserParams) -> bool
+    ensures { result ≡ answers_about subject params.now }
+{
+    params.answer
+        && params.group == subject.group() + 0x40
+        && params.sub == subject.subfunction()
+        && params.more <= 1
+}
+
+// The answer has the sequence octet that is asked for, if one is.
+fn is_under(asked: Option<u8>, octet: u8) -> bool
+    ensures { result ≡ is_under asked octet }
+{
+    match asked {
+        Some(asked) => octet == asked,
+        None => true,
+    }
+}
+
+// The octets of the data, if they are data of user data.
+fn octets_in(body: &[u8]) -> Option<&[u8]>
+    ensures { MatchOption result (octets_in body.now ≡ None) (λ octets. octets_in body.now ≡ Some octets.now) }
+{
+    if body == NO_DATA.as_slice() {
+        return Some(&[]);
+    }
+    if has_octets(body) {
+        Some(&body[4..])
+    } else {
+        None
+    }
+}
+
+// The data have octets.
+fn has_octets(body: &[u8]) -> bool
+    ensures { result ≡ has_octets body.now }
+{
+    body.len() > 4
+        && body.starts_with(&[0xFF, 0x09])
+        && usize::from(number_at(body, 2)) == body.len() - 4
+}
+
+// The number in the two octets from this place on.
+fn number_at(octets: &[u8], place: usize) -> u16
+    requires { place + 1 < length octets.now }
+    ensures { result ≡ number_at octets.now place }
+{
+    u16::from(octets[place]) * 256 + u16::from(octets[place + 1])
+}
+
+// What octets with these parameters bring: a refusal comes without octets.
+fn read_brought<'a>(
+    subject: Subject,
+    so_far: &[u8],
+    params: &UserParams,
+    octets: &'a [u8],
+) -> Option<Told<'a>>
+    ensures { (asked : Ask) → IsAbout subject asked
+        → let answer = brought subject so_far.now params.now octets.now in
+        MatchOption result (answer ≡ None) (λ told. TellsIfSome asked (length so_far.now) told answer) }
+{
+    if params.error != 0 {
+        return octets
+            .is_empty()
+            .then_some(Told::Refused(number_of_error(params.error)));
+    }
+    let more = params.more == 1;
+    if goes_on_with(subject, so_far, more, octets) {
+        Some(Told::Octets {
+            octet: params.sequence,
+            more,
+            octets,
+        })
+    } else {
+        None
+    }
+}
+
+// A piece goes on with what came before it: more may follow one that isn't empty, all of them have room, and with the
+// last one the answer is whole.
+fn goes_on_with(subject: Subject, so_far: &[u8], more: bool, octets: &[u8]) -> bool
+    ensures { result ≡ goes_on_with subject so_far.now more octets.now }
+{
+    let len = so_far.len() + octets.len();
+    if len > MOST_JOINED {
+        return false;
+    }
+    if more {
+        return !octets.is_empty() && subject.comes_in_pieces();
+    }
+    // What tells whether the answer is whole may stand in several pieces.
+    let mut whole = [0u8; MOST_JOINED];
+    whole[..so_far.len()].copy_from_slice(so_far);
+    whole[so_far.len()..len].copy_from_slice(octets);
+    is_whole(subject, &whole[..len])
+}
+
+// The octets are a whole answer.
+fn is_whole(subject: Subject, octets: &[u8]) -> bool
+    ensures { result ≡ is_whole subject octets.now }
+{
+    match subject {
+        Subject::StatusList => adds_up(octets),
+        Subject::RunState => read_mode(octets).is_some(),
+        Subject::Clock => from_octets(octets).is_ok(),
+        Subject::ClockSetting | Subject::Password | Subject::PasswordClearing => octets.is_empty(),
+    }
+}
+
+// An image has as many whole records behind its head as the head says.
+fn adds_up(image: &[u8]) -> bool
+    ensures { result ≡ adds_up image.now }
+{
+    if image.len() < HEAD {
+        return false;
+    }
+    let record_len = usize::from(number_at(image, 4));
+    let count = usize::from(number_at(image, 6));
+    image.len() == HEAD + record_len * count
+}

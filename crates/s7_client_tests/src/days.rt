@@ -1,0 +1,75 @@
+// Every day that the octets of a clock have.
+use s7_clock::{FIRST_MOMENT, date_of, from_octets, hold, moment_of, to_octets};
+use std::process::Abort;
+use std::test::Fail;
+
+/// The milliseconds of a day.
+const DAY: u64 = 86_400_000;
+
+/// 12:45:07.089, in milliseconds and as octets.
+const TIME: u64 = 45_907_089;
+
+const TIME_OCTETS: [u8; 4] = [0x12, 0x45, 0x07, 0x08];
+
+/// How many days a month of a year from 1990 to 2089 has.
+fn days_in(year: u32, month: u32) -> u32 {
+    match month {
+        2 if year % 4 == 0 => 29,
+        2 => 28,
+        4 | 6 | 9 | 11 => 30,
+        _ => 31,
+    }
+}
+
+/// The last two digits of a number as BCD.
+fn digits(number: u32) -> u8 {
+    (number / 10 % 10 * 16 + number % 10) as u8
+}
+
+/// The day of this number from the first of 1990 on, which was a Monday, is shown and read back as this date.
+fn is_read_back<R: Abort>(
+    rt: &R,
+    number: u64,
+    year: u32,
+    month: u32,
+    day: u32,
+) -> Result<(), Fail> {
+    let moment = hold((FIRST_MOMENT + number % 36_525 * DAY + TIME) as i64);
+    let octets = to_octets(date_of(moment));
+    let weekday = (number % 36_525 + 1) % 7 + 1;
+    let [hour, minute, second, hundredths] = TIME_OCTETS;
+    let expected = [
+        0x00,
+        0x19,
+        digits(year),
+        digits(month),
+        digits(day),
+        hour,
+        minute,
+        second,
+        hundredths,
+        0x90 + weekday as u8,
+    ];
+    assert_eq!(rt; octets, expected);
+    match from_octets(&octets) {
+        Ok(date) => assert_eq!(rt; moment_of(&date), moment),
+        Err(_) => return Err(Fail::from("no date")),
+    }
+    Ok(())
+}
+
+#[test]
+fn each_day_is_read_back(rt: HostRuntime) -> Result<(), Fail> {
+    let mut number = 0;
+    for year in 1990..2090 {
+        for month in 1..13 {
+            for day in 1..days_in(year, month) + 1 {
+                is_read_back(&rt, number, year, month, day)?;
+                number = (number + 1) % 36_525;
+            }
+        }
+    }
+    // The last day was the last of all.
+    assert_eq!(rt; number, 0);
+    Ok(())
+}

@@ -1,0 +1,157 @@
+-- Replies of a plant to user data and to controls that refuse nothing.
+use Rattle.std.proofs.Common.{◌≡◌, ℕ, ◌&&◌, Bool, true, false, not, cond, eqb, Option, None, Some, List, [], refl, ap, sym, ◌∙◌}
+use Rattle.std.specs.Prelude.{IsSome, is_some, option_map}
+use Rattle.std.proofs.lemmas.Bool.{eq-eqb}
+use Rattle.s7_header.specs.Octets.{number_at}
+use Rattle.s7_header.proofs.OctetLemmas.{two_of_number}
+use Rattle.s7_clock.specs.declared.control.Control.{Control}
+use Rattle.s7_clock.specs.declared.control.Control.TheVariants as control
+use Rattle.s7_szl.specs.Images.{image_with}
+use Rattle.s7_szl.specs.Tables.{Table, directory, identification, components, communication, protection, mode, table_of}
+use Rattle.s7_area.specs.declared.guard.Guard.{Guard}
+use Rattle.s7_area.specs.Memory.{Memory}
+use Rattle.s7_plant.specs.Answers.{answer, guarded, listed, controlled, service_function}
+use Rattle.s7_plant.specs.declared.request.Request.{Request}
+use Rattle.s7_plant.specs.declared.request.Request.TheVariants as plain
+use Rattle.s7_plant.specs.Replies.{Said, said}
+use Rattle.s7_plant.specs.State.{State}
+use Rattle.s7_client.specs.declared.subject.Subject.{Subject}
+use Rattle.s7_client.specs.declared.subject.Subject.TheVariants.{StatusList, RunState, Clock, ClockSetting}
+use Rattle.s7_client.specs.Answer.{brings, refuses}
+use Rattle.s7_client.specs.Refusals.{control_refusal, telegram_refusal}
+use Rattle.s7_client.specs.Dialogue.{list_octets}
+use Rattle.s7_client.proofs.FlightLemmas.{same_some}
+use Rattle.s7_session.specs.Judgement.{request_of}
+use Rattle.s7_rig.specs.Exchanges.{AsksFor, control_heard, user_heard}
+use Rattle.s7_rig.proofs.ShapeLemmas.{SameShape}
+
+-- ---- status lists
+
+-- the list that is told, where the last of them is this one
+abbrev told_table : Bool → Bool → Bool → Bool → Bool → Bool → Table → Option Table
+told_table a b c d e f last =
+    cond a (Some directory) (cond b (Some identification) (cond c (Some components)
+    (cond d (Some communication) (cond e (Some protection) (cond f (Some last) None)))))
+
+told_either : (a b c d e f : Bool) (one other : Table) → IsSome (told_table a b c d e f one)
+    → IsSome (told_table a b c d e f other)
+told_either true b c d e f one other there = refl
+told_either false true c d e f one other there = refl
+told_either false false true d e f one other there = refl
+told_either false false false true e f one other there = refl
+told_either false false false false true f one other there = refl
+told_either false false false false false true one other there = refl
+told_either false false false false false false one other there = absurd (cc)
+
+-- a list that there is while the controller runs is there while it doesn't
+table_stays : (id index : ℕ) (running : Bool) → IsSome (table_of id index true) → IsSome (table_of id index running)
+unfolding table_of
+table_stays id index true there = there
+table_stays id index false there =
+    told_either (eqb id 0 && eqb index 0) (eqb id 0x11 && eqb index 0) (eqb id 0x1C && eqb index 0)
+    (eqb id 0x131 && eqb index 1) (eqb id 0x232 && eqb index 4) (eqb id 0x424 && eqb index 0) (mode true)
+    (mode false) there
+
+listed_good : (id index : ℕ) (table : Option Table) → IsSome table
+    → (listed (option_map (image_with id index) table)).error ≡ 0
+listed_good id index None there = absurd (cc)
+listed_good id index (Some table) there = refl
+
+-- the reply to a list that there is has no error
+pub list_good : (id index : ℕ) (s : State) (right : Bool) → IsSome (table_of id index true)
+    → (answer s right (plain.Szl id index)).error ≡ 0
+list_good id index s right there =
+    listed_good id index (table_of id index s.running) (table_stays id index s.running there)
+
+-- the request of a list is for the id and the index that its octets name
+pub list_asked : (id index : ℕ)
+    → plain.Szl (number_at (list_octets id index) 0) (number_at (list_octets id index) 2) ≡ plain.Szl id index
+list_asked id index =
+    ap (λ n. plain.Szl n (number_at (list_octets id index) 2)) (two_of_number id)
+    ∙ ap (plain.Szl id) (two_of_number index)
+
+-- the list that tells whether the controller runs is there
+pub mode_there : IsSome (table_of 0x0424 0 true)
+unfolding table_of
+mode_there = refl
+
+-- ---- where no guard is
+
+unguarded : (right : Bool) (guard : Option Guard) → guard ≡ None → (not right && is_some guard) ≡ false
+unguarded true guard none = refl
+unguarded false guard none = ap is_some none
+
+-- nothing is barred
+allowed : (s : State) (right : Bool) (n : Memory) (reply : Said) → SameShape s.memory n → n.guard ≡ None
+    → guarded s right reply ≡ reply
+allowed s right n reply same none =
+    ap (λ b. cond b (said 0xD241 [] []) reply) (unguarded right s.memory.guard (same.guard ∙ none))
+
+pub set_good : (s : State) (right : Bool) (n : Memory) (moment value : ℕ) → SameShape s.memory n → n.guard ≡ None
+    → (answer s right (plain.ClockSet moment value)).error ≡ 0
+set_good s right n moment value same none =
+    ap (λ (reply : Said). reply.error) (allowed s right n (said 0 [] []) same none)
+
+-- ---- what is heard of a good reply
+
+brought_by : (b more : Bool) (octet error : ℕ) (octets : List ℕ) → b ≡ true
+    → telegram_refusal (cond b (brings octet more octets) (refuses error)) ≡ None
+brought_by true more octet error octets good = refl
+brought_by false more octet error octets good = absurd (cc)
+
+-- user data isn't refused
+pub user_good : (pdu octet : ℕ) (reply : Said) → reply.error ≡ 0 → telegram_refusal (user_heard pdu octet reply) ≡ None
+user_good pdu octet reply good =
+    brought_by (eqb reply.error 0) _ octet reply.error _ (eq-eqb reply.error 0 good)
+
+-- a control that was done isn't refused
+pub control_good : (c : Control) (function : ℕ) (reply : Said) → reply ≡ controlled function 0
+    → control_refusal c (control_heard reply) ≡ None
+control_good c function reply done = ap (λ r. control_refusal c (control_heard r)) done
+
+-- ---- what a job asks for
+
+-- Whatever this asks for, a state of the memory's shape replies without an error.
+abbrev pub IsGood : Memory → Subject → List ℕ → Type 0
+IsGood n subject octets =
+    (moment : ℕ) (right : Bool) (request : Request) (s : State) → AsksFor subject octets moment request
+    → SameShape s.memory n → (answer s right request).error ≡ 0
+
+good_as : (s : State) (right : Bool) (asked request : Request) → asked ≡ request → (answer s right request).error ≡ 0
+    → (answer s right asked).error ≡ 0
+good_as s right asked request is good = ap (λ r. (answer s right r).error) is ∙ good
+
+pub lists_good : (n : Memory) (id index : ℕ) → IsSome (table_of id index true)
+    → IsGood n StatusList (list_octets id index)
+lists_good n id index there = λ moment right request s asked same.
+    good_as s right request (plain.Szl id index) (asked ∙ list_asked id index) (list_good id index s right there)
+
+pub mode_good : (n : Memory) → IsGood n RunState (list_octets 0x0424 0)
+mode_good n = λ moment right request s asked same.
+    good_as s right request (plain.Szl 0x0424 0) (asked ∙ list_asked 0x0424 0) (list_good 0x0424 0 s right mode_there)
+
+pub clock_good : (n : Memory) → IsGood n Clock []
+clock_good n = λ moment right request s asked same. good_as s right request (plain.ClockRead moment) asked refl
+
+pub setting_good : (n : Memory) (octets : List ℕ) → n.guard ≡ None → IsGood n ClockSetting octets
+setting_good n octets none = λ moment right request s asked same.
+    good_as s right request (plain.ClockSet moment asked.0) asked.2 (set_good s right n moment asked.0 same none)
+
+-- Whatever the control asks for, a state of the memory's shape replies that it was done.
+abbrev pub IsDoneAs : Memory → Control → ℕ → Type 0
+IsDoneAs n c function =
+    (right : Bool) (request : Request) (s : State) → request_of c ≡ Some request → SameShape s.memory n
+    → answer s right request ≡ controlled function 0
+
+done_as : (s : State) (right : Bool) (n : Memory) (request asked : Request) → Some asked ≡ Some request
+    → answer s right asked ≡ guarded s right (controlled service_function 0) → SameShape s.memory n → n.guard ≡ None
+    → answer s right request ≡ controlled service_function 0
+done_as s right n request asked is guards same none =
+    ap (answer s right) (sym (same_some asked request is))
+    ∙ (guards ∙ allowed s right n (controlled service_function 0) same none)
+
+pub compress_done : (n : Memory) → n.guard ≡ None → IsDoneAs n control.Compress service_function
+compress_done n none = λ right request s is same. done_as s right n request plain.Compress is refl same none
+
+pub copy_done : (n : Memory) → n.guard ≡ None → IsDoneAs n control.CopyRam service_function
+copy_done n none = λ right request s is same. done_as s right n request plain.CopyRam is refl same none

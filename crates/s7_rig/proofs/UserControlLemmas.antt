@@ -1,0 +1,115 @@
+-- What a client hears of a control.
+use Rattle.std.proofs.Common.{◌≡◌, ℕ, ◌<◌, ◌≤◌, Bool, true, false, ◌&&◌, cond, List, [], ◌∷◌, length, Some, refl, ap, sym, ◌∙◌, subst, arith}
+use Rattle.std.specs.Prelude.{None}
+use Rattle.std.proofs.lemmas.Bool.{eq-eqb}
+use Rattle.s7_clock.specs.declared.control.Control.{Control}
+use Rattle.s7_clock.specs.declared.control.Control.TheVariants as control
+use Rattle.s7_header.specs.Negotiation.{most_pdu}
+use Rattle.s7_plant.specs.declared.request.Request.{Request}
+use Rattle.s7_plant.specs.declared.request.Request.TheVariants as plain
+use Rattle.s7_plant.specs.Answers as plant
+use Rattle.s7_plant.specs.Answers.{controlled, refused, guarded, is_barred, start_status, stop_status}
+use Rattle.s7_plant.specs.Requests.{asked}
+use Rattle.s7_plant.specs.Replies.{Said}
+use Rattle.s7_plant.specs.State.{State}
+use Rattle.s7_client.specs.Question.{controls}
+use Rattle.s7_client.specs.Answer.{stands, function_of, answer_of}
+use Rattle.s7_client.proofs.FlightLemmas.{same_some}
+use Rattle.s7_session.specs.LinkState.{LinkState}
+use Rattle.s7_session.specs.Judgement.{request_of, reply_octets, plainly}
+use Rattle.s7_session.specs.Verdict.{Verdict}
+use Rattle.s7_rig.specs.Exchanges.{control_heard, is_controlled}
+use Rattle.s7_rig.proofs.AnsweredLemmas.{answer_is_heard, refusal_is_heard}
+use Rattle.s7_rig.proofs.ReplyLemmas.{IsAskedWell}
+
+-- ---- the replies of a plant
+
+-- A reply to a control with this function: a status, or that a right is wanted.
+data IsOfControl (function : ℕ) (reply : Said) : Type 0 where
+  is_done : (status : ℕ) → reply ≡ controlled function status → IsOfControl function reply
+  is_barred_from : reply ≡ refused 0xD241 → IsOfControl function reply
+
+barred_by : (barred : Bool) (function status : ℕ)
+    → IsOfControl function (cond barred (refused 0xD241) (controlled function status))
+barred_by true function status = is_barred_from refl
+barred_by false function status = is_done status refl
+
+guarded_by : (state : State) (right : Bool) (function status : ℕ)
+    → IsOfControl function (guarded state right (controlled function status))
+guarded_by state right function status = barred_by (is_barred state right) function status
+
+-- what some state replies to what a control asks
+asks_control : (c : Control) (request asks : Request) (state : State) (right : Bool) → request_of c ≡ Some request
+    → request_of c ≡ Some asks → IsOfControl (function_of c) (plant.answer state right asks)
+    → IsOfControl (function_of c) (plant.answer state right request)
+asks_control c request asks state right asked same of =
+    subst (λ r. IsOfControl (function_of c) (plant.answer state right r)) (same_some asks request (sym same ∙ asked)) of
+
+reply_of_control : (c : Control) (request : Request) (state : State) (right : Bool) → request_of c ≡ Some request
+    → IsOfControl (function_of c) (plant.answer state right request)
+reply_of_control control.Start request state right asked =
+    asks_control control.Start request (plain.Start false) state right asked refl
+    (guarded_by state right 0x28 (start_status state.running))
+reply_of_control control.ColdStart request state right asked =
+    asks_control control.ColdStart request (plain.Start true) state right asked refl
+    (guarded_by state right 0x28 (start_status state.running))
+reply_of_control control.Stop request state right asked =
+    asks_control control.Stop request plain.Stop state right asked refl
+    (guarded_by state right 0x29 (stop_status state.running))
+reply_of_control control.Compress request state right asked =
+    asks_control control.Compress request plain.Compress state right asked refl (guarded_by state right 0x28 0x00)
+reply_of_control control.CopyRam request state right asked =
+    asks_control control.CopyRam request plain.CopyRam state right asked refl (guarded_by state right 0x28 0x00)
+reply_of_control (control.Insert kind number) request state right asked = absurd (cc)
+reply_of_control (control.Delete kind number) request state right asked = absurd (cc)
+
+-- ---- what is heard of them
+
+-- The octets of the reply are short, and heard as it says.
+record IsControlHeard (c : Control) (s : ℕ) (reply : Said) : Type 0 where
+  least : 10 ≤ length (reply_octets s reply)
+  most : length (reply_octets s reply) ≤ most_pdu
+  is : answer_of (controls c) s (reply_octets s reply) ≡ Some (control_heard reply)
+
+done_heard : (c : Control) (s status : ℕ) → s < 65536 → IsControlHeard c s (controlled (function_of c) status)
+done_heard c s status low =
+    let params : List ℕ = function_of c ∷ status ∷ [] in
+    record {
+      least = omega arith;
+      most = omega arith;
+      is = answer_is_heard (controls c) s params [] (omega (arith, low)) (omega arith) (omega arith)
+          ∙ ap (λ t. cond (t && true) (Some (stands status)) None) (eq-eqb (function_of c) (function_of c) refl);
+    }
+
+barred_heard : (c : Control) (s : ℕ) → s < 65536 → IsControlHeard c s (refused 0xD241)
+barred_heard c s low = record {
+  least = omega arith;
+  most = omega arith;
+  is = refusal_is_heard (controls c) s 0xD241 (omega (arith, low)) (omega arith);
+}
+
+heard_by_kind : (c : Control) (s : ℕ) (reply : Said) → s < 65536 → IsOfControl (function_of c) reply
+    → IsControlHeard c s reply
+heard_by_kind c s reply low (is_done status is) = subst (IsControlHeard c s) (sym is) (done_heard c s status low)
+heard_by_kind c s reply low (is_barred_from is) = subst (IsControlHeard c s) (sym is) (barred_heard c s low)
+
+-- whatever state gives the reply to a control, it is heard
+pub control_well : (all : List Verdict) (link : LinkState) (s : ℕ) (c : Control) (request : Request) → s < 65536
+    → request_of c ≡ Some request → IsAskedWell all (controls c) s (plainly link s request)
+control_well all link s c request low is = record {
+  message = reply_octets s;
+  messages = λ reply. refl;
+  good = λ moment reply state gives.
+      let of = subst (IsOfControl (function_of c)) (sym gives) (reply_of_control c request state link.right is) in
+      let heard = heard_by_kind c s reply low of in
+      record {
+        least = heard.least;
+        most = heard.most;
+        heard = record {
+          answer = control_heard reply;
+          is = heard.is;
+          told = is_controlled c link.right request reply refl is refl refl;
+          goes_on = tt;
+        };
+      };
+}

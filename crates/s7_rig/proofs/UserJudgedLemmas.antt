@@ -1,0 +1,228 @@
+-- How a session judges controls and user data.
+use Rattle.std.proofs.Common.{◌≡◌, ℕ, suc, ◌+◌, ◌<◌, ◌≤◌, Bool, true, false, ◌&&◌, ◌||◌, cond, eqb, Ok, List, [], ◌∷◌, ◌++◌, length, refl, ap, ◌∙◌, arith}
+use Rattle.std.specs.Prelude.{Option, None, Some, not}
+use Rattle.std.specs.Str.{bytes_eq}
+use Rattle.std.proofs.lemmas.Bool.{and_from, eq-eqb}
+use Rattle.s7_outer.specs.Numbers.{two_octets}
+use Rattle.s7_header.specs.Negotiation.{most_pdu}
+use Rattle.s7_header.specs.Octets.{number_at}
+use Rattle.s7_header.specs.UserParams.{user_spelling}
+use Rattle.s7_header.proofs.UserLemmas.{spelled_user}
+use Rattle.s7_clock.specs.Control.{control_of, control_spelling, is_control}
+use Rattle.s7_clock.specs.Moment.{moment_in}
+use Rattle.s7_clock.specs.declared.control.Control.{Control}
+use Rattle.s7_clock.specs.declared.control.Control.TheVariants as control
+use Rattle.s7_clock.proofs.ControlLemmas.{control_again}
+use Rattle.s7_area.specs.declared.guard.Guard.{Guard}
+use Rattle.s7_plant.specs.declared.request.Request.{Request}
+use Rattle.s7_plant.specs.declared.request.Request.TheVariants as plain
+use Rattle.s7_client.specs.declared.subject.Subject.{Subject}
+use Rattle.s7_client.specs.declared.subject.Subject.TheVariants.{StatusList, RunState, Clock, ClockSetting, Password, PasswordClearing}
+use Rattle.s7_client.specs.UserData.{group_of, subfunction_of, request_params, further_params, data_of, comes_in_pieces}
+use Rattle.s7_client.specs.Question.{Question, controls, asks, asks_further, kind_of, params_of, body_of, question_octets}
+use Rattle.s7_session.specs.Errors.{WRONG_PASSWORD, NO_RIGHT}
+use Rattle.s7_session.specs.Judgement as session
+use Rattle.s7_session.specs.Judgement.{Judgement, judge, own, kinds, job, asks_plainly, asks_user, request_of, control_in, function, function_at, group, user_at, slice_octets, slices_left, further_of, further, list_read, clock_set, clock_set_to, user_octets, user_answer, group_of_answer, next_octet, secured, password_set, password_cleared}
+use Rattle.s7_session.specs.LinkState.{LinkState}
+use Rattle.s7_session.specs.Passwords.{decoded, no_data, set_error, clear_error}
+use Rattle.s7_rig.specs.Exchanges.{HoldsRest}
+use Rattle.s7_rig.proofs.JudgedLemmas.{judged_question, chosen, within}
+
+-- a telegram under a sequence, on a link on which this PDU was granted, that has room in it
+pub record IsSent (link : LinkState) (pdu s : ℕ) (q : Question) : Type 0 where
+  pub granted : link.granted ≡ Some pdu
+  pub low : s < 65536
+  pub most : pdu ≤ most_pdu
+  pub fits : length (question_octets s q) ≤ pdu
+
+judged_sent : (link : LinkState) (pdu s : ℕ) (q : Question) → IsSent link pdu s q
+    → judge link (question_octets s q) ≡ kinds link (kind_of q) s (params_of q) (body_of q)
+judged_sent link pdu s q sent =
+    judged_question link s q sent.low (omega (arith, sent.most, sent.fits)) (within link pdu _ sent.granted sent.fits)
+
+-- ---- controls
+
+asked_by : (link : LinkState) (pdu s code : ℕ) (c : Control) (request : Request) → is_control c ≡ true
+    → function link pdu code s (control_spelling c) [] ≡ control_in link s [] (control_of (control_spelling c))
+    → link.granted ≡ Some pdu → request_of c ≡ Some request
+    → function_at link link.granted code s (control_spelling c) [] ≡ asks_plainly link s request
+asked_by link pdu s code c request is same granted asked =
+    ap (λ g. function_at link g code s (control_spelling c) []) granted
+    ∙ (same ∙ (ap (control_in link s []) (control_again c is) ∙ ap (session.controls link s []) asked))
+
+control_asked : (link : LinkState) (pdu s : ℕ) (c : Control) (request : Request) → link.granted ≡ Some pdu
+    → request_of c ≡ Some request → job link s (control_spelling c) [] ≡ asks_plainly link s request
+control_asked link pdu s control.Start request granted asked =
+    asked_by link pdu s 0x28 control.Start request refl refl granted asked
+control_asked link pdu s control.ColdStart request granted asked =
+    asked_by link pdu s 0x28 control.ColdStart request refl refl granted asked
+control_asked link pdu s control.Stop request granted asked =
+    asked_by link pdu s 0x29 control.Stop request refl refl granted asked
+control_asked link pdu s control.Compress request granted asked =
+    asked_by link pdu s 0x28 control.Compress request refl refl granted asked
+control_asked link pdu s control.CopyRam request granted asked =
+    asked_by link pdu s 0x28 control.CopyRam request refl refl granted asked
+control_asked link pdu s (control.Insert kind number) request granted asked = absurd (cc)
+control_asked link pdu s (control.Delete kind number) request granted asked = absurd (cc)
+
+-- a control that the plant serves is asked
+pub judged_control : (link : LinkState) (pdu s : ℕ) (c : Control) (request : Request)
+    → IsSent link pdu s (controls c) → request_of c ≡ Some request
+    → judge link (question_octets s (controls c)) ≡ asks_plainly link s request
+judged_control link pdu s c request sent asked =
+    judged_sent link pdu s (controls c) sent ∙ control_asked link pdu s c request sent.granted asked
+
+-- ---- user data
+
+judged_asks : (link : LinkState) (pdu s : ℕ) (subject : Subject) (octets : List ℕ)
+    → IsSent link pdu s (asks subject octets)
+    → judge link (question_octets s (asks subject octets))
+    ≡ group link pdu s (data_of octets) (Ok (request_params subject))
+judged_asks link pdu s subject octets sent =
+    let u = request_params subject in
+    let body = data_of octets in
+    judged_sent link pdu s (asks subject octets) sent
+    ∙ (ap (λ g. user_at link g s (user_spelling u) body) sent.granted
+    ∙ ap (group link pdu s body)
+    (spelled_user u
+    (record { form = record { unit = refl; more = refl; error = refl }; error = omega arith })))
+
+-- data with octets
+sized_data : (octets : List ℕ) (n : ℕ) → length octets ≡ suc n
+    → data_of octets ≡ 0xFF ∷ 0x09 ∷ (two_octets (suc n) ++ octets)
+sized_data [] n is = absurd (omega (arith, is))
+sized_data (x ∷ xs) n is = ap (λ k. 0xFF ∷ 0x09 ∷ (two_octets k ++ x ∷ xs)) is
+
+data_long : (octets : List ℕ) (n k : ℕ) → 4 + length octets ≡ k
+    → eqb (length (0xFF ∷ 0x09 ∷ (two_octets n ++ octets))) k ≡ true
+data_long octets n k is = eq-eqb (length (0xFF ∷ 0x09 ∷ (two_octets n ++ octets))) k (omega (arith, is))
+
+-- those of a status list name its id and index
+list_asked : (link : LinkState) (pdu s : ℕ) (octets : List ℕ) → length octets ≡ 4
+    → list_read link pdu s (data_of octets)
+    ≡ asks_user link pdu s 0x44 0x01 false (λ moment. plain.Szl (number_at octets 0) (number_at octets 2))
+list_asked link pdu s octets four =
+    ap (list_read link pdu s) (sized_data octets 3 four)
+    ∙ chosen _ _ _ (and_from _ _ (data_long octets 4 8 (omega (arith, four))) refl)
+
+pub judged_list : (link : LinkState) (pdu s : ℕ) (octets : List ℕ) → IsSent link pdu s (asks StatusList octets)
+    → length octets ≡ 4
+    → judge link (question_octets s (asks StatusList octets))
+    ≡ asks_user link pdu s 0x44 0x01 false (λ moment. plain.Szl (number_at octets 0) (number_at octets 2))
+judged_list link pdu s octets sent four =
+    judged_asks link pdu s StatusList octets sent ∙ list_asked link pdu s octets four
+
+pub judged_state : (link : LinkState) (pdu s : ℕ) (octets : List ℕ) → IsSent link pdu s (asks RunState octets)
+    → length octets ≡ 4
+    → judge link (question_octets s (asks RunState octets))
+    ≡ asks_user link pdu s 0x44 0x01 false (λ moment. plain.Szl (number_at octets 0) (number_at octets 2))
+judged_state link pdu s octets sent four =
+    judged_asks link pdu s RunState octets sent ∙ list_asked link pdu s octets four
+
+-- a clock is read at the moment
+pub judged_clock : (link : LinkState) (pdu s : ℕ) (octets : List ℕ) → IsSent link pdu s (asks Clock octets)
+    → judge link (question_octets s (asks Clock octets))
+    ≡ asks_user link pdu s 0x47 0x01 true (λ moment. plain.ClockRead moment)
+judged_clock link pdu s octets sent = judged_asks link pdu s Clock octets sent
+
+-- and set to the moment that the octets say
+pub judged_setting : (link : LinkState) (pdu s value : ℕ) (octets : List ℕ)
+    → IsSent link pdu s (asks ClockSetting octets) → length octets ≡ 10 → moment_in octets ≡ Some value
+    → judge link (question_octets s (asks ClockSetting octets))
+    ≡ asks_user link pdu s 0x47 0x02 true (λ moment. plain.ClockSet moment value)
+judged_setting link pdu s value octets sent ten says =
+    judged_asks link pdu s ClockSetting octets sent
+    ∙ (ap (clock_set link pdu s) (sized_data octets 9 ten)
+    ∙ (chosen _ _ _ (and_from _ _ (data_long octets 10 14 (omega (arith, ten))) refl)
+    ∙ ap (clock_set_to link pdu s) says))
+
+-- ---- passwords
+
+-- It is answered with an error word, and without octets.
+pub record IsSecured (link : LinkState) (s group subfunction : ℕ) (j : Judgement) : Type 0 where
+  pub error : ℕ
+  pub right : Bool
+  pub small : error < 65536
+  pub is : j
+      ≡ own
+      (user_octets s (user_answer (group_of_answer group) subfunction (next_octet link.user_sequence) error) no_data
+      ∷ [])
+      (secured link right)
+
+error_small : (good : Bool) (n : ℕ) → n < 65536 → cond good 0 n < 65536
+error_small true n small = omega arith
+error_small false n small = small
+
+set_small : (guard : Option Guard) (text : List ℕ) → set_error guard text < 65536
+set_small None text = omega arith
+set_small (Some guard) text = error_small (bytes_eq text guard.password) WRONG_PASSWORD (omega arith)
+
+clear_small : (guard : Option Guard) (right : Bool) → clear_error guard right < 65536
+clear_small None right = omega arith
+clear_small (Some guard) right = error_small right NO_RIGHT (omega arith)
+
+pub judged_password : (link : LinkState) (pdu s : ℕ) (octets : List ℕ) → IsSent link pdu s (asks Password octets)
+    → length octets ≡ 8 → IsSecured link s 0x45 0x01 (judge link (question_octets s (asks Password octets)))
+judged_password link pdu s octets sent eight =
+    let error = set_error link.guard (decoded octets) in
+    record {
+      error = error;
+      right = link.right || eqb error 0;
+      small = set_small link.guard (decoded octets);
+      is = judged_asks link pdu s Password octets sent
+          ∙ (ap (password_set link s) (sized_data octets 7 eight)
+          ∙ chosen _ _ _ (and_from _ _ (data_long octets 8 12 (omega (arith, eight))) refl));
+    }
+
+pub judged_clearing : (link : LinkState) (pdu s : ℕ) (octets : List ℕ)
+    → IsSent link pdu s (asks PasswordClearing octets) → octets ≡ []
+    → IsSecured link s 0x45 0x02 (judge link (question_octets s (asks PasswordClearing octets)))
+judged_clearing link pdu s octets sent none =
+    let error = clear_error link.guard link.right in
+    record {
+      error = error;
+      right = link.right && not (eqb error 0);
+      small = clear_small link.guard link.right;
+      is = judged_asks link pdu s PasswordClearing octets sent
+          ∙ ap (λ xs. password_cleared link s (data_of xs)) none;
+    }
+
+-- ---- further octets
+
+judged_long : (link : LinkState) (pdu s octet : ℕ) (subject : Subject) (so_far : List ℕ)
+    → IsSent link pdu s (asks_further subject octet so_far)
+    → judge link (question_octets s (asks_further subject octet so_far))
+    ≡ group link pdu s no_data (Ok (further_params subject octet))
+judged_long link pdu s octet subject so_far sent =
+    let u = further_params subject octet in
+    judged_sent link pdu s (asks_further subject octet so_far) sent
+    ∙ (ap (λ g. user_at link g s (user_spelling u) no_data) sent.granted
+    ∙ ap (group link pdu s no_data) (spelled_user u (record { form = tt; error = omega arith })))
+
+-- what is held goes on
+abbrev pub goes_on_from : LinkState → ℕ → ℕ → Subject → ℕ → List ℕ → Judgement
+goes_on_from link pdu s subject octet rest =
+    own (slice_octets s (group_of subject) (subfunction_of subject) octet pdu rest ∷ [])
+    (record link { sliced = slices_left (group_of subject) (subfunction_of subject) octet pdu rest })
+
+held_goes_on : (link : LinkState) (pdu s octet : ℕ) (subject : Subject) (so_far : List ℕ)
+    (h : HoldsRest link subject octet so_far)
+    → further link pdu s (further_params subject octet) no_data ≡ goes_on_from link pdu s subject octet h.held.rest
+held_goes_on link pdu s octet subject so_far h =
+    ap (further_of link pdu s (further_params subject octet)) h.is
+    ∙ chosen _ _ _
+    (and_from _ _ (and_from _ _ (eq-eqb _ _ h.group) (eq-eqb _ _ h.subfunction)) (eq-eqb _ _ h.sequence))
+
+pub judged_further : (link : LinkState) (pdu s octet : ℕ) (subject : Subject) (so_far : List ℕ)
+    → IsSent link pdu s (asks_further subject octet so_far) → comes_in_pieces subject ≡ true
+    → (h : HoldsRest link subject octet so_far)
+    → judge link (question_octets s (asks_further subject octet so_far))
+    ≡ goes_on_from link pdu s subject octet h.held.rest
+judged_further link pdu s octet StatusList so_far sent pieces h =
+    judged_long link pdu s octet StatusList so_far sent ∙ held_goes_on link pdu s octet StatusList so_far h
+judged_further link pdu s octet RunState so_far sent pieces h =
+    judged_long link pdu s octet RunState so_far sent ∙ held_goes_on link pdu s octet RunState so_far h
+judged_further link pdu s octet Clock so_far sent pieces h = absurd (cc)
+judged_further link pdu s octet ClockSetting so_far sent pieces h = absurd (cc)
+judged_further link pdu s octet Password so_far sent pieces h = absurd (cc)
+judged_further link pdu s octet PasswordClearing so_far sent pieces h = absurd (cc)

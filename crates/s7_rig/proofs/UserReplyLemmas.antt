@@ -1,0 +1,260 @@
+-- How a session on a link between two messages replies to each question of a job.
+use Rattle.std.proofs.Common.{◌≡◌, inl, ℕ, ◌<◌, ◌≤◌, Bool, true, false, cond, eqb, ltb, List, [], ◌++◌, length, take, Option, None, Some, refl, sym, subst, arith}
+use Rattle.std.specs.Prelude.{IsSome}
+use Rattle.std.proofs.lemmas.Bool.{eq-eqb}
+use Rattle.s7_header.specs.Negotiation.{most_pdu}
+use Rattle.s7_header.specs.Octets.{number_at}
+use Rattle.s7_item.specs.declared.item.Item.{Item}
+use Rattle.s7_clock.specs.Moment.{moment_in}
+use Rattle.s7_clock.specs.declared.control.Control.{Control}
+use Rattle.s7_plant.specs.declared.request.Request.{Request}
+use Rattle.s7_plant.specs.declared.request.Request.TheVariants as plain
+use Rattle.s7_plant.specs.declared.request.Request.TheVariants.{Read}
+use Rattle.s7_plant.specs.State.{State}
+use Rattle.s7_plant.specs.Answers as plant
+use Rattle.s7_wire.specs.Sent.{sent_message}
+use Rattle.s7_client.specs.declared.subject.Subject.{Subject}
+use Rattle.s7_client.specs.declared.subject.Subject.TheVariants.{StatusList, RunState, Clock, ClockSetting, Password, PasswordClearing}
+use Rattle.s7_client.specs.UserData.{group_of, subfunction_of, goes_on_with, comes_in_pieces}
+use Rattle.s7_client.specs.Dialogue.{list_octets}
+use Rattle.s7_client.specs.Question.{Question, negotiates, reads, writes, controls, asks, asks_further, question_octets}
+use Rattle.s7_client.specs.Answer.{brings, refuses, answer_of}
+use Rattle.s7_session.specs.Events.{lives}
+use Rattle.s7_session.specs.LinkState.{LinkState}
+use Rattle.s7_session.specs.Owed.{past}
+use Rattle.s7_session.specs.Judgement.{Asking, judge, ask, plainly, request_of, by_user, asks_user, user_octets, next_octet, secured, slice_room, slice_octets, slices_left}
+use Rattle.s7_session.specs.Passwords.{no_data}
+use Rattle.s7_session.specs.Verdict.{Verdict}
+use Rattle.s7_rig.specs.Settled.{Settled}
+use Rattle.s7_rig.specs.Written.{own_write}
+use Rattle.s7_rig.specs.Exchanges.{IsAskable, AsksFor, IsSecurity, IsReadyFor, HoldsRest, GoesOn, security_heard, is_secured, is_further, Replies}
+use Rattle.s7_rig.proofs.ServedLemmas.{KeepsGrant}
+use Rattle.s7_rig.proofs.QuestionLemmas.{served_question, served_by_link}
+use Rattle.s7_rig.proofs.UserControlLemmas.{control_well}
+use Rattle.s7_rig.proofs.UserFitLemmas.{list_fits, state_fits, clock_fits, setting_fits}
+use Rattle.s7_rig.proofs.UserHeardLemmas.{IsRest, told_params, length-told, length-slice, error_is_heard, none_is_heard, slice_is_heard, rest_is_held}
+use Rattle.s7_rig.proofs.UserJudgedLemmas.{IsSent, IsSecured, judged_control, judged_list, judged_state, judged_clock, judged_setting, judged_password, judged_clearing, judged_further}
+use Rattle.s7_rig.proofs.UserServedLemmas.{IsFit, user_well}
+use Rattle.s7_rig.proofs.JudgedLemmas.{judged_read}
+use Rattle.s7_rig.proofs.AsksLemmas.{write_is_asked}
+use Rattle.s7_rig.proofs.ReplyLemmas.{IsGood, IsAskedWell, asked_replies, own_replies, read_well, write_well}
+
+-- ---- passwords
+
+secured_heard : (good : Bool) (s octet error : ℕ) (subject : Subject) (octets : List ℕ) → s < 65536 → error < 65536
+    → goes_on_with subject [] false [] ≡ true → eqb error 0 ≡ good
+    → answer_of (asks subject octets) s (user_octets s (told_params subject octet 0 error) no_data)
+    ≡ Some (cond good (brings octet false []) (refuses error))
+secured_heard true s octet error subject octets low small whole is =
+    none_is_heard (asks subject octets) subject None s octet error [] (λ params body. refl) refl low small whole is
+secured_heard false s octet error subject octets low small whole is =
+    error_is_heard (asks subject octets) subject None s octet error [] (λ params body. refl) refl low small is
+
+secured_ends : (good : Bool) (link : LinkState) (octet error : ℕ) (subject : Subject) (octets : List ℕ)
+    → GoesOn link (asks subject octets) (cond good (brings octet false []) (refuses error))
+secured_ends true link octet error subject octets = λ more. absurd (cc)
+secured_ends false link octet error subject octets = tt
+
+secured_good : (all : List Verdict) (link : LinkState) (s octet error : ℕ) (subject : Subject) (octets : List ℕ)
+    → s < 65536 → error < 65536 → IsSecurity subject → goes_on_with subject [] false [] ≡ true
+    → IsGood all link (asks subject octets) s (user_octets s (told_params subject octet 0 error) no_data) []
+secured_good all link s octet error subject octets low small security whole =
+    let long = length-told s octet 0 error subject no_data in
+    record {
+      least = omega (arith, long);
+      most = omega (arith, long);
+      heard = record {
+        answer = security_heard octet error;
+        is = secured_heard (eqb error 0) s octet error subject octets low small whole refl;
+        told = is_secured subject octets octet error refl security refl refl;
+        goes_on = secured_ends (eqb error 0) link octet error subject octets;
+      };
+    }
+
+-- ---- further octets
+
+further_good : (all : List Verdict) (link : LinkState) (pdu s octet : ℕ) (subject : Subject) (so_far rest : List ℕ)
+    → s < 65536 → 64 ≤ pdu → pdu ≤ most_pdu → IsRest subject so_far rest
+    → link.sliced ≡ slices_left (group_of subject) (subfunction_of subject) octet pdu rest
+    → IsGood all link (asks_further subject octet so_far) s
+    (slice_octets s (group_of subject) (subfunction_of subject) octet pdu rest) []
+further_good all link pdu s octet subject so_far rest low least most r sliced =
+    let long = length-slice s octet pdu subject rest least most in
+    let room = slice_room pdu in
+    record {
+      least = long.0;
+      most = long.1;
+      heard = record {
+        answer = brings octet (ltb room (length rest)) (take room rest);
+        is = slice_is_heard (asks_further subject octet so_far) subject (Some octet) s octet pdu so_far rest
+            (λ params body. refl) (eq-eqb octet octet refl) low least most r;
+        told = is_further subject octet so_far (take room rest) (ltb room (length rest)) refl refl refl;
+        goes_on = rest_is_held link subject octet pdu so_far rest sliced r;
+      };
+    }
+
+-- ---- each question
+
+-- The question is sent on a link between two messages that lives after it.
+record IsServed (first : LinkState) (b : List ℕ) (js vs : List Verdict) (pdu s : ℕ) (q : Question) : Type 0 where
+  settled : Settled first b js (Some pdu)
+  low : s < 65536
+  least : 64 ≤ pdu
+  most : pdu ≤ most_pdu
+  fits : length (question_octets s q) ≤ pdu
+  live : (past first (b ++ sent_message 1024 (question_octets s q)) (js ++ vs)).standing ≡ lives
+
+is_sent : {first : LinkState} (b : List ℕ) (js vs : List Verdict) (pdu s : ℕ) (q : Question)
+    → IsServed first b js vs pdu s q → IsSent (past first b js).link pdu s q
+is_sent b js vs pdu s q served =
+    record { granted = served.settled.grants; low = served.low; most = served.most; fits = served.fits }
+
+-- one that asks the plant
+asking_replied : {first : LinkState} (b : List ℕ) (js vs : List Verdict) (pdu s : ℕ) (q : Question) (asking : Asking)
+    → IsServed first b js vs pdu s q → judge (past first b js).link (question_octets s q) ≡ ask asking
+    → KeepsGrant (past first b js).link asking → IsAskedWell (js ++ vs) q s asking → Replies first b js vs pdu q s
+asking_replied b js vs pdu s q asking served judged keeps well =
+    asked_replies b js vs pdu s q asking served.low well
+    (served_question b js vs pdu s q asking served.settled served.most served.fits judged keeps served.live)
+
+read_replied : {first : LinkState} (b : List ℕ) (js vs : List Verdict) (pdu s : ℕ) (items : List Item)
+    → IsServed first b js vs pdu s (reads items) → IsAskable pdu (reads items)
+    → Replies first b js vs pdu (reads items) s
+read_replied {first} b js vs pdu s items served can =
+    let link = (past first b js).link in
+    asking_replied b js vs pdu s (reads items) (plainly link s (Read items)) served
+    (judged_read link pdu s items served.settled.grants served.low served.most served.fits can.0.0 can.0.1 can.1)
+    (λ reply. refl) (read_well (js ++ vs) link s items served.low (omega (arith, served.most, can.1)))
+
+write_replied : {first : LinkState} (b : List ℕ) (js vs : List Verdict) (pdu s : ℕ) (items : List Item)
+    (octets : List ℕ) → IsServed first b js vs pdu s (writes items octets) → IsAskable pdu (writes items octets)
+    → Replies first b js vs pdu (writes items octets) s
+write_replied {first} b js vs pdu s items octets served can =
+    let link = (past first b js).link in
+    asking_replied b js vs pdu s (writes items octets) (plainly link s (own_write items octets)) served
+    (write_is_asked link pdu s items octets served.settled.grants served.low served.most served.fits can.0.0 can.0.1
+    can.1) (λ reply. refl)
+    (write_well (js ++ vs) link s items octets served.low can.0.1 can.1 (omega (arith, served.most, served.fits)))
+
+control_by : {first : LinkState} (b : List ℕ) (js vs : List Verdict) (pdu s : ℕ) (c : Control)
+    (request : Option Request) → IsServed first b js vs pdu s (controls c) → request_of c ≡ request → IsSome request
+    → Replies first b js vs pdu (controls c) s
+control_by b js vs pdu s c None served is some = absurd (cc)
+control_by {first} b js vs pdu s c (Some request) served is some =
+    let link = (past first b js).link in
+    asking_replied b js vs pdu s (controls c) (plainly link s request) served
+    (judged_control link pdu s c request (is_sent b js vs pdu s (controls c) served) is) (λ reply. refl)
+    (control_well (js ++ vs) link s c request served.low is)
+
+-- user data that asks the plant
+user_replied : {first : LinkState} (b : List ℕ) (js vs : List Verdict) (pdu s : ℕ) (subject : Subject)
+    (octets : List ℕ) (timed : Bool) (request : ℕ → Request) → IsServed first b js vs pdu s (asks subject octets)
+    → judge (past first b js).link (question_octets s (asks subject octets))
+    ≡ asks_user (past first b js).link pdu s (group_of subject) (subfunction_of subject) timed request
+    → ((moment : ℕ) → AsksFor subject octets moment (request moment))
+    → ((moment : ℕ) (state : State) (right : Bool) → IsFit subject (plant.answer state right (request moment)))
+    → Replies first b js vs pdu (asks subject octets) s
+user_replied {first} b js vs pdu s subject octets timed request served judged told fits =
+    let link = (past first b js).link in
+    asking_replied b js vs pdu s (asks subject octets)
+    (by_user link pdu s (group_of subject) (subfunction_of subject) timed request) served judged (λ reply. refl)
+    (user_well (js ++ vs) link pdu s subject octets timed request served.low served.least served.most told
+    (λ moment state. fits moment state link.right))
+
+state_replied : {first : LinkState} (b : List ℕ) (js vs : List Verdict) (pdu s : ℕ)
+    → IsServed first b js vs pdu s (asks RunState (list_octets 0x0424 0))
+    → Replies first b js vs pdu (asks RunState (list_octets 0x0424 0)) s
+state_replied {first} b js vs pdu s served =
+    let octets = list_octets 0x0424 0 in
+    user_replied b js vs pdu s RunState octets false (λ moment. plain.Szl 0x0424 0) served
+    (judged_state (past first b js).link pdu s octets (is_sent b js vs pdu s (asks RunState octets) served) refl)
+    (λ moment. refl) (λ moment state right. state_fits state right)
+
+setting_by : {first : LinkState} (b : List ℕ) (js vs : List Verdict) (pdu s : ℕ) (octets : List ℕ)
+    (value : Option ℕ) → IsServed first b js vs pdu s (asks ClockSetting octets) → length octets ≡ 10
+    → moment_in octets ≡ value → IsSome value → Replies first b js vs pdu (asks ClockSetting octets) s
+setting_by b js vs pdu s octets None served ten is some = absurd (cc)
+setting_by {first} b js vs pdu s octets (Some value) served ten is some =
+    user_replied b js vs pdu s ClockSetting octets true (λ moment. plain.ClockSet moment value) served
+    (judged_setting (past first b js).link pdu s value octets
+    (is_sent b js vs pdu s (asks ClockSetting octets) served) ten is)
+    (λ moment. (value, is, refl)) (λ moment state right. setting_fits moment value state right)
+
+-- user data about a password
+secured_replied : {first : LinkState} (b : List ℕ) (js vs : List Verdict) (pdu s : ℕ) (subject : Subject)
+    (octets : List ℕ) → IsServed first b js vs pdu s (asks subject octets) → IsSecurity subject
+    → goes_on_with subject [] false [] ≡ true
+    → IsSecured (past first b js).link s (group_of subject) (subfunction_of subject)
+    (judge (past first b js).link (question_octets s (asks subject octets)))
+    → Replies first b js vs pdu (asks subject octets) s
+secured_replied {first} b js vs pdu s subject octets served security whole of =
+    let link = (past first b js).link in
+    let octet = next_octet link.user_sequence in
+    let after = secured link of.right in
+    let message = user_octets s (told_params subject octet 0 of.error) no_data in
+    own_replies b js vs pdu s (asks subject octets) message after
+    (secured_good (js ++ vs) after s octet of.error subject octets served.low of.small security whole)
+    (served_by_link b js pdu s (asks subject octets) message after served.settled served.most served.fits of.is
+    served.settled.grants)
+
+further_replied : {first : LinkState} (b : List ℕ) (js vs : List Verdict) (pdu s octet : ℕ) (subject : Subject)
+    (so_far : List ℕ) → IsServed first b js vs pdu s (asks_further subject octet so_far)
+    → comes_in_pieces subject ≡ true → HoldsRest (past first b js).link subject octet so_far
+    → Replies first b js vs pdu (asks_further subject octet so_far) s
+further_replied {first} b js vs pdu s octet subject so_far served pieces h =
+    let link = (past first b js).link in
+    let q = asks_further subject octet so_far in
+    let rest = h.held.rest in
+    let g = group_of subject in
+    let f = subfunction_of subject in
+    let after = record link { sliced = slices_left g f octet pdu rest } in
+    let message = slice_octets s g f octet pdu rest in
+    own_replies b js vs pdu s q message after
+    (further_good (js ++ vs) after pdu s octet subject so_far rest served.low served.least served.most
+    (record { whole = h.whole; most = h.most; short = inl pieces }) refl)
+    (served_by_link b js pdu s q message after served.settled served.most served.fits
+    (judged_further link pdu s octet subject so_far (is_sent b js vs pdu s q served) pieces h) served.settled.grants)
+
+served_replied : {first : LinkState} (b : List ℕ) (js vs : List Verdict) (pdu s : ℕ) (q : Question)
+    → IsServed first b js vs pdu s q → IsAskable pdu q → IsReadyFor (past first b js).link q
+    → Replies first b js vs pdu q s
+served_replied b js vs pdu s (negotiates n) served can ready = absurd can
+served_replied b js vs pdu s (reads items) served can ready = read_replied b js vs pdu s items served can
+served_replied b js vs pdu s (writes items octets) served can ready =
+    write_replied b js vs pdu s items octets served can
+served_replied b js vs pdu s (controls c) served can ready =
+    control_by b js vs pdu s c (request_of c) served refl can
+served_replied {first} b js vs pdu s (asks StatusList octets) served can ready =
+    let id = number_at octets 0 in
+    let index = number_at octets 2 in
+    user_replied b js vs pdu s StatusList octets false (λ moment. plain.Szl id index) served
+    (judged_list (past first b js).link pdu s octets (is_sent b js vs pdu s (asks StatusList octets) served) can)
+    (λ moment. refl) (λ moment state right. list_fits id index state right)
+served_replied {first} b js vs pdu s (asks RunState octets) served can ready =
+    subst (λ xs. Replies first b js vs pdu (asks RunState xs) s) (sym can)
+    (state_replied b js vs pdu s (subst (λ xs. IsServed first b js vs pdu s (asks RunState xs)) can served))
+served_replied {first} b js vs pdu s (asks Clock octets) served can ready =
+    user_replied b js vs pdu s Clock octets true (λ moment. plain.ClockRead moment) served
+    (judged_clock (past first b js).link pdu s octets (is_sent b js vs pdu s (asks Clock octets) served))
+    (λ moment. refl) (λ moment state right. clock_fits moment state right)
+served_replied b js vs pdu s (asks ClockSetting octets) served can ready =
+    setting_by b js vs pdu s octets (moment_in octets) served can.0 refl can.1
+served_replied {first} b js vs pdu s (asks Password octets) served can ready =
+    secured_replied b js vs pdu s Password octets served tt refl
+    (judged_password (past first b js).link pdu s octets (is_sent b js vs pdu s (asks Password octets) served) can)
+served_replied {first} b js vs pdu s (asks PasswordClearing octets) served can ready =
+    secured_replied b js vs pdu s PasswordClearing octets served tt refl
+    (judged_clearing (past first b js).link pdu s octets (is_sent b js vs pdu s (asks PasswordClearing octets) served)
+    can)
+served_replied b js vs pdu s (asks_further subject octet so_far) served can ready =
+    further_replied b js vs pdu s octet subject so_far served can ready
+
+-- A question that can be asked has its reply, where the link lives after it.
+pub replied : {first : LinkState} (b : List ℕ) (js vs : List Verdict) (pdu : ℕ) (q : Question) (s : ℕ)
+    → Settled first b js (Some pdu) → s < 65536 → 64 ≤ pdu → pdu ≤ most_pdu → length (question_octets s q) ≤ pdu
+    → IsAskable pdu q → IsReadyFor (past first b js).link q
+    → (past first (b ++ sent_message 1024 (question_octets s q)) (js ++ vs)).standing ≡ lives
+    → Replies first b js vs pdu q s
+replied b js vs pdu q s settled low least most fits can ready live =
+    served_replied b js vs pdu s q
+    (record { settled = settled; low = low; least = least; most = most; fits = fits; live = live }) can ready
