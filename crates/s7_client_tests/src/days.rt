@@ -63,9 +63,9 @@ fn each_day_is_read_back(rt: HostRuntime) -> Result<(), Fail> {
     let mut number = 0;
     for year in 1990..2090 {
         for month in 1..13 {
-            for day in 1..days_in(year, month) + 1 {
-                is_read_back(&rt, number, year, month, day)?;
-                number = (number + 1) % 36_525;
+            for day in 0..days_in(year, month) {
+                is_read_back(&rt, number, year, month, day + 1)?;
+                number = (number % 36_525 + 1) % 36_525;
             }
         }
     }
