@@ -4,3 +4,4 @@ pub mod SliceLemmas
 pub mod AssemblyLemmas
 pub mod NameLemmas
 pub mod HeadLemmas
+pub mod DigitLemmas

@@ -1,5 +1,6 @@
 pub mod Kinds
 pub mod Heads
+pub mod Names
 pub mod Store
 pub mod StoreView
 pub mod StorePlaces

@@ -50,6 +50,13 @@ impl DownloadSide {
         self.assembly.begin(len);
     }
 
+    /// The name that was stated last.
+    pub fn name(&self) -> BlockName
+        ensures { result ≡ self.now.name }
+    {
+        self.name
+    }
+
     /// A download was begun, and pieces of it are awaited: since `begin` no piece was the last, and
     /// none was dropped.
     pub fn is_awaiting(&self) -> bool

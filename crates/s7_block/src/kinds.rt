@@ -1,5 +1,5 @@
 //! The codes of the kinds of blocks.
-ghost use Rattle.std.specs.Prelude.{◌≡◌};
+ghost use Rattle.std.specs.Prelude.{◌≡◌, is_some};
 ghost use Rattle.s7_block.specs.Kinds.{is_stored_kind, head_code};
 
 /// Organization blocks.
@@ -28,6 +28,13 @@ pub fn is_stored_kind(kind: u8) -> bool
     ensures { result ≡ is_stored_kind kind }
 {
     kind == OB || kind == FC || kind == FB
+}
+
+/// There are blocks of this kind.
+pub fn is_kind(kind: u8) -> bool
+    ensures { result ≡ is_some (head_code kind) }
+{
+    head_code(kind).is_some()
 }
 
 /// What a head has for the kind. `None` comes exactly where there is no such kind.

@@ -1,9 +1,16 @@
-// Laws of stores, of slices, and of images that come in pieces. They run nothing.
+// Laws of heads, of names, of stores, of slices, and of images that come in pieces. They run nothing.
 ghost use Rattle.s7_block.specs.Laws.{HeadsAreRead, OneNameChanges, PiecesAreJoined, SlicesJoin};
+ghost use Rattle.s7_block.specs.Names.{NamesAreRead};
 
 /// A law: the octets of a head are read as that head, whatever stands behind them.
 pub fn heads_are_read()
     ensures { HeadsAreRead }
+{}
+
+/// A law: a number that is written in digits enough for it is read as that number, and the octets of a name are
+/// read, at the place that they tell, as that name.
+pub fn names_are_read()
+    ensures { NamesAreRead }
 {}
 
 /// A law: a block that joins a store is found under its name, one that is deleted is gone, and no

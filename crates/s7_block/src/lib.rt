@@ -1,5 +1,5 @@
-//! Blocks of a controller and their transfers: heads, a store of blocks, and the sides of an upload
-//! and of a download.
+//! Blocks of a controller and their transfers: heads, names, a store of blocks, and the sides of an
+//! upload and of a download.
 #![tactic(auto)]
 
 mod assembly;
@@ -10,6 +10,7 @@ mod download;
 mod head;
 pub mod kinds;
 mod laws;
+mod name;
 mod numbers;
 mod upload;
 
@@ -19,9 +20,12 @@ pub use blocks::Blocks;
 pub use client::BlockClient;
 pub use download::DownloadSide;
 pub use head::{db_head, head_agrees};
-pub use laws::{heads_are_read, one_name_changes, pieces_are_joined, slices_join};
+pub use laws::{heads_are_read, names_are_read, one_name_changes, pieces_are_joined, slices_join};
+pub use name::{NAME, read_digits, read_name, write_digits, write_name};
 pub use numbers::Numbers;
 pub use upload::{Slice, UploadSide};
 
+#[cfg(test)]
+mod name_tests;
 #[cfg(test)]
 mod tests;

@@ -1,1 +1,5 @@
 pub mod CodeLemmas
+pub mod BlockImageLemmas
+pub mod BlockSayLemmas
+pub mod BlockCopyLemmas
+pub mod BlockReplayLemmas

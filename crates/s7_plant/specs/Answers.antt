@@ -1,19 +1,31 @@
 -- What a plant answers to a request, and the state that it leaves (Snap7 1.4 reference manual, `Cli_ReadMultiVars`,
 -- `Cli_WriteMultiVars`, `Cli_ReadSZL`, `Cli_GetPlcDateTime`, `Cli_SetPlcDateTime`, and the control functions from
--- `Cli_PlcHotStart` on).
-use Rattle.std.specs.Prelude.{◌≡◌, ℕ, ◌+◌, pos, ◌-ℤ◌, Bool, true, false, not, ◌&&◌, is_some, if◌then◌else◌}
-use Rattle.std.specs.Prelude.{List, [], ◌∷◌, length, map, Option, None, Some}
+-- `Cli_PlcHotStart` on, and `Cli_ListBlocks`, `Cli_GetAgBlockInfo`, `Cli_FullUpload`, `Cli_Download` and `Cli_Delete`).
+use Rattle.std.specs.Prelude.{◌≡◌, ℕ, ◌+◌, ◌/◌, ◌%◌, pos, ◌-ℤ◌, Bool, true, false, not, ◌&&◌, ◌||◌, ◌==◌, nat_lt}
+use Rattle.std.specs.Prelude.{is_some}
+use Rattle.std.specs.Prelude.{if◌then◌else◌, List, [], ◌∷◌, ◌++◌, length, take, drop, map, Option, None, Some}
+use Rattle.std.specs.Prelude.{option_map, unwrap_or}
 use Rattle.s7_item.specs.Codes.{read_function, write_function}
 use Rattle.s7_item.specs.DataItem.{DataItem, padding_of, data_octets, octets_at}
 use Rattle.s7_item.specs.declared.item.Item.{Item}
 use Rattle.s7_item.specs.declared.places.DataPlace.{DataPlace}
 use Rattle.s7_clock.specs.Moment.{held, octets_at as clock_octets}
 use Rattle.s7_szl.specs.Images.{image_of}
-use Rattle.s7_area.specs.Memory.{Memory, read_code, read_octets, write_code, written}
+use Rattle.std.specs.List.{flat_map}
+use Rattle.std.specs.Map.{keys_of}
+use Rattle.s7_outer.specs.Numbers.{two_octets}
+use Rattle.s7_block.specs.Heads.{db_head, spelling_of_head}
+use Rattle.s7_block.specs.Names.{digits}
+use Rattle.s7_block.specs.Store.{image_at as image_of_block, numbers_of, with_block, without_block}
+use Rattle.s7_area.specs.Guards.{is_read_barred}
+use Rattle.s7_item.specs.Codes.{data_blocks}
+use Rattle.s7_area.specs.Registers.{db_numbers}
+use Rattle.s7_area.specs.Memory.{octets_at as area_octets, Memory, read_code, read_octets, write_code, written}
 use Rattle.s7_plant.specs.declared.request.Ask.{Ask}
 use Rattle.s7_plant.specs.declared.request.Request.{Request}
 use Rattle.s7_plant.specs.declared.request.Request.TheVariants.{Read, Write, Szl, ClockRead, ClockSet}
-use Rattle.s7_plant.specs.declared.request.Request.TheVariants.{Start, Stop, Compress, CopyRam}
+use Rattle.s7_plant.specs.declared.request.Request.TheVariants.{Start, Stop, Compress, CopyRam, ListAll, ListOf, Info}
+use Rattle.s7_plant.specs.declared.request.Request.TheVariants.{StartUpload, Insert, Delete}
 use Rattle.s7_plant.specs.declared.reply.Reply.{Reply}
 use Rattle.s7_plant.specs.Requests.{Fits}
 use Rattle.s7_plant.specs.Replies.{Said, said, said_of}
@@ -51,7 +63,8 @@ write_codes m right (item ∷ items) (place ∷ places) octets =
 abbrev pub refused : ℕ → Said
 refused error = said error [] []
 
--- a guard lets nobody change the clock or the run state, or have the memory tidied, without its right
+-- a guard lets nobody change the clock or the run state, have the memory tidied, or insert or delete blocks, without
+-- its right
 abbrev pub is_barred : State → Bool → Bool
 is_barred s right = not right && is_some s.memory.guard
 
@@ -84,11 +97,96 @@ start_status running = if running then 0x02 else 0x00
 abbrev pub stop_status : Bool → ℕ
 stop_status running = if running then 0x00 else 0x07
 
+-- ---- blocks
+
+-- the kinds of blocks in the order in which they are counted: OB, DB, SDB, FC, SFC, FB, SFB
+abbrev pub kinds : List ℕ
+kinds = 0x38 ∷ 0x41 ∷ 0x42 ∷ 0x43 ∷ 0x44 ∷ 0x45 ∷ 0x46 ∷ []
+
+-- data blocks, which are areas
+abbrev pub db_kind : ℕ
+db_kind = 0x41
+
+-- the numbers of the blocks of a kind, ascending
+abbrev pub numbers_in : State → ℕ → List ℕ
+numbers_in s kind = if kind == db_kind then db_numbers (keys_of s.memory.areas) else numbers_of s.blocks.images kind
+
+-- the octets of a data block's area
+abbrev pub db_octets : State → ℕ → Option (List ℕ)
+db_octets s number = area_octets s.memory (record { area = data_blocks; number = number })
+
+-- a data block's image: its head and its octets
+abbrev pub db_image : ℕ → List ℕ → List ℕ
+db_image number octets = spelling_of_head (db_head number (length octets)) ++ octets
+
+-- the image of a block, and none where there is no such block
+abbrev pub image_in : State → ℕ → ℕ → Option (List ℕ)
+image_in s kind number =
+    if kind == db_kind then option_map (db_image number) (db_octets s number)
+    else image_of_block s.blocks.images (record { kind = kind; number = number })
+
+-- a kind with its count: `30`, the kind, and two octets
+abbrev pub kind_count : State → ℕ → List ℕ
+kind_count s kind = 0x30 ∷ kind ∷ two_octets (length (numbers_in s kind))
+
+-- a block in the list of its kind: its number, and the flags and the language of its head
+abbrev pub list_entry : State → ℕ → ℕ → List ℕ
+list_entry s kind number =
+    two_octets number ++ take 2 (drop 3 (unwrap_or (image_in s kind number) []))
+
+-- an error word where there is none
+abbrev pub entries_told : List ℕ → Said
+entries_told [] = refused 0xD209
+entries_told (x ∷ xs) = said 0 [] (x ∷ xs)
+
+-- `30`, the kind, the length of what follows less two, and the head
+abbrev pub info_told : ℕ → Option (List ℕ) → Said
+info_told kind None = refused 0xD209
+info_told kind (Some image) = said 0 [] (0x30 ∷ kind ∷ 0x00 ∷ 0x22 ∷ take 36 image)
+
+-- the function of an upload's start, six octets and the place of the upload's id, which its link writes there, and the
+-- length of the image in seven digits behind their count
+abbrev pub upload_params : ℕ → List ℕ
+upload_params len =
+    0x1D ∷ 0x00 ∷ 0x00 ∷ 0x00 ∷ 0x00 ∷ 0x00 ∷ 0x00 ∷ 0x00 ∷ 0x07 ∷ digits 7 len
+
+-- an image that is uploaded: none longer than a reply has room for
+abbrev pub upload_told : Option (List ℕ) → Said
+upload_told None = refused 0xD209
+upload_told (Some image) =
+    if nat_lt 65572 (length image) then refused 0x8F04 else said 0 (upload_params (length image)) image
+
+-- without a right a guard of level 3 lets nobody upload
+abbrev pub uploaded : State → Bool → Said → Said
+uploaded s right reply = if is_read_barred s.memory.guard right then refused 0xD241 else reply
+
+-- there is room for a block, or another one of its name that it takes the place of
+abbrev pub takes_block : State → ℕ → ℕ → Bool
+takes_block s kind number =
+    nat_lt (length s.blocks.images) s.blocks.limit
+    || is_some (image_of_block s.blocks.images (record { kind = kind; number = number }))
+
+abbrev pub inserted : State → ℕ → ℕ → Said
+inserted s kind number = if takes_block s kind number then controlled service_function 0x00 else refused 0x8F04
+
+abbrev pub with_inserted : State → ℕ → ℕ → List ℕ → State
+with_inserted s kind number image =
+    if takes_block s kind number
+    then record s { blocks = with_block s.blocks (record { kind = kind; number = number; image = image }) }
+    else s
+
+-- a block of the store is deleted; a data block is an area, which stays
+abbrev pub deleted : State → ℕ → ℕ → Said
+deleted s kind number =
+    if is_some (image_of_block s.blocks.images (record { kind = kind; number = number }))
+    then controlled service_function 0x00 else refused 0xD209
+
 -- ---- requests
 
 -- THE ANSWER to a request with a right or without: the function of a read, the number of items and a data item for
 -- each; or the function of a write, the number of items and the code of each; the image of a status list; the octets
--- of the clock, or none where it is set; the function of a control and its status.
+-- of the clock, or none where it is set; the function of a control and its status. Of blocks: their counts, the list
+-- of a kind, a head, the image of an upload, or the status of an insert or a delete.
 abbrev pub answer : State → Bool → Request → Said
 answer s right (Read items) =
     said 0 (read_function ∷ length items ∷ []) (data_octets (map (read_item s.memory right) items))
@@ -101,9 +199,15 @@ answer s right (Start cold) = guarded s right (controlled service_function (star
 answer s right Stop = guarded s right (controlled stop_function (stop_status s.running))
 answer s right Compress = guarded s right (controlled service_function 0x00)
 answer s right CopyRam = guarded s right (controlled service_function 0x00)
+answer s right ListAll = said 0 [] (flat_map (kind_count s) kinds)
+answer s right (ListOf kind) = entries_told (flat_map (list_entry s kind) (numbers_in s kind))
+answer s right (Info kind number) = info_told kind (image_in s kind number)
+answer s right (StartUpload kind number) = uploaded s right (upload_told (image_in s kind number))
+answer s right (Insert kind number image spare) = guarded s right (inserted s kind number)
+answer s right (Delete kind number) = guarded s right (deleted s kind number)
 
 -- THE STATE that it leaves: what only reads changes nothing. A clock that is set is ahead by what is between the moment
--- that it is told and its value.
+-- that it is told and its value. A block that is inserted takes the place of the one of its name.
 abbrev pub changed : State → Bool → Request → State
 changed s right (Read items) = s
 changed s right (Write items places octets) =
@@ -116,6 +220,12 @@ changed s right (Start cold) = if_allowed s right (record s { running = true })
 changed s right Stop = if_allowed s right (record s { running = false })
 changed s right Compress = s
 changed s right CopyRam = s
+changed s right ListAll = s
+changed s right (ListOf kind) = s
+changed s right (Info kind number) = s
+changed s right (StartUpload kind number) = s
+changed s right (Insert kind number image spare) = if_allowed s right (with_inserted s kind number image)
+changed s right (Delete kind number) = if_allowed s right (record s { blocks = without_block s.blocks kind number })
 
 -- the same of what a link asks with
 abbrev pub answer_of : State → Ask → Said

@@ -1,12 +1,16 @@
 -- Requests: which of them are ready to be carried out, and what of them a history keeps.
-use Rattle.std.specs.Prelude.{◌≡◌, ℕ, ◌+◌, ◌≤◌, Bool, length, All}
+use Rattle.std.specs.Prelude.{◌≡◌, ℕ, ◌+◌, ◌≤◌, Bool, true, [], length, All}
 use Rattle.s7_item.specs.declared.places.DataPlace.{DataPlace}
 use Rattle.s7_item.specs.Sizes.{answer_size}
+use Rattle.s7_outer.specs.Held.{Held}
 use Rattle.s7_clock.specs.Moment.{IsHeld}
+use Rattle.s7_block.specs.Kinds.{is_stored_kind}
+use Rattle.s7_block.specs.Heads.{head_agrees}
 use Rattle.s7_plant.specs.declared.request.Ask.{Ask}
 use Rattle.s7_plant.specs.declared.request.Request.{Request}
 use Rattle.s7_plant.specs.declared.request.Request.TheVariants.{Read, Write, Szl, ClockRead, ClockSet}
-use Rattle.s7_plant.specs.declared.request.Request.TheVariants.{Start, Stop, Compress, CopyRam}
+use Rattle.s7_plant.specs.declared.request.Request.TheVariants.{Start, Stop, Compress, CopyRam, ListAll, ListOf, Info}
+use Rattle.s7_plant.specs.declared.request.Request.TheVariants.{StartUpload, Insert, Delete}
 use Rattle.s7_plant.specs.Replies.{Said}
 
 -- ---- what a link asks with
@@ -14,7 +18,12 @@ use Rattle.s7_plant.specs.Replies.{Said}
 abbrev pub asked : Bool → Request → Ask
 asked right request = record { right = right; request = request }
 
--- the request as it stands in a history
+-- a buffer without room
+abbrev pub no_room : Held
+no_room = record { octets = []; room = 0 }
+
+-- The request as it stands in a history: the room that an insert brought is taken up. What a request is answered and
+-- changes doesn't hang on that room.
 abbrev pub kept_request : Request → Request
 kept_request (Read items) = Read items
 kept_request (Write items places octets) = Write items places octets
@@ -25,6 +34,12 @@ kept_request (Start cold) = Start cold
 kept_request Stop = Stop
 kept_request Compress = Compress
 kept_request CopyRam = CopyRam
+kept_request ListAll = ListAll
+kept_request (ListOf kind) = ListOf kind
+kept_request (Info kind number) = Info kind number
+kept_request (StartUpload kind number) = StartUpload kind number
+kept_request (Insert kind number image spare) = Insert kind number image no_room
+kept_request (Delete kind number) = Delete kind number
 
 abbrev pub kept : Ask → Ask
 kept ask = asked ask.right (kept_request ask.request)
@@ -32,7 +47,8 @@ kept ask = asked ask.right (kept_request ask.request)
 -- ---- what can be carried out
 
 -- A read's answer has at most 8,192 octets. A write has one place for each item, inside its octets. A clock is set to a
--- moment that clock octets have. All else can be carried out.
+-- moment that clock octets have. A block that is inserted is of a kind that is stored, with a head that is its own. All
+-- else can be carried out.
 abbrev pub IsReady : Request → Type 0
 IsReady (Read items) = answer_size items ≤ 8192
 IsReady (Write items places octets) =
@@ -45,8 +61,14 @@ IsReady (Start cold) = Unit {0}
 IsReady Stop = Unit {0}
 IsReady Compress = Unit {0}
 IsReady CopyRam = Unit {0}
+IsReady ListAll = Unit {0}
+IsReady (ListOf kind) = Unit {0}
+IsReady (Info kind number) = Unit {0}
+IsReady (StartUpload kind number) = Unit {0}
+IsReady (Insert kind number image spare) = (is_stored_kind kind ≡ true) × (head_agrees image kind number ≡ true)
+IsReady (Delete kind number) = Unit {0}
 
--- it brings the room that its change takes up: none of these takes up any
+-- it brings the room that its change takes up: an insert that of its image, which is copied there
 abbrev pub HasSpare : Request → Type 0
 HasSpare (Read items) = Unit {0}
 HasSpare (Write items places octets) = Unit {0}
@@ -57,6 +79,12 @@ HasSpare (Start cold) = Unit {0}
 HasSpare Stop = Unit {0}
 HasSpare Compress = Unit {0}
 HasSpare CopyRam = Unit {0}
+HasSpare ListAll = Unit {0}
+HasSpare (ListOf kind) = Unit {0}
+HasSpare (Info kind number) = Unit {0}
+HasSpare (StartUpload kind number) = Unit {0}
+HasSpare (Insert kind number image spare) = length image ≤ spare.room
+HasSpare (Delete kind number) = Unit {0}
 
 -- what a step needs; of a history it needs readiness alone
 pub record CanBeDone (request : Request) : Type 0 where
@@ -73,6 +101,10 @@ HasAtMost most reply = reply.error ≡ 0 → 12 + length reply.params + length r
 abbrev pub HasBody : ℕ → Said → Type 0
 HasBody most reply = reply.error ≡ 0 → length reply.body ≤ most
 
+-- where the reply has no error, it has the 16 octets of an upload's start and an image that an upload has room for
+abbrev pub HasImage : Said → Type 0
+HasImage reply = reply.error ≡ 0 → (length reply.params ≡ 16) × (length reply.body ≤ 65572)
+
 -- The answer that is made of the reply has at most the full size of answers to the request: of a control that is the
 -- function and a status. The octets for user data have at most the length of a message.
 abbrev pub Fits : Request → Said → Type 0
@@ -85,3 +117,9 @@ Fits (Start cold) reply = HasAtMost 14 reply
 Fits Stop reply = HasAtMost 14 reply
 Fits Compress reply = HasAtMost 14 reply
 Fits CopyRam reply = HasAtMost 14 reply
+Fits ListAll reply = HasBody 8192 reply
+Fits (ListOf kind) reply = HasBody 8192 reply
+Fits (Info kind number) reply = HasBody 8192 reply
+Fits (StartUpload kind number) reply = HasImage reply
+Fits (Insert kind number image spare) reply = HasAtMost 14 reply
+Fits (Delete kind number) reply = HasAtMost 14 reply

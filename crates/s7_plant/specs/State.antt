@@ -1,21 +1,33 @@
 -- The state of a plant.
-use Rattle.std.specs.Prelude.{ℕ, ℤ, pos, ◌+ℤ◌, Bool, true}
+use Rattle.std.specs.Prelude.{ℕ, ℤ, pos, ◌+ℤ◌, Bool, true, []}
 use Rattle.s7_area.specs.Memory.{Memory}
 use Rattle.s7_clock.specs.Moment.{held}
+use Rattle.s7_block.specs.Store.{Store}
 use Rattle.s7_plant.specs.declared.plant.Plant.{Plant}
 
 pub record State : Type 0 where
   pub memory : Memory
+  -- the blocks that were loaded; data blocks are areas of the memory
+  pub blocks : Store
   -- by how many milliseconds its clock is ahead of the moments that it is told
   pub offset : ℤ
   pub running : Bool
 
--- a plant of this memory, to which nothing has happened: it runs, and its clock is right
+-- no block, and room for 1,024
+abbrev pub no_blocks : Store
+no_blocks = record { images = []; limit = 1024 }
+
+-- a plant of this memory with these blocks, to which nothing has happened: it runs, and its clock is right
+abbrev pub opens_with : Memory → Store → State
+opens_with m blocks = record { memory = m; blocks = blocks; offset = pos 0; running = true }
+
+-- the same without blocks
 abbrev pub begins_with : Memory → State
-begins_with m = record { memory = m; offset = pos 0; running = true }
+begins_with m = opens_with m no_blocks
 
 abbrev pub state_of : Plant → State
-state_of plant = record { memory = plant.areas; offset = plant.offset; running = plant.running }
+state_of plant =
+    record { memory = plant.areas; blocks = plant.blocks; offset = plant.offset; running = plant.running }
 
 -- what its clock shows at a moment, both in milliseconds since 1970
 abbrev pub clock_at : State → ℕ → ℕ

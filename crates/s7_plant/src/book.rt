@@ -1,16 +1,19 @@
 // A plant with the journal that led to it.
-ghost use Rattle.std.specs.Prelude.{◌≡◌, ◌≤◌, ◌<◌, ◌+◌, ◌++◌, ◌∷◌, ◌↔◌, [], length};
+ghost use Rattle.std.specs.Prelude.{◌≡◌, ℕ, ◌≤◌, ◌<◌, ◌+◌, List, ◌++◌, ◌∷◌, ◌↔◌, [], Some, length};
 ghost use Rattle.std.specs.Prelude.{IsErr, IfErr, MatchResult, IfOk, OnOk};
+ghost use Rattle.std.specs.List.{AllZip};
+ghost use Rattle.s7_outer.specs.Held.{Held};
 ghost use Rattle.s7_plant.specs.Journals.{replay_entries};
 ghost use Rattle.s7_plant.specs.State.{state_of};
 
 use crate::journal::{Entry, Journal};
 use crate::plant::Plant;
 use crate::reply::{BODY_ROOM, Reply};
-use crate::request::Ask;
+use crate::request::{Ask, Request};
 use crate::steps::Steps;
 use s7_area::Areas;
-use s7_outer::Memory;
+use s7_block::Blocks;
+use s7_outer::{Memory, Octets};
 use s7_turn::Machine;
 use std::alloc::Global;
 use std::sync::ledger::Ledger;
@@ -32,19 +35,21 @@ impl Book {
     ghost use Rattle.s7_plant.specs.Replies.{IsReadyReply, said_of};
     ghost use Rattle.s7_plant.specs.Answers.{answer_of, after};
     ghost use Rattle.s7_plant.specs.Journals.{entries_of, entered, at, steps_to};
-    ghost use Rattle.s7_plant.specs.State.{begins_with};
+    ghost use Rattle.s7_plant.specs.State.{opens_with};
 
-    /// A plant with these areas and nothing in its journal, which takes `limit` entries, from 1 to
-    /// 262,144. Their room and a copy of the areas are taken here; `Memory` comes where there is none
-    /// for them, and the areas are dropped then.
-    pub fn new(alloc: Global, areas: Areas, limit: u64) -> Result<Book, Memory>
+    /// A plant with these areas, these blocks, of which there may be 1,024, and nothing in its journal,
+    /// which takes `limit` entries, from 1 to 262,144. Their room and a copy of the areas and the blocks
+    /// are taken here; `Memory` comes where there is none for them, and the areas and the blocks are
+    /// dropped then.
+    pub fn new(alloc: Global, areas: Areas, blocks: Blocks, limit: u64) -> Result<Book, Memory>
+        requires blocks { blocks.limit ≡ 1024 }
         requires some { 1 ≤ limit }
         requires few { limit ≤ 262144 }
-        ensures opening { IfOk result (λ book. state_of book.opening ≡ begins_with areas) }
-        ensures plant { IfOk result (λ book. state_of book.plant ≡ begins_with areas) }
+        ensures opening { IfOk result (λ book. state_of book.opening ≡ opens_with areas blocks) }
+        ensures plant { IfOk result (λ book. state_of book.plant ≡ opens_with areas blocks) }
         ensures journal { IfOk result (λ book. book.journal ≡ entries_of [] limit) }
     {
-        let plant = Plant::new(areas);
+        let plant = Plant::new(areas, blocks);
         Ok(Book {
             opening: plant.copy(alloc)?,
             plant,
@@ -85,8 +90,9 @@ impl Book {
     }
 
     /// The plant after the first `n` entries. Needs `n` to be at most the journal's length. Each
-    /// application of an entry is one step, so there are `n` of them. `Memory` comes where there is
-    /// none for the image, and no step was taken then.
+    /// application of an entry is one step, so there are `n` of them. The images of blocks that are
+    /// stored are copied before the first step. `Memory` comes where there is none for the plant or for
+    /// them, and no step was taken then.
     pub fn image_at<S: Ledger>(
         &self,
         alloc: Global,
@@ -103,12 +109,29 @@ impl Book {
         let mut image = self.opening.copy(alloc)?;
         let mut reply = Reply::new(alloc, BODY_ROOM)?;
         let entries = &self.journal.as_slice()[..n as usize];
+        let mut copies = copy_images(alloc, entries)?.into_iter();
         for entry in entries {
             steps.tick();
-            image.act(entry.ask.right, &entry.ask.request, &mut reply);
+            let copy = copies.next().flatten();
+            image.act(entry.ask.right, &entry.ask.request, copy, &mut reply);
         }
         Ok(image)
     }
+}
+
+/// For each entry a copy of the image of the block that it stores, where it stores one. `Memory` comes
+/// where there is none for them.
+fn copy_images(alloc: Global, entries: &[Entry]) -> Result<Vec<Option<Octets>>, Memory>
+    ensures { IfOk result (λ copies. AllZip (λ entry copy. (kind number : ℕ) (image : List ℕ) (spare : Held)
+        → entry.ask.request ≡ Request.Insert kind number image spare → copy ≡ Some image)
+        entries.now copies.items) }
+{
+    let mut copies = Vec::with_capacity(alloc, entries.len())?;
+    for entry in entries {
+        let copy = entry.ask.request.copy_image(alloc)?;
+        copies.push_reserved(copy);
+    }
+    Ok(copies)
 }
 
 impl Machine for Book {

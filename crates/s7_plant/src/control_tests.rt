@@ -2,7 +2,7 @@ ghost use Rattle.std.specs.Prelude.{IfSome};
 ghost use Rattle.s7_area.specs.Guards.{IsGuard};
 ghost use Rattle.s7_plant.specs.Requests.{CanBeDone};
 
-use super::tests::{DB1, a_reply, image_of, says, some_areas, with_right};
+use super::tests::{DB1, a_book, a_reply, image_of, no_blocks, says, some_areas, with_right};
 use super::*;
 use s7_area::Guard;
 use s7_clock::{FIRST_MOMENT, LAST_MOMENT};
@@ -68,13 +68,13 @@ fn request_of(control: Control) -> Request
 
 /// A plant whose guard has this level, 2 or 3; for another level it has none.
 fn a_plant(alloc: Global, level: u8) -> Result<Plant, Memory> {
-    let mut plant = Plant::new(some_areas(alloc)?);
+    let mut plant = Plant::new(some_areas(alloc)?, no_blocks(alloc)?);
     plant.areas.set_guard(a_guard(level));
     Ok(plant)
 }
 
 /// A guard of level 2 or 3; none for another level.
-fn a_guard(level: u8) -> Option<Guard>
+pub(crate) fn a_guard(level: u8) -> Option<Guard>
     ensures { IfSome result IsGuard }
 {
     if level != 2 && level != 3 {
@@ -87,7 +87,7 @@ fn a_guard(level: u8) -> Option<Guard>
 }
 
 /// What the plant answers to a request, which changes it; `reply` answers the same before.
-fn answered(
+pub(crate) fn answered(
     alloc: Global,
     plant: &mut Plant,
     right: bool,
@@ -109,7 +109,7 @@ fn answered(
 }
 
 /// The reply has this error word and nothing more.
-fn refuses(reply: &Reply, error: u16) -> bool {
+pub(crate) fn refuses(reply: &Reply, error: u16) -> bool {
     reply.error == error && reply.params.as_slice().is_empty() && reply.body.as_slice().is_empty()
 }
 
@@ -356,7 +356,7 @@ fn is_entered(alloc: Global, book: &mut Book, control: Control) -> Result<bool, 
 
 #[test]
 fn images_have_a_clock_and_a_run_state(rt: HostRuntime) -> Result<(), Fail> {
-    let mut book = Book::new(rt.alloc(), some_areas(rt.alloc())?, 4)?;
+    let mut book = a_book(rt.alloc(), 4)?;
     for control in [
         Control::Stop,
         Control::Set,

@@ -1,18 +1,36 @@
 // The data items that answer a read.
-ghost use Rattle.std.specs.Prelude.{◌≡◌, ◌+◌, ◌≤◌, ◌++◌, length, map};
+ghost use Rattle.std.specs.Prelude.{◌≡◌, ◌+◌, ◌≤◌, [], ◌∷◌, ◌++◌, length, map};
 ghost use Rattle.s7_item.specs.Item.{octet_count};
-ghost use Rattle.s7_item.specs.Codes.{good};
+ghost use Rattle.s7_item.specs.Codes.{good, read_function};
 ghost use Rattle.s7_item.specs.DataItem.{head_octets, data_item_octets, data_octets};
-ghost use Rattle.s7_item.specs.Sizes.{data_size};
+ghost use Rattle.s7_item.specs.Sizes.{answer_size, data_size};
 ghost use Rattle.s7_plant.specs.Answers.{read_item, item_size};
+ghost use Rattle.s7_plant.specs.Requests.{HasAtMost};
+ghost use Rattle.s7_plant.specs.Replies.{IsReadyReply, said, said_of};
 
+use crate::reply::Reply;
 use s7_area::Areas;
-use s7_item::codes::GOOD;
-use s7_item::{Item, padding_of, stated_length, transport_of};
+use s7_item::codes::{GOOD, READ_FUNCTION};
+use s7_item::{Item, Items, padding_of, stated_length, transport_of};
 use s7_outer::Buffer;
 
+/// Says what a read of the items gives.
+pub(crate) fn say_items(areas: &Areas, right: bool, items: &Items, reply: &mut Reply)
+    requires few { answer_size items.now ≤ 8192 }
+    requires empty { said_of reply.old ≡ said 0 [] [] }
+    requires reply { IsReadyReply reply.old }
+    ensures said { said_of reply.new ≡ said 0 (read_function ∷ length items.now ∷ [])
+        (data_octets (map (read_item areas.now right) items.now)) }
+    ensures fits { HasAtMost (answer_size items.now) (said_of reply.new) }
+    ensures ready { IsReadyReply reply.new }
+{
+    let items = items.as_slice();
+    reply.params.add(&[READ_FUNCTION, items.len() as u8]);
+    add_data_items(areas, right, items, &mut reply.body);
+}
+
 /// Adds a data item for each item, from left to right.
-pub(crate) fn add_data_items(areas: &Areas, right: bool, items: &[Item], body: &mut Buffer)
+fn add_data_items(areas: &Areas, right: bool, items: &[Item], body: &mut Buffer)
     requires few { data_size (map octet_count items.now) ≤ 8178 }
     requires room { length body.old.octets + data_size (map octet_count items.now) ≤ body.old.room }
     ensures octets { body.new.octets

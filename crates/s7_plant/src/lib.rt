@@ -1,13 +1,16 @@
-//! The plant: what clients ask of it, what it answers, and how its areas, its clock and its run state
-//! go on; and the book, which is a plant with the journal that led to it.
+//! The plant: what clients ask of it, what it answers, and how its areas, its blocks, its clock and its
+//! run state go on; and the book, which is a plant with the journal that led to it.
 #![tactic(auto)]
 
+mod blocks;
 mod book;
 mod clock;
 pub mod codes;
 mod data_item;
+mod image;
 mod journal;
 mod laws;
+mod lists;
 mod plant;
 mod reply;
 mod request;
@@ -18,11 +21,13 @@ mod write;
 pub use book::Book;
 pub use journal::{Entry, Journal};
 pub use laws::{calls_lead_the_same, kept_requests_are_the_same, replay_goes_on};
-pub use plant::Plant;
+pub use plant::{MOST_BLOCKS, Plant};
 pub use reply::{BODY_ROOM, PARAMS_ROOM, Reply};
 pub use request::{Ask, Request};
 pub use steps::Steps;
 
+#[cfg(test)]
+mod block_tests;
 #[cfg(test)]
 mod control_tests;
 #[cfg(test)]

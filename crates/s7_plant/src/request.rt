@@ -1,6 +1,10 @@
 // What is asked of a plant.
+ghost use Rattle.std.specs.Prelude.{◌≡◌, ℕ, List, Some, IfOk};
+ghost use Rattle.s7_outer.specs.Held.{Held};
+
 use s7_item::{DataItems, Items};
-use s7_outer::Octets;
+use s7_outer::{Buffer, Memory, Octets};
+use std::alloc::Global;
 
 /// What a link asks with.
 #[derive(Drop)]
@@ -55,4 +59,68 @@ pub enum Request {
     Compress,
     /// That the memory is copied to the module, which changes nothing here.
     CopyRam,
+    /// How many blocks there are of each kind.
+    ListAll,
+    /// The blocks of a kind.
+    ListOf {
+        kind: u8,
+    },
+    /// The head of a block.
+    Info {
+        kind: u8,
+        number: u16,
+    },
+    /// The image of a block, for an upload.
+    StartUpload {
+        kind: u8,
+        number: u16,
+    },
+    /// That a block is stored, in place of the one of its name.
+    Insert {
+        /// OB, FC or FB.
+        kind: u8,
+        number: u16,
+        /// The image, whose head is the block's.
+        image: Octets,
+        /// Room for the image, which is copied there. A history keeps none.
+        spare: Buffer,
+    },
+    /// That a block is no longer stored.
+    Delete {
+        kind: u8,
+        number: u16,
+    },
+}
+
+impl Request {
+    ghost use Rattle.s7_plant.specs.Requests.{HasSpare, kept_request};
+
+    /// A copy of the image of a block that is to be stored, made in the room that the request brings.
+    /// The request stays as a history keeps it.
+    pub(crate) fn take_copy(&mut self) -> Option<Octets>
+        requires { HasSpare self.old }
+        ensures copy { (kind number : ℕ) (image : List ℕ) (spare : Held)
+            → self.new ≡ Request.Insert kind number image spare → result ≡ Some image }
+        ensures kept { self.new ≡ kept_request self.old }
+    {
+        match self {
+            Request::Insert { image, spare, .. } => {
+                spare.clear();
+                spare.add(image.as_slice());
+                Some(spare.take())
+            }
+            _ => None,
+        }
+    }
+
+    /// The same copy, for which memory is taken. `Memory` comes where there is none for it.
+    pub(crate) fn copy_image(&self, alloc: Global) -> Result<Option<Octets>, Memory>
+        ensures { IfOk result (λ copy. (kind number : ℕ) (image : List ℕ) (spare : Held)
+            → self.now ≡ Request.Insert kind number image spare → copy ≡ Some image) }
+    {
+        match self {
+            Request::Insert { image, .. } => Ok(Some(Octets::copy_of(alloc, image.as_slice())?)),
+            _ => Ok(None),
+        }
+    }
 }

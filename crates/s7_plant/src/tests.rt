@@ -1,9 +1,11 @@
-ghost use Rattle.std.specs.Prelude.{◌≡◌, ◌+◌, ◌≤◌, length, All, IsTrue, IfOk, IfSome};
-ghost use Rattle.s7_plant.specs.Requests.{IsReady};
+ghost use Rattle.std.specs.Prelude.{◌≡◌, ◌+◌, ◌≤◌, [], length, All, IsTrue, IfOk, IfSome};
+ghost use Rattle.s7_plant.specs.Requests.{CanBeDone};
 ghost use Rattle.s7_plant.specs.Replies.{IsReadyReply};
+ghost use Rattle.s7_plant.specs.Journals.{entries_of};
 
 use super::*;
 use s7_area::{AreaKey, Areas};
+use s7_block::Blocks;
 use s7_item::{DataItems, DataPlace, Items, answer_size, read_data_items, read_items};
 use s7_outer::{Memory, Octets};
 use s7_turn::Hall;
@@ -33,9 +35,16 @@ pub(crate) fn some_areas(alloc: Global) -> Result<Areas, Memory> {
     Ok(areas)
 }
 
+/// No blocks, and room for 1,024.
+pub(crate) fn no_blocks(alloc: Global) -> Result<Blocks, Memory>
+    ensures { IfOk result (λ blocks. blocks.limit ≡ 1024) }
+{
+    Blocks::new(alloc, 1_024)
+}
+
 /// The read of these parameters.
 fn a_read(params: &[u8]) -> Option<Request>
-    ensures { IfSome result IsReady }
+    ensures { IfSome result CanBeDone }
 {
     let mut items = Items::new();
     if read_items(params, &mut items).is_err() || answer_size(&items) > 8_192 {
@@ -46,7 +55,7 @@ fn a_read(params: &[u8]) -> Option<Request>
 
 /// The write of these parameters and data.
 fn a_write(alloc: Global, params: &[u8], data: &[u8]) -> Result<Option<Request>, Memory>
-    ensures { IfOk result (λ r. IfSome r IsReady) }
+    ensures { IfOk result (λ r. IfSome r CanBeDone) }
 {
     let mut items = Items::new();
     let mut found = DataItems::new();
@@ -93,7 +102,7 @@ const READ_TWO: [u8; 26] =
 
 #[test]
 fn reads_are_answered(rt: HostRuntime) -> Result<(), Fail> {
-    let mut plant = Plant::new(some_areas(rt.alloc())?);
+    let mut plant = Plant::new(some_areas(rt.alloc())?, no_blocks(rt.alloc())?);
     let mut reply = a_reply(rt.alloc())?;
     let rows: [(&[u8], &[u8]); 6] = [
         (
@@ -132,7 +141,7 @@ fn reads_are_answered(rt: HostRuntime) -> Result<(), Fail> {
 
 #[test]
 fn writes_are_answered(rt: HostRuntime) -> Result<(), Fail> {
-    let mut plant = Plant::new(some_areas(rt.alloc())?);
+    let mut plant = Plant::new(some_areas(rt.alloc())?, no_blocks(rt.alloc())?);
     let mut reply = a_reply(rt.alloc())?;
     let params =
         b"\x05\x03\x12\x0A\x10\x02\x00\x01\x00\x01\x84\x00\x00\x00\x12\x0A\x10\x02\x00\x01\x00\x01\x84\x00\x00\x20\x12\x0A\x10\x02\x00\x01\x00\x01\x84\x00\x00\x18";
@@ -151,13 +160,22 @@ fn writes_are_answered(rt: HostRuntime) -> Result<(), Fail> {
 
 /// A read where there is no data, and else a write.
 fn a_request(alloc: Global, params: &[u8], data: &[u8]) -> Result<Option<Request>, Memory>
-    ensures { IfOk result (λ r. IfSome r IsReady) }
+    ensures { IfOk result (λ r. IfSome r CanBeDone) }
 {
     if data.is_empty() {
         Ok(a_read(params))
     } else {
         a_write(alloc, params, data)
     }
+}
+
+/// A book of those areas without blocks, whose journal takes so many entries.
+pub(crate) fn a_book(alloc: Global, limit: u64) -> Result<Book, Memory>
+    requires some { 1 ≤ limit }
+    requires few { limit ≤ 262144 }
+    ensures { IfOk result (λ book. book.journal ≡ entries_of [] limit) }
+{
+    Book::new(alloc, some_areas(alloc)?, no_blocks(alloc)?, limit)
 }
 
 /// The request, asked with a right.
@@ -190,7 +208,7 @@ const READ_ALL: (&[u8], &[u8]) = (
 
 #[test]
 fn steps_are_entered(rt: HostRuntime) -> Result<(), Fail> {
-    let mut book = Book::new(rt.alloc(), some_areas(rt.alloc())?, 3)?;
+    let mut book = a_book(rt.alloc(), 3)?;
     let mut reply = a_reply(rt.alloc())?;
     let rows: [(u32, (&[u8], &[u8]), u64, &[u8]); 3] = [
         (7, WRITE_AA, 0, b"\xFF"),
@@ -216,7 +234,7 @@ fn steps_are_entered(rt: HostRuntime) -> Result<(), Fail> {
 
 #[test]
 fn a_full_book_hands_back(rt: HostRuntime) -> Result<(), Fail> {
-    let mut book = Book::new(rt.alloc(), some_areas(rt.alloc())?, 1)?;
+    let mut book = a_book(rt.alloc(), 1)?;
     let mut reply = a_reply(rt.alloc())?;
     let read = a_read(READ_ALL.0).ok_or("no request")?;
     assert_eq!(rt; book.step(7, with_right(read), &mut reply).ok(), Some(0));
@@ -258,7 +276,7 @@ pub(crate) fn image_of<S: Ledger>(
 
 #[test]
 fn images_are_replayed(rt: HostRuntime) -> Result<(), Fail> {
-    let mut book = Book::new(rt.alloc(), some_areas(rt.alloc())?, 262_144)?;
+    let mut book = a_book(rt.alloc(), 262_144)?;
     let mut reply = a_reply(rt.alloc())?;
     for (params, data) in [WRITE_AA, READ_ALL, WRITE_CC] {
         let request = a_request(rt.alloc(), params, data)?.ok_or("no request")?;
@@ -279,7 +297,7 @@ fn images_are_replayed(rt: HostRuntime) -> Result<(), Fail> {
 
 #[test]
 fn a_hall_serves_a_book(rt: HostRuntime) -> Result<(), Fail> {
-    let book = Book::new(rt.alloc(), some_areas(rt.alloc())?, 2)?;
+    let book = a_book(rt.alloc(), 2)?;
     let mut reply = a_reply(rt.alloc())?;
     let (hall, mut seat) = Hall::new(rt.alloc(), book).ok().ok_or("memory")?;
     let write = a_write(rt.alloc(), WRITE_AA.0, WRITE_AA.1)?.ok_or("no request")?;

@@ -1,16 +1,83 @@
 // The writes of a request.
-ghost use Rattle.std.specs.Prelude.{◌≡◌, ◌+◌, ◌≤◌, ◌++◌, length, All};
+ghost use Rattle.std.specs.Prelude.{◌≡◌, ◌+◌, ◌≤◌, [], ◌∷◌, ◌++◌, length, All};
+ghost use Rattle.s7_item.specs.Codes.{write_function};
 ghost use Rattle.s7_area.specs.Guards.{is_write_barred};
 ghost use Rattle.s7_area.specs.Memory.{write_code};
 ghost use Rattle.s7_plant.specs.Answers.{write_all, write_codes};
+ghost use Rattle.s7_plant.specs.Requests.{HasAtMost};
+ghost use Rattle.s7_plant.specs.Replies.{IsReadyReply, said, said_of};
 
+use crate::reply::Reply;
 use s7_area::{Areas, Guard};
-use s7_item::codes::{GOOD, NOT_ALLOWED, WRONG_SIZE};
-use s7_item::{DataPlace, Item};
-use s7_outer::Buffer;
+use s7_item::codes::{GOOD, NOT_ALLOWED, WRITE_FUNCTION, WRONG_SIZE};
+use s7_item::{DataItems, DataPlace, Item, Items};
+use s7_outer::{Buffer, Octets};
+
+/// Makes the writes of a request and says their codes.
+pub(crate) fn say_writes(
+    areas: &mut Areas,
+    right: bool,
+    items: &Items,
+    places: &DataItems,
+    octets: &Octets,
+    reply: &mut Reply,
+)
+    requires places { length places.now ≡ length items.now }
+    requires inside { All (λ place. place.from + place.len ≤ length octets.now) places.now }
+    requires empty { said_of reply.old ≡ said 0 [] [] }
+    requires reply { IsReadyReply reply.old }
+    ensures areas { areas.new ≡ write_all areas.old right items.now places.now octets.now }
+    ensures said { said_of reply.new ≡ said 0 (write_function ∷ length items.now ∷ [])
+        (write_codes areas.old right items.now places.now octets.now) }
+    ensures fits { HasAtMost (14 + length items.now) (said_of reply.new) }
+    ensures ready { IsReadyReply reply.new }
+{
+    let items = items.as_slice();
+    let places = places.as_slice();
+    reply.params.add(&[WRITE_FUNCTION, items.len() as u8]);
+    write_items(
+        areas,
+        right,
+        items,
+        places,
+        octets.as_slice(),
+        &mut reply.body,
+    );
+}
+
+/// Says the codes that the writes of a request would have.
+pub(crate) fn say_codes(
+    areas: &Areas,
+    right: bool,
+    items: &Items,
+    places: &DataItems,
+    octets: &Octets,
+    reply: &mut Reply,
+)
+    requires places { length places.now ≡ length items.now }
+    requires inside { All (λ place. place.from + place.len ≤ length octets.now) places.now }
+    requires empty { said_of reply.old ≡ said 0 [] [] }
+    requires reply { IsReadyReply reply.old }
+    ensures said { said_of reply.new ≡ said 0 (write_function ∷ length items.now ∷ [])
+        (write_codes areas.now right items.now places.now octets.now) }
+    ensures fits { HasAtMost (14 + length items.now) (said_of reply.new) }
+    ensures ready { IsReadyReply reply.new }
+{
+    let items = items.as_slice();
+    let places = places.as_slice();
+    reply.params.add(&[WRITE_FUNCTION, items.len() as u8]);
+    judge_items(
+        areas,
+        right,
+        items,
+        places,
+        octets.as_slice(),
+        &mut reply.body,
+    );
+}
 
 /// Makes the writes from left to right, each on what the one before left, and adds their codes.
-pub(crate) fn write_items(
+fn write_items(
     areas: &mut Areas,
     right: bool,
     items: &[Item],
@@ -37,7 +104,7 @@ pub(crate) fn write_items(
 
 /// Adds the codes that the writes would have. No write changes the code of another one.
 #[tactic(auto, using(std::proofs::lemmas::Grind::common_steps, crate::proofs::CodeLemmas::codes_in_turn))]
-pub(crate) fn judge_items(
+fn judge_items(
     areas: &Areas,
     right: bool,
     items: &[Item],

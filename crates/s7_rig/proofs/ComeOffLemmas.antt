@@ -1,5 +1,6 @@
 -- A job that can come off does, where no history was full and no clock failed.
-use Rattle.std.proofs.Common.{◌≡◌, ℕ, ◌+◌, ◌≤◌, Bool, true, false, cond, eqb, Option, None, Some, List, [], ◌∷◌, ◌++◌, length, map, refl, ap, sym, ◌∙◌, subst}
+use Rattle.std.proofs.Common.{◌≡◌, ℕ, ◌+◌, ◌≤◌, Bool, true, false, cond, eqb, Option, None, Some, List, [], ◌∷◌, ◌++◌}
+use Rattle.std.proofs.Common.{length, map, refl, ap, sym, ◌∙◌, subst}
 use Rattle.std.specs.List.{AllByRecursion}
 use Rattle.std.proofs.lemmas.Bool.{eq-eqb}
 use Rattle.s7_item.specs.declared.item.Item.{Item}
@@ -25,18 +26,20 @@ use Rattle.s7_client.specs.Answer.{Answer, tells, notes}
 use Rattle.s7_client.specs.Refusals.{code_refusal, part_refusal, telegram_refusal, control_refusal}
 use Rattle.s7_client.specs.Checks.{check_item, check_items, check_moment, octet_count_of}
 use Rattle.s7_client.specs.Flight.{answers_of}
-use Rattle.s7_client.specs.Dialogue.{End, Conduct, Plan, number_end, over, read_questions, write_questions, first_or, first_refusal}
-use Rattle.s7_client.specs.Dialogue.{plain_number, write_number, by_refusal, octets_told, codes_told, good_end, alone, listed, if_good, connected_plan}
+use Rattle.s7_client.specs.Dialogue.{End, Conduct, Plan, number_end, over, read_questions, write_questions, first_or}
+use Rattle.s7_client.specs.Dialogue.{first_refusal}
+use Rattle.s7_client.specs.Dialogue.{plain_number, write_number, by_refusal, octets_told, codes_told, good_end, alone}
+use Rattle.s7_client.specs.Dialogue.{listed, if_good, connected_plan}
 use Rattle.s7_client.specs.Dialogue.{controlling, octets_brought, last_answer, next_piece, asking_about, list_octets}
 use Rattle.s7_client.proofs.FlightLemmas.{same_some}
 use Rattle.s7_client.proofs.FitLemmas.{one_of_all}
-use Rattle.s7_session.specs.Judgement.{request_of}
 use Rattle.s7_session.specs.Verdict.{Verdict}
 use Rattle.s7_rig.specs.Scripts.{IsNoConnect}
 use Rattle.s7_rig.specs.Heard.{told_of}
 use Rattle.s7_rig.specs.Awaiting.{AreAsked}
 use Rattle.s7_rig.specs.Complete.{IsThere, CanComeOff}
-use Rattle.s7_rig.specs.Exchanges.{IsSecurity, AnyUndone, HasTold, is_refused, is_read, is_written, is_controlled, is_brought, is_secured, is_further}
+use Rattle.s7_rig.specs.Exchanges.{IsSecurity, AnyUndone, HasTold, is_refused, is_read, is_written, is_controlled}
+use Rattle.s7_rig.specs.Exchanges.{is_brought, is_secured, is_further, request_of}
 use Rattle.s7_rig.specs.Exchanges.{Exchange, entries_of, rows_of, AreTold, Converses}
 use Rattle.s7_rig.specs.Exchanges as exchange
 use Rattle.s7_rig.proofs.HoldLemmas.{behind_is}

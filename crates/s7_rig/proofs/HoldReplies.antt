@@ -1,5 +1,6 @@
 -- Replies of a plant to user data and to controls that refuse nothing.
-use Rattle.std.proofs.Common.{◌≡◌, ℕ, ◌&&◌, Bool, true, false, not, cond, eqb, Option, None, Some, List, [], refl, ap, sym, ◌∙◌}
+use Rattle.std.proofs.Common.{◌≡◌, ℕ, ◌&&◌, Bool, true, false, not, cond, eqb, Option, None, Some, List, [], refl, ap}
+use Rattle.std.proofs.Common.{sym, ◌∙◌}
 use Rattle.std.specs.Prelude.{IsSome, is_some, option_map}
 use Rattle.std.proofs.lemmas.Bool.{eq-eqb}
 use Rattle.s7_header.specs.Octets.{number_at}
@@ -21,8 +22,7 @@ use Rattle.s7_client.specs.Answer.{brings, refuses}
 use Rattle.s7_client.specs.Refusals.{control_refusal, telegram_refusal}
 use Rattle.s7_client.specs.Dialogue.{list_octets}
 use Rattle.s7_client.proofs.FlightLemmas.{same_some}
-use Rattle.s7_session.specs.Judgement.{request_of}
-use Rattle.s7_rig.specs.Exchanges.{AsksFor, control_heard, user_heard}
+use Rattle.s7_rig.specs.Exchanges.{AsksFor, control_heard, user_heard, request_of}
 use Rattle.s7_rig.proofs.ShapeLemmas.{SameShape}
 
 -- ---- status lists

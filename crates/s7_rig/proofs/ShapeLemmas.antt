@@ -1,5 +1,6 @@
 -- What is asked of a plant leaves which items stand in its areas, and how they are guarded.
-use Rattle.std.proofs.Common.{◌≡◌, ℕ, ◌&&◌, Bool, true, false, cond, eqb, not, List, [], ◌∷◌, length, take, get_or, refl, sym, ap, ◌∙◌}
+use Rattle.std.proofs.Common.{◌≡◌, ℕ, ◌&&◌, Bool, true, false, cond, eqb, not, List, [], ◌∷◌, length, take, get_or}
+use Rattle.std.proofs.Common.{refl, sym, ap, ◌∙◌}
 use Rattle.std.specs.Prelude.{replicate}
 use Rattle.std.specs.List.{AllByRecursion}
 use Rattle.std.proofs.Math.Seq.{take-length}
@@ -16,8 +17,9 @@ use Rattle.s7_turn.specs.Histories.{replay}
 use Rattle.s7_plant.specs.declared.request.Ask.{Ask}
 use Rattle.s7_plant.specs.declared.request.Request.{Request}
 use Rattle.s7_plant.specs.declared.request.Request.TheVariants.{Read, Write, Szl, ClockRead, ClockSet}
-use Rattle.s7_plant.specs.declared.request.Request.TheVariants.{Start, Stop, Compress, CopyRam}
-use Rattle.s7_plant.specs.Answers.{answer_of, write_all, is_barred, changed, after}
+use Rattle.s7_plant.specs.declared.request.Request.TheVariants.{Start, Stop, Compress, CopyRam, ListAll, ListOf, Info}
+use Rattle.s7_plant.specs.declared.request.Request.TheVariants.{StartUpload, Insert, Delete}
+use Rattle.s7_plant.specs.Answers.{answer_of, write_all, is_barred, changed, after, takes_block}
 use Rattle.s7_plant.specs.Journals.{after_call}
 use Rattle.s7_plant.specs.Replies.{Said}
 use Rattle.s7_plant.specs.State.{State}
@@ -159,6 +161,11 @@ kept_memory : (barred : Bool) (s next : State) → SameShape next.memory s.memor
 kept_memory true s next same = itself s.memory
 kept_memory false s next same = same
 
+inserted_memory : (taken : Bool) (s next : State) → SameShape next.memory s.memory
+    → SameShape (cond taken next s).memory s.memory
+inserted_memory true s next same = same
+inserted_memory false s next same = itself s.memory
+
 pub changed_same : (s : State) (right : Bool) (request : Request)
     → SameShape (changed s right request).memory s.memory
 changed_same s right (Read items) = itself s.memory
@@ -170,6 +177,13 @@ changed_same s right (Start cold) = kept_memory (is_barred s right) s _ (itself 
 changed_same s right Stop = kept_memory (is_barred s right) s _ (itself s.memory)
 changed_same s right Compress = itself s.memory
 changed_same s right CopyRam = itself s.memory
+changed_same s right ListAll = itself s.memory
+changed_same s right (ListOf kind) = itself s.memory
+changed_same s right (Info kind number) = itself s.memory
+changed_same s right (StartUpload kind number) = itself s.memory
+changed_same s right (Insert kind number image spare) =
+    kept_memory (is_barred s right) s _ (inserted_memory (takes_block s kind number) s _ (itself s.memory))
+changed_same s right (Delete kind number) = kept_memory (is_barred s right) s _ (itself s.memory)
 
 -- whatever is asked, with a right or without
 pub after_same : (s : State) (ask : Ask) → SameShape (after s ask).memory s.memory

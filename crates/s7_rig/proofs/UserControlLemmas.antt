@@ -1,5 +1,6 @@
 -- What a client hears of a control.
-use Rattle.std.proofs.Common.{◌≡◌, ℕ, ◌<◌, ◌≤◌, Bool, true, false, ◌&&◌, cond, List, [], ◌∷◌, length, Some, refl, ap, sym, ◌∙◌, subst, arith}
+use Rattle.std.proofs.Common.{◌≡◌, ℕ, ◌<◌, ◌≤◌, Bool, true, false, ◌&&◌, cond, List, [], ◌∷◌, length, Some, refl, ap}
+use Rattle.std.proofs.Common.{sym, ◌∙◌, subst, arith}
 use Rattle.std.specs.Prelude.{None}
 use Rattle.std.proofs.lemmas.Bool.{eq-eqb}
 use Rattle.s7_clock.specs.declared.control.Control.{Control}
@@ -16,9 +17,9 @@ use Rattle.s7_client.specs.Question.{controls}
 use Rattle.s7_client.specs.Answer.{stands, function_of, answer_of}
 use Rattle.s7_client.proofs.FlightLemmas.{same_some}
 use Rattle.s7_session.specs.LinkState.{LinkState}
-use Rattle.s7_session.specs.Judgement.{request_of, reply_octets, plainly}
+use Rattle.s7_session.specs.Judgement.{reply_octets, plainly}
 use Rattle.s7_session.specs.Verdict.{Verdict}
-use Rattle.s7_rig.specs.Exchanges.{control_heard, is_controlled}
+use Rattle.s7_rig.specs.Exchanges.{control_heard, is_controlled, request_of}
 use Rattle.s7_rig.proofs.AnsweredLemmas.{answer_is_heard, refusal_is_heard}
 use Rattle.s7_rig.proofs.ReplyLemmas.{IsAskedWell}
 

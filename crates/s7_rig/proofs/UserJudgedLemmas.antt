@@ -1,5 +1,6 @@
 -- How a session judges controls and user data.
-use Rattle.std.proofs.Common.{◌≡◌, ℕ, suc, ◌+◌, ◌<◌, ◌≤◌, Bool, true, false, ◌&&◌, ◌||◌, cond, eqb, Ok, List, [], ◌∷◌, ◌++◌, length, refl, ap, ◌∙◌, arith}
+use Rattle.std.proofs.Common.{◌≡◌, ℕ, suc, ◌+◌, ◌<◌, ◌≤◌, Bool, true, false, ◌&&◌, ◌||◌, cond, eqb, Ok, List, [], ◌∷◌}
+use Rattle.std.proofs.Common.{◌++◌, length, refl, ap, ◌∙◌, arith}
 use Rattle.std.specs.Prelude.{Option, None, Some, not}
 use Rattle.std.specs.Str.{bytes_eq}
 use Rattle.std.proofs.lemmas.Bool.{and_from, eq-eqb}
@@ -13,19 +14,25 @@ use Rattle.s7_clock.specs.Moment.{moment_in}
 use Rattle.s7_clock.specs.declared.control.Control.{Control}
 use Rattle.s7_clock.specs.declared.control.Control.TheVariants as control
 use Rattle.s7_clock.proofs.ControlLemmas.{control_again}
+use Rattle.s7_client.proofs.FlightLemmas.{same_some}
 use Rattle.s7_area.specs.declared.guard.Guard.{Guard}
 use Rattle.s7_plant.specs.declared.request.Request.{Request}
 use Rattle.s7_plant.specs.declared.request.Request.TheVariants as plain
 use Rattle.s7_client.specs.declared.subject.Subject.{Subject}
-use Rattle.s7_client.specs.declared.subject.Subject.TheVariants.{StatusList, RunState, Clock, ClockSetting, Password, PasswordClearing}
+use Rattle.s7_client.specs.declared.subject.Subject.TheVariants.{StatusList, RunState, Clock, ClockSetting, Password}
+use Rattle.s7_client.specs.declared.subject.Subject.TheVariants.{PasswordClearing}
 use Rattle.s7_client.specs.UserData.{group_of, subfunction_of, request_params, further_params, data_of, comes_in_pieces}
-use Rattle.s7_client.specs.Question.{Question, controls, asks, asks_further, kind_of, params_of, body_of, question_octets}
+use Rattle.s7_client.specs.Question.{Question, controls, asks, asks_further, kind_of, params_of, body_of}
+use Rattle.s7_client.specs.Question.{question_octets}
 use Rattle.s7_session.specs.Errors.{WRONG_PASSWORD, NO_RIGHT}
 use Rattle.s7_session.specs.Judgement as session
-use Rattle.s7_session.specs.Judgement.{Judgement, judge, own, kinds, job, asks_plainly, asks_user, request_of, control_in, function, function_at, group, user_at, slice_octets, slices_left, further_of, further, list_read, clock_set, clock_set_to, user_octets, user_answer, group_of_answer, next_octet, secured, password_set, password_cleared}
-use Rattle.s7_session.specs.LinkState.{LinkState}
+use Rattle.s7_session.specs.Judgement.{Judgement, judge, own, kinds, job, asks_plainly, asks_user, control_in}
+use Rattle.s7_session.specs.Judgement.{function, function_at, group, user_at, slice_octets, slices_left, further_of}
+use Rattle.s7_session.specs.Judgement.{further, list_read, clock_set, clock_set_to, user_octets, user_answer}
+use Rattle.s7_session.specs.Judgement.{group_of_answer, secured, password_set, password_cleared}
+use Rattle.s7_session.specs.LinkState.{LinkState, next_octet}
 use Rattle.s7_session.specs.Passwords.{decoded, no_data, set_error, clear_error}
-use Rattle.s7_rig.specs.Exchanges.{HoldsRest}
+use Rattle.s7_rig.specs.Exchanges.{HoldsRest, request_of}
 use Rattle.s7_rig.proofs.JudgedLemmas.{judged_question, chosen, within}
 
 -- a telegram under a sequence, on a link on which this PDU was granted, that has room in it
@@ -42,13 +49,24 @@ judged_sent link pdu s q sent =
 
 -- ---- controls
 
+-- what a control asks that names no block
+plainly_asked : (link : LinkState) (s : ℕ) (c : Control) (request : Request) → request_of c ≡ Some request
+    → session.control_asked link s c ≡ asks_plainly link s request
+plainly_asked link s control.Start request asked = ap (asks_plainly link s) (same_some _ request asked)
+plainly_asked link s control.ColdStart request asked = ap (asks_plainly link s) (same_some _ request asked)
+plainly_asked link s control.Stop request asked = ap (asks_plainly link s) (same_some _ request asked)
+plainly_asked link s control.Compress request asked = ap (asks_plainly link s) (same_some _ request asked)
+plainly_asked link s control.CopyRam request asked = ap (asks_plainly link s) (same_some _ request asked)
+plainly_asked link s (control.Insert kind number) request asked = absurd (cc)
+plainly_asked link s (control.Delete kind number) request asked = absurd (cc)
+
 asked_by : (link : LinkState) (pdu s code : ℕ) (c : Control) (request : Request) → is_control c ≡ true
     → function link pdu code s (control_spelling c) [] ≡ control_in link s [] (control_of (control_spelling c))
     → link.granted ≡ Some pdu → request_of c ≡ Some request
     → function_at link link.granted code s (control_spelling c) [] ≡ asks_plainly link s request
 asked_by link pdu s code c request is same granted asked =
     ap (λ g. function_at link g code s (control_spelling c) []) granted
-    ∙ (same ∙ (ap (control_in link s []) (control_again c is) ∙ ap (session.controls link s []) asked))
+    ∙ (same ∙ (ap (control_in link s []) (control_again c is) ∙ plainly_asked link s c request asked))
 
 control_asked : (link : LinkState) (pdu s : ℕ) (c : Control) (request : Request) → link.granted ≡ Some pdu
     → request_of c ≡ Some request → job link s (control_spelling c) [] ≡ asks_plainly link s request

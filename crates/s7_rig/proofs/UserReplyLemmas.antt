@@ -1,5 +1,6 @@
 -- How a session on a link between two messages replies to each question of a job.
-use Rattle.std.proofs.Common.{◌≡◌, inl, ℕ, ◌<◌, ◌≤◌, Bool, true, false, cond, eqb, ltb, List, [], ◌++◌, length, take, Option, None, Some, refl, sym, subst, arith}
+use Rattle.std.proofs.Common.{◌≡◌, inl, ℕ, ◌<◌, ◌≤◌, Bool, true, false, cond, eqb, ltb, List, [], ◌++◌, length, take}
+use Rattle.std.proofs.Common.{Option, None, Some, refl, sym, subst, arith}
 use Rattle.std.specs.Prelude.{IsSome}
 use Rattle.std.proofs.lemmas.Bool.{eq-eqb}
 use Rattle.s7_header.specs.Negotiation.{most_pdu}
@@ -14,26 +15,31 @@ use Rattle.s7_plant.specs.State.{State}
 use Rattle.s7_plant.specs.Answers as plant
 use Rattle.s7_wire.specs.Sent.{sent_message}
 use Rattle.s7_client.specs.declared.subject.Subject.{Subject}
-use Rattle.s7_client.specs.declared.subject.Subject.TheVariants.{StatusList, RunState, Clock, ClockSetting, Password, PasswordClearing}
+use Rattle.s7_client.specs.declared.subject.Subject.TheVariants.{StatusList, RunState, Clock, ClockSetting, Password}
+use Rattle.s7_client.specs.declared.subject.Subject.TheVariants.{PasswordClearing}
 use Rattle.s7_client.specs.UserData.{group_of, subfunction_of, goes_on_with, comes_in_pieces}
 use Rattle.s7_client.specs.Dialogue.{list_octets}
 use Rattle.s7_client.specs.Question.{Question, negotiates, reads, writes, controls, asks, asks_further, question_octets}
 use Rattle.s7_client.specs.Answer.{brings, refuses, answer_of}
 use Rattle.s7_session.specs.Events.{lives}
-use Rattle.s7_session.specs.LinkState.{LinkState}
+use Rattle.s7_session.specs.LinkState.{LinkState, next_octet}
 use Rattle.s7_session.specs.Owed.{past}
-use Rattle.s7_session.specs.Judgement.{Asking, judge, ask, plainly, request_of, by_user, asks_user, user_octets, next_octet, secured, slice_room, slice_octets, slices_left}
+use Rattle.s7_session.specs.Judgement.{Asking, judge, ask, plainly, by_user, asks_user, user_octets, secured}
+use Rattle.s7_session.specs.Judgement.{slice_room, slice_octets, slices_left}
 use Rattle.s7_session.specs.Passwords.{no_data}
 use Rattle.s7_session.specs.Verdict.{Verdict}
 use Rattle.s7_rig.specs.Settled.{Settled}
 use Rattle.s7_rig.specs.Written.{own_write}
-use Rattle.s7_rig.specs.Exchanges.{IsAskable, AsksFor, IsSecurity, IsReadyFor, HoldsRest, GoesOn, security_heard, is_secured, is_further, Replies}
+use Rattle.s7_rig.specs.Exchanges.{IsAskable, AsksFor, IsSecurity, IsReadyFor, HoldsRest, GoesOn, security_heard}
+use Rattle.s7_rig.specs.Exchanges.{is_secured, is_further, Replies, request_of}
 use Rattle.s7_rig.proofs.ServedLemmas.{KeepsGrant}
 use Rattle.s7_rig.proofs.QuestionLemmas.{served_question, served_by_link}
 use Rattle.s7_rig.proofs.UserControlLemmas.{control_well}
 use Rattle.s7_rig.proofs.UserFitLemmas.{list_fits, state_fits, clock_fits, setting_fits}
-use Rattle.s7_rig.proofs.UserHeardLemmas.{IsRest, told_params, length-told, length-slice, error_is_heard, none_is_heard, slice_is_heard, rest_is_held}
-use Rattle.s7_rig.proofs.UserJudgedLemmas.{IsSent, IsSecured, judged_control, judged_list, judged_state, judged_clock, judged_setting, judged_password, judged_clearing, judged_further}
+use Rattle.s7_rig.proofs.UserHeardLemmas.{IsRest, told_params, length-told, length-slice, error_is_heard}
+use Rattle.s7_rig.proofs.UserHeardLemmas.{none_is_heard, slice_is_heard, rest_is_held}
+use Rattle.s7_rig.proofs.UserJudgedLemmas.{IsSent, IsSecured, judged_control, judged_list, judged_state, judged_clock}
+use Rattle.s7_rig.proofs.UserJudgedLemmas.{judged_setting, judged_password, judged_clearing, judged_further}
 use Rattle.s7_rig.proofs.UserServedLemmas.{IsFit, user_well}
 use Rattle.s7_rig.proofs.JudgedLemmas.{judged_read}
 use Rattle.s7_rig.proofs.AsksLemmas.{write_is_asked}

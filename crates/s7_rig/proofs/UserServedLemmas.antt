@@ -1,5 +1,6 @@
 -- What a client hears of the reply to user data, and what is left of it on the link.
-use Rattle.std.proofs.Common.{◌≡◌, ℕ, ◌<◌, ◌≤◌, Bool, true, false, cond, eqb, ltb, List, [], length, take, Some, refl, sym, subst, arith}
+use Rattle.std.proofs.Common.{◌≡◌, ℕ, ◌<◌, ◌≤◌, Bool, true, false, cond, eqb, ltb, List, [], length, take, Some, refl}
+use Rattle.std.proofs.Common.{sym, subst, arith}
 use Rattle.std.specs.Prelude.{None}
 use Rattle.std.proofs.lemmas.Bool.{eqb-true}
 use Rattle.s7_header.specs.Negotiation.{most_pdu}
@@ -11,13 +12,15 @@ use Rattle.s7_client.specs.declared.subject.Subject.{Subject}
 use Rattle.s7_client.specs.UserData.{group_of, subfunction_of}
 use Rattle.s7_client.specs.Question.{asks}
 use Rattle.s7_client.specs.Answer.{Answer, brings, refuses, answer_of}
-use Rattle.s7_session.specs.LinkState.{LinkState}
-use Rattle.s7_session.specs.Judgement.{user_octets, user_reply, user_link, by_user, next_octet, slice_room, slice_octets, slices_left}
+use Rattle.s7_session.specs.LinkState.{LinkState, next_octet}
+use Rattle.s7_session.specs.Judgement.{user_octets, user_reply, user_link, by_user, slice_room, slice_octets}
+use Rattle.s7_session.specs.Judgement.{slices_left}
 use Rattle.s7_session.specs.Passwords.{no_data}
 use Rattle.s7_session.specs.Verdict.{Verdict}
 use Rattle.s7_rig.specs.Exchanges.{AsksFor, GoesOn, user_heard, is_brought}
 use Rattle.s7_rig.proofs.ReplyLemmas.{IsAskedWell}
-use Rattle.s7_rig.proofs.UserHeardLemmas.{IsRest, told_params, length-told, length-slice, error_is_heard, slice_is_heard, rest_is_held}
+use Rattle.s7_rig.proofs.UserHeardLemmas.{IsRest, told_params, length-told, length-slice, error_is_heard}
+use Rattle.s7_rig.proofs.UserHeardLemmas.{slice_is_heard, rest_is_held}
 
 -- The reply answers user data about this: its error word has two octets, and without one its octets are whole.
 pub record IsFit (subject : Subject) (reply : Said) : Type 0 where

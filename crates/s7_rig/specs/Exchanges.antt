@@ -1,5 +1,6 @@
 -- The questions of a job on a connected client, and what a session answers to each.
-use Rattle.std.specs.Prelude.{◌≡◌, ◌⊎◌, ℕ, ◌<◌, ◌≤◌, Bool, true, false, ◌==◌, nat_lt, if◌then◌else◌, List, [], ◌∷◌, ◌++◌, length, take, slice_index, map, IsSome, None, Some}
+use Rattle.std.specs.Prelude.{◌≡◌, ◌⊎◌, ℕ, ◌<◌, ◌≤◌, Bool, true, false, ◌==◌, nat_lt, if◌then◌else◌, List, [], ◌∷◌}
+use Rattle.std.specs.Prelude.{◌++◌, length, take, slice_index, map, IsSome, Option, None, Some}
 use Rattle.std.specs.List.{AllByRecursion, flat_map}
 use Rattle.s7_item.specs.declared.item.Item.{Item}
 use Rattle.s7_item.specs.Sizes.{answer_size}
@@ -15,9 +16,11 @@ use Rattle.s7_wire.specs.Sent.{sent_message}
 use Rattle.s7_header.specs.Negotiation.{most_pdu}
 use Rattle.s7_header.specs.Octets.{number_at}
 use Rattle.s7_clock.specs.declared.control.Control.{Control}
+use Rattle.s7_clock.specs.declared.control.Control.TheVariants as control
 use Rattle.s7_clock.specs.Moment.{moment_in}
 use Rattle.s7_client.specs.declared.subject.Subject.{Subject}
-use Rattle.s7_client.specs.declared.subject.Subject.TheVariants.{StatusList, RunState, Clock, ClockSetting, Password, PasswordClearing}
+use Rattle.s7_client.specs.declared.subject.Subject.TheVariants.{StatusList, RunState, Clock, ClockSetting, Password}
+use Rattle.s7_client.specs.declared.subject.Subject.TheVariants.{PasswordClearing}
 use Rattle.s7_client.specs.UserData.{group_of, subfunction_of, comes_in_pieces, is_whole}
 use Rattle.s7_client.specs.Question.{Question, negotiates, reads, writes, controls, asks, asks_further, question_octets}
 use Rattle.s7_client.specs.Answer.{Answer, refuses, tells, notes, stands, brings, answer_of}
@@ -25,7 +28,7 @@ use Rattle.s7_client.specs.Flight.{Row, answers_of}
 use Rattle.s7_client.specs.Dialogue.{End, Conduct, list_octets}
 use Rattle.s7_client.specs.Course.{Origin, conduct_of, next_question}
 use Rattle.s7_session.specs.LinkState.{LinkState, Sliced}
-use Rattle.s7_session.specs.Judgement.{request_of, slice_room}
+use Rattle.s7_session.specs.Judgement.{slice_room}
 use Rattle.s7_session.specs.Owed.{past, entered}
 use Rattle.s7_session.specs.Telegrams.{AnyFull, clock_failures}
 use Rattle.s7_session.specs.Verdict.{Verdict}
@@ -47,6 +50,16 @@ CanGoWith Clock octets = octets ≡ []
 CanGoWith ClockSetting octets = (length octets ≡ 10) × IsSome (moment_in octets)
 CanGoWith Password octets = length octets ≡ 8
 CanGoWith PasswordClearing octets = octets ≡ []
+
+-- what a control asks that names no block
+abbrev pub request_of : Control → Option Request
+request_of control.Start = Some (plain.Start false)
+request_of control.ColdStart = Some (plain.Start true)
+request_of control.Stop = Some plain.Stop
+request_of control.Compress = Some plain.Compress
+request_of control.CopyRam = Some plain.CopyRam
+request_of (control.Insert kind number) = None
+request_of (control.Delete kind number) = None
 
 -- A question that reads items, whose answer has room in the PDU, or writes items of known words; a control that the
 -- plant is asked for; user data with its octets; or further octets of an answer that comes in pieces.

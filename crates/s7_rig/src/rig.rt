@@ -12,9 +12,10 @@ use crate::end::{RigClient, RigEnd};
 use crate::schedule::Draw;
 use crate::station::Station;
 use s7_area::Areas;
+use s7_block::Blocks;
 use s7_client::{Config, Job};
 use s7_outer::Memory;
-use s7_plant::Book;
+use s7_plant::{Book, MOST_BLOCKS};
 use std::alloc::Global;
 
 /// So many rounds are made at most.
@@ -62,7 +63,7 @@ impl Rig {
             link += 1;
         }
         Ok(Rig {
-            book: Book::new(alloc, areas, limit)?,
+            book: Book::new(alloc, areas, Blocks::new(alloc, MOST_BLOCKS)?, limit)?,
             stations,
         })
     }

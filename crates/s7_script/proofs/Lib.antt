@@ -10,6 +10,7 @@ pub mod SpellingLemmas
 pub mod MigrateLemmas
 pub mod LoadLemmas
 pub mod ScriptLemmas
+pub mod SendLemmas
 pub mod PartLemmas
 pub mod PrintLemmas
 pub mod FormLemmas

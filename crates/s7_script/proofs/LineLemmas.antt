@@ -56,3 +56,8 @@ lines_at (b ∷ c ∷ cs) (suc zero) within at free =
 lines_at (b ∷ c ∷ cs) (suc (suc n)) within at free =
     joins b (c ∷ cs) (free 0 (omega arith)) (isn't c 10 (free 1 (omega arith)))
     ∙ ap (with_first b) (lines_at (c ∷ cs) (suc n) (omega arith) at (λ k below. free (suc k) (omega arith)))
+
+-- an empty text has no lines
+pub no_lines : (xs : Text) → length xs ≡ 0 → lines xs ≡ []
+no_lines [] none = refl
+no_lines (x ∷ xs) none = absurd (omega arith)

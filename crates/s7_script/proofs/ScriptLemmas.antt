@@ -1,6 +1,9 @@
 -- Items, lines and jobs one by one.
-use Rattle.std.proofs.Common.{◌≡◌, ◌∙◌, ◌<◌, ℕ, Bool, true, false, refl, sym, ap, arith, List, [], ◌∷◌, ◌++◌, Result, Ok, Err, append_assoc, append-nil, cond, None, Some, option_map}
+use Rattle.std.proofs.Common.{◌≡◌, ◌≢◌, ◌∙◌, ◌<◌, ℕ, Bool, true, false, refl, sym, ap, arith, List, [], ◌∷◌, ◌++◌, length, Result, Ok, Err, append_assoc, append-nil, cond, None, Some, option_map}
 use Rattle.std.specs.Prelude.{◌==◌, unwrap_or}
+use Rattle.hex.specs.Hex.{decode_of, decode_sized}
+use Rattle.hex.specs.declared.error.FromHexError.{FromHexError}
+use Rattle.hex.proofs.HexLemmas.{decode_of-ok, decode_sized-twice}
 use Rattle.s7_item.specs.declared.item.Item.{Item}
 use Rattle.s7_item.specs.Word.{Row, of_size, size_of}
 use Rattle.s7_script.specs.Lines.{Text}
@@ -34,6 +37,12 @@ line_fails_on e kind.Word r f h = ap (λ x. x >>= f) h
 line_fails_on e kind.Number r f h = ap (λ x. x >>= f) h
 line_fails_on e kind.Digits r f h = ap (λ x. x >>= f) h
 line_fails_on e kind.Fields r f h = ap (λ x. x >>= f) h
+
+-- a text that is refused for so many octets has other ones
+pub sized-refused : (text : Text) (n : ℕ) (e : FromHexError) (octets : List ℕ) → decode_sized text n ≡ Err e → decode_of text ≡ Ok octets → length octets ≢ n
+sized-refused text n e octets refused is =
+    λ len. let whole = (decode_of-ok text octets is).2 in
+    cc (sym refused ∙ decode_sized-twice text n (omega (arith, whole, len)) ∙ is)
 
 -- one more item
 one_more : (items : List Item) (item : Item) (more : Result (List Item) ScriptKind) → appended items (more >>= (λ others. Ok (item ∷ others))) ≡ appended (items ++ item ∷ []) more
@@ -74,25 +83,30 @@ written-fail w part rest e h =
     (fails_on e (written_item part) (λ (one : Written). written_items rest >>= (λ others. Ok (one.0 ∷ others.0, one.1 ++ others.1))) h)
 
 -- one more line
-append_step : {X E : Type 0} (found new : List X) (r more : Result (List X) E) → appended found r ≡ Ok new
-    → appended found (r >>= (λ jobs. more >>= (λ others. Ok (jobs ++ others)))) ≡ appended new more
-append_step found new (Ok jobs) (Ok others) h =
-    let same : found ++ jobs ≡ new = cc in
-    ap Ok (sym (append_assoc found jobs others)) ∙ ap (λ l. Ok (l ++ others)) same
-append_step found new (Ok jobs) (Err e) h = refl
-append_step found new (Err e) more h = cc
+pub append-step : {X E : Type 0} (found new : List X) (r more : Result (List X) E) → appended found r ≡ Ok new
+    → appended found (r >>= (λ first. more >>= (λ others. Ok (first ++ others)))) ≡ appended new more
+append-step found new (Ok first) (Ok others) h =
+    let same : found ++ first ≡ new = cc in
+    ap Ok (sym (append_assoc found first others)) ∙ ap (λ l. Ok (l ++ others)) same
+append-step found new (Ok first) (Err e) h = refl
+append-step found new (Err e) more h = cc
+
+-- a line that fails
+pub append-fail : {X : Type 0} (found : List X) (r more : Result (List X) ScriptFault) (e : ScriptFault) → LineFails e e.kind r
+    → LineFails e e.kind (appended found (r >>= (λ first. more >>= (λ others. Ok (first ++ others)))))
+append-fail found r more e h =
+    line_fails_on e e.kind (r >>= (λ first. more >>= (λ others. Ok (first ++ others)))) (λ others. Ok (found ++ others))
+    (line_fails_on e e.kind r (λ first. more >>= (λ others. Ok (first ++ others))) h)
 
 pub lines-step : (found new : List ScriptLine) (line : ℕ) (text : Text) (rest : List Text) → appended found (line_jobs line text) ≡ Ok new
     → appended found (script_lines line (text ∷ rest)) ≡ appended new (script_lines (next_line line) rest)
 unfolding script_lines
-lines-step found new line text rest h = append_step found new (line_jobs line text) (script_lines (next_line line) rest) h
+lines-step found new line text rest h = append-step found new (line_jobs line text) (script_lines (next_line line) rest) h
 
 pub lines-fail : (found : List ScriptLine) (line : ℕ) (text : Text) (rest : List Text) (e : ScriptFault) → LineFails e e.kind (line_jobs line text)
     → LineFails e e.kind (appended found (script_lines line (text ∷ rest)))
 unfolding script_lines
-lines-fail found line text rest e h =
-    line_fails_on e e.kind (script_lines line (text ∷ rest)) (λ others. Ok (found ++ others))
-    (line_fails_on e e.kind (line_jobs line text) (λ jobs. script_lines (next_line line) rest >>= (λ others. Ok (jobs ++ others))) h)
+lines-fail found line text rest e h = append-fail found (line_jobs line text) (script_lines (next_line line) rest) e h
 
 -- no element is empty
 some_size : (a b c d e f g h i j : Bool)

@@ -8,5 +8,7 @@ pub mod Loading
 pub mod Moments
 pub mod Script
 pub mod ScriptShown
+pub mod Sends
+pub mod SendsShown
 pub mod Printing
 pub mod Laws

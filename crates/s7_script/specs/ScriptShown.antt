@@ -1,10 +1,13 @@
 -- What the reader of scripts holds, as contracts see it.
-use Rattle.std.specs.Prelude.{ℕ, List, [], ◌++◌, Option, None, Some, Result, Ok}
+use Rattle.std.specs.Prelude.{ℕ, ◌==◌, List, [], ◌++◌, length, Option, None, Some, Result, Ok, Err, if◌then◌else◌}
 use Rattle.std.specs.Option.{option_map}
+use Rattle.hex.specs.Hex.{decode_of}
+use Rattle.hex.specs.declared.error.FromHexError.{FromHexError}
 use Rattle.s7_item.specs.declared.item.Item.{Item}
 use Rattle.s7_script.specs.Lines.{Text}
 use Rattle.s7_script.specs.Script.{Place, Written, parts, ◌>>=◌}
 use Rattle.s7_script.specs.declared.script_fault.ScriptKind.{ScriptKind}
+use Rattle.s7_script.specs.declared.script_fault.ScriptKind.TheVariants as kind
 use Rattle.s7_script.specs.declared.item_text.Placed.{Placed}
 use Rattle.s7_script.specs.declared.written.WrittenItem.{WrittenItem}
 use Rattle.s7_script.specs.declared.written.WrittenItems.{WrittenItems}
@@ -17,6 +20,15 @@ written_of w = (w.item, w.octets.items)
 
 abbrev pub all_written : WrittenItems → List Item × List ℕ
 all_written w = (w.items.items, w.octets.items)
+
+-- the octets of a field, an even number of hexadecimal digits
+abbrev pub octets_or_fault : Result (List ℕ) FromHexError → Result (List ℕ) ScriptKind
+octets_or_fault (Ok octets) = Ok octets
+octets_or_fault (Err e) = Err kind.Digits
+
+-- at least two of them
+abbrev pub octets_in : Text → Result (List ℕ) ScriptKind
+octets_in field = if length field == 0 then Err kind.Digits else octets_or_fault (decode_of field)
 
 -- the parts of a text that may not be there
 abbrev pub parts_left : Option Text → List Text

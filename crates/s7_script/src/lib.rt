@@ -1,4 +1,5 @@
-//! Area files, texts that name areas, their octets and a guard, and scripts, texts that name jobs.
+//! Area files, texts that name areas, their octets and a guard; scripts, texts that name jobs; and sends files, texts
+//! that name blocks to send.
 #![tactic(auto)]
 
 mod area_line;
@@ -18,6 +19,9 @@ mod run_line;
 mod script_fault;
 mod script_line;
 mod script_list;
+mod send_line;
+mod send_list;
+mod sends;
 mod version;
 mod write;
 mod written;
@@ -30,11 +34,15 @@ pub use read::read_areas;
 pub use reading::read_script;
 pub use script_fault::{ScriptFault, ScriptKind};
 pub use script_list::{Script, ScriptLine};
+pub use send_list::{SendLine, Sends};
+pub use sends::read_sends;
 pub use write::write_areas;
 
 #[cfg(test)]
 mod print_tests;
 #[cfg(test)]
 mod script_tests;
+#[cfg(test)]
+mod sends_tests;
 #[cfg(test)]
 mod tests;

@@ -63,17 +63,16 @@ fn take_line(
         return Ok(());
     }
     match job_of(alloc, text) {
-        Ok(job) => add_line(found, ScriptLine { line, job }),
+        Ok(job) => add_line(found, line, ScriptLine { line, job }),
         Err(kind) => Err(ScriptFault { line, kind }),
     }
 }
 
-/// Adds a line at the end.
-fn add_line(found: &mut Vec<ScriptLine>, next: ScriptLine) -> Result<(), ScriptFault>
+/// Adds what the line of this number names at the end.
+pub(crate) fn add_line<T: Drop>(found: &mut Vec<T>, line: u32, next: T) -> Result<(), ScriptFault>
     ensures ok { OnOk result (found.new.items ≡ found.old.items ++ next ∷ []) }
     ensures memory { IfErr result (λ e. e.kind ≡ Memory) }
 {
-    let line = next.line;
     if found.push(next).is_err() {
         let kind = ScriptKind::Memory;
         return Err(ScriptFault { line, kind });

@@ -1,7 +1,7 @@
 // Items that are written, and their octets.
 ghost use Rattle.std.specs.Prelude.{◌≡◌, ◌<◌, ◌≤◌, length, option_map};
 ghost use Rattle.s7_script.specs.Script.{Gives, counted, element_size, with_digits, with_hex, written_item};
-ghost use Rattle.s7_script.specs.ScriptShown.{place_of, written_of};
+ghost use Rattle.s7_script.specs.ScriptShown.{octets_in, place_of, written_of};
 
 use crate::ScriptKind;
 use crate::item_text::{Placed, ended, item_at, place};
@@ -52,17 +52,24 @@ fn with_digits(
     ensures { Gives written_of result
         (with_digits (place_of placed.entry) field.now (option_map (λ t. t.now) rest.entry)) }
 {
-    if field.is_empty() {
-        return Err(ScriptKind::Digits);
-    }
-    let octets = match hex::decode(alloc, field) {
-        Ok(octets) => octets,
-        Err(FromHexError::OutOfMemory) => return Err(ScriptKind::Memory),
-        Err(_) => return Err(ScriptKind::Digits),
-    };
+    let octets = octets_in(alloc, field)?;
     let item = counted(placed, octets.len())?;
     let item = ended(item, rest)?;
     Ok(WrittenItem { item, octets })
+}
+
+/// The octets of a field: an even number of hexadecimal digits, at least two.
+pub(crate) fn octets_in(alloc: Global, field: &[u8]) -> Result<Vec<u8>, ScriptKind>
+    ensures { Gives (λ v. v.items) result (octets_in field.now) }
+{
+    if field.is_empty() {
+        return Err(ScriptKind::Digits);
+    }
+    match hex::decode(alloc, field) {
+        Ok(octets) => Ok(octets),
+        Err(FromHexError::OutOfMemory) => Err(ScriptKind::Memory),
+        Err(_) => Err(ScriptKind::Digits),
+    }
 }
 
 /// The item of as many elements as the octets make.

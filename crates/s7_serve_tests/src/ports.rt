@@ -3,8 +3,9 @@ ghost use Rattle.std.specs.Prelude.{◌<◌, ◌≤◌};
 ghost use Rattle.s7_outer.specs.TcpDoor.{tcp_door_of};
 
 use s7_area::{AreaKey, Areas};
+use s7_block::Blocks;
 use s7_outer::{Arrival, Door, DoorFailed, Octets, OpenGate, RealLink, TcpDoor};
-use s7_plant::Book;
+use s7_plant::{Book, MOST_BLOCKS};
 use s7_serve::{Hosted, serve_door};
 use s7_session::Outcome;
 use std::alloc::Global;
@@ -73,7 +74,8 @@ pub(crate) fn served<R: Threads + Wait + Clock + Sync>(
 ) -> Option<Hosted<Book, RealLink<HostRuntime>>>
     requires { 0 < room }
 {
-    let book = Book::new(alloc, areas(alloc)?, u64::from(room)).ok()?;
+    let blocks = Blocks::new(alloc, MOST_BLOCKS).ok()?;
+    let book = Book::new(alloc, areas(alloc)?, blocks, u64::from(room)).ok()?;
     let port = door.port;
     let (hosted, _) = serve_door(rt, alloc, book, &OpenGate, None, door, port, links);
     hosted.ok()

@@ -1,11 +1,13 @@
 -- Laws of what handling a message does.
-use Rattle.std.proofs.Common.{◌≡◌, ◌⊎◌, ℕ, ◌≤◌, true, false, List, [], ◌∷◌, ◌++◌, refl, ap, sym, ◌∙◌, subst, append-nil, arith, IsTrue}
+use Rattle.std.proofs.Common.{◌≡◌, ◌⊎◌, ℕ, ◌≤◌, true, false, List, [], ◌∷◌, ◌++◌, refl, ap, sym, ◌∙◌, subst}
+use Rattle.std.proofs.Common.{append-nil, arith, IsTrue}
 use Rattle.std.specs.Prelude.{Option, None, Some}
 use Rattle.s7_outer.specs.Count.{Rose}
 use Rattle.s7_outer.specs.Shown.{Shown}
 use Rattle.s7_plant.specs.declared.request.Ask.{Ask}
 use Rattle.s7_plant.specs.declared.request.Request.{Request}
-use Rattle.s7_plant.specs.declared.request.Request.TheVariants.{Read, Write, Szl, ClockRead, ClockSet, Start, Stop, Compress, CopyRam}
+use Rattle.s7_plant.specs.declared.request.Request.TheVariants.{Read, Write, Szl, ClockRead, ClockSet, Start, Stop}
+use Rattle.s7_plant.specs.declared.request.Request.TheVariants.{Compress, CopyRam}
 use Rattle.s7_plant.specs.Replies.{Said}
 use Rattle.s7_plant.specs.Requests.{kept, kept_request, asked}
 use Rattle.s7_wire.specs.Sent.{sent_message, sent_messages}
@@ -228,21 +230,6 @@ same_made stands full lack line line' d d' f g at size link sent result same a =
       unasked = λ h. a.unasked (subst NoneTimed (ap (λ (m : Made). m.mets) e) h);
       moments = a.moments;
     }
-
--- what is kept of what was asked is that
-kept_same_request : (r : Request) → kept_request r ≡ r
-kept_same_request (Read items) = refl
-kept_same_request (Write items places octets) = refl
-kept_same_request (Szl id index) = refl
-kept_same_request (ClockRead moment) = refl
-kept_same_request (ClockSet moment value) = refl
-kept_same_request (Start cold) = refl
-kept_same_request Stop = refl
-kept_same_request Compress = refl
-kept_same_request CopyRam = refl
-
-pub kept_same : (a : Ask) → kept a ≡ a
-kept_same a = ap (asked a.right) (kept_same_request a.request)
 
 -- what has no moment needs none
 is_at_none : (told : Option ℕ) → IsAt told None

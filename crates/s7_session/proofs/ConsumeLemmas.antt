@@ -1,5 +1,6 @@
 -- Laws of what a session does with octets that were read.
-use Rattle.std.proofs.Common.{◌≡◌, ◌≢◌, ℕ, suc, ◌+◌, ◌<◌, ◌≤◌, List, [], ◌∷◌, ◌++◌, map, length, refl, ap, sym, ◌∙◌, subst, arith, length-append, append-nil, append_assoc}
+use Rattle.std.proofs.Common.{◌≡◌, ◌≢◌, ℕ, suc, ◌+◌, ◌<◌, ◌≤◌, List, [], ◌∷◌, ◌++◌, map, length, refl, ap, sym, ◌∙◌}
+use Rattle.std.proofs.Common.{subst, arith, length-append, append-nil, append_assoc}
 use Rattle.std.specs.Prelude.{Option, None, Some}
 use Rattle.s7_outer.specs.Count.{RoseBy}
 use Rattle.s7_outer.specs.Shown.{Shown}
@@ -17,7 +18,8 @@ use Rattle.s7_wire.specs.declared.found.ReadFault.{ReadFault}
 use Rattle.s7_wire.specs.declared.found.ReadFault.TheVariants as fault
 use Rattle.s7_wire.specs.declared.reader.Reader.{Reader}
 use Rattle.s7_wire.specs.Reading.{Event, opened, message, Ending, disconnected, faulted, reading, torn_of}
-use Rattle.s7_wire.specs.Reads.{HasRead, HasFound, opens_by, message_at, place_at, events_by, ending_by, found_by, counted}
+use Rattle.s7_wire.specs.Reads.{HasRead, HasFound, opens_by, message_at, place_at, events_by, ending_by, found_by}
+use Rattle.s7_wire.specs.Reads.{counted}
 use Rattle.s7_wire.proofs.GrowthLemmas.{place_within}
 use Rattle.s7_session.specs.declared.handled.Handled.{Handled}
 use Rattle.s7_session.specs.declared.handled.Handled.TheVariants as handled
@@ -33,9 +35,12 @@ use Rattle.s7_session.specs.Doers.{Trail}
 use Rattle.s7_session.specs.Entry.{Entry, answered}
 use Rattle.s7_session.specs.Events.{lives, stops, closes, settled, made}
 use Rattle.s7_session.specs.LinkState.{LinkState}
-use Rattle.s7_session.specs.Owed.{Past, past, owed, telegrams, entered, with_made, with_ending, ended_by, torn_or_ended, outcome_of, end_by}
-use Rattle.s7_session.specs.Stands.{Stands, Handles, Consumes, HasCause, closed_with, closed_by, turn_by, unread, unsent, used_of, entry_count, newest, link_at}
-use Rattle.s7_session.specs.Telegrams.{Met, verdicts_of, entered_by, entered_of, NoneTimed, AllAt, clock_failures, last_number}
+use Rattle.s7_session.specs.Owed.{Past, past, owed, telegrams, entered, with_made, with_ending, ended_by}
+use Rattle.s7_session.specs.Owed.{torn_or_ended, outcome_of, end_by}
+use Rattle.s7_session.specs.Stands.{Stands, Handles, Consumes, HasCause, closed_with, closed_by, turn_by, unread}
+use Rattle.s7_session.specs.Stands.{unsent, used_of, entry_count, newest, link_at}
+use Rattle.s7_session.specs.Telegrams.{Met, verdicts_of, entered_by, entered_of, NoneTimed, AllAt, clock_failures}
+use Rattle.s7_session.specs.Telegrams.{last_number}
 use Rattle.s7_session.specs.Verdict.{Verdict}
 use Rattle.s7_session.proofs.DoerLemmas.{stays_same}
 use Rattle.s7_session.proofs.PastLemmas.{past_more, past_event, past_ended, closes_by}

@@ -1,7 +1,9 @@
 pub mod PlaceLemmas
 pub mod PastLemmas
 pub mod DoerLemmas
+pub mod KeptLemmas
 pub mod AnswerLemmas
+pub mod LoadLemmas
 pub mod SliceLemmas
 pub mod ConsumeLemmas
 pub mod TurnLemmas

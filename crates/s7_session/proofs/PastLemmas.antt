@@ -1,14 +1,18 @@
 -- Laws of what became of events, and of the octets that they are read from.
-use Rattle.std.proofs.Common.{◌⊎◌, inl, inr, ◌≡◌, ℕ, Bool, true, false, cond, List, [], ◌∷◌, ◌++◌, length, refl, ap, sym, ◌∙◌, subst, append_assoc, append-nil}
+use Rattle.std.proofs.Common.{◌⊎◌, inl, inr, ◌≡◌, ℕ, Bool, true, false, cond, List, [], ◌∷◌, ◌++◌, length, refl, ap}
+use Rattle.std.proofs.Common.{sym, ◌∙◌, subst, append_assoc, append-nil}
 use Rattle.std.specs.Prelude.{Option, None, Some}
 use Rattle.s7_wire.specs.declared.found.Opening.TheVariants.{Request}
-use Rattle.s7_wire.specs.Reading.{Event, opened, message, Ending, Progress, reading, torn_of, torn_by, open_packet, limits}
+use Rattle.s7_wire.specs.Reading.{Event, opened, message, Ending, Progress, reading, torn_of, torn_by, open_packet}
+use Rattle.s7_wire.specs.Reading.{limits}
 use Rattle.s7_wire.proofs.GrowthLemmas.{reading_grows, reading_ended}
 use Rattle.s7_tpkt.specs.Packets.{rest_of, packets_of}
-use Rattle.s7_session.specs.Events.{Standing, lives, stops, unjudged, closes, Made, made, is_s7, by_judgement, asks, by_clock}
+use Rattle.s7_session.specs.Events.{Standing, lives, stops, unjudged, closes, Made, made, is_s7, by_judgement, asks}
+use Rattle.s7_session.specs.Events.{by_clock}
 use Rattle.s7_session.specs.Judgement.{Judgement, Asking, refuse, own, ask, judge, sequence_of}
 use Rattle.s7_session.specs.LinkState.{LinkState}
-use Rattle.s7_session.specs.Owed.{Past, start, with_made, if_lives, next, run, past, telegrams, end_of, end_by, standing_with, with_ending, ended_by}
+use Rattle.s7_session.specs.Owed.{Past, start, with_made, if_lives, next, run, past, telegrams, end_of, end_by}
+use Rattle.s7_session.specs.Owed.{standing_with, with_ending, ended_by}
 use Rattle.s7_session.specs.Telegrams.{Met, met, verdicts_of, MemoryIsLast}
 use Rattle.s7_session.specs.Verdict.{Verdict, Entered, Full, ClockFailed, NoMemory}
 use Rattle.s7_session.specs.declared.outcome.Outcome.{Outcome}

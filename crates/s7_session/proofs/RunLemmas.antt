@@ -1,5 +1,6 @@
 -- Laws of whole runs.
-use Rattle.std.proofs.Common.{inl, inr, ◌≡◌, ℕ, ◌+◌, ◌≤◌, List, [], ◌++◌, length, ap, sym, ◌∙◌, subst, append_assoc, append-nil, length-append, arith}
+use Rattle.std.proofs.Common.{inl, inr, ◌≡◌, ℕ, ◌+◌, ◌≤◌, List, [], ◌++◌, length, ap, sym, ◌∙◌, subst, append_assoc}
+use Rattle.std.proofs.Common.{append-nil, length-append, arith}
 use Rattle.std.specs.Io.KnownBytes.{prepend_known}
 use Rattle.s7_outer.specs.Shown.{Shown}
 use Rattle.s7_plant.specs.declared.request.Ask.{Ask}
@@ -14,7 +15,8 @@ use Rattle.s7_session.specs.Owed.{Past, past, owed, entered, end_of}
 use Rattle.s7_session.specs.Stands.{Stands, IsServed, HasCause, HasFaulted, unread, unsent, entry_count, newest}
 use Rattle.s7_session.specs.Telegrams.{verdicts_of, entered_of, last_number}
 use Rattle.s7_session.specs.Verdict.{Verdict}
-use Rattle.s7_session.proofs.PastLemmas.{IsOver, never_stops, standing_cases, past_grows, past_over, end_over, past_nothing}
+use Rattle.s7_session.proofs.PastLemmas.{IsOver, never_stops, standing_cases, past_grows, past_over, end_over}
+use Rattle.s7_session.proofs.PastLemmas.{past_nothing}
 
 -- how the octets written and the end are those of all octets taken
 record Finishes (link link' : Shown) (first : LinkState) (s : Session) (used : List ℕ) (js : List Verdict) (written : List ℕ) (o : Outcome) : Type 0 where

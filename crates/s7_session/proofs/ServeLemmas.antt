@@ -1,5 +1,6 @@
 -- Laws of turns, one after another.
-use Rattle.std.proofs.Common.{◌≡◌, ◌==◌, ℕ, ◌<◌, Bool, true, false, List, [], ◌++◌, length, refl, ap, sym, ◌∙◌, subst, append_assoc, arith}
+use Rattle.std.proofs.Common.{◌≡◌, ◌==◌, ℕ, ◌<◌, Bool, true, false, List, [], ◌++◌, length, refl, ap, sym, ◌∙◌, subst}
+use Rattle.std.proofs.Common.{append_assoc, arith}
 use Rattle.std.specs.Prelude.{Option, None, Some, IsTrue, IfSome, IsSome}
 use Rattle.std.proofs.lemmas.List.{append-nil, nil_from_length}
 use Rattle.std.proofs.lemmas.Bool.Decides.{nat_tests}
@@ -19,11 +20,14 @@ use Rattle.s7_session.specs.Conversing.{sends}
 use Rattle.s7_session.specs.Entry.{Entry}
 use Rattle.s7_session.specs.LinkState.{LinkState}
 use Rattle.s7_session.specs.Owed.{end_of, end_by, torn_or_ended}
-use Rattle.s7_session.specs.Stands.{Stands, Moves, IsTurn, IsServed, Consumes, HasCause, HasMetNotYet, IsIdle, closed_with, closed_by, unread, unsent}
+use Rattle.s7_session.specs.Stands.{Stands, Moves, IsTurn, IsServed, Consumes, HasCause, HasMetNotYet, IsIdle}
+use Rattle.s7_session.specs.Stands.{closed_with, closed_by, unread, unsent}
 use Rattle.s7_session.specs.Telegrams.{verdicts_of}
 use Rattle.s7_session.specs.Verdict.{Verdict}
 use Rattle.s7_session.proofs.ConsumeLemmas.{closed_not_yet, closed_not_went, none_not_some, same_closed}
-use Rattle.s7_session.proofs.TurnLemmas.{Keeps, Moved, stood_plain, moves_plain, moves_both, moves_none, cause_earlier, prepend_none, append_none, space_none, fits_none, verdicts-append}
+use Rattle.s7_session.proofs.TurnLemmas.{Keeps, Moved, stood_plain, moves_plain, moves_both, moves_none}
+use Rattle.s7_session.proofs.TurnLemmas.{cause_earlier, prepend_none, append_none, space_none, fits_none}
+use Rattle.s7_session.proofs.TurnLemmas.{verdicts-append}
 
 pub not_yet_not_went : turn.NotYet ≡ turn.Went → ⊥
 not_yet_not_went e = cc

@@ -6,9 +6,9 @@ use Rattle.std.proofs.lemmas.Bool.Decides.{nat_tests}
 use Rattle.std.proofs.lemmas.List.{nil_from_length}
 use Rattle.s7_header.specs.declared.user_params.UserParams.{UserParams}
 use Rattle.s7_plant.specs.Replies.{Said}
-use Rattle.s7_session.specs.Judgement.{user_octets, user_answer, user_data, user_reply, group_of_answer, next_octet}
+use Rattle.s7_session.specs.Judgement.{user_octets, user_answer, user_data, user_reply, group_of_answer}
 use Rattle.s7_session.specs.Judgement.{slice_room, slice_octets}
-use Rattle.s7_session.specs.LinkState.{LinkState, Sliced}
+use Rattle.s7_session.specs.LinkState.{LinkState, Sliced, next_octet}
 use Rattle.s7_session.specs.Passwords.{no_data}
 use Rattle.s7_session.specs.Slices.{is_left, sliced_of, rest_of}
 

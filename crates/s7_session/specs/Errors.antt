@@ -1,13 +1,15 @@
--- The error words of refusals, which are this protocol profile's own.
+-- The error words of refusals. Those from 8403 to 8404 and from 8F01 to 8F03 are this profile's own.
 use Rattle.std.specs.Prelude.{ℕ}
 use Rattle.s7_session.specs.declared.judge.Refusal.{Refusal}
 use Rattle.s7_session.specs.declared.judge.Refusal.TheVariants.{UnknownFunction, NotNegotiated, Unreadable, OverPdu}
+use Rattle.s7_session.specs.declared.judge.Refusal.TheVariants.{NotAllowed}
 
 abbrev pub error_of : Refusal → ℕ
 error_of UnknownFunction = 0x8104
 error_of NotNegotiated = 0x8403
 error_of Unreadable = 0x8404
 error_of OverPdu = 0x8500
+error_of NotAllowed = 0x8F03
 
 -- the history is full
 abbrev pub FULL : ℕ

@@ -1,5 +1,6 @@
 -- How a message is judged, by the state of its link. A message has ten octets or more and begins with 32.
-use Rattle.std.specs.Prelude.{ℕ, ◌+◌, Bool, true, false, ◌==◌, ◌&&◌, ◌||◌, not, nat_lt, List, [], ◌∷◌, ◌++◌, length}
+use Rattle.std.specs.Prelude.{ℕ, ◌+◌, Bool, true, false, ◌==◌, ◌&&◌, ◌||◌, not, nat_lt, nat_le, is_some, List, []}
+use Rattle.std.specs.Prelude.{◌∷◌, ◌++◌, length}
 use Rattle.std.specs.Prelude.{◌-◌, take, drop, slice_index, Option, None, Some, Result, Ok, Err, if◌then◌else◌}
 use Rattle.std.specs.Str.{bytes_eq}
 use Rattle.s7_outer.specs.Numbers.{two_octets}
@@ -29,16 +30,28 @@ use Rattle.s7_clock.specs.declared.control.Control.{Control}
 use Rattle.s7_clock.specs.declared.control.Control.TheVariants as control
 use Rattle.s7_clock.specs.declared.faults.BadParams.{BadParams as BadControl}
 use Rattle.s7_plant.specs.Answers.{service_function, stop_function}
+use Rattle.s7_block.specs.declared.block.BlockName.{BlockName}
+use Rattle.s7_block.specs.Assembly.{Progress, idle, awaiting, whole, with_piece}
+use Rattle.s7_block.specs.Heads.{head_agrees}
+use Rattle.s7_block.specs.Kinds.{head_code, is_stored_kind}
+use Rattle.s7_block.specs.Names.{named}
+use Rattle.s7_block.specs.Sides.{left_in, is_held}
+use Rattle.s7_block.specs.Slices.{Piece, first_piece, left_behind}
 use Rattle.s7_plant.specs.declared.request.Ask.{Ask}
 use Rattle.s7_plant.specs.declared.request.Request.{Request}
 use Rattle.s7_plant.specs.declared.request.Request.TheVariants.{Read, Write}
 use Rattle.s7_plant.specs.declared.request.Request.TheVariants as request
-use Rattle.s7_plant.specs.Requests.{asked}
+use Rattle.s7_plant.specs.Requests.{asked, no_room}
 use Rattle.s7_plant.specs.Replies.{Said}
-use Rattle.s7_session.specs.LinkState.{LinkState, Sliced}
+use Rattle.s7_session.specs.LinkState.{LinkState, Sliced, ServerJob, Download, next_octet, next_sequence}
 use Rattle.s7_session.specs.Passwords.{decoded, is_password, no_data, set_error, clear_error}
+use Rattle.s7_session.specs.Transfers.{Announced, announce_function, piece_function, close_function, start_function}
+use Rattle.s7_session.specs.Transfers.{slice_function, end_function, upload_asked, download_announced, id_in}
+use Rattle.s7_session.specs.Transfers.{image_data, image_room, more_octet, piece_in, with_upload, with_id}
+use Rattle.s7_session.specs.Transfers.{server_job_octets, with_server_job, without_download, piece_left, finished}
 use Rattle.s7_session.specs.declared.judge.Refusal.{Refusal}
 use Rattle.s7_session.specs.declared.judge.Refusal.TheVariants.{UnknownFunction, NotNegotiated, Unreadable, OverPdu}
+use Rattle.s7_session.specs.declared.judge.Refusal.TheVariants.{NotAllowed}
 
 -- what asks the plant: what it asks by the moment, whether it asks for one, whether the request is copied, and what an
 -- entered reply leaves and is answered
@@ -82,7 +95,7 @@ abbrev pub reply_octets : ℕ → Said → List ℕ
 reply_octets sequence reply =
     if reply.error == 0 then answer_octets sequence reply.params reply.body else refusal_octets sequence reply.error
 
--- a write's octets are copied
+-- a write's octets are copied, and the image of a block that is inserted
 abbrev pub is_copied : Request → Bool
 is_copied (Read items) = false
 is_copied (Write items places octets) = true
@@ -93,6 +106,12 @@ is_copied (request.Start cold) = false
 is_copied request.Stop = false
 is_copied request.Compress = false
 is_copied request.CopyRam = false
+is_copied request.ListAll = false
+is_copied (request.ListOf kind) = false
+is_copied (request.Info kind number) = false
+is_copied (request.StartUpload kind number) = false
+is_copied (request.Insert kind number image spare) = true
+is_copied (request.Delete kind number) = false
 
 -- a request with the link's right that leaves the link as it is, and asks for no moment
 abbrev pub plainly : LinkState → ℕ → Request → Asking
@@ -137,34 +156,123 @@ abbrev pub write : LinkState → ℕ → ℕ → List ℕ → Result (List Item)
 write link pdu sequence body (Err fault) = refuse Unreadable
 write link pdu sequence body (Ok items) = write_of link pdu sequence items body (data_places_of (length items) body)
 
--- what a control asks; those of blocks aren't served
-abbrev pub request_of : Control → Option Request
-request_of control.Start = Some (request.Start false)
-request_of control.ColdStart = Some (request.Start true)
-request_of control.Stop = Some request.Stop
-request_of control.Compress = Some request.Compress
-request_of control.CopyRam = Some request.CopyRam
-request_of (control.Insert kind number) = None
-request_of (control.Delete kind number) = None
+-- ---- control
+
+-- a block is inserted that the link holds as a finished download, with a head that is its own
+abbrev pub insert : LinkState → ℕ → ℕ → ℕ → Option (List ℕ) → Judgement
+insert link sequence kind number None = refuse NotAllowed
+insert link sequence kind number (Some image) =
+    if is_stored_kind kind && head_agrees image kind number
+    then asks_plainly link sequence (request.Insert kind number image no_room) else refuse NotAllowed
+
+-- what a control asks; blocks are inserted and deleted of the kinds that are stored
+abbrev pub control_asked : LinkState → ℕ → Control → Judgement
+control_asked link sequence control.Start = asks_plainly link sequence (request.Start false)
+control_asked link sequence control.ColdStart = asks_plainly link sequence (request.Start true)
+control_asked link sequence control.Stop = asks_plainly link sequence request.Stop
+control_asked link sequence control.Compress = asks_plainly link sequence request.Compress
+control_asked link sequence control.CopyRam = asks_plainly link sequence request.CopyRam
+control_asked link sequence (control.Insert kind number) =
+    insert link sequence kind number (finished link.download kind number)
+control_asked link sequence (control.Delete kind number) =
+    if is_stored_kind kind then asks_plainly link sequence (request.Delete kind number) else refuse NotAllowed
 
 -- a control has no data part
-abbrev pub controls : LinkState → ℕ → List ℕ → Option Request → Judgement
-controls link sequence body None = refuse UnknownFunction
-controls link sequence body (Some request) =
-    if nat_lt 0 (length body) then refuse Unreadable else asks_plainly link sequence request
-
 abbrev pub control_in : LinkState → ℕ → List ℕ → Result Control BadControl → Judgement
 control_in link sequence body (Err bad) = refuse Unreadable
-control_in link sequence body (Ok c) = controls link sequence body (request_of c)
+control_in link sequence body (Ok c) =
+    if nat_lt 0 (length body) then refuse Unreadable else control_asked link sequence c
 
--- Reading and writing items, and control. Of the other functions, 1A to 1F are those of uploads and downloads, which
--- aren't served.
+-- ---- uploads
+
+-- the answer to an upload's start: with an id where it is started
+abbrev pub upload_reply : LinkState → ℕ → Said → List ℕ
+upload_reply link sequence reply =
+    if reply.error == 0 then answer_octets sequence (with_id reply.params (next_octet link.upload_id)) []
+    else refusal_octets sequence reply.error
+
+abbrev pub by_upload : LinkState → ℕ → BlockName → Asking
+by_upload link sequence name = record {
+  ask = λ moment. asked link.right (request.StartUpload name.kind name.number);
+  is_timed = false;
+  is_copied = false;
+  link = λ reply. with_upload link reply;
+  messages = λ reply. upload_reply link sequence reply ∷ [];
+}
+
+abbrev pub upload_started : LinkState → ℕ → Option BlockName → Judgement
+upload_started link sequence None = refuse Unreadable
+upload_started link sequence (Some name) = ask (by_upload link sequence name)
+
+-- the answer with a slice of the image, whose parameters say whether others follow
+abbrev pub slice_answer : ℕ → Piece → List ℕ
+slice_answer sequence piece =
+    answer_octets sequence (slice_function ∷ more_octet piece.more ∷ []) (image_data piece.octets)
+
+-- The next octets of the upload of this id, where some are left: behind the last of them only the end is answered.
+abbrev pub upload_sliced : LinkState → ℕ → ℕ → ℕ → Option (List ℕ) → Judgement
+upload_sliced link pdu sequence id None = refuse Unreadable
+upload_sliced link pdu sequence id (Some octets) =
+    own (slice_answer sequence (first_piece (image_room pdu) octets) ∷ [])
+    (record link { upload = Some (record { id = id; left = left_behind (image_room pdu) octets }) })
+
+abbrev pub slice_asked : LinkState → ℕ → ℕ → Option ℕ → Judgement
+slice_asked link pdu sequence None = refuse Unreadable
+slice_asked link pdu sequence (Some id) = upload_sliced link pdu sequence id (left_in link.upload id)
+
+-- the end of the upload of this id drops it
+abbrev pub upload_ended : LinkState → ℕ → ℕ → Judgement
+upload_ended link sequence id =
+    if is_held link.upload id
+    then own (answer_octets sequence (end_function ∷ []) [] ∷ []) (record link { upload = None })
+    else refuse Unreadable
+
+abbrev pub end_asked : LinkState → ℕ → Option ℕ → Judgement
+end_asked link sequence None = refuse Unreadable
+end_asked link sequence (Some id) = upload_ended link sequence id
+
+-- ---- downloads
+
+-- the next job of the server's own
+abbrev pub server_job : LinkState → ℕ → BlockName → List ℕ
+server_job link function name = server_job_octets (next_sequence link.job_sequence) function name
+
+-- a download that begins takes the place of the one before: the first piece is asked for at once
+abbrev pub download_begun : LinkState → ℕ → BlockName → ℕ → Judgement
+download_begun link sequence name size =
+    own (answer_octets sequence (announce_function ∷ []) [] ∷ server_job link piece_function name ∷ [])
+    (with_server_job link piece_function name (awaiting size []))
+
+-- a block of a kind that is stored, and an image of 36 to 65,536 octets
+abbrev pub download_started : LinkState → ℕ → Option Announced → Judgement
+download_started link sequence None = refuse Unreadable
+download_started link sequence (Some a) =
+    if is_stored_kind a.name.kind && nat_le 36 a.size && nat_le a.size 65536
+    then download_begun link sequence a.name a.size else refuse NotAllowed
+
+-- a job of an upload or of a download
+abbrev pub transfer : LinkState → ℕ → ℕ → ℕ → List ℕ → Judgement
+transfer link pdu code sequence params =
+    if code == announce_function then download_started link sequence (download_announced params)
+    else (if code == start_function then upload_started link sequence (upload_asked params)
+    else (if code == slice_function then slice_asked link pdu sequence (id_in slice_function params)
+    else end_asked link sequence (id_in end_function params)))
+
+abbrev pub is_transfer : ℕ → Bool
+is_transfer code =
+    code == announce_function || code == start_function || code == slice_function || code == end_function
+
+-- ---- the functions that need a PDU
+
+-- Reading and writing items, control, uploads and downloads, of which none but a write has a data part.
 abbrev pub function : LinkState → ℕ → ℕ → ℕ → List ℕ → List ℕ → Judgement
 function link pdu code sequence params body =
     if code == read_function then read link pdu sequence body (items_of params)
     else (if code == write_function then write link pdu sequence body (items_of params)
     else (if code == service_function || code == stop_function then control_in link sequence body (control_of params)
-    else refuse UnknownFunction))
+    else (if is_transfer code
+    then (if nat_lt 0 (length body) then refuse Unreadable else transfer link pdu code sequence params)
+    else refuse UnknownFunction)))
 
 abbrev pub function_at : LinkState → Option ℕ → ℕ → ℕ → List ℕ → List ℕ → Judgement
 function_at link None code sequence params body = refuse NotNegotiated
@@ -177,10 +285,6 @@ job link sequence (code ∷ params) body =
     else function_at link link.granted code sequence (code ∷ params) body
 
 -- ---- user data
-
--- the next sequence octet of an answer: after FF comes 01
-abbrev pub next_octet : ℕ → ℕ
-next_octet n = if n == 0xFF then 1 else n + 1
 
 -- the parameters of an answer that is whole
 abbrev pub user_answer : ℕ → ℕ → ℕ → ℕ → UserParams
@@ -365,14 +469,53 @@ security link sequence params body =
     else (if params.sub == 0x02 then (if params.answer then refuse Unreadable else password_cleared link sequence body)
     else refuse UnknownFunction)
 
--- Status lists, passwords and the clock. Group 43 is that of blocks, which aren't served.
+-- ---- blocks
+
+-- the data name a kind
+abbrev pub names_kind : List ℕ → Bool
+names_kind body =
+    (length body == 6 && bytes_eq (take 5 body) (0xFF ∷ 0x09 ∷ 0x00 ∷ 0x02 ∷ 0x30 ∷ []))
+    && is_some (head_code (slice_index body 5))
+
+abbrev pub kind_listed : LinkState → ℕ → ℕ → List ℕ → Judgement
+kind_listed link pdu sequence body =
+    if names_kind body
+    then asks_user link pdu sequence 0x43 0x02 false (λ moment. request.ListOf (slice_index body 5))
+    else refuse Unreadable
+
+-- the block that the data name, which is at `A`
+abbrev pub block_told : List ℕ → Option BlockName
+block_told body =
+    if bytes_eq (take 4 body) (0xFF ∷ 0x09 ∷ 0x00 ∷ 0x08 ∷ []) then named (drop 4 body) 0x41 else None
+
+abbrev pub informed : LinkState → ℕ → ℕ → Option BlockName → Judgement
+informed link pdu sequence None = refuse Unreadable
+informed link pdu sequence (Some name) =
+    asks_user link pdu sequence 0x43 0x03 false (λ moment. request.Info name.kind name.number)
+
+-- the counts of all kinds are asked for by whatever data
+abbrev pub blocks_asked : LinkState → ℕ → ℕ → ℕ → List ℕ → Judgement
+blocks_asked link pdu sequence subfunction body =
+    if subfunction == 0x01 then asks_user link pdu sequence 0x43 0x01 false (λ moment. request.ListAll)
+    else (if subfunction == 0x02 then kind_listed link pdu sequence body
+    else informed link pdu sequence (block_told body))
+
+abbrev pub blocks : LinkState → ℕ → ℕ → UserParams → List ℕ → Judgement
+blocks link pdu sequence params body =
+    if params.sub == 0x01 || params.sub == 0x02 || params.sub == 0x03
+    then (if params.answer then further link pdu sequence params body
+    else blocks_asked link pdu sequence params.sub body)
+    else refuse UnknownFunction
+
+-- blocks, status lists, passwords and the clock
 abbrev pub group : LinkState → ℕ → ℕ → List ℕ → Result UserParams BadParams → Judgement
 group link pdu sequence body (Err bad) = refuse Unreadable
 group link pdu sequence body (Ok params) =
-    if params.group == 0x44 then lists link pdu sequence params body
+    if params.group == 0x43 then blocks link pdu sequence params body
+    else (if params.group == 0x44 then lists link pdu sequence params body
     else (if params.group == 0x45 then security link sequence params body
     else (if params.group == 0x47 then clock link pdu sequence params body
-    else refuse UnknownFunction))
+    else refuse UnknownFunction)))
 
 abbrev pub user_at : LinkState → Option ℕ → ℕ → List ℕ → List ℕ → Judgement
 user_at link None sequence params body = refuse NotNegotiated
@@ -402,6 +545,63 @@ headed link m (Ok h) =
 abbrev pub is_request : List ℕ → Bool
 is_request m = slice_index m 1 == 0x01 || slice_index m 1 == 0x07
 
--- THE JUDGEMENT of a message: the first refusal that applies, and else what it asks for
+-- ---- answers to the server's own jobs
+
+-- an acknowledgement with the sequence of the job that isn't answered
+abbrev pub answers_job : Option ServerJob → List ℕ → Bool
+answers_job None m = false
+answers_job (Some job) m =
+    (slice_index m 1 == 0x02 || slice_index m 1 == 0x03) && sequence_of m == job.sequence
+
+-- the download is dropped, and nothing is owed
+abbrev pub dropped : LinkState → Judgement
+dropped link = own [] (without_download link)
+
+-- what is asked for behind a piece, by what it made of the image
+abbrev pub asked_next : LinkState → BlockName → Progress → List (List ℕ)
+asked_next link name idle = []
+asked_next link name (awaiting len octets) = server_job link piece_function name ∷ []
+asked_next link name (whole octets) = server_job link close_function name ∷ []
+
+abbrev pub goes_on : LinkState → BlockName → Progress → Judgement
+goes_on link name progress = own (asked_next link name progress) (piece_left link name progress)
+
+abbrev pub piece_came : LinkState → Option Download → Option Piece → Judgement
+piece_came link None piece = dropped link
+piece_came link (Some d) None = dropped link
+piece_came link (Some d) (Some piece) = goes_on link d.name (with_piece 65536 d.progress piece)
+
+-- the download is closed, and stays held
+abbrev pub closed : LinkState → List ℕ → List ℕ → Judgement
+closed link params body =
+    if bytes_eq params (close_function ∷ []) && length body == 0 then own [] (record link { server_job = None })
+    else dropped link
+
+abbrev pub job_answered : LinkState → ℕ → List ℕ → List ℕ → Judgement
+job_answered link function params body =
+    if function == piece_function then piece_came link link.download (piece_in (pdu_limit link.granted) params body)
+    else closed link params body
+
+-- The answer to the server's job with this function. One that can't be read as that, or has an error, drops the
+-- download.
+abbrev pub answer_came : LinkState → ℕ → List ℕ → Result Header HeaderFault → Judgement
+answer_came link function m (Err fault) = dropped link
+answer_came link function m (Ok h) =
+    if slice_index m 1 == 0x03 && h.error == 0 then job_answered link function (params_of m h) (body_of m h)
+    else dropped link
+
+abbrev pub by_server_job : LinkState → Option ServerJob → List ℕ → Judgement
+by_server_job link None m = refuse UnknownFunction
+by_server_job link (Some job) m = answer_came link job.function m (header_of m)
+
+-- ---- a message as a whole
+
+-- what is no request is the awaited answer to the server's job, or isn't served
+abbrev pub no_request : LinkState → List ℕ → Judgement
+no_request link m =
+    if answers_job link.server_job m then by_server_job link link.server_job m else refuse UnknownFunction
+
+-- THE JUDGEMENT of a message: what the server's job is answered, or the first refusal that applies, and else what it
+-- asks for
 unfoldable pub judge : LinkState → List ℕ → Judgement
-judge link m = if is_request m then headed link m (header_of m) else refuse UnknownFunction
+judge link m = if is_request m then headed link m (header_of m) else no_request link m

@@ -4,6 +4,7 @@ pub mod Verdict
 pub mod Errors
 pub mod Bounds
 pub mod Passwords
+pub mod Transfers
 pub mod Judgement
 pub mod Queries
 pub mod Slices
@@ -13,6 +14,7 @@ pub mod Events
 pub mod Owed
 pub mod Doers
 pub mod Answers
+pub mod ServerJobs
 pub mod Conversing
 pub mod Stands
 pub mod LinkRun

@@ -1,5 +1,8 @@
 -- What a link's earlier messages and their verdicts leave.
-use Rattle.std.specs.Prelude.{ℕ, Bool, false, List, Option, None}
+use Rattle.std.specs.Prelude.{ℕ, ◌+◌, ◌==◌, Bool, false, if◌then◌else◌, List, Option, None}
+use Rattle.s7_block.specs.declared.block.BlockName.{BlockName}
+use Rattle.s7_block.specs.Sides.{Upload}
+use Rattle.s7_block.specs.Assembly.{Progress}
 use Rattle.s7_area.specs.declared.guard.Guard.{Guard}
 
 -- an answer to user data whose further slices may be asked for
@@ -9,20 +12,12 @@ pub record Sliced : Type 0 where
   pub sequence : ℕ
   pub rest : List ℕ
 
--- an upload, with the octets that are still to be asked for
-pub record Upload : Type 0 where
-  pub id : ℕ
-  pub rest : List ℕ
-
--- a download, with its stated length and the octets that came
+-- a download: of which block, and how far its image is
 pub record Download : Type 0 where
-  pub kind : ℕ
-  pub number : ℕ
-  pub size : ℕ
-  pub octets : List ℕ
-  pub is_finished : Bool
+  pub name : BlockName
+  pub progress : Progress
 
--- the server's own job of a download that the client hasn't answered
+-- a job of the server's own in a download: its sequence, and its function
 pub record ServerJob : Type 0 where
   pub sequence : ℕ
   pub function : ℕ
@@ -39,10 +34,12 @@ pub record LinkState : Type 0 where
   pub sliced : Option Sliced
   -- the last id of an upload, 0 before the first
   pub upload_id : ℕ
+  -- the upload that is held, with the octets that are still to be asked for
   pub upload : Option Upload
   -- the last sequence of a job of the server's, 0 before the first
   pub job_sequence : ℕ
   pub download : Option Download
+  -- the one that the client hasn't answered
   pub server_job : Option ServerJob
 
 -- a link on which nothing came, to areas with this guard
@@ -59,3 +56,11 @@ first_link guard = record {
   download = None;
   server_job = None;
 }
+
+-- the next sequence octet of an answer to user data, or the next id of an upload: after FF comes 01
+abbrev pub next_octet : ℕ → ℕ
+next_octet n = if n == 0xFF then 1 else n + 1
+
+-- the next sequence of the server's own jobs: after FFFF comes 0001
+abbrev pub next_sequence : ℕ → ℕ
+next_sequence n = if n == 0xFFFF then 1 else n + 1

@@ -92,6 +92,12 @@ moment_of (request.Start cold) = None
 moment_of request.Stop = None
 moment_of request.Compress = None
 moment_of request.CopyRam = None
+moment_of request.ListAll = None
+moment_of (request.ListOf kind) = None
+moment_of (request.Info kind number) = None
+moment_of (request.StartUpload kind number) = None
+moment_of (request.Insert kind number image spare) = None
+moment_of (request.Delete kind number) = None
 
 -- a request that has a moment has the one that the clock told
 abbrev pub IsAt : Option ℕ → Option ℕ → Type 0

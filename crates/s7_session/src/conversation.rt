@@ -2,12 +2,13 @@
 ghost use Rattle.std.specs.Prelude.{◌≡◌, ◌≤◌, length, IfOk};
 ghost use Rattle.s7_plant.specs.declared.request.Request.TheVariants.{Write};
 ghost use Rattle.s7_session.specs.Events.{is_s7};
-ghost use Rattle.s7_session.specs.Judgement.{sequence_of};
+ghost use Rattle.s7_plant.specs.Requests.{kept_request};
 
 use crate::doer::{Doer, NotDone};
 use crate::handled::Handled;
 use crate::held::Held;
 use crate::judge::{Judgement, Refusal, judge};
+use crate::judge_transfer::sequence_of;
 use crate::judge_user::SECURITY;
 use crate::query::Query;
 use crate::sender::Sender;
@@ -24,7 +25,7 @@ use std::alloc::Global;
 const REFERENCE: u16 = 1;
 
 /// The error word of a refusal where the history is full.
-const FULL: u16 = 0x8F01;
+pub(crate) const FULL: u16 = 0x8F01;
 
 /// That of a refusal where the clock failed.
 const CLOCK_FAILED: u16 = 0x8F02;
@@ -35,7 +36,7 @@ pub(crate) struct Conversation {
     /// The TPDU size of the connect request, and none before it.
     pub(crate) size: Option<TpduSize>,
     pub(crate) held: Held,
-    reply: Reply,
+    pub(crate) reply: Reply,
     pub(crate) sender: Sender,
     ghost params_room: { reply.params.room ≡ 16 },
     ghost body_room: { reply.body.room ≡ 65572 },
@@ -53,11 +54,12 @@ impl Conversation {
     ghost use Rattle.s7_wire.specs.Reading.{opened, message};
     ghost use Rattle.s7_session.specs.Answers.{Answers};
     ghost use Rattle.s7_session.specs.Conversing.{link_of, size_of, sends};
-    ghost use Rattle.s7_session.specs.Events.{made, settled, by_judgement, asks};
+    ghost use Rattle.s7_session.specs.Errors.{error_of};
+    ghost use Rattle.s7_session.specs.Events.{made, settled, by_judgement, asks, refusal_sent};
     ghost use Rattle.s7_session.specs.Judged.{judgement_of, IsWithin, queries};
-    ghost use Rattle.s7_session.specs.Judgement.{plainly, user_octets, user_answer, next_octet, secured};
+    ghost use Rattle.s7_session.specs.Judgement.{plainly, user_octets, user_answer, secured, sequence_of};
     ghost use Rattle.s7_session.specs.Judgement.{user_reply, user_link, slice_octets, slices_left};
-    ghost use Rattle.s7_session.specs.LinkState.{first_link};
+    ghost use Rattle.s7_session.specs.LinkState.{first_link, next_octet};
     ghost use Rattle.s7_session.specs.Passwords.{no_data};
     ghost use Rattle.s7_session.specs.Queries.{group_of, subfunction_of, IsReadyQuery};
     ghost use Rattle.s7_session.specs.Telegrams.{moment_of};
@@ -122,7 +124,8 @@ impl Conversation {
         self.answer(alloc, size, sequence_of(octets), judgement, line, doer)
     }
 
-    // Answers a message of this sequence by its judgement. There is no copy but that of a write's octets.
+    // Answers a message of this sequence by its judgement. There is no copy but that of a write's octets, and
+    // of the image of a block that is inserted.
     fn answer<L: Link + Clock, D: Doer>(
         &mut self,
         alloc: Global,
@@ -145,7 +148,7 @@ impl Conversation {
     {
         match judgement {
             Judgement::Refuse(refusal) => {
-                self.sender.put_refusal(size, sequence, refusal.error());
+                self.refuse(size, sequence, refusal);
                 Handled::Answered
             }
             Judgement::Grant(granted) => {
@@ -177,7 +180,29 @@ impl Conversation {
                 self.put_slice(size, sequence, pdu, answer);
                 Handled::Answered
             }
+            Judgement::Insert(name) => self.insert(alloc, size, sequence, name, doer),
+            Judgement::Upload(name) => self.start_upload(alloc, size, sequence, name, doer),
+            Judgement::Slice { .. }
+            | Judgement::End { .. }
+            | Judgement::Download { .. }
+            | Judgement::Piece { .. }
+            | Judgement::Closed
+            | Judgement::Dropped => {
+                self.transfer(size, sequence, judgement);
+                Handled::Answered
+            }
         }
+    }
+
+    // Puts the refusal of a message.
+    pub(crate) fn refuse(&mut self, size: TpduSize, sequence: u16, refusal: Refusal)
+        requires sent { sends self.old ≡ [] }
+        requires room { self.old.sender.outbox.room ≡ most_waiting }
+        ensures sends { sends self.new ≡ refusal_sent size.octets sequence (error_of refusal) }
+        ensures held { self.new.held ≡ self.old.held }
+        ensures size { self.new.size ≡ self.old.size }
+    {
+        self.sender.put_refusal(size, sequence, refusal.error());
     }
 
     // Answers a telegram about a password, after which the link has this right.
@@ -201,7 +226,7 @@ impl Conversation {
 
     // Has a request that has no moment carried out with the link's right and puts its answer, or the refusal
     // where the doer is full for it.
-    fn ask<D: Doer>(
+    pub(crate) fn ask<D: Doer>(
         &mut self,
         alloc: Global,
         size: TpduSize,
@@ -217,7 +242,7 @@ impl Conversation {
         ensures answers { (line : Shown) (at : ℕ) → Answers D.stands D.is_full D.may_lack
             line doer.old line doer.new
             (asks size.octets (link_of self.old.held) sequence
-            (plainly (link_of self.old.held) sequence request)) at
+            (plainly (link_of self.old.held) sequence (kept_request request))) at
             (Some size.octets) (link_of self.new.held) (sends self.new) result }
         ensures size { self.new.size ≡ self.old.size }
         ensures kept { D.keeps doer.old doer.new }
@@ -345,6 +370,7 @@ impl Refusal {
             Refusal::NotNegotiated => 0x8403,
             Refusal::Unreadable => 0x8404,
             Refusal::OverPdu => 0x8500,
+            Refusal::NotAllowed => 0x8F03,
         }
     }
 }
@@ -354,14 +380,6 @@ fn is_s7(message: &[u8]) -> bool
     ensures { result ≡ is_s7 message.now }
 {
     message.len() >= 10 && message[0] == 0x32
-}
-
-// The sequence of a message.
-fn sequence_of(message: &[u8]) -> u16
-    requires { 10 ≤ length message.now }
-    ensures { result ≡ sequence_of message.now }
-{
-    u16::from(message[4]) * 256 + u16::from(message[5])
 }
 
 // A write with a copy of the octets that its places lie in.

@@ -50,12 +50,13 @@ pub trait Doer {
         ensures fits { OnOk result (Fits ask.request (said_of reply.new)) }
         ensures err_reply { OnErr result (reply.new ≡ reply.old) }
 
-        // It refuses only where it is full or lacks memory, and always where it was full.
+        // It refuses only where it is full or lacks memory for what is asked, as a history keeps it, and always where
+        // it was full.
         ensures full { (back : Ask) → result ≡ Err (NotDone.Full back)
-            → (back ≡ ask) × is_full self.new ask }
+            → (back ≡ ask) × is_full self.new (kept ask) }
         ensures lacked { (back : Ask) → result ≡ Err (NotDone.Memory back)
-            → (back ≡ ask) × may_lack self.old ask }
-        ensures was_full { is_full self.old ask → IsErr result }
+            → (back ≡ ask) × may_lack self.old (kept ask) }
+        ensures was_full { is_full self.old (kept ask) → IsErr result }
         ensures stays_full { StaysFull is_full self.old self.new }
         ensures kept { keeps self.old self.new };
 

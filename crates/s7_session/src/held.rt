@@ -1,12 +1,35 @@
 // What a link's earlier messages left.
-ghost use Rattle.std.specs.Prelude.{◌≤◌};
+ghost use Rattle.std.specs.Prelude.{◌≡◌, ◌≤◌};
 ghost use Rattle.std.specs.Option.{ForSome};
 ghost use Rattle.s7_header.specs.Negotiation.{least_pdu, most_pdu};
+ghost use Rattle.s7_session.specs.LinkState.{next_octet};
 
 use crate::slices::Slices;
 use s7_area::Guard;
+use s7_block::{DownloadSide, UploadSide};
 use s7_outer::Memory;
 use std::alloc::Global;
+
+/// How many octets an image has at most that is uploaded, and one that is downloaded.
+const UPLOADED: usize = 65_572;
+
+const DOWNLOADED: usize = 65_536;
+
+/// What the server asks of the client in a download.
+#[derive(Clone, Copy, Debug, PartialEq, Eq)]
+pub(crate) enum ServerFunction {
+    /// The next piece of the image.
+    SendPiece,
+    /// That the client closes the download.
+    Close,
+}
+
+/// A job of the server's own.
+#[derive(Clone, Copy, Debug, PartialEq, Eq)]
+pub(crate) struct ServerJob {
+    pub(crate) sequence: u16,
+    pub(crate) function: ServerFunction,
+}
 
 /// What a link's earlier messages left.
 #[derive(Drop)]
@@ -21,6 +44,18 @@ pub(crate) struct Held {
     pub(crate) user_sequence: u8,
     /// The octets of that answer that may be asked for.
     pub(crate) slices: Slices,
+    /// The last id of an upload, 0 before the first.
+    pub(crate) upload_id: u8,
+    /// The upload that is held, if there is one.
+    pub(crate) upload: UploadSide,
+    /// The sequence of the last job of the server's own, 0 before the first.
+    pub(crate) job_sequence: u16,
+    /// The download that is held, if there is one.
+    pub(crate) download: DownloadSide,
+    /// The server's job that the client hasn't answered.
+    pub(crate) server_job: Option<ServerJob>,
+    ghost upload_room: { upload.room ≡ 65572 },
+    ghost download_room: { download.room ≡ 65536 },
     ghost least: { ForSome granted (λ pdu. least_pdu ≤ pdu) },
     ghost most: { ForSome granted (λ pdu. pdu ≤ most_pdu) },
 }
@@ -28,8 +63,8 @@ pub(crate) struct Held {
 impl Held {
     ghost use Rattle.std.specs.Prelude.{◌≡◌, None, IfOk};
     ghost use Rattle.s7_session.specs.Conversing.{link_of};
-    ghost use Rattle.s7_session.specs.Judgement.{next_octet, secured};
-    ghost use Rattle.s7_session.specs.LinkState.{first_link};
+    ghost use Rattle.s7_session.specs.Judgement.{secured};
+    ghost use Rattle.s7_session.specs.LinkState.{first_link, next_octet};
 
     /// Nothing came, on a link to areas with this guard. The room for octets is taken here.
     pub(crate) fn new(alloc: Global, guard: Option<Guard>) -> Result<Held, Memory>
@@ -41,6 +76,11 @@ impl Held {
             guard,
             user_sequence: 0,
             slices: Slices::new(alloc)?,
+            upload_id: 0,
+            upload: UploadSide::new(alloc, UPLOADED)?,
+            job_sequence: 0,
+            download: DownloadSide::new(alloc, DOWNLOADED)?,
+            server_job: None,
         })
     }
 
@@ -54,10 +94,7 @@ impl Held {
         } }
     {
         self.slices.clear();
-        self.user_sequence = match self.user_sequence {
-            0xFF => 1,
-            octet => octet + 1,
-        };
+        self.user_sequence = next_octet(self.user_sequence);
         self.user_sequence
     }
 
@@ -67,5 +104,15 @@ impl Held {
     {
         self.right = right;
         self.count_answer();
+    }
+}
+
+/// The next sequence octet of an answer to user data, or the next id of an upload: after FF comes 01.
+pub(crate) fn next_octet(octet: u8) -> u8
+    ensures { result ≡ next_octet octet }
+{
+    match octet {
+        0xFF => 1,
+        octet => octet + 1,
     }
 }

@@ -7,13 +7,17 @@ ghost use Rattle.s7_clock.specs.Control.{control_of};
 ghost use Rattle.s7_session.specs.Conversing.{link_of};
 ghost use Rattle.s7_session.specs.LinkState.{LinkState};
 ghost use Rattle.s7_session.specs.Judgement.{judge, job, function, function_at, negotiation, read, write};
-ghost use Rattle.s7_session.specs.Judgement.{control_in, request_of, pdu_limit, is_request, sequence_of};
-ghost use Rattle.s7_session.specs.Judged.{judgement_of, IsWithin, IsPlain};
+ghost use Rattle.s7_session.specs.Judgement.{control_in, pdu_limit, is_request, sequence_of};
+ghost use Rattle.s7_session.specs.Judged.{judgement_of, IsWithin};
 
 use crate::held::Held;
+use crate::judge_transfer::{judge_answer, judge_transfer};
 use crate::judge_user::judge_user;
 use crate::query::Query;
+use crate::sender::{ANNOUNCE, END, SLICE, START};
 use crate::slices::AnswerId;
+use s7_block::BlockName;
+use s7_block::kinds::is_stored_kind;
 use s7_clock::{Control, read_control};
 use s7_header::{Kind, MOST_PDU, Negotiation, grant, parts, read_header, read_negotiate};
 use s7_item::codes::{READ_FUNCTION, WRITE_FUNCTION};
@@ -35,6 +39,8 @@ pub(crate) enum Refusal {
     Unreadable,
     /// The lengths disagree, or the message or its answer passes the PDU.
     OverPdu,
+    /// Blocks of this kind or length aren't downloaded, inserted or deleted, or no such block was downloaded.
+    NotAllowed,
 }
 
 /// What a message asks for.
@@ -68,6 +74,33 @@ pub(crate) enum Judgement<'a> {
         pdu: u16,
         answer: AnswerId,
     },
+    /// That the block is inserted whose download the link holds.
+    Insert(BlockName),
+    /// The upload of a block.
+    Upload(BlockName),
+    /// The next octets of the upload of this id, on a link with this PDU.
+    Slice {
+        pdu: u16,
+        id: u8,
+    },
+    /// The end of the upload of this id.
+    End {
+        id: u8,
+    },
+    /// The download of a block of a kind that is stored, whose image has so many octets.
+    Download {
+        name: BlockName,
+        size: u32,
+    },
+    /// The piece of an image that the server's job asked for.
+    Piece {
+        more: bool,
+        octets: &'a [u8],
+    },
+    /// The answer to the server's job that closes a download.
+    Closed,
+    /// Another answer than the server's job awaits.
+    Dropped,
 }
 
 /// Judges a message of ten octets or more that begins with 32, by what the link's earlier ones left.
@@ -79,7 +112,7 @@ pub(crate) fn judge<'a>(held: &Held, message: &'a [u8]) -> Judgement<'a>
     ensures within { IsWithin held.now.granted result }
 {
     if !is_request(message) {
-        return Judgement::Refuse(Refusal::UnknownFunction);
+        return judge_answer(held, message);
     }
     let Ok(header) = read_header(message) else {
         return Judgement::Refuse(Refusal::OverPdu);
@@ -95,6 +128,7 @@ pub(crate) fn judge<'a>(held: &Held, message: &'a [u8]) -> Judgement<'a>
     }
 }
 
+// A job or user data.
 fn is_request(message: &[u8]) -> bool
     requires { 10 ≤ length message.now }
     ensures { result ≡ is_request message.now }
@@ -102,7 +136,7 @@ fn is_request(message: &[u8]) -> bool
     message[1] == 0x01 || message[1] == 0x07
 }
 
-fn pdu_limit(granted: Option<u16>) -> usize
+pub(crate) fn pdu_limit(granted: Option<u16>) -> usize
     ensures { result ≡ pdu_limit granted }
 {
     usize::from(granted.unwrap_or(MOST_PDU))
@@ -156,6 +190,7 @@ fn judge_function<'a>(
         READ_FUNCTION => judge_read(pdu, params, body),
         WRITE_FUNCTION => judge_write(pdu, params, body),
         SERVICE_FUNCTION | STOP_FUNCTION => judge_control(params, body),
+        ANNOUNCE | START | SLICE | END => judge_transfer(pdu, code, params, body),
         _ => Judgement::Refuse(Refusal::UnknownFunction),
     }
 }
@@ -206,26 +241,19 @@ fn judge_control<'a>(params: &[u8], body: &[u8]) -> Judgement<'a>
     let Ok(control) = read_control(params) else {
         return Judgement::Refuse(Refusal::Unreadable);
     };
-    let Some(request) = request_of(control) else {
-        return Judgement::Refuse(Refusal::UnknownFunction);
-    };
     if !body.is_empty() {
         return Judgement::Refuse(Refusal::Unreadable);
     }
-    Judgement::Ask(request)
-}
-
-// What a control asks; those of blocks aren't served.
-fn request_of(control: Control) -> Option<Request>
-    ensures request { result ≡ request_of control }
-    ensures plain { (granted : _) → IfSome result (IsPlain granted) }
-{
     match control {
-        Control::Start => Some(Request::Start { cold: false }),
-        Control::ColdStart => Some(Request::Start { cold: true }),
-        Control::Stop => Some(Request::Stop),
-        Control::Compress => Some(Request::Compress),
-        Control::CopyRam => Some(Request::CopyRam),
-        Control::Insert { .. } | Control::Delete { .. } => None,
+        Control::Start => Judgement::Ask(Request::Start { cold: false }),
+        Control::ColdStart => Judgement::Ask(Request::Start { cold: true }),
+        Control::Stop => Judgement::Ask(Request::Stop),
+        Control::Compress => Judgement::Ask(Request::Compress),
+        Control::CopyRam => Judgement::Ask(Request::CopyRam),
+        Control::Insert { kind, number } => Judgement::Insert(BlockName { kind, number }),
+        Control::Delete { kind, number } if is_stored_kind(kind) => {
+            Judgement::Ask(Request::Delete { kind, number })
+        }
+        Control::Delete { .. } => Judgement::Refuse(Refusal::NotAllowed),
     }
 }

@@ -10,8 +10,9 @@ ghost use Rattle.s7_session.specs.LinkState.{LinkState};
 
 use crate::held::Held;
 use crate::judge::{Judgement, Refusal};
+use crate::judge_blocks::judge_blocks;
 use crate::password::{NO_DATA, clear_error, decode, password_in, set_error};
-use crate::query::{CLOCK, LISTS, Query, READ_CLOCK, READ_LIST, SET_CLOCK};
+use crate::query::{BLOCKS, CLOCK, LISTS, Query, READ_CLOCK, READ_LIST, SET_CLOCK};
 use crate::slices::AnswerId;
 use s7_clock::{from_octets, moment_of};
 use s7_header::{UserParams, read_user};
@@ -45,6 +46,7 @@ pub(crate) fn judge_user<'a>(held: &Held, params: &[u8], body: &[u8]) -> Judgeme
         return Judgement::Refuse(Refusal::Unreadable);
     };
     match asked.group {
+        BLOCKS => judge_blocks(held, pdu, &asked, body),
         LISTS => judge_lists(held, pdu, &asked, body),
         SECURITY => judge_security(held, &asked, body),
         CLOCK => judge_clock(held, pdu, &asked, body),
@@ -148,7 +150,12 @@ fn moment_in(octets: &[u8]) -> Option<u64>
 }
 
 // A further slice is there only of the answer that is held, as long as octets of it are left.
-fn judge_further<'a>(held: &Held, pdu: u16, asked: &UserParams, body: &[u8]) -> Judgement<'a>
+pub(crate) fn judge_further<'a>(
+    held: &Held,
+    pdu: u16,
+    asked: &UserParams,
+    body: &[u8],
+) -> Judgement<'a>
     requires group { asked.now.group + 64 < 256 }
     ensures judged { (sequence : ℕ) → judgement_of (link_of held.now) sequence result
         ≡ further (link_of held.now) pdu sequence asked.now body.now }

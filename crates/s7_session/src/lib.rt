@@ -4,10 +4,13 @@
 
 mod book_doer;
 mod conversation;
+mod conversation_blocks;
 mod doer;
 mod handled;
 mod held;
 mod judge;
+mod judge_blocks;
+mod judge_transfer;
 mod judge_user;
 mod laws;
 mod outcome;
@@ -17,6 +20,7 @@ mod sender;
 mod session;
 mod size;
 mod slices;
+mod transfers;
 
 pub use book_doer::BookDoer;
 pub use doer::{Doer, NotDone};
@@ -25,8 +29,12 @@ pub use outcome::{Outcome, Turn};
 pub use session::Session;
 
 #[cfg(test)]
+mod block_tests;
+#[cfg(test)]
 mod pdu_tests;
 #[cfg(test)]
 mod tests;
+#[cfg(test)]
+mod upload_tests;
 #[cfg(test)]
 mod user_tests;

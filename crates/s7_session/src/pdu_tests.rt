@@ -84,7 +84,7 @@ fn is_answered<R: Wait + Clock>(
     let input = Octets::of_vec(joined(alloc, asked)?);
     let mut line = MemoryLink::new(alloc, input, 8_192, 4_096, 7)?;
     let octets = pattern(alloc, 1_903)?;
-    let mut desk = Desk::over(block(alloc, octets.as_slice())?, 9);
+    let mut desk = Desk::over(alloc, block(alloc, octets.as_slice())?, 9)?;
     let mut session = Session::new(alloc, 1, None)?;
     let outcome = session.serve(rt, alloc, &mut line, &mut desk);
     let output = joined(alloc, answered)?;

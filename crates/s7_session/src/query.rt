@@ -3,18 +3,28 @@ ghost use Rattle.std.specs.Prelude.{◌≡◌, ◌≤◌, Some, IfSome, IfNone};
 ghost use Rattle.s7_outer.specs.Count.{Rose};
 ghost use Rattle.s7_session.specs.Telegrams.{IsAt};
 
+use s7_block::BlockName;
 use s7_outer::{Clock, Link, Tick};
 use s7_plant::Request;
 
 /// The groups of user data that ask.
+pub(crate) const BLOCKS: u8 = 0x43;
+
 pub(crate) const LISTS: u8 = 0x44;
 
 pub(crate) const CLOCK: u8 = 0x47;
 
-/// The subfunction of the first that reads a list.
+/// The subfunctions of blocks: the counts of all kinds, the blocks of a kind, and the head of a block.
+pub(crate) const LIST_ALL: u8 = 0x01;
+
+pub(crate) const LIST_OF: u8 = 0x02;
+
+pub(crate) const INFO: u8 = 0x03;
+
+/// The subfunction of status lists that reads one.
 pub(crate) const READ_LIST: u8 = 0x01;
 
-/// Those of the second.
+/// Those of the clock.
 pub(crate) const READ_CLOCK: u8 = 0x01;
 
 pub(crate) const SET_CLOCK: u8 = 0x02;
@@ -22,6 +32,12 @@ pub(crate) const SET_CLOCK: u8 = 0x02;
 /// What user data asks of the plant.
 #[derive(Clone, Copy, Debug, PartialEq, Eq)]
 pub(crate) enum Query {
+    /// How many blocks there are of each kind.
+    ListAll,
+    /// The blocks of a kind.
+    ListOf { kind: u8 },
+    /// The head of a block.
+    Info { name: BlockName },
     /// The image of a status list.
     Szl { id: u16, index: u16 },
     /// What the clock shows.
@@ -39,6 +55,7 @@ impl Query {
         ensures { result ≡ group_of self }
     {
         match self {
+            Query::ListAll | Query::ListOf { .. } | Query::Info { .. } => BLOCKS,
             Query::Szl { .. } => LISTS,
             Query::ClockRead | Query::ClockSet { .. } => CLOCK,
         }
@@ -49,6 +66,9 @@ impl Query {
         ensures { result ≡ subfunction_of self }
     {
         match self {
+            Query::ListAll => LIST_ALL,
+            Query::ListOf { .. } => LIST_OF,
+            Query::Info { .. } => INFO,
             Query::Szl { .. } => READ_LIST,
             Query::ClockRead => READ_CLOCK,
             Query::ClockSet { .. } => SET_CLOCK,
@@ -68,6 +88,12 @@ impl Query {
             ≡ record (L.shows line.old) { clock_faults = (L.shows line.new).clock_faults } }
     {
         match self {
+            Query::ListAll => Some(Request::ListAll),
+            Query::ListOf { kind } => Some(Request::ListOf { kind }),
+            Query::Info { name } => Some(Request::Info {
+                kind: name.kind,
+                number: name.number,
+            }),
             Query::Szl { id, index } => Some(Request::Szl { id, index }),
             Query::ClockRead => Some(Request::ClockRead {
                 moment: moment(line)?,

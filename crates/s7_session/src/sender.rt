@@ -8,13 +8,17 @@ ghost use Rattle.s7_header.specs.Negotiation.{negotiation_spelling, least_pdu, m
 ghost use Rattle.s7_plant.specs.Requests.{HasAtMost};
 ghost use Rattle.s7_plant.specs.Replies.{said_of};
 ghost use Rattle.s7_session.specs.Judgement.{answer_octets, refusal_octets, reply_octets};
-ghost use Rattle.s7_session.specs.Judgement.{user_octets, user_data, slice_octets};
+ghost use Rattle.s7_session.specs.Judgement.{user_octets, user_data, slice_octets, slice_answer};
+ghost use Rattle.s7_session.specs.ServerJobs.{function_of};
+ghost use Rattle.s7_session.specs.Transfers.{server_job_octets, image_room};
 ghost use Rattle.s7_wire.specs.Bounds.{most_packets, most_waiting};
 ghost use Rattle.s7_wire.specs.Sent.{sent_message};
 
+use crate::held::{ServerFunction, ServerJob};
 use crate::password::NO_DATA;
 use crate::size::TpduSize;
 use crate::slices::{AnswerId, slice_room};
+use s7_block::{BlockName, NAME, write_name};
 use s7_cotp::{Connection, write_confirm};
 use s7_header::{
     Header, Kind, MOST_PDU, Negotiation, UserParams, write_header, write_negotiate, write_refusal,
@@ -30,6 +34,37 @@ const MOST: usize = MOST_PDU as usize;
 
 /// How many octets a confirm has at most: its header, and a size and two TSAPs.
 const CONFIRM: usize = 64;
+
+/// The functions of uploads and downloads: a download is announced, its pieces are asked for, and it is closed; an
+/// upload is started, its slices are asked for, and it is ended.
+pub(crate) const ANNOUNCE: u8 = 0x1A;
+
+pub(crate) const SEND_PIECE: u8 = 0x1B;
+
+pub(crate) const CLOSE: u8 = 0x1C;
+
+pub(crate) const START: u8 = 0x1D;
+
+pub(crate) const SLICE: u8 = 0x1E;
+
+pub(crate) const END: u8 = 0x1F;
+
+/// The length of a block's name, and what begins it.
+pub(crate) const NAME_LENGTH: u8 = 0x09;
+
+pub(crate) const NAME_MARK: u8 = 0x5F;
+
+/// What stands between the length of an image's octets and the octets.
+pub(crate) const IMAGE: [u8; 2] = [0x00, 0xFB];
+
+/// What of the PDU a telegram with octets of an image takes besides them: header, parameters and the head of the data.
+const IMAGE_FRONT: usize = 18;
+
+/// Where the block is that is downloaded.
+pub(crate) const AT_P: u8 = 0x50;
+
+/// Where the parameters of an upload's answer have its id.
+pub(crate) const ID_PLACE: usize = 7;
 
 /// Puts messages together, and holds the octets that are to be sent.
 #[derive(Drop)]
@@ -69,7 +104,8 @@ impl Sender {
         requires header { IsHeader header.now }
         requires fits { length (spelling_of header.now) + length params.now + length body.now ≤ most_pdu }
         requires room { most_packets ≤ self.old.outbox.room }
-        ensures { self.new.outbox.unsent ≡ self.old.outbox.unsent
+        ensures room { self.old.outbox.room ≤ self.new.outbox.room + most_packets }
+        ensures unsent { self.new.outbox.unsent ≡ self.old.outbox.unsent
             ++ sent_message size.octets (spelling_of header.now ++ params.now ++ body.now) }
     {
         self.begin(header, params);
@@ -81,8 +117,9 @@ impl Sender {
     pub(crate) fn put_answer(&mut self, size: TpduSize, sequence: u16, params: &[u8], body: &[u8])
         requires fits { 12 + length params.now + length body.now ≤ most_pdu }
         requires room { most_packets ≤ self.old.outbox.room }
-        ensures { self.new.outbox.unsent ≡ self.old.outbox.unsent
+        ensures unsent { self.new.outbox.unsent ≡ self.old.outbox.unsent
             ++ sent_message size.octets (answer_octets sequence params.now body.now) }
+        ensures room { self.old.outbox.room ≤ self.new.outbox.room + most_packets }
     {
         let header = Header {
             kind: Kind::AckData,
@@ -189,6 +226,47 @@ impl Sender {
         self.put_answer(size, sequence, &params, &[]);
     }
 
+    /// Puts the answer with a slice of an image.
+    pub(crate) fn put_image(&mut self, size: TpduSize, sequence: u16, more: bool, octets: &[u8])
+        requires fits { 18 + length octets.now ≤ most_pdu }
+        requires room { most_packets ≤ self.old.outbox.room }
+        ensures { self.new.outbox.unsent ≡ self.old.outbox.unsent
+            ++ sent_message size.octets (slice_answer sequence (record { more = more; octets = octets.now })) }
+    {
+        let header = Header {
+            kind: Kind::AckData,
+            sequence,
+            param_len: 2,
+            body_len: 4 + octets.len() as u16,
+            error: 0,
+        };
+        let [high, low] = (octets.len() as u16).to_be_bytes();
+        self.begin(&header, &[SLICE, u8::from(more)]);
+        self.message.add(&[high, low, IMAGE[0], IMAGE[1]]);
+        self.message.add(octets);
+        put_message(&mut self.outbox, size.octets, self.message.as_slice());
+    }
+
+    /// Puts a job of the server's own for the download of a block.
+    pub(crate) fn put_job(&mut self, size: TpduSize, job: ServerJob, name: BlockName)
+        requires room { most_packets ≤ self.old.outbox.room }
+        ensures { self.new.outbox.unsent ≡ self.old.outbox.unsent
+            ++ sent_message size.octets (server_job_octets job.sequence (function_of job.function) name) }
+    {
+        let header = Header {
+            kind: Kind::Job,
+            sequence: job.sequence,
+            param_len: 18,
+            body_len: 0,
+            error: 0,
+        };
+        let function = function_code(job.function);
+        let front = [function, 0, 0, 0, 0, 0, 0, 0, NAME_LENGTH, NAME_MARK];
+        let mut named = [0u8; NAME];
+        write_name(name, AT_P, &mut named);
+        self.put(size, &header, &front, &named);
+    }
+
     /// Puts the confirm of a connect request.
     pub(crate) fn put_confirm(&mut self, c: &Connection)
         requires least_size { 7 ≤ c.now.size_code }
@@ -217,4 +295,21 @@ fn data_head(octets: &[u8]) -> [u8; 4]
             [0xFF, 0x09, high, low]
         }
     }
+}
+
+fn function_code(function: ServerFunction) -> u8
+    ensures { result ≡ function_of function }
+{
+    match function {
+        ServerFunction::SendPiece => SEND_PIECE,
+        ServerFunction::Close => CLOSE,
+    }
+}
+
+/// How many octets of an image go in one telegram.
+pub(crate) fn image_room(pdu: usize) -> usize
+    requires { 18 ≤ pdu }
+    ensures { result ≡ image_room pdu }
+{
+    pdu - IMAGE_FRONT
 }

@@ -3,6 +3,7 @@ ghost use Rattle.s7_area.specs.Guards.{IsGuard};
 
 use super::*;
 use s7_area::{AreaKey, Areas, Guard};
+use s7_block::Blocks;
 use s7_outer::{FailingLink, Fate, Memory, MemoryLink, Octets};
 use s7_plant::{Ask, Book, Plant, Reply};
 use std::alloc::Global;
@@ -55,16 +56,16 @@ pub(crate) fn guard(level: u8) -> Option<Guard>
 
 impl Desk {
     fn new(alloc: Global, room: u64) -> Result<Desk, Memory> {
-        Ok(Desk::over(some_areas(alloc)?, room))
+        Desk::over(alloc, some_areas(alloc)?, room)
     }
 
-    /// The same with these areas.
-    pub(crate) fn over(areas: Areas, room: u64) -> Desk {
-        Desk {
-            plant: Plant::new(areas),
+    /// The same with these areas, and no blocks.
+    pub(crate) fn over(alloc: Global, areas: Areas, room: u64) -> Result<Desk, Memory> {
+        Ok(Desk {
+            plant: Plant::new(areas, Blocks::new(alloc, 1_024)?),
             count: 0,
             room,
-        }
+        })
     }
 }
 
@@ -193,7 +194,7 @@ fn is_served<R: Wait + Clock>(
     let mut line = MemoryLink::new(alloc, input, most, 4_096, 7)?;
     let mut areas = some_areas(alloc)?;
     areas.set_guard(guard);
-    let mut desk = Desk::over(areas, room);
+    let mut desk = Desk::over(alloc, areas, room)?;
     let mut session = Session::new(alloc, 1, guard)?;
     let outcome = session.serve(rt, alloc, &mut line, &mut desk);
     let output = joined(alloc, row.output)?;
@@ -681,7 +682,7 @@ fn a_turn_tells_what_it_did(rt: HostRuntime) -> Result<(), Fail> {
 #[test]
 fn a_book_is_full_at_its_limit(rt: HostRuntime) -> Result<(), Fail> {
     let alloc = rt.alloc();
-    let mut book = Book::new(alloc, some_areas(alloc)?, 1)?;
+    let mut book = Book::new(alloc, some_areas(alloc)?, Blocks::new(alloc, 1_024)?, 1)?;
     let input = Octets::of_vec(joined(alloc, &[CONNECT, SETUP, READ, READ])?);
     let mut line = MemoryLink::new(alloc, input, 8_192, 4_096, 7)?;
     let mut session = Session::new(alloc, 7, None)?;

@@ -39,9 +39,10 @@ const SETUP_128: &[u8] =
 const GRANTED_128: &[u8] =
     b"\x32\x03\x00\x00\x00\x04\x00\x08\x00\x00\x00\x00\xF0\x00\x00\x01\x00\x01\x00\x80";
 
-const SETUP_64: &[u8] = b"\x32\x01\x00\x00\x00\x04\x00\x08\x00\x00\xF0\x00\x00\x01\x00\x01\x00\x40";
+pub(crate) const SETUP_64: &[u8] =
+    b"\x32\x01\x00\x00\x00\x04\x00\x08\x00\x00\xF0\x00\x00\x01\x00\x01\x00\x40";
 
-const GRANTED_64: &[u8] =
+pub(crate) const GRANTED_64: &[u8] =
     b"\x32\x03\x00\x00\x00\x04\x00\x08\x00\x00\x00\x00\xF0\x00\x00\x01\x00\x01\x00\x40";
 
 /// The read of data block 1.
@@ -122,7 +123,11 @@ struct Talk {
 }
 
 /// A packet, and behind it messages in packets of their own.
-fn in_packets(alloc: Global, first: &[u8], messages: &[&[u8]]) -> Result<Vec<u8>, Memory> {
+pub(crate) fn in_packets(
+    alloc: Global,
+    first: &[u8],
+    messages: &[&[u8]],
+) -> Result<Vec<u8>, Memory> {
     let mut all = Vec::new(alloc);
     all.extend_from_slice(first)?;
     for message in messages {
@@ -147,7 +152,7 @@ fn is_answered<R: Wait + Clock>(
     let guard = guard(level);
     let mut areas = some_areas(alloc)?;
     areas.set_guard(guard);
-    let mut desk = Desk::over(areas, 9);
+    let mut desk = Desk::over(alloc, areas, 9)?;
     let mut session = Session::new(alloc, 1, guard)?;
     let outcome = session.serve(rt, alloc, &mut line, &mut desk);
     let output = in_packets(alloc, CONFIRM, answered)?;
@@ -280,7 +285,7 @@ fn control_is_answered(rt: HostRuntime) -> Result<(), Fail> {
             ],
             entries: 0,
         },
-        // An insert, without data and with some.
+        // An insert of what wasn't downloaded, without data and with some.
         Talk {
             level: 1,
             asked: &[
@@ -296,8 +301,8 @@ fn control_is_answered(rt: HostRuntime) -> Result<(), Fail> {
             ],
             answered: &[
                 GRANTED,
-                b"\x32\x02\x00\x00\x00\x12\x00\x00\x00\x00\x81\x04",
-                b"\x32\x02\x00\x00\x00\x12\x00\x00\x00\x00\x81\x04",
+                b"\x32\x02\x00\x00\x00\x12\x00\x00\x00\x00\x8F\x03",
+                b"\x32\x02\x00\x00\x00\x12\x00\x00\x00\x00\x84\x04",
             ],
             entries: 0,
         },
@@ -523,7 +528,7 @@ fn is_answered_by_fate<R: Wait + Clock>(
     let input = Octets::of_vec(in_packets(alloc, CONNECT, asked)?);
     let inner = MemoryLink::new(alloc, input, 8_192, 4_096, 1_709_214_330_123)?;
     let mut line = FailingLink::new(inner, fates.to_vec(alloc)?);
-    let mut desk = Desk::over(some_areas(alloc)?, room);
+    let mut desk = Desk::over(alloc, some_areas(alloc)?, room)?;
     let mut session = Session::new(alloc, 1, None)?;
     let outcome = session.serve(rt, alloc, &mut line, &mut desk);
     let output = in_packets(alloc, CONFIRM, answered)?;

@@ -15,7 +15,7 @@ use Rattle.s7_area.specs.Places.{changed_at, key_of}
 use Rattle.s7_plant.specs.declared.request.Ask.{Ask}
 use Rattle.s7_plant.specs.declared.request.Request.{Request}
 use Rattle.s7_plant.specs.declared.request.Request.TheVariants as asks
-use Rattle.s7_plant.specs.Answers.{after, changed, if_allowed, is_barred, write_all}
+use Rattle.s7_plant.specs.Answers.{after, changed, if_allowed, is_barred, takes_block, with_inserted, write_all}
 use Rattle.s7_plant.specs.Histories.{replay}
 use Rattle.s7_plant.specs.Journals.{asks_of}
 use Rattle.s7_plant.specs.State.{State, state_of}
@@ -53,6 +53,15 @@ names_allowed s new right same = go (is_barred s right)
     go true = refl
     go false = same
 
+names_inserted : (s : State) (kind number : ℕ) (image : List ℕ)
+    → names ((with_inserted s kind number image).memory) ≡ names s.memory
+names_inserted s kind number image = go (takes_block s kind number) _ refl
+  where
+    go : (b : Bool) (new : State) → names new.memory ≡ names s.memory
+        → names ((cond b new s).memory) ≡ names s.memory
+    go true new same = same
+    go false new same = refl
+
 names_changed : (s : State) (right : Bool) (request : Request)
     → names ((changed s right request).memory) ≡ names s.memory
 names_changed s right (asks.Read items) = refl
@@ -64,6 +73,12 @@ names_changed s right (asks.Start cold) = names_allowed s _ right refl
 names_changed s right asks.Stop = names_allowed s _ right refl
 names_changed s right asks.Compress = refl
 names_changed s right asks.CopyRam = refl
+names_changed s right asks.ListAll = refl
+names_changed s right (asks.ListOf kind) = refl
+names_changed s right (asks.Info kind number) = refl
+names_changed s right (asks.StartUpload kind number) = refl
+names_changed s right (asks.Insert kind number image spare) = names_allowed s _ right (names_inserted s kind number image)
+names_changed s right (asks.Delete kind number) = names_allowed s _ right refl
 
 names_replayed : (s : State) (asked : List Ask) → names ((replay s asked).memory) ≡ names s.memory
 names_replayed s [] = refl

@@ -1,8 +1,9 @@
 use crate::rig_report::{are_good, rig_text};
 use crate::tool::tool_main;
 use s7_area::Areas;
+use s7_block::Blocks;
 use s7_outer::{MemoryDial, MemoryFiles, MemoryLink, MemoryOut, Octets};
-use s7_plant::Book;
+use s7_plant::{Book, MOST_BLOCKS};
 use s7_rig::{RigClient, RigEnd};
 use std::alloc::Global;
 use std::process::Abort;
@@ -195,7 +196,8 @@ fn a_journal_may_be_full(rt: HostRuntime) -> Result<(), Fail> {
 #[test]
 fn a_client_may_be_unfinished(rt: HostRuntime) -> Result<(), Fail> {
     let alloc = rt.alloc();
-    let Ok(book) = Book::new(alloc, Areas::new(), 1) else {
+    let blocks = Blocks::new(alloc, MOST_BLOCKS)?;
+    let Ok(book) = Book::new(alloc, Areas::new(), blocks, 1) else {
         return Err(Fail::from("no book"));
     };
     let mut clients = Vec::new(alloc);

@@ -1,14 +1,11 @@
-use Rattle.std.proofs.Common.{◌≡◌, ◌∙◌, ◌∷◌, [], ℕ, List, length, refl, ap, sym, subst, arith, eqb-true, Ok}
+use Rattle.std.proofs.Common.{◌∙◌, ap, sym, subst, eqb-true, length, Ok}
 use Rattle.std.proofs.lemmas.Result.{err_from_is_err_and}
 use Rattle.s7_script.specs.Lines.{lines}
 use Rattle.s7_script.specs.Script.{LineFails, script_lines}
 use Rattle.s7_script.specs.ScriptShown.{appended}
+use Rattle.s7_script.proofs.LineLemmas.{no_lines}
 use Rattle.s7_script.proofs.ScriptLemmas.{lines-ended, lines-fail, lines-step}
 use Rattle.s7_script.proofs.reading.read_script.Goals as goal
-
-no_lines : (xs : List ℕ) → length xs ≡ 0 → lines xs ≡ []
-no_lines [] e = refl
-no_lines (x ∷ xs) e = absurd (omega arith)
 
 pub returns-in_err-take_line : goal.returns-in_err-take_line
 returns-in_err-take_line c =

@@ -6,13 +6,17 @@ use Rattle.s7_wire.specs.Sent.{sent_messages}
 use Rattle.s7_session.specs.Answers.{Answers}
 use Rattle.s7_session.specs.Conversing.{link_of, size_of, sends}
 use Rattle.s7_session.specs.Events.{settled, asks, by_judgement, refusal_sent}
-use Rattle.s7_session.specs.Judged.{judgement_of}
-use Rattle.s7_session.specs.Judgement.{answer_octets, plainly, user_octets, user_answer, next_octet, secured}
+use Rattle.s7_session.specs.Judged.{judgement_of, IsWithin}
+use Rattle.s7_session.specs.Judgement.{answer_octets, plainly, user_octets, user_answer, secured}
 use Rattle.s7_session.specs.Judgement.{slice_octets, slices_left}
-use Rattle.s7_session.specs.LinkState.{LinkState}
+use Rattle.s7_session.specs.LinkState.{LinkState, next_octet}
 use Rattle.s7_session.specs.Passwords.{no_data}
 use Rattle.s7_session.specs.declared.handled.Handled.TheVariants as handled
-use Rattle.s7_session.proofs.AnswerLemmas.{answers_settled, answers_memory, looked_not, same_made, one_message, after_nothing}
+use Rattle.s7_session.specs.declared.held.Held.{Held}
+use Rattle.s7_plant.specs.Requests.{kept_request}
+use Rattle.s7_session.proofs.KeptLemmas.{kept_plain}
+use Rattle.s7_session.proofs.AnswerLemmas.{answers_settled, answers_memory, looked_not, same_made, one_message}
+use Rattle.s7_session.proofs.AnswerLemmas.{after_nothing}
 use Rattle.s7_session.proofs.DoerLemmas.{stays_same}
 use Rattle.s7_session.proofs.SliceLemmas.{rest_held}
 use Rattle.s7_session.proofs.conversation.Conversation.answer.Goals as goal
@@ -34,16 +38,16 @@ returns-in-Err-clause-answers g c = λ at.
 
 pub returns-in-Refuse-clause-answers : goal.returns-in-Refuse-clause-answers
 returns-in-Refuse-clause-answers g c = λ at.
-    let line = g.L.Link.shows c.args.line.now in
     let n = c.args.size.octets in
     let link = link_of c.args.self.now.held in
     let sequence = c.args.sequence in
-    let sent = c.put_refusal.new.self.outbox.unsent in
-    answers_settled g.D.Doer.stands g.D.Doer.is_full g.D.Doer.may_lack (g.L.Link.shows c.args.line.now) c.args.doer.now _ at _ link _
+    let k = c.refuse.ensures in
+    let new = c.refuse.new.self in
+    answers_settled g.D.Doer.stands g.D.Doer.is_full g.D.Doer.may_lack (g.L.Link.shows c.args.line.now) c.args.doer.now _ at _ _ _
     (ap (λ j. by_judgement n link sequence [] (judgement_of link sequence j)) c.in-Refuse.is
-    ∙ (ap (λ (e : ℕ). settled (Some n) link (refusal_sent n sequence e) []) (sym c.error.ensures)
-    ∙ (ap (λ (x : List ℕ). settled (Some n) link x []) (after_nothing c.args.self.now.sender.outbox.unsent _ sent c.put_refusal.ensures c.requires.sent)
-    ∙ ap (λ (s : Option ℕ). settled s link sent []) (sym (ap size_of c.requires.size)))))
+    ∙ (ap (λ (x : List ℕ). settled (Some n) link x []) (sym k.sends)
+    ∙ (ap (λ (h : Held). settled (Some n) (link_of h) (sends new) []) (sym k.held)
+    ∙ ap (λ (s : Option ℕ). settled s (link_of new.held) (sends new) []) (sym (ap size_of (k.size ∙ c.requires.size))))))
 
 pub returns-in-Grant-clause-answers : goal.returns-in-Grant-clause-answers
 returns-in-Grant-clause-answers g c = λ at.
@@ -86,7 +90,9 @@ returns-in-Ask-clause-answers g c = λ at.
     (λ verdicts. by_judgement n link sequence verdicts (judgement_of link sequence c.args.judgement)) at s (link_of c.ask.new.self.held) (sends c.ask.new.self) c.ask.result in
     subst P (sym (ap size_of (c.ask.ensures.size ∙ c.requires.size)))
     (same_made g.D.Doer.stands g.D.Doer.is_full g.D.Doer.may_lack line line c.args.doer.now c.ask.new.doer _ _ at _ _ _ _
-    (λ vs. ap (λ j. by_judgement n link sequence vs (judgement_of link sequence j)) c.in-Ask.is)
+    (λ vs. ap (λ j. by_judgement n link sequence vs (judgement_of link sequence j)) c.in-Ask.is
+    ∙ ap (λ (r : Request). asks n link sequence (plainly link sequence r) vs)
+    (sym (kept_plain _ c.in-Ask.request (subst (IsWithin c.args.self.now.held.granted) c.in-Ask.is c.requires.within))))
     (c.ask.ensures.answers line at))
 
 pub returns-in-Ok-clause-answers : goal.returns-in-Ok-clause-answers
@@ -102,7 +108,7 @@ returns-in-Ok-clause-answers g c = λ at.
     subst P (sym (ap size_of (k.ensures.size ∙ c.requires.size)))
     (same_made g.D.Doer.stands g.D.Doer.is_full g.D.Doer.may_lack line line c.args.doer.now k.new.doer _ _ at _ _ _ _
     (λ vs. ap (λ j. by_judgement n link sequence vs (judgement_of link sequence j)) c.in-Write.is
-    ∙ ap (λ (r : Request). asks n link sequence (plainly link sequence r) vs) (sym c.in-Ok.ensures))
+    ∙ ap (λ (r : Request). asks n link sequence (plainly link sequence (kept_request r)) vs) (sym c.in-Ok.ensures))
     (k.ensures.answers line at))
 
 pub returns-in-Query-clause-answers : goal.returns-in-Query-clause-answers
@@ -139,3 +145,41 @@ returns-in-Further-clause-answers g c = λ at.
     ∙ (ap (λ (x : List ℕ). settled (Some n) (next rest) x []) (one_message n (slice rest) sent (sym k.sends))
     ∙ (ap (λ (l : LinkState). settled (Some n) l sent []) (sym k.link)
     ∙ ap (λ (s : Option ℕ). settled s (link_of c.put_slice.new.self.held) sent []) (sym (ap size_of (k.size ∙ c.requires.size)))))))
+
+pub returns-in-Insert-clause-answers : goal.returns-in-Insert-clause-answers
+returns-in-Insert-clause-answers g c = λ at.
+    let line = g.L.Link.shows c.args.line.now in
+    let n = c.args.size.octets in
+    let link = link_of c.args.self.now.held in
+    let sequence = c.args.sequence in
+    let k = c.insert in
+    let P : Option ℕ → Type 0 = λ s.
+    Answers g.D.Doer.stands g.D.Doer.is_full g.D.Doer.may_lack line c.args.doer.now line k.new.doer
+    (λ verdicts. by_judgement n link sequence verdicts (judgement_of link sequence c.args.judgement)) at s (link_of k.new.self.held) (sends k.new.self) k.result in
+    subst P (sym (ap size_of (k.ensures.size ∙ c.requires.size)))
+    (same_made g.D.Doer.stands g.D.Doer.is_full g.D.Doer.may_lack line line c.args.doer.now k.new.doer _ _ at _ _ _ _
+    (λ vs. ap (λ j. by_judgement n link sequence vs (judgement_of link sequence j)) c.in-Insert.is)
+    (k.ensures.answers line at))
+
+pub returns-in-Upload-clause-answers : goal.returns-in-Upload-clause-answers
+returns-in-Upload-clause-answers g c = λ at.
+    let line = g.L.Link.shows c.args.line.now in
+    let n = c.args.size.octets in
+    let link = link_of c.args.self.now.held in
+    let sequence = c.args.sequence in
+    let k = c.start_upload in
+    let P : Option ℕ → Type 0 = λ s.
+    Answers g.D.Doer.stands g.D.Doer.is_full g.D.Doer.may_lack line c.args.doer.now line k.new.doer
+    (λ verdicts. by_judgement n link sequence verdicts (judgement_of link sequence c.args.judgement)) at s (link_of k.new.self.held) (sends k.new.self) k.result in
+    subst P (sym (ap size_of (k.ensures.size ∙ c.requires.size)))
+    (same_made g.D.Doer.stands g.D.Doer.is_full g.D.Doer.may_lack line line c.args.doer.now k.new.doer _ _ at _ _ _ _
+    (λ vs. ap (λ j. by_judgement n link sequence vs (judgement_of link sequence j)) c.in-Upload.is)
+    (k.ensures.answers line at))
+
+pub returns-in-Slice-clause-answers : goal.returns-in-Slice-clause-answers
+returns-in-Slice-clause-answers g c = λ at.
+    let k = c.transfer.ensures in
+    let new = c.transfer.new.self in
+    answers_settled g.D.Doer.stands g.D.Doer.is_full g.D.Doer.may_lack (g.L.Link.shows c.args.line.now) c.args.doer.now _ at _ _ _
+    (k.made []
+    ∙ ap (λ (s : Option ℕ). settled s (link_of new.held) (sends new) []) (sym (ap size_of (k.size ∙ c.requires.size))))

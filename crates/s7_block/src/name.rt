@@ -1,0 +1,61 @@
+// Names of blocks in telegrams.
+ghost use Rattle.std.specs.Prelude.{◌≡◌, ◌≤◌, length};
+ghost use Rattle.s7_block.specs.Names.{digits, number_in, name_octets, named};
+
+use crate::block::BlockName;
+use crate::kinds::head_code;
+
+/// How many octets a name has: `30`, the kind, five digits and where the block is.
+pub const NAME: usize = 8;
+
+/// Each name begins with this octet.
+const MARK: u8 = 0x30;
+
+/// The number that decimal digits say, the high one first. `None` comes exactly where an octet is no digit.
+pub fn read_digits(octets: &[u8]) -> Option<u32>
+    requires { length octets.now ≤ 9 }
+    ensures { result ≡ number_in octets.now }
+{
+    let mut number = 0;
+    for octet in octets {
+        if !octet.is_ascii_digit() {
+            return None;
+        }
+        number = number * 10 + u32::from(*octet - b'0');
+    }
+    Some(number)
+}
+
+/// Writes a number in decimal digits, as many as there are places, with zeros before it. Of a number with more digits
+/// its last ones are written.
+pub fn write_digits(number: u32, into: &mut [u8])
+    ensures { into.new ≡ digits (length into.old) number }
+{
+    let mut left = number;
+    for at in (0..into.len()).rev() {
+        into[at] = b'0' + (left % 10) as u8;
+        left /= 10;
+    }
+}
+
+/// The block that octets name at this place. `None` comes exactly where they aren't the eight octets of such a name,
+/// where there is no such kind, or where the number is above 65,535.
+pub fn read_name(octets: &[u8], place: u8) -> Option<BlockName>
+    ensures { result ≡ named octets.now place }
+{
+    if octets.len() != NAME || octets[0] != MARK || octets[NAME - 1] != place {
+        return None;
+    }
+    let kind = octets[1];
+    let number = u16::try_from(read_digits(&octets[2..NAME - 1])?).ok()?;
+    head_code(kind)?;
+    Some(BlockName { kind, number })
+}
+
+/// Writes a block's name, with where it is.
+pub fn write_name(name: BlockName, place: u8, into: &mut [u8; NAME])
+    ensures { into.new ≡ name_octets name place }
+{
+    *into = [MARK, name.kind, 0, 0, 0, 0, 0, place];
+    write_digits(u32::from(name.number), &mut into[2..NAME - 1]);
+}

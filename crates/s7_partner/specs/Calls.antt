@@ -1,0 +1,92 @@
+-- What the calls of a partner do.
+use Rattle.std.specs.Prelude.{◌≡◌, ◌⊎◌, ℕ, ◌<◌, ◌≤◌, List, [], ◌∷◌, ◌++◌, length, Option, None, Some, IsSome, Result}
+use Rattle.std.specs.Prelude.{Ok, Err}
+use Rattle.s7_outer.specs.Shown.{Shown}
+use Rattle.s7_outer.specs.declared.memory.Memory.{Memory}
+use Rattle.s7_client.specs.declared.config.Config.{Config}
+use Rattle.s7_client.specs.Standing.{Moves}
+use Rattle.s7_partner.specs.declared.role.Role.{Role}
+use Rattle.s7_partner.specs.declared.event.PartnerEvent.{PartnerEvent}
+use Rattle.s7_partner.specs.declared.event.PartnerEvent.TheVariants as told
+use Rattle.s7_partner.specs.declared.event.SendFault.{SendFault}
+use Rattle.s7_partner.specs.declared.event.SendFault.TheVariants as refusal
+use Rattle.s7_partner.specs.declared.partner.Partner.{Partner}
+use Rattle.s7_partner.specs.States.{Act, gives, after}
+use Rattle.s7_partner.specs.Partners.{IsPrefixOf, Course, Tells}
+use Rattle.s7_partner.specs.Held.{role_of, config_of, unread_of, closed_of, sending_of, StandsFor}
+
+-- A partner that was just made has used and transmitted nothing.
+pub record IsNew (p : Partner) (role : Role) (config : Config) : Type 0 where
+  pub plays : role_of p ≡ role
+  pub configured : config_of p ≡ config
+  pub unread : unread_of p ≡ []
+  pub stands : StandsFor p [] [] []
+
+-- ---- giving a block
+
+-- a block has from 1 to 65,535 octets
+abbrev pub HasSize : List ℕ → Type 0
+HasSize body = (0 < length body) × (length body ≤ 65535)
+
+-- why a block isn't taken: the first cause that applies
+abbrev pub IsRefused : Partner → List ℕ → SendFault → Type 0
+IsRefused p body refusal.Closed = IsSome (closed_of p)
+IsRefused p body refusal.Busy = (closed_of p ≡ None) × IsSome (sending_of p)
+IsRefused p body refusal.Size =
+    (closed_of p ≡ None) × (sending_of p ≡ None) × ((length body ≡ 0) ⊎ (65535 < length body))
+
+-- it was given
+pub record IsGiven (old new : Partner) (rid : ℕ) (body : List ℕ) : Type 0 where
+  pub opened : closed_of old ≡ None
+  pub idle : sending_of old ≡ None
+  pub size : HasSize body
+  pub role : role_of new ≡ role_of old
+  pub config : config_of new ≡ config_of old
+  pub unread : unread_of new ≡ unread_of old
+  pub stands : (acts : List Act) (b written : List ℕ) → StandsFor old acts b written
+      → StandsFor new (acts ++ gives rid body ∷ []) b written
+
+-- ---- polling
+
+abbrev pub IsClosing : Result PartnerEvent Memory → Type 0
+IsClosing (Ok told.Sent) = ⊥
+IsClosing (Ok (told.Received rid body)) = ⊥
+IsClosing (Ok told.Pending) = ⊥
+IsClosing (Ok told.Idle) = ⊥
+IsClosing (Ok (told.Closed code)) = Unit {0}
+IsClosing (Err memory) = ⊥
+
+-- its acts, and what is told of them, since the partner stood for these acts and octets
+pub record IsPolled (old new : Partner) (link link' : Shown) (acts : List Act) (b written received used more : List ℕ)
+    (result : Result PartnerEvent Memory) : Type 0 where
+  pub further : List Act
+  -- all that could be sent before was transmitted before an octet was used, or received; and those that were kept were
+  -- used before any was received
+  pub sent_before : 0 < length used → IsPrefixOf (after (role_of old) (config_of old) acts).out (written ++ more)
+  pub received_last : 0 < length received → IsPrefixOf (after (role_of old) (config_of old) acts).out (written ++ more)
+      × IsPrefixOf (unread_of old) used
+  pub course : Course (role_of old) (config_of old) (acts ++ further) (b ++ used) (written ++ more)
+  pub tells : Tells (role_of old) (config_of old) (after (role_of old) (config_of old) acts) further link link'
+      (unread_of new) (b ++ used) (written ++ more) result
+  pub stands : (IsClosing result → ⊥) → StandsFor new (acts ++ further) (b ++ used) (written ++ more)
+
+abbrev pub closed_by : Result PartnerEvent Memory → Option ℕ
+closed_by (Ok told.Sent) = None
+closed_by (Ok (told.Received rid body)) = None
+closed_by (Ok told.Pending) = None
+closed_by (Ok told.Idle) = None
+closed_by (Ok (told.Closed code)) = Some code
+closed_by (Err memory) = None
+
+-- A POLL over a link
+pub record IsPoll (old : Partner) (link : Shown) (new : Partner) (link' : Shown)
+    (result : Result PartnerEvent Memory) : Type 0 where
+  pub role : role_of new ≡ role_of old
+  pub config : config_of new ≡ config_of old
+  pub moves : Moves (unread_of old) link (unread_of new) link'
+  pub closed : closed_of new ≡ closed_by result
+  -- the end stays: nothing is moved
+  pub stays : (code : ℕ) → closed_of old ≡ Some code
+      → (result ≡ Ok (told.Closed code)) × (new ≡ old) × (link' ≡ link)
+  pub polled : closed_of old ≡ None → (acts : List Act) (b written : List ℕ) → StandsFor old acts b written
+      → IsPolled old new link link' acts b written moves.received moves.used moves.written result

@@ -1,0 +1,14 @@
+pub mod Telegrams
+pub mod States
+pub mod Acts
+pub mod Partners
+pub mod Held
+pub mod Calls
+pub mod Pieces
+pub mod Outboxes
+pub mod Fits
+pub mod At
+pub mod Granting
+pub mod Octet
+pub mod Steps
+pub mod Pairs

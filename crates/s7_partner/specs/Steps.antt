@@ -1,0 +1,76 @@
+-- What the steps of a poll do.
+use Rattle.std.specs.Prelude.{◌≡◌, ℕ, ◌+◌, ◌*◌, ◌<◌, false, List, ◌++◌, length, is_none, Result, Ok}
+use Rattle.s7_outer.specs.Shown.{Shown}
+use Rattle.s7_outer.specs.declared.memory.Memory.{Memory}
+use Rattle.s7_client.specs.declared.config.Config.{Config}
+use Rattle.s7_client.specs.Standing.{Moves}
+use Rattle.s7_partner.specs.declared.role.Role.{Role}
+use Rattle.s7_partner.specs.declared.partner.Partner.{Partner}
+use Rattle.s7_partner.specs.declared.step.Step.{Step}
+use Rattle.s7_partner.specs.declared.step.Step.TheVariants as step
+use Rattle.s7_partner.specs.declared.event.PartnerEvent.{PartnerEvent}
+use Rattle.s7_partner.specs.declared.event.PartnerEvent.TheVariants as told
+use Rattle.s7_partner.specs.States.{State, Act, with_acts, after}
+use Rattle.s7_partner.specs.Acts.{AreQuiet}
+use Rattle.s7_partner.specs.Partners.{IsPrefixOf, Course, IsSettled, HasMetNotYet, Tells}
+use Rattle.s7_partner.specs.Held.{role_of, config_of, unread_of, closed_of, StandsFor}
+use Rattle.s7_partner.specs.Calls.{IsPolled, closed_by}
+use Rattle.s7_partner.specs.Octet.{octets_left}
+use Rattle.s7_partner.specs.At.{code_by, events_left}
+
+-- what a step tells of its acts, from the state before it
+abbrev pub TellsStep : Role → Config → State → List Act → Shown → Shown → List ℕ → List ℕ → List ℕ → Step → Type 0
+TellsStep role config s acts link link' kept b written step.Went = AreQuiet role config s acts
+TellsStep role config s acts link link' kept b written step.NotYet =
+    AreQuiet role config s acts × IsSettled (with_acts role config s acts)
+    × HasMetNotYet (with_acts role config s acts) kept link link' written
+TellsStep role config s acts link link' kept b written step.Sent =
+    Tells role config s acts link link' kept b written (Ok told.Sent)
+TellsStep role config s acts link link' kept b written step.Whole =
+    AreQuiet role config s acts × (is_none (with_acts role config s acts).whole ≡ false)
+TellsStep role config s acts link link' kept b written (step.Closed code) =
+    Tells role config s acts link link' kept b written (Ok (told.Closed code))
+
+abbrev pub IsClosing : Step → Type 0
+IsClosing step.Went = ⊥
+IsClosing step.NotYet = ⊥
+IsClosing step.Sent = ⊥
+IsClosing step.Whole = ⊥
+IsClosing (step.Closed code) = Unit {0}
+
+-- its acts, and what is told of them, since a partner with this role and configuration, and with these octets unread,
+-- stood for these acts and octets
+pub record HasRun (role : Role) (config : Config) (kept : List ℕ) (new : Partner) (link link' : Shown) (acts : List Act)
+    (b written received used more : List ℕ) (result : Step) : Type 0 where
+  pub further : List Act
+  pub sent_before : 0 < length used → IsPrefixOf (after role config acts).out (written ++ more)
+  pub received_last : 0 < length received → IsPrefixOf (after role config acts).out (written ++ more)
+      × IsPrefixOf kept used
+  pub course : Course role config (acts ++ further) (b ++ used) (written ++ more)
+  pub tells : TellsStep role config (after role config acts) further link link' (unread_of new) (b ++ used)
+      (written ++ more) result
+  pub stands : (IsClosing result → ⊥) → StandsFor new (acts ++ further) (b ++ used) (written ++ more)
+
+-- A STEP over a link, or several
+pub record Runs (old : Partner) (link : Shown) (new : Partner) (link' : Shown) (result : Step) : Type 0 where
+  pub role : role_of new ≡ role_of old
+  pub config : config_of new ≡ config_of old
+  pub moves : Moves (unread_of old) link (unread_of new) link'
+  pub closed : closed_of new ≡ code_by result
+  pub run : (acts : List Act) (b written : List ℕ) → StandsFor old acts b written
+      → HasRun (role_of old) (config_of old) (unread_of old) new link link' acts b written moves.received moves.used
+      moves.written result
+
+-- how much a partner can still do before there is something to tell: octets to use, and then octets to send
+abbrev pub work : Partner → ℕ
+work p = (events_left p * 533000 + octets_left p.reader) * 4097 + length p.outbox.unsent
+
+-- a poll of a partner that isn't closed
+pub record Polls (old : Partner) (link : Shown) (new : Partner) (link' : Shown) (result : Result PartnerEvent Memory)
+    : Type 0 where
+  pub role : role_of new ≡ role_of old
+  pub config : config_of new ≡ config_of old
+  pub moves : Moves (unread_of old) link (unread_of new) link'
+  pub closed : closed_of new ≡ closed_by result
+  pub polled : (acts : List Act) (b written : List ℕ) → StandsFor old acts b written
+      → IsPolled old new link link' acts b written moves.received moves.used moves.written result

@@ -1,0 +1,56 @@
+// Reading sends files.
+ghost use Rattle.std.specs.Prelude.{◌≡◌, OnOk, IfErr, Ok};
+ghost use Rattle.s7_script.specs.Script.{GivesScript, LineFails};
+ghost use Rattle.s7_script.specs.ScriptShown.{appended};
+ghost use Rattle.s7_script.specs.Sends.{line_sends, sends};
+
+use crate::lines::first_line;
+use crate::reading::add_line;
+use crate::send_line::{NamedBlock, send_of};
+use crate::send_list::{SendLine, Sends};
+use crate::{ScriptFault, ScriptKind};
+use std::alloc::Global;
+
+/// The blocks that a sends file names, or its first wrong line.
+///
+/// Lines end and are passed over as `read_script` has it. Every other line is `send RID HEX`, with one space between
+/// fields: `RID` is what the two partners know the block by, in eight hexadecimal digits, and `HEX` the block's octets,
+/// an even number of hexadecimal digits, at least two. Digits are of either case.
+///
+/// The fault is that of the first wrong line, and of its first wrong field from the left; a field that is missing or
+/// too many comes last. `Word`: the first word isn't `send`. `Digits`: the R_ID or the octets aren't such digits.
+/// `Number`: there are more than 65,535 octets. `Fields`: a field is missing or too many. `Memory` comes where there is
+/// none.
+pub fn read_sends(alloc: Global, text: &[u8]) -> Result<Sends, ScriptFault>
+    ensures { GivesScript (λ s. s) result (sends text.now) }
+{
+    let mut found = Vec::new(alloc);
+    let mut rest = text;
+    let mut line: u32 = 1;
+    while !rest.is_empty() {
+        let (next, after) = first_line(rest);
+        take_line(alloc, line, next, &mut found)?;
+        line = line.saturating_add(1);
+        rest = after;
+    }
+    Ok(Sends::of_vec(found))
+}
+
+/// Adds the block of a line, where it has one.
+fn take_line(
+    alloc: Global,
+    line: u32,
+    text: &[u8],
+    found: &mut Vec<SendLine>,
+) -> Result<(), ScriptFault>
+    ensures ok { OnOk result (appended found.old.items (line_sends line text.now) ≡ Ok found.new.items) }
+    ensures err { IfErr result (λ e. LineFails e e.kind (line_sends line text.now)) }
+{
+    if text.is_empty() || text[0] == b'#' {
+        return Ok(());
+    }
+    match send_of(alloc, text) {
+        Ok(NamedBlock { rid, body }) => add_line(found, line, SendLine { line, rid, body }),
+        Err(kind) => Err(ScriptFault { line, kind }),
+    }
+}

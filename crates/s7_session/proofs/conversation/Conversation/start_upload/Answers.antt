@@ -1,0 +1,45 @@
+use Rattle.std.proofs.Common.{inr, refl, sym, ap, ◌∙◌, Err}
+use Rattle.s7_plant.specs.declared.request.Request.TheVariants.{StartUpload}
+use Rattle.s7_plant.specs.Replies.{said_of}
+use Rattle.s7_plant.specs.Requests.{asked, kept}
+use Rattle.s7_session.specs.Conversing.{link_of}
+use Rattle.s7_session.specs.Errors.{FULL}
+use Rattle.s7_session.specs.Events.{refusal_sent}
+use Rattle.s7_session.specs.Judgement.{by_upload, upload_reply}
+use Rattle.s7_session.proofs.AnswerLemmas.{answers_entered, answers_full, answers_memory, looked_not, untimed_at}
+use Rattle.s7_session.proofs.AnswerLemmas.{one_message, after_nothing, false_not_true}
+use Rattle.s7_session.proofs.conversation.Conversation.start_upload.Goals as goal
+
+pub returns-in-Ok-clause-answers : goal.returns-in-Ok-clause-answers
+returns-in-Ok-clause-answers g c = λ line at.
+    let link = link_of c.args.self.now.held in
+    let n = c.args.size.octets in
+    let ask = asked c.args.self.now.held.right (StartUpload c.args.name.kind c.args.name.number) in
+    let said = said_of c.act.new.reply in
+    let made = c.put_upload_reply in
+    answers_entered g.D.Doer.stands g.D.Doer.is_full g.D.Doer.may_lack line line c.args.doer.now c.act.new.self
+    n link (link_of made.new.self.held) c.args.sequence (by_upload link c.args.sequence c.args.name) at _
+    c.in-Ok.number (kept ask) said 0 (looked_not line _) (λ e. refl) (untimed_at line.moment (kept ask) refl) refl
+    (sym made.ensures.link)
+    (one_message n (upload_reply link c.args.sequence said) _ (sym made.ensures.sends))
+    c.in-Ok.ensures.ok c.act.ensures.stays_full (λ e. false_not_true (c.in-Ok.ensures.was_full e))
+
+pub returns-in-Err-Full-clause-answers : goal.returns-in-Err-Full-clause-answers
+returns-in-Err-Full-clause-answers g c = λ line at.
+    let link = link_of c.args.self.now.held in
+    let n = c.args.size.octets in
+    let f = c.in-Err-Full in
+    answers_full g.D.Doer.stands g.D.Doer.is_full g.D.Doer.may_lack line line c.args.doer.now c.act.new.self
+    n link link c.args.sequence (by_upload link c.args.sequence c.args.name) at _ 0 (looked_not line _) refl
+    (after_nothing c.args.self.now.sender.outbox.unsent (refusal_sent n c.args.sequence FULL)
+    c.put_refusal.new.self.outbox.unsent c.put_refusal.ensures c.requires.sent)
+    f.ensures.err c.act.ensures.stays_full (c.act.ensures.full f.field-0-0 (f.is ∙ ap Err f.field-0-is)).1
+
+pub returns-clause-answers : goal.returns-clause-answers
+returns-clause-answers g c = λ line at.
+    let link = link_of c.args.self.now.held in
+    let f = c.in-Err-Memory in
+    answers_memory g.D.Doer.stands g.D.Doer.is_full g.D.Doer.may_lack line line c.args.doer.now c.act.new.self
+    c.args.size.octets link link c.args.sequence (by_upload link c.args.sequence c.args.name) at _
+    (looked_not line _) c.requires.sent f.ensures.err c.act.ensures.stays_full
+    (inr (0, (c.act.ensures.lacked f.field-0-0 (f.is ∙ ap Err f.field-0-is)).1))
