@@ -91,7 +91,12 @@ fn is_answered(
 #[test]
 fn links_are_answered_by_what_others_left(rt: HostRuntime) -> Result<(), Fail> {
     let alloc = rt.alloc();
-    let book = Book::new(alloc, some_areas(alloc)?, Blocks::new(alloc, MOST_BLOCKS)?, 2)?;
+    let book = Book::new(
+        alloc,
+        some_areas(alloc)?,
+        Blocks::new(alloc, MOST_BLOCKS)?,
+        2,
+    )?;
     let (hall, mut first) = Hall::new(alloc, book).ok().ok_or("memory")?;
     let writer = hall.split(&mut first);
     let reader = hall.split(&mut first);
@@ -122,7 +127,12 @@ fn are_served_at_once<R: Threads + Wait + Clock + Sync>(
     held: u32,
     until: u32,
 ) -> Result<bool, Memory> {
-    let book = Book::new(alloc, some_areas(alloc)?, Blocks::new(alloc, MOST_BLOCKS)?, 4)?;
+    let book = Book::new(
+        alloc,
+        some_areas(alloc)?,
+        Blocks::new(alloc, MOST_BLOCKS)?,
+        4,
+    )?;
     let gate = HoldGate::new(held, until, 1_000_000_000);
     let door = a_door(alloc, 2, None)?;
     let (hosted, _) = serve_door(rt, alloc, book, &gate, None, door, 102, 2);
@@ -179,7 +189,12 @@ const DOORS: [(usize, Option<usize>, u16, Option<(usize, bool)>); 7] = [
 fn doors_end_and_fail(rt: HostRuntime) -> Result<(), Fail> {
     let alloc = rt.alloc();
     for (count, fail_at, most, left) in DOORS {
-        let book = Book::new(alloc, some_areas(alloc)?, Blocks::new(alloc, MOST_BLOCKS)?, 2_048)?;
+        let book = Book::new(
+            alloc,
+            some_areas(alloc)?,
+            Blocks::new(alloc, MOST_BLOCKS)?,
+            2_048,
+        )?;
         let door = a_door(alloc, count, fail_at)?;
         let (hosted, _) = serve_door(&rt, alloc, book, &OpenGate, None, door, 102, most);
         match hosted {
