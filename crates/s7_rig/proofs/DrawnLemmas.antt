@@ -1,8 +1,9 @@
 -- Turns that are drawn, one more in front.
 use Rattle.std.proofs.Common.{◌≡◌, ℕ, ◌+◌, ◌-◌, ◌<◌, ◌||◌, suc, Bool, false, refl, ap, ◌∙◌, subst, arith}
+use Rattle.s7_draw.specs.Drawing.{drawn, next_x, actor_by}
 use Rattle.s7_rig.specs.State.{State}
 use Rattle.s7_rig.specs.Turns.{IsTurnOf}
-use Rattle.s7_rig.specs.Runs.{Turns, drawn, next_x, actor_by}
+use Rattle.s7_rig.specs.Runs.{Turns}
 
 -- no turn is left to draw
 pub drawn-none : (x left actors : ℕ) (s : State) → left ≡ 0 → Turns (drawn x left actors) s s false

@@ -14,7 +14,8 @@ use Rattle.s7_plant.specs.State.{begins_with, state_of}
 use Rattle.s7_session.specs.Books.{history_of}
 use Rattle.s7_rig.specs.State.{Post, State}
 use Rattle.s7_rig.specs.Turns.{StartsNext, StartsNothing, with_polled, IsClientTurn, IsSessionTurn, ClientTurn, SessionTurn, IsTurnOf}
-use Rattle.s7_rig.specs.Runs.{Turns, Rounds, IsRun, actors_of, most_rounds, seeded}
+use Rattle.s7_draw.specs.Drawing.{seeded}
+use Rattle.s7_rig.specs.Runs.{Turns, Rounds, IsRun, actors_of, most_rounds}
 use Rattle.s7_rig.specs.Sent.{sent_in_turn, answered_in_turn, in_turns, in_rounds, second_or_none, in_run}
 use Rattle.s7_rig.proofs.Joint.{Octets, Joint}
 use Rattle.s7_rig.proofs.ClientSteps.{client_step}

@@ -1,6 +1,7 @@
 -- The runs of a rig: stated turns, seeded turns, and rounds.
-use Rattle.std.specs.Prelude.{◌≡◌, ◌⊎◌, ℕ, ◌+◌, ◌*◌, ◌/◌, ◌%◌, ◌^◌, ◌||◌, Bool, true, false, List}
+use Rattle.std.specs.Prelude.{◌≡◌, ◌⊎◌, ℕ, ◌+◌, ◌*◌, ◌||◌, Bool, true, false, List}
 use Rattle.std.specs.Prelude.{[], ◌∷◌, ◌++◌, zero, suc, length, Option, None}
+use Rattle.s7_draw.specs.Drawing.{seeded}
 use Rattle.s7_outer.specs.Pipes.{empty_pipes}
 use Rattle.s7_area.specs.declared.guard.Guard.{Guard}
 use Rattle.s7_client.specs.declared.config.Config.{Config}
@@ -21,23 +22,6 @@ Turns [] old new stirs = (new ≡ old) × (stirs ≡ false)
 Turns (actor ∷ actors) old new stirs =
     (middle : State) × (first : Bool) × (later : Bool) × IsTurnOf actor old middle first × Turns actors middle new later
     × (stirs ≡ (first || later))
-
--- seeded turns: x goes on by a linear congruence
-abbrev pub next_x : ℕ → ℕ
-next_x x = (1103515245 * x + 12345) % 2 ^ 31
-
--- the actor is its high part modulo the number of actors
-abbrev pub actor_by : ℕ → ℕ → ℕ
-actor_by x actors = (x / 65536) % actors
-
--- the actors of so many turns
-unfoldable pub drawn : ℕ → ℕ → ℕ → List ℕ
-drawn x zero actors = []
-drawn x (suc steps) actors = actor_by (next_x x) actors ∷ drawn (next_x x) steps actors
-
--- a seed counts modulo 2^31
-abbrev pub seeded : ℕ → ℕ → ℕ → List ℕ
-seeded seed steps actors = drawn (seed % 2 ^ 31) steps actors
 
 -- all actors in order
 abbrev pub actors_of : State → List ℕ

@@ -8,7 +8,6 @@ mod links;
 mod places;
 mod rig;
 mod runs;
-mod schedule;
 mod station;
 mod turns;
 

@@ -1,19 +1,20 @@
 // A rig: clients and the sessions that serve them, on one book.
 ghost use Rattle.std.specs.Prelude.{◌≡◌, ◌<◌, ◌≤◌, ◌*◌, Bool, All, length, map, [], IfOk, OnOk};
+ghost use Rattle.s7_draw.specs.Drawing.{seeded};
 ghost use Rattle.s7_header.specs.Negotiation.{most_pdu};
 ghost use Rattle.s7_plant.specs.Journals.{entries_of};
 ghost use Rattle.s7_plant.specs.State.{begins_with, state_of as plant_state};
 ghost use Rattle.s7_rig.specs.Shown.{state_of, end_told, state_told};
 ghost use Rattle.s7_rig.specs.State.{are_finished};
 ghost use Rattle.s7_rig.specs.Turns.{IsTurnOf};
-ghost use Rattle.s7_rig.specs.Runs.{Turns, actors_of, seeded, Rounds, most_rounds, AreFresh, IsRun};
+ghost use Rattle.s7_rig.specs.Runs.{Turns, actors_of, Rounds, most_rounds, AreFresh, IsRun};
 
 use crate::end::{RigClient, RigEnd};
-use crate::schedule::Draw;
 use crate::station::Station;
 use s7_area::Areas;
 use s7_block::Blocks;
 use s7_client::{Config, Job};
+use s7_draw::Draw;
 use s7_outer::Memory;
 use s7_plant::{Book, MOST_BLOCKS};
 use std::alloc::Global;
@@ -119,7 +120,7 @@ impl Rig {
     {
         let mut draw = Draw::new(seed);
         for _ in 0..steps {
-            let actor = draw.next(2 * self.stations.len());
+            let actor = draw.actor(2 * self.stations.len());
             self.turn(alloc, actor)?;
         }
         Ok(())

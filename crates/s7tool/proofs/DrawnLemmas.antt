@@ -5,12 +5,13 @@ use Rattle.std.specs.Prelude.{◌==◌, slice_index}
 use Rattle.std.specs.List.{AllByRecursion}
 use Rattle.std.proofs.lemmas.Bool.{ne_eqb}
 use Rattle.std.proofs.Math.Seq.{drop-append_seam, take-append_seam}
+use Rattle.s7_draw.specs.Drawing.{drawn_from, first_x, next_x}
 use Rattle.s7_item.specs.declared.item.Item.{Item}
 use Rattle.s7_client.specs.declared.job.Job.{Job}
 use Rattle.s7_client.specs.declared.job.Job.TheVariants as job
 use Rattle.s7_rig.specs.Scripts.{ConnectsFirst, IsNoConnect, NoneConnects}
-use Rattle.s7tool.specs.Drawn.{block_item, drawn, drawn_from, flags_item, kind_of, line_by, lines_of, made_scripts}
-use Rattle.s7tool.specs.Drawn.{next_x, script_of, script_with}
+use Rattle.s7tool.specs.Drawn.{block_item, drawn, flags_item, kind_of, line_by, lines_of, made_scripts}
+use Rattle.s7tool.specs.Drawn.{script_of, script_with}
 use Rattle.s7tool.specs.Drawing.{after_line, after_lines, line_at, lines_at, script_at, scripts_at, x_after}
 
 -- ---- lines of a list of numbers
@@ -145,10 +146,10 @@ part a n b x =
 -- ---- scripts
 
 script_is : (seed client a b y : ℕ) → a ≡ 200 * client → a + (200 + b) ≡ 800
-    → after_lines a (seed % 2147483648) ≡ y → script_at y ≡ script_of seed client
+    → after_lines a (first_x seed) ≡ y → script_at y ≡ script_of seed client
 unfolding script_of
 script_is seed client a b y at all ends =
-    let x = seed % 2147483648 in
+    let x = first_x seed in
     let lines : lines_of 800 (drawn seed) ≡ lines_at (a + (200 + b)) x =
     lines_drawn 800 4000 x (omega arith) ∙ ap (λ n. lines_at n x) (sym all) in
     sym (ap script_with (ap (λ js. take 200 (drop (200 * client) js)) lines
@@ -156,10 +157,10 @@ script_is seed client a b y at all ends =
     ∙ part a 200 b x ∙ ap (lines_at 200) ends))
 
 -- the scripts of four clients, one after another
-pub scripts_made : (seed : ℕ) → scripts_at 4 (seed % 2147483648) ≡ made_scripts seed
+pub scripts_made : (seed : ℕ) → scripts_at 4 (first_x seed) ≡ made_scripts seed
 unfolding scripts_at
 scripts_made seed =
-    let x = seed % 2147483648 in
+    let x = first_x seed in
     let y = after_lines 200 x in
     let twice = after_both 200 200 x in
     let thrice = after_both 200 400 x ∙ after_both 200 200 y in

@@ -1,25 +1,15 @@
 -- What the command `gen` draws from a seed: numbers, and from these the lines of scripts.
 use Rattle.std.specs.Prelude.{ℕ, zero, suc, ◌+◌, ◌*◌, ◌/◌, ◌%◌, ◌==◌, if◌then◌else◌, List, [], ◌∷◌, ◌++◌}
 use Rattle.std.specs.Prelude.{map, take, drop, replicate, slice_index}
+use Rattle.s7_draw.specs.Drawing.{drawn_from, first_x}
 use Rattle.s7_item.specs.Codes.{bytes, data_blocks, flags}
 use Rattle.s7_item.specs.declared.item.Item.{Item}
 use Rattle.s7_client.specs.declared.job.Job.{Job}
 use Rattle.s7_client.specs.declared.job.Job.TheVariants as job
 
--- ---- numbers
-
--- x goes on by a linear congruence
-abbrev pub next_x : ℕ → ℕ
-next_x x = (1103515245 * x + 12345) % 2147483648
-
--- so many numbers: the high part of each x that comes after this one
-unfoldable pub drawn_from : ℕ → ℕ → List ℕ
-drawn_from x zero = []
-drawn_from x (suc more) = next_x x / 65536 ∷ drawn_from (next_x x) more
-
--- THE DRAWN NUMBERS of a seed, which counts modulo 2^31: as many as 800 lines take at most
+-- THE DRAWN NUMBERS of a seed: as many as 800 lines take at most
 abbrev pub drawn : ℕ → List ℕ
-drawn seed = drawn_from (seed % 2147483648) 4000
+drawn seed = drawn_from (first_x seed) 4000
 
 -- ---- one line
 

@@ -1,4 +1,3 @@
-use crate::draw::Draw;
 use crate::made_scripts::made_scripts;
 use crate::rig_tests::rig;
 use s7_client::Job;
@@ -79,22 +78,6 @@ fn an_output_may_fail(rt: HostRuntime) -> Result<(), Fail> {
     assert_eq!(rt; status, 5);
     assert!(rt; out.text() == b"client 1 r".as_slice());
     assert!(rt; end.is_some());
-    Ok(())
-}
-
-#[test]
-fn numbers_are_drawn(rt: HostRuntime) -> Result<(), Fail> {
-    let rows: &[(u32, [u32; 5])] = &[
-        (0, [0, 21468, 9988, 22117, 3498]),
-        (7, [19564, 9806, 10868, 22674, 32531]),
-        (2_147_483_648, [0, 21468, 9988, 22117, 3498]),
-    ];
-    for (seed, numbers) in rows {
-        let mut draw = Draw::new(*seed);
-        for number in numbers {
-            assert_eq!(&rt; draw.below(32_768), *number);
-        }
-    }
     Ok(())
 }
 

@@ -4,8 +4,8 @@ ghost use Rattle.s7_client.specs.declared.job.Job.TheVariants as job;
 ghost use Rattle.s7tool.specs.Drawn.{block_item, flags_item, made_scripts};
 ghost use Rattle.s7tool.specs.Drawing.{after_line, after_lines, line_at, script_at};
 
-use crate::draw::Draw;
 use s7_client::{ItemList, Job};
+use s7_draw::Draw;
 use s7_item::Item;
 use s7_item::codes::{BYTE, DATA_BLOCKS, FLAGS};
 use s7_outer::Octets;
@@ -33,8 +33,8 @@ pub(crate) fn made_scripts(alloc: Global, seed: u32) -> Result<Vec<Vec<Job>>, Al
 
 // The next script.
 fn next_script(alloc: Global, draw: &mut Draw) -> Result<Vec<Job>, AllocError>
-    ensures script { IfOk result (λ jobs. jobs.items ≡ script_at draw.old.x) }
-    ensures x { OnOk result (draw.new.x ≡ after_lines 200 draw.old.x) }
+    ensures script { IfOk result (λ jobs. jobs.items ≡ script_at draw.old) }
+    ensures x { OnOk result (draw.new ≡ after_lines 200 draw.old) }
 {
     let mut jobs = Vec::new(alloc);
     jobs.push(Job::Connect)?;
@@ -47,8 +47,8 @@ fn next_script(alloc: Global, draw: &mut Draw) -> Result<Vec<Job>, AllocError>
 
 // The next line. Only a write draws an octet, and draws it last.
 fn next_line(alloc: Global, draw: &mut Draw) -> Result<Job, AllocError>
-    ensures line { IfOk result (λ line. line ≡ line_at draw.old.x) }
-    ensures x { draw.new.x ≡ after_line draw.old.x }
+    ensures line { IfOk result (λ line. line ≡ line_at draw.old) }
+    ensures x { draw.new ≡ after_line draw.old }
 {
     let kind = draw.below(4);
     let block = 1 + draw.below(4) as u16;

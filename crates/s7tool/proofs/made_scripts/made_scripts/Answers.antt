@@ -13,7 +13,7 @@ loop-preserved c =
     let pushed =
     ap (map items) c.in_ok-push.ensures.items ∙ map-append items at.all.items (c.in_ok-next_script.field-0 ∷ []) in
     record {
-      scripts = one_more scripts_at script_at (after_lines 200) scripts_more (4 - (at.counter + 1)) at.draw.x _
+      scripts = one_more scripts_at script_at (after_lines 200) scripts_more (4 - (at.counter + 1)) at.draw _
           (4 - at.counter) (map items at.all.items) _ _ _ more c.in_ok-next_script.ensures.x
           c.in_ok-next_script.ensures.script pushed at.invariant.scripts;
       len = omega (arith, at.invariant.len, c.in_ok-push.ensures.len);
@@ -25,5 +25,5 @@ returns-clause-scripts c =
     let at = c.loop in
     let none : 4 - at.counter ≡ 0 = let h = c.loop-test.false in omega arith in
     sym (append-nil (map items at.all.items))
-    ∙ ap (λ ss. map items at.all.items ++ ss) (sym (scripts_none (4 - at.counter) at.draw.x none))
+    ∙ ap (λ ss. map items at.all.items ++ ss) (sym (scripts_none (4 - at.counter) at.draw none))
     ∙ at.invariant.scripts ∙ scripts_made c.args.seed

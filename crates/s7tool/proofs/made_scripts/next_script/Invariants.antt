@@ -6,6 +6,6 @@ use Rattle.s7tool.proofs.made_scripts.next_script.Given as goal
 -- the lines that are left to draw follow those drawn
 abbrev pub invariant-loop : goal.invariant-loop
 invariant-loop l = record {
-  lines : l.jobs.items ++ lines_at (200 - l.counter) l.draw.x ≡ job.Connect ∷ lines_at 200 l.fn.draw.x;
-  x : after_lines (200 - l.counter) l.draw.x ≡ after_lines 200 l.fn.draw.x;
+  lines : l.jobs.items ++ lines_at (200 - l.counter) l.draw ≡ job.Connect ∷ lines_at 200 l.fn.draw;
+  x : after_lines (200 - l.counter) l.draw ≡ after_lines 200 l.fn.draw;
 }

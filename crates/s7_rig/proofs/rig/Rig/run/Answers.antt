@@ -2,7 +2,8 @@ use Rattle.std.proofs.Common.{◌*◌, ◌||◌, length, map, sym, subst, ◌∙
 use Rattle.std.proofs.lemmas.List.{length-map}
 use Rattle.std.proofs.lemmas.Result.{on_ok_weaker}
 use Rattle.s7_rig.specs.Shown.{post_of, state_of}
-use Rattle.s7_rig.specs.Runs.{Turns, seeded}
+use Rattle.s7_draw.specs.Drawing.{seeded}
+use Rattle.s7_rig.specs.Runs.{Turns}
 use Rattle.s7_rig.proofs.TurnsLemmas.{Turns-append}
 use Rattle.s7_rig.proofs.rig.Rig.run.Goals as goal
 
