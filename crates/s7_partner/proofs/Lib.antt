@@ -9,6 +9,7 @@ pub mod NewLemmas
 pub mod StandLemmas
 pub mod OrderLemmas
 pub mod CountLemmas
+pub mod CountedLemmas
 pub mod OctetLemmas
 pub mod ReachLemmas
 pub mod ExchangeLemmas

@@ -99,9 +99,9 @@ pub struct Partner {
 }
 
 impl Partner {
-    ghost use Rattle.std.specs.Prelude.{◌≡◌, None, Some, true, false, is_none, IfOk, OnOk, IfErr, OnErr};
+    ghost use Rattle.std.specs.Prelude.{◌≡◌, None, Some, true, false, is_none, not, IfOk, OnOk, IfErr, OnErr};
     ghost use Rattle.s7_wire.specs.Reads.{size_at};
-    ghost use Rattle.s7_partner.specs.Held.{closed_of};
+    ghost use Rattle.s7_partner.specs.Held.{closed_of, sending_of};
     ghost use Rattle.s7_partner.specs.Calls.{IsNew, IsRefused, IsGiven};
 
     /// A partner whose link isn't opened. The PDU is from 64 to 1,920, the jobs from 1 to 8, the polls at least 1. An
@@ -140,6 +140,13 @@ impl Partner {
             Stage::Closed(code) => Some(code),
             Stage::Opening | Stage::Negotiating | Stage::Going(_) => None,
         }
+    }
+
+    /// A block that it was given isn't acknowledged.
+    pub fn is_sending(&self) -> bool
+        ensures { result ≡ not (is_none (sending_of self.now)) }
+    {
+        self.sending.is_some()
     }
 
     /// Gives a block of 1 to 65,535 octets to be sent under this R_ID, one at a time. A poll tells when it came whole

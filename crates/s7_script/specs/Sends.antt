@@ -1,5 +1,5 @@
 -- What a sends file says: the blocks that a partner is given to send, line by line, or the first faulty line.
-use Rattle.std.specs.Prelude.{ℕ, ◌==◌, ◌+◌, ◌*◌, nat_le, List, [], ◌∷◌, ◌++◌, length, codes, Option, Some, None}
+use Rattle.std.specs.Prelude.{ℕ, ◌==◌, ◌+◌, ◌*◌, ◌<◌, ◌≤◌, nat_le, List, [], ◌∷◌, ◌++◌, length, codes, Option, Some, None}
 use Rattle.std.specs.Prelude.{Result, Ok, Err, if◌then◌else◌}
 use Rattle.std.specs.Str.{bytes_eq}
 use Rattle.hex.specs.Hex.{decode_of}
@@ -42,6 +42,10 @@ block_sent None = Err kind.Fields
 block_sent (Some text) = do
   rid ← four_octets_in (decode_of (field_of text))
   with_hex rid (rest_of text)
+
+-- a block has from 1 to 65,535 octets
+abbrev pub IsSized : SendLine → Type 0
+IsSized line = (0 < length line.body) × (length line.body ≤ 65535)
 
 -- what a line gives to send: `send RID HEX`
 abbrev pub send_of : Text → Result Send ScriptKind

@@ -1,8 +1,8 @@
 // Reading sends files.
-ghost use Rattle.std.specs.Prelude.{◌≡◌, OnOk, IfErr, Ok};
+ghost use Rattle.std.specs.Prelude.{◌≡◌, All, OnOk, IfErr, IfOk, Ok};
 ghost use Rattle.s7_script.specs.Script.{GivesScript, LineFails};
 ghost use Rattle.s7_script.specs.ScriptShown.{appended};
-ghost use Rattle.s7_script.specs.Sends.{line_sends, sends};
+ghost use Rattle.s7_script.specs.Sends.{IsSized, line_sends, sends};
 
 use crate::lines::first_line;
 use crate::reading::add_line;
@@ -22,7 +22,8 @@ use std::alloc::Global;
 /// `Number`: there are more than 65,535 octets. `Fields`: a field is missing or too many. `Memory` comes where there is
 /// none.
 pub fn read_sends(alloc: Global, text: &[u8]) -> Result<Sends, ScriptFault>
-    ensures { GivesScript (λ s. s) result (sends text.now) }
+    ensures given { GivesScript (λ s. s) result (sends text.now) }
+    ensures sized { IfOk result (All IsSized) }
 {
     let mut found = Vec::new(alloc);
     let mut rest = text;

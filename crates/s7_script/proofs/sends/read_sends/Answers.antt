@@ -1,15 +1,16 @@
 use Rattle.std.proofs.Common.{◌∙◌, ap, sym, subst, eqb-true, length, Ok}
 use Rattle.std.proofs.lemmas.Result.{err_from_is_err_and}
+use Rattle.std.specs.List.{All}
 use Rattle.s7_script.specs.Lines.{lines}
 use Rattle.s7_script.specs.Script.{LineFails}
-use Rattle.s7_script.specs.Sends.{send_lines}
+use Rattle.s7_script.specs.Sends.{IsSized, send_lines}
 use Rattle.s7_script.specs.ScriptShown.{appended}
 use Rattle.s7_script.proofs.LineLemmas.{no_lines}
-use Rattle.s7_script.proofs.SendLemmas.{sends-ended, sends-fail, sends-step}
+use Rattle.s7_script.proofs.SendLemmas.{sends-ended, sends-fail, sends-step, sends_sized}
 use Rattle.s7_script.proofs.sends.read_sends.Goals as goal
 
-pub returns-in_err-take_line : goal.returns-in_err-take_line
-returns-in_err-take_line c =
+pub returns-in_err-take_line-clause-given : goal.returns-in_err-take_line-clause-given
+returns-in_err-take_line-clause-given c =
     let e = c.in_err-take_line.field-0.0 in
     let found = c.loop-rest.found.items in
     let line = c.loop-rest.line in
@@ -26,9 +27,17 @@ loop-rest-preserved c =
     ∙ sym (sends-step found c.take_line.new.found.items line c.first_line.result.0.now (lines c.first_line.result.1.now) c.in_ok-take_line.ensures.ok)
     ∙ ap (λ ls. appended found (send_lines line ls)) (sym c.first_line.ensures.line) ∙ c.loop-rest.invariant
 
-pub returns : goal.returns
-returns c =
+pub returns-clause-given : goal.returns-clause-given
+returns-clause-given c =
     let found = c.loop-rest.found.items in
     let empty = eqb-true (length c.loop-rest.rest.now) 0 (sym c.loop-rest-test.ensures) in
     sym c.loop-rest.invariant ∙ ap (λ ls. appended found (send_lines c.loop-rest.line ls)) (no_lines c.loop-rest.rest.now empty)
     ∙ sends-ended found c.loop-rest.line ∙ ap Ok (sym c.of_vec.ensures)
+
+pub returns-clause-sized : goal.returns-clause-sized
+returns-clause-sized c =
+    let found = c.loop-rest.found.items in
+    let empty = eqb-true (length c.loop-rest.rest.now) 0 (sym c.loop-rest-test.ensures) in
+    let all = sym c.loop-rest.invariant ∙ ap (λ ls. appended found (send_lines c.loop-rest.line ls)) (no_lines c.loop-rest.rest.now empty)
+    ∙ sends-ended found c.loop-rest.line in
+    subst (All IsSized) (sym c.of_vec.ensures) (sends_sized c.args.text.now found all)
