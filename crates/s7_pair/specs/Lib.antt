@@ -1,0 +1,6 @@
+pub mod Events
+pub mod Text
+pub mod Talking
+pub mod Sides
+pub mod Pairs
+pub mod Alone
