@@ -2,7 +2,7 @@
 use Rattle.std.proofs.Common.{refl, codes, None, Some}
 use Rattle.s7_words.specs.Fields.{port, journal}
 use Rattle.s7_words.specs.Server.{pipe_line, save, serve_line, links}
-use Rattle.s7_words.specs.Tool.{run_line, host, kind, rack, slot, pdu, polls, jobs, rig_line, turns, seed, steps, gen_line}
+use Rattle.s7_words.specs.Tool.{run_line, host, kind, rack, slot, pdu, polls, jobs, rig_line, turns, seed, steps, gen_line, partner_line}
 use Rattle.s7_words.proofs.Commands.{IsCommand, long_known}
 
 pub pipe_is : IsCommand (codes "pipe") pipe_line
@@ -68,4 +68,17 @@ gen_is = record {
   placed = (refl, record { long = None; index = Some 1; found = refl; small = refl }, refl);
   operands = (refl, tt);
   options = tt;
+}
+
+pub partner_is : IsCommand (codes "partner") partner_line
+partner_is = record {
+  is_built = refl;
+  is_free = refl;
+  is_simple_too = refl;
+  has_name = refl;
+  fields = refl;
+  known = (long_known _ host refl refl, (long_known _ port refl refl, (long_known _ seed refl refl, (long_known _ steps refl refl, tt))));
+  placed = (refl, record { long = None; index = Some 1; found = refl; small = refl }, (refl, record { long = None; index = Some 2; found = refl; small = refl }, refl));
+  operands = (refl, (refl, tt));
+  options = (refl, (refl, (refl, (refl, tt))));
 }

@@ -2,9 +2,9 @@
 use Rattle.std.proofs.Common.{refl, codes}
 use Rattle.s7_words.specs.Fields.{port, journal}
 use Rattle.s7_words.specs.Server.{pipe_line, serve_line, links}
-use Rattle.s7_words.specs.Tool.{run_line, kind, rack, slot, pdu, polls, jobs, rig_line, seed, steps, gen_line, made_from}
+use Rattle.s7_words.specs.Tool.{run_line, kind, rack, slot, pdu, polls, jobs, rig_line, seed, steps, gen_line, made_from, partner_line}
 use Rattle.s7_words.proofs.Commands.{ReadsNumber, number_or_is}
-use Rattle.s7_words.proofs.Lines.{pipe_is, serve_is, run_is, rig_is, gen_is}
+use Rattle.s7_words.proofs.Lines.{pipe_is, serve_is, run_is, rig_is, gen_is, partner_is}
 
 pub port_is : ReadsNumber (codes "run") run_line run_is port 16 1 65535 102
 port_is = number_or_is (codes "run") run_line run_is port 16 1 65535 102 refl refl refl refl
@@ -56,3 +56,12 @@ rig_jobs_is = number_or_is (codes "rig") rig_line rig_is jobs 16 1 8 1 refl refl
 
 pub made_from_is : ReadsNumber (codes "gen") gen_line gen_is made_from 32 0 4294967295 0
 made_from_is = number_or_is (codes "gen") gen_line gen_is made_from 32 0 4294967295 0 refl refl refl refl
+
+pub partner_port_is : ReadsNumber (codes "partner") partner_line partner_is port 16 1 65535 102
+partner_port_is = number_or_is (codes "partner") partner_line partner_is port 16 1 65535 102 refl refl refl refl
+
+pub partner_seed_is : ReadsNumber (codes "partner") partner_line partner_is seed 32 0 4294967295 0
+partner_seed_is = number_or_is (codes "partner") partner_line partner_is seed 32 0 4294967295 0 refl refl refl refl
+
+pub partner_steps_is : ReadsNumber (codes "partner") partner_line partner_is steps 32 0 1000000 0
+partner_steps_is = number_or_is (codes "partner") partner_line partner_is steps 32 0 1000000 0 refl refl refl refl

@@ -10,6 +10,10 @@ operand name = record { name = name; range = None; is_required = true; is_many =
 abbrev pub operands : Text → Field
 operands name = record { name = name; range = None; is_required = true; is_many = true }
 
+-- an operand that may be left out
+abbrev pub optional : Text → Field
+optional name = record { name = name; range = None; is_required = false; is_many = false }
+
 -- an operand of a number from low to high, which has to be there
 abbrev pub numeral : Text → ℕ → ℕ → Field
 numeral name low high = record { name = name; range = Some (low, high); is_required = true; is_many = false }

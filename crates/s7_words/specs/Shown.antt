@@ -1,13 +1,14 @@
 -- Commands as contracts see them: their texts in the place of the references to them.
 use Rattle.std.specs.Prelude.{◌≤◌, map, option_map}
 use Rattle.s7_words.specs.Server.{ServerTold, pipe, serve}
-use Rattle.s7_words.specs.Tool.{RunTold, RigTold, ToolTold, gen, run, rig}
+use Rattle.s7_words.specs.Tool.{PartnerTold, RunTold, RigTold, ToolTold, gen, partner, run, rig}
+use Rattle.s7_words.specs.declared.partner_words.PartnerWords.{PartnerWords}
 use Rattle.s7_words.specs.declared.rig_words.RigWords.{RigWords}
 use Rattle.s7_words.specs.declared.run_words.RunWords.{RunWords}
 use Rattle.s7_words.specs.declared.server.ServerWords.{ServerWords}
 use Rattle.s7_words.specs.declared.server.ServerWords.TheVariants.{Pipe, Serve}
 use Rattle.s7_words.specs.declared.tool.ToolWords.{ToolWords}
-use Rattle.s7_words.specs.declared.tool.ToolWords.TheVariants.{Run, Rig, Gen}
+use Rattle.s7_words.specs.declared.tool.ToolWords.TheVariants.{Run, Rig, Gen, Partner}
 
 abbrev pub server_told_of : ServerWords → ServerTold
 server_told_of (Pipe areas save journal) = pipe areas.now (option_map (λ s. s.now) save) journal
@@ -53,7 +54,18 @@ rig_told_of r = record {
   jobs = r.jobs;
 }
 
+abbrev pub partner_told_of : PartnerWords → PartnerTold
+partner_told_of p = record {
+  one = p.one.now;
+  other = option_map (λ s. s.now) p.other;
+  host = p.host.now;
+  port = p.port;
+  seed = p.seed;
+  steps = p.steps;
+}
+
 abbrev pub tool_told_of : ToolWords → ToolTold
 tool_told_of (Run r) = run (run_told_of r)
 tool_told_of (Rig r) = rig (rig_told_of r)
 tool_told_of (Gen seed) = gen seed
+tool_told_of (Partner p) = partner (partner_told_of p)

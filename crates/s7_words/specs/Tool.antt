@@ -4,7 +4,7 @@ use Rattle.std.specs.Prelude.{Option, Some, None, option_map, option_and_then, i
 use Rattle.std.specs.List.{list_all, slice_split}
 use Rattle.std.specs.Str.{bytes_eq}
 use Rattle.s7_words.specs.Line.{Text, Field, Line, Given, given_by, is_number, number_of, value_of, values_of}
-use Rattle.s7_words.specs.Fields.{operand, operands, numeral, text, number, areas, port, journal, text_or, number_or}
+use Rattle.s7_words.specs.Fields.{operand, operands, optional, numeral, text, number, areas, port, journal, text_or, number_or}
 
 -- how a script is run: against which controller, over which connection, with how many polls and parallel jobs
 pub record RunTold : Type 0 where
@@ -30,11 +30,21 @@ pub record RigTold : Type 0 where
   pub journal : ℕ
   pub jobs : ℕ
 
+-- what partners send, and where the second one is: a file of its own, or over a link
+pub record PartnerTold : Type 0 where
+  pub one : Text
+  pub other : Option Text
+  pub host : Text
+  pub port : ℕ
+  pub seed : ℕ
+  pub steps : ℕ
+
 -- a command with its operands and options
 pub data ToolTold : Type 0 where
   run : RunTold → ToolTold
   rig : RigTold → ToolTold
   gen : (seed : ℕ) → ToolTold
+  partner : PartnerTold → ToolTold
 
 -- ---- run SCRIPT, with these options
 
@@ -158,6 +168,29 @@ gen_line = record { operands = made_from ∷ []; options = [] }
 abbrev pub gen_of : Given → ToolTold
 gen_of given = gen (number_or given made_from 0)
 
+-- ---- partner A [B], with these options
+
+-- the sends file of the active partner
+abbrev pub one : Field
+one = operand (codes "A")
+
+-- that of the passive one
+abbrev pub other : Field
+other = optional (codes "B")
+
+abbrev pub partner_line : Line
+partner_line = record { operands = one ∷ other ∷ []; options = host ∷ port ∷ seed ∷ steps ∷ [] }
+
+abbrev pub partner_of : Given → ToolTold
+partner_of given = partner (record {
+  one = text_or given one [];
+  other = value_of given other.name;
+  host = text_or given host (codes "127.0.0.1");
+  port = number_or given port 102;
+  seed = number_or given seed 0;
+  steps = number_or given steps 0;
+})
+
 -- ---- all commands
 
 -- the command that the words name, or nothing where they are usage
@@ -166,4 +199,5 @@ tool_words [] = None
 tool_words (name ∷ rest) =
     if bytes_eq name (codes "run") then option_map run_of (given_by run_line rest)
     else (if bytes_eq name (codes "rig") then option_and_then rig_of (given_by rig_line rest)
-    else (if bytes_eq name (codes "gen") then option_map gen_of (given_by gen_line rest) else None))
+    else (if bytes_eq name (codes "gen") then option_map gen_of (given_by gen_line rest)
+    else (if bytes_eq name (codes "partner") then option_map partner_of (given_by partner_line rest) else None)))

@@ -2,7 +2,7 @@
 ghost use Rattle.std.specs.Prelude.{◌≡◌, ◌≢◌, IfOk, IfSome, IfNone, IsErrAnd, Ok, false};
 ghost use Rattle.clap.specs.Words.{app_of, kind_of, rule_of};
 ghost use Rattle.s7_words.specs.Built.{operand_rule, option_rule, without_help};
-ghost use Rattle.s7_words.specs.Fields.{numeral, operand, operands, text, number};
+ghost use Rattle.s7_words.specs.Fields.{numeral, operand, operands, optional, text, number};
 
 use clap::builder::ValueParser;
 use clap::error::ErrorKind;
@@ -23,6 +23,14 @@ pub(crate) fn operand<'a>(alloc: Global, name: &'a str) -> Arg<'a>
     ensures local { result.global ≡ false }
 {
     Arg::new(alloc, name).required(true)
+}
+
+/// An operand of any text, which may be left out.
+pub(crate) fn optional<'a>(alloc: Global, name: &'a str) -> Arg<'a>
+    ensures rule { rule_of result ≡ operand_rule (optional name.entry.now) }
+    ensures local { result.global ≡ false }
+{
+    Arg::new(alloc, name)
 }
 
 /// Operands of any text, of which one has to be there.

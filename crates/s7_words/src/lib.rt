@@ -3,6 +3,8 @@
 #![tactic(auto)]
 
 mod command;
+mod partner;
+mod partner_words;
 mod rig;
 mod rig_words;
 mod run_words;
@@ -10,6 +12,7 @@ mod server;
 mod tool;
 mod turns;
 
+pub use partner_words::PartnerWords;
 pub use rig_words::RigWords;
 pub use run_words::RunWords;
 pub use server::{ServerWords, read_server_words};

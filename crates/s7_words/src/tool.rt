@@ -7,8 +7,9 @@ ghost use Rattle.s7_words.specs.Tool.{gen_line, gen_of, run_line, run_of, tool_w
 ghost use Rattle.s7_words.specs.Shown.{tool_told_of};
 
 use crate::command::{accepted, bare, number, numeral, operand, text};
+use crate::partner::read_partner;
 use crate::rig::read_rig;
-use crate::{RigWords, RunWords};
+use crate::{PartnerWords, RigWords, RunWords};
 use clap::Command;
 use s7_outer::Memory;
 use std::alloc::{AllocError, Global};
@@ -26,6 +27,9 @@ pub enum ToolWords<'a> {
     Rig(RigWords<'a>),
     /// `gen N`: makes areas and scripts from N, 0 to 4,294,967,295, and runs them together.
     Gen(u32),
+    /// `partner A [B] [--host HOST] [--port N] [--seed N] [--steps N]`: runs two partners in memory, or
+    /// without B one over a link. The fields of `PartnerWords` have the ranges and defaults.
+    Partner(PartnerWords<'a>),
 }
 
 /// The command that the words name, or `None` where they are usage: where there are none, where the
@@ -48,6 +52,7 @@ pub fn read_tool_words<'a>(
         "run" => read_run(alloc, words),
         "rig" => read_rig(alloc, words),
         "gen" => read_gen(alloc, words),
+        "partner" => read_partner(alloc, words),
         _ => Ok(None),
     }
 }

@@ -9,7 +9,7 @@ fn run_fields<'a>(words: &ToolWords<'a>) -> Option<Run<'a>> {
         ToolWords::Run(run) => Some((
             run.script, run.host, run.port, run.kind, run.rack, run.slot, run.pdu, run.polls,
         )),
-        ToolWords::Rig(_) | ToolWords::Gen(_) => None,
+        ToolWords::Rig(_) | ToolWords::Gen(_) | ToolWords::Partner(_) => None,
     }
 }
 
@@ -115,7 +115,7 @@ fn tool_usage(rt: HostRuntime) -> Result<(), Fail> {
         &["help", "run"],
         &["--help"],
         &["rigs", "a", "b"],
-        &["partner", "a"],
+        &["partners", "a"],
         &["run", "s", "t"],
         &["run", "--host", "h"],
         &["run", "s", "--help"],
@@ -157,7 +157,7 @@ type Rig<'a> = (&'a str, &'a [&'a str], &'a [u32], u32, u32, u16, u64);
 
 fn is_rig(words: &ToolWords, expected: &Rig) -> bool {
     match words {
-        ToolWords::Run(_) | ToolWords::Gen(_) => false,
+        ToolWords::Run(_) | ToolWords::Gen(_) | ToolWords::Partner(_) => false,
         ToolWords::Rig(rig) => {
             rig.areas == expected.0
                 && rig.scripts.as_slice() == expected.1
@@ -302,7 +302,7 @@ fn jobs_in(alloc: Global, words: &[&str]) -> Result<Option<u16>, Fail> {
     Ok(match told {
         ToolWords::Run(run) => Some(run.jobs),
         ToolWords::Rig(rig) => Some(rig.jobs),
-        ToolWords::Gen(_) => None,
+        ToolWords::Gen(_) | ToolWords::Partner(_) => None,
     })
 }
 
@@ -357,6 +357,73 @@ fn gen_takes_a_number(rt: HostRuntime) -> Result<(), Fail> {
         let found = match read_tool_words(rt.alloc(), words)? {
             Some(ToolWords::Gen(seed)) => Some(seed),
             _ => None,
+        };
+        assert!(rt; found == *expected, "{words:?}");
+    }
+    Ok(())
+}
+
+type Partner<'a> = (&'a str, Option<&'a str>, &'a str, u16, u32, u32);
+
+fn partner_fields<'a>(words: &ToolWords<'a>) -> Option<Partner<'a>> {
+    match words {
+        ToolWords::Partner(words) => Some((
+            words.one,
+            words.other,
+            words.host,
+            words.port,
+            words.seed,
+            words.steps,
+        )),
+        ToolWords::Run(_) | ToolWords::Rig(_) | ToolWords::Gen(_) => None,
+    }
+}
+
+#[test]
+fn partners_take_one_file_or_two(rt: HostRuntime) -> Result<(), Fail> {
+    let local = "127.0.0.1";
+    let lines: &[(&[&str], Option<Partner>)] = &[
+        (&["partner", "a"], Some(("a", None, local, 102, 0, 0))),
+        (
+            &["partner", "a", "b"],
+            Some(("a", Some("b"), local, 102, 0, 0)),
+        ),
+        (
+            &["partner", "--", "-a", "-b"],
+            Some(("-a", Some("-b"), local, 102, 0, 0)),
+        ),
+        (
+            &["partner", "a", ""],
+            Some(("a", Some(""), local, 102, 0, 0)),
+        ),
+        (
+            &["partner", "a", "--host", "h", "--port=65535"],
+            Some(("a", None, "h", 65_535, 0, 0)),
+        ),
+        (
+            &[
+                "partner",
+                "--seed",
+                "4294967295",
+                "a",
+                "--steps=1000000",
+                "b",
+            ],
+            Some(("a", Some("b"), local, 102, 4_294_967_295, 1_000_000)),
+        ),
+        (&["partner"], None),
+        (&["partner", "a", "b", "c"], None),
+        (&["partner", "-a"], None),
+        (&["partner", "a", "--port", "0"], None),
+        (&["partner", "a", "--seed", "4294967296"], None),
+        (&["partner", "a", "--steps", "1000001"], None),
+        (&["partner", "a", "--pdu", "64"], None),
+        (&["partner", "a", "--B", "b"], None),
+    ];
+    for (words, expected) in lines {
+        let found = match read_tool_words(rt.alloc(), words)? {
+            Some(words) => partner_fields(&words),
+            None => None,
         };
         assert!(rt; found == *expected, "{words:?}");
     }
