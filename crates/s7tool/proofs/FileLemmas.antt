@@ -1,16 +1,18 @@
 -- What was read of files, from call to call.
 use Rattle.std.proofs.Common.{◌≡◌, ◌∙◌, ℕ, ◌+◌, ◌<◌, refl, sym, ap, subst, arith, List, [], ◌∷◌, ◌++◌, Some}
 use Rattle.std.proofs.Common.{drop, length, map, slice_index_or, take}
-use Rattle.std.specs.Prelude.{IsTrue}
+use Rattle.std.specs.Prelude.{IsTrue, Result}
 use Rattle.std.proofs.lemmas.List.{drop_more, map-append, take-append-drop}
 use Rattle.s7_outer.specs.FilesShown.{FilesShown}
 use Rattle.s7_outer.specs.Files.{IsCutFrom}
 use Rattle.s7_script.specs.Loading.{LeavesFiles}
 use Rattle.s7_script.specs.Naming.{Named, path, block, faulty}
+use Rattle.s7_script.specs.declared.script_fault.ScriptFault.{ScriptFault}
 use Rattle.s7_script.specs.declared.script_list.ScriptLine.{ScriptLine}
 use Rattle.s7tool.specs.declared.load.LoadFault.{LoadFault}
 use Rattle.s7tool.specs.declared.load.LoadFault.TheVariants as fault
-use Rattle.s7tool.specs.Loading.{IsRefusedFor, IsUnloaded, KeepsPaths, ReadsScript}
+use Rattle.s7tool.specs.Loading.{IsRefusedFor, IsUnloaded, KeepsPaths, PathFails, ReadsScript, ReadsText}
+use Rattle.s7tool.specs.Loading.{RefusesText}
 use Rattle.s7tool.specs.Scripts.{AddsScript, ReadsScripts, StopsAt}
 
 -- ---- paths that are kept
@@ -47,8 +49,8 @@ held_before : (p octets : List ℕ) (old new : FilesShown) → KeepsPaths old ne
     → (IsTrue new.tells → new.held p ≡ Some octets) → IsTrue old.tells → old.held p ≡ Some octets
 held_before p octets old new l h t = ap (λ f. f p) (sym (same_held old new l)) ∙ h (told_after old new l t)
 
-pub reads_before : (p : List ℕ) (P : List ScriptLine → Type 0) (old new : FilesShown) → KeepsPaths old new
-    → ReadsScript p new P → ReadsScript p old P
+pub reads_before : {A : Type 0} {reader : List ℕ → Result (List A) ScriptFault} (p : List ℕ) (P : List A → Type 0)
+    (old new : FilesShown) → KeepsPaths old new → ReadsText reader p new P → ReadsText reader p old P
 reads_before p P old new l h = record {
   octets = h.octets;
   lines = h.lines;
@@ -66,23 +68,41 @@ scripts_before (p ∷ ps) [] old new l h = absurd h
 scripts_before (p ∷ ps) (s ∷ ss) old new l h =
     (reads_before p _ old new l h.0, scripts_before ps ss old new l h.1)
 
-refused_before : (p : List ℕ) (f : LoadFault) (old new : FilesShown) → KeepsPaths old new → IsRefusedFor p new f
-    → IsRefusedFor p old f
-refused_before p fault.Failed old new l h = tt
-refused_before p fault.TooLong old new l h = record {
+refused_before : {A : Type 0} (reader : List ℕ → Result (List A) ScriptFault) (p : List ℕ) (f : LoadFault)
+    (old new : FilesShown) → KeepsPaths old new → IsRefusedFor reader p new f → IsRefusedFor reader p old f
+refused_before reader p fault.Failed old new l h = tt
+refused_before reader p fault.TooLong old new l h = record {
   octets = h.octets;
   passed = h.passed;
   cut = λ t. subst (λ f. IsCutFrom (f p) h.octets) (same_held old new l) (h.cut (told_after old new l t));
 }
-refused_before p (fault.Line n) old new l h =
+refused_before reader p (fault.Line n) old new l h =
     record { octets = h.octets; held = held_before p h.octets old new l h.held; fails = h.fails }
-refused_before p fault.Memory old new l h = tt
+refused_before reader p fault.Memory old new l h = tt
 
-pub unloaded_before : (p : List ℕ) (f : LoadFault) (old mid new : FilesShown) → KeepsPaths old mid
-    → IsUnloaded p mid new f → IsUnloaded p old new f
-unloaded_before p f old mid new l h = record {
-  refused = refused_before p f old mid l h.refused;
+pub unloaded_before : {A : Type 0} {reader : List ℕ → Result (List A) ScriptFault} (p : List ℕ) (f : LoadFault)
+    (old mid new : FilesShown) → KeepsPaths old mid → IsUnloaded reader p mid new f → IsUnloaded reader p old new f
+unloaded_before {reader = reader} p f old mid new l h = record {
+  refused = refused_before reader p f old mid l h.refused;
   failed = λ is. let fell = l.counts p in let rose = h.failed is in omega (arith, fell, rose);
+}
+
+pub refused_text_before : {A : Type 0} (reader : List ℕ → Result (List A) ScriptFault) (p : List ℕ)
+    (P : List ℕ → Type 0) (old new : FilesShown) → KeepsPaths old new → RefusesText reader p new P
+    → RefusesText reader p old P
+refused_text_before reader p P old new l h = record {
+  fault = h.fault;
+  line = h.line;
+  refused = refused_before reader p h.fault old new l h.refused;
+  line_is = h.line_is;
+  is_printed = h.is_printed;
+}
+
+pub fails_before : (p : List ℕ) (P : List ℕ → Type 0) (old mid new : FilesShown) → KeepsPaths old mid
+    → PathFails p mid new P → PathFails p old new P
+fails_before p P old mid new l h = record {
+  rose = let fell = l.counts p in let rose = h.rose in omega (arith, fell, rose);
+  is_printed = h.is_printed;
 }
 
 pub stops_before : (ps : List (List ℕ)) (p : List ℕ) (f : LoadFault) (old mid new : FilesShown) → KeepsPaths old mid

@@ -4,5 +4,6 @@ pub mod DrawnLemmas
 pub mod FileLemmas
 pub mod NamesLemmas
 pub mod RanLemmas
+pub mod PartnerLemmas
 pub mod RunLemmas
 pub mod TextLemmas

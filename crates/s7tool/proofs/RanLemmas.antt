@@ -14,6 +14,8 @@ use Rattle.s7_rig.specs.Shown.{EndTold, end_told}
 use Rattle.s7_script.specs.Laws.{EndsPrint}
 use Rattle.s7_script.specs.Naming.{naming}
 use Rattle.s7_script.specs.Printing.{IsPrintable}
+use Rattle.s7_script.specs.Script.{script}
+use Rattle.s7_script.specs.declared.script_fault.ScriptFault.{ScriptFault}
 use Rattle.s7_script.specs.declared.script_list.ScriptLine.{ScriptLine}
 use Rattle.s7_words.specs.Tool.{RigTold}
 use Rattle.s7tool.specs.declared.ended.Ended.{Ended}
@@ -23,7 +25,7 @@ use Rattle.s7tool.specs.declared.load.LoadFault.TheVariants as fault
 use Rattle.s7tool.specs.Drawn.{made_scripts}
 use Rattle.s7tool.specs.Gen.{GenEnds, made_areas, made_config, made_turning}
 use Rattle.s7tool.specs.GenText.{are_made_good, made_text}
-use Rattle.s7tool.specs.Loading.{IsRefusedFor, RefusesScript, refusal_line}
+use Rattle.s7tool.specs.Loading.{IsRefusedFor, RefusesText, refusal_line}
 use Rattle.s7tool.specs.Report.{Printed, PrintsText, TellsFault}
 use Rattle.s7tool.specs.RigText.{ArePrintable, are_clients_good, rig_text}
 use Rattle.s7tool.specs.Rigging.{ComesTo, Opens, RanJobs, RanRig, RigEnds}
@@ -46,14 +48,15 @@ if_ok P Q (Err e) f h = tt
 
 -- ---- how it ended
 
-refuses_script : (p : List ℕ) (f : LoadFault) (files : FilesShown) (P : List ℕ → Type 0) → IsRefusedFor p files f
-    → IsSomeAnd (refusal_line f) P → RefusesScript p files P
-refuses_script p fault.Failed files P h printed = absurd printed
-refuses_script p fault.TooLong files P h printed =
+pub refuses_text : {A : Type 0} (reader : List ℕ → Result (List A) ScriptFault) (p : List ℕ) (f : LoadFault)
+    (files : FilesShown) (P : List ℕ → Type 0) → IsRefusedFor reader p files f → IsSomeAnd (refusal_line f) P
+    → RefusesText reader p files P
+refuses_text reader p fault.Failed files P h printed = absurd printed
+refuses_text reader p fault.TooLong files P h printed =
     record { fault = fault.TooLong; line = _; refused = h; line_is = refl; is_printed = printed }
-refuses_script p (fault.Line k) files P h printed =
+refuses_text reader p (fault.Line k) files P h printed =
     record { fault = fault.Line k; line = _; refused = h; line_is = refl; is_printed = printed }
-refuses_script p fault.Memory files P h printed = absurd printed
+refuses_text reader p fault.Memory files P h printed = absurd printed
 
 module _ (told : RigTold) (old new : FilesShown) (out out' : OutShown) where
   comes_to : (m : Memory) (p : List ℕ) (f : LoadFault) → Opens (naming told.areas) old m
@@ -69,7 +72,7 @@ module _ (told : RigTold) (old new : FilesShown) (out out' : OutShown) where
     inr (record {
       path = p;
       next = comes_to m p f opened h;
-      refused = refuses_script p f old (Printed out out') h.unloaded.refused t;
+      refused = refuses_text script p f old (Printed out out') h.unloaded.refused t;
     }),
   )
   script_unloaded m p f ended.File opened h t = (

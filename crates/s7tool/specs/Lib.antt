@@ -5,6 +5,7 @@ pub mod End
 pub mod Gen
 pub mod GenText
 pub mod Loading
+pub mod Partners
 pub mod Ran
 pub mod Report
 pub mod RigText

@@ -1,6 +1,7 @@
 -- The scripts under paths.
 use Rattle.std.specs.Prelude.{◌≡◌, ℕ, List, [], ◌∷◌, ◌++◌}
 use Rattle.s7_outer.specs.FilesShown.{FilesShown}
+use Rattle.s7_script.specs.Script.{script}
 use Rattle.s7_script.specs.declared.script_list.ScriptLine.{ScriptLine}
 use Rattle.s7tool.specs.declared.load.LoadFault.{LoadFault}
 use Rattle.s7tool.specs.Loading.{IsUnloaded, ReadsScript}
@@ -28,4 +29,4 @@ pub record ReadsBefore (paths : List (List ℕ)) (files : FilesShown) (path : Li
 -- of these scripts the first that wasn't loaded, and why
 pub record StopsAt (paths : List (List ℕ)) (old new : FilesShown) (path : List ℕ) (why : LoadFault) : Type 0 where
   pub next : ReadsBefore paths old path
-  pub unloaded : IsUnloaded path old new why
+  pub unloaded : IsUnloaded script path old new why

@@ -1,7 +1,6 @@
 //! Runs scripts against controllers, and in rigs.
 #![tactic(auto)]
 
-mod draw;
 mod ended;
 mod gen_run;
 #[cfg(test)]
@@ -14,6 +13,9 @@ mod made_scripts;
 mod output;
 #[cfg(test)]
 mod panel_tests;
+mod partner_run;
+#[cfg(test)]
+mod partner_tests;
 mod report;
 mod rig_report;
 #[cfg(test)]

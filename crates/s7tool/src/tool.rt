@@ -12,6 +12,7 @@ pub use crate::ended::RunEnd;
 use crate::ended::{Ended, ToolEnd};
 use crate::gen_run::run_gen;
 use crate::output::print_line;
+use crate::partner_run::run_partner;
 use crate::rigging::run_rigging;
 use crate::script_run::run_script;
 use s7_outer::{Dial, Files, Link, Out};
@@ -133,6 +134,14 @@ pub fn tool_main<F: Files, L: Link + Drop, K: Dial<L>, O: Out>(
                 status: status_of(ended),
                 rig,
                 run: None,
+            }
+        }
+        Ok(Some(ToolWords::Partner(words))) => {
+            let (ended, run) = run_partner(alloc, words, files, dial, out);
+            ToolEnd {
+                status: status_of(ended),
+                rig: None,
+                run,
             }
         }
         Ok(None) => unrun(
