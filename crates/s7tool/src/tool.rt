@@ -53,19 +53,21 @@ pub const MEMORY: u8 = 9;
 /// not all of its jobs were done; and then the journal's length. `gen` makes areas and four scripts from
 /// its number, and runs them as `rig` does. It prints of each client how many results but the disconnect's
 /// it has, how many of them have a code other than 0, and how many octets they have; and then the
-/// journal's length, and the sum of the octets that the areas have in the end.
+/// journal's length, and the sum of the octets that the areas have in the end. `partner` reads the sends
+/// files in order. With two it runs two partners in memory, and prints what they told in the end; with one it
+/// dials, and runs the active partner over the link, each of whose news is printed as it comes.
 ///
-/// The status is 1 where the words are no command; 2 where a script or the areas can't be read: a faulty
-/// line, or more than 67,108,864 octets; 3 where a file that the words name failed; 4 where the dial
-/// failed; 5 where the output failed at a result, which ends a run, or at the text of a rig; 6 where a
-/// result's code isn't 0, or a client of a rig isn't finished; 9 where memory was wanting, which may
-/// come in the place of 1 to 4 too; and else 0. The first file that can't be read decides. For 1 to 4
+/// The status is 1 where the words are no command; 2 where a script, a sends file or the areas can't be read: a
+/// faulty line, or more than 67,108,864 octets; 3 where a file that the words name failed; 4 where the dial
+/// failed; 5 where the output failed at a result or a news, which ends a run, or at the text of a rig or of two
+/// partners; 6 where a result's code isn't 0, a client of a rig isn't finished, or a block of a partner wasn't
+/// acknowledged; 9 where memory was wanting, which may come in the place of 1 to 4 too; and else 0. The first file that can't be read decides. For 1 to 4
 /// and 9 one line is printed, with 9 after what was printed before, and its failure changes nothing.
 ///
 /// No path changes. A run is there exactly where a link was dialled. With status 0 or 6 it has the
 /// result of each job, and with 5 or 9 those of the jobs that were done. Where none is there the dial is
 /// as it was, but for status 4. A rig is there exactly for `rig` and `gen` with status 0, 5 or 6; these
-/// dial nothing, and `gen` reads no file.
+/// dial nothing, `gen` reads no file, and a run of `partner` has no results.
 pub fn tool_main<F: Files, L: Link + Drop, K: Dial<L>, O: Out>(
     alloc: Global,
     words: &[&str],
