@@ -2,23 +2,36 @@
 ghost use Rattle.std.specs.Prelude.{◌<◌, ◌≤◌};
 
 use super::*;
-use crate::tests::{
-    given, is_idle, is_pending, is_received, is_sent, partner, refusal, some_octets,
-};
-use s7_outer::{Link, Memory, Octets, PipeEnd, Pipes, Side};
+use crate::tests::{Told, given, is_told, partner, polled, refusal, some_octets};
+use s7_outer::{Link, Memory, PipeEnd, Pipes, Side};
 use std::alloc::Global;
 use std::test::Fail;
 
 /// How many octets there are in each pipe.
 const ROOM: usize = 4_096;
 
-/// Two partners and what is between them.
+/// Two partners and what is between them. The active one has the client's end.
 #[derive(Drop)]
 struct Pair {
     active: Partner,
     passive: Partner,
     pipes: Pipes,
 }
+
+/// Polls until the link is negotiated: the confirm, and the negotiation's answer, need one poll each.
+const OPENING: &[(Side, Told<'static>)] = &[
+    (Side::Client, Told::Pending),
+    (Side::Server, Told::Pending),
+    (Side::Client, Told::Pending),
+    (Side::Server, Told::Idle),
+    (Side::Client, Told::Idle),
+];
+
+/// A fragment of the passive partner goes, and is acknowledged.
+const PASSING: &[(Side, Told<'static>)] = &[
+    (Side::Server, Told::Pending),
+    (Side::Client, Told::Idle),
+];
 
 impl Pair {
     fn new(alloc: Global, pdu: u16) -> Result<Pair, Memory>
@@ -32,102 +45,103 @@ impl Pair {
         })
     }
 
-    fn poll_active(&mut self, alloc: Global) -> Result<PartnerEvent, Memory> {
+    fn poll(&mut self, alloc: Global, side: Side) -> Result<PartnerEvent, Memory> {
         let mut link = PipeEnd {
             pipes: &mut self.pipes,
-            side: Side::Client,
+            side,
         };
-        self.active.poll(alloc, &mut link)
+        match side {
+            Side::Client => polled(&mut self.active, alloc, &mut link),
+            Side::Server => polled(&mut self.passive, alloc, &mut link),
+        }
     }
 
-    fn poll_passive(&mut self, alloc: Global) -> Result<PartnerEvent, Memory> {
-        let mut link = PipeEnd {
-            pipes: &mut self.pipes,
-            side: Side::Server,
-        };
-        self.passive.poll(alloc, &mut link)
+    /// The next polls of these sides tell this, one after another.
+    fn tells(&mut self, alloc: Global, all: &[(Side, Told<'_>)]) -> Result<bool, Memory> {
+        for (side, told) in all {
+            if !is_told(&self.poll(alloc, *side)?, *told) {
+                return Ok(false);
+            }
+        }
+        Ok(true)
     }
 
     /// A fragment of the active partner goes in a packet of so many octets, and is acknowledged in one of 33.
     fn acknowledges(&mut self, alloc: Global, len: usize) -> Result<bool, Memory> {
-        let first = self.poll_active(alloc)?;
-        let went = self.pipes.held(Side::Server);
-        let second = self.poll_passive(alloc)?;
-        let came = self.pipes.held(Side::Client);
-        Ok(is_pending(&first) && went == len && is_idle(&second) && came == 33)
+        Ok(
+            self.tells(alloc, &[(Side::Client, Told::Pending)])?
+                && self.pipes.held(Side::Server) == len
+                && self.tells(alloc, &[(Side::Server, Told::Idle)])?
+                && self.pipes.held(Side::Client) == 33,
+        )
     }
 
     /// The last fragment of the active partner, with 112 octets, is acknowledged by the poll behind the one that hands
     /// its block out.
     fn ends_late(&mut self, alloc: Global, octets: &[u8]) -> Result<bool, Memory> {
-        let first = self.poll_active(alloc)?;
-        let went = self.pipes.held(Side::Server);
-        let second = self.poll_passive(alloc)?;
-        let third = self.poll_active(alloc)?;
-        let fourth = self.poll_passive(alloc)?;
-        let fifth = self.poll_active(alloc)?;
+        let ending = [
+            (Side::Server, Told::Received(1, octets)),
+            (Side::Client, Told::Pending),
+            (Side::Server, Told::Idle),
+            (Side::Client, Told::Sent),
+        ];
         Ok(
-            is_pending(&first)
-                && went == 153
-                && is_received(&second, 1, octets)
-                && is_pending(&third)
-                && is_idle(&fourth)
-                && is_sent(&fifth),
+            self.tells(alloc, &[(Side::Client, Told::Pending)])?
+                && self.pipes.held(Side::Server) == 153
+                && self.tells(alloc, &ending)?,
         )
-    }
-
-    /// A fragment of the passive partner goes, and is acknowledged.
-    fn passes(&mut self, alloc: Global) -> Result<bool, Memory> {
-        let first = self.poll_passive(alloc)?;
-        let second = self.poll_active(alloc)?;
-        Ok(is_pending(&first) && is_idle(&second))
     }
 
     /// The last fragment of the passive partner's block of these octets goes, and the block is received and sent.
     fn ends(&mut self, alloc: Global, octets: &[u8]) -> Result<bool, Memory> {
-        let first = self.poll_passive(alloc)?;
-        let second = self.poll_active(alloc)?;
-        let third = self.poll_active(alloc)?;
-        let fourth = self.poll_passive(alloc)?;
-        Ok(
-            is_pending(&first)
-                && is_received(&second, 4_294_967_295, octets)
-                && is_idle(&third)
-                && is_sent(&fourth),
-        )
+        let ending = [
+            (Side::Server, Told::Pending),
+            (Side::Client, Told::Received(4_294_967_295, octets)),
+            (Side::Client, Told::Idle),
+            (Side::Server, Told::Sent),
+        ];
+        self.tells(alloc, &ending)
     }
+}
 
-    /// Polls until the link is negotiated: the confirm, and the negotiation's answer, need one poll each.
-    fn open(&mut self, alloc: Global) -> Result<bool, Memory> {
-        let first = self.poll_active(alloc)?;
-        let second = self.poll_passive(alloc)?;
-        let third = self.poll_active(alloc)?;
-        let fourth = self.poll_passive(alloc)?;
-        let fifth = self.poll_active(alloc)?;
-        Ok(
-            is_pending(&first)
-                && is_pending(&second)
-                && is_pending(&third)
-                && is_idle(&fourth)
-                && is_idle(&fifth),
-        )
-    }
+/// A block of 1,000 octets goes in packets of fragments with 444, 444 and 112 octets.
+fn goes_in_three(pair: &mut Pair, alloc: Global, octets: &[u8]) -> Result<bool, Memory> {
+    Ok(
+        pair.tells(alloc, OPENING)?
+            && given(&mut pair.active, alloc, 1, octets)?
+            && pair.acknowledges(alloc, 487)?
+            && refusal(&mut pair.active, alloc, 1)? == Some(SendFault::Busy)
+            && pair.acknowledges(alloc, 485)?
+            && pair.ends_late(alloc, octets)?,
+    )
 }
 
 #[test]
 fn fragments_are_acknowledged_one_by_one(rt: HostRuntime) -> Result<(), Fail> {
-    let alloc = rt.alloc();
-    let octets = some_octets(alloc, 1_000)?;
-    let mut pair = Pair::new(alloc, 480)?;
-    assert!(rt; pair.open(alloc)?);
-    assert!(rt; given(&mut pair.active, alloc, 1, &octets)?);
-
-    // The packets of fragments with 444, 444 and 112 octets of the block.
-    assert!(rt; pair.acknowledges(alloc, 487)?);
-    assert_eq!(rt; refusal(&mut pair.active, alloc, 1)?, Some(SendFault::Busy));
-    assert!(rt; pair.acknowledges(alloc, 485)?);
-    assert!(rt; pair.ends_late(alloc, &octets)?);
+    let octets = some_octets(rt.alloc(), 1_000)?;
+    let mut pair = Pair::new(rt.alloc(), 480)?;
+    assert!(rt; goes_in_three(&mut pair, rt.alloc(), octets.as_slice())?);
     Ok(())
+}
+
+/// Fragments of the passive partner go, one fewer than so many.
+fn all_but_one_pass(pair: &mut Pair, alloc: Global, count: u32) -> Result<bool, Memory> {
+    for _ in 1..count {
+        if !pair.tells(alloc, PASSING)? {
+            return Ok(false);
+        }
+    }
+    Ok(true)
+}
+
+/// The block goes to the active partner in so many fragments.
+fn goes_in(pair: &mut Pair, alloc: Global, octets: &[u8], count: u32) -> Result<bool, Memory> {
+    Ok(
+        pair.tells(alloc, OPENING)?
+            && given(&mut pair.passive, alloc, 4_294_967_295, octets)?
+            && all_but_one_pass(pair, alloc, count)?
+            && pair.ends(alloc, octets)?,
+    )
 }
 
 /// A block of so many octets goes to the active partner in so many fragments.
@@ -137,15 +151,7 @@ fn comes_whole(alloc: Global, pdu: u16, len: usize, count: u32) -> Result<bool, 
 {
     let octets = some_octets(alloc, len)?;
     let mut pair = Pair::new(alloc, pdu)?;
-    let is_open = pair.open(alloc)?;
-    let is_given = given(&mut pair.passive, alloc, 4_294_967_295, &octets)?;
-    for _ in 1..count {
-        if !pair.passes(alloc)? {
-            return Ok(false);
-        }
-    }
-    let ended = pair.ends(alloc, &octets)?;
-    Ok(is_open && is_given && ended)
+    goes_in(&mut pair, alloc, octets.as_slice(), count)
 }
 
 /// Blocks of these lengths go in so many fragments each.
@@ -187,42 +193,85 @@ fn blocks_of_each_length_come_whole(rt: HostRuntime) -> Result<(), Fail> {
     Ok(())
 }
 
+/// How many blocks were sent, and received.
+#[derive(Clone, Copy, PartialEq, Eq)]
+struct Tally {
+    sent: u8,
+    received: u8,
+}
+
+impl Tally {
+    /// Notes what a poll told. `block` is the block that is to come.
+    fn note(&mut self, event: &PartnerEvent, block: Told<'_>) {
+        if is_told(event, Told::Sent) {
+            self.sent = self.sent.saturating_add(1);
+        }
+        if is_told(event, block) {
+            self.received = self.received.saturating_add(1);
+        }
+    }
+}
+
+/// What comes of twenty polls of each side, where these blocks are to come to the active and to the passive one.
+fn tally_of(
+    pair: &mut Pair,
+    alloc: Global,
+    to_active: Told<'_>,
+    to_passive: Told<'_>,
+) -> Result<Tally, Memory> {
+    let mut tally = Tally {
+        sent: 0,
+        received: 0,
+    };
+    for _ in 0..20 {
+        tally.note(&pair.poll(alloc, Side::Client)?, to_active);
+        tally.note(&pair.poll(alloc, Side::Server)?, to_passive);
+    }
+    Ok(tally)
+}
+
+/// Both are given a block before the link is opened, and both blocks come.
+fn both_come(pair: &mut Pair, alloc: Global, octets: &[u8], others: &[u8]) -> Result<bool, Memory> {
+    let is_given = given(&mut pair.active, alloc, 1, octets)?
+        && given(&mut pair.passive, alloc, 2, others)?;
+    let tally = tally_of(
+        pair,
+        alloc,
+        Told::Received(2, others),
+        Told::Received(1, octets),
+    )?;
+    let idle = [(Side::Client, Told::Idle), (Side::Server, Told::Idle)];
+    Ok(is_given && tally.sent == 2 && tally.received == 2 && pair.tells(alloc, &idle)?)
+}
+
 #[test]
 fn both_send_at_once(rt: HostRuntime) -> Result<(), Fail> {
-    let alloc = rt.alloc();
-    let octets = some_octets(alloc, 100)?;
-    let others = some_octets(alloc, 99)?;
-    let mut pair = Pair::new(alloc, 64)?;
-
-    // Both were given before the link was opened.
-    assert!(rt; given(&mut pair.active, alloc, 1, &octets)?);
-    assert!(rt; given(&mut pair.passive, alloc, 2, &others)?);
-    let (mut sent, mut received) = (0u8, 0u8);
-    for _ in 0..20 {
-        let told = pair.poll_active(alloc)?;
-        sent = sent.saturating_add(u8::from(is_sent(&told)));
-        received = received.saturating_add(u8::from(is_received(&told, 2, &others)));
-        let told = pair.poll_passive(alloc)?;
-        sent = sent.saturating_add(u8::from(is_sent(&told)));
-        received = received.saturating_add(u8::from(is_received(&told, 1, &octets)));
-    }
-    assert_eq!(rt; (sent, received), (2, 2));
-    assert!(rt; is_idle(&pair.poll_active(alloc)?));
-    assert!(rt; is_idle(&pair.poll_passive(alloc)?));
+    let octets = some_octets(rt.alloc(), 100)?;
+    let others = some_octets(rt.alloc(), 99)?;
+    let mut pair = Pair::new(rt.alloc(), 64)?;
+    let (octets, others) = (octets.as_slice(), others.as_slice());
+    assert!(rt; both_come(&mut pair, rt.alloc(), octets, others)?);
     Ok(())
+}
+
+/// A block of two octets goes, and is acknowledged.
+const WHOLE: &[(Side, Told<'static>)] = &[
+    (Side::Client, Told::Pending),
+    (Side::Server, Told::Received(7, &[1, 2])),
+    (Side::Server, Told::Idle),
+    (Side::Client, Told::Sent),
+];
+
+fn goes_whole(pair: &mut Pair, alloc: Global) -> Result<bool, Memory> {
+    Ok(given(&mut pair.active, alloc, 7, &[1, 2])? && pair.tells(alloc, WHOLE)?)
 }
 
 #[test]
 fn sends_are_numbered_from_one_to_255(rt: HostRuntime) -> Result<(), Fail> {
-    let alloc = rt.alloc();
-    let mut pair = Pair::new(alloc, 64)?;
-    assert!(rt; pair.open(alloc)?);
-    for _ in 0..257 {
-        assert!(rt; given(&mut pair.active, alloc, 7, &[1, 2])?);
-        assert!(rt; is_pending(&pair.poll_active(alloc)?));
-        assert!(rt; is_received(&pair.poll_passive(alloc)?, 7, &[1, 2]));
-        assert!(rt; is_idle(&pair.poll_passive(alloc)?));
-        assert!(rt; is_sent(&pair.poll_active(alloc)?));
+    let mut pair = Pair::new(rt.alloc(), 64)?;
+    assert!(rt; pair.tells(rt.alloc(), OPENING)?);
+    for k in 0..257 {
+        assert!(rt; goes_whole(&mut pair, rt.alloc())?, "block {k}");
     }
     Ok(())
 }
@@ -254,16 +303,23 @@ impl Talker {
         })
     }
 
+    /// Gives the next block where none is being sent; whether it was taken, if so.
+    fn gives(&mut self, alloc: Global) -> Result<bool, Memory> {
+        if self.given != self.sent || self.given >= BLOCKS {
+            return Ok(true);
+        }
+        let octets = block(alloc, self.given)?;
+        let is_given = given(&mut self.partner, alloc, self.given, &octets)?;
+        self.given += 1;
+        Ok(is_given)
+    }
+
     /// Gives the next block where none is being sent, polls, and says whether what is told is what is wanted.
     fn turn<L: Link>(&mut self, alloc: Global, link: &mut L) -> Result<bool, Memory> {
-        if self.given == self.sent && self.given < BLOCKS {
-            let octets = block(alloc, self.given)?;
-            if !given(&mut self.partner, alloc, self.given, &octets)? {
-                return Ok(false);
-            }
-            self.given += 1;
+        if !self.gives(alloc)? {
+            return Ok(false);
         }
-        let told = self.partner.poll(alloc, link)?;
+        let told = polled(&mut self.partner, alloc, link)?;
         self.is_wanted(alloc, &told)
     }
 
@@ -277,7 +333,7 @@ impl Talker {
             PartnerEvent::Received { .. } => {
                 let number = self.received;
                 self.received = number.saturating_add(1);
-                is_received(told, number, &block(alloc, number)?)
+                is_told(told, Told::Received(number, &block(alloc, number)?))
             }
             PartnerEvent::Pending => outstanding,
             PartnerEvent::Idle => !outstanding,
@@ -296,31 +352,63 @@ fn next_x(x: u32) -> u32 {
     ((1_103_515_245 * u64::from(x) + 12_345) % 2_147_483_648) as u32
 }
 
+/// Two sides whose turns are drawn, and what is between them.
+#[derive(Drop)]
+struct Meeting {
+    active: Talker,
+    passive: Talker,
+    pipes: Pipes,
+    x: u32,
+}
+
+impl Meeting {
+    fn new(alloc: Global, seed: u32, room: usize) -> Result<Meeting, Memory> {
+        Ok(Meeting {
+            active: Talker::new(alloc, Role::Active)?,
+            passive: Talker::new(alloc, Role::Passive)?,
+            pipes: Pipes::new(alloc, room, 7)?,
+            x: seed,
+        })
+    }
+
+    /// The next turn is of a side that is drawn; what is told is what is wanted.
+    fn turn(&mut self, alloc: Global) -> Result<bool, Memory> {
+        self.x = next_x(self.x);
+        let side = if self.x / 65_536 % 2 == 0 {
+            Side::Client
+        } else {
+            Side::Server
+        };
+        let mut link = PipeEnd {
+            pipes: &mut self.pipes,
+            side,
+        };
+        match side {
+            Side::Client => self.active.turn(alloc, &mut link),
+            Side::Server => self.passive.turn(alloc, &mut link),
+        }
+    }
+}
+
+/// All blocks of both sides are sent and come in 20,000 turns.
+fn is_done_by_draws(alloc: Global, seed: u32, room: usize) -> Result<bool, Memory> {
+    let mut meeting = Meeting::new(alloc, seed, room)?;
+    for _ in 0..20_000 {
+        if !meeting.turn(alloc)? {
+            return Ok(false);
+        }
+    }
+    Ok(meeting.active.is_done() && meeting.passive.is_done())
+}
+
+/// The seed, and the room of each pipe: for one fragment, of at most 71 octets with its packet's header, for one and
+/// a part of an acknowledgement, and for all.
+const DRAWS: &[(u32, usize)] = &[(1, 71), (2, 90), (3, ROOM)];
+
 #[test]
 fn turns_are_drawn(rt: HostRuntime) -> Result<(), Fail> {
-    let alloc = rt.alloc();
-
-    // The seed, and the room of each pipe: for one fragment, of at most 71 octets with its packet's header, for one and
-    // a part of an acknowledgement, and for all.
-    let rows: [(u32, usize); 3] = [(1, 71), (2, 90), (3, ROOM)];
-    for (seed, room) in rows {
-        let mut active = Talker::new(alloc, Role::Active)?;
-        let mut passive = Talker::new(alloc, Role::Passive)?;
-        let mut pipes = Pipes::new(alloc, room, 7)?;
-        let mut x = seed;
-        for _ in 0..20_000 {
-            x = next_x(x);
-            let (talker, side) = match x / 65_536 % 2 {
-                0 => (&mut active, Side::Client),
-                _ => (&mut passive, Side::Server),
-            };
-            let mut link = PipeEnd {
-                pipes: &mut pipes,
-                side,
-            };
-            assert!(rt; talker.turn(alloc, &mut link)?, "seed {seed}");
-        }
-        assert!(rt; active.is_done() && passive.is_done(), "seed {seed}");
+    for (seed, room) in DRAWS {
+        assert!(rt; is_done_by_draws(rt.alloc(), *seed, *room)?, "seed {seed}");
     }
     Ok(())
 }

@@ -100,31 +100,63 @@ pub(crate) fn partner(alloc: Global, role: Role, pdu: u16) -> Result<Partner, Me
     Partner::new(alloc, role, config)
 }
 
-pub(crate) fn is_pending(event: &PartnerEvent) -> bool {
-    matches!(event, PartnerEvent::Pending)
+/// What a poll is to tell.
+#[derive(Clone, Copy)]
+pub(crate) enum Told<'a> {
+    Sent,
+    /// The block of these octets under this R_ID.
+    Received(u32, &'a [u8]),
+    Pending,
+    Idle,
+    Closed(u32),
 }
 
-pub(crate) fn is_idle(event: &PartnerEvent) -> bool {
-    matches!(event, PartnerEvent::Idle)
-}
-
-pub(crate) fn is_sent(event: &PartnerEvent) -> bool {
-    matches!(event, PartnerEvent::Sent)
-}
-
-fn has_code(event: &PartnerEvent, code: u32) -> bool {
+pub(crate) fn is_told(event: &PartnerEvent, told: Told<'_>) -> bool {
     match event {
-        PartnerEvent::Closed(number) => *number == code,
+        PartnerEvent::Sent => matches!(told, Told::Sent),
+        PartnerEvent::Received { rid, body } => is_block(*rid, body.as_slice(), told),
+        PartnerEvent::Pending => matches!(told, Told::Pending),
+        PartnerEvent::Idle => matches!(told, Told::Idle),
+        PartnerEvent::Closed(number) => is_number(*number, told),
+    }
+}
+
+fn is_block(rid: u32, body: &[u8], told: Told<'_>) -> bool {
+    match told {
+        Told::Received(number, octets) => rid == number && body == octets,
         _ => false,
     }
 }
 
-/// The block was received under this R_ID.
-pub(crate) fn is_received(event: &PartnerEvent, rid: u32, octets: &[u8]) -> bool {
-    match event {
-        PartnerEvent::Received { rid: number, body } => *number == rid && body.as_slice() == octets,
+fn is_number(number: u32, told: Told<'_>) -> bool {
+    match told {
+        Told::Closed(code) => number == code,
         _ => false,
     }
+}
+
+/// What one poll tells. Nothing is promised of it, so that what calls this is soon proved.
+pub(crate) fn polled<L: Link>(
+    partner: &mut Partner,
+    alloc: Global,
+    link: &mut L,
+) -> Result<PartnerEvent, Memory> {
+    partner.poll(alloc, link)
+}
+
+/// The next polls tell this, one after another.
+fn tells<L: Link>(
+    partner: &mut Partner,
+    alloc: Global,
+    link: &mut L,
+    all: &[Told<'_>],
+) -> Result<bool, Memory> {
+    for told in all {
+        if !is_told(&polled(partner, alloc, link)?, *told) {
+            return Ok(false);
+        }
+    }
+    Ok(true)
 }
 
 /// So many octets that aren't all alike.
@@ -154,310 +186,344 @@ pub(crate) fn refusal(
     })
 }
 
+/// The lengths of blocks that are given to a partner one after another, and why they aren't taken.
+const REFUSALS: &[(usize, Option<SendFault>)] = &[
+    (0, Some(SendFault::Size)),
+    (65_536, Some(SendFault::Size)),
+    (65_535, None),
+    (1, Some(SendFault::Busy)),
+    (0, Some(SendFault::Busy)),
+];
+
 #[test]
 fn blocks_are_refused(rt: HostRuntime) -> Result<(), Fail> {
-    let alloc = rt.alloc();
-    let mut partner = partner(alloc, Role::Active, 480)?;
-    assert_eq!(rt; refusal(&mut partner, alloc, 0)?, Some(SendFault::Size));
-    assert_eq!(rt;
-        refusal(&mut partner, alloc, 65_536)?,
-        Some(SendFault::Size)
-    );
-    assert_eq!(rt; refusal(&mut partner, alloc, 65_535)?, None);
-    assert_eq!(rt; refusal(&mut partner, alloc, 1)?, Some(SendFault::Busy));
-    assert_eq!(rt; refusal(&mut partner, alloc, 0)?, Some(SendFault::Busy));
-    let mut link = line(alloc, &[REQUEST])?;
-    assert!(rt; has_code(&last_event(&mut partner, alloc, &mut link)?, 0x0001_0000));
-    assert_eq!(rt; partner.closed(), Some(0x0001_0000));
-    assert_eq!(rt; refusal(&mut partner, alloc, 0)?, Some(SendFault::Closed));
+    let mut partner = partner(rt.alloc(), Role::Active, 480)?;
+    for (len, fault) in REFUSALS {
+        assert!(rt; refusal(&mut partner, rt.alloc(), *len)? == *fault, "{len}");
+    }
     Ok(())
+}
+
+#[test]
+fn closed_partners_take_no_block(rt: HostRuntime) -> Result<(), Fail> {
+    let mut partner = partner(rt.alloc(), Role::Active, 480)?;
+    assert!(rt; refusal(&mut partner, rt.alloc(), 65_535)?.is_none());
+    let mut link = line(rt.alloc(), &[REQUEST])?;
+    assert!(rt; closes(&mut partner, rt.alloc(), &mut link, 0x0001_0000)?);
+    assert!(rt; refusal(&mut partner, rt.alloc(), 0)? == Some(SendFault::Closed));
+    Ok(())
+}
+
+/// The block that a partner sends where nothing else is said.
+const ABC: &[u8] = &[0xAA, 0xBB, 0xCC];
+
+/// A partner of PDU 480 that was given that block under the R_ID 1.
+fn sender(alloc: Global, role: Role) -> Result<Partner, Memory> {
+    let mut partner = partner(alloc, role, 480)?;
+    if given(&mut partner, alloc, 1, ABC)? {
+        Ok(partner)
+    } else {
+        Err(Memory)
+    }
 }
 
 /// A link that gives these octets, and has room for what is sent.
 fn line(alloc: Global, parts: &[&[u8]]) -> Result<MemoryLink, Memory> {
-    let mut input = Vec::new(alloc);
-    for part in parts {
-        input.extend_from_slice(part)?;
-    }
-    MemoryLink::new(alloc, Octets::of_vec(input), 8_192, ROOM, 7)
+    let input = Octets::of_vec(line_of(alloc, parts)?);
+    MemoryLink::new(alloc, input, 8_192, ROOM, 7)
 }
 
-/// What the last of ten polls tells.
-fn last_event<L: Link>(
+/// The last of ten polls tells that the partner is closed with this number.
+fn closes<L: Link>(
     partner: &mut Partner,
     alloc: Global,
     link: &mut L,
-) -> Result<PartnerEvent, Memory> {
-    let mut told = partner.poll(alloc, link)?;
+    code: u32,
+) -> Result<bool, Memory> {
     for _ in 1..10 {
-        told = partner.poll(alloc, link)?;
+        polled(partner, alloc, link)?;
     }
-    Ok(told)
+    let is_told = is_told(&polled(partner, alloc, link)?, Told::Closed(code));
+    Ok(is_told && partner.closed() == Some(code))
 }
 
 /// What a partner reads, and the number that it closes with.
-#[derive(Drop)]
+#[derive(Clone, Copy)]
 struct Row {
     role: Role,
     parts: &'static [&'static [u8]],
     code: u32,
 }
 
+const CLOSING: &[Row] = &[
+    // The end of the link: before the opening, in it and behind it.
+    Row {
+        role: Role::Active,
+        parts: &[],
+        code: 0x0002_0000,
+    },
+    Row {
+        role: Role::Active,
+        parts: &[CONFIRM],
+        code: 0x0002_0000,
+    },
+    Row {
+        role: Role::Passive,
+        parts: &[REQUEST, ASKED, FRAGMENT],
+        code: 0x0002_0000,
+    },
+    Row {
+        role: Role::Active,
+        parts: &[CONFIRM, GRANTED, TAKEN],
+        code: 0x0002_0000,
+    },
+
+    // What doesn't belong there.
+    Row {
+        role: Role::Active,
+        parts: &[REQUEST],
+        code: 0x0001_0000,
+    },
+    Row {
+        role: Role::Passive,
+        parts: &[CONFIRM],
+        code: 0x0001_0000,
+    },
+    Row {
+        role: Role::Passive,
+        parts: &[LEAVES],
+        code: 0x0001_0000,
+    },
+    Row {
+        role: Role::Active,
+        parts: &[CONFIRM, REQUEST],
+        code: 0x0003_0000,
+    },
+    Row {
+        role: Role::Passive,
+        parts: &[REQUEST, ASKED, REQUEST],
+        code: 0x0003_0000,
+    },
+    Row {
+        role: Role::Passive,
+        parts: &[b"\x04"],
+        code: 0x0003_0000,
+    },
+    Row {
+        role: Role::Passive,
+        parts: &[b"\x03\x00\x20\x08"],
+        code: 0x0008_0000,
+    },
+    Row {
+        role: Role::Active,
+        parts: &[REJECTS],
+        code: 0x0001_0000,
+    },
+    Row {
+        role: Role::Active,
+        parts: &[CONFIRM, REJECTS],
+        code: 0x0003_0000,
+    },
+    Row {
+        role: Role::Active,
+        parts: &[CONFIRM, GRANTED, CONFIRM],
+        code: 0x0003_0000,
+    },
+    Row {
+        role: Role::Passive,
+        parts: &[REQUEST, ASKED, BEGUN, REJECTS],
+        code: 0x0003_0000,
+    },
+    Row {
+        role: Role::Passive,
+        parts: &[REQUEST, ASKED, BEGUN, CONFIRM],
+        code: 0x0003_0000,
+    },
+
+    // A disconnect request.
+    Row {
+        role: Role::Active,
+        parts: &[CONFIRM, LEAVES],
+        code: 0x0002_0000,
+    },
+    Row {
+        role: Role::Passive,
+        parts: &[REQUEST, ASKED, LEAVES],
+        code: 0x0002_0000,
+    },
+    Row {
+        role: Role::Passive,
+        parts: &[REQUEST, ASKED, BEGUN, LEAVES],
+        code: 0x0002_0000,
+    },
+
+    // Messages: the negotiation, and then fragments and their acknowledgements.
+    Row {
+        role: Role::Passive,
+        parts: &[REQUEST, SHORT],
+        code: 0x0006_0000,
+    },
+    Row {
+        role: Role::Passive,
+        parts: &[REQUEST, ASKED, SHORT],
+        code: 0x0006_0000,
+    },
+    Row {
+        role: Role::Passive,
+        parts: &[REQUEST, FRAGMENT],
+        code: 0x0010_0000,
+    },
+    Row {
+        role: Role::Passive,
+        parts: &[REQUEST, TOO_SMALL],
+        code: 0x0010_0000,
+    },
+    Row {
+        role: Role::Active,
+        parts: &[CONFIRM, ASKED],
+        code: 0x0080_0000,
+    },
+    Row {
+        role: Role::Active,
+        parts: &[CONFIRM, GRANTED, TAKEN_OTHER],
+        code: 0x0080_0000,
+    },
+    Row {
+        role: Role::Active,
+        parts: &[CONFIRM, GRANTED, TAKEN_SECOND],
+        code: 0x0080_0000,
+    },
+    Row {
+        role: Role::Active,
+        parts: &[CONFIRM, GRANTED, TAKEN, TAKEN],
+        code: 0x0080_0000,
+    },
+    Row {
+        role: Role::Active,
+        parts: &[CONFIRM, TAKEN],
+        code: 0x0080_0000,
+    },
+    Row {
+        role: Role::Passive,
+        parts: &[REQUEST, TAKEN],
+        code: 0x0010_0000,
+    },
+    Row {
+        role: Role::Passive,
+        parts: &[REQUEST, ASKED, PASSING],
+        code: 0x0080_0000,
+    },
+    Row {
+        role: Role::Passive,
+        parts: &[REQUEST, ASKED, ASKED],
+        code: 0x0080_0000,
+    },
+    Row {
+        role: Role::Passive,
+        parts: &[REQUEST, ASKED, ENDED],
+        code: 0x0080_0000,
+    },
+    Row {
+        role: Role::Passive,
+        parts: &[REQUEST, ASKED, BEGUN, FRAGMENT],
+        code: 0x0080_0000,
+    },
+    Row {
+        role: Role::Passive,
+        parts: &[REQUEST, ASKED, BEGUN, OF_ANOTHER_SEND],
+        code: 0x0080_0000,
+    },
+    Row {
+        role: Role::Passive,
+        parts: &[REQUEST, ASKED, BEGUN, OF_ANOTHER_BLOCK],
+        code: 0x0080_0000,
+    },
+    Row {
+        role: Role::Passive,
+        parts: &[REQUEST, ASKED, BEGUN, TOO_FEW],
+        code: 0x0080_0000,
+    },
+    Row {
+        role: Role::Passive,
+        parts: &[REQUEST, ASKED, BEGUN, NONE_AND_MORE],
+        code: 0x0080_0000,
+    },
+];
+
+fn closes_so(alloc: Global, row: &Row) -> Result<bool, Memory> {
+    let mut partner = sender(alloc, row.role)?;
+    let mut link = line(alloc, row.parts)?;
+    closes(&mut partner, alloc, &mut link, row.code)
+}
+
 #[test]
 fn partners_close(rt: HostRuntime) -> Result<(), Fail> {
-    let alloc = rt.alloc();
-    let rows = [
-        // The end of the link: before the opening, in it and behind it.
-        Row {
-            role: Role::Active,
-            parts: &[],
-            code: 0x0002_0000,
-        },
-        Row {
-            role: Role::Active,
-            parts: &[CONFIRM],
-            code: 0x0002_0000,
-        },
-        Row {
-            role: Role::Passive,
-            parts: &[REQUEST, ASKED, FRAGMENT],
-            code: 0x0002_0000,
-        },
-        Row {
-            role: Role::Active,
-            parts: &[CONFIRM, GRANTED, TAKEN],
-            code: 0x0002_0000,
-        },
-
-        // What doesn't belong there.
-        Row {
-            role: Role::Active,
-            parts: &[REQUEST],
-            code: 0x0001_0000,
-        },
-        Row {
-            role: Role::Passive,
-            parts: &[CONFIRM],
-            code: 0x0001_0000,
-        },
-        Row {
-            role: Role::Passive,
-            parts: &[LEAVES],
-            code: 0x0001_0000,
-        },
-        Row {
-            role: Role::Active,
-            parts: &[CONFIRM, REQUEST],
-            code: 0x0003_0000,
-        },
-        Row {
-            role: Role::Passive,
-            parts: &[REQUEST, ASKED, REQUEST],
-            code: 0x0003_0000,
-        },
-        Row {
-            role: Role::Passive,
-            parts: &[b"\x04"],
-            code: 0x0003_0000,
-        },
-        Row {
-            role: Role::Passive,
-            parts: &[b"\x03\x00\x20\x08"],
-            code: 0x0008_0000,
-        },
-        Row {
-            role: Role::Active,
-            parts: &[REJECTS],
-            code: 0x0001_0000,
-        },
-        Row {
-            role: Role::Active,
-            parts: &[CONFIRM, REJECTS],
-            code: 0x0003_0000,
-        },
-        Row {
-            role: Role::Active,
-            parts: &[CONFIRM, GRANTED, CONFIRM],
-            code: 0x0003_0000,
-        },
-        Row {
-            role: Role::Passive,
-            parts: &[REQUEST, ASKED, BEGUN, REJECTS],
-            code: 0x0003_0000,
-        },
-        Row {
-            role: Role::Passive,
-            parts: &[REQUEST, ASKED, BEGUN, CONFIRM],
-            code: 0x0003_0000,
-        },
-
-        // A disconnect request.
-        Row {
-            role: Role::Active,
-            parts: &[CONFIRM, LEAVES],
-            code: 0x0002_0000,
-        },
-        Row {
-            role: Role::Passive,
-            parts: &[REQUEST, ASKED, LEAVES],
-            code: 0x0002_0000,
-        },
-        Row {
-            role: Role::Passive,
-            parts: &[REQUEST, ASKED, BEGUN, LEAVES],
-            code: 0x0002_0000,
-        },
-
-        // Messages: the negotiation, and then fragments and their acknowledgements.
-        Row {
-            role: Role::Passive,
-            parts: &[REQUEST, SHORT],
-            code: 0x0006_0000,
-        },
-        Row {
-            role: Role::Passive,
-            parts: &[REQUEST, ASKED, SHORT],
-            code: 0x0006_0000,
-        },
-        Row {
-            role: Role::Passive,
-            parts: &[REQUEST, FRAGMENT],
-            code: 0x0010_0000,
-        },
-        Row {
-            role: Role::Passive,
-            parts: &[REQUEST, TOO_SMALL],
-            code: 0x0010_0000,
-        },
-        Row {
-            role: Role::Active,
-            parts: &[CONFIRM, ASKED],
-            code: 0x0080_0000,
-        },
-        Row {
-            role: Role::Active,
-            parts: &[CONFIRM, GRANTED, TAKEN_OTHER],
-            code: 0x0080_0000,
-        },
-        Row {
-            role: Role::Active,
-            parts: &[CONFIRM, GRANTED, TAKEN_SECOND],
-            code: 0x0080_0000,
-        },
-        Row {
-            role: Role::Active,
-            parts: &[CONFIRM, GRANTED, TAKEN, TAKEN],
-            code: 0x0080_0000,
-        },
-        Row {
-            role: Role::Active,
-            parts: &[CONFIRM, TAKEN],
-            code: 0x0080_0000,
-        },
-        Row {
-            role: Role::Passive,
-            parts: &[REQUEST, TAKEN],
-            code: 0x0010_0000,
-        },
-        Row {
-            role: Role::Passive,
-            parts: &[REQUEST, ASKED, PASSING],
-            code: 0x0080_0000,
-        },
-        Row {
-            role: Role::Passive,
-            parts: &[REQUEST, ASKED, ASKED],
-            code: 0x0080_0000,
-        },
-        Row {
-            role: Role::Passive,
-            parts: &[REQUEST, ASKED, ENDED],
-            code: 0x0080_0000,
-        },
-        Row {
-            role: Role::Passive,
-            parts: &[REQUEST, ASKED, BEGUN, FRAGMENT],
-            code: 0x0080_0000,
-        },
-        Row {
-            role: Role::Passive,
-            parts: &[REQUEST, ASKED, BEGUN, OF_ANOTHER_SEND],
-            code: 0x0080_0000,
-        },
-        Row {
-            role: Role::Passive,
-            parts: &[REQUEST, ASKED, BEGUN, OF_ANOTHER_BLOCK],
-            code: 0x0080_0000,
-        },
-        Row {
-            role: Role::Passive,
-            parts: &[REQUEST, ASKED, BEGUN, TOO_FEW],
-            code: 0x0080_0000,
-        },
-        Row {
-            role: Role::Passive,
-            parts: &[REQUEST, ASKED, BEGUN, NONE_AND_MORE],
-            code: 0x0080_0000,
-        },
-    ];
-    for (k, row) in rows.iter().enumerate() {
-        let mut partner = partner(alloc, row.role, 480)?;
-        assert!(rt; given(&mut partner, alloc, 1, &[0xAA, 0xBB, 0xCC])?);
-        let mut link = line(alloc, row.parts)?;
-        assert!(rt;
-            has_code(&last_event(&mut partner, alloc, &mut link)?, row.code),
-            "row {k}"
-        );
-        assert_eq!(rt; partner.closed(), Some(row.code));
+    for (k, row) in CLOSING.iter().enumerate() {
+        assert!(rt; closes_so(rt.alloc(), row)?, "row {k}");
     }
     Ok(())
 }
 
+/// The next polls tell this, one after another, and then these octets were written on the link.
+fn sends(
+    partner: &mut Partner,
+    alloc: Global,
+    link: &mut MemoryLink,
+    all: &[Told<'_>],
+    parts: &[&[u8]],
+) -> Result<bool, Memory> {
+    Ok(tells(partner, alloc, link, all)? && has_written(alloc, link, parts)?)
+}
+
+/// The octets were written on the link.
+fn has_written(alloc: Global, link: &MemoryLink, parts: &[&[u8]]) -> Result<bool, Memory> {
+    let wanted = line_of(alloc, parts)?;
+    Ok(link.written() == wanted.as_slice())
+}
+
+const ACTIVE: &[Told<'static>] = &[
+    Told::Sent,
+    Told::Received(1, ABC),
+    Told::Closed(0x0002_0000),
+];
+
 #[test]
 fn an_active_partner_sends_these_octets(rt: HostRuntime) -> Result<(), Fail> {
-    let alloc = rt.alloc();
-    let mut active = partner(alloc, Role::Active, 480)?;
-    assert!(rt; given(&mut active, alloc, 1, &[0xAA, 0xBB, 0xCC])?);
-    let mut link = line(alloc, &[CONFIRM, GRANTED, TAKEN, FRAGMENT])?;
-    assert!(rt; is_sent(&active.poll(alloc, &mut link)?));
-    assert!(rt; is_received(&active.poll(alloc, &mut link)?, 1, &[0xAA, 0xBB, 0xCC]));
-    assert!(rt; has_code(&active.poll(alloc, &mut link)?, 0x0002_0000));
-    let wanted = line_of(alloc, &[REQUEST, ASKED, FRAGMENT, TAKEN])?;
-    assert_eq!(rt; link.written(), wanted.as_slice());
+    let mut active = sender(rt.alloc(), Role::Active)?;
+    let mut link = line(rt.alloc(), &[CONFIRM, GRANTED, TAKEN, FRAGMENT])?;
+    let written = [REQUEST, ASKED, FRAGMENT, TAKEN];
+    assert!(rt; sends(&mut active, rt.alloc(), &mut link, ACTIVE, &written)?);
     Ok(())
 }
 
+const PASSIVE: &[Told<'static>] = &[Told::Received(1, ABC), Told::Closed(0x0002_0000)];
+
 #[test]
 fn a_passive_partner_sends_these_octets(rt: HostRuntime) -> Result<(), Fail> {
-    let alloc = rt.alloc();
-    let mut passive = partner(alloc, Role::Passive, 480)?;
-    let mut link = line(alloc, &[REQUEST, ASKED, FRAGMENT])?;
-    assert!(rt; is_received(&passive.poll(alloc, &mut link)?, 1, &[0xAA, 0xBB, 0xCC]));
-    assert!(rt; has_code(&passive.poll(alloc, &mut link)?, 0x0002_0000));
-    let wanted = line_of(alloc, &[CONFIRM, GRANTED, TAKEN])?;
-    assert_eq!(rt; link.written(), wanted.as_slice());
+    let mut passive = partner(rt.alloc(), Role::Passive, 480)?;
+    let mut link = line(rt.alloc(), &[REQUEST, ASKED, FRAGMENT])?;
+    let written = [CONFIRM, GRANTED, TAKEN];
+    assert!(rt; sends(&mut passive, rt.alloc(), &mut link, PASSIVE, &written)?);
     Ok(())
+}
+
+/// The last fragment is acknowledged by the poll behind the one that hands the block out. That poll reads that nothing
+/// was sent that is acknowledged.
+fn joins(passive: &mut Partner, alloc: Global, link: &mut MemoryLink) -> Result<bool, Memory> {
+    let whole = [Told::Received(1, &[0xAA, 0xBB, 0xCC, 0xDD])];
+    let closed = [Told::Closed(0x0080_0000)];
+    let written = [CONFIRM, GRANTED, TAKEN, TAKEN_THIRD];
+    Ok(
+        sends(passive, alloc, link, &whole, &written[..3])?
+            && sends(passive, alloc, link, &closed, &written)?,
+    )
 }
 
 #[test]
 fn fragments_are_joined(rt: HostRuntime) -> Result<(), Fail> {
-    let alloc = rt.alloc();
-    let mut passive = partner(alloc, Role::Passive, 480)?;
-    let mut link = line(alloc, &[REQUEST, ASKED, BEGUN, ENDED, TAKEN])?;
-    assert!(rt;
-        is_received(
-            &passive.poll(alloc, &mut link)?,
-            1,
-            &[0xAA, 0xBB, 0xCC, 0xDD]
-        )
-    );
-    let wanted = line_of(alloc, &[CONFIRM, GRANTED, TAKEN])?;
-    assert_eq!(rt; link.written(), wanted.as_slice());
-
-    // The last fragment is acknowledged by the next poll, which reads that nothing was sent that is acknowledged.
-    assert!(rt; has_code(&passive.poll(alloc, &mut link)?, 0x0080_0000));
-    let wanted = line_of(alloc, &[CONFIRM, GRANTED, TAKEN, TAKEN_THIRD])?;
-    assert_eq!(rt; link.written(), wanted.as_slice());
+    let mut passive = partner(rt.alloc(), Role::Passive, 480)?;
+    let mut link = line(rt.alloc(), &[REQUEST, ASKED, BEGUN, ENDED, TAKEN])?;
+    assert!(rt; joins(&mut passive, rt.alloc(), &mut link)?);
     Ok(())
 }
 
@@ -473,71 +539,75 @@ fn line_of(alloc: Global, parts: &[&[u8]]) -> Result<Vec<u8>, Memory> {
 /// How many calls of a link have a fate.
 const CALLS: usize = 8;
 
-/// Fates of which one is this, behind so many calls that pass.
-fn fates(alloc: Global, passed: usize, fate: Fate) -> Result<Vec<Fate>, Memory> {
+/// A link that gives all at once to an active partner, one of whose calls has this fate, behind so many that pass.
+fn line_with(alloc: Global, passed: usize, fate: Fate) -> Result<FailingLink<MemoryLink>, Memory> {
     let mut fates = [Fate::Pass; CALLS];
     if passed < CALLS {
         fates[passed] = fate;
     }
-    Ok(fates.to_vec(alloc)?)
+    let inner = line(alloc, &[CONFIRM, GRANTED, TAKEN, FRAGMENT])?;
+    Ok(FailingLink::new(inner, fates.to_vec(alloc)?))
+}
+
+/// The numbers that an active partner closes with where one of its link's calls fails: the request goes out, then all
+/// is received, the negotiation and the fragment go out, and behind the acknowledgement of the fragment that came the
+/// end is received.
+const FAILURES: &[u32] = &[
+    0x0009_0000,
+    0x000A_0000,
+    0x0009_0000,
+    0x0009_0000,
+    0x0009_0000,
+    0x000A_0000,
+    0x0002_0000,
+];
+
+/// The call behind so many fails, and the partner closes with this number.
+fn fails(alloc: Global, passed: usize, code: u32) -> Result<bool, Memory> {
+    let mut partner = sender(alloc, Role::Active)?;
+    let mut link = line_with(alloc, passed, Fate::Fail)?;
+    closes(&mut partner, alloc, &mut link, code)
 }
 
 #[test]
 fn links_fail(rt: HostRuntime) -> Result<(), Fail> {
-    let alloc = rt.alloc();
-
-    // The calls of a link that gives all at once: the request goes out, then all is received, the negotiation and the
-    // fragment go out, and behind the acknowledgement of the fragment that came the end is received.
-    let codes = [
-        0x0009_0000,
-        0x000A_0000,
-        0x0009_0000,
-        0x0009_0000,
-        0x0009_0000,
-        0x000A_0000,
-        0x0002_0000,
-    ];
-    for (k, code) in codes.iter().enumerate() {
-        let mut partner = partner(alloc, Role::Active, 480)?;
-        assert!(rt; given(&mut partner, alloc, 1, &[0xAA, 0xBB, 0xCC])?);
-        let inner = line(alloc, &[CONFIRM, GRANTED, TAKEN, FRAGMENT])?;
-        let mut link = FailingLink::new(inner, fates(alloc, k, Fate::Fail)?);
-        assert!(rt;
-            has_code(&last_event(&mut partner, alloc, &mut link)?, *code),
-            "call {k}"
-        );
+    for (k, code) in FAILURES.iter().enumerate() {
+        assert!(rt; fails(rt.alloc(), k, *code)?, "call {k}");
     }
     Ok(())
 }
 
+/// What an active partner tells where one of the same calls has nothing to give, or no room. While the block isn't
+/// acknowledged that is pending, and behind the block that was received all is idle.
+const LATE: &[Told<'static>] = &[
+    Told::Pending,
+    Told::Sent,
+    Told::Received(1, ABC),
+    Told::Closed(0x0002_0000),
+];
+
+const LATER: &[Told<'static>] = &[
+    Told::Sent,
+    Told::Received(1, ABC),
+    Told::Idle,
+    Told::Closed(0x0002_0000),
+];
+
+/// The call behind so many waits, and the octets are the same.
+fn waits(alloc: Global, passed: usize, all: &[Told<'_>]) -> Result<bool, Memory> {
+    let mut partner = sender(alloc, Role::Active)?;
+    let mut link = line_with(alloc, passed, Fate::NotYet)?;
+    Ok(
+        tells(&mut partner, alloc, &mut link, all)?
+            && has_written(alloc, link.inner(), &[REQUEST, ASKED, FRAGMENT, TAKEN])?,
+    )
+}
+
 #[test]
 fn links_wait(rt: HostRuntime) -> Result<(), Fail> {
-    let alloc = rt.alloc();
-
-    // One of the same calls has nothing to give, or no room, and the octets are the same. While the block isn't
-    // acknowledged that is pending, and behind the block that was received all is idle.
     for k in 0..6 {
-        let mut partner = partner(alloc, Role::Active, 480)?;
-        assert!(rt; given(&mut partner, alloc, 1, &[0xAA, 0xBB, 0xCC])?);
-        let inner = line(alloc, &[CONFIRM, GRANTED, TAKEN, FRAGMENT])?;
-        let mut link = FailingLink::new(inner, fates(alloc, k, Fate::NotYet)?);
-        if k < 4 {
-            assert!(rt; is_pending(&partner.poll(alloc, &mut link)?), "call {k}");
-        }
-        assert!(rt; is_sent(&partner.poll(alloc, &mut link)?), "call {k}");
-        assert!(rt;
-            is_received(&partner.poll(alloc, &mut link)?, 1, &[0xAA, 0xBB, 0xCC]),
-            "call {k}"
-        );
-        if k >= 4 {
-            assert!(rt; is_idle(&partner.poll(alloc, &mut link)?), "call {k}");
-        }
-        assert!(rt;
-            has_code(&partner.poll(alloc, &mut link)?, 0x0002_0000),
-            "call {k}"
-        );
-        let wanted = line_of(alloc, &[REQUEST, ASKED, FRAGMENT, TAKEN])?;
-        assert_eq!(rt; link.inner().written(), wanted.as_slice());
+        let all = if k < 4 { LATE } else { LATER };
+        assert!(rt; waits(rt.alloc(), k, all)?, "call {k}");
     }
     Ok(())
 }
