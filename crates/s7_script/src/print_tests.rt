@@ -48,90 +48,109 @@ fn prints(alloc: Global, line: u32, done: &JobResult, expected: &str) -> Result<
     Ok(text.as_slice() == expected.as_bytes())
 }
 
+fn prints_read(
+    alloc: Global,
+    line: u32,
+    code: u32,
+    octets: &[u8],
+    expected: &str,
+) -> Result<bool, Memory> {
+    let done = of_one(alloc, Job::ReadArea { item: bytes(4) }, code, octets)?;
+    prints(alloc, line, &done, expected)
+}
+
 #[test]
 fn reads(rt: HostRuntime) -> Result<(), Fail> {
     let alloc = rt.alloc();
-    let four: &[u8] = &[0x11, 0x22, 0x3A, 0xFF];
-    for (line, code, octets, expected) in [
-        (
-            4_294_967_295,
-            0,
-            four,
-            "4294967295 read 00000000 11223aff\n",
-        ),
-        (1, 0x0080_0000, &[], "1 read 00800000 -\n"),
-        (12, 0, &[], "12 read 00000000 -\n"),
-    ] {
-        let job = Job::ReadArea { item: bytes(4) };
-        let done = of_one(alloc, job, code, octets)?;
-        assert!(rt; prints(alloc, line, &done, expected)?);
-    }
+    let four = [0x11, 0x22, 0x3A, 0xFF];
+    let expected = "4294967295 read 00000000 11223aff\n";
+    assert!(rt; prints_read(alloc, 4_294_967_295, 0, &four, expected)?);
+    assert!(rt; prints_read(alloc, 1, 0x0080_0000, &[], "1 read 00800000 -\n")?);
+    assert!(rt; prints_read(alloc, 12, 0, &[], "12 read 00000000 -\n")?);
     Ok(())
+}
+
+fn prints_write(alloc: Global, line: u32, code: u32, expected: &str) -> Result<bool, Memory> {
+    let octets = octets(alloc, &[9])?;
+    let item = bytes(1);
+    let done = of_one(alloc, Job::WriteArea { item, octets }, code, &[])?;
+    prints(alloc, line, &done, expected)
 }
 
 #[test]
 fn writes(rt: HostRuntime) -> Result<(), Fail> {
     let alloc = rt.alloc();
-    for (line, code, expected) in [
-        (3, 0, "3 write 00000000 -\n"),
-        (10, 0x0000_000A, "10 write 0000000A -\n"),
-    ] {
-        let octets = octets(alloc, &[9])?;
-        let item = bytes(1);
-        let done = of_one(alloc, Job::WriteArea { item, octets }, code, &[])?;
-        assert!(rt; prints(alloc, line, &done, expected)?);
-    }
+    assert!(rt; prints_write(alloc, 3, 0, "3 write 00000000 -\n")?);
+    assert!(rt; prints_write(alloc, 10, 0x0000_000A, "10 write 0000000A -\n")?);
     Ok(())
+}
+
+fn prints_connect(alloc: Global, line: u32, code: u32, expected: &str) -> Result<bool, Memory> {
+    let done = of_one(alloc, Job::Connect, code, &[])?;
+    prints(alloc, line, &done, expected)
+}
+
+fn prints_disconnect(alloc: Global, line: u32, code: u32, expected: &str) -> Result<bool, Memory> {
+    let done = of_one(alloc, Job::Disconnect, code, &[])?;
+    prints(alloc, line, &done, expected)
 }
 
 #[test]
 fn connections(rt: HostRuntime) -> Result<(), Fail> {
     let alloc = rt.alloc();
-    let done = of_one(alloc, Job::Connect, 0, &[])?;
-    assert!(rt; prints(alloc, 0, &done, "0 connect 00000000 -\n")?);
-    let done = of_one(alloc, Job::Disconnect, 0xFEDC_BA98, &[])?;
-    assert!(rt; prints(alloc, 4, &done, "4 disconnect FEDCBA98 -\n")?);
+    assert!(rt; prints_connect(alloc, 0, 0, "0 connect 00000000 -\n")?);
+    assert!(rt; prints_disconnect(alloc, 4, 0xFEDC_BA98, "4 disconnect FEDCBA98 -\n")?);
     Ok(())
+}
+
+fn prints_list(alloc: Global, octets: &[u8], expected: &str) -> Result<bool, Memory> {
+    let job = Job::Szl {
+        id: 0x0011,
+        index: 0,
+    };
+    let done = of_one(alloc, job, 0, octets)?;
+    prints(alloc, 5, &done, expected)
 }
 
 #[test]
 fn status_lists(rt: HostRuntime) -> Result<(), Fail> {
-    let alloc = rt.alloc();
-    let image: &[u8] = &[0x00, 0x11, 0x00, 0x00, 0x00, 0x02, 0x00, 0x01, 0xAB, 0xC0];
-    for (octets, expected) in [
-        (image, "5 szl 00000000 0011000000020001abc0\n"),
-        (&[], "5 szl 00000000 -\n"),
-    ] {
-        let job = Job::Szl {
-            id: 0x0011,
-            index: 0,
-        };
-        let done = of_one(alloc, job, 0, octets)?;
-        assert!(rt; prints(alloc, 5, &done, expected)?);
-    }
+    let image = [0x00, 0x11, 0x00, 0x00, 0x00, 0x02, 0x00, 0x01, 0xAB, 0xC0];
+    let expected = "5 szl 00000000 0011000000020001abc0\n";
+    assert!(rt; prints_list(rt.alloc(), &image, expected)?);
+    assert!(rt; prints_list(rt.alloc(), &[], "5 szl 00000000 -\n")?);
     Ok(())
+}
+
+const CLOCKS: &[([u8; 10], &str)] = &[
+    (
+        [0x00, 0x19, 0x24, 0x02, 0x29, 0x13, 0x45, 0x30, 0x12, 0x35],
+        "7 clock 00000000 2024-02-29T13:45:30.123\n",
+    ),
+    (
+        [0x00, 0x19, 0x90, 0x01, 0x01, 0x00, 0x00, 0x00, 0x00, 0x02],
+        "7 clock 00000000 1990-01-01T00:00:00.000\n",
+    ),
+    (
+        [0x00, 0x19, 0x89, 0x12, 0x31, 0x23, 0x59, 0x59, 0x99, 0x97],
+        "7 clock 00000000 2089-12-31T23:59:59.999\n",
+    ),
+];
+
+fn prints_clock(alloc: Global, octets: &[u8], expected: &str) -> Result<bool, Memory> {
+    if from_octets(octets).is_err() {
+        return Ok(false);
+    }
+    let done = of_one(alloc, Job::ClockRead, 0, octets)?;
+    prints(alloc, 7, &done, expected)
 }
 
 #[test]
 fn clocks(rt: HostRuntime) -> Result<(), Fail> {
-    let alloc = rt.alloc();
-    for (octets, expected) in [
-        (
-            [0x00, 0x19, 0x24, 0x02, 0x29, 0x13, 0x45, 0x30, 0x12, 0x35],
-            "7 clock 00000000 2024-02-29T13:45:30.123\n",
-        ),
-        (
-            [0x00, 0x19, 0x90, 0x01, 0x01, 0x00, 0x00, 0x00, 0x00, 0x02],
-            "7 clock 00000000 1990-01-01T00:00:00.000\n",
-        ),
-        (
-            [0x00, 0x19, 0x89, 0x12, 0x31, 0x23, 0x59, 0x59, 0x99, 0x97],
-            "7 clock 00000000 2089-12-31T23:59:59.999\n",
-        ),
-    ] {
-        assert!(rt; from_octets(octets.as_slice()).is_ok());
-        let done = of_one(alloc, Job::ClockRead, 0, octets.as_slice())?;
-        assert!(rt; prints(alloc, 7, &done, expected)?);
+    for (octets, expected) in CLOCKS {
+        assert!(rt;
+            prints_clock(rt.alloc(), octets.as_slice(), expected)?,
+            "{expected:?}"
+        );
     }
     Ok(())
 }
@@ -147,68 +166,105 @@ fn run_state(mode: u8) -> [u8; 28] {
     image
 }
 
+fn prints_mode(alloc: Global, mode: u8, expected: &str) -> Result<bool, Memory> {
+    let image = run_state(mode);
+    if read_mode(image.as_slice()).is_none() {
+        return Ok(false);
+    }
+    let done = of_one(alloc, Job::Status, 0, image.as_slice())?;
+    prints(alloc, 8, &done, expected)
+}
+
 #[test]
 fn run_states(rt: HostRuntime) -> Result<(), Fail> {
-    let alloc = rt.alloc();
-    for (mode, expected) in [
-        (0x08, "8 status 00000000 run\n"),
-        (0x04, "8 status 00000000 stop\n"),
-    ] {
-        let image = run_state(mode);
-        assert!(rt; read_mode(image.as_slice()).is_some());
-        let done = of_one(alloc, Job::Status, 0, image.as_slice())?;
-        assert!(rt; prints(alloc, 8, &done, expected)?);
-    }
+    assert!(rt; prints_mode(rt.alloc(), 0x08, "8 status 00000000 run\n")?);
+    assert!(rt; prints_mode(rt.alloc(), 0x04, "8 status 00000000 stop\n")?);
     Ok(())
+}
+
+fn prints_start(alloc: Global, line: u32, code: u32, expected: &str) -> Result<bool, Memory> {
+    let done = of_one(alloc, Job::Start, code, &[])?;
+    prints(alloc, line, &done, expected)
+}
+
+fn prints_cold_start(alloc: Global, line: u32, code: u32, expected: &str) -> Result<bool, Memory> {
+    let done = of_one(alloc, Job::ColdStart, code, &[])?;
+    prints(alloc, line, &done, expected)
 }
 
 #[test]
 fn starts(rt: HostRuntime) -> Result<(), Fail> {
     let alloc = rt.alloc();
-    let done = of_one(alloc, Job::Start, 0, &[])?;
-    assert!(rt; prints(alloc, 9, &done, "9 start 00000000 -\n")?);
-    let done = of_one(alloc, Job::Start, 0x00F0_0000, &[])?;
-    assert!(rt; prints(alloc, 9, &done, "9 start 00F00000 -\n")?);
-    let done = of_one(alloc, Job::ColdStart, 0, &[])?;
-    assert!(rt; prints(alloc, 9, &done, "9 coldstart 00000000 -\n")?);
+    assert!(rt; prints_start(alloc, 9, 0, "9 start 00000000 -\n")?);
+    assert!(rt; prints_start(alloc, 9, 0x00F0_0000, "9 start 00F00000 -\n")?);
+    assert!(rt; prints_cold_start(alloc, 9, 0, "9 coldstart 00000000 -\n")?);
     Ok(())
+}
+
+fn prints_stop(alloc: Global, line: u32, code: u32, expected: &str) -> Result<bool, Memory> {
+    let done = of_one(alloc, Job::Stop, code, &[])?;
+    prints(alloc, line, &done, expected)
+}
+
+fn prints_compress(alloc: Global, line: u32, code: u32, expected: &str) -> Result<bool, Memory> {
+    let done = of_one(alloc, Job::Compress, code, &[])?;
+    prints(alloc, line, &done, expected)
+}
+
+fn prints_copy(alloc: Global, line: u32, code: u32, expected: &str) -> Result<bool, Memory> {
+    let done = of_one(alloc, Job::CopyRam, code, &[])?;
+    prints(alloc, line, &done, expected)
 }
 
 #[test]
 fn other_controls(rt: HostRuntime) -> Result<(), Fail> {
     let alloc = rt.alloc();
-    let done = of_one(alloc, Job::Stop, 0, &[])?;
-    assert!(rt; prints(alloc, 10, &done, "10 stop 00000000 -\n")?);
-    let done = of_one(alloc, Job::Compress, 0, &[])?;
-    assert!(rt; prints(alloc, 10, &done, "10 compress 00000000 -\n")?);
-    let done = of_one(alloc, Job::CopyRam, 0, &[])?;
-    assert!(rt; prints(alloc, 10, &done, "10 copy 00000000 -\n")?);
+    assert!(rt; prints_stop(alloc, 10, 0, "10 stop 00000000 -\n")?);
+    assert!(rt; prints_compress(alloc, 10, 0, "10 compress 00000000 -\n")?);
+    assert!(rt; prints_copy(alloc, 10, 0, "10 copy 00000000 -\n")?);
     Ok(())
+}
+
+fn prints_password(
+    alloc: Global,
+    line: u32,
+    password: &[u8],
+    expected: &str,
+) -> Result<bool, Memory> {
+    let text = octets(alloc, password)?;
+    let done = of_one(alloc, Job::PasswordSet { text }, 0, &[])?;
+    prints(alloc, line, &done, expected)
+}
+
+fn prints_setting(alloc: Global, line: u32, code: u32, expected: &str) -> Result<bool, Memory> {
+    let done = of_one(alloc, Job::ClockSet { moment: 0 }, code, &[])?;
+    prints(alloc, line, &done, expected)
+}
+
+fn prints_clear(alloc: Global, line: u32, code: u32, expected: &str) -> Result<bool, Memory> {
+    let done = of_one(alloc, Job::PasswordClear, code, &[])?;
+    prints(alloc, line, &done, expected)
 }
 
 #[test]
 fn settings(rt: HostRuntime) -> Result<(), Fail> {
     let alloc = rt.alloc();
-    let done = of_one(alloc, Job::ClockSet { moment: 0 }, 0, &[])?;
-    assert!(rt; prints(alloc, 11, &done, "11 setclock 00000000 -\n")?);
-    let text = octets(alloc, b"secret")?;
-    let done = of_one(alloc, Job::PasswordSet { text }, 0, &[])?;
-    assert!(rt; prints(alloc, 11, &done, "11 password 00000000 -\n")?);
-    let done = of_one(alloc, Job::PasswordClear, 0, &[])?;
-    assert!(rt; prints(alloc, 11, &done, "11 clearpassword 00000000 -\n")?);
+    assert!(rt; prints_setting(alloc, 11, 0, "11 setclock 00000000 -\n")?);
+    assert!(rt; prints_password(alloc, 11, b"secret", "11 password 00000000 -\n")?);
+    assert!(rt; prints_clear(alloc, 11, 0, "11 clearpassword 00000000 -\n")?);
     Ok(())
+}
+
+fn prints_refused(alloc: Global, job: Job, expected: &str) -> Result<bool, Memory> {
+    let done = of_one(alloc, job, 1, &[])?;
+    prints(alloc, 9, &done, expected)
 }
 
 #[test]
 fn refused_questions(rt: HostRuntime) -> Result<(), Fail> {
     let alloc = rt.alloc();
-    for (job, expected) in [
-        (Job::ClockRead, "9 clock 00000001 -\n"),
-        (Job::Status, "9 status 00000001 -\n"),
-    ] {
-        let done = of_one(alloc, job, 1, &[])?;
-        assert!(rt; prints(alloc, 9, &done, expected)?);
-    }
+    assert!(rt; prints_refused(alloc, Job::ClockRead, "9 clock 00000001 -\n")?);
+    assert!(rt; prints_refused(alloc, Job::Status, "9 status 00000001 -\n")?);
     Ok(())
 }
 
@@ -247,13 +303,21 @@ fn three_written(alloc: Global) -> Result<JobResult, Memory>
     })
 }
 
+fn prints_two(alloc: Global, line: u32, expected: &str) -> Result<bool, Memory> {
+    let done = two_read(alloc)?;
+    prints(alloc, line, &done, expected)
+}
+
+fn prints_three(alloc: Global, line: u32, expected: &str) -> Result<bool, Memory> {
+    let done = three_written(alloc)?;
+    prints(alloc, line, &done, expected)
+}
+
 #[test]
 fn jobs_of_several_items(rt: HostRuntime) -> Result<(), Fail> {
     let alloc = rt.alloc();
-    let done = two_read(alloc)?;
-    assert!(rt; prints(alloc, 2, &done, "2 readmany 00000000 FF:11 0A:\n")?);
-    let done = three_written(alloc)?;
-    assert!(rt; prints(alloc, 3, &done, "3 writemany 00000000 FF 05 FF\n")?);
+    assert!(rt; prints_two(alloc, 2, "2 readmany 00000000 FF:11 0A:\n")?);
+    assert!(rt; prints_three(alloc, 3, "3 writemany 00000000 FF 05 FF\n")?);
     Ok(())
 }
 
