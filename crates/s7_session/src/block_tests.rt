@@ -1,9 +1,9 @@
 // Blocks, from octets to octets.
 
 use super::*;
-use crate::tests::{CONFIRM, CONNECT, Desk, guard, some_areas};
-use crate::user_tests::{GRANTED_64, SETUP_64, in_packets};
-use s7_outer::{Memory, MemoryLink, Octets};
+use crate::tests::{SITE, SITE_2, SITE_3, Talk, answers, is_answered};
+use crate::user_tests::{GRANTED_64, SETUP_64};
+use s7_outer::Memory;
 use std::alloc::Global;
 use std::sync::Wait;
 use std::test::Fail;
@@ -141,373 +141,327 @@ const UNREADABLE: &[u8] = b"\x32\x02\x00\x00\x00\x11\x00\x00\x00\x00\x84\x04";
 
 const NOT_ALLOWED: &[u8] = b"\x32\x02\x00\x00\x00\x11\x00\x00\x00\x00\x8F\x03";
 
-/// What comes on a link to areas that are guarded at this level, message by message behind the negotiation of PDU 64,
-/// what goes out, and how many entries are made.
-#[derive(Drop)]
-struct Talk<'a> {
-    level: u8,
-    asked: &'a [&'a [u8]],
-    answered: &'a [&'a [u8]],
-    entries: u64,
-}
-
-/// The link is served to its end as the talk says.
-fn is_answered<R: Wait + Clock>(rt: &R, alloc: Global, talk: &Talk<'_>) -> Result<bool, Memory> {
-    let mut input = in_packets(alloc, CONNECT, &[SETUP_64])?;
-    input.extend_from_slice(&in_packets(alloc, &[], talk.asked)?)?;
-    let mut output = in_packets(alloc, CONFIRM, &[GRANTED_64])?;
-    output.extend_from_slice(&in_packets(alloc, &[], talk.answered)?)?;
-    let mut line = MemoryLink::new(alloc, Octets::of_vec(input), 8_192, 4_096, 0)?;
-    let guard = guard(talk.level);
-    let mut areas = some_areas(alloc)?;
-    areas.set_guard(guard);
-    let mut desk = Desk::over(alloc, areas, 9)?;
-    let mut session = Session::new(alloc, 1, guard)?;
-    let outcome = session.serve(rt, alloc, &mut line, &mut desk);
-    Ok(
-        outcome == Outcome::Ended
-            && line.written() == output.as_slice()
-            && session.entries() == talk.entries,
-    )
-}
-
-/// Each talk goes so.
-fn are_answered<R: Wait + Clock>(
-    rt: &R,
-    alloc: Global,
-    talks: &[Talk<'_>],
-) -> Result<bool, Memory> {
-    for talk in talks {
-        if !is_answered(rt, alloc, talk)? {
-            return Ok(false);
-        }
-    }
-    Ok(true)
-}
+const LOADED: &[Talk<'static>] = &[
+    Talk {
+        site: SITE,
+        asked: &[
+            SETUP_64, LIST, ANNOUNCE, PIECE_1, PIECE_2, CLOSED, INSERT, UPLOAD, SLICE, SLICE, END,
+            END, DELETE, DELETE,
+        ],
+        answered: &[
+            GRANTED_64,
+            NONE_LISTED,
+            ANNOUNCED,
+            ASKED_1,
+            ASKED_2,
+            CLOSE,
+            INSERTED,
+            UPLOADED_1,
+            SLICED,
+            NOT_SLICED,
+            ENDED,
+            NOT_ENDED,
+            DELETED,
+            NOT_DELETED,
+        ],
+        entries: 5,
+    },
+    // The download stays held behind an insert, and an insert may come before the close is answered.
+    Talk {
+        site: SITE,
+        asked: &[
+            SETUP_64, ANNOUNCE, PIECE_1, PIECE_2, INSERT, DELETE, INSERT, LIST,
+        ],
+        answered: &[
+            GRANTED_64, ANNOUNCED, ASKED_1, ASKED_2, CLOSE, INSERTED, DELETED, INSERTED, ONE_LISTED,
+        ],
+        entries: 4,
+    },
+    // An upload that is started anew has the next id, and one that isn't started leaves the one that is held.
+    Talk {
+        site: SITE,
+        asked: &[
+            SETUP_64, ANNOUNCE, PIECE_1, PIECE_2, CLOSED, INSERT, UPLOAD, UPLOAD, SLICE, END,
+            DELETE, UPLOAD, SLICE_2,
+        ],
+        answered: &[
+            GRANTED_64,
+            ANNOUNCED,
+            ASKED_1,
+            ASKED_2,
+            CLOSE,
+            INSERTED,
+            UPLOADED_1,
+            UPLOADED_2,
+            NOT_SLICED,
+            NOT_ENDED,
+            DELETED,
+            NOT_UPLOADED,
+            SLICED,
+        ],
+        entries: 5,
+    },
+];
 
 #[test]
 fn a_block_is_loaded_and_deleted(rt: HostRuntime) -> Result<(), Fail> {
-    let talks = [
-        Talk {
-            level: 1,
-            asked: &[
-                LIST, ANNOUNCE, PIECE_1, PIECE_2, CLOSED, INSERT, UPLOAD, SLICE, SLICE, END, END,
-                DELETE, DELETE,
-            ],
-            answered: &[
-                NONE_LISTED,
-                ANNOUNCED,
-                ASKED_1,
-                ASKED_2,
-                CLOSE,
-                INSERTED,
-                UPLOADED_1,
-                SLICED,
-                NOT_SLICED,
-                ENDED,
-                NOT_ENDED,
-                DELETED,
-                NOT_DELETED,
-            ],
-            entries: 5,
-        },
-        // The download stays held behind an insert, and an insert may come before the close is answered.
-        Talk {
-            level: 1,
-            asked: &[ANNOUNCE, PIECE_1, PIECE_2, INSERT, DELETE, INSERT, LIST],
-            answered: &[
-                ANNOUNCED, ASKED_1, ASKED_2, CLOSE, INSERTED, DELETED, INSERTED, ONE_LISTED,
-            ],
-            entries: 4,
-        },
-        // An upload that is started anew has the next id, and one that isn't started leaves the one that is held.
-        Talk {
-            level: 1,
-            asked: &[
-                ANNOUNCE, PIECE_1, PIECE_2, CLOSED, INSERT, UPLOAD, UPLOAD, SLICE, END, DELETE,
-                UPLOAD, SLICE_2,
-            ],
-            answered: &[
-                ANNOUNCED,
-                ASKED_1,
-                ASKED_2,
-                CLOSE,
-                INSERTED,
-                UPLOADED_1,
-                UPLOADED_2,
-                NOT_SLICED,
-                NOT_ENDED,
-                DELETED,
-                NOT_UPLOADED,
-                SLICED,
-            ],
-            entries: 5,
-        },
-    ];
-    assert!(rt; are_answered(&rt, rt.alloc(), &talks)?);
-    Ok(())
+    answers(&rt, rt.alloc(), LOADED)
 }
+
+const GUARDED: &[Talk<'static>] = &[
+    // What isn't held isn't allowed, whatever the right.
+    Talk {
+        site: SITE_2,
+        asked: &[
+            SETUP_64, INSERT, ANNOUNCE, PIECE_1, PIECE_2, CLOSED, INSERT, DELETE,
+        ],
+        answered: &[
+            GRANTED_64,
+            NOT_INSERTED,
+            ANNOUNCED,
+            ASKED_1,
+            ASKED_2,
+            CLOSE,
+            BARRED_INSERT,
+            BARRED_DELETE,
+        ],
+        entries: 2,
+    },
+    Talk {
+        site: SITE_3,
+        asked: &[SETUP_64, UPLOAD],
+        answered: &[GRANTED_64, BARRED_UPLOAD],
+        entries: 1,
+    },
+];
 
 #[test]
 fn a_guard_lets_nobody_load(rt: HostRuntime) -> Result<(), Fail> {
-    let talks = [
-        // What isn't held isn't allowed, whatever the right.
-        Talk {
-            level: 2,
-            asked: &[INSERT, ANNOUNCE, PIECE_1, PIECE_2, CLOSED, INSERT, DELETE],
-            answered: &[
-                NOT_INSERTED,
-                ANNOUNCED,
-                ASKED_1,
-                ASKED_2,
-                CLOSE,
-                BARRED_INSERT,
-                BARRED_DELETE,
-            ],
-            entries: 2,
-        },
-        Talk {
-            level: 3,
-            asked: &[UPLOAD],
-            answered: &[BARRED_UPLOAD],
-            entries: 1,
-        },
-    ];
-    assert!(rt; are_answered(&rt, rt.alloc(), &talks)?);
-    Ok(())
+    answers(&rt, rt.alloc(), GUARDED)
+}
+
+/// What comes in place of the last piece, and drops the download.
+const DROPPING: &[&[u8]] = &[
+    // It has an error word.
+    b"\
+        \x32\x03\x00\x00\x00\x02\x00\x02\x00\x20\x81\x04\x1B\x00\x00\x1C\x00\xFB\x00\x26\x00\x00\
+        \x00\x00\x00\x00\x00\x00\x00\x00\x00\x00\x00\x00\x00\x00\x00\x00\x00\x00\x00\x00\x00\x02\
+        \xAA\xBB",
+    // It is a refusal.
+    b"\x32\x02\x00\x00\x00\x02\x00\x00\x00\x00\x81\x04",
+    // It ends before its header does.
+    b"\x32\x03\x00\x00\x00\x02\x00\x00\x00\x00",
+    // Its lengths disagree.
+    b"\
+        \x32\x03\x00\x00\x00\x02\x00\x02\x00\x21\x00\x00\x1B\x00\x00\x1C\x00\xFB\x00\x26\x00\x00\
+        \x00\x00\x00\x00\x00\x00\x00\x00\x00\x00\x00\x00\x00\x00\x00\x00\x00\x00\x00\x00\x00\x02\
+        \xAA\xBB",
+    // Whether others follow isn't said by 00 or 01.
+    b"\
+        \x32\x03\x00\x00\x00\x02\x00\x02\x00\x20\x00\x00\x1B\x02\x00\x1C\x00\xFB\x00\x26\x00\x00\
+        \x00\x00\x00\x00\x00\x00\x00\x00\x00\x00\x00\x00\x00\x00\x00\x00\x00\x00\x00\x00\x00\x02\
+        \xAA\xBB",
+    // It has another function.
+    b"\
+        \x32\x03\x00\x00\x00\x02\x00\x02\x00\x20\x00\x00\x1C\x00\x00\x1C\x00\xFB\x00\x26\x00\x00\
+        \x00\x00\x00\x00\x00\x00\x00\x00\x00\x00\x00\x00\x00\x00\x00\x00\x00\x00\x00\x00\x00\x02\
+        \xAA\xBB",
+    // It has a third octet of parameters.
+    b"\
+        \x32\x03\x00\x00\x00\x02\x00\x03\x00\x20\x00\x00\x1B\x00\x00\x00\x1C\x00\xFB\x00\x26\x00\
+        \x00\x00\x00\x00\x00\x00\x00\x00\x00\x00\x00\x00\x00\x00\x00\x00\x00\x00\x00\x00\x00\x00\
+        \x02\xAA\xBB",
+    // The length of the octets is one less.
+    b"\
+        \x32\x03\x00\x00\x00\x02\x00\x02\x00\x20\x00\x00\x1B\x00\x00\x1B\x00\xFB\x00\x26\x00\x00\
+        \x00\x00\x00\x00\x00\x00\x00\x00\x00\x00\x00\x00\x00\x00\x00\x00\x00\x00\x00\x00\x00\x02\
+        \xAA\xBB",
+    // Other octets stand before the image's.
+    b"\
+        \x32\x03\x00\x00\x00\x02\x00\x02\x00\x20\x00\x00\x1B\x00\x00\x1C\x00\xFA\x00\x26\x00\x00\
+        \x00\x00\x00\x00\x00\x00\x00\x00\x00\x00\x00\x00\x00\x00\x00\x00\x00\x00\x00\x00\x00\x02\
+        \xAA\xBB",
+    // It is empty, and others follow.
+    b"\x32\x03\x00\x00\x00\x02\x00\x02\x00\x04\x00\x00\x1B\x01\x00\x00\x00\xFB",
+    // It is the last, and one octet lacks.
+    b"\
+        \x32\x03\x00\x00\x00\x02\x00\x02\x00\x1F\x00\x00\x1B\x00\x00\x1B\x00\xFB\x00\x26\x00\x00\
+        \x00\x00\x00\x00\x00\x00\x00\x00\x00\x00\x00\x00\x00\x00\x00\x00\x00\x00\x00\x00\x00\x02\
+        \xAA",
+    // It passes the length by an octet.
+    b"\
+        \x32\x03\x00\x00\x00\x02\x00\x02\x00\x21\x00\x00\x1B\x00\x00\x1D\x00\xFB\x00\x26\x00\x00\
+        \x00\x00\x00\x00\x00\x00\x00\x00\x00\x00\x00\x00\x00\x00\x00\x00\x00\x00\x00\x00\x00\x02\
+        \xAA\xBB\xCC",
+    // It passes it, and others follow.
+    b"\
+        \x32\x03\x00\x00\x00\x02\x00\x02\x00\x21\x00\x00\x1B\x01\x00\x1D\x00\xFB\x00\x26\x00\x00\
+        \x00\x00\x00\x00\x00\x00\x00\x00\x00\x00\x00\x00\x00\x00\x00\x00\x00\x00\x00\x00\x00\x02\
+        \xAA\xBB\xCC",
+    // It has no data.
+    b"\x32\x03\x00\x00\x00\x02\x00\x02\x00\x00\x00\x00\x1B\x00",
+];
+
+fn drops<R: Wait + Clock>(rt: &R, alloc: Global, answer: &[u8]) -> Result<bool, Memory> {
+    let talk = Talk {
+        site: SITE,
+        asked: &[SETUP_64, ANNOUNCE, PIECE_1, answer, PIECE_2, INSERT],
+        answered: &[GRANTED_64, ANNOUNCED, ASKED_1, ASKED_2, STALE, NOT_INSERTED],
+        entries: 0,
+    };
+    is_answered(rt, alloc, &talk)
 }
 
 #[test]
 fn a_download_is_dropped(rt: HostRuntime) -> Result<(), Fail> {
-    let answers: [&[u8]; 14] = [
-        // It has an error word.
-        b"\
-            \x32\x03\x00\x00\x00\x02\x00\x02\x00\x20\x81\x04\x1B\x00\x00\x1C\x00\xFB\x00\x26\x00\x00\
-            \x00\x00\x00\x00\x00\x00\x00\x00\x00\x00\x00\x00\x00\x00\x00\x00\x00\x00\x00\x00\x00\x02\
-            \xAA\xBB",
-        // It is a refusal.
-        b"\x32\x02\x00\x00\x00\x02\x00\x00\x00\x00\x81\x04",
-        // It ends before its header does.
-        b"\x32\x03\x00\x00\x00\x02\x00\x00\x00\x00",
-        // Its lengths disagree.
-        b"\
-            \x32\x03\x00\x00\x00\x02\x00\x02\x00\x21\x00\x00\x1B\x00\x00\x1C\x00\xFB\x00\x26\x00\x00\
-            \x00\x00\x00\x00\x00\x00\x00\x00\x00\x00\x00\x00\x00\x00\x00\x00\x00\x00\x00\x00\x00\x02\
-            \xAA\xBB",
-        // Whether others follow isn't said by 00 or 01.
-        b"\
-            \x32\x03\x00\x00\x00\x02\x00\x02\x00\x20\x00\x00\x1B\x02\x00\x1C\x00\xFB\x00\x26\x00\x00\
-            \x00\x00\x00\x00\x00\x00\x00\x00\x00\x00\x00\x00\x00\x00\x00\x00\x00\x00\x00\x00\x00\x02\
-            \xAA\xBB",
-        // It has another function.
-        b"\
-            \x32\x03\x00\x00\x00\x02\x00\x02\x00\x20\x00\x00\x1C\x00\x00\x1C\x00\xFB\x00\x26\x00\x00\
-            \x00\x00\x00\x00\x00\x00\x00\x00\x00\x00\x00\x00\x00\x00\x00\x00\x00\x00\x00\x00\x00\x02\
-            \xAA\xBB",
-        // It has a third octet of parameters.
-        b"\
-            \x32\x03\x00\x00\x00\x02\x00\x03\x00\x20\x00\x00\x1B\x00\x00\x00\x1C\x00\xFB\x00\x26\x00\
-            \x00\x00\x00\x00\x00\x00\x00\x00\x00\x00\x00\x00\x00\x00\x00\x00\x00\x00\x00\x00\x00\x00\
-            \x02\xAA\xBB",
-        // The length of the octets is one less.
-        b"\
-            \x32\x03\x00\x00\x00\x02\x00\x02\x00\x20\x00\x00\x1B\x00\x00\x1B\x00\xFB\x00\x26\x00\x00\
-            \x00\x00\x00\x00\x00\x00\x00\x00\x00\x00\x00\x00\x00\x00\x00\x00\x00\x00\x00\x00\x00\x02\
-            \xAA\xBB",
-        // Other octets stand before the image's.
-        b"\
-            \x32\x03\x00\x00\x00\x02\x00\x02\x00\x20\x00\x00\x1B\x00\x00\x1C\x00\xFA\x00\x26\x00\x00\
-            \x00\x00\x00\x00\x00\x00\x00\x00\x00\x00\x00\x00\x00\x00\x00\x00\x00\x00\x00\x00\x00\x02\
-            \xAA\xBB",
-        // It is empty, and others follow.
-        b"\x32\x03\x00\x00\x00\x02\x00\x02\x00\x04\x00\x00\x1B\x01\x00\x00\x00\xFB",
-        // It is the last, and one octet lacks.
-        b"\
-            \x32\x03\x00\x00\x00\x02\x00\x02\x00\x1F\x00\x00\x1B\x00\x00\x1B\x00\xFB\x00\x26\x00\x00\
-            \x00\x00\x00\x00\x00\x00\x00\x00\x00\x00\x00\x00\x00\x00\x00\x00\x00\x00\x00\x00\x00\x02\
-            \xAA",
-        // It passes the length by an octet.
-        b"\
-            \x32\x03\x00\x00\x00\x02\x00\x02\x00\x21\x00\x00\x1B\x00\x00\x1D\x00\xFB\x00\x26\x00\x00\
-            \x00\x00\x00\x00\x00\x00\x00\x00\x00\x00\x00\x00\x00\x00\x00\x00\x00\x00\x00\x00\x00\x02\
-            \xAA\xBB\xCC",
-        // It passes it, and others follow.
-        b"\
-            \x32\x03\x00\x00\x00\x02\x00\x02\x00\x21\x00\x00\x1B\x01\x00\x1D\x00\xFB\x00\x26\x00\x00\
-            \x00\x00\x00\x00\x00\x00\x00\x00\x00\x00\x00\x00\x00\x00\x00\x00\x00\x00\x00\x00\x00\x02\
-            \xAA\xBB\xCC",
-        // It has no data.
-        b"\x32\x03\x00\x00\x00\x02\x00\x02\x00\x00\x00\x00\x1B\x00",
-    ];
-    for answer in answers {
-        let talk = Talk {
-            level: 1,
-            asked: &[ANNOUNCE, PIECE_1, answer, PIECE_2, INSERT],
-            answered: &[ANNOUNCED, ASKED_1, ASKED_2, STALE, NOT_INSERTED],
-            entries: 0,
-        };
-        assert!(rt; is_answered(&rt, rt.alloc(), &talk)?, "{answer:?}");
+    for (k, answer) in DROPPING.iter().enumerate() {
+        assert!(rt; drops(&rt, rt.alloc(), answer)?, "answer {k}");
     }
     Ok(())
 }
 
+const GOES_ON: &[Talk<'static>] = &[
+    // A message under another sequence than the server's job has.
+    Talk {
+        site: SITE,
+        asked: &[
+            SETUP_64, ANNOUNCE, PIECE_1, FOREIGN, PIECE_2, CLOSED, INSERT,
+        ],
+        answered: &[
+            GRANTED_64,
+            ANNOUNCED,
+            ASKED_1,
+            ASKED_2,
+            FOREIGN_REFUSED,
+            CLOSE,
+            INSERTED,
+        ],
+        entries: 1,
+    },
+    // A download that is announced anew takes the place of the one before.
+    Talk {
+        site: SITE,
+        asked: &[SETUP_64, ANNOUNCE, PIECE_1, ANNOUNCE, PIECE_2, INSERT],
+        answered: &[
+            GRANTED_64,
+            ANNOUNCED,
+            ASKED_1,
+            ASKED_2,
+            ANNOUNCED,
+            ASKED_3,
+            STALE,
+            NOT_INSERTED,
+        ],
+        entries: 0,
+    },
+    // The answer to the close can't be read as one.
+    Talk {
+        site: SITE,
+        asked: &[SETUP_64, ANNOUNCE, PIECE_1, PIECE_2, NOT_CLOSED, INSERT],
+        answered: &[GRANTED_64, ANNOUNCED, ASKED_1, ASKED_2, CLOSE, NOT_INSERTED],
+        entries: 0,
+    },
+    // The link ends before the last piece came.
+    Talk {
+        site: SITE,
+        asked: &[SETUP_64, ANNOUNCE, PIECE_1],
+        answered: &[GRANTED_64, ANNOUNCED, ASKED_1, ASKED_2],
+        entries: 0,
+    },
+];
+
 #[test]
 fn a_download_goes_on_or_not(rt: HostRuntime) -> Result<(), Fail> {
-    let talks = [
-        // A message under another sequence than the server's job has.
-        Talk {
-            level: 1,
-            asked: &[ANNOUNCE, PIECE_1, FOREIGN, PIECE_2, CLOSED, INSERT],
-            answered: &[
-                ANNOUNCED,
-                ASKED_1,
-                ASKED_2,
-                FOREIGN_REFUSED,
-                CLOSE,
-                INSERTED,
-            ],
-            entries: 1,
-        },
-        // A download that is announced anew takes the place of the one before.
-        Talk {
-            level: 1,
-            asked: &[ANNOUNCE, PIECE_1, ANNOUNCE, PIECE_2, INSERT],
-            answered: &[
-                ANNOUNCED,
-                ASKED_1,
-                ASKED_2,
-                ANNOUNCED,
-                ASKED_3,
-                STALE,
-                NOT_INSERTED,
-            ],
-            entries: 0,
-        },
-        // The answer to the close can't be read as one.
-        Talk {
-            level: 1,
-            asked: &[ANNOUNCE, PIECE_1, PIECE_2, NOT_CLOSED, INSERT],
-            answered: &[ANNOUNCED, ASKED_1, ASKED_2, CLOSE, NOT_INSERTED],
-            entries: 0,
-        },
-        // The link ends before the last piece came.
-        Talk {
-            level: 1,
-            asked: &[ANNOUNCE, PIECE_1],
-            answered: &[ANNOUNCED, ASKED_1, ASKED_2],
-            entries: 0,
-        },
-    ];
-    assert!(rt; are_answered(&rt, rt.alloc(), &talks)?);
-    Ok(())
+    answers(&rt, rt.alloc(), GOES_ON)
+}
+
+/// Announcements that can't be read.
+const UNREAD: &[&[u8]] = &[
+    // There is no kind 47.
+    b"\
+        \x32\x01\x00\x00\x00\x11\x00\x20\x00\x00\x1A\x00\x00\x00\x00\x00\x00\x00\x09\x5F\x30\x47\
+        \x30\x30\x30\x30\x35\x50\x0D\x31\x30\x30\x30\x30\x33\x38\x30\x30\x30\x30\x30\x32",
+    // The number is 65,536.
+    b"\
+        \x32\x01\x00\x00\x00\x11\x00\x20\x00\x00\x1A\x00\x00\x00\x00\x00\x00\x00\x09\x5F\x30\x43\
+        \x36\x35\x35\x33\x36\x50\x0D\x31\x30\x30\x30\x30\x33\x38\x30\x30\x30\x30\x30\x32",
+    // Another octet is among the digits: of the number, and of both lengths.
+    b"\
+        \x32\x01\x00\x00\x00\x11\x00\x20\x00\x00\x1A\x00\x00\x00\x00\x00\x00\x00\x09\x5F\x30\x43\
+        \x30\x30\x30\x30\x41\x50\x0D\x31\x30\x30\x30\x30\x33\x38\x30\x30\x30\x30\x30\x32",
+    b"\
+        \x32\x01\x00\x00\x00\x11\x00\x20\x00\x00\x1A\x00\x00\x00\x00\x00\x00\x00\x09\x5F\x30\x43\
+        \x30\x30\x30\x30\x35\x50\x0D\x31\x30\x30\x30\x30\x33\x3A\x30\x30\x30\x30\x30\x32",
+    b"\
+        \x32\x01\x00\x00\x00\x11\x00\x20\x00\x00\x1A\x00\x00\x00\x00\x00\x00\x00\x09\x5F\x30\x43\
+        \x30\x30\x30\x30\x35\x50\x0D\x31\x30\x30\x30\x30\x33\x38\x30\x30\x30\x30\x30\x2F",
+    // It isn't the place of downloads.
+    b"\
+        \x32\x01\x00\x00\x00\x11\x00\x20\x00\x00\x1A\x00\x00\x00\x00\x00\x00\x00\x09\x5F\x30\x43\
+        \x30\x30\x30\x30\x35\x41\x0D\x31\x30\x30\x30\x30\x33\x38\x30\x30\x30\x30\x30\x32",
+    // Another octet stands before the lengths.
+    b"\
+        \x32\x01\x00\x00\x00\x11\x00\x20\x00\x00\x1A\x00\x00\x00\x00\x00\x00\x00\x09\x5F\x30\x43\
+        \x30\x30\x30\x30\x35\x50\x0D\x32\x30\x30\x30\x30\x33\x38\x30\x30\x30\x30\x30\x32",
+    // One of the octets 00 is 01.
+    b"\
+        \x32\x01\x00\x00\x00\x11\x00\x20\x00\x00\x1A\x00\x00\x00\x01\x00\x00\x00\x09\x5F\x30\x43\
+        \x30\x30\x30\x30\x35\x50\x0D\x31\x30\x30\x30\x30\x33\x38\x30\x30\x30\x30\x30\x32",
+    // There is a data part.
+    b"\
+        \x32\x01\x00\x00\x00\x11\x00\x20\x00\x01\x1A\x00\x00\x00\x00\x00\x00\x00\x09\x5F\x30\x43\
+        \x30\x30\x30\x30\x35\x50\x0D\x31\x30\x30\x30\x30\x33\x38\x30\x30\x30\x30\x30\x32\x00",
+    // An octet of the parameters is too many.
+    b"\
+        \x32\x01\x00\x00\x00\x11\x00\x21\x00\x00\x1A\x00\x00\x00\x00\x00\x00\x00\x09\x5F\x30\x43\
+        \x30\x30\x30\x30\x35\x50\x0D\x31\x30\x30\x30\x30\x33\x38\x30\x30\x30\x30\x30\x32\x30",
+];
+
+/// Announcements of what isn't allowed.
+const BARRED: &[&[u8]] = &[
+    // Data blocks aren't downloaded, nor system functions.
+    b"\
+        \x32\x01\x00\x00\x00\x11\x00\x20\x00\x00\x1A\x00\x00\x00\x00\x00\x00\x00\x09\x5F\x30\x41\
+        \x30\x30\x30\x30\x35\x50\x0D\x31\x30\x30\x30\x30\x33\x38\x30\x30\x30\x30\x30\x32",
+    b"\
+        \x32\x01\x00\x00\x00\x11\x00\x20\x00\x00\x1A\x00\x00\x00\x00\x00\x00\x00\x09\x5F\x30\x44\
+        \x30\x30\x30\x30\x35\x50\x0D\x31\x30\x30\x30\x30\x33\x38\x30\x30\x30\x30\x30\x32",
+    // The image has 35 octets, and 65,537.
+    b"\
+        \x32\x01\x00\x00\x00\x11\x00\x20\x00\x00\x1A\x00\x00\x00\x00\x00\x00\x00\x09\x5F\x30\x43\
+        \x30\x30\x30\x30\x35\x50\x0D\x31\x30\x30\x30\x30\x33\x35\x30\x30\x30\x30\x30\x32",
+    b"\
+        \x32\x01\x00\x00\x00\x11\x00\x20\x00\x00\x1A\x00\x00\x00\x00\x00\x00\x00\x09\x5F\x30\x43\
+        \x30\x30\x30\x30\x35\x50\x0D\x31\x30\x36\x35\x35\x33\x37\x30\x30\x30\x30\x30\x32",
+];
+
+/// A download that is announced so, and refused so, leaves the one that is held.
+fn refuses<R: Wait + Clock>(
+    rt: &R,
+    alloc: Global,
+    announce: &[u8],
+    refusal: &[u8],
+) -> Result<bool, Memory> {
+    let talk = Talk {
+        site: SITE,
+        asked: &[
+            SETUP_64, ANNOUNCE, PIECE_1, announce, PIECE_2, CLOSED, INSERT,
+        ],
+        answered: &[
+            GRANTED_64, ANNOUNCED, ASKED_1, ASKED_2, refusal, CLOSE, INSERTED,
+        ],
+        entries: 1,
+    };
+    is_answered(rt, alloc, &talk)
 }
 
 #[test]
 fn downloads_that_are_refused(rt: HostRuntime) -> Result<(), Fail> {
-    let rows: [(&[u8], &[u8]); 14] = [
-        // There is no kind 47.
-        (
-            b"\
-                \x32\x01\x00\x00\x00\x11\x00\x20\x00\x00\x1A\x00\x00\x00\x00\x00\x00\x00\x09\x5F\x30\x47\
-                \x30\x30\x30\x30\x35\x50\x0D\x31\x30\x30\x30\x30\x33\x38\x30\x30\x30\x30\x30\x32",
-            UNREADABLE,
-        ),
-        // Data blocks aren't downloaded, nor system functions.
-        (
-            b"\
-                \x32\x01\x00\x00\x00\x11\x00\x20\x00\x00\x1A\x00\x00\x00\x00\x00\x00\x00\x09\x5F\x30\x41\
-                \x30\x30\x30\x30\x35\x50\x0D\x31\x30\x30\x30\x30\x33\x38\x30\x30\x30\x30\x30\x32",
-            NOT_ALLOWED,
-        ),
-        (
-            b"\
-                \x32\x01\x00\x00\x00\x11\x00\x20\x00\x00\x1A\x00\x00\x00\x00\x00\x00\x00\x09\x5F\x30\x44\
-                \x30\x30\x30\x30\x35\x50\x0D\x31\x30\x30\x30\x30\x33\x38\x30\x30\x30\x30\x30\x32",
-            NOT_ALLOWED,
-        ),
-        // The number is 65,536.
-        (
-            b"\
-                \x32\x01\x00\x00\x00\x11\x00\x20\x00\x00\x1A\x00\x00\x00\x00\x00\x00\x00\x09\x5F\x30\x43\
-                \x36\x35\x35\x33\x36\x50\x0D\x31\x30\x30\x30\x30\x33\x38\x30\x30\x30\x30\x30\x32",
-            UNREADABLE,
-        ),
-        // Another octet is among the digits: of the number, and of both lengths.
-        (
-            b"\
-                \x32\x01\x00\x00\x00\x11\x00\x20\x00\x00\x1A\x00\x00\x00\x00\x00\x00\x00\x09\x5F\x30\x43\
-                \x30\x30\x30\x30\x41\x50\x0D\x31\x30\x30\x30\x30\x33\x38\x30\x30\x30\x30\x30\x32",
-            UNREADABLE,
-        ),
-        (
-            b"\
-                \x32\x01\x00\x00\x00\x11\x00\x20\x00\x00\x1A\x00\x00\x00\x00\x00\x00\x00\x09\x5F\x30\x43\
-                \x30\x30\x30\x30\x35\x50\x0D\x31\x30\x30\x30\x30\x33\x3A\x30\x30\x30\x30\x30\x32",
-            UNREADABLE,
-        ),
-        (
-            b"\
-                \x32\x01\x00\x00\x00\x11\x00\x20\x00\x00\x1A\x00\x00\x00\x00\x00\x00\x00\x09\x5F\x30\x43\
-                \x30\x30\x30\x30\x35\x50\x0D\x31\x30\x30\x30\x30\x33\x38\x30\x30\x30\x30\x30\x2F",
-            UNREADABLE,
-        ),
-        // The image has 35 octets, and 65,537.
-        (
-            b"\
-                \x32\x01\x00\x00\x00\x11\x00\x20\x00\x00\x1A\x00\x00\x00\x00\x00\x00\x00\x09\x5F\x30\x43\
-                \x30\x30\x30\x30\x35\x50\x0D\x31\x30\x30\x30\x30\x33\x35\x30\x30\x30\x30\x30\x32",
-            NOT_ALLOWED,
-        ),
-        (
-            b"\
-                \x32\x01\x00\x00\x00\x11\x00\x20\x00\x00\x1A\x00\x00\x00\x00\x00\x00\x00\x09\x5F\x30\x43\
-                \x30\x30\x30\x30\x35\x50\x0D\x31\x30\x36\x35\x35\x33\x37\x30\x30\x30\x30\x30\x32",
-            NOT_ALLOWED,
-        ),
-        // It isn't the place of downloads.
-        (
-            b"\
-                \x32\x01\x00\x00\x00\x11\x00\x20\x00\x00\x1A\x00\x00\x00\x00\x00\x00\x00\x09\x5F\x30\x43\
-                \x30\x30\x30\x30\x35\x41\x0D\x31\x30\x30\x30\x30\x33\x38\x30\x30\x30\x30\x30\x32",
-            UNREADABLE,
-        ),
-        // Another octet stands before the lengths.
-        (
-            b"\
-                \x32\x01\x00\x00\x00\x11\x00\x20\x00\x00\x1A\x00\x00\x00\x00\x00\x00\x00\x09\x5F\x30\x43\
-                \x30\x30\x30\x30\x35\x50\x0D\x32\x30\x30\x30\x30\x33\x38\x30\x30\x30\x30\x30\x32",
-            UNREADABLE,
-        ),
-        // One of the octets 00 is 01.
-        (
-            b"\
-                \x32\x01\x00\x00\x00\x11\x00\x20\x00\x00\x1A\x00\x00\x00\x01\x00\x00\x00\x09\x5F\x30\x43\
-                \x30\x30\x30\x30\x35\x50\x0D\x31\x30\x30\x30\x30\x33\x38\x30\x30\x30\x30\x30\x32",
-            UNREADABLE,
-        ),
-        // There is a data part.
-        (
-            b"\
-                \x32\x01\x00\x00\x00\x11\x00\x20\x00\x01\x1A\x00\x00\x00\x00\x00\x00\x00\x09\x5F\x30\x43\
-                \x30\x30\x30\x30\x35\x50\x0D\x31\x30\x30\x30\x30\x33\x38\x30\x30\x30\x30\x30\x32\x00",
-            UNREADABLE,
-        ),
-        // An octet of the parameters is too many.
-        (
-            b"\
-                \x32\x01\x00\x00\x00\x11\x00\x21\x00\x00\x1A\x00\x00\x00\x00\x00\x00\x00\x09\x5F\x30\x43\
-                \x30\x30\x30\x30\x35\x50\x0D\x31\x30\x30\x30\x30\x33\x38\x30\x30\x30\x30\x30\x32\x30",
-            UNREADABLE,
-        ),
-    ];
-    for (announce, refusal) in rows {
-        let talk = Talk {
-            level: 1,
-            asked: &[ANNOUNCE, PIECE_1, announce, PIECE_2, CLOSED, INSERT],
-            answered: &[ANNOUNCED, ASKED_1, ASKED_2, refusal, CLOSE, INSERTED],
-            entries: 1,
-        };
-        assert!(rt; is_answered(&rt, rt.alloc(), &talk)?, "{announce:?}");
+    for (k, announce) in UNREAD.iter().enumerate() {
+        assert!(rt; refuses(&rt, rt.alloc(), announce, UNREADABLE)?, "row {k}");
+    }
+    for (k, announce) in BARRED.iter().enumerate() {
+        assert!(rt; refuses(&rt, rt.alloc(), announce, NOT_ALLOWED)?, "row {k}");
     }
     Ok(())
 }

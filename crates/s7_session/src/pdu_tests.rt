@@ -2,8 +2,8 @@
 ghost use Rattle.std.specs.Prelude.{◌<◌};
 
 use super::*;
-use crate::tests::{CONFIRM, CONNECT, Desk, block, joined};
-use s7_outer::{Memory, MemoryLink, Octets};
+use crate::tests::{CONFIRM, CONNECT, SITE, Site, joined, serve};
+use s7_outer::Memory;
 use std::alloc::Global;
 use std::sync::Wait;
 use std::test::Fail;
@@ -74,56 +74,62 @@ fn in_fragments(
     Ok(octets)
 }
 
-/// A link that asks for this, with a block of 1,903 octets, is answered so and ends.
+/// A link that asks for this, with a block of 1,903 octets, is answered so and ends, behind so many entries.
 fn is_answered<R: Wait + Clock>(
     rt: &R,
     alloc: Global,
     asked: &[&[u8]],
     answered: &[&[u8]],
+    entries: u64,
 ) -> Result<bool, Memory> {
-    let input = Octets::of_vec(joined(alloc, asked)?);
-    let mut line = MemoryLink::new(alloc, input, 8_192, 4_096, 7)?;
     let octets = pattern(alloc, 1_903)?;
-    let mut desk = Desk::over(alloc, block(alloc, octets.as_slice())?, 9)?;
-    let mut session = Session::new(alloc, 1, None)?;
-    let outcome = session.serve(rt, alloc, &mut line, &mut desk);
+    let site = Site {
+        octets: octets.as_slice(),
+        ..SITE
+    };
+    let served = serve(rt, alloc, &site, joined(alloc, asked)?, 8_192)?;
     let output = joined(alloc, answered)?;
-    Ok(outcome == Outcome::Ended && line.written() == output.as_slice())
+    Ok(served.is(Outcome::Ended, output.as_slice(), entries))
 }
+
+/// The answer to the read of 1,902 bytes as its fragments of `most` octets, with these fronts.
+fn answer(alloc: Global, most: usize, front: &[u8], last: &[u8]) -> Result<Vec<u8>, Memory>
+    requires { 0 < most }
+{
+    let octets = pattern(alloc, 1_902)?;
+    let message = joined(alloc, &[ANSWER_HEAD, octets.as_slice()])?;
+    in_fragments(alloc, &message, most, front, last)
+}
+
+/// The front of a fragment of 1,021 octets that isn't the last, and of 899 octets that is.
+const FRONT_1021: &[u8] = b"\x03\x00\x04\x04\x02\xF0\x00";
+
+const LAST_899: &[u8] = b"\x03\x00\x03\x8A\x02\xF0\x80";
 
 #[test]
 fn the_greatest_pdu_is_used_whole(rt: HostRuntime) -> Result<(), Fail> {
     let alloc = rt.alloc();
-    let octets = pattern(alloc, 1_902)?;
-    let message = joined(alloc, &[ANSWER_HEAD, octets.as_slice()])?;
-    // Fragments of 1,021 and 899 octets, and fifteen of 125 and one of 45.
-    let long = in_fragments(
-        alloc,
-        &message,
-        1_021,
-        b"\x03\x00\x04\x04\x02\xF0\x00",
-        b"\x03\x00\x03\x8A\x02\xF0\x80",
-    )?;
-    let short = in_fragments(
-        alloc,
-        &message,
-        125,
-        b"\x03\x00\x00\x84\x02\xF0\x00",
-        b"\x03\x00\x00\x34\x02\xF0\x80",
-    )?;
     let asked = [CONNECT, SETUP, READ_1902];
-    assert!(rt; is_answered(&rt, alloc, &asked, &[CONFIRM, GRANTED, long.as_slice()])?);
+    let answer = answer(alloc, 1_021, FRONT_1021, LAST_899)?;
+    assert!(rt; is_answered(&rt, alloc, &asked, &[CONFIRM, GRANTED, &answer], 1)?);
+    Ok(())
+}
+
+#[test]
+fn a_small_tpdu_cuts_the_greatest_pdu(rt: HostRuntime) -> Result<(), Fail> {
+    let alloc = rt.alloc();
     let asked = [CONNECT_128, SETUP, READ_1902];
-    assert!(rt;
-        is_answered(
-            &rt,
-            alloc,
-            &asked,
-            &[CONFIRM_128, GRANTED, short.as_slice()]
-        )?
-    );
+    // Fifteen fragments of 125 octets, and one of 45.
+    let front = b"\x03\x00\x00\x84\x02\xF0\x00";
+    let answer = answer(alloc, 125, front, b"\x03\x00\x00\x34\x02\xF0\x80")?;
+    assert!(rt; is_answered(&rt, alloc, &asked, &[CONFIRM_128, GRANTED, &answer], 1)?);
+    Ok(())
+}
+
+#[test]
+fn an_answer_past_the_greatest_pdu_is_refused(rt: HostRuntime) -> Result<(), Fail> {
     let asked = [CONNECT, SETUP, READ_1903];
-    assert!(rt; is_answered(&rt, alloc, &asked, &[CONFIRM, GRANTED, OVER_PDU])?);
+    assert!(rt; is_answered(&rt, rt.alloc(), &asked, &[CONFIRM, GRANTED, OVER_PDU], 0)?);
     Ok(())
 }
 
@@ -139,14 +145,8 @@ fn a_write_fills_the_greatest_pdu(rt: HostRuntime) -> Result<(), Fail> {
     let alloc = rt.alloc();
     let octets = pattern(alloc, 1_892)?;
     let message = joined(alloc, &[WRITE_HEAD, octets.as_slice()])?;
-    let write = in_fragments(
-        alloc,
-        &message,
-        1_021,
-        b"\x03\x00\x04\x04\x02\xF0\x00",
-        b"\x03\x00\x03\x8A\x02\xF0\x80",
-    )?;
-    let asked = [CONNECT, SETUP, write.as_slice()];
-    assert!(rt; is_answered(&rt, alloc, &asked, &[CONFIRM, GRANTED, WRITTEN])?);
+    let write = in_fragments(alloc, &message, 1_021, FRONT_1021, LAST_899)?;
+    let asked = [CONNECT, SETUP, &write];
+    assert!(rt; is_answered(&rt, alloc, &asked, &[CONFIRM, GRANTED, WRITTEN], 1)?);
     Ok(())
 }
