@@ -204,13 +204,24 @@ fn blocks_are_refused(rt: HostRuntime) -> Result<(), Fail> {
     Ok(())
 }
 
+/// A partner that was given a block, and whose link gives a connect request, is closed, and takes no block then.
+fn takes_none_then(
+    partner: &mut Partner,
+    alloc: Global,
+    link: &mut MemoryLink,
+) -> Result<bool, Memory> {
+    Ok(
+        refusal(partner, alloc, 65_535)?.is_none()
+            && closes(partner, alloc, link, 0x0001_0000)?
+            && refusal(partner, alloc, 0)? == Some(SendFault::Closed),
+    )
+}
+
 #[test]
 fn closed_partners_take_no_block(rt: HostRuntime) -> Result<(), Fail> {
     let mut partner = partner(rt.alloc(), Role::Active, 480)?;
-    assert!(rt; refusal(&mut partner, rt.alloc(), 65_535)?.is_none());
     let mut link = line(rt.alloc(), &[REQUEST])?;
-    assert!(rt; closes(&mut partner, rt.alloc(), &mut link, 0x0001_0000)?);
-    assert!(rt; refusal(&mut partner, rt.alloc(), 0)? == Some(SendFault::Closed));
+    assert!(rt; takes_none_then(&mut partner, rt.alloc(), &mut link)?);
     Ok(())
 }
 
