@@ -92,69 +92,101 @@ pub(crate) fn a_reply(alloc: Global) -> Result<Reply, Memory>
     Reply::new(alloc, BODY_ROOM)
 }
 
+/// The reply has the first two of these octets as its parameters, this body and no error.
+fn echoes(reply: &Reply, params: &[u8], body: &[u8]) -> bool {
+    match params {
+        [first, second, ..] => says(reply, &[*first, *second], body),
+        _ => false,
+    }
+}
+
+/// Data block 1 has these octets.
+fn holds(plant: &Plant, octets: &[u8]) -> bool {
+    plant.areas.octets_of(DB1) == Some(octets)
+}
+
 /// The reply has these parameters, this body and no error.
 pub(crate) fn says(reply: &Reply, params: &[u8], body: &[u8]) -> bool {
     reply.error == 0 && reply.params.as_slice() == params && reply.body.as_slice() == body
 }
 
-const READ_TWO: [u8; 26] =
-    *b"\x04\x02\x12\x0A\x10\x02\x00\x01\x00\x01\x84\x00\x00\x00\x12\x0A\x10\x02\x00\x01\x00\x01\x84\x00\x00\x08";
+const READ_TWO: &[u8] =
+    b"\x04\x02\x12\x0A\x10\x02\x00\x01\x00\x01\x84\x00\x00\x00\x12\x0A\x10\x02\x00\x01\x00\x01\x84\x00\x00\x08";
+
+const READS: &[(&[u8], &[u8])] = &[
+    (
+        b"\x04\x01\x12\x0A\x10\x02\x00\x02\x00\x01\x84\x00\x00\x10",
+        b"\xFF\x04\x00\x10\x33\x44",
+    ),
+    (
+        b"\x04\x01\x12\x0A\x10\x02\x00\x02\x00\x01\x84\x00\x00\x18",
+        b"\x05\x00\x00\x00",
+    ),
+    (
+        b"\x04\x03\x12\x0A\x10\x02\x00\x01\x00\x02\x84\x00\x00\x00\x12\x0A\x10\x02\x00\x00\x00\x01\x84\x00\x00\x00\x12\x0A\x10\x09\x00\x01\x00\x01\x84\x00\x00\x00",
+        b"\x0A\x00\x00\x00\x05\x00\x00\x00\x06\x00\x00\x00",
+    ),
+    (READ_TWO, b"\xFF\x04\x00\x08\x11\x00\xFF\x04\x00\x08\x22"),
+    (
+        b"\x04\x01\x12\x0A\x10\x1C\x00\x01\x00\x00\x1C\x00\x00\x01",
+        b"\xFF\x09\x00\x02\x00\x02",
+    ),
+    (
+        b"\x04\x01\x12\x0A\x10\x01\x00\x01\x00\x01\x84\x00\x00\x04",
+        b"\xFF\x03\x00\x01\x01",
+    ),
+];
+
+/// The plant answers the read so, before it is carried out and by it.
+fn reads(plant: &mut Plant, reply: &mut Reply, params: &[u8], body: &[u8]) -> bool
+    requires { IsReadyReply reply.old }
+    ensures { IsReadyReply reply.new }
+{
+    let Some(mut request) = a_read(params) else {
+        return false;
+    };
+    plant.reply(true, &request, reply);
+    let before = echoes(reply, params, body);
+    plant.step(true, &mut request, reply);
+    before && echoes(reply, params, body)
+}
 
 #[test]
 fn reads_are_answered(rt: HostRuntime) -> Result<(), Fail> {
     let mut plant = Plant::new(some_areas(rt.alloc())?, no_blocks(rt.alloc())?);
     let mut reply = a_reply(rt.alloc())?;
-    let rows: [(&[u8], &[u8]); 6] = [
-        (
-            b"\x04\x01\x12\x0A\x10\x02\x00\x02\x00\x01\x84\x00\x00\x10",
-            b"\xFF\x04\x00\x10\x33\x44",
-        ),
-        (
-            b"\x04\x01\x12\x0A\x10\x02\x00\x02\x00\x01\x84\x00\x00\x18",
-            b"\x05\x00\x00\x00",
-        ),
-        (
-            b"\x04\x03\x12\x0A\x10\x02\x00\x01\x00\x02\x84\x00\x00\x00\x12\x0A\x10\x02\x00\x00\x00\x01\x84\x00\x00\x00\x12\x0A\x10\x09\x00\x01\x00\x01\x84\x00\x00\x00",
-            b"\x0A\x00\x00\x00\x05\x00\x00\x00\x06\x00\x00\x00",
-        ),
-        (&READ_TWO, b"\xFF\x04\x00\x08\x11\x00\xFF\x04\x00\x08\x22"),
-        (
-            b"\x04\x01\x12\x0A\x10\x1C\x00\x01\x00\x00\x1C\x00\x00\x01",
-            b"\xFF\x09\x00\x02\x00\x02",
-        ),
-        (
-            b"\x04\x01\x12\x0A\x10\x01\x00\x01\x00\x01\x84\x00\x00\x04",
-            b"\xFF\x03\x00\x01\x01",
-        ),
-    ];
-    for (params, body) in rows {
-        let Some(mut request) = a_read(params) else {
-            return Err(Fail::from("no request"));
-        };
-        plant.reply(true, &request, &mut reply);
-        assert!(rt; says(&reply, &params[..2], body), "{params:?}");
-        plant.step(true, &mut request, &mut reply);
-        assert!(rt; says(&reply, &params[..2], body), "{params:?}");
+    for (params, body) in READS {
+        assert!(rt; reads(&mut plant, &mut reply, params, body), "{params:?}");
     }
     Ok(())
+}
+
+/// Three items, whose second lies outside of data block 1.
+const WRITE_THREE: &[u8] =
+    b"\x05\x03\x12\x0A\x10\x02\x00\x01\x00\x01\x84\x00\x00\x00\x12\x0A\x10\x02\x00\x01\x00\x01\x84\x00\x00\x20\x12\x0A\x10\x02\x00\x01\x00\x01\x84\x00\x00\x18";
+
+const THREE: &[u8] = b"\x00\x04\x00\x08\xAA\x00\x00\x04\x00\x08\xBB\x00\x00\x04\x00\x08\xCC";
+
+/// The answer changes nothing, and to carry the write out is answered so too.
+fn writes(plant: &mut Plant, request: &mut Request, reply: &mut Reply) -> bool
+    requires request { CanBeDone request.old }
+    requires reply { IsReadyReply reply.old }
+{
+    plant.reply(true, request, reply);
+    let before = says(reply, b"\x05\x03", b"\xFF\x05\xFF")
+        && holds(plant, &[0x11, 0x22, 0x33, 0x44]);
+    plant.step(true, request, reply);
+    before && says(reply, b"\x05\x03", b"\xFF\x05\xFF") && holds(plant, &[0xAA, 0x22, 0x33, 0xCC])
 }
 
 #[test]
 fn writes_are_answered(rt: HostRuntime) -> Result<(), Fail> {
     let mut plant = Plant::new(some_areas(rt.alloc())?, no_blocks(rt.alloc())?);
     let mut reply = a_reply(rt.alloc())?;
-    let params =
-        b"\x05\x03\x12\x0A\x10\x02\x00\x01\x00\x01\x84\x00\x00\x00\x12\x0A\x10\x02\x00\x01\x00\x01\x84\x00\x00\x20\x12\x0A\x10\x02\x00\x01\x00\x01\x84\x00\x00\x18";
-    let data = b"\x00\x04\x00\x08\xAA\x00\x00\x04\x00\x08\xBB\x00\x00\x04\x00\x08\xCC";
-    let Some(mut request) = a_write(rt.alloc(), params, data)? else {
+    let Some(mut request) = a_write(rt.alloc(), WRITE_THREE, THREE)? else {
         return Err(Fail::from("no request"));
     };
-    plant.reply(true, &request, &mut reply);
-    assert!(rt; says(&reply, b"\x05\x03", b"\xFF\x05\xFF"));
-    assert!(rt; plant.areas.octets_of(DB1) == Some(&[0x11, 0x22, 0x33, 0x44]));
-    plant.step(true, &mut request, &mut reply);
-    assert!(rt; says(&reply, b"\x05\x03", b"\xFF\x05\xFF"));
-    assert!(rt; plant.areas.octets_of(DB1) == Some(&[0xAA, 0x22, 0x33, 0xCC]));
+    assert!(rt; writes(&mut plant, &mut request, &mut reply));
     Ok(())
 }
 
@@ -206,53 +238,92 @@ const READ_ALL: (&[u8], &[u8]) = (
     b"",
 );
 
+/// The link, what it asks, the entry's number, and the body of the answer.
+type Step = (u32, (&'static [u8], &'static [u8]), u64, &'static [u8]);
+
+const STEPS: &[Step] = &[
+    (7, WRITE_AA, 0, b"\xFF"),
+    (8, READ_ALL, 1, b"\xFF\x04\x00\x20\xAA\x22\x33\x44"),
+    (7, WRITE_CC, 2, b"\xFF"),
+];
+
+/// The book enters the step under its number, and answers so.
+fn enters(alloc: Global, book: &mut Book, reply: &mut Reply, step: Step) -> Result<bool, Memory>
+    requires { IsReadyReply reply.old }
+    ensures { IsReadyReply reply.new }
+{
+    let (link, (params, data), number, body) = step;
+    let Some(request) = a_request(alloc, params, data)? else {
+        return Ok(false);
+    };
+    let entered = book.step(link, with_right(request), reply).ok();
+    Ok(entered == Some(number) && echoes(reply, params, body))
+}
+
+/// The book enters all of these steps.
+fn enters_all(alloc: Global, book: &mut Book) -> Result<bool, Memory> {
+    let mut reply = a_reply(alloc)?;
+    for step in STEPS {
+        if !enters(alloc, book, &mut reply, *step)? {
+            return Ok(false);
+        }
+    }
+    Ok(true)
+}
+
+/// The entries are of the links 7, 8 and 7.
+fn are_of_those_links(entries: &[Entry]) -> bool {
+    match entries {
+        [a, b, c] => a.link == 7 && b.link == 8 && c.link == 7,
+        _ => false,
+    }
+}
+
 #[test]
 fn steps_are_entered(rt: HostRuntime) -> Result<(), Fail> {
     let mut book = a_book(rt.alloc(), 3)?;
-    let mut reply = a_reply(rt.alloc())?;
-    let rows: [(u32, (&[u8], &[u8]), u64, &[u8]); 3] = [
-        (7, WRITE_AA, 0, b"\xFF"),
-        (8, READ_ALL, 1, b"\xFF\x04\x00\x20\xAA\x22\x33\x44"),
-        (7, WRITE_CC, 2, b"\xFF"),
-    ];
-    for (link, (params, data), number, body) in rows {
-        let request = a_request(rt.alloc(), params, data)?.ok_or("no request")?;
-        assert_eq!(rt;
-            book.step(link, with_right(request), &mut reply).ok(),
-            Some(number)
-        );
-        assert!(rt; says(&reply, &params[..2], body), "{link}");
-    }
-    assert_eq!(rt; book.journal.len(), 3);
-    for (entry, link) in book.journal.as_slice().iter().zip([7, 8, 7]) {
-        assert_eq!(rt; entry.link, link);
-    }
-    assert!(rt; book.opening.areas.octets_of(DB1) == Some(&[0x11, 0x22, 0x33, 0x44]));
-    assert!(rt; book.plant.areas.octets_of(DB1) == Some(&[0xAA, 0x22, 0x33, 0xCC]));
+    assert!(rt; enters_all(rt.alloc(), &mut book)?);
+    assert!(rt; are_of_those_links(book.journal.as_slice()));
+    assert!(rt; holds(&book.opening, &[0x11, 0x22, 0x33, 0x44]));
+    assert!(rt; holds(&book.plant, &[0xAA, 0x22, 0x33, 0xCC]));
     Ok(())
+}
+
+/// It is the write of AA, asked with a right.
+fn is_write_aa(ask: &Ask) -> bool {
+    match &ask.request {
+        Request::Write { items, octets, .. } => {
+            ask.right && items.len() == 1 && octets.as_slice() == WRITE_AA.1
+        }
+        _ => false,
+    }
+}
+
+/// A book with room for one entry enters a read and hands the write behind it back, with the reply as it was.
+fn hands_back(alloc: Global, book: &mut Book) -> Result<bool, Memory> {
+    let (Some(read), Some(write)) = (a_read(READ_ALL.0), a_write(alloc, WRITE_AA.0, WRITE_AA.1)?)
+    else {
+        return Ok(false);
+    };
+    let mut reply = a_reply(alloc)?;
+    let first = book.step(7, with_right(read), &mut reply).ok();
+    let is_back = match book.step(7, with_right(write), &mut reply) {
+        Ok(_) => false,
+        Err(ask) => is_write_aa(&ask),
+    };
+    Ok(
+        first == Some(0)
+            && is_back
+            && says(&reply, b"\x04\x01", b"\xFF\x04\x00\x20\x11\x22\x33\x44"),
+    )
 }
 
 #[test]
 fn a_full_book_hands_back(rt: HostRuntime) -> Result<(), Fail> {
     let mut book = a_book(rt.alloc(), 1)?;
-    let mut reply = a_reply(rt.alloc())?;
-    let read = a_read(READ_ALL.0).ok_or("no request")?;
-    assert_eq!(rt; book.step(7, with_right(read), &mut reply).ok(), Some(0));
-    let write = a_write(rt.alloc(), WRITE_AA.0, WRITE_AA.1)?.ok_or("no request")?;
-    let Err(
-        Ask {
-            right: true,
-            request: Request::Write { items, octets, .. },
-        },
-    ) = book.step(7, with_right(write), &mut reply)
-    else {
-        return Err(Fail::from("not handed back"));
-    };
-    assert_eq!(rt; items.len(), 1);
-    assert_eq!(rt; octets.as_slice(), WRITE_AA.1);
-    assert!(rt; says(&reply, b"\x04\x01", b"\xFF\x04\x00\x20\x11\x22\x33\x44"));
-    assert_eq!(rt; book.journal.len(), 1);
-    assert!(rt; book.plant.areas.octets_of(DB1) == Some(&[0x11, 0x22, 0x33, 0x44]));
+    assert!(rt; hands_back(rt.alloc(), &mut book)?);
+    assert!(rt; book.journal.len() == 1);
+    assert!(rt; holds(&book.plant, &[0x11, 0x22, 0x33, 0x44]));
     Ok(())
 }
 
@@ -274,23 +345,21 @@ pub(crate) fn image_of<S: Ledger>(
     Ok(Some(book.image_at(alloc, n, &mut steps)?))
 }
 
+/// What data block 1 has after so many of those steps.
+const IMAGES: &[(u64, &[u8])] = &[
+    (0, &[0x11, 0x22, 0x33, 0x44]),
+    (1, &[0xAA, 0x22, 0x33, 0x44]),
+    (2, &[0xAA, 0x22, 0x33, 0x44]),
+    (3, &[0xAA, 0x22, 0x33, 0xCC]),
+];
+
 #[test]
 fn images_are_replayed(rt: HostRuntime) -> Result<(), Fail> {
     let mut book = a_book(rt.alloc(), 262_144)?;
-    let mut reply = a_reply(rt.alloc())?;
-    for (params, data) in [WRITE_AA, READ_ALL, WRITE_CC] {
-        let request = a_request(rt.alloc(), params, data)?.ok_or("no request")?;
-        assert!(rt; book.step(7, with_right(request), &mut reply).is_ok());
-    }
-    let rows: [(u64, &[u8]); 4] = [
-        (0, &[0x11, 0x22, 0x33, 0x44]),
-        (1, &[0xAA, 0x22, 0x33, 0x44]),
-        (2, &[0xAA, 0x22, 0x33, 0x44]),
-        (3, &[0xAA, 0x22, 0x33, 0xCC]),
-    ];
-    for (n, octets) in rows {
-        let image = image_of::<Brand>(rt.alloc(), &book, n, Blank::new(1))?.ok_or("no image")?;
-        assert!(rt; image.areas.octets_of(DB1) == Some(octets), "{n}");
+    assert!(rt; enters_all(rt.alloc(), &mut book)?);
+    for (n, octets) in IMAGES {
+        let image = image_of::<Brand>(rt.alloc(), &book, *n, Blank::new(1))?.ok_or("no image")?;
+        assert!(rt; holds(&image, octets), "{n}");
     }
     Ok(())
 }
