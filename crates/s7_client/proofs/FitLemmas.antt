@@ -28,14 +28,14 @@ use Rattle.s7_client.specs.declared.grant.Leaves.TheVariants.{AsItWas}
 use Rattle.s7_client.specs.declared.job.Job.{Job}
 use Rattle.s7_client.specs.declared.job.Job.TheVariants as job
 use Rattle.s7_client.specs.declared.subject.Subject.{Subject}
-use Rattle.s7_client.specs.declared.subject.Subject.TheVariants.{StatusList, RunState, Clock, ClockSetting, Password, PasswordClearing}
+use Rattle.s7_client.specs.declared.subject.Subject.TheVariants.{StatusList, RunState, BlockCounts, BlocksOfKind, BlockHead, Clock, ClockSetting, Password, PasswordClearing}
 use Rattle.s7_client.specs.UserData.{request_params, further_params, no_data, data_of, filled_text, encoded_after, encoded}
 use Rattle.s7_client.specs.Question.{Question, reads, writes, controls, asks, asks_further, written, message_octets, question_octets}
 use Rattle.s7_client.specs.Answer.{Answer}
 use Rattle.s7_client.specs.Checks.{octet_count_of, check_item, check_items, check_moment, check_password}
 use Rattle.s7_client.specs.Stages.{joined}
 use Rattle.s7_client.specs.Flight.{Row, open_count}
-use Rattle.s7_client.specs.Dialogue.{Conduct, Plan, over, End, number_end, read_questions, write_questions, alone, controlling, octets_brought, last_answer, asking_about, list_octets, if_good, connected_plan, plan_of}
+use Rattle.s7_client.specs.Dialogue.{Conduct, Plan, over, End, number_end, read_questions, write_questions, alone, controlling, octets_brought, last_answer, asking_about, list_octets, kind_octets, block_octets, if_good, connected_plan, plan_of}
 use Rattle.s7_client.specs.Course.{Origin, conduct_of, course}
 use Rattle.s7_client.proofs.CheckLemmas.{item_checked, items_checked, can_split}
 use Rattle.s7_client.proofs.MessageLemmas.{written_sent}
@@ -287,6 +287,12 @@ sent_short (job.WriteMany items octets) config granted answers question least is
     let sent = good_sent good _ answers question is in
     listed_short granted.pdu (write_questions (groups_of granted.pdu true items) octets) answers question
     (items_written items octets granted.pdu sent.0) sent.1
+sent_short job.List config granted answers question least is =
+    piece_short granted.pdu BlockCounts [] answers question least (omega arith) is
+sent_short (job.ListOf kind) config granted answers question least is =
+    piece_short granted.pdu BlocksOfKind (kind_octets kind) answers question least (omega arith) is
+sent_short (job.Info kind number) config granted answers question least is =
+    piece_short granted.pdu BlockHead (block_octets kind number) answers question least (omega arith) is
 sent_short (job.Szl id index) config granted answers question least is =
     piece_short granted.pdu StatusList (list_octets id index) answers question least (omega arith) is
 sent_short job.ClockRead config granted answers question least is =

@@ -1,6 +1,6 @@
 -- Laws of the form of ends: at the end all telegrams have answers that fit them.
 use Rattle.std.proofs.Common.{◌≡◌, ◌≢◌, ◌⊎◌, inl, inr, ℕ, suc, ◌+◌, ◌<◌, ◌≤◌, Bool, true, false, not, cond, eqb, leb, Option, Some, None, List, [], ◌∷◌, ◌++◌, map, length, take, drop, slice_index, refl, sym, ap, ◌∙◌, subst, arith}
-use Rattle.std.specs.Prelude.{◌&&◌, ◌||◌, max, slice_get, option_map}
+use Rattle.std.specs.Prelude.{◌%◌, ◌&&◌, ◌||◌, max, slice_get, option_map}
 use Rattle.std.specs.List.{AllByRecursion, flat_map}
 use Rattle.std.specs.Option.{ForSome}
 use Rattle.std.proofs.lemmas.Bool.{and_parts, eqb-true, eqb-false, leb-true, ltb-false}
@@ -21,8 +21,8 @@ use Rattle.s7_client.specs.declared.grant.Leaves.TheVariants.{AsItWas, Connected
 use Rattle.s7_client.specs.declared.job.Job.{Job}
 use Rattle.s7_client.specs.declared.job.Job.TheVariants as job
 use Rattle.s7_client.specs.declared.subject.Subject.{Subject}
-use Rattle.s7_client.specs.declared.subject.Subject.TheVariants.{StatusList, RunState, Clock, ClockSetting, Password, PasswordClearing}
-use Rattle.s7_client.specs.UserData.{is_whole}
+use Rattle.s7_client.specs.declared.subject.Subject.TheVariants.{StatusList, RunState, BlockCounts, BlocksOfKind, BlockHead, Clock, ClockSetting, Password, PasswordClearing}
+use Rattle.s7_client.specs.UserData.{is_whole, lead_of}
 use Rattle.s7_client.specs.Question.{Question}
 use Rattle.s7_client.specs.Answer.{Answer, ItemAnswer, grants, tells, notes, stands, refuses, begins_read, begins_refused, item_first, item_answers}
 use Rattle.s7_client.specs.Refusals.{number_of_error, number_of_code, number_of_status, code_refusal, telegram_refusal, part_refusal, control_refusal}
@@ -491,17 +491,17 @@ control_formed done granted control rows end carried form is_all ended =
 -- user data gives what the answers brought, which is whole
 about_formed : (done : Job) (granted : Grant) (subject : Subject) (octets : List ℕ) (rows : List Row) (end : End)
     (carried : List ℕ)
-    → ((found : List ℕ) → is_whole subject found ≡ true → FormOf done found [])
-    → ((found : List ℕ) → IsWhole done (good_end found []))
+    → ((found : List ℕ) → is_whole subject found ≡ true → FormOf done (drop (lead_of subject) found) [])
+    → ((found : List ℕ) → IsWhole done (good_end (drop (lead_of subject) found) []))
     → AreAsked (asking_about subject octets) rows → IsEnded (asking_about subject octets) rows end carried
     → Formed (Some granted) done end
 about_formed done granted subject octets rows end carried form is_all asked ended =
     let found : List ℕ = octets_brought (answers_of rows) in
     let refused = first_refusal telegram_refusal 0 (answers_of rows) in
     subst (Formed (Some granted) done) (sym ended.is)
-    (refused_formed (Some granted) done plain_number refused (good_end found [])
+    (refused_formed (Some granted) done plain_number refused (good_end (drop (lead_of subject) found) [])
     (λ r e. first_positive telegram_refusal 0 (answers_of rows) r telegram_positive e)
-    (λ none. found_formed (Some granted) done found []
+    (λ none. found_formed (Some granted) done (drop (lead_of subject) found) []
     (form found
     (whole_brought subject octets rows (asked.last (omega arith)) (all_answered rows ended.answered) none
     (ended.last (omega arith) none)))
@@ -540,6 +540,15 @@ connected_formed (job.WriteMany items octets) granted rows end carried asked end
     (λ good asked ended. listed_formed (job.WriteMany items octets) granted _ telegram_refusal plain_number _ rows end
     carried (λ r e. first_positive telegram_refusal 0 (answers_of rows) r telegram_positive e)
     (written_formed items octets granted (answers_of rows) good) asked ended) asked ended
+connected_formed job.List granted rows end carried asked ended =
+    about_formed job.List granted BlockCounts _ rows end carried
+    (λ found is. (eqb-true (length found) 28 is, refl)) (λ found. tt) asked ended
+connected_formed (job.ListOf kind) granted rows end carried asked ended =
+    about_formed (job.ListOf kind) granted BlocksOfKind _ rows end carried
+    (λ found is. (eqb-true (length found % 4) 0 is, refl)) (λ found. tt) asked ended
+connected_formed (job.Info kind number) granted rows end carried asked ended =
+    about_formed (job.Info kind number) granted BlockHead _ rows end carried
+    (λ found is. (omega (arith, length-drop 4 found, eqb-true (length found) 40 is), refl)) (λ found. tt) asked ended
 connected_formed (job.Szl id index) granted rows end carried asked ended =
     about_formed (job.Szl id index) granted StatusList _ rows end carried (λ found is. (is, refl)) (λ found. tt) asked
     ended

@@ -65,6 +65,8 @@ password_long text good =
 
 -- ten octets at most
 data_few : (done : Job) → is_sent_well done ≡ true → length (data_of_job done) ≤ 10
+data_few (job.ListOf kind) well = omega arith
+data_few (job.Info kind number) well = omega arith
 data_few (job.Szl id index) well = omega arith
 data_few (job.ClockSet moment) well = omega (arith, clock_long moment)
 data_few job.Status well = omega arith

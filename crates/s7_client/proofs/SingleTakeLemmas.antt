@@ -19,12 +19,12 @@ use Rattle.s7_client.specs.declared.running.Stage.TheVariants as stage
 use Rattle.s7_client.specs.declared.running.Running.{Running}
 use Rattle.s7_client.specs.declared.user_data.Told.{Told}
 use Rattle.s7_client.specs.declared.user_data.Told.TheVariants as told
-use Rattle.s7_client.specs.UserData.{comes_in_pieces}
+use Rattle.s7_client.specs.UserData.{comes_in_pieces, lead_of}
 use Rattle.s7_client.specs.Question.{Question, asks_further}
 use Rattle.s7_client.specs.Answer.{Answer, answer_of, brings}
 use Rattle.s7_client.specs.Refusals.{control_refusal, telegram_refusal}
 use Rattle.s7_client.specs.Flight.{Row, answers_of, open_count, filled}
-use Rattle.s7_client.specs.Dialogue.{End, Conduct, octets_in, octets_brought, of_answer, behind, last_answer, next_piece, first_refusal, good_end, number_end, by_refusal, plain_number, controlling, asking_about, plan_of}
+use Rattle.s7_client.specs.Dialogue.{End, Conduct, octets_in, octets_brought, brought_end, of_answer, behind, last_answer, next_piece, first_refusal, good_end, number_end, by_refusal, plain_number, controlling, asking_about, plan_of}
 use Rattle.s7_client.specs.Course.{Course, for_nothing, next_question, settled, asking}
 use Rattle.s7_client.specs.Stages.{data_of_job, question_of_single, conduct_of_single, is_sent_well, can_ask_single, is_ready, unput_by, IsOver}
 use Rattle.s7_client.specs.Singles.{refusal_to, IsControl, IsAbout, TellsSingle, TellsIfSome}
@@ -127,13 +127,13 @@ ends_refused done (ask.About subject) answers x number none is =
     let first = refused_behind telegram_refusal answers x number none is in
     record {
       last = λ unrefused. absurd (cc);
-      is = ap (λ o. by_refusal plain_number o (good_end (octets_brought (answers ++ Some x ∷ [])) [])) first;
+      is = ap (λ o. by_refusal plain_number o (brought_end subject (answers ++ Some x ∷ []))) first;
     }
 ends_refused done (ask.Further subject octet) answers x number none is =
     let first = refused_behind telegram_refusal answers x number none is in
     record {
       last = λ unrefused. absurd (cc);
-      is = ap (λ o. by_refusal plain_number o (good_end (octets_brought (answers ++ Some x ∷ [])) [])) first;
+      is = ap (λ o. by_refusal plain_number o (brought_end subject (answers ++ Some x ∷ []))) first;
     }
 
 ends_done : (done : Job) (asked : Ask) (answers : Answers) (x : Answer) (question : Question) → IsControl asked
@@ -159,15 +159,15 @@ about_as done (ask.Further other octet) subject about = ap (λ s. asking_about s
 ends_brought : (subject : Subject) (octets came piece : List ℕ) (answers : Answers) (octet : ℕ)
     → first_refusal telegram_refusal 0 answers ≡ None → octets_brought answers ≡ came
     → EndsWith (asking_about subject octets) (answers ++ Some (brings octet false piece) ∷ [])
-    (good_end (came ++ piece) [])
+    (good_end (drop (lead_of subject) (came ++ piece)) [])
 ends_brought subject octets came piece answers octet none brought =
     let x = brings octet false piece in
     record {
       last = λ unrefused. piece_behind subject octets answers (Some x);
       is =
-          ap (λ o. by_refusal plain_number o (good_end (octets_brought (answers ++ Some x ∷ [])) []))
+          ap (λ o. by_refusal plain_number o (brought_end subject (answers ++ Some x ∷ [])))
           (unrefused_behind telegram_refusal answers x none refl)
-          ∙ ap (λ xs. good_end xs [])
+          ∙ ap (λ xs. good_end (drop (lead_of subject) xs) [])
           (brought_behind answers x ∙ ap (λ xs. xs ++ piece) brought);
     }
 
@@ -397,14 +397,15 @@ pieced r s piece = take s.len r.found.items ++ piece ++ drop (s.len + length pie
 
 -- the last piece
 pub last_piece : (r r' : Running) (s : Single) (found message found' : List ℕ) (t : Told) (octet : ℕ)
-    (piece : Bor (List ℕ)) (last : ℕ) (config : Config) (granted : Option Grant) (course : Course)
+    (piece : Bor (List ℕ)) (lead last : ℕ) (config : Config) (granted : Option Grant) (course : Course)
     → r.stage ≡ stage.Single s → found ≡ r.found.items → IsToldTo s found message t
-    → t ≡ told.Octets octet false piece → found' ≡ pieced r s piece.now → Follows r config granted course.rows
+    → t ≡ told.Octets octet false piece → found' ≡ pieced r s piece.now
+    → ((subject : Subject) → IsAbout subject s.ask → lead ≡ lead_of subject) → Follows r config granted course.rows
     → course.sequence ≡ last
-    → awaited_in r' [] ≡ for_nothing (good_end (take (s.len + length piece.now) found') r.codes) [] → IsOver r'.stage
-    → IsTakenBy message config granted course r.job r' last
-last_piece r r' s found message found' t octet piece last config granted course is same of told_is placed follows at
-    awaits over =
+    → awaited_in r' [] ≡ for_nothing (good_end (drop lead (take (s.len + length piece.now) found')) r.codes) []
+    → IsOver r'.stage → IsTakenBy message config granted course r.job r' last
+last_piece r r' s found message found' t octet piece lead last config granted course is same of told_is placed leads
+    follows at awaits over =
     let h = tells_as r s found message t (told.Octets octet false piece) same of told_is in
     let fits = piece_of r s message octet false piece is h in
     let stands = stands_at r s config granted course.rows (Some h.number) is h.out follows in
@@ -413,7 +414,8 @@ last_piece r r' s found message found' t octet piece last config granted course 
     let about = about_as r.job s.ask fits.subject fits.about in
     let none : first_refusal telegram_refusal 0 answers ≡ None =
     ap (λ (c : Conduct). first_refusal c.refusal 0 answers) (sym about) ∙ stands.unrefused in
-    let end = good_end (came ++ piece.now) [] in
+    let n : ℕ = lead_of fits.subject in
+    let end = good_end (drop n (came ++ piece.now)) [] in
     let ends : EndsWith (conduct_of_single r.job s.ask) (answers ++ Some h.answer ∷ []) end =
     subst (λ (c : Conduct). EndsWith c (answers ++ Some h.answer ∷ []) end) (sym about)
     (subst (λ (x : Answer). EndsWith (asking_about fits.subject (data_of_job r.job)) (answers ++ Some x ∷ []) end)
@@ -421,11 +423,13 @@ last_piece r r' s found message found' t octet piece last config granted course 
     (ends_brought fits.subject (data_of_job r.job) came piece.now answers octet none stands.brought)) in
     ends_alone r r' s config granted course h.number last message h.answer end stands h.is ends at
     (awaits
-    ∙ (ap (λ xs. for_nothing (good_end (take (s.len + length piece.now) xs) r.codes) []) placed
-    ∙ (ap (λ xs. for_nothing (good_end xs r.codes) [])
+    ∙ (ap (λ k. for_nothing (good_end (drop k (take (s.len + length piece.now) found')) r.codes) [])
+    (leads fits.subject fits.about)
+    ∙ (ap (λ xs. for_nothing (good_end (drop n (take (s.len + length piece.now) xs)) r.codes) []) placed
+    ∙ (ap (λ xs. for_nothing (good_end (drop n xs) r.codes) [])
     (front_with s.len r.found.items piece.now (drop (s.len + length piece.now) r.found.items)
     (omega (arith, fits.room)))
-    ∙ ap (λ xs. for_nothing (good_end (came ++ piece.now) xs) []) stands.no_codes)))
+    ∙ ap (λ xs. for_nothing (good_end (drop n (came ++ piece.now)) xs) []) stands.no_codes))))
     over
 
 -- ---- more is asked for

@@ -12,6 +12,7 @@ use Rattle.s7_split.specs.Groups.{groups_of}
 use Rattle.s7_clock.specs.declared.control.Control.{Control}
 use Rattle.s7_clock.specs.declared.control.Control.TheVariants as control
 use Rattle.s7_clock.specs.Moment.{octets_at}
+use Rattle.s7_block.specs.Names.{name_octets}
 use Rattle.s7_client.specs.declared.config.Config.{Config}
 use Rattle.s7_client.specs.declared.grant.Grant.{Grant}
 use Rattle.s7_client.specs.declared.grant.Leaves.{Leaves}
@@ -19,9 +20,9 @@ use Rattle.s7_client.specs.declared.grant.Leaves.TheVariants.{AsItWas, Connected
 use Rattle.s7_client.specs.declared.job.Job.{Job}
 use Rattle.s7_client.specs.declared.job.Job.TheVariants as job
 use Rattle.s7_client.specs.declared.subject.Subject.{Subject}
-use Rattle.s7_client.specs.declared.subject.Subject.TheVariants.{StatusList, RunState, Clock, ClockSetting, Password, PasswordClearing}
+use Rattle.s7_client.specs.declared.subject.Subject.TheVariants.{StatusList, RunState, BlockCounts, BlocksOfKind, BlockHead, Clock, ClockSetting, Password, PasswordClearing}
 use Rattle.s7_client.specs.Codes.{no_fault, not_connected, negotiation_failed, partly_written}
-use Rattle.s7_client.specs.UserData.{comes_in_pieces, filled_text, encoded}
+use Rattle.s7_client.specs.UserData.{comes_in_pieces, lead_of, filled_text, encoded}
 use Rattle.s7_client.specs.Question.{Question, negotiates, reads, writes, controls, asks, asks_further}
 use Rattle.s7_client.specs.Answer.{Answer, grants, tells, notes, stands, brings, refuses, ItemAnswer}
 use Rattle.s7_client.specs.Refusals.{telegram_refusal, part_refusal, control_refusal}
@@ -258,13 +259,17 @@ next_piece subject octets [] = Some (asks subject octets)
 next_piece subject octets (answer ∷ answers) =
     behind subject (octets_brought (answer ∷ answers)) (last_answer answer answers)
 
+-- what was asked for, of what the answers bring
+abbrev pub brought_end : Subject → List (Option Answer) → End
+brought_end subject answers = good_end (drop (lead_of subject) (octets_brought answers)) []
+
 abbrev pub asking_about : Subject → List ℕ → Conduct
 asking_about subject octets = record {
   width = 1;
   question_at = next_piece subject octets;
   refusal = telegram_refusal;
   ended = λ (answers : List (Option Answer)).
-      by_refusal plain_number (first_refusal telegram_refusal 0 answers) (good_end (octets_brought answers) []);
+      by_refusal plain_number (first_refusal telegram_refusal 0 answers) (brought_end subject answers);
 }
 
 -- a job that asks from its start on
@@ -274,6 +279,14 @@ at_once conduct = record { first = nothing; conduct = conduct }
 -- the id and the index of a status list
 abbrev pub list_octets : ℕ → ℕ → List ℕ
 list_octets id index = two_octets id ++ two_octets index
+
+-- a kind of blocks
+abbrev pub kind_octets : ℕ → List ℕ
+kind_octets kind = 0x30 ∷ kind ∷ []
+
+-- a block, which is in the controller's memory
+abbrev pub block_octets : ℕ → ℕ → List ℕ
+block_octets kind number = name_octets (record { kind = kind; number = number }) 0x41
 
 -- ---- each job
 
@@ -299,6 +312,9 @@ connected_plan (job.WriteMany items octets) granted =
     if_good (check_items items (length octets == octet_count_of items) granted.pdu true)
     (listed granted (write_questions (groups_of granted.pdu true items) octets) telegram_refusal plain_number
     (λ answers. good_end [] (codes_told answers)))
+connected_plan job.List granted = at_once (asking_about BlockCounts [])
+connected_plan (job.ListOf kind) granted = at_once (asking_about BlocksOfKind (kind_octets kind))
+connected_plan (job.Info kind number) granted = at_once (asking_about BlockHead (block_octets kind number))
 connected_plan (job.Szl id index) granted = at_once (asking_about StatusList (list_octets id index))
 connected_plan job.ClockRead granted = at_once (asking_about Clock [])
 connected_plan (job.ClockSet moment) granted =

@@ -1,5 +1,5 @@
 -- The form of ends: what a job gives where it came off, by what was asked.
-use Rattle.std.specs.Prelude.{◌≡◌, ◌≢◌, ℕ, ◌+◌, ◌≤◌, ◌==◌, true, if◌then◌else◌, IsSome, List, [], ◌∷◌, length}
+use Rattle.std.specs.Prelude.{◌≡◌, ◌≢◌, ℕ, ◌+◌, ◌≤◌, ◌==◌, ◌%◌, true, if◌then◌else◌, IsSome, List, [], ◌∷◌, length}
 use Rattle.std.specs.Option.{ForSome}
 use Rattle.s7_item.specs.declared.item.Item.{Item}
 use Rattle.s7_item.specs.Item.{octet_count}
@@ -25,8 +25,9 @@ octets_read (item ∷ items) [] = 0
 octets_read (item ∷ items) (code ∷ cs) = count_read item code + octets_read items cs
 
 -- Of several items there are as many codes as items, and the octets of those that were read. Other
--- jobs have no codes, and only what reads has octets: an image of a status list adds up, one that tells whether the
--- controller runs does so, and the octets of a clock are ten and have a date and time.
+-- jobs have no codes, and only what reads has octets: four for each of seven kinds of blocks, four for each block of a
+-- kind, the 36 of a head, an image of a status list adds up, one that tells whether the controller runs does so, and the
+-- octets of a clock are ten and have a date and time.
 abbrev pub FormOf : Job → List ℕ → List ℕ → Type 0
 FormOf job.Connect octets codes = (octets ≡ []) × (codes ≡ [])
 FormOf (job.ReadArea item) octets codes = codes ≡ []
@@ -35,6 +36,9 @@ FormOf (job.ReadMany items) octets codes =
     (length codes ≤ 20) × (length codes ≡ length items) × (length octets ≡ octets_read items codes)
 FormOf (job.WriteMany items written) octets codes =
     (length codes ≤ 20) × (length codes ≡ length items) × (octets ≡ [])
+FormOf job.List octets codes = (length octets ≡ 28) × (codes ≡ [])
+FormOf (job.ListOf kind) octets codes = (length octets % 4 ≡ 0) × (codes ≡ [])
+FormOf (job.Info kind number) octets codes = (length octets ≡ 36) × (codes ≡ [])
 FormOf (job.Szl id index) octets codes = (adds_up octets ≡ true) × (codes ≡ [])
 FormOf job.ClockRead octets codes = IsSome (moment_in octets) × (codes ≡ [])
 FormOf (job.ClockSet moment) octets codes = (octets ≡ []) × (codes ≡ [])

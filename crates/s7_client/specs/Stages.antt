@@ -30,7 +30,7 @@ use Rattle.s7_client.specs.UserData.{filled_text, encoded}
 use Rattle.s7_client.specs.Question.{Question, negotiates, reads, writes, controls, asks, asks_further, question_octets}
 use Rattle.s7_client.specs.Checks.{is_known, octet_count_of, check_moment, check_password}
 use Rattle.s7_client.specs.Left.{questions_left, groups_in, most_parts}
-use Rattle.s7_client.specs.Dialogue.{Conduct, asked_by, list_octets, controlling, asking_about}
+use Rattle.s7_client.specs.Dialogue.{Conduct, asked_by, list_octets, kind_octets, block_octets, controlling, asking_about}
 use Rattle.s7_client.specs.Course.{Awaits, for_confirm, for_answers, for_departure, for_nothing}
 pub use Rattle.s7_client.specs.Left.{joined}
 
@@ -60,6 +60,8 @@ message_of config job flight = question_octets flight.sequence (question_of conf
 
 -- the octets that a job sends in user data
 abbrev pub data_of_job : Job → List ℕ
+data_of_job (job.ListOf kind) = kind_octets kind
+data_of_job (job.Info kind number) = block_octets kind number
 data_of_job (job.Szl id index) = list_octets id index
 data_of_job (job.ClockSet moment) = octets_at moment
 data_of_job job.Status = list_octets 0x0424 0

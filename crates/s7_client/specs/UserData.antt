@@ -1,6 +1,6 @@
 -- User data, as a client asks for it and is answered (Snap7 1.4 sources, s7_types.h: TReqFunTypedParams, TS7Params7,
 -- and the data that follow them).
-use Rattle.std.specs.Prelude.{ℕ, ◌+◌, ◌-◌, Bool, true, false, not, ◌==◌, ◌&&◌, nat_eq, nat_le, nat_lt, bit_xor, List, [], ◌∷◌, ◌++◌, length, drop, replicate, is_some, Option, None, Some, if◌then◌else◌}
+use Rattle.std.specs.Prelude.{ℕ, ◌+◌, ◌-◌, ◌%◌, Bool, true, false, not, ◌==◌, ◌&&◌, nat_eq, nat_le, nat_lt, bit_xor, List, [], ◌∷◌, ◌++◌, length, drop, replicate, is_some, Option, None, Some, if◌then◌else◌}
 use Rattle.std.specs.List.{starts_with}
 use Rattle.std.specs.Str.{bytes_eq}
 use Rattle.s7_outer.specs.Numbers.{two_octets}
@@ -11,14 +11,17 @@ use Rattle.s7_szl.specs.Readers.{mode_of}
 use Rattle.s7_szl.specs.Joining.{is_refused}
 use Rattle.s7_clock.specs.Moment.{moment_in}
 use Rattle.s7_client.specs.declared.subject.Subject.{Subject}
-use Rattle.s7_client.specs.declared.subject.Subject.TheVariants.{StatusList, RunState, Clock, ClockSetting, Password, PasswordClearing}
+use Rattle.s7_client.specs.declared.subject.Subject.TheVariants.{StatusList, RunState, BlockCounts, BlocksOfKind, BlockHead, Clock, ClockSetting, Password, PasswordClearing}
 
 -- ---- what is asked
 
--- the group of a request: 44 status lists, 45 security, 47 the clock
+-- the group of a request: 43 blocks, 44 status lists, 45 security, 47 the clock
 abbrev pub group_of : Subject → ℕ
 group_of StatusList = 0x44
 group_of RunState = 0x44
+group_of BlockCounts = 0x43
+group_of BlocksOfKind = 0x43
+group_of BlockHead = 0x43
 group_of Clock = 0x47
 group_of ClockSetting = 0x47
 group_of Password = 0x45
@@ -27,6 +30,9 @@ group_of PasswordClearing = 0x45
 abbrev pub subfunction_of : Subject → ℕ
 subfunction_of StatusList = 0x01
 subfunction_of RunState = 0x01
+subfunction_of BlockCounts = 0x01
+subfunction_of BlocksOfKind = 0x02
+subfunction_of BlockHead = 0x03
 subfunction_of Clock = 0x01
 subfunction_of ClockSetting = 0x02
 subfunction_of Password = 0x01
@@ -83,24 +89,43 @@ answers_about subject params =
     (params.answer && params.group == group_of subject + 0x40)
     && (params.sub == subfunction_of subject && nat_le params.more 1)
 
--- of a status list there may be more than one telegram takes
+-- of a status list, and of what is told of blocks, there may be more than one telegram takes
 abbrev pub comes_in_pieces : Subject → Bool
 comes_in_pieces StatusList = true
 comes_in_pieces RunState = true
+comes_in_pieces BlockCounts = true
+comes_in_pieces BlocksOfKind = true
+comes_in_pieces BlockHead = true
 comes_in_pieces Clock = false
 comes_in_pieces ClockSetting = false
 comes_in_pieces Password = false
 comes_in_pieces PasswordClearing = false
 
--- The octets are a whole answer: an image that adds up, one that tells whether the controller runs, ten octets of a
--- clock that has such a date and time, or none.
+-- The octets are a whole answer: an image that adds up, one that tells whether the controller runs, `30`, a kind and a
+-- count for each of seven kinds of blocks, four octets for each block of a kind, `30`, the kind, `00 22` and the head of
+-- a block, ten octets of a clock that has such a date and time, or none.
 abbrev pub is_whole : Subject → List ℕ → Bool
 is_whole StatusList octets = adds_up octets
 is_whole RunState octets = is_some (mode_of octets)
+is_whole BlockCounts octets = length octets == 28
+is_whole BlocksOfKind octets = length octets % 4 == 0
+is_whole BlockHead octets = length octets == 40
 is_whole Clock octets = is_some (moment_in octets)
 is_whole ClockSetting octets = length octets == 0
 is_whole Password octets = length octets == 0
 is_whole PasswordClearing octets = length octets == 0
+
+-- how many octets of a whole answer stand before what was asked for: those before the head of a block
+abbrev pub lead_of : Subject → ℕ
+lead_of StatusList = 0
+lead_of RunState = 0
+lead_of BlockCounts = 0
+lead_of BlocksOfKind = 0
+lead_of BlockHead = 4
+lead_of Clock = 0
+lead_of ClockSetting = 0
+lead_of Password = 0
+lead_of PasswordClearing = 0
 
 -- A piece goes on with what came before it: more may follow one that isn't empty, all of them have room, and with the
 -- last one the answer is whole.

@@ -57,6 +57,17 @@ pub(crate) fn place_octets(octets: &[u8], found: &mut [u8], at: usize)
     found[at..at + octets.len()].copy_from_slice(octets);
 }
 
+/// Keeps the octets from one place to another, or as many of them as there are.
+pub(crate) fn keep_octets(found: &mut Vec<u8>, from: usize, to: usize)
+    ensures { found.new.items ≡ drop from (take to found.old.items) }
+{
+    found.truncate(to);
+    let len = found.len();
+    let from = from.min(len);
+    found.copy_within(from..len, 0);
+    found.truncate(len - from);
+}
+
 /// Closes up the octets of the items whose code isn't FF.
 pub(crate) fn close_gaps(items: &[Item], codes: &[u8], found: &mut Vec<u8>)
     requires { octet_count_of items.now ≤ length found.old.items }

@@ -23,6 +23,7 @@ mod password;
 mod polls;
 mod progress;
 mod refusals;
+mod requests;
 mod running;
 mod runs;
 mod single;

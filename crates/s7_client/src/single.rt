@@ -5,7 +5,7 @@ ghost use Rattle.s7_client.specs.declared.single.Ask.TheVariants as asked;
 
 use crate::asking::sequence_after;
 use crate::codes::GOOD;
-use crate::collect::place_octets;
+use crate::collect::{keep_octets, place_octets};
 use crate::grant::Leaves;
 use crate::running::{Running, Stage};
 use crate::subject::Subject;
@@ -92,6 +92,7 @@ impl Single {
 }
 
 impl Ask {
+    ghost use Rattle.s7_client.specs.UserData.{lead_of};
     ghost use Rattle.s7_client.specs.Singles.{IsAbout};
 
     /// What asks for the next octets of its answer, which has this sequence octet.
@@ -104,10 +105,20 @@ impl Ask {
             Ask::Control(_) => unreachable!(),
         }
     }
+
+    /// How many octets of a whole answer stand before what was asked for.
+    pub(crate) fn lead(&self) -> usize
+        ensures { (subject : Subject) → IsAbout subject self.now → result ≡ lead_of subject }
+    {
+        match self {
+            Ask::About(subject) | Ask::Further(subject, _) => subject.lead(),
+            Ask::Control(_) => 0,
+        }
+    }
 }
 
 impl Running {
-    ghost use Rattle.std.specs.Prelude.{ℕ, ◌+◌, List, length, take, None, Some, Option, IfSome, IfNone, OnSome};
+    ghost use Rattle.std.specs.Prelude.{ℕ, ◌+◌, List, length, take, drop, None, Some, Option, IfSome, IfNone, OnSome};
     ghost use Rattle.s7_client.specs.declared.config.Config.{Config};
     ghost use Rattle.s7_client.specs.declared.grant.Grant.{Grant};
     ghost use Rattle.s7_client.specs.Flight.{Row, filled};
@@ -148,7 +159,7 @@ impl Running {
                 Some(sequence)
             }
             Told::Done => {
-                self.finish(len);
+                self.finish(0, len);
                 Some(sequence)
             }
             Told::Octets {
@@ -159,7 +170,7 @@ impl Running {
                 place_octets(octets, self.found.as_mut_slice(), len);
                 let len = len + octets.len();
                 if !more {
-                    self.finish(len);
+                    self.finish(ask.lead(), len);
                     return Some(sequence);
                 }
                 self.stage = Stage::Single(Single {
@@ -173,14 +184,14 @@ impl Running {
         }
     }
 
-    // Ends the job well with so many octets.
-    fn finish(&mut self, len: usize)
+    // Ends the job well with the octets from one place to another.
+    fn finish(&mut self, from: usize, to: usize)
         ensures ends { (carried : List ℕ) → awaited_in self.new carried
-            ≡ for_nothing (good_end (take len self.old.found.items) self.old.codes) carried }
+            ≡ for_nothing (good_end (drop from (take to self.old.found.items)) self.old.codes) carried }
         ensures over { IsOver self.new.stage }
         ensures job { self.new.job ≡ self.old.job }
     {
-        self.found.truncate(len);
+        keep_octets(&mut self.found, from, to);
         self.stage = Stage::Over {
             code: GOOD,
             leaves: Leaves::AsItWas,

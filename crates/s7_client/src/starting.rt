@@ -67,6 +67,9 @@ fn start_connected(granted: &Grant, job: &Job) -> Start
         Job::WriteMany { items, octets } => {
             write_many(granted, items.as_slice(), octets.as_slice())
         }
+        Job::List => asking_about(Subject::BlockCounts),
+        Job::ListOf { .. } => asking_about(Subject::BlocksOfKind),
+        Job::Info { .. } => asking_about(Subject::BlockHead),
         Job::Szl { .. } => asking_about(Subject::StatusList),
         Job::ClockRead => asking_about(Subject::Clock),
         Job::ClockSet { moment } => set_clock(*moment),

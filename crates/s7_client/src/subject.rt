@@ -8,6 +8,12 @@ pub(crate) enum Subject {
     StatusList,
     /// The status list that tells whether the controller runs.
     RunState,
+    /// How many blocks there are of each kind.
+    BlockCounts,
+    /// The blocks of a kind.
+    BlocksOfKind,
+    /// The head of a block.
+    BlockHead,
     /// What the clock shows.
     Clock,
     /// That the clock shows something else.
@@ -19,13 +25,14 @@ pub(crate) enum Subject {
 }
 
 impl Subject {
-    ghost use Rattle.s7_client.specs.UserData.{group_of, subfunction_of, comes_in_pieces};
+    ghost use Rattle.s7_client.specs.UserData.{group_of, subfunction_of, comes_in_pieces, lead_of};
 
-    /// The group of a request: 44 status lists, 45 security, 47 the clock.
+    /// The group of a request: 43 blocks, 44 status lists, 45 security, 47 the clock.
     pub(crate) fn group(self) -> u8
         ensures { result ≡ group_of self }
     {
         match self {
+            Subject::BlockCounts | Subject::BlocksOfKind | Subject::BlockHead => 0x43,
             Subject::StatusList | Subject::RunState => 0x44,
             Subject::Password | Subject::PasswordClearing => 0x45,
             Subject::Clock | Subject::ClockSetting => 0x47,
@@ -37,8 +44,13 @@ impl Subject {
         ensures { result ≡ subfunction_of self }
     {
         match self {
-            Subject::StatusList | Subject::RunState | Subject::Clock | Subject::Password => 0x01,
-            Subject::ClockSetting | Subject::PasswordClearing => 0x02,
+            Subject::StatusList
+            | Subject::RunState
+            | Subject::BlockCounts
+            | Subject::Clock
+            | Subject::Password => 0x01,
+            Subject::BlocksOfKind | Subject::ClockSetting | Subject::PasswordClearing => 0x02,
+            Subject::BlockHead => 0x03,
         }
     }
 
@@ -46,6 +58,23 @@ impl Subject {
     pub(crate) fn comes_in_pieces(self) -> bool
         ensures { result ≡ comes_in_pieces self }
     {
-        matches!(self, Subject::StatusList | Subject::RunState)
+        matches!(
+            self,
+            Subject::StatusList
+                | Subject::RunState
+                | Subject::BlockCounts
+                | Subject::BlocksOfKind
+                | Subject::BlockHead
+        )
+    }
+
+    /// How many octets of a whole answer stand before what was asked for.
+    pub(crate) fn lead(self) -> usize
+        ensures { result ≡ lead_of self }
+    {
+        match self {
+            Subject::BlockHead => 4,
+            _ => 0,
+        }
     }
 }

@@ -1,35 +1,26 @@
-// User data and controls: the questions of jobs that ask one at a time, and their answers (Snap7 1.4
-// sources, s7_types.h: TReqFunTypedParams, TS7Params7, and the data that follow them).
-ghost use Rattle.std.specs.Prelude.{◌≡◌, ℕ, ◌+◌, ◌++◌, ◌≤◌, ◌<◌, ◌==◌, ◌&&◌, true, [], List, length, if◌then◌else◌};
+// User data and controls: the answers to what jobs ask that ask one question at a time (Snap7 1.4 sources, s7_types.h:
+// TS7Params7, and the data that follow it).
+ghost use Rattle.std.specs.Prelude.{◌≡◌, ℕ, ◌+◌, ◌<◌, ◌==◌, ◌&&◌, List, length, if◌then◌else◌};
 ghost use Rattle.std.specs.Prelude.{None, Some, IfSome, IfNone, MatchOption};
-ghost use Rattle.s7_header.specs.declared.header.Kind.TheVariants as kind;
 ghost use Rattle.s7_header.specs.Octets.{number_at};
-ghost use Rattle.s7_header.specs.UserParams.{user_spelling, user_params_of, HasForm};
-ghost use Rattle.s7_header.specs.Negotiation.{most_pdu};
-ghost use Rattle.s7_clock.specs.Control.{control_spelling};
+ghost use Rattle.s7_header.specs.UserParams.{user_params_of};
 ghost use Rattle.s7_szl.specs.Images.{adds_up};
 ghost use Rattle.s7_client.specs.declared.job.Job.{Job};
 ghost use Rattle.s7_client.specs.declared.single.Ask.{Ask};
 ghost use Rattle.s7_client.specs.declared.subject.Subject.{Subject};
 ghost use Rattle.s7_client.specs.declared.single.Ask.TheVariants as asked;
-ghost use Rattle.s7_client.specs.UserData.{request_params, further_params, data_of, octets_in, answers_about};
+ghost use Rattle.s7_client.specs.UserData.{octets_in, answers_about};
 ghost use Rattle.s7_client.specs.UserData.{is_whole, has_octets, goes_on_with};
-ghost use Rattle.s7_client.specs.Question.{message_octets, question_octets};
 ghost use Rattle.s7_client.specs.Answer.{answer_of, acknowledged, answered_by_user, by_params, brought, is_under};
 ghost use Rattle.s7_client.specs.Answer.{refuses, function_of, tells_status};
-ghost use Rattle.s7_client.specs.Dialogue.{list_octets};
-ghost use Rattle.s7_client.specs.Stages.{question_of_single, can_ask_single, is_plain, is_sent_well, data_of_job};
+ghost use Rattle.s7_client.specs.Stages.{question_of_single};
 ghost use Rattle.s7_client.specs.Singles.{IsAbout, TellsIfSome};
 
-use crate::job::Job;
-use crate::message::begin_message;
-use crate::password::encoded;
 use crate::refusals::{number_of_error, number_of_status};
 use crate::single::Ask;
 use crate::subject::Subject;
-use s7_clock::{Control, date_of, from_octets, to_octets, write_control};
-use s7_header::{Header, Kind, UserParams, parts, read_header, read_user, write_user};
-use s7_outer::Buffer;
+use s7_clock::{Control, from_octets};
+use s7_header::{Header, Kind, UserParams, parts, read_header, read_user};
 use s7_szl::read_mode;
 
 /// The most octets of an answer.
@@ -38,11 +29,16 @@ pub(crate) const MOST_JOINED: usize = 8448;
 /// The octets of an image before its records.
 const HEAD: usize = 8;
 
-/// The data without octets.
-const NO_DATA: [u8; 4] = [0x0A, 0x00, 0x00, 0x00];
+/// The octets of an answer that counts the blocks of seven kinds, of each block of a kind, and of an answer that tells a
+/// head.
+const COUNTS: usize = 28;
 
-/// The id of the list that tells whether the controller runs.
-const RUN_STATE: u16 = 0x0424;
+const ENTRY: usize = 4;
+
+const HEAD_TOLD: usize = 40;
+
+/// The data without octets.
+pub(crate) const NO_DATA: [u8; 4] = [0x0A, 0x00, 0x00, 0x00];
 
 /// The function of a control that isn't a stop, and of a stop.
 const CONTROL_FUNCTION: u8 = 0x28;
@@ -62,129 +58,6 @@ pub(crate) enum Told<'a> {
         more: bool,
         octets: &'a [u8],
     },
-}
-
-/// Writes the message of what the job asks as the one message that the buffer holds.
-pub(crate) fn write_single(job: &Job, ask: &Ask, sequence: u16, message: &mut Buffer)
-    requires asks { (found : ℕ) × (can_ask_single job.now found ask.now ≡ true) }
-    requires room { message.old.room ≡ most_pdu }
-    ensures octets { message.new.octets ≡ question_octets sequence (question_of_single job.now ask.now []) }
-    ensures fits { (10 ≤ length message.new.octets) × (length message.new.octets ≤ 64) }
-    ensures room { message.new.room ≡ most_pdu }
-{
-    match ask {
-        Ask::Control(control) => write_call(control, sequence, message),
-        Ask::About(subject) => write_request(*subject, job, sequence, message),
-        Ask::Further(subject, octet) => write_further(*subject, *octet, sequence, message),
-    }
-}
-
-// Writes the call of a control.
-fn write_call(control: &Control, sequence: u16, message: &mut Buffer)
-    requires plain { is_plain control.now ≡ true }
-    requires room { message.old.room ≡ most_pdu }
-    ensures octets { message.new.octets ≡ message_octets kind.Job sequence (control_spelling control.now) [] }
-    ensures fits { (10 ≤ length message.new.octets) × (length message.new.octets ≤ 64) }
-    ensures room { message.new.room ≡ most_pdu }
-{
-    let mut params = [0u8; 26];
-    let len = write_control(control, &mut params);
-    begin_message(Kind::Job, sequence, &params[..len], 0, message);
-}
-
-// Writes the request for user data, with the octets that the job sends.
-fn write_request(subject: Subject, job: &Job, sequence: u16, message: &mut Buffer)
-    requires well { is_sent_well job.now ≡ true }
-    requires room { message.old.room ≡ most_pdu }
-    ensures octets { message.new.octets ≡ message_octets kind.User sequence (user_spelling (request_params subject))
-        (data_of (data_of_job job.now)) }
-    ensures fits { (10 ≤ length message.new.octets) × (length message.new.octets ≤ 64) }
-    ensures room { message.new.room ≡ most_pdu }
-{
-    let params = request_params(subject);
-    match job {
-        Job::Szl { id, index } => {
-            write_user_data(&params, &list_octets(*id, *index), sequence, message)
-        }
-        Job::Status => write_user_data(&params, &list_octets(RUN_STATE, 0), sequence, message),
-        Job::ClockSet { moment } => {
-            write_user_data(&params, &to_octets(date_of(*moment)), sequence, message)
-        }
-        Job::PasswordSet { text } => {
-            write_user_data(&params, &encoded(text.as_slice()), sequence, message)
-        }
-        _ => write_user_data(&params, &[], sequence, message),
-    }
-}
-
-// Writes the request for the next octets of an answer with this sequence octet.
-fn write_further(subject: Subject, octet: u8, sequence: u16, message: &mut Buffer)
-    requires { message.old.room ≡ most_pdu }
-    ensures octets { message.new.octets ≡ message_octets kind.User sequence
-        (user_spelling (further_params subject octet)) (data_of []) }
-    ensures fits { (10 ≤ length message.new.octets) × (length message.new.octets ≤ 64) }
-    ensures room { message.new.room ≡ most_pdu }
-{
-    let params = UserParams {
-        answer: true,
-        sequence: octet,
-        ..request_params(subject)
-    };
-    write_user_data(&params, &[], sequence, message);
-}
-
-// The parameters of a request.
-fn request_params(subject: Subject) -> UserParams
-    ensures { result ≡ request_params subject }
-{
-    UserParams {
-        answer: false,
-        group: subject.group(),
-        sub: subject.subfunction(),
-        sequence: 0,
-        unit: 0,
-        more: 0,
-        error: 0,
-    }
-}
-
-// The id and the index of a status list.
-fn list_octets(id: u16, index: u16) -> [u8; 4]
-    ensures { result ≡ list_octets id index }
-{
-    let [id_high, id_low] = id.to_be_bytes();
-    let [index_high, index_low] = index.to_be_bytes();
-    [id_high, id_low, index_high, index_low]
-}
-
-// Writes user data with these parameters and octets.
-fn write_user_data(params: &UserParams, octets: &[u8], sequence: u16, message: &mut Buffer)
-    requires form { HasForm params.now }
-    requires few { length octets.now ≤ 10 }
-    requires room { message.old.room ≡ most_pdu }
-    ensures octets { message.new.octets
-        ≡ message_octets kind.User sequence (user_spelling params.now) (data_of octets.now) }
-    ensures fits { (10 ≤ length message.new.octets) × (length message.new.octets ≤ 64) }
-    ensures room { message.new.room ≡ most_pdu }
-{
-    let mut spelled = [0u8; 12];
-    let len = write_user(params, &mut spelled);
-    let head = data_head(octets.len() as u16);
-    let body_len = (head.len() + octets.len()) as u16;
-    begin_message(Kind::User, sequence, &spelled[..len], body_len, message);
-    message.add(&head);
-    message.add(octets);
-}
-
-// What stands before so many octets in the data.
-fn data_head(len: u16) -> [u8; 4]
-    ensures { (octets : List ℕ) → length octets ≡ len → data_of octets ≡ result ++ octets }
-{
-    if len == 0 {
-        return NO_DATA;
-    }
-    let [high, low] = len.to_be_bytes();
-    [0xFF, 0x09, high, low]
 }
 
 /// What the message tells of the answer to what is asked, behind the octets that came; `None` exactly where it is no
@@ -409,6 +282,9 @@ fn is_whole(subject: Subject, octets: &[u8]) -> bool
     match subject {
         Subject::StatusList => adds_up(octets),
         Subject::RunState => read_mode(octets).is_some(),
+        Subject::BlockCounts => octets.len() == COUNTS,
+        Subject::BlocksOfKind => octets.len() % ENTRY == 0,
+        Subject::BlockHead => octets.len() == HEAD_TOLD,
         Subject::Clock => from_octets(octets).is_ok(),
         Subject::ClockSetting | Subject::Password | Subject::PasswordClearing => octets.is_empty(),
     }

@@ -7,10 +7,13 @@ use std::alloc::Global;
 use std::test::Fail;
 
 /// What a job asks first on a connected client, a good answer to it, and the octets of its result.
-type Good<'a> = (Ask<'a>, &'a str, &'a str, &'a str);
+pub(crate) type Good<'a> = (Ask<'a>, &'a str, &'a str, &'a str);
 
 /// A connected client asks this, is answered so, and the next read goes on.
-fn comes_off(alloc: Global, (ask, asked, answer, octets): Good<'_>) -> Result<bool, Fail> {
+pub(crate) fn comes_off(
+    alloc: Global,
+    (ask, asked, answer, octets): Good<'_>,
+) -> Result<bool, Fail> {
     let steps: [Step<'_>; 3] = [
         (Ask::Connect, 0, "", ""),
         (ask, 0, octets, ""),
@@ -128,7 +131,7 @@ fn each_job_comes_off(rt: HostRuntime) -> Result<(), Fail> {
 }
 
 /// A job of a connected client asks this, is answered so, ends with this number, and the next read goes on.
-fn is_answered(
+pub(crate) fn is_answered(
     alloc: Global,
     ask: Ask<'_>,
     asked: &str,
@@ -265,7 +268,7 @@ fn refusals_have_their_numbers(rt: HostRuntime) -> Result<(), Fail> {
 
 /// A job of a connected client asks this and is answered, behind octets that it goes on with, by a packet whose message
 /// is no answer: it closes the client and carries the message, which stands behind seven octets.
-fn is_no_answer(
+pub(crate) fn is_no_answer(
     alloc: Global,
     ask: Ask<'_>,
     asked: &str,
@@ -604,6 +607,9 @@ fn nothing_is_sent_of_bad_parameters(rt: HostRuntime) -> Result<(), Fail> {
 #[test]
 fn nothing_is_asked_unconnected(rt: HostRuntime) -> Result<(), Fail> {
     let asks = [
+        Ask::List,
+        Ask::ListOf(0x41),
+        Ask::Info(0x41, 1),
         Ask::Szl(0x0011, 0),
         Ask::ClockRead,
         Ask::ClockSet(0),

@@ -55,14 +55,14 @@ returns-then-not-more-clause-some c = λ config granted course follows same.
     let piece = c.in-Octets.octets in
     let by =
     last_piece r c.finish-then-not-more.new.self s c.as_slice.result.now c.args.message.now _ c.in-Some.told
-    c.in-Octets.octet piece c.args.sequence config granted course c.in-Single.is c.as_slice.ensures.value
+    c.in-Octets.octet piece _ c.args.sequence config granted course c.in-Single.is c.as_slice.ensures.value
     c.in-Some.ensures.some
     (c.in-Octets.is ∙ ap (λ more. told.Octets c.in-Octets.octet more piece) c.if-not-more.true)
     (with_items_is r.found c.place_octets.new.found
     (omega (arith, c.place_octets.ensures.len, c.as_mut_slice.ensures.len))
     ∙ (c.place_octets.ensures.octets
     ∙ ap (λ xs. take s.len xs ++ piece.now ++ drop (s.len + length piece.now) xs) c.as_mut_slice.ensures.value))
-    follows same (c.finish-then-not-more.ensures.ends []) c.finish-then-not-more.ensures.over in
+    c.lead.ensures follows same (c.finish-then-not-more.ensures.ends []) c.finish-then-not-more.ensures.over in
     (by.rows, by.fills, by.reached)
 
 pub invariant_of-self-in-Octets : goal.invariant_of-self-in-Octets
