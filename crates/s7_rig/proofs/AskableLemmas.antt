@@ -20,13 +20,13 @@ use Rattle.s7_client.specs.declared.grant.Grant.{Grant}
 use Rattle.s7_client.specs.declared.job.Job.{Job}
 use Rattle.s7_client.specs.declared.job.Job.TheVariants as job
 use Rattle.s7_client.specs.declared.subject.Subject.{Subject}
-use Rattle.s7_client.specs.declared.subject.Subject.TheVariants.{StatusList, RunState, Clock, ClockSetting, Password, PasswordClearing}
+use Rattle.s7_client.specs.declared.subject.Subject.TheVariants.{StatusList, RunState, BlockCounts, BlocksOfKind, BlockHead, Clock, ClockSetting, Password, PasswordClearing}
 use Rattle.s7_client.specs.Codes.{invalid_parameters}
 use Rattle.s7_client.specs.UserData.{comes_in_pieces, filled_text, encoded}
 use Rattle.s7_client.specs.Question.{Question, controls, asks_further}
 use Rattle.s7_client.specs.Answer.{Answer, grants, tells, notes, stands, brings, refuses}
 use Rattle.s7_client.specs.Checks.{octet_count_of, check_item, check_items, check_moment, check_password}
-use Rattle.s7_client.specs.Dialogue.{End, read_questions, write_questions, alone, listed, if_good, at_once, asking_about, next_piece, behind, last_answer, octets_brought, list_octets, plan_of}
+use Rattle.s7_client.specs.Dialogue.{End, read_questions, write_questions, alone, listed, if_good, at_once, asking_about, next_piece, behind, last_answer, octets_brought, list_octets, kind_octets, block_octets, plan_of}
 use Rattle.s7_client.proofs.CheckLemmas.{item_checked, items_checked, can_split}
 use Rattle.s7_client.proofs.GroupLemmas.{groups_right}
 use Rattle.s7_client.proofs.FitLemmas.{one_of_all, good_sent}
@@ -170,6 +170,11 @@ askable (job.WriteMany items octets) config granted answers q least is =
     (write_questions (groups_of granted.pdu true items) octets) _ _ _ answers q
     (λ good. writes_askable granted.pdu _ octets (items_groups items has granted.pdu true good)
     (groups_each HasWord items has granted.pdu true good (items_known items has granted.pdu true good))) is
+askable job.List config granted answers q least is = piece_askable granted.pdu BlockCounts [] answers q refl is
+askable (job.ListOf kind) config granted answers q least is =
+    piece_askable granted.pdu BlocksOfKind (kind_octets kind) answers q (kind, refl) is
+askable (job.Info kind number) config granted answers q least is =
+    piece_askable granted.pdu BlockHead (block_octets kind number) answers q refl is
 askable (job.Szl id index) config granted answers q least is =
     piece_askable granted.pdu StatusList (list_octets id index) answers q refl is
 askable job.ClockRead config granted answers q least is = piece_askable granted.pdu Clock [] answers q refl is

@@ -33,7 +33,7 @@ use Rattle.s7_split.specs.Parts.{parts_of}
 use Rattle.s7_rig.specs.State.{Post}
 use Rattle.s7_rig.specs.Turns.{StartsNext, StartsNothing, with_polled, IsClientTurn}
 use Rattle.s7_rig.specs.Scripts.{IsNoConnect, NoneConnects, ConnectsFirst}
-use Rattle.s7_rig.specs.Split.{AllStand}
+use Rattle.s7_rig.specs.Split.{AllStand, state_at}
 use Rattle.s7_rig.proofs.Joint.{Octets, IsConnecting, IsWorking, IsFailing, IsLost, Mode, untouched, connecting, connected, working, lost, Joint}
 use Rattle.s7_session.specs.Verdict.{Verdict}
 use Rattle.s7_session.specs.Owed.{past, owed, entered}
@@ -57,6 +57,7 @@ use Rattle.s7_client.specs.Codes.{timed_out}
 use Rattle.s7_client.specs.Dialogue.{End, fault_end, departed_end, connected_plan, plan_of}
 use Rattle.s7_client.specs.Flight.{answers_of}
 use Rattle.s7_rig.proofs.OwnLemmas.{own_replies, own_shaped, reads_own, stands_at, all_stand_more}
+use Rattle.s7_rig.specs.Plants.{IsPlant}
 use Rattle.s7_rig.proofs.ClientFacts.{pipes_quiet, has_job, waits_for_none, some_job, took, wrote, same_moment, given_on, taken_on, wrote_nothing}
 
 -- ---- the first job and the others
@@ -83,7 +84,8 @@ not_in_time code good late = absurd (omega (arith, good, late))
 
 -- ---- starting
 
-module _ (opening : Memory) (limit : ℕ) (config : Config) (book : Book) where
+module _ (opening : Memory) (limit : ℕ) (config : Config) (book : Book)
+    (plants : (n : ℕ) → IsPlant (state_at (begins_with opening) (history_of book) n)) where
   -- the state with which the link began
   abbrev first : LinkState
   first = first_link opening.guard
@@ -471,7 +473,7 @@ module _ (opening : Memory) (limit : ℕ) (config : Config) (book : Book) where
       unused = waits;
       taken = append_cancel_left w.before sent (w.used ++ waits) (sym sent_all ∙ taken ∙ ap (λ x. x ++ waits) w.used_is ∙ append_assoc w.before w.used waits);
       met = parted (λ x y. (past first x y).verdicts ≡ []) j.stands.met;
-      replies = parted (λ x y. AreReplies (entered first x y)) (subst AreReplies (sym (entered_is p o j)) (own_replies (begins_with opening) p.link (history_of book)));
+      replies = parted (λ x y. AreReplies (entered first x y)) (subst AreReplies (sym (entered_is p o j)) (own_replies (begins_with opening) p.link (history_of book) plants));
       owed_is = parted (λ x y. owed first x y ≡ (owed first w.before w.judged ++ heard) ++ behind) (owes p c pipes o (o.heard ++ used) j given ∙ ap (λ x. x ++ behind) heard_all);
     }
 

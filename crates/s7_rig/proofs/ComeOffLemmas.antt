@@ -20,7 +20,7 @@ use Rattle.s7_client.specs.declared.grant.Leaves.TheVariants.{AsItWas}
 use Rattle.s7_client.specs.declared.job.Job.{Job}
 use Rattle.s7_client.specs.declared.job.Job.TheVariants as job
 use Rattle.s7_client.specs.declared.subject.Subject.{Subject}
-use Rattle.s7_client.specs.declared.subject.Subject.TheVariants.{StatusList, RunState, Clock, ClockSetting}
+use Rattle.s7_client.specs.declared.subject.Subject.TheVariants.{StatusList, RunState, BlockCounts, Clock, ClockSetting}
 use Rattle.s7_client.specs.Question.{Question, reads, writes, controls, asks, asks_further}
 use Rattle.s7_client.specs.Answer.{Answer, tells, notes}
 use Rattle.s7_client.specs.Refusals.{code_refusal, part_refusal, telegram_refusal, control_refusal}
@@ -30,7 +30,7 @@ use Rattle.s7_client.specs.Dialogue.{End, Conduct, Plan, number_end, over, read_
 use Rattle.s7_client.specs.Dialogue.{first_refusal}
 use Rattle.s7_client.specs.Dialogue.{plain_number, write_number, by_refusal, octets_told, codes_told, good_end, alone}
 use Rattle.s7_client.specs.Dialogue.{listed, if_good, connected_plan}
-use Rattle.s7_client.specs.Dialogue.{controlling, octets_brought, last_answer, next_piece, asking_about, list_octets}
+use Rattle.s7_client.specs.Dialogue.{controlling, octets_brought, brought_end, last_answer, next_piece, asking_about, list_octets}
 use Rattle.s7_client.proofs.FlightLemmas.{same_some}
 use Rattle.s7_client.proofs.FitLemmas.{one_of_all}
 use Rattle.s7_session.specs.Verdict.{Verdict}
@@ -39,11 +39,11 @@ use Rattle.s7_rig.specs.Heard.{told_of}
 use Rattle.s7_rig.specs.Awaiting.{AreAsked}
 use Rattle.s7_rig.specs.Complete.{IsThere, CanComeOff}
 use Rattle.s7_rig.specs.Exchanges.{IsSecurity, AnyUndone, HasTold, is_refused, is_read, is_written, is_controlled}
-use Rattle.s7_rig.specs.Exchanges.{is_brought, is_secured, is_further, request_of}
+use Rattle.s7_rig.specs.Exchanges.{is_brought, is_secured, is_unnamed, is_further, NamesNone, request_of}
 use Rattle.s7_rig.specs.Exchanges.{Exchange, entries_of, rows_of, AreTold, Converses}
 use Rattle.s7_rig.specs.Exchanges as exchange
 use Rattle.s7_rig.proofs.HoldLemmas.{behind_is}
-use Rattle.s7_rig.proofs.HoldReplies.{IsGood, lists_good, mode_good, clock_good, setting_good, user_good}
+use Rattle.s7_rig.proofs.HoldReplies.{IsGood, counts_good, lists_good, mode_good, clock_good, setting_good, user_good}
 use Rattle.s7_rig.proofs.HoldReplies.{IsDoneAs, compress_done, copy_done, control_good}
 use Rattle.s7_rig.proofs.AskedItems.{AsksFor, part_reads_for, part_writes_for}
 use Rattle.s7_rig.proofs.AsksLemmas.{codes_noted}
@@ -155,6 +155,8 @@ module _ (n : Memory) (verdicts : List Verdict) (all_done : AnyUndone verdicts �
       shaped finds = absurd (subst (FindsAll n) is finds).1
   part_unrefused question answer new (is_secured subject os octet error is secures entered told) shaped finds =
       absurd (subst (FindsAll n) is finds).1
+  part_unrefused question answer new (is_unnamed subject os is names entered told) shaped finds =
+      absurd (subst (FindsAll n) is finds).1
   part_unrefused question answer new (is_further subject octet so_far piece more is entered told) shaped finds =
       absurd (subst (FindsAll n) is finds).1
 
@@ -173,6 +175,8 @@ module _ (n : Memory) (verdicts : List Verdict) (all_done : AnyUndone verdicts �
   items_unrefused question answer new (is_brought subject os moment right request reply pdu octet is wants entered told)
       shaped of = absurd (subst IsOfItems is of)
   items_unrefused question answer new (is_secured subject os octet error is secures entered told) shaped of =
+      absurd (subst IsOfItems is of)
+  items_unrefused question answer new (is_unnamed subject os is names entered told) shaped of =
       absurd (subst IsOfItems is of)
   items_unrefused question answer new (is_further subject octet so_far piece more is entered told) shaped of =
       absurd (subst IsOfItems is of)
@@ -198,16 +202,19 @@ module _ (n : Memory) (verdicts : List Verdict) (all_done : AnyUndone verdicts �
       absurd (subst (IsControl c) is of)
   control_unrefused c function done question answer new (is_secured subject os octet error is secures entered told)
       shaped of = absurd (subst (IsControl c) is of)
+  control_unrefused c function done question answer new (is_unnamed subject os is names entered told) shaped of =
+      absurd (subst (IsControl c) is of)
   control_unrefused c function done question answer new (is_further subject octet so_far piece more is entered told)
       shaped of = absurd (subst (IsControl c) is of)
 
   -- nor is user data that is replied to without an error
-  about_unrefused : (subject : Subject) (octets : List ℕ) → (IsSecurity subject → ⊥) → IsGood n subject octets
+  about_unrefused : (subject : Subject) (octets : List ℕ) → (IsSecurity subject → ⊥) → (NamesNone subject octets → ⊥)
+      → IsGood n subject octets
       → (question : Question) (answer : Answer) (new : List (Ask × Said)) → HasTold verdicts question answer new
       → AreShaped n new → IsAbout subject octets question → telegram_refusal answer ≡ None
-  about_unrefused subject octets plain good question answer new (is_refused error undone is) shaped of =
+  about_unrefused subject octets plain named good question answer new (is_refused error undone is) shaped of =
       absurd (all_done undone)
-  about_unrefused subject octets plain good question answer new
+  about_unrefused subject octets plain named good question answer new
       (is_brought other os moment right request reply pdu octet is wants entered told) shaped of =
       let state = (subst (AreShaped n) entered shaped).0 in
       let same = subst (IsAbout subject octets) is of in
@@ -217,16 +224,20 @@ module _ (n : Memory) (verdicts : List Verdict) (all_done : AnyUndone verdicts �
       ap telegram_refusal told
       ∙ user_good pdu octet reply
       (ap (λ (r : Said). r.error) state.2 ∙ good moment right request state.0 asked state.1)
-  about_unrefused subject octets plain good question answer new
+  about_unrefused subject octets plain named good question answer new
       (is_secured other os octet error is secures entered told) shaped of =
       absurd (plain (subst IsSecurity (subst (IsAbout subject octets) is of).0 secures))
-  about_unrefused subject octets plain good question answer new
+  about_unrefused subject octets plain named good question answer new
+      (is_unnamed other os is names entered told) shaped of =
+      let same = subst (IsAbout subject octets) is of in
+      absurd (named (subst (λ xs. NamesNone subject xs) same.1 (subst (λ s. NamesNone s os) same.0 names)))
+  about_unrefused subject octets plain named good question answer new
       (is_further other octet so_far piece more is entered told) shaped of = ap telegram_refusal told
-  about_unrefused subject octets plain good question answer new (is_read items right reply is entered told) shaped of =
+  about_unrefused subject octets plain named good question answer new (is_read items right reply is entered told) shaped of =
       absurd (subst (IsAbout subject octets) is of)
-  about_unrefused subject octets plain good question answer new (is_written items os right reply is entered told)
+  about_unrefused subject octets plain named good question answer new (is_written items os right reply is entered told)
       shaped of = absurd (subst (IsAbout subject octets) is of)
-  about_unrefused subject octets plain good question answer new
+  about_unrefused subject octets plain named good question answer new
       (is_controlled c right request reply is wants entered told) shaped of =
       absurd (subst (IsAbout subject octets) is of)
 
@@ -291,12 +302,12 @@ module _ (n : Memory) (verdicts : List Verdict) (all_done : AnyUndone verdicts �
 
   -- and one that asks for user data
   about_off : (subject : Subject) (octets : List ℕ) (end : End) (xs : List Exchange) → (IsSecurity subject → ⊥)
-      → IsGood n subject octets → Converses verdicts (asking_about subject octets) end xs → AreShaped n (entries_of xs)
+      → (NamesNone subject octets → ⊥) → IsGood n subject octets → Converses verdicts (asking_about subject octets) end xs → AreShaped n (entries_of xs)
       → end.code ≡ 0
-  about_off subject octets end xs plain good went shaped =
+  about_off subject octets end xs plain named good went shaped =
       off_by (asking_about subject octets) telegram_refusal plain_number
-      (λ answers. good_end (octets_brought answers) []) (IsAbout subject octets) end xs
-      (about_unrefused subject octets plain good) (piece_about subject octets) (λ answers. refl) (λ answers. refl)
+      (brought_end subject) (IsAbout subject octets) end xs
+      (about_unrefused subject octets plain named good) (piece_about subject octets) (λ answers. refl) (λ answers. refl)
       went shaped
 
   reads_free : (groups : List (List Item)) → is_read_barred n.guard false ≡ false
@@ -352,18 +363,20 @@ module _ (n : Memory) (verdicts : List Verdict) (all_done : AnyUndone verdicts �
       listed_off grant questions telegram_refusal plain_number (λ answers. good_end [] (codes_told answers))
       IsOfItems end xs items_unrefused (writes_items (groups_of grant.pdu true items) octets) (λ answers. refl)
       (checked (check_items items has grant.pdu true) _ end xs can c) shaped
+  comes_off job.List grant end xs none least shaped c can =
+      about_off BlockCounts [] end xs (λ secures. secures) (λ names. names) (counts_good n) c shaped
   comes_off (job.Szl id index) grant end xs none least shaped c can =
-      about_off StatusList (list_octets id index) end xs (λ secures. secures) (lists_good n id index can) c shaped
+      about_off StatusList (list_octets id index) end xs (λ secures. secures) (λ names. names) (lists_good n id index can) c shaped
   comes_off job.ClockRead grant end xs none least shaped c can =
-      about_off Clock [] end xs (λ secures. secures) (clock_good n) c shaped
+      about_off Clock [] end xs (λ secures. secures) (λ names. names) (clock_good n) c shaped
   comes_off (job.ClockSet moment) grant end xs none least shaped c can =
-      about_off ClockSetting (octets_at moment) end xs (λ secures. secures)
+      about_off ClockSetting (octets_at moment) end xs (λ secures. secures) (λ names. names)
       (setting_good n (octets_at moment) can.1) (checked (check_moment moment) _ end xs can.0 c) shaped
   comes_off job.Compress grant end xs none least shaped c can =
       control_off control.Compress service_function end xs (compress_done n can) c shaped
   comes_off job.CopyRam grant end xs none least shaped c can =
       control_off control.CopyRam service_function end xs (copy_done n can) c shaped
   comes_off job.Status grant end xs none least shaped c can =
-      about_off RunState (list_octets 0x0424 0) end xs (λ secures. secures) (mode_good n) c shaped
+      about_off RunState (list_octets 0x0424 0) end xs (λ secures. secures) (λ names. names) (mode_good n) c shaped
   comes_off job.Disconnect grant end xs none least shaped c can = ap (λ (e : End). e.code) c.is
   comes_off _ grant end xs none least shaped c can = absurd can

@@ -13,7 +13,7 @@ use Rattle.s7_client.specs.declared.grant.Leaves.TheVariants.{AsItWas, Connected
 use Rattle.s7_client.specs.declared.job.Job.{Job}
 use Rattle.s7_client.specs.declared.job.Job.TheVariants as job
 use Rattle.s7_client.specs.declared.subject.Subject.{Subject}
-use Rattle.s7_client.specs.declared.subject.Subject.TheVariants.{StatusList, RunState, Clock, ClockSetting, Password, PasswordClearing}
+use Rattle.s7_client.specs.declared.subject.Subject.TheVariants.{StatusList, RunState, BlockCounts, BlocksOfKind, BlockHead, Clock, ClockSetting, Password, PasswordClearing}
 use Rattle.s7_client.specs.Answer.{Answer, grants, tells, notes, stands, brings, refuses}
 use Rattle.s7_client.specs.Codes.{not_connected, timed_out}
 use Rattle.s7_client.specs.Checks.{check_item, check_items, check_moment, check_password, octet_count_of}
@@ -116,6 +116,9 @@ connected_leaves (job.WriteMany items octets) granted =
       ends = λ answers. refusal_leaves (job.WriteMany items octets) granted _ _ _ _;
       departs = λ e. not_departing _ e;
     })
+connected_leaves job.List granted = about_leaves job.List granted BlockCounts _
+connected_leaves (job.ListOf kind) granted = about_leaves (job.ListOf kind) granted BlocksOfKind _
+connected_leaves (job.Info kind number) granted = about_leaves (job.Info kind number) granted BlockHead _
 connected_leaves (job.Szl id index) granted = about_leaves (job.Szl id index) granted StatusList _
 connected_leaves job.ClockRead granted = about_leaves job.ClockRead granted Clock _
 connected_leaves (job.ClockSet moment) granted =

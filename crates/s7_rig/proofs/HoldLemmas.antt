@@ -164,6 +164,9 @@ asks_as (job.ReadMany items) granted =
 asks_as (job.WriteMany items octets) granted =
     listed_asks (check_items items (eqb (length octets) (octet_count_of items)) granted.pdu true) granted _ _ _ _
     (writes_plain (groups_of granted.pdu true items) octets)
+asks_as job.List granted = about _ _ refl
+asks_as (job.ListOf kind) granted = about _ _ refl
+asks_as (job.Info kind number) granted = about _ _ refl
 asks_as (job.Szl id index) granted = about _ _ refl
 asks_as job.ClockRead granted = about _ _ refl
 asks_as (job.ClockSet moment) granted = checked_asks (check_moment moment) _ _ (about _ _ refl)

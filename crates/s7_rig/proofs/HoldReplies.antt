@@ -17,7 +17,7 @@ use Rattle.s7_plant.specs.declared.request.Request.TheVariants as plain
 use Rattle.s7_plant.specs.Replies.{Said, said}
 use Rattle.s7_plant.specs.State.{State}
 use Rattle.s7_client.specs.declared.subject.Subject.{Subject}
-use Rattle.s7_client.specs.declared.subject.Subject.TheVariants.{StatusList, RunState, Clock, ClockSetting}
+use Rattle.s7_client.specs.declared.subject.Subject.TheVariants.{StatusList, RunState, BlockCounts, Clock, ClockSetting}
 use Rattle.s7_client.specs.Answer.{brings, refuses}
 use Rattle.s7_client.specs.Refusals.{control_refusal, telegram_refusal}
 use Rattle.s7_client.specs.Dialogue.{list_octets}
@@ -129,6 +129,9 @@ lists_good n id index there = λ moment right request s asked same.
 pub mode_good : (n : Memory) → IsGood n RunState (list_octets 0x0424 0)
 mode_good n = λ moment right request s asked same.
     good_as s right request (plain.Szl 0x0424 0) (asked ∙ list_asked 0x0424 0) (list_good 0x0424 0 s right mode_there)
+
+pub counts_good : (n : Memory) → IsGood n BlockCounts []
+counts_good n = λ moment right request s asked same. good_as s right request plain.ListAll asked refl
 
 pub clock_good : (n : Memory) → IsGood n Clock []
 clock_good n = λ moment right request s asked same. good_as s right request (plain.ClockRead moment) asked refl

@@ -28,6 +28,7 @@ pub mod OwnLemmas
 pub mod SumLemmas
 pub mod EndLemmas
 pub mod GrowthLemmas
+pub mod PlantLemmas
 pub mod ReplyLemmas
 pub mod AskableLemmas
 pub mod TelegramLemmas
@@ -61,4 +62,5 @@ pub mod UserHeardLemmas
 pub mod UserControlLemmas
 pub mod UserServedLemmas
 pub mod UserFitLemmas
+pub mod BlockFitLemmas
 pub mod UserReplyLemmas

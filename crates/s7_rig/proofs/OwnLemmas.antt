@@ -15,7 +15,9 @@ use Rattle.s7_turn.specs.declared.view.Entry.{Entry as Call}
 use Rattle.s7_turn.specs.Histories.{entry, replay}
 use Rattle.s7_plant.specs.declared.book.Book.{Book}
 use Rattle.s7_plant.specs.declared.request.Ask.{Ask}
+use Rattle.s7_plant.specs.declared.request.Request.{Request}
 use Rattle.s7_plant.specs.declared.request.Request.TheVariants.{Read}
+use Rattle.s7_plant.specs.declared.request.Request.TheVariants as plain
 use Rattle.s7_plant.specs.Answers.{answer_of, after}
 use Rattle.s7_plant.specs.Journals.{after_call}
 use Rattle.s7_plant.specs.Replies.{Said}
@@ -25,6 +27,7 @@ use Rattle.s7_session.specs.Entry.{Entry, answered}
 use Rattle.s7_session.specs.Books.{History, history_of, entry_at, own_from, own, AreOf, GoesOnBy}
 use Rattle.s7_rig.specs.Numbers.{count_from}
 use Rattle.s7_rig.specs.Dialogues.{AreReplies, ReadsParts}
+use Rattle.s7_rig.specs.Plants.{IsPlant, IsStateFor}
 use Rattle.s7_rig.specs.Split.{state_at, IsReadAt, Rise, AreReadAt, SplitRead, StandsAtPlaces, AllStand}
 use Rattle.s7_rig.proofs.ShapeLemmas.{AreShaped, state_same}
 
@@ -148,12 +151,23 @@ pub own_back_at : (s : State) (history : History) (link : ℕ) (before mine : Li
 own_back_at s history link [] mine all = all
 own_back_at s history link (e ∷ before) mine all = own_back_at s history link before mine all.1
 
-replies_of : (s : State) (history : History) (link : ℕ) (es : List Entry) → AreOwnAt s history link es → AreReplies (map answered es)
-replies_of s history link [] all = tt
-replies_of s history link (e ∷ es) all = ((state_at s history e.number, all.0.reply), replies_of s history link es all.1)
+state_for : (request : Request) (s : State) → IsPlant s → IsStateFor request s
+state_for (plain.ListOf kind) s plant = plant
+state_for (plain.Info kind number) s plant = plant
+state_for _ s plant = tt
 
-pub own_replies : (s : State) (link : ℕ) (history : History) → AreReplies (map answered (own s link history))
-own_replies s link history = replies_of s history link (own s link history) (own_at s link history)
+replies_of : (s : State) (history : History) (link : ℕ) (es : List Entry)
+    → ((n : ℕ) → IsPlant (state_at s history n)) → AreOwnAt s history link es → AreReplies (map answered es)
+replies_of s history link [] plants all = tt
+replies_of s history link (e ∷ es) plants all =
+    let state = state_at s history e.number in (
+      (state, all.0.reply, state_for e.ask.request state (plants e.number)),
+      replies_of s history link es plants all.1,
+    )
+
+pub own_replies : (s : State) (link : ℕ) (history : History) → ((n : ℕ) → IsPlant (state_at s history n))
+    → AreReplies (map answered (own s link history))
+own_replies s link history plants = replies_of s history link (own s link history) plants (own_at s link history)
 
 shapes_of : (s : State) (history : History) (link : ℕ) (es : List Entry) → AreOwnAt s history link es → AreShaped s.memory (map answered es)
 shapes_of s history link [] all = tt

@@ -2,6 +2,7 @@
 use Rattle.std.proofs.Common.{◌≡◌, ℕ, ◌-◌, ◌<◌, ◌≤◌, Bool, List, length, get_or, map, slice_get, Some, option_map, sym, ap, ◌∙◌, subst, inr, true, Result, Ok, Err}
 use Rattle.std.proofs.lemmas.Option.{slice_get-map, slice_get-get_or}
 use Rattle.std.proofs.lemmas.Bool.{false≢true}
+use Rattle.std.specs.Prelude.{IfOk}
 use Rattle.std.specs.Result.{is_ok, OnOk}
 use Rattle.s7_rig.specs.State.{State}
 use Rattle.s7_rig.specs.Turns.{SessionTurn, IsTurnOf}
@@ -19,3 +20,8 @@ session_turned actor count old new stirs e h t =
 pub on_ok_at : {T E P : Type 0} (r : Result T E) → is_ok r ≡ true → OnOk r P → P
 on_ok_at (Ok x) e h = h
 on_ok_at (Err x) e h = absurd (false≢true e)
+
+-- two facts of a value
+pub both_ok : {T E : Type 0} (P Q : T → Type 0) (r : Result T E) → IfOk r P → IfOk r Q → IfOk r (λ x. P x × Q x)
+both_ok P Q (Ok x) h k = (h, k)
+both_ok P Q (Err e) h k = tt

@@ -6,13 +6,14 @@ use Rattle.s7_header.specs.Negotiation.{negotiation_spelling, granted, most_pdu}
 use Rattle.s7_wire.specs.Sent.{sent_message}
 use Rattle.s7_client.specs.Question.{Question, negotiates, question_octets}
 use Rattle.s7_session.specs.Verdict.{Verdict}
-use Rattle.s7_session.specs.Judgement.{Asking, own, ask, judge, answer_octets, pdu_limit}
-use Rattle.s7_session.specs.Events.{lives}
+use Rattle.s7_session.specs.Judgement.{Asking, refuse, own, ask, judge, answer_octets, pdu_limit, sequence_of}
+use Rattle.s7_session.specs.Errors.{error_of}
+use Rattle.s7_session.specs.Events.{lives, refusal_sent}
 use Rattle.s7_session.specs.LinkState.{LinkState}
 use Rattle.s7_session.specs.Owed.{past}
 use Rattle.s7_rig.specs.Settled.{Settled, Serves}
 use Rattle.s7_rig.specs.Asked.{IsAnswered}
-use Rattle.s7_rig.proofs.ServedLemmas.{ServesTo, KeepsGrant, served_own, served_asking}
+use Rattle.s7_rig.proofs.ServedLemmas.{ServesTo, KeepsGrant, served_own, served_refused, served_asking}
 use Rattle.s7_rig.proofs.JudgedLemmas.{question_is_s7, judged_negotiation}
 
 -- a negotiation is granted
@@ -51,3 +52,13 @@ served_by_link {first} b js pdu sequence question answer link s most fits judged
     subst (λ out. ServesTo first b js m js (Some pdu) out [] link) (append-nil (sent_message 1024 answer))
     (served_own b m js (Some pdu) (Some pdu) (answer ∷ []) link s (omega (arith, most, fits))
     (question_is_s7 sequence question) judged grants)
+
+-- and one that it refuses
+pub served_refusal : {first : LinkState} (b : List ℕ) (js : List Verdict) (pdu sequence : ℕ) (question : Question)
+    (refusal : _) → Settled first b js (Some pdu) → pdu ≤ most_pdu → length (question_octets sequence question) ≤ pdu
+    → judge (past first b js).link (question_octets sequence question) ≡ refuse refusal
+    → ServesTo first b js (question_octets sequence question) js (Some pdu)
+    (refusal_sent 1024 (sequence_of (question_octets sequence question)) (error_of refusal)) [] (past first b js).link
+served_refusal b js pdu sequence question refusal s most fits judged =
+    served_refused b (question_octets sequence question) js (Some pdu) refusal s (omega (arith, most, fits))
+    (question_is_s7 sequence question) judged

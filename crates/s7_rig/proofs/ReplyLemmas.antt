@@ -27,7 +27,8 @@ use Rattle.s7_rig.specs.Settled.{Settled, Serves}
 use Rattle.s7_rig.specs.Asked.{IsAnswered, is_entered, is_full, is_failed}
 use Rattle.s7_rig.specs.Heard.{told_of}
 use Rattle.s7_rig.specs.Written.{AreKnown, own_data, own_places, own_write, own_codes}
-use Rattle.s7_rig.specs.Exchanges.{AnyUndone, GoesOn, link_past, is_refused, is_read, is_written, IsHeard, Replies}
+use Rattle.s7_rig.specs.Plants.{IsStateFor}
+use Rattle.s7_rig.specs.Exchanges.{AnyUndone, GoesOn, link_past, HasTold, is_refused, is_read, is_written, IsHeard, Replies}
 use Rattle.s7_rig.proofs.ServedLemmas.{ServesTo, served_message}
 use Rattle.s7_rig.proofs.JudgedLemmas.{question_sequence}
 use Rattle.s7_rig.proofs.AnsweredLemmas.{refusal_is_heard, read_is_heard, length-read, least-read, length-write_codes, length-write}
@@ -102,16 +103,21 @@ refusal_ends link (asks subject octets) error = tt
 refusal_ends link (asks_further subject octet so_far) error = tt
 
 -- a refusal is heard under the question's sequence
-refused : (all : List Verdict) (link : LinkState) (q : Question) (s error : ℕ) (new : List (Ask × Said))
-    → AnyUndone all → s < 65536 → error < 65536
+pub refused_as : (all : List Verdict) (link : LinkState) (q : Question) (s error : ℕ) (new : List (Ask × Said))
+    → HasTold all q (refuses error) new → s < 65536 → error < 65536
     → IsHeard all link q s (refusal_octets (sequence_of (question_octets s q)) error) new
-refused all link q s error new undone low small = record {
+refused_as all link q s error new told low small = record {
   answer = refuses error;
   is = ap (λ n. answer_of q s (refusal_octets n error)) (question_sequence s q)
       ∙ refusal_is_heard q s error (omega (arith, low)) (omega (arith, small));
-  told = is_refused error undone refl;
+  told = told;
   goes_on = refusal_ends link q error;
 }
+
+refused : (all : List Verdict) (link : LinkState) (q : Question) (s error : ℕ) (new : List (Ask × Said))
+    → AnyUndone all → s < 65536 → error < 65536
+    → IsHeard all link q s (refusal_octets (sequence_of (question_octets s q)) error) new
+refused all link q s error new undone low small = refused_as all link q s error new (is_refused error undone refl) low small
 
 met_split : (js vs rest : List Verdict) (v : Verdict) → vs ≡ v ∷ rest → js ++ vs ≡ (js ++ v ∷ []) ++ rest
 met_split js vs rest v is = ap (λ x. js ++ x) is ∙ sym (append_assoc js (v ∷ []) rest)
@@ -148,6 +154,7 @@ pub record IsAskedWell (all : List Verdict) (q : Question) (s : ℕ) (asking : A
   pub message : Said → List ℕ
   pub messages : (reply : Said) → asking.messages reply ≡ message reply ∷ []
   pub good : (moment : ℕ) (reply : Said) (state : State) → reply ≡ plant.answer_of state (asking.ask moment)
+      → IsStateFor (asking.ask moment).request state
       → IsGood all (asking.link reply) q s (message reply) ((asking.ask moment, reply) ∷ [])
 
 -- a question that asks the plant has its reply
@@ -165,10 +172,10 @@ asked_replies {first} b js vs pdu s q asking low well (is_entered reply moment r
       new = new;
       serves = subst (λ out. Serves first b js (question_octets s q) met (Some pdu) out new)
           (ap (sent_messages 1024) (well.messages reply) ∙ append-nil (sent_message 1024 (well.message reply))) serves;
-      least = λ h. (well.good moment reply h.0.0 h.0.1).least;
-      most = λ h. (well.good moment reply h.0.0 h.0.1).most;
+      least = λ h. (well.good moment reply h.0.0 h.0.1 h.0.2).least;
+      most = λ h. (well.good moment reply h.0.0 h.0.1 h.0.2).most;
       heard = λ h. subst (λ l. IsHeard (js ++ vs) l q s (well.message reply) new) (sym link)
-          (well.good moment reply h.0.0 h.0.1).heard;
+          (well.good moment reply h.0.0 h.0.1 h.0.2).heard;
     }
 asked_replies b js vs pdu s q asking low well (is_full rest is serves) =
     undone_replies b js vs rest Full pdu s FULL q is (inl (any_full js vs rest is)) low (omega arith) serves
@@ -257,7 +264,7 @@ pub read_well : (all : List Verdict) (link : LinkState) (s : ℕ) (items : List 
 read_well all link s items low room = record {
   message = reply_octets s;
   messages = λ reply. refl;
-  good = λ moment reply state gives.
+  good = λ moment reply state gives for.
       let given = plant.answer_of state (asked link.right (Read items)) in
       record {
         least = least_of 10 s reply given gives (omega (arith, least-read state link.right items s));
@@ -276,7 +283,7 @@ write_well all link s items octets low few known short =
     record {
       message = reply_octets s;
       messages = λ reply. refl;
-      good = λ moment reply state gives.
+      good = λ moment reply state gives for.
           let given = plant.answer_of state (asked link.right (own_write items octets)) in
           let long = length-write state link.right items places written s in
           record {

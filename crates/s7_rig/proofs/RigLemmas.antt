@@ -3,14 +3,16 @@ use Rattle.std.proofs.Common.{◌≡◌, ℕ, zero, suc, ◌+◌, ◌<◌, ◌�
 use Rattle.std.specs.Prelude.{Option, None, Some, Result, Ok, Err, IfOk, unwrap_or, slice_get, map}
 use Rattle.std.specs.List.{AllByRecursion}
 use Rattle.s7_outer.specs.PipesHeld.{PipesHeld}
+use Rattle.std.specs.Map.{keys_of}
 use Rattle.s7_area.specs.Memory.{Memory}
+use Rattle.s7_area.specs.Registers.{db_numbers, most_dbs}
 use Rattle.s7_area.specs.declared.guard.Guard.{Guard}
 use Rattle.s7_header.specs.Negotiation.{most_pdu}
 use Rattle.s7_client.specs.declared.config.Config.{Config}
 use Rattle.s7_client.specs.declared.job.Job.{Job}
 use Rattle.s7_client.specs.Polling as client
 use Rattle.s7_plant.specs.declared.book.Book.{Book}
-use Rattle.s7_plant.specs.Journals.{entries_of, calls_of, after_call}
+use Rattle.s7_plant.specs.Journals.{Entries, AreReady, entries_of, calls_of, after_call}
 use Rattle.s7_plant.specs.State.{begins_with, state_of}
 use Rattle.s7_turn.specs.Histories.{replay}
 use Rattle.s7_session.specs.Books.{history_of, own}
@@ -171,20 +173,21 @@ module _ (opening : Memory) (limit : ℕ) (config : Config) where
             ∙ ap (λ s. replay after_call s history) holds.opened;
       }
 
-  pub rig_ran : 64 ≤ config.pdu → config.pdu ≤ most_pdu → (scripts : List (List Job)) (turning : Turning) (end : EndTold) (start last : State)
+  pub rig_ran : length (db_numbers (keys_of opening.areas)) ≤ most_dbs → 64 ≤ config.pdu → config.pdu ≤ most_pdu → (scripts : List (List Job)) (turning : Turning) (end : EndTold) (start last : State)
       → AllByRecursion ConnectsFirst scripts
       → state_of start.book.opening ≡ begins_with opening → state_of start.book.plant ≡ begins_with opening → start.book.journal ≡ entries_of [] limit
       → AreFresh opening.guard config 1 scripts start.posts → IsRun turning.turns turning.seed turning.steps start last → end ≡ state_told last
       → RigRan opening limit config scripts turning end
-  rig_ran least most scripts turning end start last first opened unchanged journal fresh run ends =
+  rig_ran few least most scripts turning end start last first opened unchanged journal fresh run ends =
       let begins : Holds opening limit config start (λ k. []) (λ k. []) = record {
         each = λ k p at. joint_fresh opening limit config start.book p (1 + k) (fresh_at opening.guard config 1 scripts start.posts k p fresh first at) opened journal;
         links = λ k p at. let f = fresh_at opening.guard config 1 scripts start.posts k p fresh first at in omega (arith, f.fresh.link_is);
         calls = subst (AllLinks 1 (length start.posts)) (sym (ap (λ j. calls_of j.entries) journal)) (no_links 1 (length start.posts));
         opened = opened;
         limited = ap (λ j. j.limit) journal;
+        ready = subst (λ (j : Entries). AreReady j.entries) (sym journal) (λ k d within. absurd (omega (arith, within)));
       } in
-      let holds = run_holds opening limit config least most turning.turns turning.seed turning.steps start last begins run in
+      let holds = run_holds opening limit config few least most turning.turns turning.seed turning.steps start last begins run in
       record {
         start = start;
         last = last;

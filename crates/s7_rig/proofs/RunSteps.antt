@@ -4,15 +4,21 @@ use Rattle.std.specs.Prelude.{Some, unwrap_or, slice_get, slice_set, ◌==◌, i
 use Rattle.std.proofs.lemmas.Bool.Decides.{nat_tests}
 use Rattle.std.proofs.lemmas.Option.{slice_get_within}
 use Rattle.std.proofs.lemmas.List.{length-set}
+use Rattle.std.specs.Map.{keys_of}
 use Rattle.s7_area.specs.Memory.{Memory}
+use Rattle.s7_area.specs.Registers.{db_numbers, most_dbs}
 use Rattle.s7_header.specs.Negotiation.{most_pdu}
 use Rattle.s7_client.specs.declared.config.Config.{Config}
 use Rattle.s7_client.specs.declared.job.Polled.{Polled}
 use Rattle.s7_client.specs.declared.job.Polled.TheVariants as polled
 use Rattle.s7_plant.specs.declared.book.Book.{Book}
+use Rattle.s7_plant.specs.Journals.{AreReady}
 use Rattle.s7_plant.specs.State.{begins_with, state_of}
 use Rattle.s7_session.specs.Books.{history_of}
+use Rattle.s7_rig.specs.Plants.{IsPlant}
+use Rattle.s7_rig.specs.Split.{state_at}
 use Rattle.s7_rig.specs.State.{Post, State}
+use Rattle.s7_rig.proofs.PlantLemmas.{plants_at, begins_plant}
 use Rattle.s7_rig.specs.Turns.{StartsNext, StartsNothing, with_polled, IsClientTurn, IsSessionTurn, ClientTurn, SessionTurn, IsTurnOf}
 use Rattle.s7_draw.specs.Drawing.{seeded}
 use Rattle.s7_rig.specs.Runs.{Turns, Rounds, IsRun, actors_of, most_rounds}
@@ -81,16 +87,18 @@ module _ (opening : Memory) (limit : ℕ) (config : Config) where
     pub calls : AllLinks 1 (length s.posts) (history_of s.book)
     pub opened : state_of s.book.opening ≡ begins_with opening
     pub limited : s.book.journal.limit ≡ limit
+    pub ready : AreReady s.book.journal.entries
 
   pub joint_as : (book : Book) (p : Post) (s s' a a' : List ℕ) → s ≡ s' → a ≡ a' → HasJoint book p s a → HasJoint book p s' a'
   joint_as book p s s' a a' e f h = record { octets = h.octets; sent_are = h.sent_are ∙ e; answered_are = h.answered_are ∙ f; joint = h.joint }
 
   holds_as : (s : State) (x x' y y' : ℕ → List ℕ) → ((k : ℕ) → x k ≡ x' k) → ((k : ℕ) → y k ≡ y' k) → Holds s x y → Holds s x' y'
-  holds_as s x x' y y' e f h = record { each = λ k p at. joint_as s.book p (x k) (x' k) (y k) (y' k) (e k) (f k) (h.each k p at); links = h.links; calls = h.calls; opened = h.opened; limited = h.limited }
+  holds_as s x x' y y' e f h = record { each = λ k p at. joint_as s.book p (x k) (x' k) (y k) (y' k) (e k) (f k) (h.each k p at); links = h.links; calls = h.calls; opened = h.opened; limited = h.limited; ready = h.ready }
 
   -- ---- a turn
 
-  module _ (least : 64 ≤ config.pdu) (most : config.pdu ≤ most_pdu) where
+  module _ (few : length (db_numbers (keys_of opening.areas)) ≤ most_dbs) (least : 64 ≤ config.pdu)
+      (most : config.pdu ≤ most_pdu) where
     client_holds : (i : ℕ) (s s' : State) (stirs : Bool) (x y : ℕ → List ℕ) → Holds s x y → (t : ClientTurn i s s' stirs)
         → Holds s' (λ k. x k ++ (if i == k then t.turn.polls.poll.poll.moves.written else [])) (λ k. y k ++ [])
     client_holds i s s' stirs x y h t =
@@ -100,7 +108,9 @@ module _ (opening : Memory) (limit : ℕ) (config : Config) where
         let here : (k : ℕ) (p : Post) → k ≡ i → p ≡ t.post' → HasJoint s.book p (x k ++ (if i == k then wrote else [])) (y k ++ []) =
         λ k p same is.
         let had = h.each k t.post (ap (slice_get s.posts) same ∙ t.at) in
-        let step = client_step opening limit config s.book least most t.post t.post' stirs had.octets had.joint t.turn in
+        let plants : (n : ℕ) → IsPlant (state_at (begins_with opening) (history_of s.book) n) =
+        λ n. plants_at (begins_with opening) s.book.journal.entries n h.ready (begins_plant opening few) in
+        let step = client_step opening limit config s.book plants least most t.post t.post' stirs had.octets had.joint t.turn in
         subst (λ q. HasJoint s.book q (x k ++ (if i == k then wrote else [])) (y k ++ [])) (sym is) (record {
           octets = step.0;
           sent_are = step.1 ∙ ap (λ z. z ++ wrote) had.sent_are ∙ ap (λ z. x k ++ z) (sym (if_same i k wrote (sym same)));
@@ -115,6 +125,7 @@ module _ (opening : Memory) (limit : ℕ) (config : Config) where
           calls = subst (λ n. AllLinks 1 n (history_of s'.book)) (sym (length-set s.posts i t.post') ∙ sym (ap length posts)) (subst (λ b. AllLinks 1 (length s.posts) (history_of b)) (sym book) h.calls);
           opened = ap (λ (b : Book). state_of b.opening) book ∙ h.opened;
           limited = ap (λ (b : Book). b.journal.limit) book ∙ h.limited;
+          ready = subst (λ (b : Book). AreReady b.journal.entries) (sym book) h.ready;
         }
       where
         either : (k : ℕ) (p : Post) {R : Type 0} → (k ≡ i → p ≡ t.post' → R) → (k ≢ i → slice_get s.posts k ≡ Some p → R) → ((k ≡ i) × (p ≡ t.post')) ⊎ ((k ≢ i) × (slice_get s.posts k ≡ Some p)) → R
@@ -154,6 +165,7 @@ module _ (opening : Memory) (limit : ℕ) (config : Config) where
               (omega (arith, h.links i t.post t.at)) (omega (arith, h.links i t.post t.at, slice_get_within s.posts i t.post t.at)) h.calls t.turn.takes.goes_on);
           opened = ap state_of t.turn.takes.goes_on.opening ∙ h.opened;
           limited = t.turn.takes.goes_on.limit ∙ h.limited;
+          ready = t.ready;
         }
       where
         either : (k : ℕ) (p : Post) {R : Type 0} → (k ≡ i → p ≡ t.post' → R) → (k ≢ i → slice_get s.posts k ≡ Some p → R) → ((k ≡ i) × (p ≡ t.post')) ⊎ ((k ≢ i) × (slice_get s.posts k ≡ Some p)) → R

@@ -9,8 +9,8 @@ use Rattle.s7_wire.specs.Reading.{Progress, message, reading}
 use Rattle.s7_wire.specs.Sent.{sent_message, sent_messages}
 use Rattle.s7_session.specs.Verdict.{Verdict, Entered, Full, ClockFailed, NoMemory}
 use Rattle.s7_session.specs.LinkState.{LinkState}
-use Rattle.s7_session.specs.Judgement.{Judgement, Asking, own, ask, judge, sequence_of}
-use Rattle.s7_session.specs.Errors.{FULL, CLOCK_FAILED}
+use Rattle.s7_session.specs.Judgement.{Judgement, Asking, refuse, own, ask, judge, sequence_of}
+use Rattle.s7_session.specs.Errors.{FULL, CLOCK_FAILED, error_of}
 use Rattle.s7_session.specs.Events.{lives, made, by_judgement, by_clock, is_s7, refusal_sent}
 use Rattle.s7_session.specs.Owed.{Past, past, with_made, telegrams}
 use Rattle.s7_session.specs.Telegrams.{Met, met, entered_of}
@@ -96,6 +96,16 @@ pub served_own : {first : LinkState} (b m : List ℕ) (js : List Verdict) (grant
 served_own {first} b m js granted granted' messages link s most is judged grants =
     serves b m js js granted granted' link (sent_messages 1024 messages) [] s most
     (none_met first b m js _ (served_by b m js [] granted (own messages link) s most is judged)) grants
+
+-- what can't be read is refused, and leaves the link
+pub served_refused : {first : LinkState} (b m : List ℕ) (js : List Verdict) (granted : Option ℕ) (refusal : _)
+    → Settled first b js granted → length m ≤ message_limit → is_s7 m ≡ true
+    → judge (past first b js).link m ≡ refuse refusal
+    → ServesTo first b js m js granted (refusal_sent 1024 (sequence_of m) (error_of refusal)) [] (past first b js).link
+served_refused {first} b m js granted refusal s most is judged =
+    let link = (past first b js).link in
+    serves b m js js granted granted link (refusal_sent 1024 (sequence_of m) (error_of refusal)) [] s most
+    (none_met first b m js _ (served_by b m js [] granted (refuse refusal) s most is judged)) s.grants
 
 -- ---- what asks the plant
 

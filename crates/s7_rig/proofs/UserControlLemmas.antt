@@ -100,7 +100,7 @@ pub control_well : (all : List Verdict) (link : LinkState) (s : ℕ) (c : Contro
 control_well all link s c request low is = record {
   message = reply_octets s;
   messages = λ reply. refl;
-  good = λ moment reply state gives.
+  good = λ moment reply state gives for.
       let of = subst (IsOfControl (function_of c)) (sym gives) (reply_of_control c request state link.right is) in
       let heard = heard_by_kind c s reply low of in
       record {

@@ -17,7 +17,7 @@ use Rattle.s7_rig.proofs.UserServedLemmas.{IsFit}
 use Rattle.s7_rig.proofs.UserClockLemmas.{clock_read, length-clock}
 
 -- a refusal fits whatever was asked
-refusal_fits : (subject : Subject) (error : ℕ) → 0 < error → error < 65536 → IsFit subject (refused error)
+pub refusal_fits : (subject : Subject) (error : ℕ) → 0 < error → error < 65536 → IsFit subject (refused error)
 refusal_fits subject error some small = record { small = small; rest = λ is. absurd (omega (arith, is, some)) }
 
 -- ---- status lists

@@ -1,7 +1,7 @@
 -- How a session judges controls and user data.
 use Rattle.std.proofs.Common.{◌≡◌, ℕ, suc, ◌+◌, ◌<◌, ◌≤◌, Bool, true, false, ◌&&◌, ◌||◌, cond, eqb, Ok, List, [], ◌∷◌}
 use Rattle.std.proofs.Common.{◌++◌, length, refl, ap, ◌∙◌, arith}
-use Rattle.std.specs.Prelude.{Option, None, Some, not}
+use Rattle.std.specs.Prelude.{Option, None, Some, not, is_some}
 use Rattle.std.specs.Str.{bytes_eq}
 use Rattle.std.proofs.lemmas.Bool.{and_from, eq-eqb}
 use Rattle.s7_outer.specs.Numbers.{two_octets}
@@ -9,6 +9,9 @@ use Rattle.s7_header.specs.Negotiation.{most_pdu}
 use Rattle.s7_header.specs.Octets.{number_at}
 use Rattle.s7_header.specs.UserParams.{user_spelling}
 use Rattle.s7_header.proofs.UserLemmas.{spelled_user}
+use Rattle.s7_block.specs.declared.block.BlockName.{BlockName}
+use Rattle.s7_block.specs.Kinds.{head_code}
+use Rattle.s7_block.specs.Names.{named}
 use Rattle.s7_clock.specs.Control.{control_of, control_spelling, is_control}
 use Rattle.s7_clock.specs.Moment.{moment_in}
 use Rattle.s7_clock.specs.declared.control.Control.{Control}
@@ -20,16 +23,18 @@ use Rattle.s7_plant.specs.declared.request.Request.{Request}
 use Rattle.s7_plant.specs.declared.request.Request.TheVariants as plain
 use Rattle.s7_client.specs.declared.subject.Subject.{Subject}
 use Rattle.s7_client.specs.declared.subject.Subject.TheVariants.{StatusList, RunState, Clock, ClockSetting, Password}
-use Rattle.s7_client.specs.declared.subject.Subject.TheVariants.{PasswordClearing}
+use Rattle.s7_client.specs.declared.subject.Subject.TheVariants.{PasswordClearing, BlockCounts, BlocksOfKind, BlockHead}
 use Rattle.s7_client.specs.UserData.{group_of, subfunction_of, request_params, further_params, data_of, comes_in_pieces}
 use Rattle.s7_client.specs.Question.{Question, controls, asks, asks_further, kind_of, params_of, body_of}
 use Rattle.s7_client.specs.Question.{question_octets}
+use Rattle.s7_client.specs.Dialogue.{kind_octets}
 use Rattle.s7_session.specs.Errors.{WRONG_PASSWORD, NO_RIGHT}
 use Rattle.s7_session.specs.Judgement as session
 use Rattle.s7_session.specs.Judgement.{Judgement, judge, own, kinds, job, asks_plainly, asks_user, control_in}
 use Rattle.s7_session.specs.Judgement.{function, function_at, group, user_at, slice_octets, slices_left, further_of}
 use Rattle.s7_session.specs.Judgement.{further, list_read, clock_set, clock_set_to, user_octets, user_answer}
 use Rattle.s7_session.specs.Judgement.{group_of_answer, secured, password_set, password_cleared}
+use Rattle.s7_session.specs.Judgement.{block_told, informed}
 use Rattle.s7_session.specs.LinkState.{LinkState, next_octet}
 use Rattle.s7_session.specs.Passwords.{decoded, no_data, set_error, clear_error}
 use Rattle.s7_rig.specs.Exchanges.{HoldsRest, request_of}
@@ -154,6 +159,31 @@ judged_setting link pdu s value octets sent ten says =
     ∙ (chosen _ _ _ (and_from _ _ (data_long octets 10 14 (omega (arith, ten))) refl)
     ∙ ap (clock_set_to link pdu s) says))
 
+-- ---- blocks
+
+pub judged_counts : (link : LinkState) (pdu s : ℕ) (octets : List ℕ) → IsSent link pdu s (asks BlockCounts octets)
+    → judge link (question_octets s (asks BlockCounts octets))
+    ≡ asks_user link pdu s 0x43 0x01 false (λ moment. plain.ListAll)
+judged_counts link pdu s octets sent = judged_asks link pdu s BlockCounts octets sent
+
+-- a kind that there is has its blocks listed, and another is refused
+pub judged_kind : (link : LinkState) (pdu s kind : ℕ) (there : Bool)
+    → IsSent link pdu s (asks BlocksOfKind (kind_octets kind)) → is_some (head_code kind) ≡ there
+    → judge link (question_octets s (asks BlocksOfKind (kind_octets kind)))
+    ≡ cond there (asks_user link pdu s 0x43 0x02 false (λ moment. plain.ListOf kind)) (informed link pdu s None)
+judged_kind link pdu s kind there sent is =
+    judged_asks link pdu s BlocksOfKind (kind_octets kind) sent
+    ∙ ap (λ b. cond b (asks_user link pdu s 0x43 0x02 false (λ moment. plain.ListOf kind)) (informed link pdu s None)) is
+
+-- the head is told of the block that the octets name, if they name one
+pub judged_head : (link : LinkState) (pdu s : ℕ) (octets : List ℕ) (name : Option BlockName)
+    → IsSent link pdu s (asks BlockHead octets) → length octets ≡ 8 → named octets 0x41 ≡ name
+    → judge link (question_octets s (asks BlockHead octets)) ≡ informed link pdu s name
+judged_head link pdu s octets name sent eight is =
+    judged_asks link pdu s BlockHead octets sent
+    ∙ (ap (λ body. informed link pdu s (block_told body)) (sized_data octets 7 eight)
+    ∙ ap (informed link pdu s) is)
+
 -- ---- passwords
 
 -- It is answered with an error word, and without octets.
@@ -240,6 +270,12 @@ judged_further link pdu s octet StatusList so_far sent pieces h =
     judged_long link pdu s octet StatusList so_far sent ∙ held_goes_on link pdu s octet StatusList so_far h
 judged_further link pdu s octet RunState so_far sent pieces h =
     judged_long link pdu s octet RunState so_far sent ∙ held_goes_on link pdu s octet RunState so_far h
+judged_further link pdu s octet BlockCounts so_far sent pieces h =
+    judged_long link pdu s octet BlockCounts so_far sent ∙ held_goes_on link pdu s octet BlockCounts so_far h
+judged_further link pdu s octet BlocksOfKind so_far sent pieces h =
+    judged_long link pdu s octet BlocksOfKind so_far sent ∙ held_goes_on link pdu s octet BlocksOfKind so_far h
+judged_further link pdu s octet BlockHead so_far sent pieces h =
+    judged_long link pdu s octet BlockHead so_far sent ∙ held_goes_on link pdu s octet BlockHead so_far h
 judged_further link pdu s octet Clock so_far sent pieces h = absurd (cc)
 judged_further link pdu s octet ClockSetting so_far sent pieces h = absurd (cc)
 judged_further link pdu s octet Password so_far sent pieces h = absurd (cc)

@@ -1,11 +1,14 @@
 -- How a session on a link between two messages replies to each question of a job.
 use Rattle.std.proofs.Common.{◌≡◌, inl, ℕ, ◌<◌, ◌≤◌, Bool, true, false, cond, eqb, ltb, List, [], ◌++◌, length, take}
 use Rattle.std.proofs.Common.{Option, None, Some, refl, sym, subst, arith}
-use Rattle.std.specs.Prelude.{IsSome}
+use Rattle.std.specs.Prelude.{IsSome, is_some}
 use Rattle.std.proofs.lemmas.Bool.{eq-eqb}
 use Rattle.s7_header.specs.Negotiation.{most_pdu}
 use Rattle.s7_header.specs.Octets.{number_at}
 use Rattle.s7_item.specs.declared.item.Item.{Item}
+use Rattle.s7_block.specs.declared.block.BlockName.{BlockName}
+use Rattle.s7_block.specs.Kinds.{head_code}
+use Rattle.s7_block.specs.Names.{named}
 use Rattle.s7_clock.specs.Moment.{moment_in}
 use Rattle.s7_clock.specs.declared.control.Control.{Control}
 use Rattle.s7_plant.specs.declared.request.Request.{Request}
@@ -16,34 +19,38 @@ use Rattle.s7_plant.specs.Answers as plant
 use Rattle.s7_wire.specs.Sent.{sent_message}
 use Rattle.s7_client.specs.declared.subject.Subject.{Subject}
 use Rattle.s7_client.specs.declared.subject.Subject.TheVariants.{StatusList, RunState, Clock, ClockSetting, Password}
-use Rattle.s7_client.specs.declared.subject.Subject.TheVariants.{PasswordClearing}
+use Rattle.s7_client.specs.declared.subject.Subject.TheVariants.{PasswordClearing, BlockCounts, BlocksOfKind, BlockHead}
 use Rattle.s7_client.specs.UserData.{group_of, subfunction_of, goes_on_with, comes_in_pieces}
-use Rattle.s7_client.specs.Dialogue.{list_octets}
+use Rattle.s7_client.specs.Dialogue.{list_octets, kind_octets}
 use Rattle.s7_client.specs.Question.{Question, negotiates, reads, writes, controls, asks, asks_further, question_octets}
 use Rattle.s7_client.specs.Answer.{brings, refuses, answer_of}
 use Rattle.s7_session.specs.Events.{lives}
 use Rattle.s7_session.specs.LinkState.{LinkState, next_octet}
 use Rattle.s7_session.specs.Owed.{past}
 use Rattle.s7_session.specs.Judgement.{Asking, judge, ask, plainly, by_user, asks_user, user_octets, secured}
-use Rattle.s7_session.specs.Judgement.{slice_room, slice_octets, slices_left}
+use Rattle.s7_session.specs.Judgement.{slice_room, slice_octets, slices_left, informed, refusal_octets, sequence_of}
 use Rattle.s7_session.specs.Passwords.{no_data}
 use Rattle.s7_session.specs.Verdict.{Verdict}
 use Rattle.s7_rig.specs.Settled.{Settled}
 use Rattle.s7_rig.specs.Written.{own_write}
 use Rattle.s7_rig.specs.Exchanges.{IsAskable, AsksFor, IsSecurity, IsReadyFor, HoldsRest, GoesOn, security_heard}
-use Rattle.s7_rig.specs.Exchanges.{is_secured, is_further, Replies, request_of}
+use Rattle.s7_rig.specs.Exchanges.{NamesNone, is_secured, is_unnamed, is_further, Replies, request_of}
+use Rattle.s7_rig.specs.Plants.{IsStateFor}
 use Rattle.s7_rig.proofs.ServedLemmas.{KeepsGrant}
-use Rattle.s7_rig.proofs.QuestionLemmas.{served_question, served_by_link}
+use Rattle.s7_rig.proofs.QuestionLemmas.{served_question, served_by_link, served_refusal}
 use Rattle.s7_rig.proofs.UserControlLemmas.{control_well}
 use Rattle.s7_rig.proofs.UserFitLemmas.{list_fits, state_fits, clock_fits, setting_fits}
+use Rattle.s7_rig.proofs.BlockFitLemmas.{counts_fit, kind_fits, head_fits}
 use Rattle.s7_rig.proofs.UserHeardLemmas.{IsRest, told_params, length-told, length-slice, error_is_heard}
 use Rattle.s7_rig.proofs.UserHeardLemmas.{none_is_heard, slice_is_heard, rest_is_held}
 use Rattle.s7_rig.proofs.UserJudgedLemmas.{IsSent, IsSecured, judged_control, judged_list, judged_state, judged_clock}
 use Rattle.s7_rig.proofs.UserJudgedLemmas.{judged_setting, judged_password, judged_clearing, judged_further}
+use Rattle.s7_rig.proofs.UserJudgedLemmas.{judged_counts, judged_kind, judged_head}
 use Rattle.s7_rig.proofs.UserServedLemmas.{IsFit, user_well}
 use Rattle.s7_rig.proofs.JudgedLemmas.{judged_read}
 use Rattle.s7_rig.proofs.AsksLemmas.{write_is_asked}
 use Rattle.s7_rig.proofs.ReplyLemmas.{IsGood, IsAskedWell, asked_replies, own_replies, read_well, write_well}
+use Rattle.s7_rig.proofs.ReplyLemmas.{refused_as}
 
 -- ---- passwords
 
@@ -158,14 +165,15 @@ user_replied : {first : LinkState} (b : List ℕ) (js vs : List Verdict) (pdu s 
     → judge (past first b js).link (question_octets s (asks subject octets))
     ≡ asks_user (past first b js).link pdu s (group_of subject) (subfunction_of subject) timed request
     → ((moment : ℕ) → AsksFor subject octets moment (request moment))
-    → ((moment : ℕ) (state : State) (right : Bool) → IsFit subject (plant.answer state right (request moment)))
+    → ((moment : ℕ) (state : State) (right : Bool) → IsStateFor (request moment) state
+    → IsFit subject (plant.answer state right (request moment)))
     → Replies first b js vs pdu (asks subject octets) s
 user_replied {first} b js vs pdu s subject octets timed request served judged told fits =
     let link = (past first b js).link in
     asking_replied b js vs pdu s (asks subject octets)
     (by_user link pdu s (group_of subject) (subfunction_of subject) timed request) served judged (λ reply. refl)
     (user_well (js ++ vs) link pdu s subject octets timed request served.low served.least served.most told
-    (λ moment state. fits moment state link.right))
+    (λ moment state for. fits moment state link.right for))
 
 state_replied : {first : LinkState} (b : List ℕ) (js vs : List Verdict) (pdu s : ℕ)
     → IsServed first b js vs pdu s (asks RunState (list_octets 0x0424 0))
@@ -174,7 +182,7 @@ state_replied {first} b js vs pdu s served =
     let octets = list_octets 0x0424 0 in
     user_replied b js vs pdu s RunState octets false (λ moment. plain.Szl 0x0424 0) served
     (judged_state (past first b js).link pdu s octets (is_sent b js vs pdu s (asks RunState octets) served) refl)
-    (λ moment. refl) (λ moment state right. state_fits state right)
+    (λ moment. refl) (λ moment state right for. state_fits state right)
 
 setting_by : {first : LinkState} (b : List ℕ) (js vs : List Verdict) (pdu s : ℕ) (octets : List ℕ)
     (value : Option ℕ) → IsServed first b js vs pdu s (asks ClockSetting octets) → length octets ≡ 10
@@ -184,7 +192,53 @@ setting_by {first} b js vs pdu s octets (Some value) served ten is some =
     user_replied b js vs pdu s ClockSetting octets true (λ moment. plain.ClockSet moment value) served
     (judged_setting (past first b js).link pdu s value octets
     (is_sent b js vs pdu s (asks ClockSetting octets) served) ten is)
-    (λ moment. (value, is, refl)) (λ moment state right. setting_fits moment value state right)
+    (λ moment. (value, is, refl)) (λ moment state right for. setting_fits moment value state right)
+
+-- a name of no block is refused
+unnamed_replied : {first : LinkState} (b : List ℕ) (js vs : List Verdict) (pdu s : ℕ) (subject : Subject)
+    (octets : List ℕ) → IsServed first b js vs pdu s (asks subject octets) → NamesNone subject octets
+    → judge (past first b js).link (question_octets s (asks subject octets)) ≡ informed (past first b js).link pdu s None
+    → Replies first b js vs pdu (asks subject octets) s
+unnamed_replied {first} b js vs pdu s subject octets served none judged =
+    let q = asks subject octets in
+    let link = (past first b js).link in
+    own_replies b js vs pdu s q (refusal_octets (sequence_of (question_octets s q)) 0x8404) link
+    (record {
+      least = omega arith;
+      most = omega arith;
+      heard =
+          refused_as (js ++ vs) link q s 0x8404 [] (is_unnamed subject octets refl none refl refl) served.low
+          (omega arith);
+    })
+    (served_refusal b js pdu s q _ served.settled served.most served.fits judged)
+
+-- blocks of a kind
+kind_replied : {first : LinkState} (b : List ℕ) (js vs : List Verdict) (pdu s kind : ℕ) (there : Bool)
+    → IsServed first b js vs pdu s (asks BlocksOfKind (kind_octets kind)) → is_some (head_code kind) ≡ there
+    → Replies first b js vs pdu (asks BlocksOfKind (kind_octets kind)) s
+kind_replied {first} b js vs pdu s kind true served is =
+    let q = asks BlocksOfKind (kind_octets kind) in
+    user_replied b js vs pdu s BlocksOfKind (kind_octets kind) false (λ moment. plain.ListOf kind) served
+    (judged_kind (past first b js).link pdu s kind true (is_sent b js vs pdu s q served) is)
+    (λ moment. refl) (λ moment state right plant. kind_fits kind state right plant)
+kind_replied {first} b js vs pdu s kind false served is =
+    let q = asks BlocksOfKind (kind_octets kind) in
+    unnamed_replied b js vs pdu s BlocksOfKind (kind_octets kind) served is
+    (judged_kind (past first b js).link pdu s kind false (is_sent b js vs pdu s q served) is)
+
+-- the head of a block
+head_replied : {first : LinkState} (b : List ℕ) (js vs : List Verdict) (pdu s : ℕ) (octets : List ℕ)
+    (name : Option BlockName) → IsServed first b js vs pdu s (asks BlockHead octets) → length octets ≡ 8
+    → named octets 0x41 ≡ name → Replies first b js vs pdu (asks BlockHead octets) s
+head_replied {first} b js vs pdu s octets (Some name) served eight is =
+    user_replied b js vs pdu s BlockHead octets false (λ moment. plain.Info name.kind name.number) served
+    (judged_head (past first b js).link pdu s octets (Some name) (is_sent b js vs pdu s (asks BlockHead octets) served)
+    eight is)
+    (λ moment. (name, is, refl)) (λ moment state right plant. head_fits name.kind name.number state right plant)
+head_replied {first} b js vs pdu s octets None served eight is =
+    unnamed_replied b js vs pdu s BlockHead octets served is
+    (judged_head (past first b js).link pdu s octets None (is_sent b js vs pdu s (asks BlockHead octets) served) eight
+    is)
 
 -- user data about a password
 secured_replied : {first : LinkState} (b : List ℕ) (js vs : List Verdict) (pdu s : ℕ) (subject : Subject)
@@ -235,14 +289,24 @@ served_replied {first} b js vs pdu s (asks StatusList octets) served can ready =
     let index = number_at octets 2 in
     user_replied b js vs pdu s StatusList octets false (λ moment. plain.Szl id index) served
     (judged_list (past first b js).link pdu s octets (is_sent b js vs pdu s (asks StatusList octets) served) can)
-    (λ moment. refl) (λ moment state right. list_fits id index state right)
+    (λ moment. refl) (λ moment state right for. list_fits id index state right)
 served_replied {first} b js vs pdu s (asks RunState octets) served can ready =
     subst (λ xs. Replies first b js vs pdu (asks RunState xs) s) (sym can)
     (state_replied b js vs pdu s (subst (λ xs. IsServed first b js vs pdu s (asks RunState xs)) can served))
+served_replied {first} b js vs pdu s (asks BlockCounts octets) served can ready =
+    user_replied b js vs pdu s BlockCounts octets false (λ moment. plain.ListAll) served
+    (judged_counts (past first b js).link pdu s octets (is_sent b js vs pdu s (asks BlockCounts octets) served))
+    (λ moment. refl) (λ moment state right for. counts_fit state right)
+served_replied {first} b js vs pdu s (asks BlocksOfKind octets) served can ready =
+    subst (λ xs. Replies first b js vs pdu (asks BlocksOfKind xs) s) (sym can.1)
+    (kind_replied b js vs pdu s can.0 (is_some (head_code can.0))
+    (subst (λ xs. IsServed first b js vs pdu s (asks BlocksOfKind xs)) can.1 served) refl)
+served_replied b js vs pdu s (asks BlockHead octets) served can ready =
+    head_replied b js vs pdu s octets (named octets 0x41) served can refl
 served_replied {first} b js vs pdu s (asks Clock octets) served can ready =
     user_replied b js vs pdu s Clock octets true (λ moment. plain.ClockRead moment) served
     (judged_clock (past first b js).link pdu s octets (is_sent b js vs pdu s (asks Clock octets) served))
-    (λ moment. refl) (λ moment state right. clock_fits moment state right)
+    (λ moment. refl) (λ moment state right for. clock_fits moment state right)
 served_replied b js vs pdu s (asks ClockSetting octets) served can ready =
     setting_by b js vs pdu s octets (moment_in octets) served can.0 refl can.1
 served_replied {first} b js vs pdu s (asks Password octets) served can ready =

@@ -18,6 +18,7 @@ use Rattle.s7_session.specs.Judgement.{slices_left}
 use Rattle.s7_session.specs.Passwords.{no_data}
 use Rattle.s7_session.specs.Verdict.{Verdict}
 use Rattle.s7_rig.specs.Exchanges.{AsksFor, GoesOn, user_heard, is_brought}
+use Rattle.s7_rig.specs.Plants.{IsStateFor}
 use Rattle.s7_rig.proofs.ReplyLemmas.{IsAskedWell}
 use Rattle.s7_rig.proofs.UserHeardLemmas.{IsRest, told_params, length-told, length-slice, error_is_heard}
 use Rattle.s7_rig.proofs.UserHeardLemmas.{slice_is_heard, rest_is_held}
@@ -68,7 +69,8 @@ goes_on_by false link octet pdu subject octets reply fit is sliced = tt
 pub user_well : (all : List Verdict) (link : LinkState) (pdu s : ℕ) (subject : Subject) (octets : List ℕ)
     (timed : Bool) (request : ℕ → Request) → s < 65536 → 64 ≤ pdu → pdu ≤ most_pdu
     → ((moment : ℕ) → AsksFor subject octets moment (request moment))
-    → ((moment : ℕ) (state : State) → IsFit subject (plant.answer state link.right (request moment)))
+    → ((moment : ℕ) (state : State) → IsStateFor (request moment) state
+    → IsFit subject (plant.answer state link.right (request moment)))
     → IsAskedWell all (asks subject octets) s
     (by_user link pdu s (group_of subject) (subfunction_of subject) timed request)
 user_well all link pdu s subject octets timed request low least most told fits =
@@ -76,8 +78,8 @@ user_well all link pdu s subject octets timed request low least most told fits =
     record {
       message = user_reply link pdu s (group_of subject) (subfunction_of subject);
       messages = λ reply. refl;
-      good = λ moment reply state gives.
-          let fit = subst (IsFit subject) (sym gives) (fits moment state) in
+      good = λ moment reply state gives for.
+          let fit = subst (IsFit subject) (sym gives) (fits moment state for) in
           let long = long_by (eqb reply.error 0) s octet pdu subject reply least most in
           let left = user_link link pdu (group_of subject) (subfunction_of subject) reply in
           record {

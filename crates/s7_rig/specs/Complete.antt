@@ -17,8 +17,9 @@ IsThere m item = place_code m item ≡ 0xFF
 
 -- The job can be asked with telegrams of this PDU, and where it reads or writes one item, that stands in the areas and
 -- wants no password. Of several items each has a code of its own, and the job comes off whatever these are. A status
--- list comes off that there is, and the clock and the run state always tell; the clock is set, and the memory is tidied
--- and copied, where no guard is. Of the other jobs nothing is said here: they hang on what was done before.
+-- list comes off that there is, and blocks are counted, and the clock and the run state tell, always; the clock is set,
+-- and the memory is tidied and copied, where no guard is. Of the other jobs nothing is said here: they hang on what was
+-- done before, or on which blocks there are.
 abbrev pub CanComeOff : Memory → ℕ → Job → Type 0
 CanComeOff m pdu job.Connect = Unit {0}
 CanComeOff m pdu (job.ReadArea item) =
@@ -29,6 +30,7 @@ CanComeOff m pdu (job.WriteArea item octets) =
 CanComeOff m pdu (job.ReadMany items) = check_items items true pdu false ≡ no_fault
 CanComeOff m pdu (job.WriteMany items octets) =
     check_items items (length octets == octet_count_of items) pdu true ≡ no_fault
+CanComeOff m pdu job.List = Unit {0}
 CanComeOff m pdu (job.Szl id index) = IsSome (table_of id index true)
 CanComeOff m pdu job.ClockRead = Unit {0}
 CanComeOff m pdu (job.ClockSet moment) = (check_moment moment ≡ no_fault) × (m.guard ≡ None)

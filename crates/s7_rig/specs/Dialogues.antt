@@ -22,11 +22,13 @@ use Rattle.s7_session.specs.Owed.{past, owed, entered}
 use Rattle.s7_session.specs.Verdict.{Verdict}
 use Rattle.s7_split.specs.Parts.{parts_of}
 use Rattle.s7_rig.specs.Heard.{connected_end}
+use Rattle.s7_rig.specs.Plants.{IsStateFor}
 use Rattle.s7_rig.specs.Settled.{Settled}
 
--- each reply is the one that some state gives to what was asked
+-- each reply is the one that some state gives to what was asked, of which a plant can be asked it
 abbrev pub AreReplies : List (Ask × Said) → Type 0
-AreReplies entries = AllByRecursion (λ (e : Ask × Said). (s : State) × (e.1 ≡ plant.answer_of s e.0)) entries
+AreReplies entries =
+    AllByRecursion (λ (e : Ask × Said). (s : State) × (e.1 ≡ plant.answer_of s e.0) × IsStateFor e.0.request s) entries
 
 -- The entries read these parts in order, each alone and with a right or without: whatever state gave the reply of one,
 -- its memory has the part, and the octets are those that it reads there, joined.

@@ -1,6 +1,6 @@
 -- The questions of a job on a connected client, and what a session answers to each.
 use Rattle.std.specs.Prelude.{◌≡◌, ◌⊎◌, ℕ, ◌<◌, ◌≤◌, Bool, true, false, ◌==◌, nat_lt, if◌then◌else◌, List, [], ◌∷◌}
-use Rattle.std.specs.Prelude.{◌++◌, length, take, slice_index, map, IsSome, Option, None, Some}
+use Rattle.std.specs.Prelude.{◌++◌, length, take, slice_index, map, IsSome, is_some, Option, None, Some}
 use Rattle.std.specs.List.{AllByRecursion, flat_map}
 use Rattle.s7_item.specs.declared.item.Item.{Item}
 use Rattle.s7_item.specs.Sizes.{answer_size}
@@ -18,14 +18,17 @@ use Rattle.s7_header.specs.Octets.{number_at}
 use Rattle.s7_clock.specs.declared.control.Control.{Control}
 use Rattle.s7_clock.specs.declared.control.Control.TheVariants as control
 use Rattle.s7_clock.specs.Moment.{moment_in}
+use Rattle.s7_block.specs.declared.block.BlockName.{BlockName}
+use Rattle.s7_block.specs.Kinds.{head_code}
+use Rattle.s7_block.specs.Names.{named}
 use Rattle.s7_client.specs.declared.subject.Subject.{Subject}
 use Rattle.s7_client.specs.declared.subject.Subject.TheVariants.{StatusList, RunState, Clock, ClockSetting, Password}
-use Rattle.s7_client.specs.declared.subject.Subject.TheVariants.{PasswordClearing}
+use Rattle.s7_client.specs.declared.subject.Subject.TheVariants.{PasswordClearing, BlockCounts, BlocksOfKind, BlockHead}
 use Rattle.s7_client.specs.UserData.{group_of, subfunction_of, comes_in_pieces, is_whole}
 use Rattle.s7_client.specs.Question.{Question, negotiates, reads, writes, controls, asks, asks_further, question_octets}
 use Rattle.s7_client.specs.Answer.{Answer, refuses, tells, notes, stands, brings, answer_of}
 use Rattle.s7_client.specs.Flight.{Row, answers_of}
-use Rattle.s7_client.specs.Dialogue.{End, Conduct, list_octets}
+use Rattle.s7_client.specs.Dialogue.{End, Conduct, list_octets, kind_octets}
 use Rattle.s7_client.specs.Course.{Origin, conduct_of, next_question}
 use Rattle.s7_session.specs.LinkState.{LinkState, Sliced}
 use Rattle.s7_session.specs.Judgement.{slice_room}
@@ -46,6 +49,9 @@ AreSome items = (0 < length items) × (length items ≤ 20)
 abbrev pub CanGoWith : Subject → List ℕ → Type 0
 CanGoWith StatusList octets = length octets ≡ 4
 CanGoWith RunState octets = octets ≡ list_octets 0x0424 0
+CanGoWith BlockCounts octets = octets ≡ []
+CanGoWith BlocksOfKind octets = (kind : ℕ) × (octets ≡ kind_octets kind)
+CanGoWith BlockHead octets = length octets ≡ 8
 CanGoWith Clock octets = octets ≡ []
 CanGoWith ClockSetting octets = (length octets ≡ 10) × IsSome (moment_in octets)
 CanGoWith Password octets = length octets ≡ 8
@@ -105,6 +111,10 @@ GoesOn link _ _ = Unit {0}
 abbrev pub AsksFor : Subject → List ℕ → ℕ → Request → Type 0
 AsksFor StatusList octets moment request = request ≡ plain.Szl (number_at octets 0) (number_at octets 2)
 AsksFor RunState octets moment request = request ≡ plain.Szl (number_at octets 0) (number_at octets 2)
+AsksFor BlockCounts octets moment request = request ≡ plain.ListAll
+AsksFor BlocksOfKind octets moment request = request ≡ plain.ListOf (slice_index octets 1)
+AsksFor BlockHead octets moment request =
+    (name : BlockName) × (named octets 0x41 ≡ Some name) × (request ≡ plain.Info name.kind name.number)
 AsksFor Clock octets moment request = request ≡ plain.ClockRead moment
 AsksFor ClockSetting octets moment request =
     (value : ℕ) × (moment_in octets ≡ Some value) × (request ≡ plain.ClockSet moment value)
@@ -116,6 +126,12 @@ abbrev pub IsSecurity : Subject → Type 0
 IsSecurity Password = Unit {0}
 IsSecurity PasswordClearing = Unit {0}
 IsSecurity _ = ⊥
+
+-- the octets name a kind that there isn't, or no block, which no plant is asked
+abbrev pub NamesNone : Subject → List ℕ → Type 0
+NamesNone BlocksOfKind octets = is_some (head_code (slice_index octets 1)) ≡ false
+NamesNone BlockHead octets = named octets 0x41 ≡ None
+NamesNone _ octets = ⊥
 
 -- what is heard of a reply to a control, and to user data with this PDU and under this sequence octet
 abbrev pub control_heard : Said → Answer
@@ -137,7 +153,8 @@ AnyUndone verdicts = AnyFull verdicts ⊎ (0 < clock_failures verdicts)
 -- What a question was answered, and what was entered for it. It is refused where one of the verdicts is that the
 -- history was full or the clock failed. Otherwise a request was entered with a right or without: a read tells what the
 -- memory has of the state that gave the reply, a write notes the codes that this memory gives, and of control and user
--- data the reply is told. Passwords and further octets enter nothing.
+-- data the reply is told. Passwords and further octets enter nothing, and neither does a name of no block, which is
+-- refused.
 pub data HasTold (verdicts : List Verdict) (question : Question) (answer : Answer) (new : List (Ask × Said))
     : Type 0 where
   is_refused : (error : ℕ) → AnyUndone verdicts → answer ≡ refuses error → HasTold verdicts question answer new
@@ -158,6 +175,8 @@ pub data HasTold (verdicts : List Verdict) (question : Question) (answer : Answe
       → HasTold verdicts question answer new
   is_secured : (subject : Subject) (octets : List ℕ) (octet error : ℕ) → question ≡ asks subject octets
       → IsSecurity subject → new ≡ [] → answer ≡ security_heard octet error → HasTold verdicts question answer new
+  is_unnamed : (subject : Subject) (octets : List ℕ) → question ≡ asks subject octets → NamesNone subject octets
+      → new ≡ [] → answer ≡ refuses 0x8404 → HasTold verdicts question answer new
   is_further : (subject : Subject) (octet : ℕ) (so_far piece : List ℕ) (more : Bool)
       → question ≡ asks_further subject octet so_far → new ≡ [] → answer ≡ brings octet more piece
       → HasTold verdicts question answer new

@@ -11,6 +11,7 @@ pub mod Asked
 pub mod Awaiting
 pub mod Heard
 pub mod Written
+pub mod Plants
 pub mod Dialogues
 pub mod Split
 pub mod Legal

@@ -27,7 +27,7 @@ pub record IsNegotiated (first : LinkState) (b : List ℕ) (js : List Verdict) (
 -- What a client asks is answered by a session between two messages, with an answer to it.
 pub record QuestionsAreHeard : Type 0 where
   -- a question of a job on a connected client, where the session's link holds what it wants and lives after it, whatever
-  -- state gives the reply
+  -- state gives the reply, of blocks whatever state of a plant
   pub asked : (origin : Origin) (granted : Grant) (answers : List (Option Answer)) (question : Question) (number : ℕ)
       (first : LinkState) (b : List ℕ) (js vs : List Verdict)
       → origin.granted ≡ Some granted → 64 ≤ granted.pdu → granted.pdu ≤ most_pdu → number < 65536

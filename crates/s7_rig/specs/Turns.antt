@@ -14,6 +14,7 @@ use Rattle.s7_client.specs.declared.job.Polled.TheVariants as polled
 use Rattle.s7_client.specs.Polling.{job_of, IsStarted, IsPoll}
 use Rattle.s7_plant.specs.declared.book.Book.{Book}
 use Rattle.s7_plant.specs.declared.request.Ask.{Ask}
+use Rattle.s7_plant.specs.Journals.{AreReady}
 use Rattle.s7_plant.specs.State.{state_of}
 use Rattle.s7_session.specs.declared.session.Session.{Session}
 use Rattle.s7_session.specs.declared.outcome.Outcome.{Outcome}
@@ -145,6 +146,8 @@ pub record SessionTurn (k : ℕ) (old new : State) (stirs : Bool) : Type 0 where
   pub post' : Post
   pub at : slice_get old.posts k ≡ Some post
   pub turn : IsSessionTurn post post' old.book new.book stirs
+  -- what is entered can be carried out again
+  pub ready : AreReady new.book.journal.entries
   pub same : new.posts ≡ slice_set old.posts k post'
 
 -- With K clients the actors below K are the clients, and those from K on their sessions.

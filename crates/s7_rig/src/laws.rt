@@ -13,9 +13,10 @@ pub fn rigs_are_formed()
 }
 
 /// A law: a session that stands between two messages answers each question that a job of its client can ask, by one
-/// message, and the client hears it as an answer to that question. This holds whatever state gives the reply, and where
-/// the history is full or the clock fails; and where an answer in user data has more octets than a telegram takes, the
-/// link holds them, and further octets are answered from there.
+/// message, and the client hears it as an answer to that question. This holds whatever state gives the reply, of blocks
+/// whatever state of a plant, and where the history is full or the clock fails; a name of no block is refused. Where an
+/// answer in user data has more octets than a telegram takes, the link holds them, and further octets are answered from
+/// there.
 pub fn questions_are_heard()
     ensures { QuestionsAreHeard }
 {}

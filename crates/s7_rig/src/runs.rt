@@ -57,6 +57,8 @@ pub fn run_rig(
         (record { turns = schedule.entry.turns.now; seed = schedule.entry.seed; steps = schedule.entry.steps })
         (end_told end)) }
 {
+    // what is registered is within the limits of areas
+    let _numbers = areas.db_numbers();
     let mut rig = Rig::new(alloc, areas, limit, scripts, config)?;
     rig.run(alloc, schedule.turns, schedule.seed, schedule.steps)?;
     rig.into_end(alloc)

@@ -3,6 +3,7 @@ ghost use Rattle.std.specs.Prelude.{◌≡◌, ◌≢◌, ◌<◌, ◌≤◌, �
 ghost use Rattle.std.specs.Prelude.{false, option_map, unwrap_or, IfOk, OnOk, IsSome};
 ghost use Rattle.s7_header.specs.Negotiation.{most_pdu};
 ghost use Rattle.s7_client.specs.declared.config.Config.{Config};
+ghost use Rattle.s7_plant.specs.Journals.{AreReady};
 ghost use Rattle.s7_session.specs.Stands.{closed_by};
 ghost use Rattle.s7_rig.specs.Numbers.{count_from};
 ghost use Rattle.s7_rig.specs.State.{is_finished};
@@ -109,7 +110,9 @@ impl Station {
     /// The session's turn. Says whether an octet was moved, or one that had been read was used.
     /// `Memory` comes where there is none for the session or for the numbers of its entries.
     pub(crate) fn session_turn(&mut self, alloc: Global, book: &mut Book) -> Result<bool, Memory>
-        ensures { IfOk result (λ stirs. IsSessionTurn (post_of self.old) (post_of self.new) book.old book.new stirs) }
+        ensures turn { IfOk result
+            (λ stirs. IsSessionTurn (post_of self.old) (post_of self.new) book.old book.new stirs) }
+        ensures ready { IfOk result (λ _. AreReady book.new.journal.entries) }
     {
         let before = count_held(&self.pipes);
         let used = self.session.used();
@@ -118,6 +121,8 @@ impl Station {
         if was_wanting(turn) {
             return Err(Memory);
         }
+        // what is entered can be carried out again
+        let _entries = book.journal.as_slice();
         self.note(first, book.journal.len())?;
         Ok(count_held(&self.pipes) != before || self.session.used() != used)
     }

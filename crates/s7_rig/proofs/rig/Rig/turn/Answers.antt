@@ -2,7 +2,7 @@ use Rattle.std.proofs.Common.{◌≡◌, ◌<◌, ◌-◌, length, map, ap, inl,
 use Rattle.std.proofs.lemmas.List.{map-set, length-map}
 use Rattle.std.proofs.lemmas.Result.{IfOk-weaker}
 use Rattle.s7_rig.specs.Shown.{post_of}
-use Rattle.s7_rig.proofs.PostsLemmas.{mapped_at, session_turned}
+use Rattle.s7_rig.proofs.PostsLemmas.{mapped_at, session_turned, both_ok}
 use Rattle.s7_rig.proofs.rig.Rig.turn.Goals as goal
 
 pub returns-then-actor-count-clause-turn : goal.returns-then-actor-count-clause-turn
@@ -31,6 +31,7 @@ returns-else-actor-count-clause-turn c =
       post = post_of c.index_mut-else-actor-count.result.now;
       post' = post_of c.session_turn.new.self;
       at = mapped_at post_of xs i _ below c.index_mut-else-actor-count.ensures.value;
-      turn = t;
+      turn = t.0;
+      ready = t.1;
       same = map-set post_of xs i c.session_turn.new.self;
-    }) c.session_turn.ensures
+    }) (both_ok _ _ c.session_turn.result c.session_turn.ensures.turn c.session_turn.ensures.ready)

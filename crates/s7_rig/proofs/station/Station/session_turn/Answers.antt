@@ -8,8 +8,8 @@ pub invariant_of-self-clause-stands : goal.invariant_of-self-clause-stands
 invariant_of-self-clause-stands c =
     still_stands _ _ _ _ _ _ _ _ c.turn_over-turn.ensures c.args.self.now.stands
 
-pub returns-then-ne : goal.returns-then-ne
-returns-then-ne c =
+pub returns-then-ne-clause-turn : goal.returns-then-ne-clause-turn
+returns-then-ne-clause-turn c =
     let noted = c.in_ok-note.ensures in
     let before = c.count_held-before.ensures in
     let after = c.count_held.ensures in
@@ -21,8 +21,8 @@ returns-then-ne c =
     (after.to_client ∙ ap (λ p. length p.pipes.to_client) noted) (after.to_server ∙ ap (λ p. length p.pipes.to_server) noted) c.ne.ensures)
     c.if-ne.true)
 
-pub returns-else-ne : goal.returns-else-ne
-returns-else-ne c =
+pub returns-else-ne-clause-turn : goal.returns-else-ne-clause-turn
+returns-else-ne-clause-turn c =
     let noted = c.in_ok-note.ensures in
     let before = c.count_held-before.ensures in
     let after = c.count_held.ensures in
