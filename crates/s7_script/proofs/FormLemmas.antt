@@ -32,6 +32,9 @@ by_job told (job.ReadMany items) octets cs same few is form =
 by_job told (job.WriteMany items written) octets cs same few is form =
     let count = count_is told cs few is in
     (omega (arith, count, form.0), count ∙ form.1)
+by_job told job.List octets cs same few is form = no_codes told cs few is form.1
+by_job told (job.ListOf kind) octets cs same few is form = no_codes told cs few is form.1
+by_job told (job.Info kind number) octets cs same few is form = no_codes told cs few is form.1
 by_job told (job.Szl id index) octets cs same few is form = no_codes told cs few is form.1
 by_job told job.ClockRead octets cs same few is form =
     (no_codes told cs few is form.1, subst (λ l. IsSome (moment_in l)) (sym same) form.0)

@@ -9,8 +9,9 @@ use Rattle.s7_client.specs.declared.job.Job.TheVariants as job
 use Rattle.s7_script.specs.Lines.{Text, lines}
 use Rattle.s7_script.specs.Reading.{is_passed, next_line}
 use Rattle.hex.specs.Hex.{decode_of}
+use Rattle.s7_script.specs.Fields.{number_of}
 use Rattle.s7_script.specs.Moments.{moment_named}
-use Rattle.s7_script.specs.Script.{Written, parts, read_item, read_items, written_item, written_items, read_job, write_job, read_many_job, write_many_job, two_octets_in, with_index, list_job, moment_job, set_clock_job, is_printable, password_job, plain_job, or_unknown, ended, job_named, job_of, at_line, line_jobs, script_lines, script, field_of, rest_of, ◌>>=◌}
+use Rattle.s7_script.specs.Script.{Written, parts, read_item, read_items, written_item, written_items, read_job, write_job, read_many_job, write_many_job, word_of, within, kind_named, list_of_job, with_number, info_job, two_octets_in, with_index, list_job, moment_job, set_clock_job, is_printable, password_job, plain_job, or_unknown, ended, job_named, job_of, at_line, line_jobs, script_lines, script, field_of, rest_of, ◌>>=◌}
 use Rattle.s7_script.specs.Laws.{KeepsLink}
 use Rattle.s7_script.specs.declared.script_list.ScriptLine.{ScriptLine}
 use Rattle.s7_script.specs.declared.script_fault.ScriptFault.{ScriptFault}
@@ -54,6 +55,24 @@ after : {X : Type 0} (r : Result X ScriptKind) (f : X → Result Job ScriptKind)
 after (Ok x) f each = each x
 after (Err e) f each = tt
 
+list_of_keeps : (rest : Option Text) → IfOk (list_of_job rest) KeepsLink
+list_of_keeps None = tt
+list_of_keeps (Some text) =
+    after (word_of (kind_named (field_of text))) (λ of. ended (job.ListOf of) (rest_of text))
+    (λ of. ended_keeps (job.ListOf of) (rest_of text) tt)
+
+number_keeps : (of : ℕ) (rest : Option Text) → IfOk (with_number of rest) KeepsLink
+number_keeps of None = tt
+number_keeps of (Some text) =
+    after (within 0 65535 (number_of (field_of text))) (λ number. ended (job.Info of number) (rest_of text))
+    (λ number. ended_keeps (job.Info of number) (rest_of text) tt)
+
+info_keeps : (rest : Option Text) → IfOk (info_job rest) KeepsLink
+info_keeps None = tt
+info_keeps (Some text) =
+    after (word_of (kind_named (field_of text))) (λ of. with_number of (rest_of text))
+    (λ of. number_keeps of (rest_of text))
+
 index_keeps : (id : ℕ) (rest : Option Text) → IfOk (with_index id rest) KeepsLink
 index_keeps id None = tt
 index_keeps id (Some text) =
@@ -86,14 +105,15 @@ known false found o p q = q
 
 plain_keeps : (name : Text) → IfSome (plain_job name) KeepsLink
 plain_keeps name =
-    known (bytes_eq name (codes "clock")) job.ClockRead _ tt
+    known (bytes_eq name (codes "list")) job.List _ tt
+    (known (bytes_eq name (codes "clock")) job.ClockRead _ tt
     (known (bytes_eq name (codes "start")) job.Start _ tt
     (known (bytes_eq name (codes "coldstart")) job.ColdStart _ tt
     (known (bytes_eq name (codes "stop")) job.Stop _ tt
     (known (bytes_eq name (codes "compress")) job.Compress _ tt
     (known (bytes_eq name (codes "copy")) job.CopyRam _ tt
     (known (bytes_eq name (codes "status")) job.Status _ tt
-    (known (bytes_eq name (codes "clearpassword")) job.PasswordClear None tt tt)))))))
+    (known (bytes_eq name (codes "clearpassword")) job.PasswordClear None tt tt))))))))
 
 unknown_keeps : (o : Option Job) (rest : Option Text) → IfSome o KeepsLink → IfOk (or_unknown o rest) KeepsLink
 unknown_keeps None rest keeps = tt
@@ -105,10 +125,12 @@ named_keeps name rest =
     (either KeepsLink (bytes_eq name (codes "write")) (write_job rest) _ (write_keeps rest)
     (either KeepsLink (bytes_eq name (codes "readmany")) (read_many_job rest) _ (read_many_keeps rest)
     (either KeepsLink (bytes_eq name (codes "writemany")) (write_many_job rest) _ (write_many_keeps rest)
+    (either KeepsLink (bytes_eq name (codes "listof")) (list_of_job rest) _ (list_of_keeps rest)
+    (either KeepsLink (bytes_eq name (codes "info")) (info_job rest) _ (info_keeps rest)
     (either KeepsLink (bytes_eq name (codes "szl")) (list_job rest) _ (list_keeps rest)
     (either KeepsLink (bytes_eq name (codes "setclock")) (set_clock_job rest) _ (set_clock_keeps rest)
     (either KeepsLink (bytes_eq name (codes "password")) (password_job rest) (or_unknown (plain_job name) rest) (password_keeps rest)
-    (unknown_keeps (plain_job name) rest (plain_keeps name))))))))
+    (unknown_keeps (plain_job name) rest (plain_keeps name))))))))))
 
 -- ---- the lines
 

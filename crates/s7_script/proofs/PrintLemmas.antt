@@ -5,7 +5,8 @@ use Rattle.hex.specs.Hex.{encode_lower}
 use Rattle.s7_item.specs.declared.item.Item.{Item}
 use Rattle.s7_script.specs.Lines.{Text}
 use Rattle.s7_client.specs.Form.{count_read, octets_read}
-use Rattle.s7_script.specs.Printing.{code_text, read_values, spaced}
+use Rattle.std.specs.Fmt.{decimal}
+use Rattle.s7_script.specs.Printing.{code_text, number_in, numbers_told, read_values, spaced}
 
 abbrev value_at : ℕ → ℕ → List ℕ → Text
 value_at n code octets = code_text code ++ 58 ∷ encode_lower (take n octets)
@@ -69,3 +70,30 @@ no_values (i ∷ items) (c ∷ cs) octets (suc k) all = no_values items cs octet
 
 pub values-ended : (items : List Item) (cs octets text : List ℕ) (k : ℕ) → length items ≤ k → text ++ flat_map spaced (read_values (drop k items) (drop k cs) octets) ≡ text
 values-ended items cs octets text k all = ap (λ vs. text ++ flat_map spaced vs) (no_values items cs octets k all) ∙ append-nil text
+
+-- ---- numbers in four octets each
+
+-- one more number
+pub numbers-step : (at : ℕ) (octets own rest text now : List ℕ) → 4 ≤ length octets → own ≡ take 4 octets
+    → rest ≡ drop 4 octets → now ≡ text ++ spaced (decimal (number_in own at))
+    → now ++ flat_map spaced (numbers_told at rest) ≡ text ++ flat_map spaced (numbers_told at octets)
+unfolding numbers_told
+numbers-step at [] own rest text now long front back new = absurd (omega (arith, long))
+numbers-step at (a ∷ []) own rest text now long front back new = absurd (omega (arith, long))
+numbers-step at (a ∷ b ∷ []) own rest text now long front back new = absurd (omega (arith, long))
+numbers-step at (a ∷ b ∷ c ∷ []) own rest text now long front back new = absurd (omega (arith, long))
+numbers-step at (a ∷ b ∷ c ∷ d ∷ left) own rest text now long front back new =
+    let value = decimal (number_in (a ∷ b ∷ c ∷ d ∷ []) at) in
+    ap (λ r. now ++ flat_map spaced (numbers_told at r)) back
+    ∙ (ap (λ t. t ++ flat_map spaced (numbers_told at left))
+    (new ∙ ap (λ o. text ++ spaced (decimal (number_in o at))) front)
+    ∙ append_assoc text (spaced value) (flat_map spaced (numbers_told at left)))
+
+pub numbers-ended : (at : ℕ) (octets text : List ℕ) → length octets < 4
+    → text ++ flat_map spaced (numbers_told at octets) ≡ text
+unfolding numbers_told
+numbers-ended at [] text few = append-nil text
+numbers-ended at (a ∷ []) text few = append-nil text
+numbers-ended at (a ∷ b ∷ []) text few = append-nil text
+numbers-ended at (a ∷ b ∷ c ∷ []) text few = append-nil text
+numbers-ended at (a ∷ b ∷ c ∷ d ∷ left) text few = absurd (omega (arith, few))

@@ -1,8 +1,9 @@
 -- The line that is printed for what came of a job.
-use Rattle.std.specs.Prelude.{◌≡◌, ◌≢◌, ℕ, Bool, ◌==◌, ◌≤◌, ◌/◌, ◌%◌, Option, None, Some, IsSome, List, [], ◌∷◌, ◌++◌, length, map, take, drop, codes, if◌then◌else◌}
+use Rattle.std.specs.Prelude.{◌≡◌, ◌≢◌, ℕ, Bool, ◌==◌, ◌≤◌, ◌+◌, ◌/◌, ◌%◌, slice_index, Option, None, Some, IsSome, List, [], ◌∷◌, ◌++◌, length, map, take, drop, codes, if◌then◌else◌}
 use Rattle.std.specs.List.{flat_map}
 use Rattle.std.specs.Fmt.{decimal}
 use Rattle.hex.specs.Hex.{encode_lower, encode_upper}
+use Rattle.s7_outer.specs.Numbers.{number_of_two}
 use Rattle.s7_item.specs.declared.item.Item.{Item}
 use Rattle.s7_szl.specs.Readers.{mode_of}
 use Rattle.s7_clock.specs.Clock.{parts_in}
@@ -21,6 +22,9 @@ word_of (job.ReadArea item) = codes "read"
 word_of (job.WriteArea item octets) = codes "write"
 word_of (job.ReadMany items) = codes "readmany"
 word_of (job.WriteMany items octets) = codes "writemany"
+word_of job.List = codes "list"
+word_of (job.ListOf kind) = codes "listof"
+word_of (job.Info kind number) = codes "info"
 word_of (job.Szl id index) = codes "szl"
 word_of job.ClockRead = codes "clock"
 word_of (job.ClockSet moment) = codes "setclock"
@@ -54,6 +58,18 @@ abbrev pub octets_value : List ℕ → List Text
 octets_value [] = []
 octets_value (b ∷ bs) = encode_lower (b ∷ bs) ∷ []
 
+-- the number in the two octets from this place on
+abbrev pub number_in : List ℕ → ℕ → ℕ
+number_in octets at = number_of_two (slice_index octets at) (slice_index octets (at + 1))
+
+-- of each four octets the number in two of them, from this place on
+unfoldable pub numbers_told : ℕ → List ℕ → List Text
+numbers_told at [] = []
+numbers_told at (a ∷ []) = []
+numbers_told at (a ∷ b ∷ []) = []
+numbers_told at (a ∷ b ∷ c ∷ []) = []
+numbers_told at (a ∷ b ∷ c ∷ d ∷ rest) = decimal (number_in (a ∷ b ∷ c ∷ d ∷ []) at) ∷ numbers_told at rest
+
 abbrev pub codes_of : JobResult → List ℕ
 codes_of r = take r.count r.codes
 
@@ -71,6 +87,9 @@ abbrev pub job_values : JobResult → Job → List Text
 job_values r (job.ReadArea item) = octets_value r.octets
 job_values r (job.ReadMany items) = read_values items (codes_of r) r.octets
 job_values r (job.WriteMany items octets) = map code_text (codes_of r)
+job_values r job.List = numbers_told 2 r.octets
+job_values r (job.ListOf kind) = numbers_told 0 r.octets
+job_values r (job.Info kind number) = octets_value r.octets
 job_values r (job.Szl id index) = octets_value r.octets
 job_values r job.ClockRead = clock_values (parts_in r.octets)
 job_values r job.Status = mode_values (mode_of r.octets)

@@ -237,6 +237,38 @@ write_many_job (Some text) = do
   written ← written_items (parts text)
   Ok (job.WriteMany written.0 written.1)
 
+-- the code of the kind of blocks of this name
+abbrev pub kind_named : Text → Option ℕ
+kind_named name =
+    if bytes_eq name (codes "OB") then Some 0x38
+    else (if bytes_eq name (codes "DB") then Some 0x41
+    else (if bytes_eq name (codes "SDB") then Some 0x42
+    else (if bytes_eq name (codes "FC") then Some 0x43
+    else (if bytes_eq name (codes "SFC") then Some 0x44
+    else (if bytes_eq name (codes "FB") then Some 0x45
+    else (if bytes_eq name (codes "SFB") then Some 0x46
+    else None))))))
+
+-- KIND
+abbrev pub list_of_job : Option Text → Result Job ScriptKind
+list_of_job None = Err kind.Fields
+list_of_job (Some text) = do
+  of ← word_of (kind_named (field_of text))
+  ended (job.ListOf of) (rest_of text)
+
+abbrev pub with_number : ℕ → Option Text → Result Job ScriptKind
+with_number of None = Err kind.Fields
+with_number of (Some text) = do
+  number ← within 0 65535 (number_of (field_of text))
+  ended (job.Info of number) (rest_of text)
+
+-- KIND NUMBER
+abbrev pub info_job : Option Text → Result Job ScriptKind
+info_job None = Err kind.Fields
+info_job (Some text) = do
+  of ← word_of (kind_named (field_of text))
+  with_number of (rest_of text)
+
 -- a number of two octets, in four hexadecimal digits
 abbrev pub two_octets_in : Result (List ℕ) FromHexError → Result ℕ ScriptKind
 two_octets_in (Ok (high ∷ low ∷ [])) = Ok (high * 256 + low)
@@ -277,7 +309,8 @@ password_job (Some text) =
 -- the jobs without fields
 abbrev pub plain_job : Text → Option Job
 plain_job name =
-    if bytes_eq name (codes "clock") then Some job.ClockRead
+    if bytes_eq name (codes "list") then Some job.List
+    else (if bytes_eq name (codes "clock") then Some job.ClockRead
     else (if bytes_eq name (codes "start") then Some job.Start
     else (if bytes_eq name (codes "coldstart") then Some job.ColdStart
     else (if bytes_eq name (codes "stop") then Some job.Stop
@@ -285,7 +318,7 @@ plain_job name =
     else (if bytes_eq name (codes "copy") then Some job.CopyRam
     else (if bytes_eq name (codes "status") then Some job.Status
     else (if bytes_eq name (codes "clearpassword") then Some job.PasswordClear
-    else None)))))))
+    else None))))))))
 
 abbrev pub or_unknown : Option Job → Option Text → Result Job ScriptKind
 or_unknown None rest = Err kind.Word
@@ -297,10 +330,12 @@ job_named name rest =
     else (if bytes_eq name (codes "write") then write_job rest
     else (if bytes_eq name (codes "readmany") then read_many_job rest
     else (if bytes_eq name (codes "writemany") then write_many_job rest
+    else (if bytes_eq name (codes "listof") then list_of_job rest
+    else (if bytes_eq name (codes "info") then info_job rest
     else (if bytes_eq name (codes "szl") then list_job rest
     else (if bytes_eq name (codes "setclock") then set_clock_job rest
     else (if bytes_eq name (codes "password") then password_job rest
-    else or_unknown (plain_job name) rest))))))
+    else or_unknown (plain_job name) rest))))))))
 
 -- the job that a line names
 abbrev pub job_of : Text → Result Job ScriptKind

@@ -3,6 +3,7 @@
 #![tactic(auto)]
 
 mod area_line;
+mod block_line;
 mod fault;
 mod guard_line;
 mod item_text;
@@ -38,6 +39,8 @@ pub use send_list::{SendLine, Sends};
 pub use sends::read_sends;
 pub use write::write_areas;
 
+#[cfg(test)]
+mod block_tests;
 #[cfg(test)]
 mod print_tests;
 #[cfg(test)]

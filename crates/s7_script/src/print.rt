@@ -1,5 +1,5 @@
 // Printing what came of jobs.
-ghost use Rattle.std.specs.Prelude.{◌≡◌, ◌≤◌, ◌+◌, ◌∷◌, ◌++◌, [], OnOk, IfOk, IsSome, length, map};
+ghost use Rattle.std.specs.Prelude.{◌≡◌, ◌≤◌, ◌<◌, ◌+◌, ◌∷◌, ◌++◌, [], OnOk, IfOk, IsSome, length, map};
 ghost use Rattle.std.specs.List.{flat_map};
 ghost use Rattle.std.specs.Fmt.{decimal};
 ghost use Rattle.hex.specs.Hex.{encode_lower, encode_upper};
@@ -8,8 +8,8 @@ ghost use Rattle.s7_clock.specs.Moment.{moment_in};
 ghost use Rattle.s7_szl.specs.Readers.{mode_of};
 ghost use Rattle.s7_client.specs.Form.{count_read, octets_read};
 ghost use Rattle.s7_script.specs.Printing.{IsPrintable, IsPrintableOf, clock_values, code_text, four_octets};
-ghost use Rattle.s7_script.specs.Printing.{job_values, mode_values, octets_value, print, read_values, spaced};
-ghost use Rattle.s7_script.specs.Printing.{values, values_text, word_of};
+ghost use Rattle.s7_script.specs.Printing.{job_values, mode_values, number_in, numbers_told, octets_value, print, read_values};
+ghost use Rattle.s7_script.specs.Printing.{spaced, values, values_text, word_of};
 
 use crate::moment::clock_text;
 use s7_client::{Job, JobResult};
@@ -19,10 +19,19 @@ use s7_outer::{Memory, Octets};
 use s7_szl::read_mode;
 use std::alloc::Global;
 
+/// The octets of each kind that is counted, and of each block that is listed.
+const ENTRY: usize = 4;
+
+/// Where the count of a kind stands, and the number of a block.
+const COUNT_AT: usize = 2;
+
+const NUMBER_AT: usize = 0;
+
 /// The line that tells what came of the job of a line: the line's number, the job's word, its code in
 /// eight upper-case hexadecimal digits, and the value, with one space between them and LF at the end.
 ///
-/// The value of `read` and `szl` is their octets in lower case. That of `readmany` is of each item its
+/// The value of `read`, `info` and `szl` is their octets in lower case, that of `list` the seven counts, that of `listof`
+/// the blocks' numbers, in decimal. That of `readmany` is of each item its
 /// code in two upper-case digits, a colon, and its octets where the code is FF; that of `writemany` the
 /// codes; with one space between two. That of `clock` is its date and time, `YYYY-MM-DDThh:mm:ss.mmm`,
 /// and that of `status` `run` or `stop`. The value is `-` where there is none, as after other jobs and
@@ -65,6 +74,9 @@ fn word_of(job: &Job) -> &'static str
         Job::WriteArea { .. } => "write",
         Job::ReadMany { .. } => "readmany",
         Job::WriteMany { .. } => "writemany",
+        Job::List => "list",
+        Job::ListOf { .. } => "listof",
+        Job::Info { .. } => "info",
         Job::Szl { .. } => "szl",
         Job::ClockRead => "clock",
         Job::ClockSet { .. } => "setclock",
@@ -105,7 +117,11 @@ fn add_job_values(alloc: Global, text: &mut Vec<u8>, done: &JobResult) -> Result
         ≡ text.old.items ++ flat_map spaced (job_values done.now done.now.job)) }
 {
     match &done.job {
-        Job::ReadArea { .. } | Job::Szl { .. } => add_octets(alloc, text, done.octets.as_slice()),
+        Job::ReadArea { .. } | Job::Info { .. } | Job::Szl { .. } => {
+            add_octets(alloc, text, done.octets.as_slice())
+        }
+        Job::List => add_numbers(alloc, text, done.octets.as_slice(), COUNT_AT),
+        Job::ListOf { .. } => add_numbers(alloc, text, done.octets.as_slice(), NUMBER_AT),
         Job::ReadMany { items } => {
             let codes = &done.codes[..usize::from(done.count)];
             add_items(alloc, text, items.as_slice(), codes, done.octets.as_slice())
@@ -178,6 +194,37 @@ fn add_code(alloc: Global, text: &mut Vec<u8>, code: u8) -> Result<(), Memory>
     ensures { OnOk result (text.new.items ≡ text.old.items ++ spaced (code_text code)) }
 {
     let digits = hex::encode_upper(alloc, [code].as_slice())?;
+    text.extend_from_slice(b" ")?;
+    text.extend_from_slice(digits.as_bytes())?;
+    Ok(())
+}
+
+/// Adds of each entry the number in its two octets from this place on.
+fn add_numbers(alloc: Global, text: &mut Vec<u8>, octets: &[u8], at: usize) -> Result<(), Memory>
+    requires { at ≤ 2 }
+    ensures { OnOk result (text.new.items ≡ text.old.items ++ flat_map spaced (numbers_told at octets.now)) }
+{
+    let mut rest = octets;
+    while rest.len() >= ENTRY {
+        let (entry, after) = rest.split_at(ENTRY);
+        add_number(alloc, text, number_in(entry, at))?;
+        rest = after;
+    }
+    Ok(())
+}
+
+/// The number in the two octets from this place on.
+fn number_in(octets: &[u8], at: usize) -> u16
+    requires { at + 1 < length octets.now }
+    ensures { result ≡ number_in octets.now at }
+{
+    u16::from(octets[at]) * 256 + u16::from(octets[at + 1])
+}
+
+fn add_number(alloc: Global, text: &mut Vec<u8>, number: u16) -> Result<(), Memory>
+    ensures { OnOk result (text.new.items ≡ text.old.items ++ spaced (decimal number)) }
+{
+    let digits = format!(in alloc; "{number}")?;
     text.extend_from_slice(b" ")?;
     text.extend_from_slice(digits.as_bytes())?;
     Ok(())

@@ -28,7 +28,7 @@ fn octets(alloc: Global, octets: &[u8]) -> Result<Octets, Memory>
     Octets::copy_of(alloc, octets)
 }
 
-fn of_one(alloc: Global, job: Job, code: u32, octets: &[u8]) -> Result<JobResult, Memory>
+pub(crate) fn of_one(alloc: Global, job: Job, code: u32, octets: &[u8]) -> Result<JobResult, Memory>
     ensures { IfOk result (λ r. (r.job ≡ job) × (r.code ≡ code) × (r.count ≡ 0) × (r.octets ≡ octets.now)) }
 {
     Ok(JobResult {
@@ -41,7 +41,12 @@ fn of_one(alloc: Global, job: Job, code: u32, octets: &[u8]) -> Result<JobResult
     })
 }
 
-fn prints(alloc: Global, line: u32, done: &JobResult, expected: &str) -> Result<bool, Memory>
+pub(crate) fn prints(
+    alloc: Global,
+    line: u32,
+    done: &JobResult,
+    expected: &str,
+) -> Result<bool, Memory>
     requires { IsPrintable done.now }
 {
     let text = print_result(alloc, line, done)?;

@@ -10,6 +10,7 @@ ghost use Rattle.s7_script.specs.Script.{write_job, write_many_job, written_item
 ghost use Rattle.s7_script.specs.ScriptShown.{all_written, parts_left};
 
 use crate::ScriptKind;
+use crate::block_line::{info_job, list_of_job};
 use crate::guard_line::all_graphic;
 use crate::item_text::{ended, read_item};
 use crate::lines::split_field;
@@ -40,6 +41,10 @@ fn job_named(alloc: Global, name: &[u8], rest: Option<&[u8]>) -> Result<Job, Scr
         read_many_job(alloc, rest)
     } else if name == b"writemany".as_slice() {
         write_many_job(alloc, rest)
+    } else if name == b"listof".as_slice() {
+        list_of_job(rest)
+    } else if name == b"info".as_slice() {
+        info_job(rest)
     } else if name == b"szl".as_slice() {
         list_job(rest)
     } else if name == b"setclock".as_slice() {
@@ -58,7 +63,9 @@ fn job_named(alloc: Global, name: &[u8], rest: Option<&[u8]>) -> Result<Job, Scr
 fn plain_job(name: &[u8]) -> Option<Job>
     ensures { result ≡ plain_job name.now }
 {
-    if name == b"clock".as_slice() {
+    if name == b"list".as_slice() {
+        Some(Job::List)
+    } else if name == b"clock".as_slice() {
         Some(Job::ClockRead)
     } else if name == b"start".as_slice() {
         Some(Job::Start)

@@ -383,6 +383,7 @@ fn sets_password(lines: &[ScriptLine], expected: &[u8]) -> bool {
 }
 
 const NAMES: &[&str] = &[
+    "list",
     "clock",
     "start",
     "coldstart",
@@ -411,6 +412,7 @@ fn jobs_without_fields(rt: HostRuntime) -> Result<(), Fail> {
 fn is_named(lines: &[ScriptLine], name: &str) -> bool {
     match lines {
         [line] => match &line.job {
+            Job::List => name == "list",
             Job::ClockRead => name == "clock",
             Job::Start => name == "start",
             Job::ColdStart => name == "coldstart",

@@ -1,0 +1,76 @@
+// The jobs of lines about blocks.
+ghost use Rattle.std.specs.Prelude.{◌≡◌, option_map};
+ghost use Rattle.s7_script.specs.Script.{info_job, kind_named, list_of_job, with_number, word_of};
+
+use crate::ScriptKind;
+use crate::item_text::{ended, within};
+use crate::lines::{number, split_field};
+use s7_block::kinds::{DB, FB, FC, OB, SDB, SFB, SFC};
+use s7_client::Job;
+
+/// The list of the blocks of a kind.
+pub(crate) fn list_of_job(rest: Option<&[u8]>) -> Result<Job, ScriptKind>
+    ensures { result ≡ list_of_job (option_map (λ t. t.now) rest.entry) }
+{
+    let Some(text) = rest else {
+        return Err(ScriptKind::Fields);
+    };
+    let (field, rest) = split_field(text);
+    let kind = kind_of(field)?;
+    ended(Job::ListOf { kind }, rest)
+}
+
+/// The head of the block of a kind and a number.
+pub(crate) fn info_job(rest: Option<&[u8]>) -> Result<Job, ScriptKind>
+    ensures { result ≡ info_job (option_map (λ t. t.now) rest.entry) }
+{
+    let Some(text) = rest else {
+        return Err(ScriptKind::Fields);
+    };
+    let (field, rest) = split_field(text);
+    let kind = kind_of(field)?;
+    with_number(kind, rest)
+}
+
+fn with_number(kind: u8, rest: Option<&[u8]>) -> Result<Job, ScriptKind>
+    ensures { result ≡ with_number kind (option_map (λ t. t.now) rest.entry) }
+{
+    let Some(text) = rest else {
+        return Err(ScriptKind::Fields);
+    };
+    let (field, rest) = split_field(text);
+    let number = within(0, 65_535, number(field))? as u16;
+    ended(Job::Info { kind, number }, rest)
+}
+
+fn kind_of(field: &[u8]) -> Result<u8, ScriptKind>
+    ensures { result ≡ word_of (kind_named field.now) }
+{
+    match kind_named(field) {
+        Some(kind) => Ok(kind),
+        None => Err(ScriptKind::Word),
+    }
+}
+
+/// The code of the kind of blocks of this name.
+fn kind_named(name: &[u8]) -> Option<u8>
+    ensures { result ≡ kind_named name.now }
+{
+    if name == b"OB".as_slice() {
+        Some(OB)
+    } else if name == b"DB".as_slice() {
+        Some(DB)
+    } else if name == b"SDB".as_slice() {
+        Some(SDB)
+    } else if name == b"FC".as_slice() {
+        Some(FC)
+    } else if name == b"SFC".as_slice() {
+        Some(SFC)
+    } else if name == b"FB".as_slice() {
+        Some(FB)
+    } else if name == b"SFB".as_slice() {
+        Some(SFB)
+    } else {
+        None
+    }
+}
