@@ -94,3 +94,32 @@ fn each_status_list_is_read_back(rt: HostRuntime) -> Result<(), Fail> {
     }
     Ok(())
 }
+
+#[test]
+fn blocks_are_counted_listed_and_told(rt: HostRuntime) -> Result<(), Fail> {
+    let words = [
+        "rig DB1=11223344 script.txt --pdu 64",
+        "rig DB1=11223344 script.txt",
+        "rig DB1=11223344 script.txt --pdu 1920 --jobs 8",
+    ];
+    for words in words {
+        prints(
+            &rt,
+            rt.alloc(),
+            AREAS,
+            "list\nlistof DB\ninfo DB 1\n",
+            words,
+            0,
+            "client 1 line 0 connect 00000000 -\nclient 1 line 1 list 00000000 0 1 0 0 0 0 0\nclient 1 line 2 listof 00000000 1\nclient 1 line 3 info 00000000 70700101050a000100000028000000000000000000000000000000000000000000000004\njournal 3\n",
+        )?;
+    }
+    prints(
+        &rt,
+        rt.alloc(),
+        AREAS,
+        "listof FC\ninfo DB 2\ninfo OB 65535\n",
+        "rig DB1=11223344 script.txt",
+        6,
+        "client 1 line 0 connect 00000000 -\nclient 1 line 1 listof 00C00000 -\nclient 1 line 2 info 00C00000 -\nclient 1 line 3 info 00C00000 -\njournal 3\n",
+    )
+}
