@@ -1,6 +1,8 @@
 -- What one partner came to over a link, turn by turn.
-use Rattle.std.proofs.Common.{◌≡◌, inl, inr, ℕ, zero, suc, ◌&&◌, not, Bool, true, false, List, [], ◌++◌, length, refl, ap}
+use Rattle.std.proofs.Common.{◌≡◌, inl, inr, ℕ, zero, suc, ◌&&◌, not, Bool, true, false, List, [], ◌∷◌, ◌++◌, length, refl, ap}
 use Rattle.std.proofs.Common.{sym, ◌∙◌, subst, append_assoc, append-nil, eqb-true, ◌==◌}
+use Rattle.std.specs.Prelude.{Option, None, Some, Result, Ok, Err, is_none, ◌||◌}
+use Rattle.s7_outer.specs.declared.memory.Memory.{Memory}
 use Rattle.std.specs.Io.KnownBytes.{prepend_known, append_known}
 use Rattle.std.proofs.lemmas.List.{length-map}
 use Rattle.s7_outer.specs.Shown.{Shown}
@@ -8,12 +10,16 @@ use Rattle.s7_client.specs.declared.config.Config.{Config}
 use Rattle.s7_client.proofs.LinkLemmas.{prepend_none, append_none}
 use Rattle.s7_partner.specs.declared.role.Role.{Role}
 use Rattle.s7_partner.specs.States.{Act, Parcel}
-use Rattle.s7_partner.specs.Held.{unread_of}
+use Rattle.s7_partner.specs.declared.event.PartnerEvent.{PartnerEvent}
+use Rattle.s7_partner.specs.declared.event.PartnerEvent.TheVariants as told
+use Rattle.s7_partner.specs.Calls.{closed_by}
+use Rattle.s7_partner.specs.Held.{unread_of, closed_of}
 use Rattle.s7_script.specs.declared.send_list.SendLine.{SendLine}
 use Rattle.s7_pair.specs.declared.event.News.{News}
-use Rattle.s7_pair.specs.Events.{list_of, sent_in}
-use Rattle.s7_pair.specs.Talking.{Post, IsFresh, blocks_of, is_acknowledged, is_closed, is_sending, Goes}
-use Rattle.s7_pair.specs.Alone.{IsSideOver, has_sent_all}
+use Rattle.s7_pair.specs.declared.event.News.TheVariants as told_news
+use Rattle.s7_pair.specs.Events.{list_of, news_by, sent_in}
+use Rattle.s7_pair.specs.Talking.{Post, IsFresh, blocks_of, is_acknowledged, is_closed, is_over, is_sending, IsTurn, Goes}
+use Rattle.s7_pair.specs.Alone.{EndsClosed, IsSideOver, has_sent_all}
 use Rattle.s7_pair.proofs.TalkLemmas.{append_twice, prepend_twice}
 use Rattle.s7_pair.proofs.SideLemmas.{Side, Turned, turned, fresh_side, side_of, all_sent, open_of}
 
@@ -109,11 +115,97 @@ is_not : (b : Bool) → not b ≡ true → b ≡ false
 is_not true e = absurd (cc)
 is_not false e = refl
 
+-- ---- why it closed
+
+-- a turn that closes it tells so
+none_closed : (p : Post) → is_closed p ≡ true → closed_of p.partner ≡ None → ⊥
+none_closed p c e = let f : false ≡ true = sym (ap (λ o. not (is_none o)) e) ∙ c in cc
+
+closed_is_over : (p : Post) → is_closed p ≡ true → is_over p ≡ false → ⊥
+closed_is_over p c e = both (is_closed p) (is_acknowledged p) c e
+  where
+    both : (a b : Bool) → a ≡ true → (a || b) ≡ false → ⊥
+    both true b c e = cc
+    both false b c e = cc
+
+record Closing (new : Post) (o : Option News) : Type 0 where
+  code : ℕ
+  closed : closed_of new.partner ≡ Some code
+  told_is : o ≡ Some (told_news.Closed code)
+
+closing_by : (new : Post) (o : Option News) (r : Result PartnerEvent Memory) → is_closed new ≡ true
+    → closed_of new.partner ≡ closed_by r → Ok o ≡ news_by r → Closing new o
+closing_by new o (Ok (told.Closed code)) c is e =
+    record { code = code; closed = is; told_is = ok_same o (Some (told_news.Closed code)) e }
+  where
+    ok_same : (x y : Option News) → ◌≡◌ {A = Result (Option News) Memory} (Ok x) (Ok y) → x ≡ y
+    ok_same x y e = cc
+closing_by new o (Ok told.Sent) c is e = absurd (none_closed new c is)
+closing_by new o (Ok (told.Received rid body)) c is e = absurd (none_closed new c is)
+closing_by new o (Ok told.Pending) c is e = absurd (none_closed new c is)
+closing_by new o (Ok told.Idle) c is e = absurd (none_closed new c is)
+closing_by new o (Err memory) c is e = absurd (none_closed new c is)
+
+turn_closes : (old new : Post) (link link' : Shown) (o : Option News) → is_closed old ≡ false → is_closed new ≡ true
+    → IsTurn old link new link' (Ok o) → Closing new o
+turn_closes old new link link' o opened c (inl t) =
+    closing_by new o t.polls.told c
+    (ap (λ (p : Post). closed_of p.partner) t.polls.same ∙ t.polls.poll.closed) t.polls.news
+turn_closes old new link link' o opened c (inr t) = absurd (let e = sym opened ∙ t.closed in cc)
+
+-- and nothing follows
+nothing_follows : (most : ℕ) (p new : Post) (link link' : Shown) (later : List News) → is_closed p ≡ true
+    → Goes most p link new link' later → (new ≡ p) × (later ≡ [])
+unfolding Goes
+nothing_follows zero p new link link' later c g = (g.0, g.2)
+nothing_follows (suc more) p new link link' later c (inl g) = (g.1, g.3)
+nothing_follows (suc more) p new link link' later c (inr g) = absurd (closed_is_over p c g.0)
+
+closes_by : (b : Bool) (more : ℕ) (old middle new : Post) (link link'' link' : Shown) (o : Option News)
+    (later : List News) → is_closed middle ≡ b → is_closed old ≡ false → is_closed new ≡ true
+    → IsTurn old link middle link'' (Ok o) → Goes more middle link'' new link' later
+    → (is_closed middle ≡ false → EndsClosed new later) → EndsClosed new (list_of o ++ later)
+closes_by true more old middle new link link'' link' o later is opened c t g rest =
+    let k = turn_closes old middle link link'' o opened is t in
+    let n = nothing_follows more middle new link'' link' later is g in
+    record {
+      front = [];
+      code = k.code;
+      closed = ap (λ (p : Post). closed_of p.partner) n.0 ∙ k.closed;
+      last = ap (λ ns. list_of o ++ ns) n.1 ∙ (append-nil (list_of o) ∙ ap list_of k.told_is);
+    }
+closes_by false more old middle new link link'' link' o later is opened c t g rest =
+    let r = rest is in
+    record {
+      front = list_of o ++ r.front;
+      code = r.code;
+      closed = r.closed;
+      last = ap (λ ns. list_of o ++ ns) r.last
+          ∙ sym (append_assoc (list_of o) r.front (told_news.Closed r.code ∷ []));
+    }
+
+closes_last : (most : ℕ) (old new : Post) (link link' : Shown) (ns : List News) → is_closed old ≡ false
+    → is_closed new ≡ true → Goes most old link new link' ns → EndsClosed new ns
+unfolding Goes
+closes_last zero old new link link' ns opened c g =
+    absurd (let e = sym opened ∙ (ap is_closed (sym g.0) ∙ c) in cc)
+closes_last (suc more) old new link link' ns opened c (inl g) =
+    absurd (let e = sym opened ∙ (ap is_closed (sym g.1) ∙ c) in cc)
+closes_last (suc more) old new link link' ns opened c (inr g) =
+    subst (EndsClosed new) (sym g.7)
+    (closes_by (is_closed g.1) more old g.1 new link g.2 link' g.3 g.4 refl opened c g.5 g.6
+    (λ still. closes_last more g.1 new g.2 link' g.4 still c g.6))
+
+fresh_open : {role : Role} {config : Config} {sends : List SendLine} (p : Post) → IsFresh role config sends p
+    → is_closed p ≡ false
+fresh_open p f = ap (λ o. not (is_none o)) f.partner.stands.opened
+
 -- what it came to, and that all was told as sent where all was acknowledged
 pub record Came (role : Role) (config : Config) (sends : List SendLine) (link link' : Shown) (new : Post)
     (news : List News) : Type 0 where
   pub over : IsSideOver role config sends link link' news
   pub all : has_sent_all new ≡ true → sent_in news ≡ length sends
+  pub closes : is_closed new ≡ true → EndsClosed new news
 
 pub came_to : (role : Role) (config : Config) (sends : List SendLine) (most : ℕ) (old new : Post) (link link' : Shown)
     (news : List News) → IsFresh role config sends old → Goes most old link new link' news
@@ -137,4 +229,5 @@ came_to role config sends most old new link link' news fresh g =
           let all = all_sent role config (blocks_of sends) news new w.acts w.more_used w.more_written w.side
           (open_of new (is_not (is_closed new) b.1)) (is_not (is_sending new) a.1) (eqb-true (length new.rest) 0 a.0) in
           all.sent ∙ length-map sends _;
+      closes = λ c. closes_last most old new link link' news (fresh_open old fresh) c g;
     }

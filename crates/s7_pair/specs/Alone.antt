@@ -1,5 +1,5 @@
 -- An active partner over one link, whose news is printed.
-use Rattle.std.specs.Prelude.{◌≡◌, ◌⊎◌, ℕ, ◌≤◌, ◌&&◌, not, Bool, true, false, List, ◌++◌, Option, Some, Result, Ok, Err, if◌then◌else◌}
+use Rattle.std.specs.Prelude.{◌≡◌, ◌⊎◌, ℕ, ◌≤◌, ◌&&◌, not, Bool, true, false, List, [], ◌∷◌, ◌++◌, Option, Some, Result, Ok, Err, if◌then◌else◌}
 use Rattle.std.specs.Io.KnownBytes.{prepend_known, append_known}
 use Rattle.s7_outer.specs.Count.{Rose}
 use Rattle.s7_outer.specs.Out.{AppendsPrefix}
@@ -8,10 +8,12 @@ use Rattle.s7_outer.specs.Shown.{Shown}
 use Rattle.s7_outer.specs.declared.memory.Memory.{Memory}
 use Rattle.s7_client.specs.declared.config.Config.{Config}
 use Rattle.s7_partner.specs.declared.role.Role.{Role}
+use Rattle.s7_partner.specs.Held.{closed_of}
 use Rattle.s7_script.specs.declared.send_list.SendLine.{SendLine}
 use Rattle.s7_pair.specs.declared.alone.TalkEnd.{TalkEnd}
 use Rattle.s7_pair.specs.declared.alone.TalkEnd.TheVariants as end
 use Rattle.s7_pair.specs.declared.event.News.{News}
+use Rattle.s7_pair.specs.declared.event.News.TheVariants as news
 use Rattle.s7_pair.specs.Events.{list_of}
 use Rattle.s7_pair.specs.Text.{active_text, actives_text}
 use Rattle.s7_pair.specs.Talking.{Post, is_acknowledged, is_closed, is_over, IsTurn, Goes, blocks_of}
@@ -92,6 +94,13 @@ Talked old link out new link' out' end.Output = TellsThen old link out new link'
 Talked old link out new link' out' end.Memory = TellsThen old link out new link' out' (LacksMemory out')
 
 -- ---- what it came to
+
+-- the last that it told is the number that it closed with
+pub record EndsClosed (p : Post) (told : List News) : Type 0 where
+  pub front : List News
+  pub code : ℕ
+  pub closed : closed_of p.partner ≡ Some code
+  pub last : told ≡ front ++ news.Closed code ∷ []
 
 -- ONE PARTNER over a link used octets that it took there, and transmitted these there
 pub record IsSideOver (role : Role) (config : Config) (sends : List SendLine) (link link' : Shown) (news : List News)

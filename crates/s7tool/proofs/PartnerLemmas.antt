@@ -87,13 +87,13 @@ talks_as start last link link' out middle out' end.Memory how t rose b =
 
 comes_to : (sends : List SendLine) (start last : Post) (link link' : Shown) (out out' : OutShown) (how : Ended)
     → IsFresh Active partner_config sends start → TalksAs start link out last link' out' how
-    → ComesTo sends link out link' out' how
+    → ComesTo sends link out last link' out' how
 comes_to sends start last link link' out out' ended.Done fresh t =
     let c = came_to Active partner_config sends _ start last link link' t.0.news fresh t.0.goes in
     (t.0.news, c.over, t.0.text, c.all t.1)
 comes_to sends start last link link' out out' ended.Jobs fresh t =
     let c = came_to Active partner_config sends _ start last link link' t.0.news fresh t.0.goes in
-    (t.0.news, c.over, t.0.text)
+    (t.0.news, c.over, t.0.text, c.closes)
 comes_to sends start last link link' out out' ended.Output fresh t = tt
 comes_to sends start last link link' out out' ended.Memory fresh t = tt
 comes_to sends start last link link' out out' ended.Refused fresh t = tt

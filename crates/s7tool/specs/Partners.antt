@@ -1,5 +1,5 @@
 -- What the command `partner` does.
-use Rattle.std.specs.Prelude.{◌≡◌, ◌⊎◌, ℕ, Bool, List, [], length, Option, Some, None, IsNone, IsSomeAnd, MatchOption}
+use Rattle.std.specs.Prelude.{◌≡◌, ◌⊎◌, ℕ, Bool, true, List, [], length, Option, Some, None, IsNone, IsSomeAnd, MatchOption}
 use Rattle.s7_outer.specs.Count.{Rose}
 use Rattle.s7_outer.specs.DialShown.{DialShown}
 use Rattle.s7_outer.specs.FilesShown.{FilesShown}
@@ -13,9 +13,9 @@ use Rattle.s7_pair.specs.declared.alone.TalkEnd.TheVariants as end
 use Rattle.s7_pair.specs.declared.event.News.{News}
 use Rattle.s7_pair.specs.Events.{sent_in}
 use Rattle.s7_pair.specs.Text.{actives_text, events_text}
-use Rattle.s7_pair.specs.Talking.{Post, IsFresh}
+use Rattle.s7_pair.specs.Talking.{Post, IsFresh, is_closed}
 use Rattle.s7_pair.specs.Pairs.{EndTold, PairRan}
-use Rattle.s7_pair.specs.Alone.{IsSideOver, Talked}
+use Rattle.s7_pair.specs.Alone.{EndsClosed, IsSideOver, Talked}
 use Rattle.s7_words.specs.Tool.{PartnerTold}
 use Rattle.s7tool.specs.declared.ended.Ended.{Ended}
 use Rattle.s7tool.specs.declared.ended.Ended.TheVariants as ended
@@ -54,18 +54,20 @@ TalksAs start link out last link' out' ended.File = ⊥
 TalksAs start link out last link' out' ended.Dial = ⊥
 
 -- by the octets that it took and transmitted there it is one active partner that was given the blocks in order, and
--- the lines of what it told were printed; where all went well each block was told as sent
-abbrev pub ComesTo : List SendLine → Shown → OutShown → Shown → OutShown → Ended → Type 0
-ComesTo sends link out link' out' ended.Done =
+-- the lines of what it told were printed; where all went well each block was told as sent, and where it closed the last
+-- line has the number
+abbrev pub ComesTo : List SendLine → Shown → OutShown → Post → Shown → OutShown → Ended → Type 0
+ComesTo sends link out last link' out' ended.Done =
     (news : List News) × IsSideOver Active partner_config sends link link' news × Gains out out' (actives_text news)
     × (sent_in news ≡ length sends)
-ComesTo sends link out link' out' ended.Jobs =
+ComesTo sends link out last link' out' ended.Jobs =
     (news : List News) × IsSideOver Active partner_config sends link link' news × Gains out out' (actives_text news)
-ComesTo sends link out link' out' ended.Output = Unit {0}
-ComesTo sends link out link' out' ended.Memory = Unit {0}
-ComesTo sends link out link' out' ended.Refused = Unit {0}
-ComesTo sends link out link' out' ended.File = Unit {0}
-ComesTo sends link out link' out' ended.Dial = Unit {0}
+    × (is_closed last ≡ true → EndsClosed last news)
+ComesTo sends link out last link' out' ended.Output = Unit {0}
+ComesTo sends link out last link' out' ended.Memory = Unit {0}
+ComesTo sends link out last link' out' ended.Refused = Unit {0}
+ComesTo sends link out last link' out' ended.File = Unit {0}
+ComesTo sends link out last link' out' ended.Dial = Unit {0}
 
 pub record TalksOver {L : Type 0} (shows : L → Shown) (sends : List SendLine) (link : Shown) (out out' : OutShown)
     (run : RunEnd L) (how : Ended) : Type 0 where
@@ -73,7 +75,7 @@ pub record TalksOver {L : Type 0} (shows : L → Shown) (sends : List SendLine) 
   pub last : Post
   pub fresh : IsFresh Active partner_config sends start
   pub talks : TalksAs start link out last (shows run.line) out' how
-  pub comes : ComesTo sends link out (shows run.line) out' how
+  pub comes : ComesTo sends link out last (shows run.line) out' how
   -- a partner has no results
   pub none : run.results.items ≡ []
 
