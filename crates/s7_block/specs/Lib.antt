@@ -1,6 +1,7 @@
 pub mod Kinds
 pub mod Heads
 pub mod Names
+pub mod Telegrams
 pub mod Store
 pub mod StoreView
 pub mod StorePlaces

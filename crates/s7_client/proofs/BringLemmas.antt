@@ -17,7 +17,7 @@ use Rattle.s7_item.specs.declared.item.Item.{Item}
 use Rattle.s7_szl.specs.Joining.{is_refused}
 use Rattle.s7_client.specs.declared.subject.Subject.{Subject}
 use Rattle.s7_client.specs.UserData.{octets_in as data_in, answers_about, comes_in_pieces, is_whole, goes_on_with}
-use Rattle.s7_client.specs.Question.{Question, negotiates, reads, writes, controls, asks, asks_further}
+use Rattle.s7_client.specs.Question.{Question, negotiates, reads, writes, asks, asks_further}
 use Rattle.s7_client.specs.Answer.{Answer, ItemAnswer, tells, notes, brings, refuses, item_answers, counts_items, acknowledged, brought, if_data, is_under, by_params, answered_by_user, by_kind, by_header, answer_of}
 use Rattle.s7_client.specs.Refusals.{telegram_refusal}
 use Rattle.s7_client.specs.Flight.{Row, answers_of}
@@ -77,8 +77,9 @@ acknowledged_fits (writes items octets) params body answer is =
     let both = and_parts counts (eqb (length body) (length items)) told.0 in
     let long : length body ≡ length items = eqb-true (length body) (length items) both.1 in
     subst (Fits (writes items octets)) (same_some (notes body) answer told.1) long
-acknowledged_fits (controls control) params body answer is = tt
-acknowledged_fits _ params body answer is = absurd (cc)
+acknowledged_fits (asks subject octets) params body answer is = absurd (cc)
+acknowledged_fits (asks_further subject octet so_far) params body answer is = absurd (cc)
+acknowledged_fits _ params body answer is = tt
 
 -- ---- user data
 
@@ -170,18 +171,18 @@ piece_fits subject octets (first ∷ answers) question answer is fits =
     let next = asks_behind subject (octets_brought (first ∷ answers)) (last_answer first answers) question is in
     subst (λ (q : Question). Fits q answer) (sym next.1) fits
 
-last_is : (first : Option Answer) (answers : List (Option Answer)) (last : Option Answer)
+pub last_is : (first : Option Answer) (answers : List (Option Answer)) (last : Option Answer)
     → last_answer first (answers ++ last ∷ []) ≡ last
 last_is first [] last = refl
 last_is first (next ∷ answers) last = last_is next answers last
 
-piece_behind : (subject : Subject) (octets : List ℕ) (answers : List (Option Answer)) (last : Option Answer)
+pub piece_behind : (subject : Subject) (octets : List ℕ) (answers : List (Option Answer)) (last : Option Answer)
     → next_piece subject octets (answers ++ last ∷ []) ≡ behind subject (octets_brought (answers ++ last ∷ [])) last
 piece_behind subject octets [] last = refl
 piece_behind subject octets (first ∷ answers) last =
     ap (behind subject (octets_brought (first ∷ (answers ++ last ∷ [])))) (last_is first answers last)
 
-brought_append : (answers : List (Option Answer)) (answer : Answer)
+pub brought_append : (answers : List (Option Answer)) (answer : Answer)
     → octets_brought (answers ++ Some answer ∷ []) ≡ octets_brought answers ++ octets_in answer
 brought_append answers answer =
     flat_map-append (of_answer octets_in) answers (Some answer ∷ [])

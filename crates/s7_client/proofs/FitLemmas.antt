@@ -1,5 +1,5 @@
 -- Laws of what is sent: no message is longer than the PDU, and no more are unanswered than may be.
-use Rattle.std.proofs.Common.{◌≡◌, ℕ, zero, suc, ◌+◌, ◌-◌, ◌≤◌, Bool, true, false, cond, eqb, leb, ltb, Option, Some, None, List, [], ◌∷◌, ◌++◌, map, length, take, drop, refl, sym, ap, ◌∙◌, subst, arith}
+use Rattle.std.proofs.Common.{◌≡◌, ◌⊎◌, inl, inr, ℕ, zero, suc, ◌+◌, ◌-◌, ◌≤◌, Bool, true, false, cond, eqb, leb, ltb, Option, Some, None, List, [], ◌∷◌, ◌++◌, map, length, take, drop, refl, sym, ap, ◌∙◌, subst, arith}
 use Rattle.std.specs.Prelude.{◌&&◌, max, bit_xor, replicate, slice_get}
 use Rattle.std.specs.List.{AllByRecursion}
 use Rattle.std.proofs.lemmas.Bool.{and_parts, eqb-true, leb-true}
@@ -18,6 +18,8 @@ use Rattle.s7_split.specs.Fits.{fits, answer_length}
 use Rattle.s7_split.specs.Parts.{parts_of, CanBeAsked, CanBeSplit}
 use Rattle.s7_split.specs.Groups.{groups_of, IsGroup, AreGroups}
 use Rattle.s7_split.proofs.PartLaws.{parts_asked}
+use Rattle.s7_block.specs.declared.block.BlockName.{BlockName}
+use Rattle.s7_block.specs.Telegrams.{slice_function, end_function}
 use Rattle.s7_clock.specs.declared.control.Control.{Control}
 use Rattle.s7_clock.specs.declared.control.Control.TheVariants as control
 use Rattle.s7_clock.specs.Control.{control_spelling}
@@ -30,7 +32,9 @@ use Rattle.s7_client.specs.declared.job.Job.TheVariants as job
 use Rattle.s7_client.specs.declared.subject.Subject.{Subject}
 use Rattle.s7_client.specs.declared.subject.Subject.TheVariants.{StatusList, RunState, BlockCounts, BlocksOfKind, BlockHead, Clock, ClockSetting, Password, PasswordClearing}
 use Rattle.s7_client.specs.UserData.{request_params, further_params, no_data, data_of, filled_text, encoded_after, encoded}
+use Rattle.s7_client.specs.Uploads.{start_params, id_params}
 use Rattle.s7_client.specs.Question.{Question, reads, writes, controls, asks, asks_further, written, message_octets, question_octets}
+use Rattle.s7_client.specs.Question.{starts_upload, slices_upload, ends_upload}
 use Rattle.s7_client.specs.Answer.{Answer}
 use Rattle.s7_client.specs.Checks.{octet_count_of, check_item, check_items, check_moment, check_password}
 use Rattle.s7_client.specs.Stages.{joined}
@@ -43,6 +47,7 @@ use Rattle.s7_client.proofs.GroupLemmas.{octet_count_append, groups_right, parts
 use Rattle.s7_client.proofs.FlightLemmas.{same_some, open_append, ComesNext, filled_open}
 use Rattle.s7_client.proofs.RowLemmas.{RowsKept, course_rows}
 use Rattle.s7_client.proofs.BringLemmas.{asks_behind}
+use Rattle.s7_client.proofs.UploadLemmas.{IsOf, IsUnderWay, upload_asks}
 
 -- ---- general lemmas
 
@@ -131,6 +136,22 @@ further_short : (pdu : ℕ) (subject : Subject) (octet : ℕ) (so_far : List ℕ
     → IsShort pdu (asks_further subject octet so_far)
 further_short pdu subject octet so_far least = λ sequence.
     omega (arith, least, message_long kind.User sequence (user_spelling (further_params subject octet)) no_data refl)
+
+-- a slice of an upload, or its end
+slice_short : (pdu id size : ℕ) (question : Question) → 64 ≤ pdu → IsOf id size question → IsShort pdu question
+slice_short pdu id size (slices_upload other others so_far) least of = λ sequence.
+    omega (arith, least, message_long kind.Job sequence (id_params slice_function other) [] refl)
+slice_short pdu id size (ends_upload other) least of = λ sequence.
+    omega (arith, least, message_long kind.Job sequence (id_params end_function other) [] refl)
+slice_short pdu id size _ least of = absurd of
+
+-- or its start
+upload_short : (pdu : ℕ) (name : BlockName) (answers : List (Option Answer)) (question : Question) → 64 ≤ pdu
+    → ((answers ≡ []) × (starts_upload name ≡ question)) ⊎ IsUnderWay answers question → IsShort pdu question
+upload_short pdu name answers question least (inl first) =
+    subst (IsShort pdu) first.1
+    (λ sequence. omega (arith, least, message_long kind.Job sequence (start_params name) [] refl))
+upload_short pdu name answers question least (inr under) = slice_short pdu under.id under.size question least under.of
 
 -- ---- the messages of all questions
 
@@ -293,6 +314,11 @@ sent_short (job.ListOf kind) config granted answers question least is =
     piece_short granted.pdu BlocksOfKind (kind_octets kind) answers question least (omega arith) is
 sent_short (job.Info kind number) config granted answers question least is =
     piece_short granted.pdu BlockHead (block_octets kind number) answers question least (omega arith) is
+sent_short (job.Upload kind number) config granted answers question least is =
+    let name : BlockName = record { kind = kind; number = number } in
+    upload_short granted.pdu name answers question least (upload_asks name answers question is)
+sent_short (job.Delete kind number) config granted answers question least is =
+    control_sent granted.pdu (control.Delete kind number) answers question least (omega arith) is
 sent_short (job.Szl id index) config granted answers question least is =
     piece_short granted.pdu StatusList (list_octets id index) answers question least (omega arith) is
 sent_short job.ClockRead config granted answers question least is =

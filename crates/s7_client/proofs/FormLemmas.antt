@@ -12,6 +12,7 @@ use Rattle.s7_item.specs.DataItem.{stated_length, padding_of}
 use Rattle.s7_header.specs.Octets.{number_at}
 use Rattle.s7_split.specs.Parts.{parts_of, CanBeSplit}
 use Rattle.s7_split.specs.Groups.{groups_of}
+use Rattle.s7_block.specs.declared.block.BlockName.{BlockName}
 use Rattle.s7_clock.specs.declared.control.Control.{Control}
 use Rattle.s7_clock.specs.declared.control.Control.TheVariants as control
 use Rattle.s7_client.specs.declared.config.Config.{Config}
@@ -29,7 +30,7 @@ use Rattle.s7_client.specs.Refusals.{number_of_error, number_of_code, number_of_
 use Rattle.s7_client.specs.Checks.{octet_count_of, check_item, check_items, check_moment, check_password}
 use Rattle.s7_client.specs.Stages.{joined}
 use Rattle.s7_client.specs.Flight.{Row, answers_of}
-use Rattle.s7_client.specs.Dialogue.{End, Conduct, Plan, departed_end, number_end, fault_end, over, taken_grant, by_grant, negotiated_by, negotiated, read_questions, write_questions, first_or, refusal_in, first_refusal, plain_number, write_number, by_refusal, octets_told, codes_told, octets_brought, good_end, alone, listed, controlling, asking_about, if_good, connected_plan, unconnected_plan, plan_of}
+use Rattle.s7_client.specs.Dialogue.{End, Conduct, Plan, departed_end, number_end, fault_end, over, taken_grant, by_grant, negotiated_by, negotiated, read_questions, write_questions, first_or, refusal_in, first_refusal, plain_number, write_number, by_refusal, octets_told, codes_told, octets_brought, good_end, alone, listed, controlling, asking_about, uploading, if_good, connected_plan, unconnected_plan, plan_of}
 use Rattle.s7_client.specs.Course.{Origin, for_departure, for_nothing, conduct_of, course}
 use Rattle.s7_client.specs.Form.{count_read, octets_read, FormOf, HasForm, IsWhole}
 use Rattle.s7_client.proofs.CheckLemmas.{item_checked, items_checked, can_split}
@@ -488,6 +489,18 @@ control_formed done granted control rows end carried form is_all ended =
     (λ r e. first_positive (control_refusal control) 0 (answers_of rows) r (control_positive control) e)
     (λ none. found_formed (Some granted) done [] [] form is_all))
 
+-- an upload gives what the answers brought
+upload_formed : (done : Job) (granted : Grant) (name : BlockName) (rows : List Row) (end : End) (carried : List ℕ)
+    → ((found : List ℕ) → FormOf done found []) → ((found : List ℕ) → IsWhole done (good_end found []))
+    → IsEnded (uploading name) rows end carried → Formed (Some granted) done end
+upload_formed done granted name rows end carried form is_all ended =
+    let found : List ℕ = octets_brought (answers_of rows) in
+    let refused = first_refusal telegram_refusal 0 (answers_of rows) in
+    subst (Formed (Some granted) done) (sym ended.is)
+    (refused_formed (Some granted) done plain_number refused (good_end found [])
+    (λ r e. first_positive telegram_refusal 0 (answers_of rows) r telegram_positive e)
+    (λ none. found_formed (Some granted) done found [] (form found) (is_all found)))
+
 -- user data gives what the answers brought, which is whole
 about_formed : (done : Job) (granted : Grant) (subject : Subject) (octets : List ℕ) (rows : List Row) (end : End)
     (carried : List ℕ)
@@ -549,6 +562,10 @@ connected_formed (job.ListOf kind) granted rows end carried asked ended =
 connected_formed (job.Info kind number) granted rows end carried asked ended =
     about_formed (job.Info kind number) granted BlockHead _ rows end carried
     (λ found is. (omega (arith, length-drop 4 found, eqb-true (length found) 40 is), refl)) (λ found. tt) asked ended
+connected_formed (job.Upload kind number) granted rows end carried asked ended =
+    upload_formed (job.Upload kind number) granted _ rows end carried (λ found. refl) (λ found. tt) ended
+connected_formed (job.Delete kind number) granted rows end carried asked ended =
+    control_formed (job.Delete kind number) granted (control.Delete kind number) rows end carried (refl, refl) tt ended
 connected_formed (job.Szl id index) granted rows end carried asked ended =
     about_formed (job.Szl id index) granted StatusList _ rows end carried (λ found is. (is, refl)) (λ found. tt) asked
     ended

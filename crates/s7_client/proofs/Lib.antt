@@ -12,6 +12,7 @@ pub mod SpotLemmas
 pub mod AskLemmas
 pub mod ReadyLemmas
 pub mod StartLemmas
+pub mod UploadLemmas
 pub mod SingleAskLemmas
 pub mod FollowLemmas
 pub mod SingleLemmas
@@ -28,6 +29,7 @@ pub mod PlaceLemmas
 pub mod KindLemmas
 pub mod NoteLemmas
 pub mod TakeLemmas
+pub mod SingleAnswerLemmas
 pub mod SingleTakeLemmas
 pub mod CourseLemmas
 pub mod RowLemmas

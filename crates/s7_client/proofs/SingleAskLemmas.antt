@@ -120,6 +120,7 @@ single_width : (done : Job) (asked : Ask) → (conduct_of_single done asked).wid
 single_width done (ask.Control control) = refl
 single_width done (ask.About subject) = refl
 single_width done (ask.Further subject octet) = refl
+single_width done _ = refl
 
 width_one : (config : Config) (granted : Option Grant) (rows : List Row) (done : Job) (found codes : List ℕ)
     (asked : Ask) (len : ℕ) (out : Option ℕ)

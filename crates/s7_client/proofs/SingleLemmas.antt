@@ -13,6 +13,7 @@ use Rattle.s7_clock.specs.declared.control.Control.TheVariants as control
 use Rattle.s7_clock.specs.Control.{control_spelling}
 use Rattle.s7_clock.specs.Moment.{octets_at}
 use Rattle.s7_szl.specs.Joining.{most_joined}
+use Rattle.s7_block.specs.Telegrams.{slice_function, end_function}
 use Rattle.s7_client.specs.declared.config.Config.{Config}
 use Rattle.s7_client.specs.declared.job.Job.{Job}
 use Rattle.s7_client.specs.declared.job.Job.TheVariants as job
@@ -23,8 +24,9 @@ use Rattle.s7_client.specs.declared.running.Stage.TheVariants as stage
 use Rattle.s7_client.specs.Codes.{no_fault, invalid_parameters}
 use Rattle.s7_client.specs.Checks.{check_password}
 use Rattle.s7_client.specs.UserData.{request_params, further_params, data_of, filled_text, encoded_after, encoded}
+use Rattle.s7_client.specs.Uploads.{start_params, id_params}
 use Rattle.s7_client.specs.Question.{message_octets, question_octets}
-use Rattle.s7_client.specs.Stages.{data_of_job, question_of_single, single_message, is_plain, is_sent_well, can_ask_single, unput_by}
+use Rattle.s7_client.specs.Stages.{data_of_job, block_of, question_of_single, single_message, is_sent_well, can_ask_single, unput_by}
 
 -- ---- the octets that a job sends
 
@@ -100,26 +102,32 @@ user_small sequence params octets few =
     let long = length-append (user_spelling params) (data_of octets) in
     (omega (arith, long), omega (arith, long, params_few params, body_few octets few))
 
-control_small : (sequence : ℕ) (c : Control) → is_plain c ≡ true
-    → IsSmall (message_octets job_kind sequence (control_spelling c) [])
-control_small sequence (control.Insert kind number) plain = absurd (cc)
-control_small sequence (control.Delete kind number) plain = absurd (cc)
-control_small sequence control.Start plain = job_small sequence (control_spelling control.Start) (omega arith)
-control_small sequence control.ColdStart plain = job_small sequence (control_spelling control.ColdStart) (omega arith)
-control_small sequence control.Stop plain = job_small sequence (control_spelling control.Stop) (omega arith)
-control_small sequence control.Compress plain = job_small sequence (control_spelling control.Compress) (omega arith)
-control_small sequence control.CopyRam plain = job_small sequence (control_spelling control.CopyRam) (omega arith)
+control_small : (sequence : ℕ) (c : Control) → IsSmall (message_octets job_kind sequence (control_spelling c) [])
+control_small sequence control.Start = job_small sequence (control_spelling control.Start) (omega arith)
+control_small sequence control.ColdStart = job_small sequence (control_spelling control.ColdStart) (omega arith)
+control_small sequence control.Stop = job_small sequence (control_spelling control.Stop) (omega arith)
+control_small sequence control.Compress = job_small sequence (control_spelling control.Compress) (omega arith)
+control_small sequence control.CopyRam = job_small sequence (control_spelling control.CopyRam) (omega arith)
+control_small sequence (control.Insert kind number) =
+    job_small sequence (control_spelling (control.Insert kind number)) (omega arith)
+control_small sequence (control.Delete kind number) =
+    job_small sequence (control_spelling (control.Delete kind number)) (omega arith)
 
 question_small : (done : Job) (found sequence : ℕ) (asked : Ask) (so_far : List ℕ)
     → can_ask_single done found asked ≡ true
     → IsSmall (question_octets sequence (question_of_single done asked so_far))
-question_small done found sequence (ask.Control c) so_far can =
-    control_small sequence c (and_parts (is_plain c) (found == 0) can).0
+question_small done found sequence (ask.Control c) so_far can = control_small sequence c
 question_small done found sequence (ask.About subject) so_far can =
     user_small sequence (request_params subject) (data_of_job done)
     (data_few done (and_parts (is_sent_well done) (found == most_joined) can).0)
 question_small done found sequence (ask.Further subject octet) so_far can =
     user_small sequence (further_params subject octet) [] (omega arith)
+question_small done found sequence ask.Upload so_far can =
+    job_small sequence (start_params (block_of done)) (omega arith)
+question_small done found sequence (ask.Slice id size) so_far can =
+    job_small sequence (id_params slice_function id) (omega arith)
+question_small done found sequence (ask.UploadEnd id) so_far can =
+    job_small sequence (id_params end_function id) (omega arith)
 
 -- it is the same whatever came before
 pub same_message : (done : Job) (sequence : ℕ) (asked : Ask) (so_far : List ℕ)
@@ -128,6 +136,7 @@ pub same_message : (done : Job) (sequence : ℕ) (asked : Ask) (so_far : List �
 same_message done sequence (ask.Control c) so_far = refl
 same_message done sequence (ask.About subject) so_far = refl
 same_message done sequence (ask.Further subject octet) so_far = refl
+same_message done sequence _ so_far = refl
 
 -- ---- what isn't put yet
 

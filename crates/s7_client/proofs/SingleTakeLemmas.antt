@@ -1,175 +1,36 @@
 -- Lemmas on jobs that ask one question at a time, as they take its answer.
-use Rattle.std.proofs.Common.{◌≡◌, ◌==◌, ℕ, ◌+◌, ◌<◌, ◌≤◌, Bool, true, false, cond, ltb, ◌&&◌, Bor, Option, Some, None, List, [], ◌∷◌, ◌++◌, length, take, drop, refl, sym, ap, ◌∙◌, subst, arith}
-use Rattle.std.specs.Prelude.{is_none}
+use Rattle.std.proofs.Common.{◌≡◌, ◌==◌, ℕ, ◌+◌, ◌≤◌, true, ◌&&◌, Bor, Option, Some, None, List, [], ◌∷◌, ◌++◌, length, take, drop, refl, sym, ap, ◌∙◌, subst, eq-eqb, arith}
+use Rattle.std.specs.Prelude.{option_map}
+use Rattle.std.proofs.Math.Path.{ap₂}
 use Rattle.std.specs.List.{AllByRecursion}
 use Rattle.std.proofs.lemmas.Bool.{and_parts, eqb-true}
-use Rattle.std.proofs.lemmas.Grind.{flat_map-append}
-use Rattle.std.proofs.lemmas.List.{append-nil, length-append, length-take-le, map-append, take_at}
-use Rattle.s7_szl.specs.Joining.{most_joined}
-use Rattle.s7_clock.specs.declared.control.Control.{Control}
+use Rattle.std.proofs.lemmas.List.{append-nil, length-append, length-take-le, take_at}
 use Rattle.s7_client.specs.declared.config.Config.{Config}
 use Rattle.s7_client.specs.declared.grant.Grant.{Grant}
 use Rattle.s7_client.specs.declared.grant.Leaves.TheVariants.{AsItWas}
 use Rattle.s7_client.specs.declared.job.Job.{Job}
-use Rattle.s7_client.specs.declared.subject.Subject.{Subject}
 use Rattle.s7_client.specs.declared.single.Ask.{Ask}
-use Rattle.s7_client.specs.declared.single.Ask.TheVariants as ask
 use Rattle.s7_client.specs.declared.single.Single.{Single}
 use Rattle.s7_client.specs.declared.running.Stage.TheVariants as stage
 use Rattle.s7_client.specs.declared.running.Running.{Running}
 use Rattle.s7_client.specs.declared.user_data.Told.{Told}
 use Rattle.s7_client.specs.declared.user_data.Told.TheVariants as told
-use Rattle.s7_client.specs.UserData.{comes_in_pieces, lead_of}
-use Rattle.s7_client.specs.Question.{Question, asks_further}
-use Rattle.s7_client.specs.Answer.{Answer, answer_of, brings}
-use Rattle.s7_client.specs.Refusals.{control_refusal, telegram_refusal}
-use Rattle.s7_client.specs.Flight.{Row, answers_of, open_count, filled}
-use Rattle.s7_client.specs.Dialogue.{End, Conduct, octets_in, octets_brought, brought_end, of_answer, behind, last_answer, next_piece, first_refusal, good_end, number_end, by_refusal, plain_number, controlling, asking_about, plan_of}
-use Rattle.s7_client.specs.Course.{Course, for_nothing, next_question, settled, asking}
-use Rattle.s7_client.specs.Stages.{data_of_job, question_of_single, conduct_of_single, is_sent_well, can_ask_single, is_ready, unput_by, IsOver}
-use Rattle.s7_client.specs.Singles.{refusal_to, IsControl, IsAbout, TellsSingle, TellsIfSome}
-use Rattle.s7_client.specs.Asks.{earlier}
+use Rattle.s7_client.specs.Question.{Question}
+use Rattle.s7_client.specs.Answer.{Answer, answer_of}
+use Rattle.s7_client.specs.Flight.{Row, answers_of, filled}
+use Rattle.s7_client.specs.Dialogue.{End, Conduct, octets_brought, first_refusal, good_end, number_end, plan_of}
+use Rattle.s7_client.specs.Course.{Course, for_nothing, asking}
+use Rattle.s7_client.specs.Stages.{question_of_single, conduct_of_single, is_writable, can_ask_single, is_ready, unput_by, IsOver}
+use Rattle.s7_client.specs.Singles.{room_for, lead_in, BringsOn, TellsSingle, TellsIfSome}
 use Rattle.s7_client.specs.GoesOn.{IsAnswered}
 use Rattle.s7_client.specs.Running.{Follows, Reached, awaited_in, unput_of}
-use Rattle.s7_client.proofs.FlightLemmas.{PassesBy, answered_pass, filled_first, settled_ends}
+use Rattle.s7_client.proofs.FlightLemmas.{PassesBy, answered_pass, filled_first}
 use Rattle.s7_client.proofs.SpotLemmas.{all_append}
-use Rattle.s7_client.proofs.AskLemmas.{refusal_open, asked_none}
-use Rattle.s7_client.proofs.RefusalLemmas.{refusal_more, refusal_same}
 use Rattle.s7_client.proofs.ReachLemmas.{asking_not_over, over_unput}
+use Rattle.s7_client.proofs.SingleAnswerLemmas.{Answers, answers_behind, unrefused_behind, EndsWith, ended_with, ends_refused, GoesBehind, brought_more, goes_behind, ends_behind, IsNext, is_next}
 use Rattle.s7_client.proofs.SingleLemmas.{unasked_unput}
 use Rattle.s7_client.proofs.SingleAskLemmas.{each_known, answered_open, Stands, stands_at, follows_alone}
 use Rattle.s7_client.proofs.TakeLemmas.{none_filled, IsTakenBy}
-
--- ---- one more answer, behind others
-
-abbrev Answers : Type 0
-Answers = List (Option Answer)
-
-answers_behind : (rows : List Row) (row : Row) → answers_of (rows ++ row ∷ []) ≡ answers_of rows ++ row.answer ∷ []
-answers_behind rows row = map-append (λ (r : Row). r.answer) rows (row ∷ [])
-
--- where none before it refuses, it is the first that does
-refused_behind : (refusal : Answer → Option ℕ) (answers : Answers) (x : Answer) (number : ℕ)
-    → first_refusal refusal 0 answers ≡ None → refusal x ≡ Some number
-    → first_refusal refusal 0 (answers ++ Some x ∷ []) ≡ Some (length answers, number)
-refused_behind refusal answers x number none is =
-    let place : 0 + length answers ≡ length answers = omega arith in
-    refusal_more refusal 0 number answers [] x is
-    ∙ (ap (λ o. earlier o (0 + length answers) number) (refusal_open refusal 0 answers ∙ none)
-    ∙ ap (λ n. Some (n, number)) place)
-
--- or none does
-unrefused_behind : (refusal : Answer → Option ℕ) (answers : Answers) (x : Answer)
-    → first_refusal refusal 0 answers ≡ None → refusal x ≡ None
-    → first_refusal refusal 0 (answers ++ Some x ∷ []) ≡ None
-unrefused_behind refusal answers x none is =
-    refusal_same refusal 0 answers [] x is ∙ (refusal_open refusal 0 answers ∙ none)
-
-brought_behind : (answers : Answers) (x : Answer)
-    → octets_brought (answers ++ Some x ∷ []) ≡ octets_brought answers ++ octets_in x
-brought_behind answers x =
-    flat_map-append (of_answer octets_in) answers (Some x ∷ [])
-    ∙ ap (λ xs. octets_brought answers ++ xs) (append-nil (octets_in x))
-
-last_behind : (first : Option Answer) (answers : Answers) (answer : Option Answer)
-    → last_answer first (answers ++ answer ∷ []) ≡ answer
-last_behind first [] answer = refl
-last_behind first (next ∷ answers) answer = last_behind next answers answer
-
--- what user data asks next depends on it alone
-piece_behind : (subject : Subject) (octets : List ℕ) (answers : Answers) (answer : Option Answer)
-    → next_piece subject octets (answers ++ answer ∷ [])
-    ≡ behind subject (octets_brought (answers ++ answer ∷ [])) answer
-piece_behind subject octets [] answer = refl
-piece_behind subject octets (first ∷ answers) answer =
-    ap (behind subject (octets_brought (first ∷ (answers ++ answer ∷ [])))) (last_behind first answers answer)
-
--- and a control asks nothing more
-none_more : (control : Control) (answers : Answers) (answer : Option Answer) (question : Question)
-    → (controlling control).question_at answers ≡ Some question
-    → (controlling control).question_at (answers ++ answer ∷ []) ≡ None
-none_more control [] answer question is = refl
-none_more control (first ∷ answers) answer question is = absurd (cc)
-
--- ---- the end
-
--- The conduct ends so with one more answer, and nothing may be asked then.
-record EndsWith (c : Conduct) (answers : Answers) (end : End) : Type 0 where
-  last : first_refusal c.refusal 0 answers ≡ None → c.question_at answers ≡ None
-  is : c.ended answers ≡ end
-
-none_by : (less : Bool) (refused : Option (ℕ × ℕ)) (next : Option Question) → (refused ≡ None → next ≡ None)
-    → cond (less && is_none refused) next None ≡ None
-none_by true None next last = last refl
-none_by true (Some r) next last = refl
-none_by false refused next last = refl
-
--- such a job is over, once all of its telegrams are answered
-ended_with : (c : Conduct) (course : Course) (end : End) → EndsWith c (answers_of course.rows) end
-    → open_count course.rows ≡ 0
-    → (asking c course ≡ settled c course) × ((settled c course).awaits ≡ for_nothing end [])
-ended_with c course end ends none =
-    let over : next_question c course.rows ≡ None =
-    none_by (ltb (open_count course.rows) c.width) (first_refusal c.refusal 0 (answers_of course.rows))
-    (c.question_at (answers_of course.rows)) ends.last in
-    (ap (settled c) (asked_none c.width c course over), settled_ends c course none ∙ ap (λ e. for_nothing e []) ends.is)
-
-ends_refused : (done : Job) (asked : Ask) (answers : Answers) (x : Answer) (number : ℕ)
-    → first_refusal (conduct_of_single done asked).refusal 0 answers ≡ None → refusal_to asked x ≡ Some number
-    → EndsWith (conduct_of_single done asked) (answers ++ Some x ∷ []) (number_end number AsItWas)
-ends_refused done (ask.Control control) answers x number none is =
-    let first = refused_behind (control_refusal control) answers x number none is in
-    record {
-      last = λ unrefused. absurd (cc);
-      is = ap (λ o. by_refusal plain_number o (good_end [] [])) first;
-    }
-ends_refused done (ask.About subject) answers x number none is =
-    let first = refused_behind telegram_refusal answers x number none is in
-    record {
-      last = λ unrefused. absurd (cc);
-      is = ap (λ o. by_refusal plain_number o (brought_end subject (answers ++ Some x ∷ []))) first;
-    }
-ends_refused done (ask.Further subject octet) answers x number none is =
-    let first = refused_behind telegram_refusal answers x number none is in
-    record {
-      last = λ unrefused. absurd (cc);
-      is = ap (λ o. by_refusal plain_number o (brought_end subject (answers ++ Some x ∷ []))) first;
-    }
-
-ends_done : (done : Job) (asked : Ask) (answers : Answers) (x : Answer) (question : Question) → IsControl asked
-    → (conduct_of_single done asked).question_at answers ≡ Some question
-    → first_refusal (conduct_of_single done asked).refusal 0 answers ≡ None → refusal_to asked x ≡ None
-    → EndsWith (conduct_of_single done asked) (answers ++ Some x ∷ []) (good_end [] [])
-ends_done done (ask.Control control) answers x question control_asked at none is = record {
-  last = λ unrefused. none_more control answers (Some x) question at;
-  is =
-      ap (λ o. by_refusal plain_number o (good_end [] []))
-      (unrefused_behind (control_refusal control) answers x none is);
-}
-ends_done done (ask.About subject) answers x question control_asked at none is = absurd control_asked
-ends_done done (ask.Further subject octet) answers x question control_asked at none is = absurd control_asked
-
--- how user data is asked, whichever piece is out
-about_as : (done : Job) (asked : Ask) (subject : Subject) → IsAbout subject asked
-    → conduct_of_single done asked ≡ asking_about subject (data_of_job done)
-about_as done (ask.Control control) subject about = absurd about
-about_as done (ask.About other) subject about = ap (λ s. asking_about s (data_of_job done)) about
-about_as done (ask.Further other octet) subject about = ap (λ s. asking_about s (data_of_job done)) about
-
-ends_brought : (subject : Subject) (octets came piece : List ℕ) (answers : Answers) (octet : ℕ)
-    → first_refusal telegram_refusal 0 answers ≡ None → octets_brought answers ≡ came
-    → EndsWith (asking_about subject octets) (answers ++ Some (brings octet false piece) ∷ [])
-    (good_end (drop (lead_of subject) (came ++ piece)) [])
-ends_brought subject octets came piece answers octet none brought =
-    let x = brings octet false piece in
-    record {
-      last = λ unrefused. piece_behind subject octets answers (Some x);
-      is =
-          ap (λ o. by_refusal plain_number o (brought_end subject (answers ++ Some x ∷ [])))
-          (unrefused_behind telegram_refusal answers x none refl)
-          ∙ ap (λ xs. good_end (drop (lead_of subject) xs) [])
-          (brought_behind answers x ∙ ap (λ xs. xs ++ piece) brought);
-    }
 
 -- ---- the telegram that is out
 
@@ -302,87 +163,38 @@ refused_alone r r' s found message t number last config granted course is same o
     ends_alone r r' s config granted course h.number last message h.answer (number_end number AsItWas) stands h.is
     (ends_refused r.job s.ask (answers_of stands.before) h.answer number stands.unrefused h.tells) at awaits over
 
--- by a control that was done, which finds nothing
-none_came : (done : Job) (asked : Ask) (answers : Answers) (question : Question) → IsControl asked
-    → (conduct_of_single done asked).question_at answers ≡ Some question → octets_brought answers ≡ []
-none_came done (ask.Control control) [] question control_asked at = refl
-none_came done (ask.Control control) (first ∷ answers) question control_asked at = absurd (cc)
-none_came done (ask.About subject) answers question control_asked at = absurd control_asked
-none_came done (ask.Further subject octet) answers question control_asked at = absurd control_asked
+-- ---- octets came
 
-pub done_alone : (r r' : Running) (s : Single) (found message : List ℕ) (t : Told) (last : ℕ) (config : Config)
-    (granted : Option Grant) (course : Course)
-    → r.stage ≡ stage.Single s → found ≡ r.found.items → IsToldTo s found message t → t ≡ told.Done
-    → Follows r config granted course.rows → course.sequence ≡ last
-    → awaited_in r' [] ≡ for_nothing (good_end (take s.len r.found.items) r.codes) [] → IsOver r'.stage
-    → IsTakenBy message config granted course r.job r' last
-done_alone r r' s found message t last config granted course is same of told_is follows at awaits over =
-    let h = tells_as r s found message t told.Done same of told_is in
-    let stands = stands_at r s config granted course.rows (Some h.number) is h.out follows in
-    let none : take s.len r.found.items ≡ [] =
-    sym stands.brought
-    ∙ none_came r.job s.ask (answers_of stands.before) (asked_alone r s) h.tells.0 stands.next in
-    ends_alone r r' s config granted course h.number last message h.answer (good_end [] []) stands h.is
-    (ends_done r.job s.ask (answers_of stands.before) h.answer (asked_alone r s) h.tells.0 stands.next
-    stands.unrefused h.tells.1)
-    at
-    (awaits
-    ∙ (ap (λ xs. for_nothing (good_end xs r.codes) []) none
-    ∙ ap (λ xs. for_nothing (good_end [] xs) []) stands.no_codes))
-    over
+-- There is room for the octets behind those that came, and what is asked next can be asked.
+pub record Fits (r : Running) (s : Single) (octets : List ℕ) (next : Option Ask) : Type 0 where
+  pub room : s.len + length octets ≤ length r.found.items
+  pub whole : length r.found.items ≡ room_for s.ask
+  pub on : (a : Ask) → next ≡ Some a → IsNext s.ask octets a
 
--- ---- a piece of an answer
+places : (r : Running) (s : Single) → r.stage ≡ stage.Single s → length r.found.items ≡ room_for s.ask
+places r s is =
+    eqb-true (length r.found.items) (room_for s.ask)
+    (and_parts (is_writable r.job s.ask) (length r.found.items == room_for s.ask)
+    (ap (is_ready r.job (length r.found.items)) (sym is) ∙ r.ready)).1
 
-about_found : (done : Job) (n : ℕ) (asked : Ask) (subject : Subject) → IsAbout subject asked
-    → can_ask_single done n asked ≡ true → n ≡ most_joined
-about_found done n (ask.Control control) subject about can = absurd about
-about_found done n (ask.About other) subject about can =
-    eqb-true n most_joined (and_parts (is_sent_well done) (n == most_joined) can).1
-about_found done n (ask.Further other octet) subject about can =
-    eqb-true n most_joined (and_parts (is_sent_well done) (n == most_joined) can).1
-
--- whichever piece is out, as much can be asked
-about_asked : (done : Job) (n : ℕ) (asked : Ask) (subject : Subject) → IsAbout subject asked
-    → (is_sent_well done && n == most_joined) ≡ can_ask_single done n asked
-about_asked done n (ask.Control control) subject about = absurd about
-about_asked done n (ask.About other) subject about = refl
-about_asked done n (ask.Further other octet) subject about = refl
-
--- There is room for the piece behind what came, and where more follow it isn't empty and comes of something that comes
--- in pieces.
-pub record IsPiece (r : Running) (s : Single) (more : Bool) (piece : List ℕ) : Type 0 where
-  pub subject : Subject
-  pub about : IsAbout subject s.ask
-  pub room : s.len + length piece ≤ length r.found.items
-  pub whole : length r.found.items ≡ most_joined
-  pub some : more ≡ true → 0 < length piece
-  pub pieces : more ≡ true → comes_in_pieces subject ≡ true
-
-piece_of : (r : Running) (s : Single) (message : List ℕ) (octet : ℕ) (more : Bool) (piece : Bor (List ℕ))
-    → r.stage ≡ stage.Single s → Tells r s message (told.Octets octet more piece) → IsPiece r s more piece.now
-piece_of r s message octet more piece is h =
-    let on = h.tells.1 in
-    let whole : length r.found.items ≡ most_joined =
-    about_found r.job (length r.found.items) s.ask on.subject on.about
-    (ap (is_ready r.job (length r.found.items)) (sym is) ∙ r.ready) in
+fits_as : (r : Running) (s : Single) (message : List ℕ) (octets : Bor (List ℕ)) (next : Option Ask)
+    → r.stage ≡ stage.Single s → Tells r s message (told.Brought octets next) → Fits r s octets.now next
+fits_as r s message octets next is h =
+    let whole = places r s is in
     let came : length (take s.len r.found.items) ≡ s.len =
     length-take-le s.len r.found.items (omega (arith, whole, s.most)) in
     record {
-      subject = on.subject;
-      about = on.about;
-      room = omega (arith, on.room, whole, came);
+      room = omega (arith, h.tells.1, whole, came, s.most);
       whole = whole;
-      some = on.some;
-      pieces = on.pieces;
+      on = λ a some. is_next s.ask octets.now next h.answer a h.tells.0 some;
     }
 
-pub piece_told : (r : Running) (s : Single) (found message : List ℕ) (t : Told) (octet : ℕ) (more : Bool)
-    (piece : Bor (List ℕ))
-    → r.stage ≡ stage.Single s → found ≡ r.found.items → IsToldTo s found message t → t ≡ told.Octets octet more piece
-    → IsPiece r s more piece.now
-piece_told r s found message t octet more piece is same of told_is =
-    piece_of r s message octet more piece is
-    (tells_as r s found message t (told.Octets octet more piece) same of told_is)
+pub fits_told : (r : Running) (s : Single) (found message : List ℕ) (t : Told) (octets : Bor (List ℕ))
+    (next : Option Ask)
+    → r.stage ≡ stage.Single s → found ≡ r.found.items → IsToldTo s found message t → t ≡ told.Brought octets next
+    → Fits r s octets.now next
+fits_told r s found message t octets next is same of told_is =
+    fits_as r s message octets next is (tells_as r s found message t (told.Brought octets next) same of told_is)
 
 -- what came then
 front_with : (n : ℕ) (octets piece rest : List ℕ) → n ≤ length octets
@@ -391,137 +203,129 @@ front_with n octets piece rest within =
     take_at (take n octets ++ piece) rest (n + length piece)
     (omega (arith, length-append (take n octets) piece, length-take-le n octets within))
 
--- the octets with the piece at its place
-abbrev pub pieced : Running → Single → List ℕ → List ℕ
-pieced r s piece = take s.len r.found.items ++ piece ++ drop (s.len + length piece) r.found.items
+-- the octets with these at their place
+abbrev pub placed : Running → Single → List ℕ → List ℕ
+placed r s octets = take s.len r.found.items ++ octets ++ drop (s.len + length octets) r.found.items
 
--- the last piece
-pub last_piece : (r r' : Running) (s : Single) (found message found' : List ℕ) (t : Told) (octet : ℕ)
-    (piece : Bor (List ℕ)) (lead last : ℕ) (config : Config) (granted : Option Grant) (course : Course)
-    → r.stage ≡ stage.Single s → found ≡ r.found.items → IsToldTo s found message t
-    → t ≡ told.Octets octet false piece → found' ≡ pieced r s piece.now
-    → ((subject : Subject) → IsAbout subject s.ask → lead ≡ lead_of subject) → Follows r config granted course.rows
+-- the answer to the telegram that is out, behind those before it
+behind_out : (r : Running) (s : Single) (config : Config) (granted : Option Grant) (rows : List Row) (number : ℕ)
+    (x : Answer) (octets : List ℕ) (next : Option Ask)
+    → (h : IsOut r s config granted rows number) → BringsOn s.ask octets next x
+    → GoesBehind r.job (conduct_of_single r.job s.ask) (lead_in s.ask) (answers_of h.before) x
+    (take s.len r.found.items) octets next
+behind_out r s config granted rows number x octets next h tells =
+    goes_behind r.job s.ask (answers_of h.before) x (take s.len r.found.items) octets next h.next h.brought tells
+
+-- nothing more is asked
+pub ended_alone : (r r' : Running) (s : Single) (found message found' : List ℕ) (t : Told) (octets : Bor (List ℕ))
+    (next : Option Ask) (lead last : ℕ) (config : Config) (granted : Option Grant) (course : Course)
+    → r.stage ≡ stage.Single s → found ≡ r.found.items → IsToldTo s found message t → t ≡ told.Brought octets next
+    → next ≡ None → found' ≡ placed r s octets.now → lead ≡ lead_in s.ask → Follows r config granted course.rows
     → course.sequence ≡ last
-    → awaited_in r' [] ≡ for_nothing (good_end (drop lead (take (s.len + length piece.now) found')) r.codes) []
+    → awaited_in r' [] ≡ for_nothing (good_end (drop lead (take (s.len + length octets.now) found')) r.codes) []
     → IsOver r'.stage → IsTakenBy message config granted course r.job r' last
-last_piece r r' s found message found' t octet piece lead last config granted course is same of told_is placed leads
-    follows at awaits over =
-    let h = tells_as r s found message t (told.Octets octet false piece) same of told_is in
-    let fits = piece_of r s message octet false piece is h in
+ended_alone r r' s found message found' t octets next lead last config granted course is same of told_is over_is put
+    leads follows at awaits over =
+    let h = tells_as r s found message t (told.Brought octets next) same of told_is in
+    let fits = fits_as r s message octets next is h in
     let stands = stands_at r s config granted course.rows (Some h.number) is h.out follows in
     let came = take s.len r.found.items in
-    let answers = answers_of stands.before in
-    let about = about_as r.job s.ask fits.subject fits.about in
-    let none : first_refusal telegram_refusal 0 answers ≡ None =
-    ap (λ (c : Conduct). first_refusal c.refusal 0 answers) (sym about) ∙ stands.unrefused in
-    let n : ℕ = lead_of fits.subject in
-    let end = good_end (drop n (came ++ piece.now)) [] in
-    let ends : EndsWith (conduct_of_single r.job s.ask) (answers ++ Some h.answer ∷ []) end =
-    subst (λ (c : Conduct). EndsWith c (answers ++ Some h.answer ∷ []) end) (sym about)
-    (subst (λ (x : Answer). EndsWith (asking_about fits.subject (data_of_job r.job)) (answers ++ Some x ∷ []) end)
-    (sym h.tells.0)
-    (ends_brought fits.subject (data_of_job r.job) came piece.now answers octet none stands.brought)) in
-    ends_alone r r' s config granted course h.number last message h.answer end stands h.is ends at
+    let n : ℕ = lead_in s.ask in
+    let goes = behind_out r s config granted course.rows h.number h.answer octets.now next stands h.tells.0 in
+    let ends =
+    ends_behind r.job (conduct_of_single r.job s.ask) n (answers_of stands.before) h.answer came octets.now next goes
+    stands.brought stands.unrefused over_is in
+    ends_alone r r' s config granted course h.number last message h.answer (good_end (drop n (came ++ octets.now)) [])
+    stands h.is ends at
     (awaits
-    ∙ (ap (λ k. for_nothing (good_end (drop k (take (s.len + length piece.now) found')) r.codes) [])
-    (leads fits.subject fits.about)
-    ∙ (ap (λ xs. for_nothing (good_end (drop n (take (s.len + length piece.now) xs)) r.codes) []) placed
+    ∙ (ap (λ k. for_nothing (good_end (drop k (take (s.len + length octets.now) found')) r.codes) []) leads
+    ∙ (ap (λ xs. for_nothing (good_end (drop n (take (s.len + length octets.now) xs)) r.codes) []) put
     ∙ (ap (λ xs. for_nothing (good_end (drop n xs) r.codes) [])
-    (front_with s.len r.found.items piece.now (drop (s.len + length piece.now) r.found.items)
+    (front_with s.len r.found.items octets.now (drop (s.len + length octets.now) r.found.items)
     (omega (arith, fits.room)))
-    ∙ ap (λ xs. for_nothing (good_end (drop n (came ++ piece.now)) xs) []) stands.no_codes))))
+    ∙ ap (λ xs. for_nothing (good_end (drop n (came ++ octets.now)) xs) []) stands.no_codes))))
     over
 
--- ---- more is asked for
-
--- what a job keeps that asks for the next octets
+-- what a job keeps that asks for more
 asks_on : (config : Config) (granted : Option Grant) (rows : List Row) (done : Job) (found codes : List ℕ)
-    (asked : Ask) (len number octet : ℕ) (subject : Subject) (piece : List ℕ)
-    → (h : Stands config granted rows done found codes asked len (Some number)) → IsAbout subject asked
-    → comes_in_pieces subject ≡ true → len ≤ length found
-    → Stands config granted
-    (told_rows h.before (question_of_single done asked (take len found)) number (brings octet true piece)) done
-    (take len found ++ piece ++ drop (len + length piece) found) codes (ask.Further subject octet)
-    (len + length piece) None
-asks_on config granted rows done found codes asked len number octet subject piece h about pieces within =
-    let x = brings octet true piece in
+    (asked : Ask) (len number : ℕ) (x : Answer) (octets : List ℕ) (next : Option Ask) (a : Ask)
+    → (h : Stands config granted rows done found codes asked len (Some number))
+    → GoesBehind done (conduct_of_single done asked) (lead_in asked) (answers_of h.before) x (take len found) octets
+    next
+    → next ≡ Some a → len ≤ length found
+    → Stands config granted (told_rows h.before (question_of_single done asked (take len found)) number x) done
+    (take len found ++ octets ++ drop (len + length octets) found) codes a (len + length octets) None
+asks_on config granted rows done found codes asked len number x octets next a h goes is within =
     let q = question_of_single done asked (take len found) in
     let row : Row = record { question = q; number = number; answer = Some x } in
     let rows' = told_rows h.before q number x in
     let answers = answers_of h.before in
-    let shape = about_as done asked subject about in
-    let found' = take len found ++ piece ++ drop (len + length piece) found in
-    let none : first_refusal telegram_refusal 0 answers ≡ None =
-    ap (λ (c : Conduct). first_refusal c.refusal 0 answers) (sym shape) ∙ h.unrefused in
-    let came : octets_brought (answers_of rows') ≡ take (len + length piece) found' =
-    ap octets_brought (answers_behind h.before row)
-    ∙ (brought_behind answers x
-    ∙ (ap (λ xs. xs ++ piece) h.brought
-    ∙ sym (front_with len found piece (drop (len + length piece) found) within))) in
+    let c = conduct_of_single done asked in
+    let alike : conduct_of_single done a ≡ c = goes.alike a is in
+    let found' = take len found ++ octets ++ drop (len + length octets) found in
+    let front : take (len + length octets) found' ≡ take len found ++ octets =
+    front_with len found octets (drop (len + length octets) found) within in
     record {
-      conduct = h.conduct ∙ shape;
+      conduct = h.conduct ∙ sym alike;
       before = rows';
       answered = all_told h.before q number x h.answered;
       are = sym (append-nil rows');
       next =
-          ap (next_piece subject (data_of_job done)) (answers_behind h.before row)
-          ∙ (piece_behind subject (data_of_job done) answers (Some x)
-          ∙ (ap (λ b. cond b (Some (asks_further subject octet (octets_brought (answers ++ Some x ∷ [])))) None) pieces
-          ∙ ap (λ xs. Some (asks_further subject octet xs))
-          (ap octets_brought (sym (answers_behind h.before row)) ∙ came)));
+          ap (λ (d : Conduct). d.question_at (answers_of rows')) alike
+          ∙ (ap c.question_at (answers_behind h.before row)
+          ∙ (goes.asks
+          ∙ (ap (option_map (λ (b : Ask). question_of_single done b (take len found ++ octets))) is
+          ∙ ap (λ xs. Some (question_of_single done a xs)) (sym front))));
       unrefused =
-          ap (first_refusal telegram_refusal 0) (answers_behind h.before row)
-          ∙ unrefused_behind telegram_refusal answers x none refl;
-      brought = came;
+          ap (λ (d : Conduct). first_refusal d.refusal 0 (answers_of rows')) alike
+          ∙ (ap (first_refusal c.refusal 0) (answers_behind h.before row)
+          ∙ unrefused_behind c.refusal answers x h.unrefused goes.unrefused);
+      brought =
+          ap octets_brought (answers_behind h.before row)
+          ∙ (brought_more answers x (take len found) octets h.brought goes.brings ∙ sym front);
       no_codes = h.no_codes;
     }
 
-pub further_alone : (r r1 r' : Running) (s s1 : Single) (found message : List ℕ) (t : Told) (octet : ℕ)
-    (piece : Bor (List ℕ)) (last : ℕ) (config : Config) (granted : Option Grant) (course : Course)
-    → r.stage ≡ stage.Single s → found ≡ r.found.items → IsToldTo s found message t
-    → t ≡ told.Octets octet true piece → r1.stage ≡ stage.Single s1
-    → ((subject : Subject) → IsAbout subject s.ask → s1.ask ≡ ask.Further subject octet) → s1.out ≡ None
-    → s1.len ≡ s.len + length piece.now → r1.job ≡ r.job → r1.found.items ≡ pieced r s piece.now
-    → r1.codes ≡ r.codes → Follows r config granted course.rows
+pub next_alone : (r r1 r' : Running) (s s1 : Single) (found message : List ℕ) (t : Told) (octets : Bor (List ℕ))
+    (next : Option Ask) (last : ℕ) (config : Config) (granted : Option Grant) (course : Course)
+    → r.stage ≡ stage.Single s → found ≡ r.found.items → IsToldTo s found message t → t ≡ told.Brought octets next
+    → next ≡ Some s1.ask → r1.stage ≡ stage.Single s1 → s1.out ≡ None → s1.len ≡ s.len + length octets.now
+    → r1.job ≡ r.job → r1.found.items ≡ placed r s octets.now → r1.codes ≡ r.codes
+    → Follows r config granted course.rows
     → ((now : Course) → Follows r1 config granted now.rows → now.sequence ≡ course.sequence
     → unput_of config now.size r1 ≡ []
     → Reached config granted now (asking (plan_of r1.job config granted).conduct now) r' last)
     → IsTakenBy message config granted course r.job r' last
-further_alone r r1 r' s s1 found message t octet piece last config granted course is same of told_is is1 asks1 out1
-    len1 job1 found1 codes1 follows goes =
-    let h = tells_as r s found message t (told.Octets octet true piece) same of told_is in
-    let fits = piece_of r s message octet true piece is h in
-    let subject = fits.subject in
+next_alone r r1 r' s s1 found message t octets next last config granted course is same of told_is next_is is1 out1 len1
+    job1 found1 codes1 follows goes_on =
+    let h = tells_as r s found message t (told.Brought octets next) same of told_is in
+    let fits = fits_as r s message octets next is h in
     let stands = stands_at r s config granted course.rows (Some h.number) is h.out follows in
+    let goes = behind_out r s config granted course.rows h.number h.answer octets.now next stands h.tells.0 in
     let q = asked_alone r s in
-    let rows' = told_rows stands.before q h.number (brings octet true piece.now) in
+    let rows' = told_rows stands.before q h.number h.answer in
     let now : Course = record course { rows = rows' } in
     let asks =
-    asks_on config granted course.rows r.job r.found.items r.codes s.ask s.len h.number octet subject piece.now stands
-    fits.about (fits.pieces refl) (omega (arith, fits.room)) in
+    asks_on config granted course.rows r.job r.found.items r.codes s.ask s.len h.number h.answer octets.now next s1.ask
+    stands goes next_is (omega (arith, fits.room)) in
     let asks' : Stands config granted rows' r1.job r1.found.items r1.codes s1.ask s1.len s1.out =
     subst (λ (j : Job). Stands config granted rows' j r1.found.items r1.codes s1.ask s1.len s1.out) (sym job1)
     (subst (λ (xs : List ℕ). Stands config granted rows' r.job xs r1.codes s1.ask s1.len s1.out) (sym found1)
-    (subst (λ (xs : List ℕ). Stands config granted rows' r.job (pieced r s piece.now) xs s1.ask s1.len s1.out)
+    (subst (λ (xs : List ℕ). Stands config granted rows' r.job (placed r s octets.now) xs s1.ask s1.len s1.out)
     (sym codes1)
-    (subst (λ (a : Ask). Stands config granted rows' r.job (pieced r s piece.now) r.codes a s1.len s1.out)
-    (sym (asks1 subject fits.about))
-    (subst (λ (n : ℕ). Stands config granted rows' r.job (pieced r s piece.now) r.codes (ask.Further subject octet) n
-    s1.out) (sym len1)
-    (subst (λ (o : Option ℕ). Stands config granted rows' r.job (pieced r s piece.now) r.codes
-    (ask.Further subject octet) (s.len + length piece.now) o) (sym out1)
-    asks))))) in
+    (subst (λ (n : ℕ). Stands config granted rows' r.job (placed r s octets.now) r.codes s1.ask n s1.out) (sym len1)
+    (subst (λ (o : Option ℕ). Stands config granted rows' r.job (placed r s octets.now) r.codes s1.ask
+    (s.len + length octets.now) o) (sym out1)
+    asks)))) in
     let put : unput_of config course.size r1 ≡ [] =
     ap (unput_by config course.size r1.job) is1 ∙ unasked_unput config course.size r1.job s1 out1 in
     let on : Reached config granted now (asking (plan_of r1.job config granted).conduct now) r' last =
-    goes now (follows_alone r1 s1 config granted rows' is1 asks') refl put in
+    goes_on now (follows_alone r1 s1 config granted rows' is1 asks') refl put in
     let reached : Reached config granted now (asking (plan_of r.job config granted).conduct now) r' last =
     subst (λ (j : Job). Reached config granted now (asking (plan_of j config granted).conduct now) r' last) job1 on in
     record {
       rows = rows';
-      fills =
-          fills_alone r s config granted course.rows h.number message (brings octet true piece.now) stands
-          (h.is ∙ ap Some h.tells.0);
+      fills = fills_alone r s config granted course.rows h.number message h.answer stands h.is;
       reached =
           record {
             awaits = reached.awaits;
@@ -531,13 +335,10 @@ further_alone r r1 r' s s1 found message t octet piece last config granted cours
           };
     }
 
--- what asks for the next octets can be asked
-pub further_ready : (r : Running) (s : Single) (more : Bool) (piece : List ℕ) (n : ℕ) (asked : Ask) (octet : ℕ)
-    → r.stage ≡ stage.Single s → IsPiece r s more piece
-    → ((subject : Subject) → IsAbout subject s.ask → asked ≡ ask.Further subject octet) → n ≡ length r.found.items
-    → can_ask_single r.job n asked ≡ true
-further_ready r s more piece n asked octet is fits further same =
-    ap (can_ask_single r.job n) (further fits.subject fits.about)
-    ∙ (ap (λ m. is_sent_well r.job && m == most_joined) same
-    ∙ (about_asked r.job (length r.found.items) s.ask fits.subject fits.about
-    ∙ (ap (is_ready r.job (length r.found.items)) (sym is) ∙ r.ready)))
+-- and it can be asked
+pub next_ready : (r : Running) (s : Single) (octets : List ℕ) (next : Option Ask) (a : Ask) (n : ℕ)
+    → Fits r s octets next → next ≡ Some a → n ≡ length r.found.items → can_ask_single r.job n a ≡ true
+next_ready r s octets next a n fits is same =
+    let ready = fits.on a is in
+    ap₂ (λ writable all. writable && all) (ready.writable r.job)
+    (eq-eqb n (room_for a) (same ∙ (fits.whole ∙ sym ready.room)))

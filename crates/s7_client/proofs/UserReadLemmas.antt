@@ -1,6 +1,6 @@
 -- Lemmas on what messages tell of the answers to what a job asks alone.
 use Rattle.std.proofs.Common.{◌≡◌, ℕ, ◌+◌, ◌≤◌, Bool, false, not, eqb, Option, Some, None, Ok}
-use Rattle.std.proofs.Common.{List, [], ◌++◌, length, take, drop, refl, sym, ap, ◌∙◌, subst, arith}
+use Rattle.std.proofs.Common.{List, [], ◌++◌, length, take, drop, sym, ap, ◌∙◌, subst, arith}
 use Rattle.std.specs.Prelude.{◌==◌, ◌&&◌, ◌||◌, if◌then◌else◌, IfSome, IfNone, MatchOption}
 use Rattle.std.proofs.Math.Path.{ap₂}
 use Rattle.std.proofs.lemmas.Bool.{le-ltb}
@@ -17,10 +17,11 @@ use Rattle.s7_client.specs.declared.subject.Subject.{Subject}
 use Rattle.s7_client.specs.declared.single.Ask.{Ask}
 use Rattle.s7_client.specs.declared.single.Ask.TheVariants as ask
 use Rattle.s7_client.specs.declared.user_data.Told.{Told}
+use Rattle.s7_client.specs.declared.user_data.Told.TheVariants as told
 use Rattle.s7_client.specs.UserData.{is_whole, goes_on_with}
 use Rattle.s7_client.specs.Answer.{Answer, acknowledged, by_params, answered_by_user, by_kind, answer_of}
 use Rattle.s7_client.specs.Stages.{question_of_single}
-use Rattle.s7_client.specs.Singles.{IsAbout, TellsIfSome}
+use Rattle.s7_client.specs.Singles.{TellsIfSome}
 use Rattle.s7_client.proofs.AnswerLemmas.{at_kind}
 
 -- what is told of an answer, behind so many octets that came, and nothing where there is none
@@ -51,37 +52,65 @@ none_told asked so_far sequence message h kind (Some x) read same is told = tt
 -- what an acknowledgement with data tells
 pub acknowledgement_told : (asked : Ask) (so_far message params body : List ℕ) (h : Header) (result : Option Told)
     → params ≡ params_of message h → body ≡ body_of message h
-    → ((job : Job) (so_far : List ℕ) (came : ℕ) → IsToldSingle asked came result
+    → ((job : Job) → IsToldSingle asked (length so_far) result
     (if h.error == 0 then acknowledged (question_of_single job asked so_far) params body else None))
     → (job : Job) → IsToldSingle asked (length so_far) result
     (by_kind AckData (question_of_single job asked so_far) h message)
 acknowledgement_told asked so_far message params body h result front back told job =
     subst (IsToldSingle asked (length so_far) result)
     (ap₂ (λ xs ys. if h.error == 0 then acknowledged (question_of_single job asked so_far) xs ys else None) front back)
-    (told job so_far (length so_far))
+    (told job)
+
+-- what is told where this is asked, and there is no error
+pub told_of : (asked asks : Ask) (so_far params body : List ℕ) (error : ℕ) (result : Option Told) (job : Job)
+    → asked ≡ asks → error ≡ 0
+    → IsToldSingle asks (length so_far) result (acknowledged (question_of_single job asks so_far) params body)
+    → IsToldSingle asked (length so_far) result
+    (if error == 0 then acknowledged (question_of_single job asked so_far) params body else None)
+told_of asked asks so_far params body error result job is none told =
+    subst
+    (λ (n : ℕ). IsToldSingle asked (length so_far) result
+    (if n == 0 then acknowledged (question_of_single job asked so_far) params body else None))
+    (sym none)
+    (subst
+    (λ (a : Ask). IsToldSingle a (length so_far) result (acknowledged (question_of_single job a so_far) params body))
+    (sym is) told)
 
 -- the first octets about something
 pub first_told : (job : Job) (asked : Ask) (subject : Subject) (so_far params body : List ℕ) (result : Option Told)
     → asked ≡ ask.About subject → length so_far ≡ 0
-    → ((about : Ask) → IsAbout subject about
-    → IsToldSingle about 0 result (by_params subject None [] body (user_params_of params)))
+    → IsToldSingle (ask.About subject) 0 result (by_params subject None [] body (user_params_of params))
     → IsToldSingle asked (length so_far) result (answered_by_user (question_of_single job asked so_far) params body)
 first_told job asked subject so_far params body result is none told =
     let answer : Ask → Option Answer = λ about. answered_by_user (question_of_single job about so_far) params body in
     subst (λ (n : ℕ). IsToldSingle asked n result (answer asked)) (sym none)
-    (subst (λ (about : Ask). IsToldSingle about 0 result (answer about)) (sym is) (told (ask.About subject) refl))
+    (subst (λ (about : Ask). IsToldSingle about 0 result (answer about)) (sym is) told)
+
+-- it tells the same of further octets
+tells_further : (subject : Subject) (octet came : ℕ) (t : Told) (answer : Option Answer)
+    → TellsIfSome (ask.About subject) came t answer → TellsIfSome (ask.Further subject octet) came t answer
+tells_further subject octet came t None tells = tells
+tells_further subject octet came (told.Refused number) (Some answer) tells = tells
+tells_further subject octet came (told.Brought octets next) (Some answer) tells = tells
+
+told_further : (subject : Subject) (octet came : ℕ) (result : Option Told) (answer : Option Answer)
+    → IsToldSingle (ask.About subject) came result answer → IsToldSingle (ask.Further subject octet) came result answer
+told_further subject octet came None answer none = none
+told_further subject octet came (Some t) answer tells = tells_further subject octet came t answer tells
 
 -- further octets about it
 pub further_told : (job : Job) (asked : Ask) (subject : Subject) (octet : ℕ) (so_far params body : List ℕ)
     (result : Option Told) → asked ≡ ask.Further subject octet
-    → ((about : Ask) → IsAbout subject about
-    → IsToldSingle about (length so_far) result (by_params subject (Some octet) so_far body (user_params_of params)))
+    → IsToldSingle (ask.About subject) (length so_far) result
+    (by_params subject (Some octet) so_far body (user_params_of params))
     → IsToldSingle asked (length so_far) result (answered_by_user (question_of_single job asked so_far) params body)
 further_told job asked subject octet so_far params body result is told =
     subst
     (λ (about : Ask). IsToldSingle about (length so_far) result
     (answered_by_user (question_of_single job about so_far) params body))
-    (sym is) (told (ask.Further subject octet) refl)
+    (sym is)
+    (told_further subject octet (length so_far) result
+    (by_params subject (Some octet) so_far body (user_params_of params)) told)
 
 -- ---- octets behind those that came
 

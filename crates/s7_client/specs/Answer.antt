@@ -17,11 +17,15 @@ use Rattle.s7_item.specs.Word.{transport_of}
 use Rattle.s7_item.specs.DataItem.{stated_length, padding_of}
 use Rattle.s7_header.specs.declared.user_params.UserParams.{UserParams}
 use Rattle.s7_header.specs.UserParams.{user_params_of}
+use Rattle.s7_block.specs.Slices.{Piece}
+use Rattle.s7_block.specs.Telegrams.{end_function}
 use Rattle.s7_clock.specs.declared.control.Control.{Control}
 use Rattle.s7_clock.specs.declared.control.Control.TheVariants as control
 use Rattle.s7_client.specs.declared.subject.Subject.{Subject}
 use Rattle.s7_client.specs.UserData.{octets_in, answers_about, goes_on_with}
 use Rattle.s7_client.specs.Question.{Question, negotiates, reads, writes, controls, asks, asks_further}
+use Rattle.s7_client.specs.Question.{starts_upload, slices_upload, ends_upload}
+use Rattle.s7_client.specs.Uploads.{upload_size, slice_in, fitting}
 
 -- the answer for one item that was read: its return code, and its octets where that is FF
 pub record ItemAnswer : Type 0 where
@@ -39,6 +43,12 @@ pub data Answer : Type 0 where
   stands : (status : ℕ) → Answer
   -- octets of user data under a sequence octet, and whether more follow them
   brings : (octet : ℕ) → (more : Bool) → (octets : List ℕ) → Answer
+  -- the id of an upload that was started, and how many octets the image has
+  uploads : (id size : ℕ) → Answer
+  -- octets of an image, and whether more follow them
+  slices : (more : Bool) → (octets : List ℕ) → Answer
+  -- that an upload has ended
+  uploaded : Answer
   -- the error word of a refusal
   refuses : (error : ℕ) → Answer
 
@@ -97,6 +107,9 @@ function_of (control.Delete kind number) = 0x28
 abbrev pub tells_status : Control → List ℕ → Bool
 tells_status control params = length params == 2 && slice_index params 0 == function_of control
 
+abbrev pub sliced : Piece → Answer
+sliced piece = slices piece.more piece.octets
+
 -- what an acknowledgement with these parameters and data answers
 abbrev pub acknowledged : Question → List ℕ → List ℕ → Option Answer
 acknowledged (negotiates asked) params body =
@@ -109,6 +122,11 @@ acknowledged (controls control) params body =
     if tells_status control params && length body == 0 then Some (stands (slice_index params 1)) else None
 acknowledged (asks subject octets) params body = None
 acknowledged (asks_further subject octet so_far) params body = None
+acknowledged (starts_upload name) params body =
+    if length body == 0 then option_map (uploads (slice_index params 7)) (upload_size params) else None
+acknowledged (slices_upload id size so_far) params body = option_map sliced (fitting size so_far (slice_in params body))
+acknowledged (ends_upload id) params body =
+    if length params == 1 && slice_index params 0 == end_function && length body == 0 then Some uploaded else None
 
 -- ---- user data
 
@@ -142,6 +160,9 @@ answered_by_user (negotiates asked) params body = None
 answered_by_user (reads items) params body = None
 answered_by_user (writes items octets) params body = None
 answered_by_user (controls control) params body = None
+answered_by_user (starts_upload name) params body = None
+answered_by_user (slices_upload id size so_far) params body = None
+answered_by_user (ends_upload id) params body = None
 answered_by_user (asks subject octets) params body = by_params subject None [] body (user_params_of params)
 answered_by_user (asks_further subject octet so_far) params body =
     by_params subject (Some octet) so_far body (user_params_of params)

@@ -12,6 +12,7 @@ use Rattle.s7_split.specs.Groups.{groups_of}
 use Rattle.s7_clock.specs.declared.control.Control.{Control}
 use Rattle.s7_clock.specs.declared.control.Control.TheVariants as control
 use Rattle.s7_clock.specs.Moment.{octets_at}
+use Rattle.s7_block.specs.declared.block.BlockName.{BlockName}
 use Rattle.s7_block.specs.Names.{name_octets}
 use Rattle.s7_client.specs.declared.config.Config.{Config}
 use Rattle.s7_client.specs.declared.grant.Grant.{Grant}
@@ -24,7 +25,8 @@ use Rattle.s7_client.specs.declared.subject.Subject.TheVariants.{StatusList, Run
 use Rattle.s7_client.specs.Codes.{no_fault, not_connected, negotiation_failed, partly_written}
 use Rattle.s7_client.specs.UserData.{comes_in_pieces, lead_of, filled_text, encoded}
 use Rattle.s7_client.specs.Question.{Question, negotiates, reads, writes, controls, asks, asks_further}
-use Rattle.s7_client.specs.Answer.{Answer, grants, tells, notes, stands, brings, refuses, ItemAnswer}
+use Rattle.s7_client.specs.Question.{starts_upload, slices_upload, ends_upload}
+use Rattle.s7_client.specs.Answer.{Answer, grants, tells, notes, stands, brings, uploads, slices, uploaded, refuses, ItemAnswer}
 use Rattle.s7_client.specs.Refusals.{telegram_refusal, part_refusal, control_refusal}
 use Rattle.s7_client.specs.Checks.{check_item, check_items, check_moment, check_password, octet_count_of}
 
@@ -98,6 +100,9 @@ negotiated_by config (tells items) = number_end negotiation_failed Closed
 negotiated_by config (notes codes) = number_end negotiation_failed Closed
 negotiated_by config (stands status) = number_end negotiation_failed Closed
 negotiated_by config (brings octet more octets) = number_end negotiation_failed Closed
+negotiated_by config (uploads id size) = number_end negotiation_failed Closed
+negotiated_by config (slices more octets) = number_end negotiation_failed Closed
+negotiated_by config uploaded = number_end negotiation_failed Closed
 
 abbrev pub negotiated : Config → List (Option Answer) → End
 negotiated config [] = number_end negotiation_failed Closed
@@ -166,6 +171,9 @@ items_told (grants granted) = []
 items_told (notes codes) = []
 items_told (stands status) = []
 items_told (brings octet more octets) = []
+items_told (uploads id size) = []
+items_told (slices more octets) = []
+items_told uploaded = []
 items_told (refuses error) = []
 
 -- the return codes of items, read or written
@@ -175,6 +183,9 @@ codes_in (notes codes) = codes
 codes_in (grants granted) = []
 codes_in (stands status) = []
 codes_in (brings octet more octets) = []
+codes_in (uploads id size) = []
+codes_in (slices more octets) = []
+codes_in uploaded = []
 codes_in (refuses error) = []
 
 abbrev pub of_answer : (Answer → List ℕ) → Option Answer → List ℕ
@@ -225,9 +236,12 @@ controlling control = record {
       by_refusal plain_number (first_refusal (control_refusal control) 0 answers) (good_end [] []);
 }
 
--- the octets that an answer in user data brings
+-- the octets that an answer in user data brings, or a slice of an upload
 abbrev pub octets_in : Answer → List ℕ
 octets_in (brings octet more octets) = octets
+octets_in (slices more octets) = octets
+octets_in (uploads id size) = []
+octets_in uploaded = []
 octets_in (grants granted) = []
 octets_in (tells items) = []
 octets_in (notes codes) = []
@@ -246,6 +260,9 @@ behind subject so_far (Some (grants granted)) = None
 behind subject so_far (Some (tells items)) = None
 behind subject so_far (Some (notes codes)) = None
 behind subject so_far (Some (stands status)) = None
+behind subject so_far (Some (uploads id size)) = None
+behind subject so_far (Some (slices more octets)) = None
+behind subject so_far (Some uploaded) = None
 behind subject so_far (Some (refuses error)) = None
 behind subject so_far None = None
 
@@ -270,6 +287,53 @@ asking_about subject octets = record {
   refusal = telegram_refusal;
   ended = λ (answers : List (Option Answer)).
       by_refusal plain_number (first_refusal telegram_refusal 0 answers) (brought_end subject answers);
+}
+
+-- what is asked behind the octets that came of an upload, by the last answer: the next slice while others follow, and
+-- then the end
+abbrev pub behind_slice : ℕ → ℕ → List ℕ → Option Answer → Option Question
+behind_slice id size so_far (Some (slices more octets)) =
+    Some (if more then slices_upload id size so_far else ends_upload id)
+behind_slice id size so_far (Some (grants granted)) = None
+behind_slice id size so_far (Some (tells items)) = None
+behind_slice id size so_far (Some (notes codes)) = None
+behind_slice id size so_far (Some (stands status)) = None
+behind_slice id size so_far (Some (brings octet more octets)) = None
+behind_slice id size so_far (Some (uploads other others)) = None
+behind_slice id size so_far (Some uploaded) = None
+behind_slice id size so_far (Some (refuses error)) = None
+behind_slice id size so_far None = None
+
+-- behind the answer that starts the upload of this id, an image of so many octets
+abbrev pub behind_start : ℕ → ℕ → List (Option Answer) → Option Question
+behind_start id size [] = Some (slices_upload id size [])
+behind_start id size (answer ∷ answers) =
+    behind_slice id size (octets_brought (answer ∷ answers)) (last_answer answer answers)
+
+abbrev pub behind_first : Option Answer → List (Option Answer) → Option Question
+behind_first (Some (uploads id size)) answers = behind_start id size answers
+behind_first (Some (grants granted)) answers = None
+behind_first (Some (tells items)) answers = None
+behind_first (Some (notes codes)) answers = None
+behind_first (Some (stands status)) answers = None
+behind_first (Some (brings octet more octets)) answers = None
+behind_first (Some (slices more octets)) answers = None
+behind_first (Some uploaded) answers = None
+behind_first (Some (refuses error)) answers = None
+behind_first None answers = None
+
+-- The start of the upload of a block, then its slices while others follow, and its end.
+abbrev pub next_slice : BlockName → List (Option Answer) → Option Question
+next_slice name [] = Some (starts_upload name)
+next_slice name (answer ∷ answers) = behind_first answer answers
+
+abbrev pub uploading : BlockName → Conduct
+uploading name = record {
+  width = 1;
+  question_at = next_slice name;
+  refusal = telegram_refusal;
+  ended = λ (answers : List (Option Answer)).
+      by_refusal plain_number (first_refusal telegram_refusal 0 answers) (good_end (octets_brought answers) []);
 }
 
 -- a job that asks from its start on
@@ -315,6 +379,8 @@ connected_plan (job.WriteMany items octets) granted =
 connected_plan job.List granted = at_once (asking_about BlockCounts [])
 connected_plan (job.ListOf kind) granted = at_once (asking_about BlocksOfKind (kind_octets kind))
 connected_plan (job.Info kind number) granted = at_once (asking_about BlockHead (block_octets kind number))
+connected_plan (job.Upload kind number) granted = at_once (uploading (record { kind = kind; number = number }))
+connected_plan (job.Delete kind number) granted = at_once (controlling (control.Delete kind number))
 connected_plan (job.Szl id index) granted = at_once (asking_about StatusList (list_octets id index))
 connected_plan job.ClockRead granted = at_once (asking_about Clock [])
 connected_plan (job.ClockSet moment) granted =

@@ -1,5 +1,6 @@
 pub mod Codes
 pub mod UserData
+pub mod Uploads
 pub mod Question
 pub mod Answer
 pub mod DataItems

@@ -3,7 +3,7 @@ use Rattle.std.specs.Prelude.{ℕ, ◌==◌, ◌||◌, [], ◌∷◌, Option, No
 use Rattle.s7_client.specs.Codes.{over_pdu, address_out_of_range, invalid_transport, size_mismatch, not_available, invalid_value, no_such_function, already_runs, already_stopped, password_needed, wrong_password, no_password, refused_otherwise}
 use Rattle.s7_clock.specs.declared.control.Control.{Control}
 use Rattle.s7_clock.specs.declared.control.Control.TheVariants as control
-use Rattle.s7_client.specs.Answer.{Answer, grants, tells, notes, stands, brings, refuses}
+use Rattle.s7_client.specs.Answer.{Answer, grants, tells, notes, stands, brings, uploads, slices, uploaded, refuses}
 
 -- by the error word of a header
 abbrev pub number_of_error : ℕ → ℕ
@@ -48,6 +48,9 @@ telegram_refusal (tells items) = None
 telegram_refusal (notes codes) = None
 telegram_refusal (stands status) = None
 telegram_refusal (brings octet more octets) = None
+telegram_refusal (uploads id size) = None
+telegram_refusal (slices more octets) = None
+telegram_refusal uploaded = None
 
 -- the refusal of a telegram or of its one item
 abbrev pub part_refusal : Answer → Option ℕ
@@ -61,6 +64,9 @@ part_refusal (notes (code ∷ next ∷ codes)) = None
 part_refusal (grants granted) = None
 part_refusal (stands status) = None
 part_refusal (brings octet more octets) = None
+part_refusal (uploads id size) = None
+part_refusal (slices more octets) = None
+part_refusal uploaded = None
 
 -- the refusal of a control, by its telegram or by its status
 abbrev pub control_refusal : Control → Answer → Option ℕ
@@ -71,3 +77,6 @@ control_refusal control (grants granted) = None
 control_refusal control (tells items) = None
 control_refusal control (notes codes) = None
 control_refusal control (brings octet more octets) = None
+control_refusal control (uploads id size) = None
+control_refusal control (slices more octets) = None
+control_refusal control uploaded = None

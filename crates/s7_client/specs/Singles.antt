@@ -1,49 +1,90 @@
--- What a message tells of the answer to what a job asks alone.
-use Rattle.std.specs.Prelude.{◌≡◌, ℕ, ◌+◌, ◌<◌, ◌≤◌, Bool, true, List, length, Option, None, Some}
+-- What is asked alone, and what a message tells of the answer.
+use Rattle.std.specs.Prelude.{◌≡◌, ℕ, ◌+◌, ◌-◌, ◌<◌, ◌≤◌, true, if◌then◌else◌, List, [], length, Option, None, Some}
 use Rattle.s7_szl.specs.Joining.{most_joined}
 use Rattle.s7_client.specs.declared.subject.Subject.{Subject}
 use Rattle.s7_client.specs.declared.single.Ask.{Ask}
 use Rattle.s7_client.specs.declared.single.Ask.TheVariants as ask
 use Rattle.s7_client.specs.declared.user_data.Told.{Told}
 use Rattle.s7_client.specs.declared.user_data.Told.TheVariants as told
-use Rattle.s7_client.specs.UserData.{comes_in_pieces}
-use Rattle.s7_client.specs.Answer.{Answer, stands, brings}
+use Rattle.s7_client.specs.UserData.{comes_in_pieces, lead_of}
+use Rattle.s7_client.specs.Uploads.{most_uploaded}
+use Rattle.s7_client.specs.Answer.{Answer, stands, brings, uploads, slices, uploaded}
 use Rattle.s7_client.specs.Refusals.{telegram_refusal, control_refusal}
+
+-- how many octets come in all, at most, of what is asked
+abbrev pub room_for : Ask → ℕ
+room_for (ask.Control control) = 0
+room_for (ask.About subject) = most_joined
+room_for (ask.Further subject octet) = most_joined
+room_for ask.Upload = most_uploaded
+room_for (ask.Slice id size) = most_uploaded
+room_for (ask.UploadEnd id) = most_uploaded
+
+-- how many answers are awaited at most, once so many octets came: each before the last one brings some, and an upload
+-- has a start and an end
+abbrev pub asks_left : Ask → ℕ → ℕ
+asks_left (ask.Control control) came = 1
+asks_left (ask.About subject) came = 1 + (most_joined - came)
+asks_left (ask.Further subject octet) came = 1 + (most_joined - came)
+asks_left ask.Upload came = 3 + (most_uploaded - came)
+asks_left (ask.Slice id size) came = 2 + (most_uploaded - came)
+asks_left (ask.UploadEnd id) came = 1
+
+-- how many octets of all of them stand before what was asked for
+abbrev pub lead_in : Ask → ℕ
+lead_in (ask.About subject) = lead_of subject
+lead_in (ask.Further subject octet) = lead_of subject
+lead_in _ = 0
 
 -- the number that an answer to what is asked refuses with
 abbrev pub refusal_to : Ask → Answer → Option ℕ
 refusal_to (ask.Control control) answer = control_refusal control answer
-refusal_to (ask.About subject) answer = telegram_refusal answer
-refusal_to (ask.Further subject octet) answer = telegram_refusal answer
+refusal_to _ answer = telegram_refusal answer
 
--- a control is asked
-abbrev pub IsControl : Ask → Type 0
-IsControl (ask.Control control) = Unit {0}
-IsControl (ask.About subject) = ⊥
-IsControl (ask.Further subject octet) = ⊥
+-- ---- answers that don't refuse: the octets that they bring, and what is asked next
 
--- octets of user data about this are asked
-abbrev pub IsAbout : Subject → Ask → Type 0
-IsAbout subject (ask.Control control) = ⊥
-IsAbout subject (ask.About about) = about ≡ subject
-IsAbout subject (ask.Further about octet) = about ≡ subject
+-- a control was done
+abbrev pub TellsStatus : List ℕ → Option Ask → Answer → Type 0
+TellsStatus octets next (stands status) = (status ≡ 0) × (octets ≡ []) × (next ≡ None)
+TellsStatus octets next _ = ⊥
 
--- The octets come behind those that came, of which there are so many: there is room for them, and some come where more
--- follow, which they do only of what comes in pieces.
-pub record BringsOn (asked : Ask) (came : ℕ) (more : Bool) (octets : List ℕ) : Type 0 where
-  pub subject : Subject
-  pub about : IsAbout subject asked
-  pub room : came + length octets ≤ most_joined
-  pub some : more ≡ true → 0 < length octets
-  pub pieces : more ≡ true → comes_in_pieces subject ≡ true
+-- Octets of user data about this came. Where more follow, some came, and the next ones are asked for.
+abbrev pub TellsPiece : Subject → List ℕ → Option Ask → Answer → Type 0
+TellsPiece subject octets next (brings octet more piece) =
+    (octets ≡ piece) × (next ≡ (if more then Some (ask.Further subject octet) else None))
+    × (more ≡ true → 0 < length piece) × (more ≡ true → comes_in_pieces subject ≡ true)
+TellsPiece subject octets next _ = ⊥
 
--- what is told of an answer, behind so many octets that came
+-- an upload began
+abbrev pub TellsStart : List ℕ → Option Ask → Answer → Type 0
+TellsStart octets next (uploads id size) = (octets ≡ []) × (next ≡ Some (ask.Slice id size))
+TellsStart octets next _ = ⊥
+
+-- A slice came. Where others follow, it has octets, and the next one is asked for, and else the end.
+abbrev pub TellsSlice : ℕ → ℕ → List ℕ → Option Ask → Answer → Type 0
+TellsSlice id size octets next (slices more piece) =
+    (octets ≡ piece) × (next ≡ Some (if more then ask.Slice id size else ask.UploadEnd id))
+    × (more ≡ true → 0 < length piece)
+TellsSlice id size octets next _ = ⊥
+
+-- an upload ended
+abbrev pub TellsEnd : List ℕ → Option Ask → Answer → Type 0
+TellsEnd octets next uploaded = (octets ≡ []) × (next ≡ None)
+TellsEnd octets next _ = ⊥
+
+abbrev pub BringsOn : Ask → List ℕ → Option Ask → Answer → Type 0
+BringsOn (ask.Control control) octets next answer = TellsStatus octets next answer
+BringsOn (ask.About subject) octets next answer = TellsPiece subject octets next answer
+BringsOn (ask.Further subject octet) octets next answer = TellsPiece subject octets next answer
+BringsOn ask.Upload octets next answer = TellsStart octets next answer
+BringsOn (ask.Slice id size) octets next answer = TellsSlice id size octets next answer
+BringsOn (ask.UploadEnd id) octets next answer = TellsEnd octets next answer
+
+-- what is told of an answer, behind so many octets that came: there is room for those that it brings
 abbrev pub TellsSingle : Ask → ℕ → Told → Answer → Type 0
 TellsSingle asked came (told.Refused number) answer = refusal_to asked answer ≡ Some number
-TellsSingle asked came told.Done answer =
-    IsControl asked × (refusal_to asked answer ≡ None) × ((status : ℕ) × (answer ≡ stands status))
-TellsSingle asked came (told.Octets octet more octets) answer =
-    (answer ≡ brings octet more octets.now) × BringsOn asked came more octets.now
+TellsSingle asked came (told.Brought octets next) answer =
+    BringsOn asked octets.now next answer × (length octets.now ≤ room_for asked - came)
 
 abbrev pub TellsIfSome : Ask → ℕ → Told → Option Answer → Type 0
 TellsIfSome asked came told None = ⊥

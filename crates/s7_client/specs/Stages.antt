@@ -5,10 +5,8 @@ use Rattle.s7_header.specs.Negotiation.{most_pdu}
 use Rattle.s7_item.specs.declared.item.Item.{Item}
 use Rattle.s7_item.specs.Sizes.{request_size}
 use Rattle.s7_wire.specs.Sent.{sent_message, sent_messages}
-use Rattle.s7_clock.specs.declared.control.Control.{Control}
-use Rattle.s7_clock.specs.declared.control.Control.TheVariants as control
 use Rattle.s7_clock.specs.Moment.{octets_at}
-use Rattle.s7_szl.specs.Joining.{most_joined}
+use Rattle.s7_block.specs.declared.block.BlockName.{BlockName}
 use Rattle.s7_client.specs.declared.config.Config.{Config}
 use Rattle.s7_client.specs.declared.grant.Grant.{Grant}
 use Rattle.s7_client.specs.declared.grant.Leaves.{Leaves}
@@ -28,9 +26,11 @@ use Rattle.s7_client.specs.declared.running.Stage.TheVariants as stage
 use Rattle.s7_client.specs.Codes.{no_fault}
 use Rattle.s7_client.specs.UserData.{filled_text, encoded}
 use Rattle.s7_client.specs.Question.{Question, negotiates, reads, writes, controls, asks, asks_further, question_octets}
+use Rattle.s7_client.specs.Question.{starts_upload, slices_upload, ends_upload}
 use Rattle.s7_client.specs.Checks.{is_known, octet_count_of, check_moment, check_password}
 use Rattle.s7_client.specs.Left.{questions_left, groups_in, most_parts}
-use Rattle.s7_client.specs.Dialogue.{Conduct, asked_by, list_octets, kind_octets, block_octets, controlling, asking_about}
+use Rattle.s7_client.specs.Dialogue.{Conduct, asked_by, list_octets, kind_octets, block_octets, controlling, asking_about, uploading}
+use Rattle.s7_client.specs.Singles.{room_for, asks_left}
 use Rattle.s7_client.specs.Course.{Awaits, for_confirm, for_answers, for_departure, for_nothing}
 pub use Rattle.s7_client.specs.Left.{joined}
 
@@ -68,27 +68,32 @@ data_of_job job.Status = list_octets 0x0424 0
 data_of_job (job.PasswordSet text) = encoded (filled_text text)
 data_of_job _ = []
 
+-- the block that a job uploads
+abbrev pub block_of : Job → BlockName
+block_of (job.Upload kind number) = record { kind = kind; number = number }
+block_of _ = record { kind = 0; number = 0 }
+
 -- what is asked, behind the octets that came
 abbrev pub question_of_single : Job → Ask → List ℕ → Question
 question_of_single job (ask.Control control) so_far = controls control
 question_of_single job (ask.About subject) so_far = asks subject (data_of_job job)
 question_of_single job (ask.Further subject octet) so_far = asks_further subject octet so_far
+question_of_single job ask.Upload so_far = starts_upload (block_of job)
+question_of_single job (ask.Slice id size) so_far = slices_upload id size so_far
+question_of_single job (ask.UploadEnd id) so_far = ends_upload id
 
 -- how it is asked
 abbrev pub conduct_of_single : Job → Ask → Conduct
 conduct_of_single job (ask.Control control) = controlling control
 conduct_of_single job (ask.About subject) = asking_about subject (data_of_job job)
 conduct_of_single job (ask.Further subject octet) = asking_about subject (data_of_job job)
+conduct_of_single job ask.Upload = uploading (block_of job)
+conduct_of_single job (ask.Slice id size) = uploading (block_of job)
+conduct_of_single job (ask.UploadEnd id) = uploading (block_of job)
 
 -- the message of the telegram that is out
 abbrev pub single_message : Job → Single → List ℕ
 single_message job s = question_octets (unwrap_or s.out 0) (question_of_single job s.ask [])
-
--- a control that names no block
-abbrev pub is_plain : Control → Bool
-is_plain (control.Insert kind number) = false
-is_plain (control.Delete kind number) = false
-is_plain _ = true
 
 -- a clock is set to a moment that it can show, and a password has from one to eight octets
 abbrev pub is_sent_well : Job → Bool
@@ -96,12 +101,14 @@ is_sent_well (job.ClockSet moment) = check_moment moment == no_fault
 is_sent_well (job.PasswordSet text) = check_password text == no_fault
 is_sent_well _ = true
 
--- Such a question can be asked: a control by a job that finds nothing, and user data by one that has a place for each
--- octet of an answer.
+-- user data that can be written go with what is asked, or none do
+abbrev pub is_writable : Job → Ask → Bool
+is_writable job (ask.About subject) = is_sent_well job
+is_writable job _ = true
+
+-- Such a question can be asked, by a job that has a place for each octet that comes.
 abbrev pub can_ask_single : Job → ℕ → Ask → Bool
-can_ask_single job found (ask.Control control) = is_plain control && found == 0
-can_ask_single job found (ask.About subject) = is_sent_well job && found == most_joined
-can_ask_single job found (ask.Further subject octet) = is_sent_well job && found == most_joined
+can_ask_single job found asked = is_writable job asked && found == room_for asked
 
 -- ---- what is put and awaited
 
@@ -213,7 +220,7 @@ IsOver (stage.Over code leaves) = Unit {0}
 abbrev pub answers_left : Stage → ℕ
 answers_left stage.Opening = 2
 answers_left (stage.Asking a) = length a.flights.items + questions_left a.left
-answers_left (stage.Single s) = 1 + (most_joined - s.len)
+answers_left (stage.Single s) = asks_left s.ask s.len
 answers_left stage.Leaving = 0
 answers_left (stage.Over code leaves) = 0
 

@@ -25,6 +25,10 @@ pub enum Job {
     ListOf { kind: u8 },
     /// Read the head of the block of this kind and number, which may be any.
     Info { kind: u8, number: u16 },
+    /// Read the image of the block of this kind and number, which may be any: its head, and the octets behind it.
+    Upload { kind: u8, number: u16 },
+    /// Delete the block of this kind and number, which may be any. Blocks that are OB, FC or FB can be deleted.
+    Delete { kind: u8, number: u16 },
     /// Read the status list (SZL) of this id and index.
     Szl { id: u16, index: u16 },
     /// Read the server's clock.
@@ -61,8 +65,8 @@ pub struct JobResult {
     pub code: u32,
     /// The octets that were read, of several items those of each that was read, joined; of `List` `30`, kind and count
     /// (2) for each of the seven kinds; of `ListOf` number (2), flags and language of each block, by rising numbers; the
-    /// 36 octets of a head; the image of a status list, which that of `Status` is too; the ten octets of a clock that was
-    /// read. None where the code isn't 0.
+    /// 36 octets of a head; the image of a block; the image of a status list, which that of `Status` is too; the ten
+    /// octets of a clock that was read. None where the code isn't 0.
     pub octets: Octets,
     /// The return codes of the items of `ReadMany` and `WriteMany`, in the first `count` places;
     /// the other places are 0.

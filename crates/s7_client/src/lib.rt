@@ -33,6 +33,7 @@ mod subject;
 mod taking;
 mod talk;
 mod under_way;
+mod upload;
 mod user_data;
 
 pub use client::Client;

@@ -1,4 +1,4 @@
-// User data and controls: the questions of jobs that ask one at a time (Snap7 1.4 sources, s7_types.h:
+// User data, controls and uploads: the questions of jobs that ask one at a time (Snap7 1.4 sources, s7_types.h:
 // TReqFunTypedParams, and the data that follow it).
 ghost use Rattle.std.specs.Prelude.{◌≡◌, ℕ, ◌++◌, ◌≤◌, true, [], List, length};
 ghost use Rattle.s7_header.specs.declared.header.Kind.TheVariants as kind;
@@ -8,13 +8,14 @@ ghost use Rattle.s7_clock.specs.Control.{control_spelling};
 ghost use Rattle.s7_client.specs.UserData.{request_params, further_params, data_of};
 ghost use Rattle.s7_client.specs.Question.{message_octets, question_octets};
 ghost use Rattle.s7_client.specs.Dialogue.{list_octets, block_octets};
-ghost use Rattle.s7_client.specs.Stages.{question_of_single, can_ask_single, is_plain, is_sent_well, data_of_job};
+ghost use Rattle.s7_client.specs.Stages.{question_of_single, can_ask_single, is_sent_well, data_of_job, block_of};
 
 use crate::job::Job;
 use crate::message::begin_message;
 use crate::password::encoded;
 use crate::single::Ask;
 use crate::subject::Subject;
+use crate::upload::{END, SLICE, write_by_id, write_start};
 use crate::user_data::NO_DATA;
 use s7_block::{BlockName, NAME, write_name};
 use s7_clock::{Control, date_of, to_octets, write_control};
@@ -27,7 +28,7 @@ const RUN_STATE: u16 = 0x0424;
 /// What stands before the kind of blocks.
 const MARK: u8 = 0x30;
 
-/// Where the block is whose head is asked for.
+/// Where a block is whose head or image is asked for.
 const AT_A: u8 = 0x41;
 
 /// Writes the message of what the job asks as the one message that the buffer holds.
@@ -42,12 +43,27 @@ pub(crate) fn write_single(job: &Job, ask: &Ask, sequence: u16, message: &mut Bu
         Ask::Control(control) => write_call(control, sequence, message),
         Ask::About(subject) => write_request(*subject, job, sequence, message),
         Ask::Further(subject, octet) => write_further(*subject, *octet, sequence, message),
+        Ask::Upload => write_start(&block_octets(block_of(job)), sequence, message),
+        Ask::Slice { id, .. } => write_by_id(SLICE, *id, sequence, message),
+        Ask::UploadEnd { id } => write_by_id(END, *id, sequence, message),
+    }
+}
+
+// The block that the job uploads.
+fn block_of(job: &Job) -> BlockName
+    ensures { result ≡ block_of job.now }
+{
+    match job {
+        Job::Upload { kind, number } => BlockName {
+            kind: *kind,
+            number: *number,
+        },
+        _ => BlockName { kind: 0, number: 0 },
     }
 }
 
 // Writes the call of a control.
 fn write_call(control: &Control, sequence: u16, message: &mut Buffer)
-    requires plain { is_plain control.now ≡ true }
     requires room { message.old.room ≡ most_pdu }
     ensures octets { message.new.octets ≡ message_octets kind.Job sequence (control_spelling control.now) [] }
     ensures fits { (10 ≤ length message.new.octets) × (length message.new.octets ≤ 64) }
@@ -71,7 +87,11 @@ fn write_request(subject: Subject, job: &Job, sequence: u16, message: &mut Buffe
     match job {
         Job::ListOf { kind } => write_user_data(&params, &[MARK, *kind], sequence, message),
         Job::Info { kind, number } => {
-            write_user_data(&params, &block_octets(*kind, *number), sequence, message)
+            let name = BlockName {
+                kind: *kind,
+                number: *number,
+            };
+            write_user_data(&params, &block_octets(name), sequence, message)
         }
         Job::Szl { id, index } => {
             write_user_data(&params, &list_octets(*id, *index), sequence, message)
@@ -128,11 +148,11 @@ fn list_octets(id: u16, index: u16) -> [u8; 4]
 }
 
 // The name of a block that is in the controller's memory.
-fn block_octets(kind: u8, number: u16) -> [u8; NAME]
-    ensures { result ≡ block_octets kind number }
+fn block_octets(name: BlockName) -> [u8; NAME]
+    ensures { result ≡ block_octets name.kind name.number }
 {
     let mut octets = [0u8; NAME];
-    write_name(BlockName { kind, number }, AT_A, &mut octets);
+    write_name(name, AT_A, &mut octets);
     octets
 }
 

@@ -29,7 +29,7 @@ pub(crate) struct Running {
     pub(crate) job: Job,
     pub(crate) stage: Stage,
     /// The octets that are read, at their places: 00 where none came yet, and where an item was
-    /// refused. Those of user data stand at the front.
+    /// refused. Those of user data and of an upload stand at the front.
     pub(crate) found: Vec<u8>,
     /// The return codes of several items, at their places.
     pub(crate) codes: Codes,

@@ -2,6 +2,7 @@
 ghost use Rattle.std.specs.Prelude.{◌≡◌, ◌≤◌, true, IsSome};
 ghost use Rattle.s7_client.specs.declared.subject.Subject.{Subject};
 ghost use Rattle.s7_client.specs.declared.single.Ask.TheVariants as asked;
+ghost use Rattle.s7_client.specs.Singles.{room_for};
 
 use crate::asking::sequence_after;
 use crate::codes::GOOD;
@@ -21,6 +22,12 @@ pub(crate) enum Ask {
     About(Subject),
     /// The next octets of an answer in user data, under this sequence octet.
     Further(Subject, u8),
+    /// That the upload of the job's block begins.
+    Upload,
+    /// The next octets of the upload of this id, an image of so many octets.
+    Slice { id: u8, size: u32 },
+    /// That the upload of this id ends.
+    UploadEnd { id: u8 },
 }
 
 /// What a job that asks one question at a time has asked and asks next.
@@ -35,7 +42,7 @@ pub(crate) struct Single {
     /// How many octets of the answer came.
     pub(crate) len: usize,
     ghost first: { (subject : Subject) → ask ≡ asked.About subject → len ≡ 0 },
-    ghost most: { len ≤ 8448 },
+    ghost most: { len ≤ room_for ask },
     ghost put: { unput ≡ true → IsSome out },
 }
 
@@ -92,27 +99,15 @@ impl Single {
 }
 
 impl Ask {
-    ghost use Rattle.s7_client.specs.UserData.{lead_of};
-    ghost use Rattle.s7_client.specs.Singles.{IsAbout};
-
-    /// What asks for the next octets of its answer, which has this sequence octet.
-    pub(crate) fn further(&self, octet: u8) -> Ask
-        requires { (subject : Subject) × IsAbout subject self.now }
-        ensures { (subject : Subject) → IsAbout subject self.now → result ≡ asked.Further subject octet }
-    {
-        match self {
-            Ask::About(subject) | Ask::Further(subject, _) => Ask::Further(*subject, octet),
-            Ask::Control(_) => unreachable!(),
-        }
-    }
+    ghost use Rattle.s7_client.specs.Singles.{lead_in};
 
     /// How many octets of a whole answer stand before what was asked for.
-    pub(crate) fn lead(&self) -> usize
-        ensures { (subject : Subject) → IsAbout subject self.now → result ≡ lead_of subject }
+    fn lead(&self) -> usize
+        ensures { result ≡ lead_in self.now }
     {
         match self {
             Ask::About(subject) | Ask::Further(subject, _) => subject.lead(),
-            Ask::Control(_) => 0,
+            Ask::Control(_) | Ask::Upload | Ask::Slice { .. } | Ask::UploadEnd { .. } => 0,
         }
     }
 }
@@ -158,23 +153,15 @@ impl Running {
                 self.end(number, Leaves::AsItWas);
                 Some(sequence)
             }
-            Told::Done => {
-                self.finish(0, len);
-                Some(sequence)
-            }
-            Told::Octets {
-                octet,
-                more,
-                octets,
-            } => {
+            Told::Brought { octets, next } => {
                 place_octets(octets, self.found.as_mut_slice(), len);
                 let len = len + octets.len();
-                if !more {
+                let Some(next) = next else {
                     self.finish(ask.lead(), len);
                     return Some(sequence);
-                }
+                };
                 self.stage = Stage::Single(Single {
-                    ask: ask.further(octet),
+                    ask: next,
                     out: None,
                     unput: false,
                     len,

@@ -21,6 +21,7 @@ use crate::left::{Grouped, Left, items_of};
 use crate::running::Stage;
 use crate::single::{Ask, Single};
 use crate::subject::Subject;
+use crate::upload::MOST_UPLOADED;
 use crate::user_data::MOST_JOINED;
 use s7_clock::Control;
 use s7_item::{Item, MOST_ITEMS};
@@ -70,6 +71,11 @@ fn start_connected(granted: &Grant, job: &Job) -> Start
         Job::List => asking_about(Subject::BlockCounts),
         Job::ListOf { .. } => asking_about(Subject::BlocksOfKind),
         Job::Info { .. } => asking_about(Subject::BlockHead),
+        Job::Upload { .. } => asking_singly(Ask::Upload, MOST_UPLOADED),
+        Job::Delete { kind, number } => controlling(Control::Delete {
+            kind: *kind,
+            number: *number,
+        }),
         Job::Szl { .. } => asking_about(Subject::StatusList),
         Job::ClockRead => asking_about(Subject::Clock),
         Job::ClockSet { moment } => set_clock(*moment),

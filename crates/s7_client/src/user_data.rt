@@ -1,5 +1,5 @@
-// User data and controls: the answers to what jobs ask that ask one question at a time (Snap7 1.4 sources, s7_types.h:
-// TS7Params7, and the data that follow it).
+// User data, controls and uploads: the answers to what jobs ask that ask one question at a time (Snap7 1.4 sources,
+// s7_types.h: TS7Params7, and the data that follow it).
 ghost use Rattle.std.specs.Prelude.{◌≡◌, ℕ, ◌+◌, ◌<◌, ◌==◌, ◌&&◌, List, length, if◌then◌else◌};
 ghost use Rattle.std.specs.Prelude.{None, Some, IfSome, IfNone, MatchOption};
 ghost use Rattle.s7_header.specs.Octets.{number_at};
@@ -13,12 +13,14 @@ ghost use Rattle.s7_client.specs.UserData.{octets_in, answers_about};
 ghost use Rattle.s7_client.specs.UserData.{is_whole, has_octets, goes_on_with};
 ghost use Rattle.s7_client.specs.Answer.{answer_of, acknowledged, answered_by_user, by_params, brought, is_under};
 ghost use Rattle.s7_client.specs.Answer.{refuses, function_of, tells_status};
+ghost use Rattle.s7_client.specs.Question.{controls};
 ghost use Rattle.s7_client.specs.Stages.{question_of_single};
-ghost use Rattle.s7_client.specs.Singles.{IsAbout, TellsIfSome};
+ghost use Rattle.s7_client.specs.Singles.{TellsIfSome};
 
 use crate::refusals::{number_of_error, number_of_status};
 use crate::single::Ask;
 use crate::subject::Subject;
+use crate::upload::{read_ended, read_slice, read_started};
 use s7_clock::{Control, from_octets};
 use s7_header::{Header, Kind, UserParams, parts, read_header, read_user};
 use s7_szl::read_mode;
@@ -46,18 +48,12 @@ const CONTROL_FUNCTION: u8 = 0x28;
 const STOP_FUNCTION: u8 = 0x29;
 
 /// What a message tells of the answer to what a job asks alone.
-#[derive(Clone, Copy, Debug)]
+#[derive(Clone, Copy)]
 pub(crate) enum Told<'a> {
     /// It refuses with this number.
     Refused(u32),
-    /// A control was done.
-    Done,
-    /// Octets of user data under this sequence octet, and whether more follow.
-    Octets {
-        octet: u8,
-        more: bool,
-        octets: &'a [u8],
-    },
+    /// It brings these octets, and this is asked next, if anything is.
+    Brought { octets: &'a [u8], next: Option<Ask> },
 }
 
 /// What the message tells of the answer to what is asked, behind the octets that came; `None` exactly where it is no
@@ -85,7 +81,7 @@ pub(crate) fn read_single<'a>(
     let (params, body) = parts(message, &header);
     match header.kind {
         Kind::Ack => read_refusal(&header),
-        Kind::AckData => read_acknowledgement(ask, header.error, params, body),
+        Kind::AckData => read_acknowledgement(ask, so_far, header.error, params, body),
         Kind::User => read_user_data(ask, so_far, params, body),
         Kind::Job => None,
     }
@@ -105,21 +101,44 @@ fn read_refusal<'a>(header: &Header) -> Option<Told<'a>>
     }
 }
 
-// What an acknowledgement with this error word, these parameters and data answers: only a control has such an answer.
-fn read_acknowledgement<'a>(ask: &Ask, error: u16, params: &[u8], body: &[u8]) -> Option<Told<'a>>
-    ensures { (job : Job) (so_far : List ℕ) (came : ℕ)
-        → let answer = (if error == 0 then acknowledged (question_of_single job ask.now so_far) params.now body.now
-        else None) in
-        MatchOption result (answer ≡ None) (λ told. TellsIfSome ask.now came told answer) }
+// What an acknowledgement with this error word, these parameters and data answers: user data have no such answer.
+fn read_acknowledgement<'a>(
+    ask: &Ask,
+    so_far: &[u8],
+    error: u16,
+    params: &[u8],
+    body: &'a [u8],
+) -> Option<Told<'a>>
+    ensures { (job : Job)
+        → let answer = (if error == 0
+        then acknowledged (question_of_single job ask.now so_far.now) params.now body.now else None) in
+        MatchOption result (answer ≡ None) (λ told. TellsIfSome ask.now (length so_far.now) told answer) }
 {
-    let Ask::Control(control) = ask else {
+    if error != 0 {
         return None;
-    };
-    if error != 0 || !body.is_empty() || !tells_status(control, params) {
+    }
+    match ask {
+        Ask::Control(control) => read_status(control, params, body),
+        Ask::About(_) | Ask::Further(_, _) => None,
+        Ask::Upload => read_started(params, body),
+        Ask::Slice { id, size } => read_slice(*id, *size, so_far, params, body),
+        Ask::UploadEnd { .. } => read_ended(params, body),
+    }
+}
+
+// What a control is answered.
+fn read_status<'a>(control: &Control, params: &[u8], body: &[u8]) -> Option<Told<'a>>
+    ensures { (came : ℕ) → let answer = acknowledged (controls control.now) params.now body.now in
+        MatchOption result (answer ≡ None) (λ told. TellsIfSome (asked.Control control.now) came told answer) }
+{
+    if !body.is_empty() || !tells_status(control, params) {
         return None;
     }
     match params[1] {
-        0 => Some(Told::Done),
+        0 => Some(Told::Brought {
+            octets: &[],
+            next: None,
+        }),
         status => Some(Told::Refused(number_of_status(control, status))),
     }
 }
@@ -149,9 +168,9 @@ fn read_user_data<'a>(ask: &Ask, so_far: &[u8], params: &[u8], body: &'a [u8]) -
         MatchOption result (answer ≡ None) (λ told. TellsIfSome ask.now (length so_far.now) told answer) }
 {
     match ask {
-        Ask::Control(_) => None,
         Ask::About(subject) => read_piece(*subject, None, &[], params, body),
         Ask::Further(subject, octet) => read_piece(*subject, Some(*octet), so_far, params, body),
+        Ask::Control(_) | Ask::Upload | Ask::Slice { .. } | Ask::UploadEnd { .. } => None,
     }
 }
 
@@ -163,9 +182,9 @@ fn read_piece<'a>(
     params: &[u8],
     body: &'a [u8],
 ) -> Option<Told<'a>>
-    ensures { (asked : Ask) → IsAbout subject asked
-        → let answer = by_params subject under so_far.now body.now (user_params_of params.now) in
-        MatchOption result (answer ≡ None) (λ told. TellsIfSome asked (length so_far.now) told answer) }
+    ensures { let answer = by_params subject under so_far.now body.now (user_params_of params.now) in
+        MatchOption result (answer ≡ None)
+        (λ told. TellsIfSome (asked.About subject) (length so_far.now) told answer) }
 {
     let Ok(params) = read_user(params) else {
         return None;
@@ -220,8 +239,8 @@ fn has_octets(body: &[u8]) -> bool
         && usize::from(number_at(body, 2)) == body.len() - 4
 }
 
-// The number in the two octets from this place on.
-fn number_at(octets: &[u8], place: usize) -> u16
+/// The number in the two octets from this place on.
+pub(crate) fn number_at(octets: &[u8], place: usize) -> u16
     requires { place + 1 < length octets.now }
     ensures { result ≡ number_at octets.now place }
 {
@@ -235,9 +254,9 @@ fn read_brought<'a>(
     params: &UserParams,
     octets: &'a [u8],
 ) -> Option<Told<'a>>
-    ensures { (asked : Ask) → IsAbout subject asked
-        → let answer = brought subject so_far.now params.now octets.now in
-        MatchOption result (answer ≡ None) (λ told. TellsIfSome asked (length so_far.now) told answer) }
+    ensures { let answer = brought subject so_far.now params.now octets.now in
+        MatchOption result (answer ≡ None)
+        (λ told. TellsIfSome (asked.About subject) (length so_far.now) told answer) }
 {
     if params.error != 0 {
         return octets
@@ -246,10 +265,9 @@ fn read_brought<'a>(
     }
     let more = params.more == 1;
     if goes_on_with(subject, so_far, more, octets) {
-        Some(Told::Octets {
-            octet: params.sequence,
-            more,
+        Some(Told::Brought {
             octets,
+            next: more.then_some(Ask::Further(subject, params.sequence)),
         })
     } else {
         None

@@ -19,4 +19,6 @@ mod larger_pdu;
 #[cfg(test)]
 mod steps;
 #[cfg(test)]
+mod uploads;
+#[cfg(test)]
 mod user_data;

@@ -610,6 +610,8 @@ fn nothing_is_asked_unconnected(rt: HostRuntime) -> Result<(), Fail> {
         Ask::List,
         Ask::ListOf(0x41),
         Ask::Info(0x41, 1),
+        Ask::Upload(0x41, 1),
+        Ask::Delete(0x45, 1),
         Ask::Szl(0x0011, 0),
         Ask::ClockRead,
         Ask::ClockSet(0),

@@ -1,7 +1,7 @@
 -- Parameters that control a PLC, as in the Snap7 1.4 sources (s7_types.h, TReqFunPlcHotStart,
 -- TReqFunPlcColdStart, TReqFunPlcStop, TReqFunCompress, TReqFunCopyRamToRom): the call of a service by
 -- function 28, or function 29 for a stop.
-use Rattle.std.specs.Prelude.{◌≡◌, ℕ, ◌+◌, ◌*◌, ◌-◌, ◌/◌, ◌%◌, Bool, true, nat_lt, ◌==◌, ◌&&◌, ◌||◌, IsTrue, if◌then◌else◌, List, [], ◌∷◌, ◌++◌, length, slice_index, Result, Ok, Err}
+use Rattle.std.specs.Prelude.{◌≡◌, ℕ, ◌+◌, ◌*◌, ◌-◌, ◌/◌, ◌%◌, Bool, true, nat_lt, ◌==◌, ◌&&◌, ◌||◌, if◌then◌else◌, List, [], ◌∷◌, ◌++◌, length, slice_index, Result, Ok, Err}
 use Rattle.std.specs.Str.{bytes_eq}
 use Rattle.s7_outer.specs.Numbers.{two_octets}
 use Rattle.s7_clock.specs.declared.control.Control.{Control}
@@ -61,16 +61,6 @@ control_spelling (Delete kind number) = service (block_argument kind number 0x42
 abbrev pub is_kind : ℕ → Bool
 is_kind kind =
     (kind == 0x38) || (kind == 0x41) || (kind == 0x42) || (kind == 0x43) || (kind == 0x44) || (kind == 0x45) || (kind == 0x46)
-
--- a block that is named is of such a kind
-abbrev pub NamesKind : Control → Type 0
-NamesKind Start = Unit {0}
-NamesKind ColdStart = Unit {0}
-NamesKind Stop = Unit {0}
-NamesKind Compress = Unit {0}
-NamesKind CopyRam = Unit {0}
-NamesKind (Insert kind number) = IsTrue (is_kind kind)
-NamesKind (Delete kind number) = IsTrue (is_kind kind)
 
 -- such a kind and a number of two octets
 abbrev pub is_block : ℕ → ℕ → Bool

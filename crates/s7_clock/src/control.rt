@@ -1,7 +1,7 @@
 // The control of a PLC, as in the Snap7 1.4 sources (`s7_types.h`: `TReqFunPlcHotStart`,
 // `TReqFunPlcColdStart`, `TReqFunPlcStop`, `TReqFunCompress`, `TReqFunCopyRamToRom`).
 ghost use Rattle.std.specs.Prelude.{◌≡◌, ◌≤◌, ◌-◌, ◌∷◌, ◌++◌, length, take, drop};
-ghost use Rattle.s7_clock.specs.Control.{NamesKind, block_control_of, control_of, control_spelling, five_digits, is_kind, number_named};
+ghost use Rattle.s7_clock.specs.Control.{block_control_of, control_of, control_spelling, five_digits, is_kind, number_named};
 
 use crate::faults::BadParams;
 
@@ -81,10 +81,9 @@ pub fn read_control(params: &[u8]) -> Result<Control, BadParams>
 }
 
 /// Writes the parameters of a control at the front, and answers how many octets they have, from 16 to
-/// 26. There must be room for them, and a block's kind must be one that `Control::Insert` lists.
+/// 26. There must be room for them. A block's kind may be any.
 pub fn write_control(c: &Control, into: &mut [u8]) -> usize
     requires room { length (control_spelling c.now) ≤ length into.old }
-    requires kind { NamesKind c.now }
     ensures written { into.new ≡ control_spelling c.now ++ drop result into.old }
     ensures len { result ≡ length (control_spelling c.now) }
 {

@@ -1,5 +1,5 @@
 ghost use Rattle.std.specs.Prelude.{◌≤◌, length};
-ghost use Rattle.s7_clock.specs.Control.{NamesKind, control_spelling};
+ghost use Rattle.s7_clock.specs.Control.{control_spelling};
 ghost use Rattle.s7_clock.specs.Moment.{IsHeld};
 
 use super::*;
@@ -17,8 +17,7 @@ fn has_octets(ms: u64, octets: &[u8; 10]) -> bool
 
 // Whether the control has these parameters, and they are read as it.
 fn has_params(control: Control, params: &[u8]) -> bool
-    requires kind { NamesKind control }
-    requires short { length (control_spelling control) ≤ 26 }
+    requires { length (control_spelling control) ≤ 26 }
 {
     let mut into = [0xEE; 27];
     let len = write_control(&control, &mut into);

@@ -14,6 +14,3 @@ pub use pair::PairEnd;
 pub use runs::run_pair;
 pub use talker::Talker;
 pub use text::pair_text;
-
-#[cfg(test)]
-mod tests;

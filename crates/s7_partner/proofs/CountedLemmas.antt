@@ -14,7 +14,7 @@ use Rattle.s7_wire.specs.Reading.{Event, opened, message}
 use Rattle.s7_client.specs.declared.config.Config.{Config}
 use Rattle.s7_client.specs.declared.grant.Grant.{Grant}
 use Rattle.s7_client.specs.Question.{negotiates}
-use Rattle.s7_client.specs.Answer.{Answer, grants, tells, notes, stands, brings, refuses, answer_of}
+use Rattle.s7_client.specs.Answer.{Answer, grants, tells, notes, stands, brings, uploads, slices, uploaded, refuses, answer_of}
 use Rattle.s7_client.specs.Dialogue.{asked_by, taken_grant}
 use Rattle.s7_partner.specs.declared.role.Role.{Role}
 use Rattle.s7_partner.specs.declared.role.Role.TheVariants.{Active, Passive}
@@ -51,6 +51,9 @@ answer_idle config s (Some (tells items)) e = e
 answer_idle config s (Some (notes codes)) e = e
 answer_idle config s (Some (stands status)) e = e
 answer_idle config s (Some (brings octet more octets)) e = e
+answer_idle config s (Some (uploads id size)) e = e
+answer_idle config s (Some (slices more octets)) e = e
+answer_idle config s (Some uploaded) e = e
 
 cond_idle : (b : Bool) (x y : State) → Idle x → Idle y → Idle (if b then x else y)
 cond_idle true x y h k = h

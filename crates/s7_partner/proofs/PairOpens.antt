@@ -19,7 +19,7 @@ use Rattle.s7_client.specs.declared.grant.Grant.{Grant}
 use Rattle.s7_client.specs.Codes.{short_message, invalid_answer, negotiation_failed}
 use Rattle.s7_client.specs.Course.{next_sequence}
 use Rattle.s7_client.specs.Question.{negotiates, message_octets}
-use Rattle.s7_client.specs.Answer.{Answer, grants, tells, notes, stands, brings, refuses, answer_of}
+use Rattle.s7_client.specs.Answer.{Answer, grants, tells, notes, stands, brings, uploads, slices, uploaded, refuses, answer_of}
 use Rattle.s7_client.specs.Dialogue.{asked_by, taken_grant}
 use Rattle.s7_partner.specs.declared.role.Role.{Role}
 use Rattle.s7_partner.specs.declared.role.Role.TheVariants.{Active, Passive}
@@ -242,6 +242,12 @@ answer_reading config s acts o m (Some (notes codes)) is only =
 answer_reading config s acts o m (Some (stands status)) is only =
     shut_reading Active config s acts o m negotiation_failed
 answer_reading config s acts o m (Some (brings octet more octets)) is only =
+    shut_reading Active config s acts o m negotiation_failed
+answer_reading config s acts o m (Some (uploads id size)) is only =
+    shut_reading Active config s acts o m negotiation_failed
+answer_reading config s acts o m (Some (slices more octets)) is only =
+    shut_reading Active config s acts o m negotiation_failed
+answer_reading config s acts o m (Some uploaded) is only =
     shut_reading Active config s acts o m negotiation_failed
 
 -- ---- a passive partner hears the negotiation

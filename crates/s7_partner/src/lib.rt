@@ -18,8 +18,3 @@ pub use event::{PartnerEvent, SendFault};
 pub use laws::{blocks_are_delivered, sent_are_handed_out};
 pub use partner::Partner;
 pub use role::Role;
-
-#[cfg(test)]
-mod pair_tests;
-#[cfg(test)]
-mod tests;

@@ -25,10 +25,3 @@ pub use plant::{MOST_BLOCKS, Plant};
 pub use reply::{BODY_ROOM, PARAMS_ROOM, Reply};
 pub use request::{Ask, Request};
 pub use steps::Steps;
-
-#[cfg(test)]
-mod block_tests;
-#[cfg(test)]
-mod control_tests;
-#[cfg(test)]
-mod tests;

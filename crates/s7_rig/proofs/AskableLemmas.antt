@@ -1,5 +1,5 @@
--- What a job on a connected client asks: reads and writes of one to twenty items, whose answers have room; controls
--- that the plant is asked for; user data with its octets, and further octets of what comes in pieces.
+-- What a job on a connected client asks: reads and writes of one to twenty items, whose answers have room; controls;
+-- user data with its octets, and further octets of what comes in pieces; and uploads.
 use Rattle.std.proofs.Common.{◌≡◌, ℕ, ◌<◌, ◌≤◌, Bool, true, false, ◌&&◌, cond, eqb, leb, ltb, Option, None, Some, List, [], ◌∷◌, length, drop, refl, ap, subst, arith}
 use Rattle.std.specs.Prelude.{IsSome, is_some, slice_get}
 use Rattle.std.specs.List.{AllByRecursion}
@@ -24,7 +24,7 @@ use Rattle.s7_client.specs.declared.subject.Subject.TheVariants.{StatusList, Run
 use Rattle.s7_client.specs.Codes.{invalid_parameters}
 use Rattle.s7_client.specs.UserData.{comes_in_pieces, filled_text, encoded}
 use Rattle.s7_client.specs.Question.{Question, controls, asks_further}
-use Rattle.s7_client.specs.Answer.{Answer, grants, tells, notes, stands, brings, refuses}
+use Rattle.s7_client.specs.Answer.{Answer, grants, tells, notes, stands, brings, uploads, slices, uploaded, refuses}
 use Rattle.s7_client.specs.Checks.{octet_count_of, check_item, check_items, check_moment, check_password}
 use Rattle.s7_client.specs.Dialogue.{End, read_questions, write_questions, alone, listed, if_good, at_once, asking_about, next_piece, behind, last_answer, octets_brought, list_octets, kind_octets, block_octets, plan_of}
 use Rattle.s7_client.proofs.CheckLemmas.{item_checked, items_checked, can_split}
@@ -36,6 +36,7 @@ use Rattle.s7_rig.specs.Written.{AreKnown}
 use Rattle.s7_rig.proofs.PlacedLemmas.{parts_known}
 use Rattle.s7_rig.proofs.UserClockLemmas.{clock_read, length-clock}
 use Rattle.s7_rig.proofs.UserPasswordLemmas.{length-password}
+use Rattle.s7_rig.proofs.UploadAsksLemmas.{of_upload}
 use Rattle.s7_rig.proofs.AskedItems.{alone_each, groups_each, items_known}
 
 -- ---- all questions of a job
@@ -112,6 +113,9 @@ behind_askable pdu subject so_far (Some (grants granted)) q is = absurd (cc)
 behind_askable pdu subject so_far (Some (tells items)) q is = absurd (cc)
 behind_askable pdu subject so_far (Some (notes codes)) q is = absurd (cc)
 behind_askable pdu subject so_far (Some (stands status)) q is = absurd (cc)
+behind_askable pdu subject so_far (Some (uploads id size)) q is = absurd (cc)
+behind_askable pdu subject so_far (Some (slices more octets)) q is = absurd (cc)
+behind_askable pdu subject so_far (Some uploaded) q is = absurd (cc)
 behind_askable pdu subject so_far (Some (refuses error)) q is = absurd (cc)
 behind_askable pdu subject so_far None q is = absurd (cc)
 
@@ -175,6 +179,11 @@ askable (job.ListOf kind) config granted answers q least is =
     piece_askable granted.pdu BlocksOfKind (kind_octets kind) answers q (kind, refl) is
 askable (job.Info kind number) config granted answers q least is =
     piece_askable granted.pdu BlockHead (block_octets kind number) answers q refl is
+askable (job.Upload kind number) config granted answers q least is =
+    of_upload (IsAskable granted.pdu) (λ id size so_far. tt) (λ id. tt) (record { kind = kind; number = number }) answers q
+    tt is
+askable (job.Delete kind number) config granted answers q least is =
+    one_askable granted.pdu (controls (control.Delete kind number)) q (length answers) tt is
 askable (job.Szl id index) config granted answers q least is =
     piece_askable granted.pdu StatusList (list_octets id index) answers q refl is
 askable job.ClockRead config granted answers q least is = piece_askable granted.pdu Clock [] answers q refl is
@@ -183,15 +192,15 @@ askable (job.ClockSet moment) config granted answers q least is =
     piece_askable granted.pdu ClockSetting (octets_at moment) answers q
     (setting_can moment (moment_checked moment sent.0)) sent.1
 askable job.Start config granted answers q least is =
-    one_askable granted.pdu (controls control.Start) q (length answers) refl is
+    one_askable granted.pdu (controls control.Start) q (length answers) tt is
 askable job.ColdStart config granted answers q least is =
-    one_askable granted.pdu (controls control.ColdStart) q (length answers) refl is
+    one_askable granted.pdu (controls control.ColdStart) q (length answers) tt is
 askable job.Stop config granted answers q least is =
-    one_askable granted.pdu (controls control.Stop) q (length answers) refl is
+    one_askable granted.pdu (controls control.Stop) q (length answers) tt is
 askable job.Compress config granted answers q least is =
-    one_askable granted.pdu (controls control.Compress) q (length answers) refl is
+    one_askable granted.pdu (controls control.Compress) q (length answers) tt is
 askable job.CopyRam config granted answers q least is =
-    one_askable granted.pdu (controls control.CopyRam) q (length answers) refl is
+    one_askable granted.pdu (controls control.CopyRam) q (length answers) tt is
 askable job.Status config granted answers q least is =
     piece_askable granted.pdu RunState (list_octets 0x0424 0) answers q refl is
 askable (job.PasswordSet text) config granted answers q least is =

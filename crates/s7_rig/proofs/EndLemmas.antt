@@ -4,6 +4,7 @@ use Rattle.std.specs.Prelude.{IsTrue}
 use Rattle.s7_outer.specs.Shown.{Shown}
 use Rattle.s7_outer.specs.Count.{Rose}
 use Rattle.s7_item.specs.Item.{octet_count}
+use Rattle.s7_block.specs.declared.block.BlockName.{BlockName}
 use Rattle.s7_clock.specs.declared.control.Control.{Control}
 use Rattle.s7_clock.specs.declared.control.Control.TheVariants as control
 use Rattle.s7_client.specs.declared.config.Config.{Config}
@@ -14,13 +15,13 @@ use Rattle.s7_client.specs.declared.job.Job.{Job}
 use Rattle.s7_client.specs.declared.job.Job.TheVariants as job
 use Rattle.s7_client.specs.declared.subject.Subject.{Subject}
 use Rattle.s7_client.specs.declared.subject.Subject.TheVariants.{StatusList, RunState, BlockCounts, BlocksOfKind, BlockHead, Clock, ClockSetting, Password, PasswordClearing}
-use Rattle.s7_client.specs.Answer.{Answer, grants, tells, notes, stands, brings, refuses}
+use Rattle.s7_client.specs.Answer.{Answer, grants, tells, notes, stands, brings, uploads, slices, uploaded, refuses}
 use Rattle.s7_client.specs.Codes.{not_connected, timed_out}
 use Rattle.s7_client.specs.Checks.{check_item, check_items, check_moment, check_password, octet_count_of}
 use Rattle.s7_client.specs.Flight.{answers_of, open_count}
 use Rattle.s7_client.specs.Dialogue.{End, First, nothing, connect_request, disconnect_request, Plan, over, number_end, fault_end, departed_end}
 use Rattle.s7_client.specs.Dialogue.{taken_grant, by_grant, negotiated, connected_plan, unconnected_plan, plan_of}
-use Rattle.s7_client.specs.Dialogue.{Conduct, plain_number, write_number, by_refusal, good_end, controlling, asking_about, at_once}
+use Rattle.s7_client.specs.Dialogue.{Conduct, plain_number, write_number, by_refusal, good_end, controlling, asking_about, uploading, at_once}
 use Rattle.s7_client.specs.Course.{Origin, Course, Awaits, for_confirm, for_answers, for_departure, for_nothing, conduct_of}
 use Rattle.s7_client.specs.Course.{asked_on, asking, blank, by_first, begun, course}
 use Rattle.s7_client.specs.Standing.{IsFault, IsByOctets, IsByDeparture}
@@ -90,6 +91,11 @@ about_leaves : (done : Job) (granted : Grant) (subject : Subject) (octets : List
 about_leaves done granted subject octets =
     record { ends = λ answers. refusal_leaves done granted _ _ _ _; departs = λ e. not_departing _ e }
 
+upload_leaves : (done : Job) (granted : Grant) (name : BlockName)
+    → PlanLeaves done (Some granted) (at_once (uploading name))
+upload_leaves done granted name =
+    record { ends = λ answers. refusal_leaves done granted _ _ _ _; departs = λ e. not_departing _ e }
+
 connected_leaves : (done : Job) (granted : Grant) → PlanLeaves done (Some granted) (connected_plan done granted)
 connected_leaves job.Connect granted = over_leaves job.Connect granted 0
 connected_leaves (job.ReadArea item) granted =
@@ -119,6 +125,10 @@ connected_leaves (job.WriteMany items octets) granted =
 connected_leaves job.List granted = about_leaves job.List granted BlockCounts _
 connected_leaves (job.ListOf kind) granted = about_leaves (job.ListOf kind) granted BlocksOfKind _
 connected_leaves (job.Info kind number) granted = about_leaves (job.Info kind number) granted BlockHead _
+connected_leaves (job.Upload kind number) granted =
+    upload_leaves (job.Upload kind number) granted (record { kind = kind; number = number })
+connected_leaves (job.Delete kind number) granted =
+    control_leaves (job.Delete kind number) granted (control.Delete kind number)
 connected_leaves (job.Szl id index) granted = about_leaves (job.Szl id index) granted StatusList _
 connected_leaves job.ClockRead granted = about_leaves job.ClockRead granted Clock _
 connected_leaves (job.ClockSet moment) granted =
@@ -191,6 +201,9 @@ negotiated_leaves config (Some (tells items) ∷ answers) = grant_leaves None
 negotiated_leaves config (Some (notes codes) ∷ answers) = grant_leaves None
 negotiated_leaves config (Some (stands status) ∷ answers) = grant_leaves None
 negotiated_leaves config (Some (brings octet more octets) ∷ answers) = grant_leaves None
+negotiated_leaves config (Some (uploads id size) ∷ answers) = grant_leaves None
+negotiated_leaves config (Some (slices more octets) ∷ answers) = grant_leaves None
+negotiated_leaves config (Some uploaded ∷ answers) = grant_leaves None
 
 not_connected_leaves : (done : Job) → PlanLeaves done None (over (number_end not_connected Disconnected))
 not_connected_leaves done =

@@ -1,4 +1,4 @@
--- Replies of a plant to user data and to controls that refuse nothing.
+-- Replies of a plant to user data, to controls and to the start of an upload that refuse nothing.
 use Rattle.std.proofs.Common.{◌≡◌, ℕ, ◌&&◌, Bool, true, false, not, cond, eqb, Option, None, Some, List, [], refl, ap}
 use Rattle.std.proofs.Common.{sym, ◌∙◌}
 use Rattle.std.specs.Prelude.{IsSome, is_some, option_map}
@@ -18,11 +18,11 @@ use Rattle.s7_plant.specs.Replies.{Said, said}
 use Rattle.s7_plant.specs.State.{State}
 use Rattle.s7_client.specs.declared.subject.Subject.{Subject}
 use Rattle.s7_client.specs.declared.subject.Subject.TheVariants.{StatusList, RunState, BlockCounts, Clock, ClockSetting}
-use Rattle.s7_client.specs.Answer.{brings, refuses}
+use Rattle.s7_client.specs.Answer.{brings, uploads, refuses}
 use Rattle.s7_client.specs.Refusals.{control_refusal, telegram_refusal}
 use Rattle.s7_client.specs.Dialogue.{list_octets}
 use Rattle.s7_client.proofs.FlightLemmas.{same_some}
-use Rattle.s7_rig.specs.Exchanges.{AsksFor, control_heard, user_heard, request_of}
+use Rattle.s7_rig.specs.Exchanges.{AsksFor, control_heard, user_heard, upload_heard, request_of}
 use Rattle.s7_rig.proofs.ShapeLemmas.{SameShape}
 
 -- ---- status lists
@@ -103,6 +103,15 @@ brought_by false more octet error octets good = absurd (cc)
 pub user_good : (pdu octet : ℕ) (reply : Said) → reply.error ≡ 0 → telegram_refusal (user_heard pdu octet reply) ≡ None
 user_good pdu octet reply good =
     brought_by (eqb reply.error 0) _ octet reply.error _ (eq-eqb reply.error 0 good)
+
+started_by : (b : Bool) (id size error : ℕ) → b ≡ true
+    → telegram_refusal (cond b (uploads id size) (refuses error)) ≡ None
+started_by true id size error good = refl
+started_by false id size error good = absurd (cc)
+
+-- the start of an upload isn't refused
+pub start_good : (id : ℕ) (reply : Said) → reply.error ≡ 0 → telegram_refusal (upload_heard id reply) ≡ None
+start_good id reply good = started_by (eqb reply.error 0) id _ reply.error (eq-eqb reply.error 0 good)
 
 -- a control that was done isn't refused
 pub control_good : (c : Control) (function : ℕ) (reply : Said) → reply ≡ controlled function 0

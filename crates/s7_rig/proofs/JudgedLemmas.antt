@@ -18,6 +18,7 @@ use Rattle.s7_item.specs.Sizes.{answer_size}
 use Rattle.s7_item.proofs.ItemLaws.{reads_back}
 use Rattle.s7_plant.specs.declared.request.Request.TheVariants.{Read}
 use Rattle.s7_client.specs.Question.{Question, negotiates, reads, writes, controls, asks, asks_further, kind_of, params_of, body_of, message_octets, question_octets}
+use Rattle.s7_client.specs.Question.{starts_upload, slices_upload, ends_upload}
 use Rattle.s7_session.specs.LinkState.{LinkState}
 use Rattle.s7_session.specs.Judgement.{Judgement, own, judge, is_request, kinds, asks_plainly, answer_octets, sequence_of, headed, function_at, pdu_limit, read, negotiation, negotiated}
 use Rattle.s7_session.specs.Events.{is_s7}
@@ -113,6 +114,9 @@ question_asks (writes items octets) = refl
 question_asks (controls control) = refl
 question_asks (asks subject octets) = refl
 question_asks (asks_further subject octet so_far) = refl
+question_asks (starts_upload name) = refl
+question_asks (slices_upload id size so_far) = refl
+question_asks (ends_upload id) = refl
 
 pub question_sequence : (sequence : ℕ) (question : Question)
     → sequence_of (question_octets sequence question) ≡ sequence

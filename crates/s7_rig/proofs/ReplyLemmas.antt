@@ -13,6 +13,7 @@ use Rattle.s7_plant.specs.State.{State}
 use Rattle.s7_wire.specs.Bounds.{message_limit}
 use Rattle.s7_wire.specs.Sent.{sent_message, sent_messages}
 use Rattle.s7_client.specs.Question.{Question, negotiates, reads, writes, controls, asks, asks_further, question_octets}
+use Rattle.s7_client.specs.Question.{starts_upload, slices_upload, ends_upload}
 use Rattle.s7_client.specs.Answer.{refuses, tells, notes, answer_of}
 use Rattle.s7_client.proofs.FlightLemmas.{same_some}
 use Rattle.s7_session.specs.Verdict.{Verdict, Entered, Full, ClockFailed, NoMemory}
@@ -101,6 +102,9 @@ refusal_ends link (writes items octets) error = tt
 refusal_ends link (controls control) error = tt
 refusal_ends link (asks subject octets) error = tt
 refusal_ends link (asks_further subject octet so_far) error = tt
+refusal_ends link (starts_upload name) error = tt
+refusal_ends link (slices_upload id size so_far) error = tt
+refusal_ends link (ends_upload id) error = tt
 
 -- a refusal is heard under the question's sequence
 pub refused_as : (all : List Verdict) (link : LinkState) (q : Question) (s error : ℕ) (new : List (Ask × Said))

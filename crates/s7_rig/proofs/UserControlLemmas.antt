@@ -21,14 +21,16 @@ use Rattle.s7_session.specs.Judgement.{reply_octets, plainly}
 use Rattle.s7_session.specs.Verdict.{Verdict}
 use Rattle.s7_rig.specs.Exchanges.{control_heard, is_controlled, request_of}
 use Rattle.s7_rig.proofs.AnsweredLemmas.{answer_is_heard, refusal_is_heard}
+use Rattle.s7_rig.proofs.DeleteLemmas.{deletion}
 use Rattle.s7_rig.proofs.ReplyLemmas.{IsAskedWell}
 
 -- ---- the replies of a plant
 
--- A reply to a control with this function: a status, or that a right is wanted.
+-- A reply to a control with this function: a status, that a right is wanted, or that there is no such block.
 data IsOfControl (function : ℕ) (reply : Said) : Type 0 where
   is_done : (status : ℕ) → reply ≡ controlled function status → IsOfControl function reply
   is_barred_from : reply ≡ refused 0xD241 → IsOfControl function reply
+  is_lacking : reply ≡ refused 0xD209 → IsOfControl function reply
 
 barred_by : (barred : Bool) (function status : ℕ)
     → IsOfControl function (cond barred (refused 0xD241) (controlled function status))
@@ -38,6 +40,12 @@ barred_by false function status = is_done status refl
 guarded_by : (state : State) (right : Bool) (function status : ℕ)
     → IsOfControl function (guarded state right (controlled function status))
 guarded_by state right function status = barred_by (is_barred state right) function status
+
+deleted_by : (barred found : Bool) (function : ℕ)
+    → IsOfControl function (cond barred (refused 0xD241) (cond found (controlled function 0x00) (refused 0xD209)))
+deleted_by true found function = is_barred_from refl
+deleted_by false true function = is_done 0x00 refl
+deleted_by false false function = is_lacking refl
 
 -- what some state replies to what a control asks
 asks_control : (c : Control) (request asks : Request) (state : State) (right : Bool) → request_of c ≡ Some request
@@ -62,7 +70,9 @@ reply_of_control control.Compress request state right asked =
 reply_of_control control.CopyRam request state right asked =
     asks_control control.CopyRam request plain.CopyRam state right asked refl (guarded_by state right 0x28 0x00)
 reply_of_control (control.Insert kind number) request state right asked = absurd (cc)
-reply_of_control (control.Delete kind number) request state right asked = absurd (cc)
+reply_of_control (control.Delete kind number) request state right asked =
+    subst (λ r. IsOfControl 0x28 (plant.answer state right r)) (deletion kind number request asked).is
+    (deleted_by (is_barred state right) _ 0x28)
 
 -- ---- what is heard of them
 
@@ -82,6 +92,13 @@ done_heard c s status low =
           ∙ ap (λ t. cond (t && true) (Some (stands status)) None) (eq-eqb (function_of c) (function_of c) refl);
     }
 
+lacking_heard : (c : Control) (s : ℕ) → s < 65536 → IsControlHeard c s (refused 0xD209)
+lacking_heard c s low = record {
+  least = omega arith;
+  most = omega arith;
+  is = refusal_is_heard (controls c) s 0xD209 (omega (arith, low)) (omega arith);
+}
+
 barred_heard : (c : Control) (s : ℕ) → s < 65536 → IsControlHeard c s (refused 0xD241)
 barred_heard c s low = record {
   least = omega arith;
@@ -93,6 +110,7 @@ heard_by_kind : (c : Control) (s : ℕ) (reply : Said) → s < 65536 → IsOfCon
     → IsControlHeard c s reply
 heard_by_kind c s reply low (is_done status is) = subst (IsControlHeard c s) (sym is) (done_heard c s status low)
 heard_by_kind c s reply low (is_barred_from is) = subst (IsControlHeard c s) (sym is) (barred_heard c s low)
+heard_by_kind c s reply low (is_lacking is) = subst (IsControlHeard c s) (sym is) (lacking_heard c s low)
 
 -- whatever state gives the reply to a control, it is heard
 pub control_well : (all : List Verdict) (link : LinkState) (s : ℕ) (c : Control) (request : Request) → s < 65536

@@ -211,7 +211,7 @@ length-slice s octet pdu subject rest least most =
 
 -- ---- what is held
 
-joined : (so_far rest : List ℕ) (room : ℕ) → (so_far ++ take room rest) ++ drop room rest ≡ so_far ++ rest
+pub joined : (so_far rest : List ℕ) (room : ℕ) → (so_far ++ take room rest) ++ drop room rest ≡ so_far ++ rest
 joined so_far rest room =
     append_assoc so_far (take room rest) (drop room rest) ∙ ap (λ xs. so_far ++ xs) (take-append-drop room rest)
 

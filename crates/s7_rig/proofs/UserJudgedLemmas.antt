@@ -11,7 +11,7 @@ use Rattle.s7_header.specs.UserParams.{user_spelling}
 use Rattle.s7_header.proofs.UserLemmas.{spelled_user}
 use Rattle.s7_block.specs.declared.block.BlockName.{BlockName}
 use Rattle.s7_block.specs.Kinds.{head_code}
-use Rattle.s7_block.specs.Names.{named}
+use Rattle.s7_block.specs.Names.{is_name, named}
 use Rattle.s7_clock.specs.Control.{control_of, control_spelling, is_control}
 use Rattle.s7_clock.specs.Moment.{moment_in}
 use Rattle.s7_clock.specs.declared.control.Control.{Control}
@@ -28,17 +28,18 @@ use Rattle.s7_client.specs.UserData.{group_of, subfunction_of, request_params, f
 use Rattle.s7_client.specs.Question.{Question, controls, asks, asks_further, kind_of, params_of, body_of}
 use Rattle.s7_client.specs.Question.{question_octets}
 use Rattle.s7_client.specs.Dialogue.{kind_octets}
-use Rattle.s7_session.specs.Errors.{WRONG_PASSWORD, NO_RIGHT}
+use Rattle.s7_session.specs.Errors.{WRONG_PASSWORD, NO_RIGHT, error_of}
 use Rattle.s7_session.specs.Judgement as session
 use Rattle.s7_session.specs.Judgement.{Judgement, judge, own, kinds, job, asks_plainly, asks_user, control_in}
 use Rattle.s7_session.specs.Judgement.{function, function_at, group, user_at, slice_octets, slices_left, further_of}
 use Rattle.s7_session.specs.Judgement.{further, list_read, clock_set, clock_set_to, user_octets, user_answer}
 use Rattle.s7_session.specs.Judgement.{group_of_answer, secured, password_set, password_cleared}
-use Rattle.s7_session.specs.Judgement.{block_told, informed}
+use Rattle.s7_session.specs.Judgement.{block_told, informed, refuse}
 use Rattle.s7_session.specs.LinkState.{LinkState, next_octet}
 use Rattle.s7_session.specs.Passwords.{decoded, no_data, set_error, clear_error}
 use Rattle.s7_rig.specs.Exchanges.{HoldsRest, request_of}
-use Rattle.s7_rig.proofs.JudgedLemmas.{judged_question, chosen, within}
+use Rattle.s7_rig.proofs.DeleteLemmas.{deletion, delete_read, delete_unread, unstored}
+use Rattle.s7_rig.proofs.JudgedLemmas.{judged_question, chosen, not_refused, within}
 
 -- a telegram under a sequence, on a link on which this PDU was granted, that has room in it
 pub record IsSent (link : LinkState) (pdu s : ℕ) (q : Question) : Type 0 where
@@ -47,14 +48,14 @@ pub record IsSent (link : LinkState) (pdu s : ℕ) (q : Question) : Type 0 where
   pub most : pdu ≤ most_pdu
   pub fits : length (question_octets s q) ≤ pdu
 
-judged_sent : (link : LinkState) (pdu s : ℕ) (q : Question) → IsSent link pdu s q
+pub judged_sent : (link : LinkState) (pdu s : ℕ) (q : Question) → IsSent link pdu s q
     → judge link (question_octets s q) ≡ kinds link (kind_of q) s (params_of q) (body_of q)
 judged_sent link pdu s q sent =
     judged_question link s q sent.low (omega (arith, sent.most, sent.fits)) (within link pdu _ sent.granted sent.fits)
 
 -- ---- controls
 
--- what a control asks that names no block
+-- what a control asks
 plainly_asked : (link : LinkState) (s : ℕ) (c : Control) (request : Request) → request_of c ≡ Some request
     → session.control_asked link s c ≡ asks_plainly link s request
 plainly_asked link s control.Start request asked = ap (asks_plainly link s) (same_some _ request asked)
@@ -63,7 +64,9 @@ plainly_asked link s control.Stop request asked = ap (asks_plainly link s) (same
 plainly_asked link s control.Compress request asked = ap (asks_plainly link s) (same_some _ request asked)
 plainly_asked link s control.CopyRam request asked = ap (asks_plainly link s) (same_some _ request asked)
 plainly_asked link s (control.Insert kind number) request asked = absurd (cc)
-plainly_asked link s (control.Delete kind number) request asked = absurd (cc)
+plainly_asked link s (control.Delete kind number) request asked =
+    let d = deletion kind number request asked in
+    chosen _ _ _ d.stored ∙ ap (asks_plainly link s) d.is
 
 asked_by : (link : LinkState) (pdu s code : ℕ) (c : Control) (request : Request) → is_control c ≡ true
     → function link pdu code s (control_spelling c) [] ≡ control_in link s [] (control_of (control_spelling c))
@@ -86,7 +89,9 @@ control_asked link pdu s control.Compress request granted asked =
 control_asked link pdu s control.CopyRam request granted asked =
     asked_by link pdu s 0x28 control.CopyRam request refl refl granted asked
 control_asked link pdu s (control.Insert kind number) request granted asked = absurd (cc)
-control_asked link pdu s (control.Delete kind number) request granted asked = absurd (cc)
+control_asked link pdu s (control.Delete kind number) request granted asked =
+    asked_by link pdu s 0x28 (control.Delete kind number) request (deletion kind number request asked).read refl granted
+    asked
 
 -- a control that the plant serves is asked
 pub judged_control : (link : LinkState) (pdu s : ℕ) (c : Control) (request : Request)
@@ -94,6 +99,37 @@ pub judged_control : (link : LinkState) (pdu s : ℕ) (c : Control) (request : R
     → judge link (question_octets s (controls c)) ≡ asks_plainly link s request
 judged_control link pdu s c request sent asked =
     judged_sent link pdu s (controls c) sent ∙ control_asked link pdu s c request sent.granted asked
+
+-- it is refused with this error word
+abbrev pub RefusesWith : Judgement → ℕ → Type 0
+RefusesWith j error = (refusal : _) × (j ≡ refuse refusal) × (error_of refusal ≡ error)
+
+-- a deletion that the plant isn't asked for is refused, and can't be read where there can be no such block
+barred_asked : (link : LinkState) (s kind number : ℕ) (name : Bool) → is_name kind number ≡ name
+    → request_of (control.Delete kind number) ≡ None
+    → RefusesWith (control_in link s [] (control_of (control_spelling (control.Delete kind number))))
+    (cond name 0x8F03 0x8404)
+barred_asked link s kind number true is none = (
+  _,
+  ap (control_in link s []) (control_again (control.Delete kind number) (delete_read kind number is))
+      ∙ not_refused _ _ _ (unstored kind number none is),
+  refl,
+)
+barred_asked link s kind number false is none =
+    (_, ap (control_in link s []) (delete_unread kind number is), refl)
+
+pub judged_barred : (link : LinkState) (pdu s kind number : ℕ)
+    → IsSent link pdu s (controls (control.Delete kind number)) → request_of (control.Delete kind number) ≡ None
+    → RefusesWith (judge link (question_octets s (controls (control.Delete kind number))))
+    (cond (is_name kind number) 0x8F03 0x8404)
+judged_barred link pdu s kind number sent none =
+    let c = control.Delete kind number in
+    let barred = barred_asked link s kind number (is_name kind number) refl none in (
+      barred.0,
+      judged_sent link pdu s (controls c) sent
+          ∙ (ap (λ g. function_at link g 0x28 s (control_spelling c) []) sent.granted ∙ barred.1),
+      barred.2,
+    )
 
 -- ---- user data
 

@@ -10,7 +10,6 @@ use Rattle.s7_block.specs.declared.block.BlockName.{BlockName}
 use Rattle.s7_block.specs.Kinds.{head_code}
 use Rattle.s7_block.specs.Names.{named}
 use Rattle.s7_clock.specs.Moment.{moment_in}
-use Rattle.s7_clock.specs.declared.control.Control.{Control}
 use Rattle.s7_plant.specs.declared.request.Request.{Request}
 use Rattle.s7_plant.specs.declared.request.Request.TheVariants as plain
 use Rattle.s7_plant.specs.declared.request.Request.TheVariants.{Read}
@@ -23,34 +22,34 @@ use Rattle.s7_client.specs.declared.subject.Subject.TheVariants.{PasswordClearin
 use Rattle.s7_client.specs.UserData.{group_of, subfunction_of, goes_on_with, comes_in_pieces}
 use Rattle.s7_client.specs.Dialogue.{list_octets, kind_octets}
 use Rattle.s7_client.specs.Question.{Question, negotiates, reads, writes, controls, asks, asks_further, question_octets}
+use Rattle.s7_client.specs.Question.{starts_upload, slices_upload, ends_upload}
 use Rattle.s7_client.specs.Answer.{brings, refuses, answer_of}
 use Rattle.s7_session.specs.Events.{lives}
 use Rattle.s7_session.specs.LinkState.{LinkState, next_octet}
 use Rattle.s7_session.specs.Owed.{past}
-use Rattle.s7_session.specs.Judgement.{Asking, judge, ask, plainly, by_user, asks_user, user_octets, secured}
-use Rattle.s7_session.specs.Judgement.{slice_room, slice_octets, slices_left, informed, refusal_octets, sequence_of}
+use Rattle.s7_session.specs.Judgement.{judge, plainly, by_user, asks_user, user_octets, secured}
+use Rattle.s7_session.specs.Judgement.{slice_room, slice_octets, slices_left, informed}
 use Rattle.s7_session.specs.Passwords.{no_data}
 use Rattle.s7_session.specs.Verdict.{Verdict}
 use Rattle.s7_rig.specs.Settled.{Settled}
 use Rattle.s7_rig.specs.Written.{own_write}
 use Rattle.s7_rig.specs.Exchanges.{IsAskable, AsksFor, IsSecurity, IsReadyFor, HoldsRest, GoesOn, security_heard}
-use Rattle.s7_rig.specs.Exchanges.{NamesNone, is_secured, is_unnamed, is_further, Replies, request_of}
+use Rattle.s7_rig.specs.Exchanges.{NamesNone, is_secured, is_unnamed, is_further, Replies, request_of, uploaded_of}
 use Rattle.s7_rig.specs.Plants.{IsStateFor}
-use Rattle.s7_rig.proofs.ServedLemmas.{KeepsGrant}
-use Rattle.s7_rig.proofs.QuestionLemmas.{served_question, served_by_link, served_refusal}
-use Rattle.s7_rig.proofs.UserControlLemmas.{control_well}
+use Rattle.s7_rig.proofs.ControlReplyLemmas.{control_replied}
+use Rattle.s7_rig.proofs.UploadReplyLemmas.{start_replied, slice_replied, end_replied}
+use Rattle.s7_rig.proofs.RepliedLemmas.{IsServed, is_sent, asking_replied, link_replied, refused_replied}
 use Rattle.s7_rig.proofs.UserFitLemmas.{list_fits, state_fits, clock_fits, setting_fits}
 use Rattle.s7_rig.proofs.BlockFitLemmas.{counts_fit, kind_fits, head_fits}
 use Rattle.s7_rig.proofs.UserHeardLemmas.{IsRest, told_params, length-told, length-slice, error_is_heard}
 use Rattle.s7_rig.proofs.UserHeardLemmas.{none_is_heard, slice_is_heard, rest_is_held}
-use Rattle.s7_rig.proofs.UserJudgedLemmas.{IsSent, IsSecured, judged_control, judged_list, judged_state, judged_clock}
+use Rattle.s7_rig.proofs.UserJudgedLemmas.{IsSecured, judged_list, judged_state, judged_clock}
 use Rattle.s7_rig.proofs.UserJudgedLemmas.{judged_setting, judged_password, judged_clearing, judged_further}
 use Rattle.s7_rig.proofs.UserJudgedLemmas.{judged_counts, judged_kind, judged_head}
 use Rattle.s7_rig.proofs.UserServedLemmas.{IsFit, user_well}
 use Rattle.s7_rig.proofs.JudgedLemmas.{judged_read}
 use Rattle.s7_rig.proofs.AsksLemmas.{write_is_asked}
-use Rattle.s7_rig.proofs.ReplyLemmas.{IsGood, IsAskedWell, asked_replies, own_replies, read_well, write_well}
-use Rattle.s7_rig.proofs.ReplyLemmas.{refused_as}
+use Rattle.s7_rig.proofs.ReplyLemmas.{IsGood, read_well, write_well}
 
 -- ---- passwords
 
@@ -108,28 +107,6 @@ further_good all link pdu s octet subject so_far rest low least most r sliced =
 
 -- ---- each question
 
--- The question is sent on a link between two messages that lives after it.
-record IsServed (first : LinkState) (b : List ℕ) (js vs : List Verdict) (pdu s : ℕ) (q : Question) : Type 0 where
-  settled : Settled first b js (Some pdu)
-  low : s < 65536
-  least : 64 ≤ pdu
-  most : pdu ≤ most_pdu
-  fits : length (question_octets s q) ≤ pdu
-  live : (past first (b ++ sent_message 1024 (question_octets s q)) (js ++ vs)).standing ≡ lives
-
-is_sent : {first : LinkState} (b : List ℕ) (js vs : List Verdict) (pdu s : ℕ) (q : Question)
-    → IsServed first b js vs pdu s q → IsSent (past first b js).link pdu s q
-is_sent b js vs pdu s q served =
-    record { granted = served.settled.grants; low = served.low; most = served.most; fits = served.fits }
-
--- one that asks the plant
-asking_replied : {first : LinkState} (b : List ℕ) (js vs : List Verdict) (pdu s : ℕ) (q : Question) (asking : Asking)
-    → IsServed first b js vs pdu s q → judge (past first b js).link (question_octets s q) ≡ ask asking
-    → KeepsGrant (past first b js).link asking → IsAskedWell (js ++ vs) q s asking → Replies first b js vs pdu q s
-asking_replied b js vs pdu s q asking served judged keeps well =
-    asked_replies b js vs pdu s q asking served.low well
-    (served_question b js vs pdu s q asking served.settled served.most served.fits judged keeps served.live)
-
 read_replied : {first : LinkState} (b : List ℕ) (js vs : List Verdict) (pdu s : ℕ) (items : List Item)
     → IsServed first b js vs pdu s (reads items) → IsAskable pdu (reads items)
     → Replies first b js vs pdu (reads items) s
@@ -148,16 +125,6 @@ write_replied {first} b js vs pdu s items octets served can =
     (write_is_asked link pdu s items octets served.settled.grants served.low served.most served.fits can.0.0 can.0.1
     can.1) (λ reply. refl)
     (write_well (js ++ vs) link s items octets served.low can.0.1 can.1 (omega (arith, served.most, served.fits)))
-
-control_by : {first : LinkState} (b : List ℕ) (js vs : List Verdict) (pdu s : ℕ) (c : Control)
-    (request : Option Request) → IsServed first b js vs pdu s (controls c) → request_of c ≡ request → IsSome request
-    → Replies first b js vs pdu (controls c) s
-control_by b js vs pdu s c None served is some = absurd (cc)
-control_by {first} b js vs pdu s c (Some request) served is some =
-    let link = (past first b js).link in
-    asking_replied b js vs pdu s (controls c) (plainly link s request) served
-    (judged_control link pdu s c request (is_sent b js vs pdu s (controls c) served) is) (λ reply. refl)
-    (control_well (js ++ vs) link s c request served.low is)
 
 -- user data that asks the plant
 user_replied : {first : LinkState} (b : List ℕ) (js vs : List Verdict) (pdu s : ℕ) (subject : Subject)
@@ -199,18 +166,9 @@ unnamed_replied : {first : LinkState} (b : List ℕ) (js vs : List Verdict) (pdu
     (octets : List ℕ) → IsServed first b js vs pdu s (asks subject octets) → NamesNone subject octets
     → judge (past first b js).link (question_octets s (asks subject octets)) ≡ informed (past first b js).link pdu s None
     → Replies first b js vs pdu (asks subject octets) s
-unnamed_replied {first} b js vs pdu s subject octets served none judged =
-    let q = asks subject octets in
-    let link = (past first b js).link in
-    own_replies b js vs pdu s q (refusal_octets (sequence_of (question_octets s q)) 0x8404) link
-    (record {
-      least = omega arith;
-      most = omega arith;
-      heard =
-          refused_as (js ++ vs) link q s 0x8404 [] (is_unnamed subject octets refl none refl refl) served.low
-          (omega arith);
-    })
-    (served_refusal b js pdu s q _ served.settled served.most served.fits judged)
+unnamed_replied b js vs pdu s subject octets served none judged =
+    refused_replied b js vs pdu s 0x8404 (asks subject octets) served (_, judged, refl) (omega arith)
+    (is_unnamed subject octets refl none refl refl)
 
 -- blocks of a kind
 kind_replied : {first : LinkState} (b : List ℕ) (js vs : List Verdict) (pdu s kind : ℕ) (there : Bool)
@@ -252,10 +210,8 @@ secured_replied {first} b js vs pdu s subject octets served security whole of =
     let octet = next_octet link.user_sequence in
     let after = secured link of.right in
     let message = user_octets s (told_params subject octet 0 of.error) no_data in
-    own_replies b js vs pdu s (asks subject octets) message after
+    link_replied b js vs pdu s (asks subject octets) message after served of.is served.settled.grants
     (secured_good (js ++ vs) after s octet of.error subject octets served.low of.small security whole)
-    (served_by_link b js pdu s (asks subject octets) message after served.settled served.most served.fits of.is
-    served.settled.grants)
 
 further_replied : {first : LinkState} (b : List ℕ) (js vs : List Verdict) (pdu s octet : ℕ) (subject : Subject)
     (so_far : List ℕ) → IsServed first b js vs pdu s (asks_further subject octet so_far)
@@ -269,11 +225,10 @@ further_replied {first} b js vs pdu s octet subject so_far served pieces h =
     let f = subfunction_of subject in
     let after = record link { sliced = slices_left g f octet pdu rest } in
     let message = slice_octets s g f octet pdu rest in
-    own_replies b js vs pdu s q message after
+    link_replied b js vs pdu s q message after served
+    (judged_further link pdu s octet subject so_far (is_sent b js vs pdu s q served) pieces h) served.settled.grants
     (further_good (js ++ vs) after pdu s octet subject so_far rest served.low served.least served.most
     (record { whole = h.whole; most = h.most; short = inl pieces }) refl)
-    (served_by_link b js pdu s q message after served.settled served.most served.fits
-    (judged_further link pdu s octet subject so_far (is_sent b js vs pdu s q served) pieces h) served.settled.grants)
 
 served_replied : {first : LinkState} (b : List ℕ) (js vs : List Verdict) (pdu s : ℕ) (q : Question)
     → IsServed first b js vs pdu s q → IsAskable pdu q → IsReadyFor (past first b js).link q
@@ -283,7 +238,7 @@ served_replied b js vs pdu s (reads items) served can ready = read_replied b js 
 served_replied b js vs pdu s (writes items octets) served can ready =
     write_replied b js vs pdu s items octets served can
 served_replied b js vs pdu s (controls c) served can ready =
-    control_by b js vs pdu s c (request_of c) served refl can
+    control_replied b js vs pdu s c (request_of c) served can refl
 served_replied {first} b js vs pdu s (asks StatusList octets) served can ready =
     let id = number_at octets 0 in
     let index = number_at octets 2 in
@@ -318,6 +273,11 @@ served_replied {first} b js vs pdu s (asks PasswordClearing octets) served can r
     can)
 served_replied b js vs pdu s (asks_further subject octet so_far) served can ready =
     further_replied b js vs pdu s octet subject so_far served can ready
+served_replied b js vs pdu s (starts_upload name) served can ready =
+    start_replied b js vs pdu s name (uploaded_of name) served refl
+served_replied b js vs pdu s (slices_upload id size so_far) served can ready =
+    slice_replied b js vs pdu s id size so_far served ready
+served_replied b js vs pdu s (ends_upload id) served can ready = end_replied b js vs pdu s id served ready
 
 -- A question that can be asked has its reply, where the link lives after it.
 pub replied : {first : LinkState} (b : List ℕ) (js vs : List Verdict) (pdu : ℕ) (q : Question) (s : ℕ)

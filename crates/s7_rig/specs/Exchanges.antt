@@ -1,6 +1,6 @@
 -- The questions of a job on a connected client, and what a session answers to each.
-use Rattle.std.specs.Prelude.{◌≡◌, ◌⊎◌, ℕ, ◌<◌, ◌≤◌, Bool, true, false, ◌==◌, nat_lt, if◌then◌else◌, List, [], ◌∷◌}
-use Rattle.std.specs.Prelude.{◌++◌, length, take, slice_index, map, IsSome, is_some, Option, None, Some}
+use Rattle.std.specs.Prelude.{◌≡◌, ◌⊎◌, ℕ, ◌<◌, ◌≤◌, Bool, true, false, ◌==◌, ◌&&◌, nat_lt, if◌then◌else◌, List, []}
+use Rattle.std.specs.Prelude.{◌∷◌, ◌++◌, length, take, slice_index, map, IsSome, is_some, Option, None, Some}
 use Rattle.std.specs.List.{AllByRecursion, flat_map}
 use Rattle.s7_item.specs.declared.item.Item.{Item}
 use Rattle.s7_item.specs.Sizes.{answer_size}
@@ -19,14 +19,16 @@ use Rattle.s7_clock.specs.declared.control.Control.{Control}
 use Rattle.s7_clock.specs.declared.control.Control.TheVariants as control
 use Rattle.s7_clock.specs.Moment.{moment_in}
 use Rattle.s7_block.specs.declared.block.BlockName.{BlockName}
-use Rattle.s7_block.specs.Kinds.{head_code}
-use Rattle.s7_block.specs.Names.{named}
+use Rattle.s7_block.specs.Kinds.{head_code, is_stored_kind}
+use Rattle.s7_block.specs.Names.{is_name, name_octets, named}
+use Rattle.s7_block.specs.Sides.{is_held}
 use Rattle.s7_client.specs.declared.subject.Subject.{Subject}
 use Rattle.s7_client.specs.declared.subject.Subject.TheVariants.{StatusList, RunState, Clock, ClockSetting, Password}
 use Rattle.s7_client.specs.declared.subject.Subject.TheVariants.{PasswordClearing, BlockCounts, BlocksOfKind, BlockHead}
 use Rattle.s7_client.specs.UserData.{group_of, subfunction_of, comes_in_pieces, is_whole}
 use Rattle.s7_client.specs.Question.{Question, negotiates, reads, writes, controls, asks, asks_further, question_octets}
-use Rattle.s7_client.specs.Answer.{Answer, refuses, tells, notes, stands, brings, answer_of}
+use Rattle.s7_client.specs.Question.{starts_upload, slices_upload, ends_upload}
+use Rattle.s7_client.specs.Answer.{Answer, refuses, tells, notes, stands, brings, uploads, slices, uploaded, answer_of}
 use Rattle.s7_client.specs.Flight.{Row, answers_of}
 use Rattle.s7_client.specs.Dialogue.{End, Conduct, list_octets, kind_octets}
 use Rattle.s7_client.specs.Course.{Origin, conduct_of, next_question}
@@ -57,7 +59,8 @@ CanGoWith ClockSetting octets = (length octets ≡ 10) × IsSome (moment_in octe
 CanGoWith Password octets = length octets ≡ 8
 CanGoWith PasswordClearing octets = octets ≡ []
 
--- what a control asks that names no block
+-- what a control asks of the plant: of blocks only those of a kind that is stored and with a number of two octets are
+-- deleted, and none is inserted by a question alone
 abbrev pub request_of : Control → Option Request
 request_of control.Start = Some (plain.Start false)
 request_of control.ColdStart = Some (plain.Start true)
@@ -65,17 +68,27 @@ request_of control.Stop = Some plain.Stop
 request_of control.Compress = Some plain.Compress
 request_of control.CopyRam = Some plain.CopyRam
 request_of (control.Insert kind number) = None
-request_of (control.Delete kind number) = None
+request_of (control.Delete kind number) =
+    if is_stored_kind kind && nat_lt number 65536 then Some (plain.Delete kind number) else None
 
--- A question that reads items, whose answer has room in the PDU, or writes items of known words; a control that the
--- plant is asked for; user data with its octets; or further octets of an answer that comes in pieces.
+-- a control that inserts no block
+abbrev pub CanCall : Control → Type 0
+CanCall (control.Insert kind number) = ⊥
+CanCall _ = Unit {0}
+
+-- A question that reads items, whose answer has room in the PDU, or writes items of known words; a control; user data
+-- with its octets; further octets of an answer that comes in pieces; or the start of an upload, a slice or the end of
+-- one.
 abbrev pub IsAskable : ℕ → Question → Type 0
 IsAskable pdu (negotiates n) = ⊥
 IsAskable pdu (reads items) = AreSome items × (answer_size items ≤ pdu)
 IsAskable pdu (writes items octets) = AreSome items × AreKnown items
-IsAskable pdu (controls control) = IsSome (request_of control)
+IsAskable pdu (controls control) = CanCall control
 IsAskable pdu (asks subject octets) = CanGoWith subject octets
 IsAskable pdu (asks_further subject octet so_far) = comes_in_pieces subject ≡ true
+IsAskable pdu (starts_upload name) = Unit {0}
+IsAskable pdu (slices_upload id size so_far) = Unit {0}
+IsAskable pdu (ends_upload id) = Unit {0}
 
 -- ---- further octets
 
@@ -90,19 +103,38 @@ pub record HoldsRest (link : LinkState) (subject : Subject) (octet : ℕ) (so_fa
   pub whole : is_whole subject (so_far ++ held.rest) ≡ true
   pub most : length (so_far ++ held.rest) ≤ 8448
 
--- what a question wants of the link: further octets are held
+-- The link holds the octets behind these of the upload of this id: together they are as many as was stated, and no more
+-- than an upload has.
+pub record HoldsImage (link : LinkState) (id size : ℕ) (so_far : List ℕ) : Type 0 where
+  pub rest : List ℕ
+  pub is : link.upload ≡ Some (record { id = id; left = Some rest })
+  pub whole : length (so_far ++ rest) ≡ size
+  pub most : size ≤ 65572
+
+-- what a question wants of the link: further octets are held, or the upload that it names
 abbrev pub IsReadyFor : LinkState → Question → Type 0
 IsReadyFor link (asks_further subject octet so_far) = HoldsRest link subject octet so_far
+IsReadyFor link (slices_upload id size so_far) = HoldsImage link id size so_far
+IsReadyFor link (ends_upload id) = is_held link.upload id ≡ true
 IsReadyFor link _ = Unit {0}
 
 -- where more octets follow, they are held
 abbrev pub HoldsMore : Bool → LinkState → Subject → ℕ → List ℕ → Type 0
 HoldsMore more link subject octet so_far = more ≡ true → HoldsRest link subject octet so_far
 
+-- where more slices follow, their octets are held, and else the upload is, until its end
+abbrev pub HoldsUpload : Bool → LinkState → ℕ → ℕ → List ℕ → Type 0
+HoldsUpload true link id size so_far = HoldsImage link id size so_far
+HoldsUpload false link id size so_far = is_held link.upload id ≡ true
+
+-- what is left on the link behind an answer: the octets that follow it. No slice answers an end.
 abbrev pub GoesOn : LinkState → Question → Answer → Type 0
 GoesOn link (asks subject octets) (brings octet more piece) = HoldsMore more link subject octet piece
 GoesOn link (asks_further subject asked so_far) (brings octet more piece) =
     HoldsMore more link subject octet (so_far ++ piece)
+GoesOn link (starts_upload name) (uploads id size) = HoldsImage link id size []
+GoesOn link (slices_upload id size so_far) (slices more octets) = HoldsUpload more link id size (so_far ++ octets)
+GoesOn link (ends_upload id) (slices more octets) = ⊥
 GoesOn link _ _ = Unit {0}
 
 -- ---- what is told
@@ -143,6 +175,15 @@ user_heard pdu octet reply =
     then brings octet (nat_lt (slice_room pdu) (length reply.body)) (take (slice_room pdu) reply.body)
     else refuses reply.error
 
+-- the block whose upload is asked for, as the octets of its name are read: itself, where it has a kind that there is
+-- and a number of two octets
+abbrev pub uploaded_of : BlockName → Option BlockName
+uploaded_of name = named (name_octets name 0x41) 0x41
+
+-- what is heard of a reply to the start of an upload, under this id
+abbrev pub upload_heard : ℕ → Said → Answer
+upload_heard id reply = if reply.error == 0 then uploads id (length reply.body) else refuses reply.error
+
 abbrev pub security_heard : ℕ → ℕ → Answer
 security_heard octet error = if error == 0 then brings octet false [] else refuses error
 
@@ -152,9 +193,10 @@ AnyUndone verdicts = AnyFull verdicts ⊎ (0 < clock_failures verdicts)
 
 -- What a question was answered, and what was entered for it. It is refused where one of the verdicts is that the
 -- history was full or the clock failed. Otherwise a request was entered with a right or without: a read tells what the
--- memory has of the state that gave the reply, a write notes the codes that this memory gives, and of control and user
--- data the reply is told. Passwords and further octets enter nothing, and neither does a name of no block, which is
--- refused.
+-- memory has of the state that gave the reply, a write notes the codes that this memory gives, and of control, of user
+-- data and of the start of an upload the reply is told. Passwords, further octets, slices and the end of an upload
+-- enter nothing, and neither does a name of no block, which is refused, or a block that isn't deleted, since its kind
+-- isn't stored or its number is too large.
 pub data HasTold (verdicts : List Verdict) (question : Question) (answer : Answer) (new : List (Ask × Said))
     : Type 0 where
   is_refused : (error : ℕ) → AnyUndone verdicts → answer ≡ refuses error → HasTold verdicts question answer new
@@ -177,6 +219,19 @@ pub data HasTold (verdicts : List Verdict) (question : Question) (answer : Answe
       → IsSecurity subject → new ≡ [] → answer ≡ security_heard octet error → HasTold verdicts question answer new
   is_unnamed : (subject : Subject) (octets : List ℕ) → question ≡ asks subject octets → NamesNone subject octets
       → new ≡ [] → answer ≡ refuses 0x8404 → HasTold verdicts question answer new
+  is_barred : (kind number : ℕ) → question ≡ controls (control.Delete kind number)
+      → request_of (control.Delete kind number) ≡ None → new ≡ []
+      → answer ≡ refuses (if is_name kind number then 0x8F03 else 0x8404)
+      → HasTold verdicts question answer new
+  is_started : (name block : BlockName) (right : Bool) (reply : Said) (id : ℕ) → question ≡ starts_upload name
+      → uploaded_of name ≡ Some block → new ≡ (asked right (plain.StartUpload block.kind block.number), reply) ∷ []
+      → answer ≡ upload_heard id reply → HasTold verdicts question answer new
+  is_no_upload : (name : BlockName) → question ≡ starts_upload name → uploaded_of name ≡ None → new ≡ []
+      → answer ≡ refuses 0x8404 → HasTold verdicts question answer new
+  is_sliced : (id size : ℕ) (so_far octets : List ℕ) (more : Bool) → question ≡ slices_upload id size so_far
+      → new ≡ [] → answer ≡ slices more octets → HasTold verdicts question answer new
+  is_ended : (id : ℕ) → question ≡ ends_upload id → new ≡ [] → answer ≡ uploaded
+      → HasTold verdicts question answer new
   is_further : (subject : Subject) (octet : ℕ) (so_far piece : List ℕ) (more : Bool)
       → question ≡ asks_further subject octet so_far → new ≡ [] → answer ≡ brings octet more piece
       → HasTold verdicts question answer new

@@ -14,9 +14,9 @@ pub fn rigs_are_formed()
 
 /// A law: a session that stands between two messages answers each question that a job of its client can ask, by one
 /// message, and the client hears it as an answer to that question. This holds whatever state gives the reply, of blocks
-/// whatever state of a plant, and where the history is full or the clock fails; a name of no block is refused. Where an
-/// answer in user data has more octets than a telegram takes, the link holds them, and further octets are answered from
-/// there.
+/// whatever state of a plant, and where the history is full or the clock fails; a name of no block is refused, and so is
+/// the deletion of a block that isn't stored. Where an answer in user data, or the image of a block, has more octets than
+/// a telegram takes, the link holds them, and further octets are answered from there; an upload is held until its end.
 pub fn questions_are_heard()
     ensures { QuestionsAreHeard }
 {}

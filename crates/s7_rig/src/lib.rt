@@ -15,6 +15,3 @@ pub use end::{RigClient, RigEnd};
 pub use laws::{passwords_are_read, questions_are_heard, rigs_are_formed};
 pub use places::Places;
 pub use runs::{Schedule, run_rig};
-
-#[cfg(test)]
-mod tests;

@@ -4,6 +4,7 @@ use Rattle.std.specs.Prelude.{IfSome, codes}
 use Rattle.std.specs.List.{AllByRecursion, list_all}
 use Rattle.std.specs.Str.{bytes_eq}
 use Rattle.s7_item.specs.declared.item.Item.{Item}
+use Rattle.s7_block.specs.declared.block.BlockName.{BlockName}
 use Rattle.s7_client.specs.declared.job.Job.{Job}
 use Rattle.s7_client.specs.declared.job.Job.TheVariants as job
 use Rattle.s7_script.specs.Lines.{Text, lines}
@@ -11,7 +12,7 @@ use Rattle.s7_script.specs.Reading.{is_passed, next_line}
 use Rattle.hex.specs.Hex.{decode_of}
 use Rattle.s7_script.specs.Fields.{number_of}
 use Rattle.s7_script.specs.Moments.{moment_named}
-use Rattle.s7_script.specs.Script.{Written, parts, read_item, read_items, written_item, written_items, read_job, write_job, read_many_job, write_many_job, word_of, within, kind_named, list_of_job, with_number, info_job, two_octets_in, with_index, list_job, moment_job, set_clock_job, is_printable, password_job, plain_job, or_unknown, ended, job_named, job_of, at_line, line_jobs, script_lines, script, field_of, rest_of, ◌>>=◌}
+use Rattle.s7_script.specs.Script.{Written, parts, read_item, read_items, written_item, written_items, read_job, write_job, read_many_job, write_many_job, word_of, within, kind_named, list_of_job, block_named, info_job, upload_job, delete_job, two_octets_in, with_index, list_job, moment_job, set_clock_job, is_printable, password_job, plain_job, or_unknown, ended, job_named, job_of, at_line, line_jobs, script_lines, script, field_of, rest_of, ◌>>=◌}
 use Rattle.s7_script.specs.Laws.{KeepsLink}
 use Rattle.s7_script.specs.declared.script_list.ScriptLine.{ScriptLine}
 use Rattle.s7_script.specs.declared.script_fault.ScriptFault.{ScriptFault}
@@ -61,17 +62,14 @@ list_of_keeps (Some text) =
     after (word_of (kind_named (field_of text))) (λ of. ended (job.ListOf of) (rest_of text))
     (λ of. ended_keeps (job.ListOf of) (rest_of text) tt)
 
-number_keeps : (of : ℕ) (rest : Option Text) → IfOk (with_number of rest) KeepsLink
-number_keeps of None = tt
-number_keeps of (Some text) =
-    after (within 0 65535 (number_of (field_of text))) (λ number. ended (job.Info of number) (rest_of text))
-    (λ number. ended_keeps (job.Info of number) (rest_of text) tt)
-
 info_keeps : (rest : Option Text) → IfOk (info_job rest) KeepsLink
-info_keeps None = tt
-info_keeps (Some text) =
-    after (word_of (kind_named (field_of text))) (λ of. with_number of (rest_of text))
-    (λ of. number_keeps of (rest_of text))
+info_keeps rest = made (λ (name : BlockName). job.Info name.kind name.number) (block_named rest) (λ name. tt)
+
+upload_keeps : (rest : Option Text) → IfOk (upload_job rest) KeepsLink
+upload_keeps rest = made (λ (name : BlockName). job.Upload name.kind name.number) (block_named rest) (λ name. tt)
+
+delete_keeps : (rest : Option Text) → IfOk (delete_job rest) KeepsLink
+delete_keeps rest = made (λ (name : BlockName). job.Delete name.kind name.number) (block_named rest) (λ name. tt)
 
 index_keeps : (id : ℕ) (rest : Option Text) → IfOk (with_index id rest) KeepsLink
 index_keeps id None = tt
@@ -127,10 +125,12 @@ named_keeps name rest =
     (either KeepsLink (bytes_eq name (codes "writemany")) (write_many_job rest) _ (write_many_keeps rest)
     (either KeepsLink (bytes_eq name (codes "listof")) (list_of_job rest) _ (list_of_keeps rest)
     (either KeepsLink (bytes_eq name (codes "info")) (info_job rest) _ (info_keeps rest)
+    (either KeepsLink (bytes_eq name (codes "upload")) (upload_job rest) _ (upload_keeps rest)
+    (either KeepsLink (bytes_eq name (codes "delete")) (delete_job rest) _ (delete_keeps rest)
     (either KeepsLink (bytes_eq name (codes "szl")) (list_job rest) _ (list_keeps rest)
     (either KeepsLink (bytes_eq name (codes "setclock")) (set_clock_job rest) _ (set_clock_keeps rest)
     (either KeepsLink (bytes_eq name (codes "password")) (password_job rest) (or_unknown (plain_job name) rest) (password_keeps rest)
-    (unknown_keeps (plain_job name) rest (plain_keeps name))))))))))
+    (unknown_keeps (plain_job name) rest (plain_keeps name))))))))))))
 
 -- ---- the lines
 

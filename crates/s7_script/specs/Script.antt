@@ -8,6 +8,7 @@ use Rattle.s7_item.specs.Codes.{data_blocks, counters, timers, bits, bytes, char
 use Rattle.s7_area.specs.declared.key.AreaKey.{AreaKey}
 use Rattle.s7_item.specs.Word.{size_of}
 use Rattle.s7_item.specs.declared.item.Item.{Item}
+use Rattle.s7_block.specs.declared.block.BlockName.{BlockName}
 use Rattle.s7_client.specs.declared.job.Job.{Job}
 use Rattle.s7_client.specs.declared.job.Job.TheVariants as job
 use Rattle.s7_script.specs.Lines.{Text, lines, with_first}
@@ -256,18 +257,33 @@ list_of_job (Some text) = do
   of ← word_of (kind_named (field_of text))
   ended (job.ListOf of) (rest_of text)
 
-abbrev pub with_number : ℕ → Option Text → Result Job ScriptKind
+abbrev pub with_number : ℕ → Option Text → Result BlockName ScriptKind
 with_number of None = Err kind.Fields
 with_number of (Some text) = do
   number ← within 0 65535 (number_of (field_of text))
-  ended (job.Info of number) (rest_of text)
+  ended (record { kind = of; number = number }) (rest_of text)
 
 -- KIND NUMBER
-abbrev pub info_job : Option Text → Result Job ScriptKind
-info_job None = Err kind.Fields
-info_job (Some text) = do
+abbrev pub block_named : Option Text → Result BlockName ScriptKind
+block_named None = Err kind.Fields
+block_named (Some text) = do
   of ← word_of (kind_named (field_of text))
   with_number of (rest_of text)
+
+abbrev pub info_job : Option Text → Result Job ScriptKind
+info_job rest = do
+  name ← block_named rest
+  Ok (job.Info name.kind name.number)
+
+abbrev pub upload_job : Option Text → Result Job ScriptKind
+upload_job rest = do
+  name ← block_named rest
+  Ok (job.Upload name.kind name.number)
+
+abbrev pub delete_job : Option Text → Result Job ScriptKind
+delete_job rest = do
+  name ← block_named rest
+  Ok (job.Delete name.kind name.number)
 
 -- a number of two octets, in four hexadecimal digits
 abbrev pub two_octets_in : Result (List ℕ) FromHexError → Result ℕ ScriptKind
@@ -332,10 +348,12 @@ job_named name rest =
     else (if bytes_eq name (codes "writemany") then write_many_job rest
     else (if bytes_eq name (codes "listof") then list_of_job rest
     else (if bytes_eq name (codes "info") then info_job rest
+    else (if bytes_eq name (codes "upload") then upload_job rest
+    else (if bytes_eq name (codes "delete") then delete_job rest
     else (if bytes_eq name (codes "szl") then list_job rest
     else (if bytes_eq name (codes "setclock") then set_clock_job rest
     else (if bytes_eq name (codes "password") then password_job rest
-    else or_unknown (plain_job name) rest))))))))
+    else or_unknown (plain_job name) rest))))))))))
 
 -- the job that a line names
 abbrev pub job_of : Text → Result Job ScriptKind

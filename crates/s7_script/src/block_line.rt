@@ -1,10 +1,11 @@
 // The jobs of lines about blocks.
 ghost use Rattle.std.specs.Prelude.{◌≡◌, option_map};
-ghost use Rattle.s7_script.specs.Script.{info_job, kind_named, list_of_job, with_number, word_of};
+ghost use Rattle.s7_script.specs.Script.{block_named, delete_job, info_job, kind_named, list_of_job, upload_job, with_number, word_of};
 
 use crate::ScriptKind;
 use crate::item_text::{ended, within};
 use crate::lines::{number, split_field};
+use s7_block::BlockName;
 use s7_block::kinds::{DB, FB, FC, OB, SDB, SFB, SFC};
 use s7_client::Job;
 
@@ -24,6 +25,29 @@ pub(crate) fn list_of_job(rest: Option<&[u8]>) -> Result<Job, ScriptKind>
 pub(crate) fn info_job(rest: Option<&[u8]>) -> Result<Job, ScriptKind>
     ensures { result ≡ info_job (option_map (λ t. t.now) rest.entry) }
 {
+    let BlockName { kind, number } = block_named(rest)?;
+    Ok(Job::Info { kind, number })
+}
+
+/// Its upload.
+pub(crate) fn upload_job(rest: Option<&[u8]>) -> Result<Job, ScriptKind>
+    ensures { result ≡ upload_job (option_map (λ t. t.now) rest.entry) }
+{
+    let BlockName { kind, number } = block_named(rest)?;
+    Ok(Job::Upload { kind, number })
+}
+
+/// That it is deleted.
+pub(crate) fn delete_job(rest: Option<&[u8]>) -> Result<Job, ScriptKind>
+    ensures { result ≡ delete_job (option_map (λ t. t.now) rest.entry) }
+{
+    let BlockName { kind, number } = block_named(rest)?;
+    Ok(Job::Delete { kind, number })
+}
+
+fn block_named(rest: Option<&[u8]>) -> Result<BlockName, ScriptKind>
+    ensures { result ≡ block_named (option_map (λ t. t.now) rest.entry) }
+{
     let Some(text) = rest else {
         return Err(ScriptKind::Fields);
     };
@@ -32,7 +56,7 @@ pub(crate) fn info_job(rest: Option<&[u8]>) -> Result<Job, ScriptKind>
     with_number(kind, rest)
 }
 
-fn with_number(kind: u8, rest: Option<&[u8]>) -> Result<Job, ScriptKind>
+fn with_number(kind: u8, rest: Option<&[u8]>) -> Result<BlockName, ScriptKind>
     ensures { result ≡ with_number kind (option_map (λ t. t.now) rest.entry) }
 {
     let Some(text) = rest else {
@@ -40,7 +64,7 @@ fn with_number(kind: u8, rest: Option<&[u8]>) -> Result<Job, ScriptKind>
     };
     let (field, rest) = split_field(text);
     let number = within(0, 65_535, number(field))? as u16;
-    ended(Job::Info { kind, number }, rest)
+    ended(BlockName { kind, number }, rest)
 }
 
 fn kind_of(field: &[u8]) -> Result<u8, ScriptKind>

@@ -38,14 +38,3 @@ pub use script_list::{Script, ScriptLine};
 pub use send_list::{SendLine, Sends};
 pub use sends::read_sends;
 pub use write::write_areas;
-
-#[cfg(test)]
-mod block_tests;
-#[cfg(test)]
-mod print_tests;
-#[cfg(test)]
-mod script_tests;
-#[cfg(test)]
-mod sends_tests;
-#[cfg(test)]
-mod tests;

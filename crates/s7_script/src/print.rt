@@ -77,6 +77,8 @@ fn word_of(job: &Job) -> &'static str
         Job::List => "list",
         Job::ListOf { .. } => "listof",
         Job::Info { .. } => "info",
+        Job::Upload { .. } => "upload",
+        Job::Delete { .. } => "delete",
         Job::Szl { .. } => "szl",
         Job::ClockRead => "clock",
         Job::ClockSet { .. } => "setclock",
@@ -117,7 +119,7 @@ fn add_job_values(alloc: Global, text: &mut Vec<u8>, done: &JobResult) -> Result
         ≡ text.old.items ++ flat_map spaced (job_values done.now done.now.job)) }
 {
     match &done.job {
-        Job::ReadArea { .. } | Job::Info { .. } | Job::Szl { .. } => {
+        Job::ReadArea { .. } | Job::Info { .. } | Job::Upload { .. } | Job::Szl { .. } => {
             add_octets(alloc, text, done.octets.as_slice())
         }
         Job::List => add_numbers(alloc, text, done.octets.as_slice(), COUNT_AT),
@@ -131,6 +133,7 @@ fn add_job_values(alloc: Global, text: &mut Vec<u8>, done: &JobResult) -> Result
         Job::Status => add_mode(text, done.octets.as_slice()),
         Job::Connect
         | Job::WriteArea { .. }
+        | Job::Delete { .. }
         | Job::ClockSet { .. }
         | Job::Start
         | Job::ColdStart

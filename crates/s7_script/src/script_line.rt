@@ -10,7 +10,7 @@ ghost use Rattle.s7_script.specs.Script.{write_job, write_many_job, written_item
 ghost use Rattle.s7_script.specs.ScriptShown.{all_written, parts_left};
 
 use crate::ScriptKind;
-use crate::block_line::{info_job, list_of_job};
+use crate::block_line::{delete_job, info_job, list_of_job, upload_job};
 use crate::guard_line::all_graphic;
 use crate::item_text::{ended, read_item};
 use crate::lines::split_field;
@@ -45,6 +45,10 @@ fn job_named(alloc: Global, name: &[u8], rest: Option<&[u8]>) -> Result<Job, Scr
         list_of_job(rest)
     } else if name == b"info".as_slice() {
         info_job(rest)
+    } else if name == b"upload".as_slice() {
+        upload_job(rest)
+    } else if name == b"delete".as_slice() {
+        delete_job(rest)
     } else if name == b"szl".as_slice() {
         list_job(rest)
     } else if name == b"setclock".as_slice() {

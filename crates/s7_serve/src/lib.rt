@@ -20,6 +20,3 @@ pub use hosted::{Hosted, NotHosted};
 pub use keeper::Keeper;
 pub use served::Served;
 pub use worker::serve_link;
-
-#[cfg(test)]
-mod tests;

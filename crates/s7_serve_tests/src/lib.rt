@@ -1,5 +1,5 @@
-//! Tests of `s7_serve` over TCP: many clients share one book, and many links come and go. They stand in a
-//! crate of their own, so that serving is proved once and not once more together with them.
+//! Tests of `s7_serve` in memory and over TCP: links share one book and are served at once, and many come and go. They
+//! stand in a crate of their own, so that serving is proved once and not once more together with them.
 #![tactic(auto)]
 
 #[cfg(test)]
@@ -8,6 +8,8 @@ mod calls;
 mod coming;
 #[cfg(test)]
 mod ended;
+#[cfg(test)]
+mod in_memory;
 #[cfg(test)]
 mod ports;
 #[cfg(test)]

@@ -11,35 +11,13 @@ use Rattle.s7_block.specs.Assembly.{Progress, idle, awaiting, whole, whole_image
 use Rattle.s7_block.specs.Names.{name_octets, named, number_in}
 use Rattle.s7_block.specs.Slices.{Piece}
 use Rattle.s7_block.specs.Sides.{is_named}
+pub use Rattle.s7_block.specs.Telegrams.{announce_function, piece_function, close_function, start_function}
+pub use Rattle.s7_block.specs.Telegrams.{slice_function, end_function, name_front, id_front, more_octet}
+pub use Rattle.s7_block.specs.Telegrams.{image_data, is_image_data}
 use Rattle.s7_plant.specs.Replies.{Said}
 use Rattle.s7_session.specs.LinkState.{LinkState, Download, next_octet, next_sequence}
 
--- ---- functions
-
-abbrev pub announce_function : ℕ
-announce_function = 0x1A
-
-abbrev pub piece_function : ℕ
-piece_function = 0x1B
-
-abbrev pub close_function : ℕ
-close_function = 0x1C
-
-abbrev pub start_function : ℕ
-start_function = 0x1D
-
-abbrev pub slice_function : ℕ
-slice_function = 0x1E
-
-abbrev pub end_function : ℕ
-end_function = 0x1F
-
 -- ---- names in parameters
-
--- what stands before a name: the function, seven octets 00, the name's length, and `5F`
-abbrev pub name_front : ℕ → List ℕ
-name_front function =
-    function ∷ 0x00 ∷ 0x00 ∷ 0x00 ∷ 0x00 ∷ 0x00 ∷ 0x00 ∷ 0x00 ∷ 0x09 ∷ 0x5F ∷ []
 
 -- the block that the first 18 octets of parameters name
 abbrev pub block_in : ℕ → ℕ → List ℕ → Option BlockName
@@ -76,26 +54,12 @@ download_announced params =
 abbrev pub id_in : ℕ → List ℕ → Option ℕ
 id_in function params =
     if length params == 8
-    && bytes_eq (take 7 params) (function ∷ 0x00 ∷ 0x00 ∷ 0x00 ∷ 0x00 ∷ 0x00 ∷ 0x00 ∷ [])
+    && bytes_eq (take 7 params) (id_front function)
     then Some (slice_index params 7) else None
-
--- ---- data
-
--- octets of an image behind their length and `00 FB`
-abbrev pub image_data : List ℕ → List ℕ
-image_data octets = two_octets (length octets) ++ 0x00 ∷ 0xFB ∷ octets
-
-abbrev pub is_image_data : List ℕ → Bool
-is_image_data body =
-    nat_le 4 (length body) && bytes_eq (take 4 body) (two_octets (length body - 4) ++ 0x00 ∷ 0xFB ∷ [])
 
 -- how many octets of an image go in one telegram: header, parameters and the head of the data take 18 of the PDU
 abbrev pub image_room : ℕ → ℕ
 image_room pdu = pdu - 18
-
--- 01 where other octets follow, 00 behind the last
-abbrev pub more_octet : Bool → ℕ
-more_octet more = if more then 0x01 else 0x00
 
 -- The piece of an image that the client sends: its parameters say whether others follow.
 abbrev pub piece_in : ℕ → List ℕ → List ℕ → Option Piece

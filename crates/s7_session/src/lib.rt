@@ -27,14 +27,3 @@ pub use doer::{Doer, NotDone};
 pub use laws::{spelled_reads_are_asked, spelled_writes_are_asked};
 pub use outcome::{Outcome, Turn};
 pub use session::Session;
-
-#[cfg(test)]
-mod block_tests;
-#[cfg(test)]
-mod pdu_tests;
-#[cfg(test)]
-mod tests;
-#[cfg(test)]
-mod upload_tests;
-#[cfg(test)]
-mod user_tests;

@@ -17,8 +17,3 @@ pub use rig_words::RigWords;
 pub use run_words::RunWords;
 pub use server::{ServerWords, read_server_words};
 pub use tool::{ToolWords, read_tool_words};
-
-#[cfg(test)]
-mod tests;
-#[cfg(test)]
-mod tool_tests;

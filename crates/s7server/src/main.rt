@@ -1,21 +1,8 @@
 //! Serves areas as a controller would, on standard input and output or over TCP.
 #![tactic(auto)]
 
-mod asked;
-mod closing;
-mod lent_door;
-mod opening;
-mod output;
-mod pipe;
-mod report;
-mod run;
-mod serve;
-mod server;
-#[cfg(test)]
-mod tests;
-
 use s7_outer::{OpenGate, Out, RealLink, StdFiles, StdOut, TcpDoor};
-use server::{MEMORY, server_main};
+use s7_server::{MEMORY, server_main};
 use std::alloc::{AllocError, Global};
 use std::process::ExitCode;
 use std::{env, io};

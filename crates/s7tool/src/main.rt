@@ -1,37 +1,11 @@
 //! Runs scripts against controllers, and in rigs.
 #![tactic(auto)]
 
-mod ended;
-mod gen_run;
-#[cfg(test)]
-mod gen_tests;
-mod jobs;
-mod load;
-mod made_areas;
-mod made_report;
-mod made_scripts;
-mod output;
-#[cfg(test)]
-mod panel_tests;
-mod partner_run;
-#[cfg(test)]
-mod partner_tests;
-mod report;
-mod rig_report;
-#[cfg(test)]
-mod rig_tests;
-mod rigging;
-mod script_run;
-#[cfg(test)]
-mod tests;
-mod tool;
-
-use output::print_line;
 use s7_outer::{Out, StdFiles, StdOut, TcpDial};
+use s7_tool::{MEMORY, print_line, tool_main};
 use std::alloc::{AllocError, Global};
 use std::process::ExitCode;
 use std::{env, io};
-use tool::{MEMORY, tool_main};
 
 fn main(rt: HostRuntime) -> io::Result<ExitCode> {
     let alloc = rt.alloc();

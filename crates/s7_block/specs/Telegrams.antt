@@ -1,0 +1,50 @@
+-- What the telegrams of uploads and downloads have in common (after Snap7 1.4 sources, s7_types.h,
+-- `TReqFunStartUploadParams`). The layouts are this profile's own.
+use Rattle.std.specs.Prelude.{ℕ, ◌-◌, ◌&&◌, nat_le, Bool, if◌then◌else◌, List, [], ◌∷◌, ◌++◌, length, take}
+use Rattle.std.specs.Str.{bytes_eq}
+use Rattle.s7_outer.specs.Numbers.{two_octets}
+
+-- ---- functions
+
+abbrev pub announce_function : ℕ
+announce_function = 0x1A
+
+abbrev pub piece_function : ℕ
+piece_function = 0x1B
+
+abbrev pub close_function : ℕ
+close_function = 0x1C
+
+abbrev pub start_function : ℕ
+start_function = 0x1D
+
+abbrev pub slice_function : ℕ
+slice_function = 0x1E
+
+abbrev pub end_function : ℕ
+end_function = 0x1F
+
+-- ---- parameters
+
+-- what stands before a name: the function, seven octets 00, the name's length, and `5F`
+abbrev pub name_front : ℕ → List ℕ
+name_front function =
+    function ∷ 0x00 ∷ 0x00 ∷ 0x00 ∷ 0x00 ∷ 0x00 ∷ 0x00 ∷ 0x00 ∷ 0x09 ∷ 0x5F ∷ []
+
+-- what stands before the id of an upload: the function and six octets 00
+abbrev pub id_front : ℕ → List ℕ
+id_front function = function ∷ 0x00 ∷ 0x00 ∷ 0x00 ∷ 0x00 ∷ 0x00 ∷ 0x00 ∷ []
+
+-- 01 where other octets follow, 00 behind the last
+abbrev pub more_octet : Bool → ℕ
+more_octet more = if more then 0x01 else 0x00
+
+-- ---- data
+
+-- octets of an image behind their length and `00 FB`
+abbrev pub image_data : List ℕ → List ℕ
+image_data octets = two_octets (length octets) ++ 0x00 ∷ 0xFB ∷ octets
+
+abbrev pub is_image_data : List ℕ → Bool
+is_image_data body =
+    nat_le 4 (length body) && bytes_eq (take 4 body) (two_octets (length body - 4) ++ 0x00 ∷ 0xFB ∷ [])

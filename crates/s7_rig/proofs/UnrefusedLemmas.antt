@@ -1,0 +1,304 @@
+-- Answers that refuse nothing, where no history was full and no clock failed.
+use Rattle.std.proofs.Common.{◌≡◌, ℕ, Bool, false, Option, None, Some, List, [], ◌∷◌}
+use Rattle.std.proofs.Common.{map, refl, ap, sym, ◌∙◌, subst}
+use Rattle.std.specs.List.{AllByRecursion}
+use Rattle.s7_item.specs.declared.item.Item.{Item}
+use Rattle.s7_area.specs.Guards.{is_read_barred, is_write_barred}
+use Rattle.s7_area.specs.Memory.{Memory, read_code}
+use Rattle.s7_plant.specs.declared.request.Ask.{Ask}
+use Rattle.s7_plant.specs.Replies.{Said}
+use Rattle.s7_plant.specs.Answers as plant
+use Rattle.s7_plant.specs.Answers.{service_function}
+use Rattle.s7_plant.specs.State.{State}
+use Rattle.s7_plant.specs.declared.request.Request.TheVariants as plain
+use Rattle.s7_block.specs.declared.block.BlockName.{BlockName}
+use Rattle.s7_clock.specs.declared.control.Control.{Control}
+use Rattle.s7_clock.specs.declared.control.Control.TheVariants as control
+use Rattle.s7_client.specs.declared.subject.Subject.{Subject}
+use Rattle.s7_client.specs.Question.{Question, reads, writes, controls, asks, asks_further}
+use Rattle.s7_client.specs.Question.{starts_upload, slices_upload, ends_upload}
+use Rattle.s7_client.specs.Answer.{Answer, tells, notes}
+use Rattle.s7_client.specs.Refusals.{code_refusal, part_refusal, telegram_refusal, control_refusal}
+use Rattle.s7_client.proofs.FlightLemmas.{same_some}
+use Rattle.s7_session.specs.Verdict.{Verdict}
+use Rattle.s7_rig.specs.Heard.{told_of}
+use Rattle.s7_rig.specs.Complete.{IsThere}
+use Rattle.s7_rig.specs.Exchanges.{IsSecurity, AnyUndone, HasTold, is_refused, is_read, is_written, is_controlled}
+use Rattle.s7_rig.specs.Exchanges.{is_brought, is_secured, is_unnamed, is_further, NamesNone, request_of}
+use Rattle.s7_rig.specs.Exchanges.{is_barred, is_started, is_no_upload, is_sliced, is_ended, uploaded_of}
+use Rattle.s7_rig.specs.Exchanges.{Exchange, entries_of, rows_of, AreTold, Converses}
+use Rattle.s7_rig.specs.Exchanges as exchange
+use Rattle.s7_rig.proofs.HoldReplies.{IsGood, user_good}
+use Rattle.s7_rig.proofs.HoldReplies.{IsDoneAs, control_good, start_good}
+use Rattle.s7_rig.proofs.AskedItems.{AsksFor}
+use Rattle.s7_rig.proofs.AsksLemmas.{codes_noted}
+use Rattle.s7_rig.proofs.PlacedLemmas.{placed_is_read}
+use Rattle.s7_rig.proofs.ShapeLemmas.{SameShape, AreShaped}
+
+-- ---- answers that don't refuse
+
+tells_good : (m : Memory) (right : Bool) (items : List Item)
+    → AllByRecursion (λ (item : Item). read_code m right item ≡ 0xFF) items
+    → part_refusal (tells (map (told_of m right) items)) ≡ None
+tells_good m right [] good = refl
+tells_good m right (item ∷ []) good = ap code_refusal good.0
+tells_good m right (item ∷ next ∷ items) good = refl
+
+all_codes_good : (items : List Item) → part_refusal (notes (map (λ (item : Item). 0xFF) items)) ≡ None
+all_codes_good [] = refl
+all_codes_good (item ∷ []) = refl
+all_codes_good (item ∷ next ∷ items) = refl
+
+-- the question reads or writes what nothing bars without a password
+abbrev pub IsFree : Memory → Question → Type 0
+IsFree m (reads items) = is_read_barred m.guard false ≡ false
+IsFree m (writes items octets) = is_write_barred m.guard false ≡ false
+IsFree m _ = ⊥
+
+-- and items that stand there
+abbrev pub FindsAll : Memory → Question → Type 0
+FindsAll m question = AsksFor (IsThere m) question × IsFree m question
+
+all_read : (m n : Memory) (right : Bool) (items : List Item) → SameShape m n → is_read_barred n.guard false ≡ false
+    → AllByRecursion (IsThere n) items → AllByRecursion (λ (item : Item). read_code m right item ≡ 0xFF) items
+all_read m n right [] same free there = tt
+all_read m n right (item ∷ items) same free there =
+    (placed_is_read m n right item same free there.0, all_read m n right items same free there.1)
+
+-- the question reads or writes items
+abbrev pub IsOfItems : Question → Type 0
+IsOfItems (reads items) = Unit {0}
+IsOfItems (writes items octets) = Unit {0}
+IsOfItems _ = ⊥
+
+-- the call of this control
+abbrev pub IsControl : Control → Question → Type 0
+IsControl c (controls other) = other ≡ c
+IsControl c _ = ⊥
+
+-- a control that names no block
+abbrev pub NamesNoBlock : Control → Type 0
+NamesNoBlock (control.Insert kind number) = ⊥
+NamesNoBlock (control.Delete kind number) = ⊥
+NamesNoBlock _ = Unit {0}
+
+-- user data about this with these octets, or further octets of its answer
+abbrev pub IsAbout : Subject → List ℕ → Question → Type 0
+IsAbout subject octets (asks other others) = (other ≡ subject) × (others ≡ octets)
+IsAbout subject octets (asks_further other octet so_far) = Unit {0}
+IsAbout subject octets _ = ⊥
+
+not_both : (found : Option BlockName) (name : BlockName) → found ≡ None → found ≡ Some name → ⊥
+not_both found name none is = cc
+
+-- the start of the upload of this block, a slice, or the end
+abbrev pub IsUploadOf : BlockName → Question → Type 0
+IsUploadOf name (starts_upload other) = other ≡ name
+IsUploadOf name (slices_upload id size so_far) = Unit {0}
+IsUploadOf name (ends_upload id) = Unit {0}
+IsUploadOf name _ = ⊥
+
+-- ---- what was told
+
+module _ (n : Memory) (verdicts : List Verdict) (all_done : AnyUndone verdicts → ⊥) where
+  -- the answer to a question for these doesn't refuse
+  pub part_unrefused : (question : Question) (answer : Answer) (new : List (Ask × Said))
+      → HasTold verdicts question answer new → AreShaped n new → FindsAll n question → part_refusal answer ≡ None
+  part_unrefused question answer new (is_refused error undone is) shaped finds = absurd (all_done undone)
+  part_unrefused question answer new (is_read items right reply is entered told) shaped finds =
+      let state = (subst (AreShaped n) entered shaped).0 in
+      let can : FindsAll n (reads items) = subst (FindsAll n) is finds in
+      ap part_refusal (told state.0 state.2)
+      ∙ tells_good state.0.memory right items (all_read state.0.memory n right items state.1 can.1 can.0)
+  part_unrefused question answer new (is_written items octets right reply is entered told) shaped finds =
+      let state = (subst (AreShaped n) entered shaped).0 in
+      let can : FindsAll n (writes items octets) = subst (FindsAll n) is finds in
+      ap part_refusal (told state.0 state.2)
+      ∙ (ap (λ codes. part_refusal (notes codes))
+      (codes_noted state.0.memory n right items octets state.1 can.1 can.0.1 can.0.0)
+      ∙ all_codes_good items)
+  part_unrefused question answer new (is_controlled c right request reply is wants entered told) shaped finds =
+      absurd (subst (FindsAll n) is finds).1
+  part_unrefused question answer new (is_brought subject os moment right request reply pdu octet is wants entered told)
+      shaped finds = absurd (subst (FindsAll n) is finds).1
+  part_unrefused question answer new (is_secured subject os octet error is secures entered told) shaped finds =
+      absurd (subst (FindsAll n) is finds).1
+  part_unrefused question answer new (is_unnamed subject os is names entered told) shaped finds =
+      absurd (subst (FindsAll n) is finds).1
+  part_unrefused question answer new (is_barred kind number is barred entered told) shaped finds =
+      absurd (subst (FindsAll n) is finds).1
+  part_unrefused question answer new (is_started name block right reply id is names entered told) shaped finds =
+      absurd (subst (FindsAll n) is finds).1
+  part_unrefused question answer new (is_no_upload name is none entered told) shaped finds =
+      absurd (subst (FindsAll n) is finds).1
+  part_unrefused question answer new (is_sliced id size so_far os more is entered told) shaped finds =
+      absurd (subst (FindsAll n) is finds).1
+  part_unrefused question answer new (is_ended id is entered told) shaped finds =
+      absurd (subst (FindsAll n) is finds).1
+  part_unrefused question answer new (is_further subject octet so_far piece more is entered told) shaped finds =
+      absurd (subst (FindsAll n) is finds).1
+
+  -- and no telegram for items is refused
+  pub items_unrefused : (question : Question) (answer : Answer) (new : List (Ask × Said))
+      → HasTold verdicts question answer new → AreShaped n new → IsOfItems question → telegram_refusal answer ≡ None
+  items_unrefused question answer new (is_refused error undone is) shaped of = absurd (all_done undone)
+  items_unrefused question answer new (is_read items right reply is entered told) shaped of =
+      let state = (subst (AreShaped n) entered shaped).0 in
+      ap telegram_refusal (told state.0 state.2)
+  items_unrefused question answer new (is_written items octets right reply is entered told) shaped of =
+      let state = (subst (AreShaped n) entered shaped).0 in
+      ap telegram_refusal (told state.0 state.2)
+  items_unrefused question answer new (is_controlled c right request reply is wants entered told) shaped of =
+      absurd (subst IsOfItems is of)
+  items_unrefused question answer new (is_brought subject os moment right request reply pdu octet is wants entered told)
+      shaped of = absurd (subst IsOfItems is of)
+  items_unrefused question answer new (is_secured subject os octet error is secures entered told) shaped of =
+      absurd (subst IsOfItems is of)
+  items_unrefused question answer new (is_unnamed subject os is names entered told) shaped of =
+      absurd (subst IsOfItems is of)
+  items_unrefused question answer new (is_barred kind number is barred entered told) shaped of =
+      absurd (subst IsOfItems is of)
+  items_unrefused question answer new (is_started name block right reply id is names entered told) shaped of =
+      absurd (subst IsOfItems is of)
+  items_unrefused question answer new (is_no_upload name is none entered told) shaped of =
+      absurd (subst IsOfItems is of)
+  items_unrefused question answer new (is_sliced id size so_far os more is entered told) shaped of =
+      absurd (subst IsOfItems is of)
+  items_unrefused question answer new (is_ended id is entered told) shaped of =
+      absurd (subst IsOfItems is of)
+  items_unrefused question answer new (is_further subject octet so_far piece more is entered told) shaped of =
+      absurd (subst IsOfItems is of)
+
+  -- a control that is done isn't refused
+  pub control_unrefused : (c : Control) (function : ℕ) → NamesNoBlock c → IsDoneAs n c function
+      → (question : Question) (answer : Answer) (new : List (Ask × Said)) → HasTold verdicts question answer new
+      → AreShaped n new → IsControl c question → control_refusal c answer ≡ None
+  control_unrefused c function named done question answer new (is_refused error undone is) shaped of =
+      absurd (all_done undone)
+  control_unrefused c function named done question answer new
+      (is_controlled d right request reply is wants entered told)
+      shaped of =
+      let state = (subst (AreShaped n) entered shaped).0 in
+      let wanted = ap request_of (sym (subst (IsControl c) is of)) ∙ wants in
+      ap (control_refusal c) told
+      ∙ control_good c function reply (state.2 ∙ done right request state.0 wanted state.1)
+  control_unrefused c function named done question answer new (is_read items right reply is entered told) shaped of =
+      absurd (subst (IsControl c) is of)
+  control_unrefused c function named done question answer new
+      (is_written items os right reply is entered told) shaped of =
+      absurd (subst (IsControl c) is of)
+  control_unrefused c function named done question answer new
+      (is_brought subject os moment right request reply pdu octet is wants entered told) shaped of =
+      absurd (subst (IsControl c) is of)
+  control_unrefused c function named done question answer new
+      (is_secured subject os octet error is secures entered told)
+      shaped of = absurd (subst (IsControl c) is of)
+  control_unrefused c function named done question answer new (is_unnamed subject os is names entered told) shaped of =
+      absurd (subst (IsControl c) is of)
+  control_unrefused c function named done question answer new (is_barred kind number is barred entered told) shaped of =
+      absurd (subst NamesNoBlock (sym (subst (IsControl c) is of)) named)
+  control_unrefused c function named done question answer new
+      (is_started name block right reply id is names entered told) shaped of =
+      absurd (subst (IsControl c) is of)
+  control_unrefused c function named done question answer new (is_no_upload name is none entered told) shaped of =
+      absurd (subst (IsControl c) is of)
+  control_unrefused c function named done question answer new
+      (is_sliced id size so_far os more is entered told) shaped of =
+      absurd (subst (IsControl c) is of)
+  control_unrefused c function named done question answer new (is_ended id is entered told) shaped of =
+      absurd (subst (IsControl c) is of)
+  control_unrefused c function named done question answer new
+      (is_further subject octet so_far piece more is entered told) shaped of = absurd (subst (IsControl c) is of)
+
+  -- nor is user data that is replied to without an error
+  pub about_unrefused : (subject : Subject) (octets : List ℕ) → (IsSecurity subject → ⊥)
+      → (NamesNone subject octets → ⊥)
+      → IsGood n subject octets
+      → (question : Question) (answer : Answer) (new : List (Ask × Said)) → HasTold verdicts question answer new
+      → AreShaped n new → IsAbout subject octets question → telegram_refusal answer ≡ None
+  about_unrefused subject octets plain named good question answer new (is_refused error undone is) shaped of =
+      absurd (all_done undone)
+  about_unrefused subject octets plain named good question answer new
+      (is_brought other os moment right request reply pdu octet is wants entered told) shaped of =
+      let state = (subst (AreShaped n) entered shaped).0 in
+      let same = subst (IsAbout subject octets) is of in
+      let asked : exchange.AsksFor subject octets moment request =
+      subst (λ xs. exchange.AsksFor subject xs moment request) same.1
+      (subst (λ s. exchange.AsksFor s os moment request) same.0 wants) in
+      ap telegram_refusal told
+      ∙ user_good pdu octet reply
+      (ap (λ (r : Said). r.error) state.2 ∙ good moment right request state.0 asked state.1)
+  about_unrefused subject octets plain named good question answer new
+      (is_secured other os octet error is secures entered told) shaped of =
+      absurd (plain (subst IsSecurity (subst (IsAbout subject octets) is of).0 secures))
+  about_unrefused subject octets plain named good question answer new
+      (is_unnamed other os is names entered told) shaped of =
+      let same = subst (IsAbout subject octets) is of in
+      absurd (named (subst (λ xs. NamesNone subject xs) same.1 (subst (λ s. NamesNone s os) same.0 names)))
+  about_unrefused subject octets plain named good question answer new
+      (is_further other octet so_far piece more is entered told) shaped of = ap telegram_refusal told
+  about_unrefused subject octets plain named good question answer new
+      (is_barred kind number is barred entered told) shaped of =
+      absurd (subst (IsAbout subject octets) is of)
+  about_unrefused subject octets plain named good question answer new
+      (is_started name block right reply id is names entered told) shaped of =
+      absurd (subst (IsAbout subject octets) is of)
+  about_unrefused subject octets plain named good question answer new
+      (is_no_upload name is none entered told) shaped of =
+      absurd (subst (IsAbout subject octets) is of)
+  about_unrefused subject octets plain named good question answer new
+      (is_sliced id size so_far os more is entered told) shaped of =
+      absurd (subst (IsAbout subject octets) is of)
+  about_unrefused subject octets plain named good question answer new (is_ended id is entered told) shaped of =
+      absurd (subst (IsAbout subject octets) is of)
+  about_unrefused subject octets plain named good question answer new
+      (is_read items right reply is entered told) shaped of =
+      absurd (subst (IsAbout subject octets) is of)
+  about_unrefused subject octets plain named good question answer new (is_written items os right reply is entered told)
+      shaped of = absurd (subst (IsAbout subject octets) is of)
+  about_unrefused subject octets plain named good question answer new
+      (is_controlled c right request reply is wants entered told) shaped of =
+      absurd (subst (IsAbout subject octets) is of)
+
+  -- nor is anything of the upload of a block whose start is replied to without an error
+  pub upload_unrefused : (name : BlockName) → uploaded_of name ≡ Some name
+      → ((right : Bool) (s : State) → SameShape s.memory n
+      → (plant.answer s right (plain.StartUpload name.kind name.number)).error ≡ 0)
+      → (question : Question) (answer : Answer) (new : List (Ask × Said)) → HasTold verdicts question answer new
+      → AreShaped n new → IsUploadOf name question → telegram_refusal answer ≡ None
+  upload_unrefused name named good question answer new (is_refused error undone is) shaped of =
+      absurd (all_done undone)
+  upload_unrefused name named good question answer new (is_started other block right reply id is names entered told)
+      shaped of =
+      let state = (subst (AreShaped n) entered shaped).0 in
+      let same : other ≡ name = subst (IsUploadOf name) is of in
+      let block_is : block ≡ name = same_some block name (sym names ∙ (ap uploaded_of same ∙ named)) in
+      ap telegram_refusal told
+      ∙ start_good id reply
+      (ap (λ (r : Said). r.error) state.2
+      ∙ (ap (λ (b : BlockName). (plant.answer state.0 right (plain.StartUpload b.kind b.number)).error) block_is
+      ∙ good right state.0 state.1))
+  upload_unrefused name named good question answer new (is_no_upload other is none entered told) shaped of =
+      let same : other ≡ name = subst (IsUploadOf name) is of in
+      absurd (not_both (uploaded_of name) name (ap uploaded_of (sym same) ∙ none) named)
+  upload_unrefused name named good question answer new (is_sliced id size so_far os more is entered told) shaped of =
+      ap telegram_refusal told
+  upload_unrefused name named good question answer new
+      (is_ended id is entered told) shaped of = ap telegram_refusal told
+  upload_unrefused name named good question answer new (is_read items right reply is entered told) shaped of =
+      absurd (subst (IsUploadOf name) is of)
+  upload_unrefused name named good question answer new (is_written items os right reply is entered told) shaped of =
+      absurd (subst (IsUploadOf name) is of)
+  upload_unrefused name named good question answer new (is_controlled c right request reply is wants entered told)
+      shaped of = absurd (subst (IsUploadOf name) is of)
+  upload_unrefused name named good question answer new
+      (is_brought subject os moment right request reply pdu octet is wants entered told) shaped of =
+      absurd (subst (IsUploadOf name) is of)
+  upload_unrefused name named good question answer new (is_secured subject os octet error is secures entered told)
+      shaped of = absurd (subst (IsUploadOf name) is of)
+  upload_unrefused name named good question answer new (is_unnamed subject os is names entered told) shaped of =
+      absurd (subst (IsUploadOf name) is of)
+  upload_unrefused name named good question answer new (is_barred kind number is barred entered told) shaped of =
+      absurd (subst (IsUploadOf name) is of)
+  upload_unrefused name named good question answer new
+      (is_further subject octet so_far piece more is entered told) shaped of = absurd (subst (IsUploadOf name) is of)

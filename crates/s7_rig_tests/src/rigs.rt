@@ -1,0 +1,292 @@
+ghost use Rattle.std.specs.Prelude.{◌≡◌, ◌<◌, ◌≤◌, All, length, IfOk, ◌∷◌, []};
+ghost use Rattle.s7_header.specs.Negotiation.{most_pdu};
+ghost use Rattle.s7_client.specs.declared.job.Job.TheVariants.{Connect, Szl, ClockRead, Stop, Status, Disconnect};
+ghost use Rattle.s7_rig.specs.Scripts.{ConnectsFirst};
+
+use s7_area::{AreaKey, Areas};
+use s7_client::codes::NOT_AVAILABLE;
+use s7_client::{Config, Job};
+use s7_item::Item;
+use s7_outer::{Memory, Octets};
+use s7_rig::{RigEnd, Schedule, run_rig};
+use std::alloc::Global;
+use std::test::Fail;
+
+// The image of list 0424 where the controller runs, and where it is stopped.
+const RUNS: &[u8] = b"\
+    \x04\x24\0\0\0\x14\0\x01\x51\x44\xFF\x08\0\0\0\0\0\0\0\0\0\0\0\0\0\0\0\0";
+
+const STOPPED: &[u8] = b"\
+    \x04\x24\0\0\0\x14\0\x01\x51\x44\xFF\x04\0\0\0\0\0\0\0\0\0\0\0\0\0\0\0\0";
+
+// The image of list 001C: six components, each with an index and a text filled to 32 octets.
+const COMPONENTS: &[u8] = b"\
+    \0\x1C\0\0\0\x22\0\x06\
+    \0\x01S7SERVER\0\0\0\0\0\0\0\0\0\0\0\0\0\0\0\0\0\0\0\0\0\0\0\0\
+    \0\x02AREA BOOK\0\0\0\0\0\0\0\0\0\0\0\0\0\0\0\0\0\0\0\0\0\0\0\
+    \0\x03\0\0\0\0\0\0\0\0\0\0\0\0\0\0\0\0\0\0\0\0\0\0\0\0\0\0\0\0\0\0\0\0\
+    \0\x04OPEN\0\0\0\0\0\0\0\0\0\0\0\0\0\0\0\0\0\0\0\0\0\0\0\0\0\0\0\0\
+    \0\x050000000001\0\0\0\0\0\0\0\0\0\0\0\0\0\0\0\0\0\0\0\0\0\0\
+    \0\x07S7SERVER PLC\0\0\0\0\0\0\0\0\0\0\0\0\0\0\0\0\0\0\0\0";
+
+// The clock octets of the first moment of 2024, a Monday.
+const NEW_YEAR: &[u8] = b"\x00\x19\x24\x01\x01\x00\x00\x00\x00\x02";
+
+// The head of data block 1 with 100 octets.
+const HEAD: &[u8] = b"\
+    \x70\x70\x01\x01\x05\x0A\x00\x01\x00\x00\x00\x88\0\0\0\0\0\0\0\0\0\0\0\0\0\0\0\0\0\0\0\0\0\0\x00\x64";
+
+// Data block 1 with so many octets 00.
+fn zeros(alloc: Global, count: usize) -> Result<Areas, Fail> {
+    let key = AreaKey {
+        area: 0x84,
+        number: 1,
+    };
+    let octets = Octets::of_vec(vec![in alloc; 0; count]?);
+    let mut areas = Areas::new();
+    match areas.register(alloc, key, octets) {
+        Ok(()) => Ok(areas),
+        Err(_) => Err(Fail::from("no rig")),
+    }
+}
+
+// The first so many bytes of data block 1.
+fn bytes(count: u16) -> Item {
+    Item {
+        area: 0x84,
+        db: 1,
+        word: 0x02,
+        count,
+        address: 0,
+    }
+}
+
+// A connect, the job, and a disconnect.
+fn around(alloc: Global, job: Job) -> Result<Vec<Job>, Fail>
+    ensures { IfOk result (λ jobs. jobs.items ≡ Connect ∷ job ∷ Disconnect ∷ []) }
+{
+    let mut jobs = Vec::with_capacity(alloc, 3)?;
+    jobs.push_reserved(Job::Connect);
+    jobs.push_reserved(job);
+    jobs.push_reserved(Job::Disconnect);
+    Ok(jobs)
+}
+
+// A client that reads 300 bytes, and one that writes AA to them, with a PDU of 240 octets.
+fn a_reader_and_a_writer(alloc: Global, schedule: Schedule<'_>) -> Result<RigEnd, Fail>
+    requires { All (λ actor. actor < 4) schedule.turns.now }
+{
+    let read = Job::ReadArea { item: bytes(300) };
+    let write = Job::WriteArea {
+        item: bytes(300),
+        octets: Octets::of_vec(vec![in alloc; 0xAA; 300]?),
+    };
+    let mut scripts = Vec::with_capacity(alloc, 2)?;
+    scripts.push_reserved(around(alloc, read)?);
+    scripts.push_reserved(around(alloc, write)?);
+    let config = Config {
+        pdu: 240,
+        polls: 1_000_000,
+        ..Config::new(1, 0, 2)
+    };
+    match run_rig(alloc, zeros(alloc, 300)?, 65_536, scripts, config, schedule) {
+        Ok(end) => Ok(end),
+        Err(_) => Err(Fail::from("no rig")),
+    }
+}
+
+// The results of the first client's read: code 0, octets 00 and then AA, at these places.
+fn reads_between(end: &RigEnd, zeros: usize, places: &[u64]) -> bool {
+    let Some(client) = end.clients.first() else {
+        return false;
+    };
+    let (Some(told), Some(numbers)) = (client.results.get(1), client.places.get(1)) else {
+        return false;
+    };
+    let octets = told.octets.as_slice();
+    told.code == 0
+        && octets.len() == 300
+        && octets.iter().take(zeros).all(|o| *o == 0)
+        && octets.iter().skip(zeros).all(|o| *o == 0xAA)
+        && numbers.as_slice() == places
+}
+
+// A read of two parts is told what stood at the places of each: the first part before a write, the
+// second after it.
+#[test]
+fn a_read_stands_at_its_places(rt: HostRuntime) -> Result<(), Fail> {
+    let alloc = rt.alloc();
+    let turns = [
+        0, 2, 2, 0, 2, 2, 0, 0, 2, 2, 1, 3, 3, 1, 3, 3, 1, 1, 3, 3, 1, 3, 3, 1, 0, 2, 2, 0,
+    ];
+    let schedule = Schedule {
+        turns: &turns,
+        seed: 0,
+        steps: 0,
+    };
+    let end = a_reader_and_a_writer(alloc, schedule)?;
+    assert!(rt; end.book.journal.len() == 4);
+    assert!(rt; reads_between(&end, 222, &[0, 3]));
+    Ok(())
+}
+
+// Rounds alone finish both clients.
+#[test]
+fn rounds_finish(rt: HostRuntime) -> Result<(), Fail> {
+    let alloc = rt.alloc();
+    let schedule = Schedule {
+        turns: &[],
+        seed: 7,
+        steps: 0,
+    };
+    let end = a_reader_and_a_writer(alloc, schedule)?;
+    assert!(rt; end.book.journal.len() == 4);
+    assert!(rt; end.clients.len() == 2);
+    assert!(rt; end.clients.iter().all(|client| client.results.len() == 3));
+    Ok(())
+}
+
+// A connect, jobs that ask of the controller and its clock, and a disconnect.
+fn around_status(alloc: Global) -> Result<Vec<Job>, Fail>
+    ensures { IfOk result (λ jobs. jobs.items
+        ≡ Connect ∷ Status ∷ Stop ∷ Status ∷ Szl 0x001C 0 ∷ ClockRead ∷ Disconnect ∷ []) }
+{
+    let mut jobs = Vec::with_capacity(alloc, 7)?;
+    jobs.push_reserved(Job::Connect);
+    jobs.push_reserved(Job::Status);
+    jobs.push_reserved(Job::Stop);
+    jobs.push_reserved(Job::Status);
+    jobs.push_reserved(Job::Szl {
+        id: 0x001C,
+        index: 0,
+    });
+    jobs.push_reserved(Job::ClockRead);
+    jobs.push_reserved(Job::Disconnect);
+    Ok(jobs)
+}
+
+// A connect, the uploads of data block 1 and of one that there isn't, the deletion of such a block, and a disconnect.
+fn around_blocks(alloc: Global) -> Result<Vec<Job>, Fail>
+    ensures { IfOk result (λ jobs. ConnectsFirst jobs.items) }
+{
+    let mut jobs = Vec::with_capacity(alloc, 5)?;
+    jobs.push_reserved(Job::Connect);
+    jobs.push_reserved(Job::Upload {
+        kind: 0x41,
+        number: 1,
+    });
+    jobs.push_reserved(Job::Upload {
+        kind: 0x41,
+        number: 2,
+    });
+    jobs.push_reserved(Job::Delete {
+        kind: 0x38,
+        number: 1,
+    });
+    jobs.push_reserved(Job::Disconnect);
+    Ok(jobs)
+}
+
+// A connect, a write of AA to bytes of data block 1, a read of more of them, and a disconnect.
+fn around_long(alloc: Global, written: u16, read: u16) -> Result<Vec<Job>, Fail>
+    ensures { IfOk result (λ jobs. ConnectsFirst jobs.items) }
+{
+    let mut jobs = Vec::with_capacity(alloc, 4)?;
+    jobs.push_reserved(Job::Connect);
+    jobs.push_reserved(Job::WriteArea {
+        item: bytes(written),
+        octets: Octets::of_vec(vec![in alloc; 0xAA; usize::from(written)]?),
+    });
+    jobs.push_reserved(Job::ReadArea { item: bytes(read) });
+    jobs.push_reserved(Job::Disconnect);
+    Ok(jobs)
+}
+
+// A client alone with these jobs and this PDU, over so many octets of data block 1.
+fn a_client_alone(alloc: Global, jobs: Vec<Job>, pdu: u16, count: usize) -> Result<RigEnd, Fail>
+    requires connects { ConnectsFirst jobs.items }
+    requires least { 64 ≤ pdu }
+    requires most { pdu ≤ most_pdu }
+{
+    let mut scripts = Vec::with_capacity(alloc, 1)?;
+    scripts.push_reserved(jobs);
+    let config = Config {
+        pdu,
+        ..Config::new(1, 0, 2)
+    };
+    let schedule = Schedule {
+        turns: &[],
+        seed: 0,
+        steps: 0,
+    };
+    match run_rig(alloc, zeros(alloc, count)?, 16, scripts, config, schedule) {
+        Ok(end) => Ok(end),
+        Err(_) => Err(Fail::from("no rig")),
+    }
+}
+
+// The first client's job at this place came off, and brought these octets.
+fn brings(end: &RigEnd, at: usize, octets: &[u8]) -> bool {
+    let Some(client) = end.clients.first() else {
+        return false;
+    };
+    let Some(told) = client.results.get(at) else {
+        return false;
+    };
+    told.code == 0 && told.octets.as_slice() == octets
+}
+
+// The first client's job at this place ended with this number.
+fn ends_with(end: &RigEnd, at: usize, code: u32) -> bool {
+    let Some(client) = end.clients.first() else {
+        return false;
+    };
+    let Some(told) = client.results.get(at) else {
+        return false;
+    };
+    told.code == code
+}
+
+// Lists, a stop and the clock come off, a list of 212 octets in three slices, for which one entry is made: a PDU of 128
+// octets has room for 102 octets of user data.
+#[test]
+fn user_data_comes_whole(rt: HostRuntime) -> Result<(), Fail> {
+    let alloc = rt.alloc();
+    let end = a_client_alone(alloc, around_status(alloc)?, 128, 4)?;
+    let expected: [&[u8]; 7] = [b"", RUNS, b"", STOPPED, COMPONENTS, NEW_YEAR, b""];
+    for (at, octets) in expected.iter().enumerate() {
+        assert!(rt; brings(&end, at, octets), "at {at}");
+    }
+    assert!(rt; end.book.journal.len() == 5);
+    Ok(())
+}
+
+// With the greatest PDU a telegram and an answer of two fragments come whole: a write of 1,885 bytes and a read of 1,902
+// are one part each.
+#[test]
+fn two_fragments_come_whole(rt: HostRuntime) -> Result<(), Fail> {
+    let alloc = rt.alloc();
+    let end = a_client_alone(alloc, around_long(alloc, 1_885, 1_902)?, 1_920, 1_902)?;
+    let mut expected = vec![in alloc; 0xAA; 1_885]?;
+    expected.extend_from_slice(&[0; 17])?;
+    assert!(rt; brings(&end, 1, b""));
+    assert!(rt; brings(&end, 2, &expected));
+    assert!(rt; end.book.journal.len() == 2);
+    Ok(())
+}
+
+// An image of 136 octets comes whole in three slices, for which one entry is made: a PDU of 64 octets has room for 46
+// of them. A block that there isn't is neither uploaded nor deleted.
+#[test]
+fn an_image_comes_whole(rt: HostRuntime) -> Result<(), Fail> {
+    let alloc = rt.alloc();
+    let end = a_client_alone(alloc, around_blocks(alloc)?, 64, 100)?;
+    let mut expected = Vec::new(alloc);
+    expected.extend_from_slice(HEAD)?;
+    expected.extend_from_slice(&[0; 100])?;
+    assert!(rt; brings(&end, 1, &expected));
+    assert!(rt; ends_with(&end, 2, NOT_AVAILABLE));
+    assert!(rt; ends_with(&end, 3, NOT_AVAILABLE));
+    assert!(rt; end.book.journal.len() == 3);
+    Ok(())
+}

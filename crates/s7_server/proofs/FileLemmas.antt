@@ -1,0 +1,66 @@
+-- What holds from files on that were left as they were holds from those before on.
+use Rattle.std.proofs.Common.{◌≡◌, ◌∙◌, refl, sym, ap, subst, arith, List, ℕ, Option, Some, None}
+use Rattle.std.specs.Prelude.{IsTrue}
+use Rattle.s7_outer.specs.FilesShown.{FilesShown}
+use Rattle.s7_outer.specs.OutShown.{OutShown}
+use Rattle.s7_outer.specs.Shown.{Shown}
+use Rattle.s7_area.specs.Memory.{Memory}
+use Rattle.s7_script.specs.Naming.{Named, path, block, faulty}
+use Rattle.s7_script.specs.Loading.{LeavesFiles}
+use Rattle.s7_server.specs.declared.run.Ended.{Ended}
+use Rattle.s7_server.specs.declared.run.Ended.TheVariants as ended
+use Rattle.s7_server.specs.declared.run.Run.{Run}
+use Rattle.s7_server.specs.Asked.{AskedTold}
+use Rattle.s7_server.specs.End.{Ends, FileFails, Unopened}
+use Rattle.s7_server.specs.Saving.{ChangesOnly, HoldsAreas, KeepsBut}
+
+pub left_by : (n : Named) (old new : FilesShown) → LeavesFiles n old new → ChangesOnly None old new
+left_by (path p) old new h = record { kept = (ap (λ f. f.held) h.0, ap (λ f. f.tells) h.0); counts = h.1 }
+left_by (block number octets) old new h = record {
+  kept = (ap (λ f. f.held) h, ap (λ f. f.tells) h);
+  counts = λ p. omega (arith, ap (λ f. f.faults p) h);
+}
+left_by faulty old new h = record {
+  kept = (ap (λ f. f.held) h, ap (λ f. f.tells) h);
+  counts = λ p. omega (arith, ap (λ f. f.faults p) h);
+}
+
+keeps : (o : Option (List ℕ)) (a b c : FilesShown) → ChangesOnly None a b → KeepsBut o b c → KeepsBut o a c
+keeps None a b c l k = (k.0 ∙ l.kept.0, k.1 ∙ l.kept.1)
+keeps (Some p) a b c l k = (λ other differs. k.0 other differs ∙ ap (λ f. f other) l.kept.0, k.1 ∙ l.kept.1)
+
+pub changes : (o : Option (List ℕ)) (a b c : FilesShown) → ChangesOnly None a b → ChangesOnly o b c → ChangesOnly o a c
+changes o a b c l k = record { kept = keeps o a b c l k.kept; counts = λ p. omega (arith, l.counts p, k.counts p) }
+
+holds : (o : Option (List ℕ)) (a b c : FilesShown) (m : Memory) → ChangesOnly None a b → HoldsAreas o b c m → HoldsAreas o a c m
+holds None a b c m l h = h
+holds (Some p) a b c m l h = λ told. h (subst IsTrue (sym l.kept.1) told)
+
+fails : (o : Option (List ℕ)) (a b c : FilesShown) (s t : OutShown) → ChangesOnly None a b → FileFails o b c s t → FileFails o a c s t
+fails None a b c s t l h = h
+fails (Some p) a b c s t l h = (omega (arith, l.counts p, h.0), h.1)
+
+module _ {L : Type 0} (shows : L → Shown) (asked : AskedTold) (failed : Type 0) where
+  saved : (run : Run L) (a b c : FilesShown) (s t : OutShown) (how : Ended) → ChangesOnly None a b
+      → Ends shows asked ⊥ (Some run) b c s t how → Ends shows asked failed (Some run) a c s t how
+  saved run a b c s t ended.Done l e = (holds asked.save a b c run.book.plant.areas l e.0, e.1)
+  saved run a b c s t ended.Output l e = (holds asked.save a b c run.book.plant.areas l e.0, e.1)
+  saved run a b c s t ended.Areas l e = absurd (cc e.0)
+  saved run a b c s t ended.File l e = fails asked.save a b c s t l e
+  saved run a b c s t ended.Door l e = absurd (cc e.0)
+  saved run a b c s t ended.Memory l e = e
+
+  -- a run was saved and reported over the files between, and nothing was printed before
+  pub ends : (run : Run L) (a b c : FilesShown) (s s' t : OutShown) (how : Ended) → ChangesOnly None a b → s' ≡ s
+      → Ends shows asked ⊥ (Some run) b c s' t how → Ends shows asked failed (Some run) a c s t how
+  ends run a b c s s' t how l same e = saved run a b c s t how l (subst (λ x. Ends shows asked ⊥ (Some run) b c x t how) same e)
+
+  -- no book was opened
+  pub unopened : (a b : FilesShown) (s t : OutShown) (how : Ended) → Unopened asked a b s t how
+      → Ends shows asked failed None a b s t how
+  unopened a b s t ended.Done u = absurd u
+  unopened a b s t ended.Output u = absurd u
+  unopened a b s t ended.Areas u = (refl, u)
+  unopened a b s t ended.File u = u
+  unopened a b s t ended.Door u = absurd u
+  unopened a b s t ended.Memory u = u

@@ -1,0 +1,16 @@
+//! What the program `s7server` does: areas are served as a controller would, over one link or to the links of a door.
+#![tactic(auto)]
+
+mod asked;
+mod closing;
+mod lent_door;
+mod opening;
+mod output;
+mod pipe;
+mod report;
+mod run;
+mod serve;
+mod server;
+
+pub use run::{Run, ServerEnd};
+pub use server::{MEMORY, server_main};

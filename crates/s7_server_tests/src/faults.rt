@@ -1,0 +1,137 @@
+// Links and outputs that fail.
+use crate::helpers::{ANSWER, BLOCK, CONFIRM, CONNECT, READ, ROOM, call, octets, report};
+use s7_outer::{FailingLink, Fate, MemoryFiles, MemoryLink, MemoryOut, Octets};
+use s7_server::ServerEnd;
+use std::alloc::Global;
+use std::process::Abort;
+use std::sync::Wait;
+use std::test::Fail;
+use std::thread::Threads;
+use std::time::Clock;
+
+// What comes of a link whose k-th call, from 0, meets a fate.
+fn served_with<R: Threads + Wait + Clock + Sync>(
+    rt: &R,
+    alloc: Global,
+    k: usize,
+    fate: Fate,
+    out: &mut MemoryOut,
+) -> Result<ServerEnd<FailingLink<MemoryLink>>, Fail> {
+    let mut input = octets(alloc, CONNECT)?;
+    input.extend_from_slice(octets(alloc, READ)?.as_slice())?;
+    let mut fates = Vec::new(alloc);
+    for _ in 0..k {
+        fates.push(Fate::Pass)?;
+    }
+    fates.push(fate)?;
+    let link = MemoryLink::new(alloc, Octets::of_vec(input), ROOM, ROOM, 0)?;
+    Ok(call(
+        rt,
+        alloc,
+        &["pipe", BLOCK],
+        &mut MemoryFiles::new(),
+        FailingLink::new(link, fates),
+        out,
+    ))
+}
+
+// So many octets of the answers are written where the k-th call meets a fate, and the report ends so.
+fn fate_gives<R: Threads + Wait + Clock + Sync + Abort>(
+    rt: &R,
+    alloc: Global,
+    k: usize,
+    fate: Fate,
+    count: usize,
+    report: &str,
+) -> Result<(), Fail> {
+    let mut all = octets(alloc, CONFIRM)?;
+    all.extend_from_slice(octets(alloc, ANSWER)?.as_slice())?;
+    all.truncate(count);
+    let mut out = MemoryOut::new(alloc, ROOM)?;
+    let run = served_with(rt, alloc, k, fate, &mut out)?
+        .run
+        .ok_or("no run")?;
+    let served = run.links.first().ok_or("no link")?;
+    assert!(rt; out.text() == report.as_bytes(), "{report}");
+    assert!(rt; served.line.inner().written() == all.as_slice(), "{report}");
+    Ok(())
+}
+
+#[test]
+fn a_link_may_fail_at_each_call(rt: HostRuntime) -> Result<(), Fail> {
+    let alloc = rt.alloc();
+    fate_gives(
+        &rt,
+        alloc,
+        0,
+        Fate::Fail,
+        0,
+        "link 1 read-fault entries 0\njournal 0\n",
+    )?;
+    fate_gives(
+        &rt,
+        alloc,
+        1,
+        Fate::Fail,
+        0,
+        "link 1 write-fault entries 0\njournal 0\n",
+    )?;
+    fate_gives(
+        &rt,
+        alloc,
+        2,
+        Fate::Fail,
+        22,
+        "link 1 write-fault entries 0\njournal 0\n",
+    )?;
+    fate_gives(
+        &rt,
+        alloc,
+        3,
+        Fate::Fail,
+        49,
+        "link 1 write-fault entries 1\njournal 1\n",
+    )?;
+    fate_gives(
+        &rt,
+        alloc,
+        4,
+        Fate::Fail,
+        78,
+        "link 1 read-fault entries 1\njournal 1\n",
+    )
+}
+
+#[test]
+fn a_link_may_wait_at_each_call(rt: HostRuntime) -> Result<(), Fail> {
+    for k in 0..5 {
+        fate_gives(
+            &rt,
+            rt.alloc(),
+            k,
+            Fate::NotYet,
+            78,
+            "link 1 ended entries 1\njournal 1\n",
+        )?;
+    }
+    Ok(())
+}
+
+#[test]
+fn an_output_may_fail(rt: HostRuntime) -> Result<(), Fail> {
+    let alloc = rt.alloc();
+    let link = MemoryLink::new(alloc, Octets::of_vec(Vec::new(alloc)), ROOM, ROOM, 0)?;
+    let mut out = MemoryOut::new(alloc, 10)?;
+    let end = call(
+        &rt,
+        alloc,
+        &["pipe", BLOCK],
+        &mut MemoryFiles::new(),
+        link,
+        &mut out,
+    );
+    assert_eq!(&rt; end.status, 5);
+    assert!(&rt; end.run.is_some());
+    assert!(&rt; out.text() == b"link 1 end".as_slice());
+    Ok(())
+}

@@ -1,0 +1,547 @@
+// Status lists, the clock and control, from octets to octets.
+
+use crate::links::{SITE, SITE_2, Site, Talk, answers, is_answered};
+use s7_outer::{Fate, Memory};
+use std::alloc::Global;
+use std::sync::Wait;
+use std::test::Fail;
+use std::time::Clock;
+
+/// A PDU of 240 is negotiated, of 128, and of 64.
+const SETUP: &[u8] = b"\x32\x01\x00\x00\x00\x04\x00\x08\x00\x00\xF0\x00\x00\x01\x00\x01\x00\xF0";
+
+const GRANTED: &[u8] =
+    b"\x32\x03\x00\x00\x00\x04\x00\x08\x00\x00\x00\x00\xF0\x00\x00\x01\x00\x01\x00\xF0";
+
+const SETUP_128: &[u8] =
+    b"\x32\x01\x00\x00\x00\x04\x00\x08\x00\x00\xF0\x00\x00\x01\x00\x01\x00\x80";
+
+const GRANTED_128: &[u8] =
+    b"\x32\x03\x00\x00\x00\x04\x00\x08\x00\x00\x00\x00\xF0\x00\x00\x01\x00\x01\x00\x80";
+
+pub(crate) const SETUP_64: &[u8] =
+    b"\x32\x01\x00\x00\x00\x04\x00\x08\x00\x00\xF0\x00\x00\x01\x00\x01\x00\x40";
+
+pub(crate) const GRANTED_64: &[u8] =
+    b"\x32\x03\x00\x00\x00\x04\x00\x08\x00\x00\x00\x00\xF0\x00\x00\x01\x00\x01\x00\x40";
+
+/// The read of data block 1.
+const READ: &[u8] = b"\
+    \x32\x01\x00\x00\x00\x05\x00\x0E\x00\x00\
+    \x04\x01\x12\x0A\x10\x02\x00\x04\x00\x01\x84\x00\x00\x00";
+
+const READ_ANSWER: &[u8] = b"\
+    \x32\x03\x00\x00\x00\x05\x00\x02\x00\x08\x00\x00\
+    \x04\x01\xFF\x04\x00\x20\x11\x22\x33\x44";
+
+/// List 001C at index 0 is read, and its further slices.
+const LIST: &[u8] = b"\
+    \x32\x07\x00\x00\x00\x0A\x00\x08\x00\x08\x00\x01\x12\x04\x11\x44\x01\x00\
+    \xFF\x09\x00\x04\x00\x1C\x00\x00";
+
+const FURTHER: &[u8] = b"\
+        \x32\x07\x00\x00\x00\x0B\x00\x0C\x00\x04\
+        \x00\x01\x12\x08\x12\x44\x01\x01\x00\x00\x00\x00\x0A\x00\x00\x00";
+
+/// List 0999 is read, which there is not.
+const NO_LIST: &[u8] = b"\
+    \x32\x07\x00\x00\x00\x0C\x00\x08\x00\x08\x00\x01\x12\x04\x11\x44\x01\x00\
+    \xFF\x09\x00\x04\x09\x99\x00\x00";
+
+const NO_LIST_ANSWER: &[u8] = b"\
+        \x32\x07\x00\x00\x00\x0C\x00\x0C\x00\x04\
+        \x00\x01\x12\x08\x12\x84\x01\x01\x00\x00\xD4\x01\x0A\x00\x00\x00";
+
+/// The clock is read, at the moment 1,709,214,330,123.
+const CLOCK_READ: &[u8] =
+    b"\x32\x07\x00\x00\x00\x0B\x00\x08\x00\x04\x00\x01\x12\x04\x11\x47\x01\x00\x0A\x00\x00\x00";
+
+const CLOCK_ANSWER: &[u8] = b"\
+    \x32\x07\x00\x00\x00\x0B\x00\x0C\x00\x0E\x00\x01\x12\x08\x12\x87\x01\x01\x00\x00\x00\x00\
+    \xFF\x09\x00\x0A\x00\x19\x24\x02\x29\x13\x45\x30\x12\x35";
+
+/// The clock is set to the first moment of 2000, a Saturday, and read then.
+const CLOCK_SET: &[u8] = b"\
+    \x32\x07\x00\x00\x00\x0C\x00\x08\x00\x0E\x00\x01\x12\x04\x11\x47\x02\x00\
+    \xFF\x09\x00\x0A\x00\x19\x00\x01\x01\x00\x00\x00\x00\x07";
+
+const CLOCK_SET_ANSWER: &[u8] = b"\
+        \x32\x07\x00\x00\x00\x0C\x00\x0C\x00\x04\
+        \x00\x01\x12\x08\x12\x87\x02\x01\x00\x00\x00\x00\x0A\x00\x00\x00";
+
+const CLOCK_ANSWER_AFTER: &[u8] = b"\
+    \x32\x07\x00\x00\x00\x0B\x00\x0C\x00\x0E\x00\x01\x12\x08\x12\x87\x01\x02\x00\x00\x00\x00\
+    \xFF\x09\x00\x0A\x00\x19\x00\x01\x01\x00\x00\x00\x00\x07";
+
+/// The controller stops, twice, and starts.
+const STOP: &[u8] = b"\
+    \x32\x01\x00\x00\x00\x0D\x00\x10\x00\x00\
+    \x29\x00\x00\x00\x00\x00\x09\x50\x5F\x50\x52\x4F\x47\x52\x41\x4D";
+
+const STOPPED: &[u8] = b"\x32\x03\x00\x00\x00\x0D\x00\x02\x00\x00\x00\x00\x29\x00";
+
+const STOP_AGAIN: &[u8] = b"\
+    \x32\x01\x00\x00\x00\x0E\x00\x10\x00\x00\
+    \x29\x00\x00\x00\x00\x00\x09\x50\x5F\x50\x52\x4F\x47\x52\x41\x4D";
+
+const STOPPED_ALREADY: &[u8] = b"\x32\x03\x00\x00\x00\x0E\x00\x02\x00\x00\x00\x00\x29\x07";
+
+const START: &[u8] = b"\
+    \x32\x01\x00\x00\x00\x0F\x00\x14\x00\x00\
+    \x28\x00\x00\x00\x00\x00\x00\xFD\x00\x00\x09\x50\x5F\x50\x52\x4F\x47\x52\x41\x4D";
+
+const STARTED: &[u8] = b"\x32\x03\x00\x00\x00\x0F\x00\x02\x00\x00\x00\x00\x28\x00";
+
+const CLOCK: &[Talk<'static>] = &[
+    Talk {
+        site: SITE,
+        asked: &[SETUP, CLOCK_READ],
+        answered: &[GRANTED, CLOCK_ANSWER],
+        entries: 1,
+    },
+    // Without data.
+    Talk {
+        site: SITE,
+        asked: &[
+            SETUP,
+            b"\x32\x07\x00\x00\x00\x0B\x00\x08\x00\x00\x00\x01\x12\x04\x11\x47\x01\x00",
+        ],
+        answered: &[GRANTED, CLOCK_ANSWER],
+        entries: 1,
+    },
+    Talk {
+        site: SITE,
+        asked: &[SETUP, CLOCK_SET, CLOCK_READ],
+        answered: &[GRANTED, CLOCK_SET_ANSWER, CLOCK_ANSWER_AFTER],
+        entries: 2,
+    },
+    // Without a right.
+    Talk {
+        site: SITE_2,
+        asked: &[SETUP, CLOCK_SET, CLOCK_READ],
+        answered: &[
+            GRANTED,
+            b"\
+                \x32\x07\x00\x00\x00\x0C\x00\x0C\x00\x04\
+                \x00\x01\x12\x08\x12\x87\x02\x01\x00\x00\xD2\x41\x0A\x00\x00\x00",
+            b"\
+                \x32\x07\x00\x00\x00\x0B\x00\x0C\x00\x0E\x00\x01\x12\x08\x12\x87\x01\x02\x00\x00\x00\x00\
+                \xFF\x09\x00\x0A\x00\x19\x24\x02\x29\x13\x45\x30\x12\x35",
+        ],
+        entries: 2,
+    },
+    // The month 13, nine octets, and the subfunction 03.
+    Talk {
+        site: SITE,
+        asked: &[
+            SETUP,
+            b"\
+                \x32\x07\x00\x00\x00\x0C\x00\x08\x00\x0E\x00\x01\x12\x04\x11\x47\x02\x00\
+                \xFF\x09\x00\x0A\x00\x19\x00\x13\x01\x00\x00\x00\x00\x07",
+            b"\
+                \x32\x07\x00\x00\x00\x0C\x00\x08\x00\x0D\x00\x01\x12\x04\x11\x47\x02\x00\
+                \xFF\x09\x00\x09\x00\x19\x00\x01\x01\x00\x00\x00\x00",
+            b"\
+                \x32\x07\x00\x00\x00\x0C\x00\x08\x00\x04\x00\x01\x12\x04\x11\x47\x03\x00\
+                \x0A\x00\x00\x00",
+            CLOCK_READ,
+        ],
+        answered: &[
+            GRANTED,
+            b"\x32\x02\x00\x00\x00\x0C\x00\x00\x00\x00\x84\x04",
+            b"\x32\x02\x00\x00\x00\x0C\x00\x00\x00\x00\x84\x04",
+            b"\x32\x02\x00\x00\x00\x0C\x00\x00\x00\x00\x81\x04",
+            CLOCK_ANSWER,
+        ],
+        entries: 1,
+    },
+];
+
+#[test]
+fn the_clock_is_read_and_set(rt: HostRuntime) -> Result<(), Fail> {
+    answers(&rt, rt.alloc(), CLOCK)
+}
+
+const CONTROL: &[Talk<'static>] = &[
+    Talk {
+        site: SITE,
+        asked: &[SETUP, STOP, STOP_AGAIN, START],
+        answered: &[GRANTED, STOPPED, STOPPED_ALREADY, STARTED],
+        entries: 3,
+    },
+    // Without a right.
+    Talk {
+        site: SITE_2,
+        asked: &[SETUP, STOP],
+        answered: &[GRANTED, b"\x32\x02\x00\x00\x00\x0D\x00\x00\x00\x00\xD2\x41"],
+        entries: 1,
+    },
+    // Another function, a stop that breaks off, and one with data.
+    Talk {
+        site: SITE,
+        asked: &[
+            SETUP,
+            b"\x32\x01\x00\x00\x00\x11\x00\x01\x00\x00\x99",
+            b"\x32\x01\x00\x00\x00\x11\x00\x01\x00\x00\x29",
+            b"\
+                \x32\x01\x00\x00\x00\x11\x00\x10\x00\x01\
+                \x29\x00\x00\x00\x00\x00\x09\x50\x5F\x50\x52\x4F\x47\x52\x41\x4D\x00",
+        ],
+        answered: &[
+            GRANTED,
+            b"\x32\x02\x00\x00\x00\x11\x00\x00\x00\x00\x81\x04",
+            b"\x32\x02\x00\x00\x00\x11\x00\x00\x00\x00\x84\x04",
+            b"\x32\x02\x00\x00\x00\x11\x00\x00\x00\x00\x84\x04",
+        ],
+        entries: 0,
+    },
+    // An insert of what wasn't downloaded, without data and with some.
+    Talk {
+        site: SITE,
+        asked: &[
+            SETUP,
+            b"\
+                \x32\x01\x00\x00\x00\x12\x00\x1A\x00\x00\
+                \x28\x00\x00\x00\x00\x00\x00\xFD\x00\x0A\
+                \x01\x00\x30\x41\x30\x30\x30\x30\x31\x50\x05\x5F\x49\x4E\x53\x45",
+            b"\
+                \x32\x01\x00\x00\x00\x12\x00\x1A\x00\x01\
+                \x28\x00\x00\x00\x00\x00\x00\xFD\x00\x0A\
+                \x01\x00\x30\x41\x30\x30\x30\x30\x31\x50\x05\x5F\x49\x4E\x53\x45\x00",
+        ],
+        answered: &[
+            GRANTED,
+            b"\x32\x02\x00\x00\x00\x12\x00\x00\x00\x00\x8F\x03",
+            b"\x32\x02\x00\x00\x00\x12\x00\x00\x00\x00\x84\x04",
+        ],
+        entries: 0,
+    },
+    // Before the negotiation.
+    Talk {
+        site: SITE,
+        asked: &[STOP],
+        answered: &[b"\x32\x02\x00\x00\x00\x0D\x00\x00\x00\x00\x84\x03"],
+        entries: 0,
+    },
+];
+
+#[test]
+fn control_is_answered(rt: HostRuntime) -> Result<(), Fail> {
+    answers(&rt, rt.alloc(), CONTROL)
+}
+
+/// The answer with the whole list, and those with its slices where the PDU is 128.
+const WHOLE: &[u8] = b"\
+    \x32\x07\x00\x00\x00\x0A\x00\x0C\x00\xD8\
+    \x00\x01\x12\x08\x12\x84\x01\x01\x00\x00\x00\x00\xFF\x09\x00\xD4\
+    \x00\x1C\x00\x00\x00\x22\x00\x06\x00\x01\x53\x37\x53\x45\x52\x56\x45\x52\x00\x00\x00\x00\
+    \x00\x00\x00\x00\x00\x00\x00\x00\x00\x00\x00\x00\x00\x00\x00\x00\x00\x00\x00\x00\x00\x02\
+    \x41\x52\x45\x41\x20\x42\x4F\x4F\x4B\x00\x00\x00\x00\x00\x00\x00\x00\x00\x00\x00\x00\x00\
+    \x00\x00\x00\x00\x00\x00\x00\x00\x00\x00\x00\x03\x00\x00\x00\x00\x00\x00\x00\x00\x00\x00\
+    \x00\x00\x00\x00\x00\x00\x00\x00\x00\x00\x00\x00\x00\x00\x00\x00\x00\x00\x00\x00\x00\x00\
+    \x00\x04\x4F\x50\x45\x4E\x00\x00\x00\x00\x00\x00\x00\x00\x00\x00\x00\x00\x00\x00\x00\x00\
+    \x00\x00\x00\x00\x00\x00\x00\x00\x00\x00\x00\x00\x00\x05\x30\x30\x30\x30\x30\x30\x30\x30\
+    \x30\x31\x00\x00\x00\x00\x00\x00\x00\x00\x00\x00\x00\x00\x00\x00\x00\x00\x00\x00\x00\x00\
+    \x00\x00\x00\x07\x53\x37\x53\x45\x52\x56\x45\x52\x20\x50\x4C\x43\x00\x00\x00\x00\x00\x00\
+    \x00\x00\x00\x00\x00\x00\x00\x00\x00\x00\x00\x00\x00\x00";
+
+const FIRST: &[u8] = b"\
+    \x32\x07\x00\x00\x00\x0A\x00\x0C\x00\x6A\
+    \x00\x01\x12\x08\x12\x84\x01\x01\x00\x01\x00\x00\xFF\x09\x00\x66\
+    \x00\x1C\x00\x00\x00\x22\x00\x06\x00\x01\x53\x37\x53\x45\x52\x56\x45\x52\x00\x00\x00\x00\
+    \x00\x00\x00\x00\x00\x00\x00\x00\x00\x00\x00\x00\x00\x00\x00\x00\x00\x00\x00\x00\x00\x02\
+    \x41\x52\x45\x41\x20\x42\x4F\x4F\x4B\x00\x00\x00\x00\x00\x00\x00\x00\x00\x00\x00\x00\x00\
+    \x00\x00\x00\x00\x00\x00\x00\x00\x00\x00\x00\x03\x00\x00\x00\x00\x00\x00\x00\x00\x00\x00\
+    \x00\x00\x00\x00\x00\x00\x00\x00\x00\x00\x00\x00\x00\x00";
+
+const SECOND: &[u8] = b"\
+    \x32\x07\x00\x00\x00\x0B\x00\x0C\x00\x6A\
+    \x00\x01\x12\x08\x12\x84\x01\x01\x00\x01\x00\x00\xFF\x09\x00\x66\
+    \x00\x00\x00\x00\x00\x00\x00\x00\x00\x04\x4F\x50\x45\x4E\x00\x00\x00\x00\x00\x00\x00\x00\
+    \x00\x00\x00\x00\x00\x00\x00\x00\x00\x00\x00\x00\x00\x00\x00\x00\x00\x00\x00\x00\x00\x05\
+    \x30\x30\x30\x30\x30\x30\x30\x30\x30\x31\x00\x00\x00\x00\x00\x00\x00\x00\x00\x00\x00\x00\
+    \x00\x00\x00\x00\x00\x00\x00\x00\x00\x00\x00\x07\x53\x37\x53\x45\x52\x56\x45\x52\x20\x50\
+    \x4C\x43\x00\x00\x00\x00\x00\x00\x00\x00\x00\x00\x00\x00";
+
+const THIRD: &[u8] = b"\
+    \x32\x07\x00\x00\x00\x0B\x00\x0C\x00\x0C\
+    \x00\x01\x12\x08\x12\x84\x01\x01\x00\x00\x00\x00\xFF\x09\x00\x08\
+    \x00\x00\x00\x00\x00\x00\x00\x00";
+
+/// The second where the PDU is 64 then.
+const AT_64: &[u8] = b"\
+    \x32\x07\x00\x00\x00\x0B\x00\x0C\x00\x2A\
+    \x00\x01\x12\x08\x12\x84\x01\x01\x00\x01\x00\x00\xFF\x09\x00\x26\
+    \x00\x00\x00\x00\x00\x00\x00\x00\x00\x04\x4F\x50\x45\x4E\x00\x00\x00\x00\x00\x00\x00\x00\
+    \x00\x00\x00\x00\x00\x00\x00\x00\x00\x00\x00\x00\x00\x00\x00\x00";
+
+/// The refusal of a further slice.
+const NOT_HELD: &[u8] = b"\x32\x02\x00\x00\x00\x0B\x00\x00\x00\x00\x84\x04";
+
+const SLICED: &[Talk<'static>] = &[
+    Talk {
+        site: SITE,
+        asked: &[SETUP, LIST],
+        answered: &[GRANTED, WHOLE],
+        entries: 1,
+    },
+    // Behind the last slice nothing is held.
+    Talk {
+        site: SITE,
+        asked: &[SETUP_128, LIST, FURTHER, FURTHER, FURTHER],
+        answered: &[GRANTED_128, FIRST, SECOND, THIRD, NOT_HELD],
+        entries: 1,
+    },
+    // A job changes nothing of it.
+    Talk {
+        site: SITE,
+        asked: &[SETUP_128, LIST, READ, FURTHER],
+        answered: &[GRANTED_128, FIRST, READ_ANSWER, SECOND],
+        entries: 2,
+    },
+    // What is left is cut by the PDU that was granted last.
+    Talk {
+        site: SITE,
+        asked: &[SETUP_128, LIST, SETUP_64, FURTHER],
+        answered: &[GRANTED_128, FIRST, GRANTED_64, AT_64],
+        entries: 1,
+    },
+];
+
+#[test]
+fn lists_are_sliced_by_the_pdu(rt: HostRuntime) -> Result<(), Fail> {
+    answers(&rt, rt.alloc(), SLICED)
+}
+
+/// A further slice of another sequence octet, of other groups and subfunctions, and with other data.
+const OTHERS: &[&[u8]] = &[
+    b"\
+        \x32\x07\x00\x00\x00\x0B\x00\x0C\x00\x04\
+        \x00\x01\x12\x08\x12\x44\x01\x02\x00\x00\x00\x00\x0A\x00\x00\x00",
+    b"\
+        \x32\x07\x00\x00\x00\x0B\x00\x0C\x00\x04\
+        \x00\x01\x12\x08\x12\x47\x01\x01\x00\x00\x00\x00\x0A\x00\x00\x00",
+    b"\
+        \x32\x07\x00\x00\x00\x0B\x00\x0C\x00\x04\
+        \x00\x01\x12\x08\x12\x47\x02\x01\x00\x00\x00\x00\x0A\x00\x00\x00",
+    b"\
+        \x32\x07\x00\x00\x00\x0B\x00\x0C\x00\x04\
+        \x00\x01\x12\x08\x12\x45\x01\x01\x00\x00\x00\x00\x0A\x00\x00\x00",
+    b"\
+        \x32\x07\x00\x00\x00\x0B\x00\x0C\x00\x08\
+        \x00\x01\x12\x08\x12\x44\x01\x01\x00\x00\x00\x00\xFF\x09\x00\x04\x00\x1C\x00\x00",
+];
+
+/// That of the subfunction 02 of the group, and its refusal.
+const UNKNOWN_FURTHER: &[u8] = b"\
+        \x32\x07\x00\x00\x00\x0B\x00\x0C\x00\x04\
+        \x00\x01\x12\x08\x12\x44\x02\x01\x00\x00\x00\x00\x0A\x00\x00\x00";
+
+const UNKNOWN: &[u8] = b"\x32\x02\x00\x00\x00\x0B\x00\x00\x00\x00\x81\x04";
+
+/// The further slice, with octets of unit, last unit and error that are passed over.
+const LOUD_FURTHER: &[u8] = b"\
+        \x32\x07\x00\x00\x00\x0B\x00\x0C\x00\x04\
+        \x00\x01\x12\x08\x12\x44\x01\x01\x07\x01\xD4\x01\x0A\x00\x00\x00";
+
+/// The further slice is asked for so, which isn't held or is unknown; the one that is held goes out behind it.
+fn is_refused<R: Wait + Clock>(
+    rt: &R,
+    alloc: Global,
+    further: &[u8],
+    refusal: &[u8],
+    next: &[u8],
+) -> Result<bool, Memory> {
+    let talk = Talk {
+        site: SITE,
+        asked: &[SETUP_128, LIST, further, next],
+        answered: &[GRANTED_128, FIRST, refusal, SECOND],
+        entries: 1,
+    };
+    is_answered(rt, alloc, &talk)
+}
+
+#[test]
+fn a_further_slice_is_of_the_answer_held(rt: HostRuntime) -> Result<(), Fail> {
+    for (k, other) in OTHERS.iter().enumerate() {
+        assert!(rt;
+            is_refused(&rt, rt.alloc(), other, NOT_HELD, LOUD_FURTHER)?,
+            "row {k}"
+        );
+    }
+    assert!(rt; is_refused(&rt, rt.alloc(), UNKNOWN_FURTHER, UNKNOWN, FURTHER)?);
+    Ok(())
+}
+
+/// The answers of the clock and of a list that there is not, behind another answer.
+const CLOCK_ANSWER_2: &[u8] = b"\
+    \x32\x07\x00\x00\x00\x0B\x00\x0C\x00\x0E\x00\x01\x12\x08\x12\x87\x01\x02\x00\x00\x00\x00\
+    \xFF\x09\x00\x0A\x00\x19\x24\x02\x29\x13\x45\x30\x12\x35";
+
+const NO_LIST_ANSWER_2: &[u8] = b"\
+        \x32\x07\x00\x00\x00\x0C\x00\x0C\x00\x04\
+        \x00\x01\x12\x08\x12\x84\x01\x02\x00\x00\xD4\x01\x0A\x00\x00\x00";
+
+/// A right is cleared where nothing guards the areas, behind another answer too.
+const CLEAR: &[u8] =
+    b"\x32\x07\x00\x00\x00\x21\x00\x08\x00\x04\x00\x01\x12\x04\x11\x45\x02\x00\x0A\x00\x00\x00";
+
+const CLEAR_ANSWER_2: &[u8] = b"\
+        \x32\x07\x00\x00\x00\x21\x00\x0C\x00\x04\
+        \x00\x01\x12\x08\x12\x85\x02\x02\x00\x00\xD6\x05\x0A\x00\x00\x00";
+
+const REPLACED: &[Talk<'static>] = &[
+    Talk {
+        site: SITE,
+        asked: &[SETUP_128, LIST, CLOCK_READ, FURTHER],
+        answered: &[GRANTED_128, FIRST, CLOCK_ANSWER_2, NOT_HELD],
+        entries: 2,
+    },
+    Talk {
+        site: SITE,
+        asked: &[SETUP_128, LIST, NO_LIST, FURTHER],
+        answered: &[GRANTED_128, FIRST, NO_LIST_ANSWER_2, NOT_HELD],
+        entries: 2,
+    },
+    Talk {
+        site: SITE,
+        asked: &[SETUP_128, LIST, CLEAR, FURTHER],
+        answered: &[GRANTED_128, FIRST, CLEAR_ANSWER_2, NOT_HELD],
+        entries: 1,
+    },
+];
+
+#[test]
+fn a_new_answer_takes_the_place_of_the_old(rt: HostRuntime) -> Result<(), Fail> {
+    answers(&rt, rt.alloc(), REPLACED)
+}
+
+const REFUSED_LISTS: &[Talk<'static>] = &[
+    // Before the negotiation.
+    Talk {
+        site: SITE,
+        asked: &[LIST, FURTHER],
+        answered: &[
+            b"\x32\x02\x00\x00\x00\x0A\x00\x00\x00\x00\x84\x03",
+            b"\x32\x02\x00\x00\x00\x0B\x00\x00\x00\x00\x84\x03",
+        ],
+        entries: 0,
+    },
+    Talk {
+        site: SITE,
+        asked: &[SETUP, NO_LIST],
+        answered: &[GRANTED, NO_LIST_ANSWER],
+        entries: 1,
+    },
+    Talk {
+        site: SITE,
+        asked: &[SETUP, FURTHER],
+        answered: &[GRANTED, NOT_HELD],
+        entries: 0,
+    },
+    // No index, another transport size, and another subfunction.
+    Talk {
+        site: SITE,
+        asked: &[
+            SETUP,
+            b"\
+                \x32\x07\x00\x00\x00\x0B\x00\x08\x00\x06\
+                \x00\x01\x12\x04\x11\x44\x01\x00\xFF\x09\x00\x02\x00\x1C",
+            b"\
+                \x32\x07\x00\x00\x00\x0B\x00\x08\x00\x08\
+                \x00\x01\x12\x04\x11\x44\x01\x00\xFF\x04\x00\x20\x00\x1C\x00\x00",
+            b"\
+                \x32\x07\x00\x00\x00\x0B\x00\x08\x00\x08\
+                \x00\x01\x12\x04\x11\x44\x02\x00\xFF\x09\x00\x04\x00\x1C\x00\x00",
+        ],
+        answered: &[GRANTED, NOT_HELD, NOT_HELD, UNKNOWN],
+        entries: 0,
+    },
+];
+
+#[test]
+fn lists_are_refused(rt: HostRuntime) -> Result<(), Fail> {
+    answers(&rt, rt.alloc(), REFUSED_LISTS)
+}
+
+/// The refusal where the clock failed.
+const CLOCK_FAILED: &[u8] = b"\x32\x02\x00\x00\x00\x0B\x00\x00\x00\x00\x8F\x02";
+
+/// That where there is no room for an entry, and a set of the clock without a date.
+const NO_ROOM: &[u8] = b"\x32\x02\x00\x00\x00\x0B\x00\x00\x00\x00\x8F\x01";
+
+const NO_DATE: &[u8] =
+    b"\x32\x07\x00\x00\x00\x0B\x00\x08\x00\x04\x00\x01\x12\x04\x11\x47\x02\x00\x0A\x00\x00\x00";
+
+const FAILED_CLOCKS: &[Talk<'static>] = &[
+    // A receive, the confirm and the grant go before the clock is asked for the first time. Behind the refusal
+    // goes the read's answer, and then the clock is asked again.
+    Talk {
+        site: Site {
+            fates: &[
+                Fate::Pass,
+                Fate::Pass,
+                Fate::Pass,
+                Fate::Fail,
+                Fate::Pass,
+                Fate::Pass,
+                Fate::Pass,
+            ],
+            ..SITE
+        },
+        asked: &[SETUP, CLOCK_READ, READ, CLOCK_READ],
+        answered: &[GRANTED, CLOCK_FAILED, READ_ANSWER, CLOCK_ANSWER],
+        entries: 2,
+    },
+    // It is asked once for each telegram of the clock, and for no other: the eighth call is for the second.
+    Talk {
+        site: Site {
+            fates: &[
+                Fate::Pass,
+                Fate::Pass,
+                Fate::Pass,
+                Fate::Pass,
+                Fate::Pass,
+                Fate::Pass,
+                Fate::Pass,
+                Fate::Fail,
+            ],
+            ..SITE
+        },
+        asked: &[SETUP, CLOCK_READ, NO_LIST, STOP, CLOCK_READ],
+        answered: &[
+            GRANTED,
+            CLOCK_ANSWER,
+            NO_LIST_ANSWER_2,
+            STOPPED,
+            CLOCK_FAILED,
+        ],
+        entries: 3,
+    },
+    // Data that are no date are refused before the clock is asked, at the fifth call.
+    Talk {
+        site: Site {
+            fates: &[Fate::Pass, Fate::Pass, Fate::Pass, Fate::Pass, Fate::Fail],
+            ..SITE
+        },
+        asked: &[SETUP, NO_DATE, CLOCK_READ],
+        answered: &[GRANTED, NOT_HELD, CLOCK_FAILED],
+        entries: 0,
+    },
+    // A clock that fails is noticed before the history, which has no room.
+    Talk {
+        site: Site {
+            fates: &[Fate::Pass, Fate::Pass, Fate::Pass, Fate::Fail],
+            room: 0,
+            ..SITE
+        },
+        asked: &[SETUP, CLOCK_READ, CLOCK_READ],
+        answered: &[GRANTED, CLOCK_FAILED, NO_ROOM],
+        entries: 0,
+    },
+];
+
+#[test]
+fn a_failed_clock_refuses_its_telegram(rt: HostRuntime) -> Result<(), Fail> {
+    answers(&rt, rt.alloc(), FAILED_CLOCKS)
+}

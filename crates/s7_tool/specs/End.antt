@@ -1,0 +1,84 @@
+-- How it ended, by the command that the words name, and what was left.
+use Rattle.std.specs.Prelude.{ℕ, List, Option, Some, None, IsNone, IsSomeAnd}
+use Rattle.s7_outer.specs.DialShown.{DialShown}
+use Rattle.s7_outer.specs.FilesShown.{FilesShown}
+use Rattle.s7_outer.specs.OutShown.{OutShown}
+use Rattle.s7_outer.specs.Shown.{Shown}
+use Rattle.s7_rig.specs.Shown.{end_told}
+use Rattle.s7_words.specs.Tool.{ToolTold, gen, partner, rig, run}
+use Rattle.s7_tool.specs.declared.ended.Ended.{Ended}
+use Rattle.s7_tool.specs.declared.ended.ToolEnd.{ToolEnd}
+use Rattle.s7_tool.specs.Gen.{RanGen}
+use Rattle.s7_tool.specs.Loading.{PathFails, RefusesScript}
+use Rattle.s7_tool.specs.Partners.{CallFailsFor, FailsOne, PartnersLack, RanPartners, RefusesOne}
+use Rattle.s7_tool.specs.Ran.{CallFails, RanScript, RunLacksMemory}
+use Rattle.s7_tool.specs.Report.{Printed, memory_line}
+use Rattle.s7_tool.specs.Rigging.{FailsOneFile, RanRig, RefusesFile}
+
+-- ---- what was carried out
+
+-- A COMMAND WAS CARRIED OUT, as far as it says how it ended: `run` ran its script, `rig` and `gen` their rig, and
+-- `partner` its partners
+abbrev pub CarriesOut : {L : Type 0} → (L → Shown) → Option ToolTold → FilesShown → DialShown L → OutShown → OutShown
+    → ToolEnd L → Ended → Type 0
+CarriesOut shows None files dial out out' end how = ⊥
+CarriesOut shows (Some (run told)) files dial out out' end how =
+    IsSomeAnd end.run (λ r. RanScript shows told files dial out out' r how)
+CarriesOut shows (Some (rig told)) files dial out out' end how =
+    IsSomeAnd end.rig (λ r. RanRig told files out out' (end_told r) how)
+CarriesOut shows (Some (gen seed)) files dial out out' end how =
+    IsSomeAnd end.rig (λ r. RanGen seed out out' (end_told r) how)
+CarriesOut shows (Some (partner told)) files dial out out' end how =
+    RanPartners shows told told.other files dial out out' end.run how
+
+-- MEMORY WAS WANTING, and the line for this was printed, behind what `run` printed of a run that ended early
+abbrev pub LacksMemory : {L : Type 0} → (L → Shown) → Option ToolTold → FilesShown → DialShown L → OutShown → OutShown
+    → ToolEnd L → Type 0
+LacksMemory shows None files dial out out' end = Printed out out' memory_line
+LacksMemory shows (Some (run told)) files dial out out' end = RunLacksMemory shows told files dial out out' end.run
+LacksMemory shows (Some (rig told)) files dial out out' end = IsNone end.rig × Printed out out' memory_line
+LacksMemory shows (Some (gen seed)) files dial out out' end = IsNone end.rig × Printed out out' memory_line
+LacksMemory shows (Some (partner told)) files dial out out' end =
+    PartnersLack shows told told.other files dial out out' end.run
+
+-- ---- what was refused, and what failed
+
+-- A FILE WAS REFUSED: the script, or the first of the files of `rig` or `partner` that can't be read; `gen` reads none
+abbrev pub Refuses : Option ToolTold → FilesShown → (List ℕ → Type 0) → Type 0
+Refuses None files printed = ⊥
+Refuses (Some (run told)) files printed = RefusesScript told.script files printed
+Refuses (Some (rig told)) files printed = RefusesFile told files printed
+Refuses (Some (gen seed)) files printed = ⊥
+Refuses (Some (partner told)) files printed = RefusesOne told told.other files printed
+
+-- A FILE FAILED: the script's, or the one that came next for `rig` or `partner`
+abbrev pub FileFails : Option ToolTold → FilesShown → FilesShown → (List ℕ → Type 0) → Type 0
+FileFails None files files' printed = ⊥
+FileFails (Some (run told)) files files' printed = PathFails told.script files files' printed
+FileFails (Some (rig told)) files files' printed = FailsOneFile told files files' printed
+FileFails (Some (gen seed)) files files' printed = ⊥
+FileFails (Some (partner told)) files files' printed = FailsOne told told.other files files' printed
+
+-- THE DIAL FAILED: the call of `run`, or of `partner` with one file; `rig` and `gen` dial nothing
+abbrev pub DialFails : {L : Type 0} → Option ToolTold → FilesShown → DialShown L → DialShown L → (List ℕ → Type 0)
+    → Type 0
+DialFails None files dial dial' printed = ⊥
+DialFails (Some (run told)) files dial dial' printed = CallFails told files dial dial' printed
+DialFails (Some (rig told)) files dial dial' printed = ⊥
+DialFails (Some (gen seed)) files dial dial' printed = ⊥
+DialFails (Some (partner told)) files dial dial' printed = CallFailsFor told told.other files dial dial' printed
+
+-- ---- what is left
+
+-- nothing was run
+pub record IsUnrun {L : Type 0} (end : ToolEnd L) : Type 0 where
+  pub run : IsNone end.run
+  pub rig : IsNone end.rig
+
+-- what a command may leave: `run` and `partner` a run, and `rig` and `gen` a rig
+abbrev pub LeavesOnly : {L : Type 0} → Option ToolTold → ToolEnd L → Type 0
+LeavesOnly None end = IsUnrun end
+LeavesOnly (Some (run told)) end = IsNone end.rig
+LeavesOnly (Some (rig told)) end = IsNone end.run
+LeavesOnly (Some (gen seed)) end = IsNone end.run
+LeavesOnly (Some (partner told)) end = IsNone end.rig

@@ -1,0 +1,16 @@
+//! Tests of `tool_main`, with links in memory and over TCP on this machine. They stand in a crate of their own, so that it
+//! is proved once and not once more together with them.
+#![tactic(auto)]
+
+#[cfg(test)]
+mod blocks;
+#[cfg(test)]
+mod made;
+#[cfg(test)]
+mod panels;
+#[cfg(test)]
+mod partners;
+#[cfg(test)]
+mod rigs;
+#[cfg(test)]
+mod scripts;

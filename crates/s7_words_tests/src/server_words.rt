@@ -1,0 +1,193 @@
+use s7_words::{ServerWords, read_server_words};
+use std::test::Fail;
+
+fn pipe<'a>(areas: &'a str, save: Option<&'a str>) -> ServerWords<'a> {
+    ServerWords::Pipe {
+        areas,
+        save,
+        journal: 65_536,
+    }
+}
+
+fn serve<'a>(port: u16, links: u16, save: Option<&'a str>, journal: u64) -> ServerWords<'a> {
+    ServerWords::Serve {
+        areas: "a",
+        port,
+        links,
+        save,
+        journal,
+    }
+}
+
+#[test]
+fn server_lines(rt: HostRuntime) -> Result<(), Fail> {
+    let lines: &[(&[&str], ServerWords)] = &[
+        (&["pipe", "a.txt"], pipe("a.txt", None)),
+        (&["pipe", "-"], pipe("-", None)),
+        (&["pipe", ""], pipe("", None)),
+        (&["pipe", "a b"], pipe("a b", None)),
+        (&["pipe", "pipe"], pipe("pipe", None)),
+        (
+            &["pipe", "a.txt", "--save", "b.txt"],
+            pipe("a.txt", Some("b.txt")),
+        ),
+        (
+            &["pipe", "--save", "b.txt", "a.txt"],
+            pipe("a.txt", Some("b.txt")),
+        ),
+        (
+            &["pipe", "a.txt", "--save=b.txt"],
+            pipe("a.txt", Some("b.txt")),
+        ),
+        (
+            &["pipe", "--save=b.txt", "a.txt"],
+            pipe("a.txt", Some("b.txt")),
+        ),
+        (&["pipe", "a.txt", "--save="], pipe("a.txt", Some(""))),
+        (&["pipe", "a.txt", "--save", ""], pipe("a.txt", Some(""))),
+        (&["pipe", "a.txt", "--save", "-"], pipe("a.txt", Some("-"))),
+        (&["pipe", "a.txt", "--save=-x"], pipe("a.txt", Some("-x"))),
+        (&["pipe", "a.txt", "--save=b=c"], pipe("a.txt", Some("b=c"))),
+        (&["pipe", "--", "a.txt"], pipe("a.txt", None)),
+        (&["pipe", "--", "-x"], pipe("-x", None)),
+        (&["pipe", "--", "--"], pipe("--", None)),
+        (&["pipe", "--", "--save"], pipe("--save", None)),
+        (&["pipe", "a.txt", "--"], pipe("a.txt", None)),
+        (
+            &["pipe", "--save", "b.txt", "--", "a.txt"],
+            pipe("a.txt", Some("b.txt")),
+        ),
+        (&["serve", "a"], serve(102, 16, None, 65_536)),
+        (&["serve", "--", "a"], serve(102, 16, None, 65_536)),
+        (
+            &[
+                "serve",
+                "a",
+                "--port",
+                "1",
+                "--links",
+                "1",
+                "--journal",
+                "1",
+                "--save",
+                "",
+            ],
+            serve(1, 1, Some(""), 1),
+        ),
+        (
+            &[
+                "serve",
+                "--save=b",
+                "--journal=262144",
+                "--links=1024",
+                "--port=65535",
+                "a",
+            ],
+            serve(65_535, 1024, Some("b"), 262_144),
+        ),
+    ];
+    for (words, expected) in lines {
+        assert!(rt;
+            read_server_words(rt.alloc(), words)? == Some(*expected),
+            "{words:?}"
+        );
+    }
+    Ok(())
+}
+
+#[test]
+fn journals_have_their_room(rt: HostRuntime) -> Result<(), Fail> {
+    let lines: &[(&[&str], Option<&str>, u64)] = &[
+        (&["pipe", "a", "--journal", "1"], None, 1),
+        (&["pipe", "--journal=262144", "a"], None, 262_144),
+        (&["pipe", "a", "--journal", "+0065536"], None, 65_536),
+        (
+            &["pipe", "--journal", "3", "a", "--save", "b"],
+            Some("b"),
+            3,
+        ),
+        (&["pipe", "--save=b", "--journal=3", "a"], Some("b"), 3),
+    ];
+    for (words, save, journal) in lines {
+        let expected = ServerWords::Pipe {
+            areas: "a",
+            save: *save,
+            journal: *journal,
+        };
+        assert!(rt;
+            read_server_words(rt.alloc(), words)? == Some(expected),
+            "{words:?}"
+        );
+    }
+    Ok(())
+}
+
+#[test]
+fn server_usage(rt: HostRuntime) -> Result<(), Fail> {
+    let lines: &[&[&str]] = &[
+        &[],
+        &[""],
+        &["a.txt"],
+        &["Pipe", "a.txt"],
+        &["--", "pipe", "a.txt"],
+        &["help"],
+        &["help", "pipe"],
+        &["--help"],
+        &["--version"],
+        &["run", "a.txt"],
+        &["pipe"],
+        &["pipe", "--"],
+        &["pipe", "a.txt", "b.txt"],
+        &["pipe", "--", "a.txt", "b.txt"],
+        &["pipe", "a.txt", "--", "--save", "b.txt"],
+        &["pipe", "--help"],
+        &["pipe", "a.txt", "--help"],
+        &["pipe", "a.txt", "-h"],
+        &["pipe", "a.txt", "--version"],
+        &["pipe", "a.txt", "-V"],
+        &["pipe", "-x"],
+        &["pipe", "-é"],
+        &["pipe", "a.txt", "--save"],
+        &["pipe", "--save", "b.txt"],
+        &["pipe", "a.txt", "--save", "-x"],
+        &["pipe", "a.txt", "--save", "--", "b.txt"],
+        &["pipe", "a.txt", "--save", "b.txt", "--save", "b.txt"],
+        &["pipe", "a.txt", "--save=b.txt", "--save="],
+        &["pipe", "a.txt", "--sav", "b.txt"],
+        &["pipe", "a.txt", "--SAVE", "b.txt"],
+        &["pipe", "a.txt", "-s", "b.txt"],
+        &["pipe", "a.txt", "--=b.txt"],
+        &["pipe", "a.txt", "--journal"],
+        &["pipe", "--journal", "5"],
+        &["pipe", "a.txt", "--journal", "0"],
+        &["pipe", "a.txt", "--journal", "262145"],
+        &["pipe", "a.txt", "--journal", "18446744073709551617"],
+        &["pipe", "a.txt", "--journal="],
+        &["pipe", "a.txt", "--journal=-1"],
+        &["pipe", "a.txt", "--journal=0x5"],
+        &["pipe", "a.txt", "--journal", "5", "--journal", "5"],
+        &["pipe", "a.txt", "--port", "102"],
+        &["pipe", "a.txt", "--links", "16"],
+        &["Serve", "a"],
+        &["serve"],
+        &["serve", "a", "b"],
+        &["serve", "a", "--port", "0"],
+        &["serve", "a", "--port", "65536"],
+        &["serve", "a", "--port=-0"],
+        &["serve", "a", "--links", "0"],
+        &["serve", "a", "--links", "1025"],
+        &["serve", "a", "--links", "65537"],
+        &["serve", "a", "--journal", "0"],
+        &["serve", "a", "--journal", "262145"],
+        &["serve", "a", "--port", "102", "--port", "102"],
+        &["serve", "a", "--save"],
+        &["serve", "a", "--at", "127.0.0.1"],
+    ];
+    for words in lines {
+        assert!(rt;
+            read_server_words(rt.alloc(), words)?.is_none(),
+            "{words:?}"
+        );
+    }
+    Ok(())
+}

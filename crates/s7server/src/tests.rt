@@ -1,8 +1,0 @@
-mod doors;
-mod faults;
-mod files;
-mod helpers;
-mod journal;
-mod links;
-mod panel;
-mod words;
