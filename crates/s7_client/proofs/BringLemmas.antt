@@ -103,7 +103,7 @@ data_fits : (subject : Subject) (so_far : List ℕ) (params : UserParams) (octet
 data_fits subject so_far params None answer is = absurd (cc)
 data_fits subject so_far params (Some octets) answer is = brought_fits subject so_far params octets answer is
 
-params_fit : (subject : Subject) (under : Option ℕ) (so_far body : List ℕ) (r : Result UserParams BadParams)
+pub params_fit : (subject : Subject) (under : Option ℕ) (so_far body : List ℕ) (r : Result UserParams BadParams)
     (answer : Answer) → by_params subject under so_far body r ≡ Some answer → GoesBehind subject so_far answer
 params_fit subject under so_far body (Err bad) answer is = absurd (cc)
 params_fit subject under so_far body (Ok params) answer is =

@@ -1,5 +1,5 @@
 -- Laws of what is sent: no message is longer than the PDU, and no more are unanswered than may be.
-use Rattle.std.proofs.Common.{◌≡◌, ◌⊎◌, inl, inr, ℕ, zero, suc, ◌+◌, ◌-◌, ◌≤◌, Bool, true, false, cond, eqb, leb, ltb, Option, Some, None, List, [], ◌∷◌, ◌++◌, map, length, take, drop, refl, sym, ap, ◌∙◌, subst, arith}
+use Rattle.std.proofs.Common.{◌≡◌, ◌⊎◌, inl, inr, ℕ, zero, suc, ◌+◌, ◌-◌, ◌≤◌, Bool, true, false, cond, eqb, leb, ltb, Option, Some, None, List, [], ◌∷◌, ◌++◌, map, length, take, drop, refl, ap, subst, arith}
 use Rattle.std.specs.Prelude.{◌&&◌, max, bit_xor, replicate, slice_get}
 use Rattle.std.specs.List.{AllByRecursion}
 use Rattle.std.proofs.lemmas.Bool.{and_parts, eqb-true, leb-true}
@@ -30,8 +30,9 @@ use Rattle.s7_client.specs.declared.grant.Leaves.TheVariants.{AsItWas}
 use Rattle.s7_client.specs.declared.job.Job.{Job}
 use Rattle.s7_client.specs.declared.job.Job.TheVariants as job
 use Rattle.s7_client.specs.declared.subject.Subject.{Subject}
-use Rattle.s7_client.specs.declared.subject.Subject.TheVariants.{StatusList, RunState, BlockCounts, BlocksOfKind, BlockHead, Clock, ClockSetting, Password, PasswordClearing}
+use Rattle.s7_client.specs.declared.subject.Subject.TheVariants.{StatusList, RunState, BlockCounts, BlocksOfKind, BlockHead, DataHead, Clock, ClockSetting, Password, PasswordClearing}
 use Rattle.s7_client.specs.UserData.{request_params, further_params, no_data, data_of, filled_text, encoded_after, encoded}
+use Rattle.s7_client.specs.DataBlocks.{data_length, data_parts}
 use Rattle.s7_client.specs.Uploads.{start_params, id_params}
 use Rattle.s7_client.specs.Question.{Question, reads, writes, controls, asks, asks_further, written, message_octets, question_octets}
 use Rattle.s7_client.specs.Question.{starts_upload, slices_upload, ends_upload}
@@ -39,15 +40,16 @@ use Rattle.s7_client.specs.Answer.{Answer}
 use Rattle.s7_client.specs.Checks.{octet_count_of, check_item, check_items, check_moment, check_password}
 use Rattle.s7_client.specs.Stages.{joined}
 use Rattle.s7_client.specs.Flight.{Row, open_count}
-use Rattle.s7_client.specs.Dialogue.{Conduct, Plan, over, End, number_end, read_questions, write_questions, alone, controlling, octets_brought, last_answer, asking_about, list_octets, kind_octets, block_octets, if_good, connected_plan, plan_of}
+use Rattle.s7_client.specs.Dialogue.{Conduct, Plan, over, End, number_end, read_questions, write_questions, alone, controlling, octets_brought, count_of_data, behind, or_later, next_of_data, last_answer, asking_about, list_octets, kind_octets, block_octets, if_good, connected_plan, plan_of}
 use Rattle.s7_client.specs.Course.{Origin, conduct_of, course}
 use Rattle.s7_client.proofs.CheckLemmas.{item_checked, items_checked, can_split}
 use Rattle.s7_client.proofs.MessageLemmas.{written_sent}
-use Rattle.s7_client.proofs.GroupLemmas.{octet_count_append, groups_right, parts_together}
+use Rattle.s7_client.proofs.GroupLemmas.{octet_count_append, joined_alone, groups_right, parts_together}
 use Rattle.s7_client.proofs.FlightLemmas.{same_some, open_append, ComesNext, filled_open}
 use Rattle.s7_client.proofs.RowLemmas.{RowsKept, course_rows}
 use Rattle.s7_client.proofs.BringLemmas.{asks_behind}
 use Rattle.s7_client.proofs.UploadLemmas.{IsOf, IsUnderWay, upload_asks}
+use Rattle.s7_client.proofs.DataFitLemmas.{data_fit, data_few}
 
 -- ---- general lemmas
 
@@ -161,14 +163,15 @@ reads_short pdu groups each = all_mapped (Fits pdu false) (IsShort pdu) reads gr
 
 -- each group has as many of the octets as its items
 writes_short : (pdu : ℕ) (groups : List (List Item)) (octets : List ℕ) → AllByRecursion (Fits pdu true) groups
-    → length octets ≡ octet_count_of (joined groups)
+    → octet_count_of (joined groups) ≤ length octets
     → AllByRecursion (IsShort pdu) (write_questions groups octets)
 writes_short pdu [] octets each all = tt
 writes_short pdu (group ∷ groups) octets each all =
     let n : ℕ = octet_count_of group in
-    let both : length octets ≡ n + octet_count_of (joined groups) = all ∙ octet_count_append group (joined groups) in (
-      write_short pdu group (take n octets) each.0 (length-take-le n octets (omega (arith, both))),
-      writes_short pdu groups (drop n octets) each.1 (omega (arith, both, length-drop n octets)),
+    let both : octet_count_of (group ++ joined groups) ≡ n + octet_count_of (joined groups) =
+    octet_count_append group (joined groups) in (
+      write_short pdu group (take n octets) each.0 (length-take-le n octets (omega (arith, both, all))),
+      writes_short pdu groups (drop n octets) each.1 (omega (arith, both, all, length-drop n octets)),
     )
 
 parts_fit : (item : Item) (pdu : ℕ) (write : Bool) → CanBeSplit item → 64 ≤ pdu
@@ -220,6 +223,55 @@ piece_short pdu subject octets (first ∷ answers) question least few is =
     let next = asks_behind subject so_far (last_answer first answers) question is in
     subst (IsShort pdu) next.1 (further_short pdu subject next.0 so_far least)
 
+-- ---- whole data blocks
+
+later_is : (first later : Option Question) (question : Question) → or_later first later ≡ Some question
+    → (first ≡ Some question) ⊎ (later ≡ Some question)
+later_is None later question is = inr is
+later_is (Some one) later question is = inl is
+
+-- the head, and then these questions
+data_short_by : (pdu : ℕ) (octets : List ℕ) (questions : ℕ → List Question) (answers : List (Option Answer))
+    (question : Question) → 64 ≤ pdu → length octets ≤ 42
+    → ((size : ℕ) → AllByRecursion (IsShort pdu) (questions size))
+    → next_of_data octets questions answers ≡ Some question → IsShort pdu question
+data_short_by pdu octets questions [] question least few each is =
+    subst (IsShort pdu) (same_some (asks DataHead octets) question is) (asks_short pdu DataHead octets least few)
+data_short_by pdu octets questions (first ∷ answers) question least few each is =
+    let so_far : List ℕ = octets_brought (first ∷ answers) in
+    let count : ℕ = count_of_data (first ∷ answers) in
+    by_either
+    (later_is (behind DataHead so_far (last_answer first answers))
+    (slice_get (questions (data_length so_far)) count) question is)
+  where
+    by_either : (behind DataHead (octets_brought (first ∷ answers)) (last_answer first answers) ≡ Some question)
+        ⊎ (slice_get (questions (data_length (octets_brought (first ∷ answers)))) (count_of_data (first ∷ answers))
+        ≡ Some question)
+        → IsShort pdu question
+    by_either (inl head) =
+        let so_far : List ℕ = octets_brought (first ∷ answers) in
+        let next = asks_behind DataHead so_far (last_answer first answers) question head in
+        subst (IsShort pdu) next.1 (further_short pdu DataHead next.0 so_far least)
+    by_either (inr part) =
+        let so_far : List ℕ = octets_brought (first ∷ answers) in
+        one_of_all (IsShort pdu) (questions (data_length so_far)) (count_of_data (first ∷ answers)) question
+        (each (data_length so_far)) part
+
+data_read : (pdu number size : ℕ) → 64 ≤ pdu
+    → AllByRecursion (IsShort pdu) (read_questions (alone (data_parts number size pdu false)))
+data_read pdu number size least =
+    reads_short pdu (alone (data_parts number size pdu false)) (data_fit number size pdu false least)
+
+data_written : (pdu number size value : ℕ) → 64 ≤ pdu
+    → AllByRecursion (IsShort pdu)
+    (write_questions (alone (data_parts number size pdu true)) (replicate size value))
+data_written pdu number size value least =
+    let parts : List Item = data_parts number size pdu true in
+    let whole = ap octet_count_of (joined_alone parts) in
+    let long : length (replicate {A = ℕ} size value) ≡ size = length-replicate size value in
+    writes_short pdu (alone parts) (replicate size value) (data_fit number size pdu true least)
+    (omega (arith, whole, long, data_few number size pdu true))
+
 -- ---- the octets of user data
 
 length-clock : (moment : ℕ) → length (octets_at moment) ≡ 10
@@ -258,8 +310,9 @@ item_written : (item : Item) (octets : List ℕ) (pdu : ℕ) → 64 ≤ pdu
 item_written item octets pdu least good =
     let told = item_checked item (eqb (length octets) (octet_count item)) good in
     let split : CanBeSplit item = can_split item told.0 told.1 in
+    let long = eqb-true (length octets) (octet_count item) told.2 in
     writes_short pdu (alone (parts_of item pdu true)) octets (parts_fit item pdu true split least)
-    (eqb-true (length octets) (octet_count item) told.2 ∙ sym (parts_together item pdu true split least))
+    (omega (arith, long, parts_together item pdu true split least))
 
 item_read : (item : Item) (pdu : ℕ) → 64 ≤ pdu → check_item item true ≡ 0
     → AllByRecursion (IsShort pdu) (read_questions (alone (parts_of item pdu false)))
@@ -282,8 +335,9 @@ items_written : (items : List Item) (octets : List ℕ) (pdu : ℕ)
 items_written items octets pdu good =
     let told = items_checked items (eqb (length octets) (octet_count_of items)) pdu true good in
     let right : AreGroups pdu true items (groups_of pdu true items) = groups_right pdu true items told.4 in
-    writes_short pdu (groups_of pdu true items) octets (groups_fit pdu true items right)
-    (eqb-true (length octets) (octet_count_of items) told.3 ∙ ap octet_count_of (sym right.whole))
+    let long = eqb-true (length octets) (octet_count_of items) told.3 in
+    let whole = ap octet_count_of right.whole in
+    writes_short pdu (groups_of pdu true items) octets (groups_fit pdu true items right) (omega (arith, long, whole))
 
 -- no message of a connected client is longer than the PDU that was granted
 pub sent_short : (asked : Job) (config : Config) (granted : Grant) (answers : List (Option Answer))
@@ -319,6 +373,14 @@ sent_short (job.Upload kind number) config granted answers question least is =
     upload_short granted.pdu name answers question least (upload_asks name answers question is)
 sent_short (job.Delete kind number) config granted answers question least is =
     control_sent granted.pdu (control.Delete kind number) answers question least (omega arith) is
+sent_short (job.DbGet number) config granted answers question least is =
+    data_short_by granted.pdu (block_octets 0x41 number)
+    (λ size. read_questions (alone (data_parts number size granted.pdu false))) answers question least (omega arith)
+    (λ size. data_read granted.pdu number size least) is
+sent_short (job.DbFill number value) config granted answers question least is =
+    data_short_by granted.pdu (block_octets 0x41 number)
+    (λ size. write_questions (alone (data_parts number size granted.pdu true)) (replicate size value)) answers question
+    least (omega arith) (λ size. data_written granted.pdu number size value least) is
 sent_short (job.Szl id index) config granted answers question least is =
     piece_short granted.pdu StatusList (list_octets id index) answers question least (omega arith) is
 sent_short job.ClockRead config granted answers question least is =

@@ -30,7 +30,7 @@ use Rattle.s7_client.specs.Refusals.{number_of_error, number_of_code, number_of_
 use Rattle.s7_client.specs.Checks.{octet_count_of, check_item, check_items, check_moment, check_password}
 use Rattle.s7_client.specs.Stages.{joined}
 use Rattle.s7_client.specs.Flight.{Row, answers_of}
-use Rattle.s7_client.specs.Dialogue.{End, Conduct, Plan, departed_end, number_end, fault_end, over, taken_grant, by_grant, negotiated_by, negotiated, read_questions, write_questions, first_or, refusal_in, first_refusal, plain_number, write_number, by_refusal, octets_told, codes_told, octets_brought, good_end, alone, listed, controlling, asking_about, uploading, if_good, connected_plan, unconnected_plan, plan_of}
+use Rattle.s7_client.specs.Dialogue.{End, Conduct, Plan, departed_end, number_end, fault_end, over, taken_grant, by_grant, negotiated_by, negotiated, read_questions, write_questions, first_or, refusal_in, first_refusal, plain_number, write_number, by_refusal, octets_told, codes_told, octets_brought, count_of_data, fill_number, good_end, alone, listed, controlling, asking_about, uploading, getting, filling, if_good, connected_plan, unconnected_plan, plan_of}
 use Rattle.s7_client.specs.Course.{Origin, for_departure, for_nothing, conduct_of, course}
 use Rattle.s7_client.specs.Form.{count_read, octets_read, FormOf, HasForm, IsWhole}
 use Rattle.s7_client.proofs.CheckLemmas.{item_checked, items_checked, can_split}
@@ -501,6 +501,34 @@ upload_formed done granted name rows end carried form is_all ended =
     (λ r e. first_positive telegram_refusal 0 (answers_of rows) r telegram_positive e)
     (λ none. found_formed (Some granted) done found [] (form found) (is_all found)))
 
+-- a data block that is read gives what the answers told, and one that is filled nothing
+get_formed : (done : Job) (granted : Grant) (octets : List ℕ) (number : ℕ) (rows : List Row) (end : End)
+    (carried : List ℕ)
+    → ((found : List ℕ) → FormOf done found []) → ((found : List ℕ) → IsWhole done (good_end found []))
+    → IsEnded (getting granted.pdu octets number) rows end carried → Formed (Some granted) done end
+get_formed done granted octets number rows end carried form is_all ended =
+    let found : List ℕ = octets_told (answers_of rows) in
+    let refused = first_refusal part_refusal 0 (answers_of rows) in
+    subst (Formed (Some granted) done) (sym ended.is)
+    (refused_formed (Some granted) done plain_number refused (good_end found [])
+    (λ r e. first_positive part_refusal 0 (answers_of rows) r part_positive e)
+    (λ none. found_formed (Some granted) done found [] (form found) (is_all found)))
+
+fill_positive : (answers : List (Option Answer)) (place number : ℕ) → 0 < number → 0 < fill_number answers place number
+fill_positive answers place number some =
+    some_if (eqb (count_of_data (take place answers)) 0) number _ some (omega arith)
+
+fill_formed : (done : Job) (granted : Grant) (octets : List ℕ) (number value : ℕ) (rows : List Row) (end : End)
+    (carried : List ℕ) → FormOf done [] [] → IsWhole done (good_end [] [])
+    → IsEnded (filling granted.pdu octets number value) rows end carried → Formed (Some granted) done end
+fill_formed done granted octets number value rows end carried form is_all ended =
+    let answers = answers_of rows in
+    let refused = first_refusal part_refusal 0 answers in
+    subst (Formed (Some granted) done) (sym ended.is)
+    (refused_formed (Some granted) done (fill_number answers) refused (good_end [] [])
+    (λ r e. fill_positive answers r.0 r.1 (first_positive part_refusal 0 answers r part_positive e))
+    (λ none. found_formed (Some granted) done [] [] form is_all))
+
 -- user data gives what the answers brought, which is whole
 about_formed : (done : Job) (granted : Grant) (subject : Subject) (octets : List ℕ) (rows : List Row) (end : End)
     (carried : List ℕ)
@@ -566,6 +594,10 @@ connected_formed (job.Upload kind number) granted rows end carried asked ended =
     upload_formed (job.Upload kind number) granted _ rows end carried (λ found. refl) (λ found. tt) ended
 connected_formed (job.Delete kind number) granted rows end carried asked ended =
     control_formed (job.Delete kind number) granted (control.Delete kind number) rows end carried (refl, refl) tt ended
+connected_formed (job.DbGet number) granted rows end carried asked ended =
+    get_formed (job.DbGet number) granted _ number rows end carried (λ found. refl) (λ found. tt) ended
+connected_formed (job.DbFill number value) granted rows end carried asked ended =
+    fill_formed (job.DbFill number value) granted _ number value rows end carried (refl, refl) tt ended
 connected_formed (job.Szl id index) granted rows end carried asked ended =
     about_formed (job.Szl id index) granted StatusList _ rows end carried (λ found is. (is, refl)) (λ found. tt) asked
     ended

@@ -13,6 +13,8 @@ pub mod AskLemmas
 pub mod ReadyLemmas
 pub mod StartLemmas
 pub mod UploadLemmas
+pub mod DataPartLemmas
+pub mod DataReadLemmas
 pub mod SingleAskLemmas
 pub mod FollowLemmas
 pub mod SingleLemmas
@@ -29,6 +31,8 @@ pub mod PlaceLemmas
 pub mod KindLemmas
 pub mod NoteLemmas
 pub mod TakeLemmas
+pub mod SingleBehindLemmas
+pub mod DataBehindLemmas
 pub mod SingleAnswerLemmas
 pub mod SingleTakeLemmas
 pub mod CourseLemmas
@@ -49,5 +53,6 @@ pub mod StartingLemmas
 pub mod BringLemmas
 pub mod BringLastLemmas
 pub mod FormLemmas
+pub mod DataFitLemmas
 pub mod FitLemmas
 pub mod RunLemmas

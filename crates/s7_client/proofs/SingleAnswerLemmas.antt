@@ -1,389 +1,297 @@
--- Lemmas on jobs that ask one question at a time: what their conduct makes of one more answer.
-use Rattle.std.proofs.Common.{◌≡◌, ◌⊎◌, inl, inr, ℕ, ◌+◌, ◌-◌, ◌≤◌, Bool, true, false, cond, ltb, ◌&&◌, Option, Some, None, List, [], ◌∷◌, ◌++◌, length, drop, refl, sym, ap, ◌∙◌, subst, arith}
-use Rattle.std.specs.Prelude.{is_none, option_map}
-use Rattle.std.proofs.Math.Path.{ap₂}
-use Rattle.std.proofs.lemmas.List.{map-append}
+-- Lemmas on jobs that ask one question at a time: what they make of one more answer, whatever they asked.
+use Rattle.std.proofs.Common.{◌≡◌, ℕ, ◌+◌, ◌-◌, ◌<◌, ◌≤◌, true, false, leb, ltb, ◌&&◌, Option, Some, None, List, [], ◌∷◌, ◌++◌, length, drop, refl, sym, ap, ◌∙◌, subst, arith}
+use Rattle.std.specs.Prelude.{option_map}
+use Rattle.std.proofs.lemmas.Bool.{and_parts, and_from, lt-ltb, le-leb}
 use Rattle.s7_szl.specs.Joining.{most_joined}
-use Rattle.s7_clock.specs.declared.control.Control.{Control}
-use Rattle.s7_block.specs.declared.block.BlockName.{BlockName}
 use Rattle.s7_client.specs.declared.grant.Leaves.TheVariants.{AsItWas}
 use Rattle.s7_client.specs.declared.job.Job.{Job}
+use Rattle.s7_client.specs.declared.data_block.DataBlock.{DataBlock}
+use Rattle.s7_client.specs.declared.data_block.Place.{Place}
 use Rattle.s7_client.specs.declared.subject.Subject.{Subject}
 use Rattle.s7_client.specs.declared.single.Ask.{Ask}
 use Rattle.s7_client.specs.declared.single.Ask.TheVariants as ask
-use Rattle.s7_client.specs.UserData.{comes_in_pieces, lead_of}
-use Rattle.s7_client.specs.Question.{Question, controls, asks_further, starts_upload, slices_upload, ends_upload}
+use Rattle.s7_client.specs.Uploads.{most_uploaded}
+use Rattle.s7_client.specs.DataPlaces.{most_data, next_part, part_count, room_for_value, comes_for, has_pdu, is_inside}
 use Rattle.s7_client.specs.Answer.{Answer, stands, brings, uploads, slices, uploaded}
-use Rattle.s7_client.specs.Refusals.{control_refusal, telegram_refusal}
-use Rattle.s7_client.specs.Flight.{Row, answers_of, open_count}
-use Rattle.s7_client.specs.Dialogue.{End, Conduct, octets_in, octets_brought, brought_end, first_refusal, good_end, number_end, by_refusal, plain_number, controlling, asking_about, next_slice, uploading}
-use Rattle.s7_client.specs.Course.{Course, for_nothing, next_question, settled, asking}
-use Rattle.s7_client.specs.Stages.{data_of_job, block_of, question_of_single, conduct_of_single, is_writable}
-use Rattle.s7_client.specs.Singles.{room_for, asks_left, lead_in, refusal_to, TellsStatus, TellsPiece, TellsStart, TellsSlice, TellsEnd, BringsOn}
-use Rattle.s7_client.specs.Asks.{earlier}
-use Rattle.s7_client.proofs.FlightLemmas.{same_some, settled_ends}
-use Rattle.s7_client.proofs.AskLemmas.{refusal_open, asked_none}
-use Rattle.s7_client.proofs.RefusalLemmas.{refusal_more, refusal_same}
-use Rattle.s7_client.proofs.BringLemmas.{piece_behind, brought_append}
-use Rattle.s7_client.proofs.UploadLemmas.{IsUnderWay, upload_asks, slice_behind}
+use Rattle.s7_client.specs.Dialogue.{Conduct, octets_brought, count_of_data, brought_end, behind, first_refusal, good_end, number_end, by_refusal, plain_number}
+use Rattle.s7_client.specs.Stages.{question_of_single, conduct_of_single, is_writable}
+use Rattle.s7_client.specs.Singles.{room_for, parts_bring, most_brought, asks_left, lead_in, refusal_to, TellsStatus, TellsPiece, TellsStart, TellsSlice, TellsEnd, TellsOfHead, TellsPart, BringsOn, BeginsAnew}
+use Rattle.s7_client.specs.GoesOn.{is_counted}
+use Rattle.s7_client.proofs.FlightLemmas.{same_some}
+use Rattle.s7_client.proofs.SingleBehindLemmas.{Answers, refused_behind, unrefused_behind, EndsWith, Keeps, GoesBehind, IsPlain, plain_goes}
+use Rattle.s7_client.proofs.DataReadLemmas.{place_within, room_some}
+use Rattle.s7_client.proofs.DataBehindLemmas.{IsBehind, place_next, some_part, part_told, head_goes, anew_goes, part_goes, head_refused, part_refused}
 
--- ---- one more answer, behind others
+-- ---- whatever is asked
 
-abbrev pub Answers : Type 0
-Answers = List (Option Answer)
+pub goes_behind : (done : Job) (asked : Ask) (answers : Answers) (x : Answer) (so_far octets : List ℕ)
+    (next : Option Ask) → is_writable done asked ≡ true
+    → (conduct_of_single done asked).question_at answers ≡ Some (question_of_single done asked so_far)
+    → Keeps asked answers so_far → BringsOn asked octets next x
+    → GoesBehind done (conduct_of_single done asked) (lead_in asked) answers x (so_far ++ octets) next
+goes_behind done (ask.Head block) answers x so_far octets next writable at kept tells =
+    head_goes done block answers x so_far octets next kept.are kept.counted tells
+goes_behind done (ask.HeadFurther block octet) answers x so_far octets next writable at kept tells =
+    head_goes done block answers x so_far octets next kept.are kept.counted tells
+goes_behind done (ask.Part block place) answers x so_far octets next writable at kept tells =
+    let both = and_parts (has_pdu block) (is_inside place) writable in
+    let room = room_some block both.0 in
+    part_goes done block place answers x so_far octets next (omega (arith, room)) (place_within place both.1).0 kept
+    tells
+goes_behind done asked answers x so_far octets next writable at kept tells =
+    plain_goes done asked answers x so_far octets next tt at kept tells
 
-pub answers_behind : (rows : List Row) (row : Row) → answers_of (rows ++ row ∷ []) ≡ answers_of rows ++ row.answer ∷ []
-answers_behind rows row = map-append (λ (r : Row). r.answer) rows (row ∷ [])
+-- what is asked anew
+pub anew_behind : (done : Job) (asked : Ask) (answers : Answers) (x : Answer) (so_far : List ℕ) (a : Ask)
+    → is_writable done asked ≡ true → Keeps asked answers so_far → BeginsAnew asked so_far a x
+    → GoesBehind done (conduct_of_single done asked) (lead_in asked) answers x [] (Some a)
+anew_behind done (ask.Head block) answers x so_far a writable kept tells =
+    let room = room_some block writable in
+    anew_goes done block answers x so_far a (omega (arith, room)) kept.are kept.counted tells
+anew_behind done (ask.HeadFurther block octet) answers x so_far a writable kept tells =
+    let room = room_some block writable in
+    anew_goes done block answers x so_far a (omega (arith, room)) kept.are kept.counted tells
+anew_behind done _ answers x so_far a writable kept tells = absurd tells
 
--- where none before it refuses, it is the first that does
-refused_behind : (refusal : Answer → Option ℕ) (answers : Answers) (x : Answer) (number : ℕ)
-    → first_refusal refusal 0 answers ≡ None → refusal x ≡ Some number
-    → first_refusal refusal 0 (answers ++ Some x ∷ []) ≡ Some (length answers, number)
-refused_behind refusal answers x number none is =
-    let place : 0 + length answers ≡ length answers = omega arith in
-    refusal_more refusal 0 number answers [] x is
-    ∙ (ap (λ o. earlier o (0 + length answers) number) (refusal_open refusal 0 answers ∙ none)
-    ∙ ap (λ n. Some (n, number)) place)
-
--- or none does
-pub unrefused_behind : (refusal : Answer → Option ℕ) (answers : Answers) (x : Answer)
-    → first_refusal refusal 0 answers ≡ None → refusal x ≡ None
-    → first_refusal refusal 0 (answers ++ Some x ∷ []) ≡ None
-unrefused_behind refusal answers x none is =
-    refusal_same refusal 0 answers [] x is ∙ (refusal_open refusal 0 answers ∙ none)
-
--- and a control asks nothing more
-none_more : (control : Control) (answers : Answers) (answer : Option Answer) (question : Question)
-    → (controlling control).question_at answers ≡ Some question
-    → (controlling control).question_at (answers ++ answer ∷ []) ≡ None
-none_more control [] answer question is = refl
-none_more control (first ∷ answers) answer question is = absurd (cc)
-
--- ---- the end
-
--- The conduct ends so with one more answer, and nothing may be asked then.
-pub record EndsWith (c : Conduct) (answers : Answers) (end : End) : Type 0 where
-  pub last : first_refusal c.refusal 0 answers ≡ None → c.question_at answers ≡ None
-  pub is : c.ended answers ≡ end
-
-none_by : (less : Bool) (refused : Option (ℕ × ℕ)) (next : Option Question) → (refused ≡ None → next ≡ None)
-    → cond (less && is_none refused) next None ≡ None
-none_by true None next last = last refl
-none_by true (Some r) next last = refl
-none_by false refused next last = refl
-
--- such a job is over, once all of its telegrams are answered
-pub ended_with : (c : Conduct) (course : Course) (end : End) → EndsWith c (answers_of course.rows) end
-    → open_count course.rows ≡ 0
-    → (asking c course ≡ settled c course) × ((settled c course).awaits ≡ for_nothing end [])
-ended_with c course end ends none =
-    let over : next_question c course.rows ≡ None =
-    none_by (ltb (open_count course.rows) c.width) (first_refusal c.refusal 0 (answers_of course.rows))
-    (c.question_at (answers_of course.rows)) ends.last in
-    (ap (settled c) (asked_none c.width c course over), settled_ends c course none ∙ ap (λ e. for_nothing e []) ends.is)
+pub ends_behind : (done : Job) (c : Conduct) (lead : ℕ) (answers : Answers) (x : Answer) (all : List ℕ)
+    (next : Option Ask)
+    → GoesBehind done c lead answers x all next → first_refusal c.refusal 0 answers ≡ None → next ≡ None
+    → EndsWith c (answers ++ Some x ∷ []) (good_end (drop lead all) [])
+ends_behind done c lead answers x all next goes none over = record {
+  last = λ unrefused. goes.asks ∙ ap (option_map (λ (a : Ask). question_of_single done a all)) over;
+  is = goes.ended over (unrefused_behind c.refusal answers x none goes.unrefused);
+}
 
 -- a refusal ends it, as what is asked refuses
-ended_refused : (done : Job) (asked : Ask) (answers : Answers) (place number : ℕ)
+plain_refused : (done : Job) (asked : Ask) (answers : Answers) (place number : ℕ) → IsPlain asked
     → first_refusal (conduct_of_single done asked).refusal 0 answers ≡ Some (place, number)
     → (conduct_of_single done asked).ended answers ≡ number_end number AsItWas
-ended_refused done (ask.Control control) answers place number first =
+plain_refused done (ask.Control control) answers place number plain first =
     ap (λ o. by_refusal plain_number o (good_end [] [])) first
-ended_refused done (ask.About subject) answers place number first =
+plain_refused done (ask.About subject) answers place number plain first =
     ap (λ o. by_refusal plain_number o (brought_end subject answers)) first
-ended_refused done (ask.Further subject octet) answers place number first =
+plain_refused done (ask.Further subject octet) answers place number plain first =
     ap (λ o. by_refusal plain_number o (brought_end subject answers)) first
-ended_refused done _ answers place number first =
+plain_refused done (ask.Head block) answers place number plain first = absurd plain
+plain_refused done (ask.HeadFurther block octet) answers place number plain first = absurd plain
+plain_refused done (ask.Part block at) answers place number plain first = absurd plain
+plain_refused done _ answers place number plain first =
     ap (λ o. by_refusal plain_number o (good_end (octets_brought answers) [])) first
 
-refusal_as : (done : Job) (asked : Ask) (x : Answer) → refusal_to asked x ≡ (conduct_of_single done asked).refusal x
-refusal_as done (ask.Control control) x = refl
-refusal_as done _ x = refl
+refusal_as : (done : Job) (asked : Ask) (x : Answer) → IsPlain asked
+    → refusal_to asked x ≡ (conduct_of_single done asked).refusal x
+refusal_as done (ask.Control control) x plain = refl
+refusal_as done (ask.Head block) x plain = absurd plain
+refusal_as done (ask.HeadFurther block octet) x plain = absurd plain
+refusal_as done (ask.Part block place) x plain = absurd plain
+refusal_as done _ x plain = refl
 
-pub ends_refused : (done : Job) (asked : Ask) (answers : Answers) (x : Answer) (number : ℕ)
+plain_ends : (done : Job) (asked : Ask) (answers : Answers) (x : Answer) (number : ℕ) → IsPlain asked
     → first_refusal (conduct_of_single done asked).refusal 0 answers ≡ None → refusal_to asked x ≡ Some number
     → EndsWith (conduct_of_single done asked) (answers ++ Some x ∷ []) (number_end number AsItWas)
-ends_refused done asked answers x number none is =
+plain_ends done asked answers x number plain none is =
     let c = conduct_of_single done asked in
-    let first = refused_behind c.refusal answers x number none (sym (refusal_as done asked x) ∙ is) in
+    let first = refused_behind c.refusal answers x number none (sym (refusal_as done asked x plain) ∙ is) in
     record {
       last = λ unrefused. absurd (cc);
-      is = ended_refused done asked (answers ++ Some x ∷ []) (length answers) number first;
+      is = plain_refused done asked (answers ++ Some x ∷ []) (length answers) number plain first;
     }
 
--- ---- an answer that brings octets
-
--- One more answer, which refuses nothing, brings these octets behind those that came. What is asked next is asked in the
--- same way, and where nothing is, the job ends with all of them, behind so many that stand before what was asked for.
-pub record GoesBehind (done : Job) (c : Conduct) (lead : ℕ) (answers : Answers) (x : Answer) (so_far octets : List ℕ)
-    (next : Option Ask) : Type 0 where
-  pub unrefused : c.refusal x ≡ None
-  pub brings : octets_in x ≡ octets
-  pub asks : c.question_at (answers ++ Some x ∷ [])
-      ≡ option_map (λ (a : Ask). question_of_single done a (so_far ++ octets)) next
-  pub alike : (a : Ask) → next ≡ Some a → conduct_of_single done a ≡ c
-  pub ended : (all : Answers) → first_refusal c.refusal 0 all ≡ None → octets_brought all ≡ so_far ++ octets
-      → c.ended all ≡ good_end (drop lead (so_far ++ octets)) []
-
--- a control, which is all that is asked
-none_before : (control : Control) (answers : Answers) (question : Question)
-    → (controlling control).question_at answers ≡ Some question → answers ≡ []
-none_before control [] question at = refl
-none_before control (first ∷ answers) question at = absurd (cc)
-
-status_behind : (done : Job) (control : Control) (answers : Answers) (x : Answer) (so_far octets : List ℕ)
-    (next : Option Ask)
-    → (controlling control).question_at answers ≡ Some (controls control) → octets_brought answers ≡ so_far
-    → TellsStatus octets next x → GoesBehind done (controlling control) 0 answers x so_far octets next
-status_behind done control answers (stands status) so_far octets next at came tells =
-    let none : so_far ≡ [] = sym came ∙ ap octets_brought (none_before control answers (controls control) at) in
-    record {
-      unrefused = ap (λ n. control_refusal control (stands n)) tells.0;
-      brings = sym tells.1;
-      asks =
-          none_more control answers (Some (stands status)) (controls control) at
-          ∙ ap (option_map (λ (a : Ask). question_of_single done a (so_far ++ octets))) (sym tells.2);
-      alike = λ a is. absurd (let e = tells.2 in cc);
-      ended = λ all first brought. ap (λ o. by_refusal plain_number o (good_end [] [])) first
-          ∙ ap (λ xs. good_end xs []) (sym (ap (λ xs. xs ++ octets) none ∙ tells.1));
-    }
-status_behind done control answers _ so_far octets next at came tells = absurd tells
-
--- a piece of user data
-pub brought_more : (answers : Answers) (x : Answer) (so_far octets : List ℕ) → octets_brought answers ≡ so_far
-    → octets_in x ≡ octets → octets_brought (answers ++ Some x ∷ []) ≡ so_far ++ octets
-brought_more answers x so_far octets came same =
-    brought_append answers x ∙ (ap (λ xs. xs ++ octets_in x) came ∙ ap (λ xs. so_far ++ xs) same)
-
-piece_asks : (done : Job) (subject : Subject) (octet : ℕ) (more : Bool) (all : List ℕ) (next : Option Ask)
-    → next ≡ cond more (Some (ask.Further subject octet)) None → (more ≡ true → comes_in_pieces subject ≡ true)
-    → cond (more && comes_in_pieces subject) (Some (asks_further subject octet all)) None
-    ≡ option_map (λ (a : Ask). question_of_single done a all) next
-piece_asks done subject octet true all next is pieces =
-    ap (λ b. cond b (Some (asks_further subject octet all)) None) (pieces refl)
-    ∙ ap (option_map (λ (a : Ask). question_of_single done a all)) (sym is)
-piece_asks done subject octet false all next is pieces =
-    ap (option_map (λ (a : Ask). question_of_single done a all)) (sym is)
-
-piece_alike : (done : Job) (subject : Subject) (octet : ℕ) (more : Bool) (next : Option Ask) (a : Ask)
-    → next ≡ cond more (Some (ask.Further subject octet)) None → next ≡ Some a
-    → conduct_of_single done a ≡ asking_about subject (data_of_job done)
-piece_alike done subject octet true next a is some =
-    ap (conduct_of_single done) (same_some a (ask.Further subject octet) (sym some ∙ is))
-piece_alike done subject octet false next a is some = absurd (cc)
-
-piece_goes : (done : Job) (subject : Subject) (answers : Answers) (x : Answer) (so_far octets : List ℕ)
-    (next : Option Ask) → octets_brought answers ≡ so_far → TellsPiece subject octets next x
-    → GoesBehind done (asking_about subject (data_of_job done)) (lead_of subject) answers x so_far octets next
-piece_goes done subject answers (brings octet more piece) so_far octets next came tells =
-    let x = brings octet more piece in
-    record {
-      unrefused = refl;
-      brings = sym tells.0;
-      asks =
-          piece_behind subject (data_of_job done) answers (Some x)
-          ∙ (ap (λ xs. cond (more && comes_in_pieces subject) (Some (asks_further subject octet xs)) None)
-          (brought_more answers x so_far octets came (sym tells.0))
-          ∙ piece_asks done subject octet more (so_far ++ octets) next tells.1 tells.3);
-      alike = λ a is. piece_alike done subject octet more next a tells.1 is;
-      ended = λ all first brought. ap (λ o. by_refusal plain_number o (brought_end subject all)) first
-          ∙ ap (λ xs. good_end (drop (lead_of subject) xs) []) brought;
-    }
-piece_goes done subject answers _ so_far octets next came tells = absurd tells
-
--- the end of an upload that no answer refuses
-image_end : (name : BlockName) (all : Answers) (octets : List ℕ) → first_refusal telegram_refusal 0 all ≡ None
-    → octets_brought all ≡ octets → (uploading name).ended all ≡ good_end (drop 0 octets) []
-image_end name all octets first brought =
-    ap (λ o. by_refusal plain_number o (good_end (octets_brought all) [])) first ∙ ap (λ xs. good_end xs []) brought
-
--- an upload's start
-start_behind : (done : Job) (answers : Answers) (x : Answer) (so_far octets : List ℕ) (next : Option Ask)
-    → next_slice (block_of done) answers ≡ Some (starts_upload (block_of done)) → octets_brought answers ≡ so_far
-    → TellsStart octets next x → GoesBehind done (uploading (block_of done)) 0 answers x so_far octets next
-start_behind done answers (uploads id size) so_far octets next at came tells =
-    let name : BlockName = block_of done in
-    by_asked (upload_asks name answers (starts_upload name) at)
-  where
-    by_asked : ((answers ≡ []) × (starts_upload (block_of done) ≡ starts_upload (block_of done)))
-        ⊎ IsUnderWay answers (starts_upload (block_of done))
-        → GoesBehind done (uploading (block_of done)) 0 answers (uploads id size) so_far octets next
-    by_asked (inl first) =
-        let name : BlockName = block_of done in
-        let none : so_far ++ octets ≡ [] =
-        ap (λ xs. xs ++ octets) (sym came ∙ ap octets_brought first.0) ∙ tells.0 in
-        record {
-          unrefused = refl;
-          brings = sym tells.0;
-          asks =
-              ap (λ (xs : Answers). next_slice name (xs ++ Some (uploads id size) ∷ [])) first.0
-              ∙ (ap (λ xs. Some (slices_upload id size xs)) (sym none)
-              ∙ ap (option_map (λ (a : Ask). question_of_single done a (so_far ++ octets))) (sym tells.1));
-          alike = λ a is. ap (conduct_of_single done) (same_some a (ask.Slice id size) (sym is ∙ tells.1));
-          ended = λ all unrefused brought. image_end name all (so_far ++ octets) unrefused brought;
-        }
-    by_asked (inr under) = absurd under.of
-start_behind done answers _ so_far octets next at came tells = absurd tells
-
--- a slice
-slice_asks : (done : Job) (id size : ℕ) (more : Bool) (all : List ℕ) (next : Option Ask)
-    → next ≡ Some (cond more (ask.Slice id size) (ask.UploadEnd id))
-    → Some (cond more (slices_upload id size all) (ends_upload id))
-    ≡ option_map (λ (a : Ask). question_of_single done a all) next
-slice_asks done id size true all next is = ap (option_map (λ (a : Ask). question_of_single done a all)) (sym is)
-slice_asks done id size false all next is = ap (option_map (λ (a : Ask). question_of_single done a all)) (sym is)
-
-slice_alike : (done : Job) (id size : ℕ) (more : Bool) (next : Option Ask) (a : Ask)
-    → next ≡ Some (cond more (ask.Slice id size) (ask.UploadEnd id)) → next ≡ Some a
-    → conduct_of_single done a ≡ uploading (block_of done)
-slice_alike done id size true next a is some =
-    ap (conduct_of_single done) (same_some a (ask.Slice id size) (sym some ∙ is))
-slice_alike done id size false next a is some =
-    ap (conduct_of_single done) (same_some a (ask.UploadEnd id) (sym some ∙ is))
-
-slice_goes : (done : Job) (id size : ℕ) (answers : Answers) (x : Answer) (so_far octets : List ℕ) (next : Option Ask)
-    → next_slice (block_of done) answers ≡ Some (slices_upload id size so_far) → octets_brought answers ≡ so_far
-    → TellsSlice id size octets next x → GoesBehind done (uploading (block_of done)) 0 answers x so_far octets next
-slice_goes done id size answers (slices more piece) so_far octets next at came tells =
-    by_asked (upload_asks (block_of done) answers (slices_upload id size so_far) at)
-  where
-    by_asked : ((answers ≡ []) × (starts_upload (block_of done) ≡ slices_upload id size so_far))
-        ⊎ IsUnderWay answers (slices_upload id size so_far)
-        → GoesBehind done (uploading (block_of done)) 0 answers (slices more piece) so_far octets next
-    by_asked (inl first) = absurd (let e = first.1 in cc)
-    by_asked (inr under) =
-        let name : BlockName = block_of done in
-        let x = slices more piece in
-        let started : answers ≡ Some (uploads id size) ∷ under.rest =
-        under.first ∙ ap₂ (λ i n. Some (uploads i n) ∷ under.rest) (sym under.of.0) (sym under.of.1) in
-        record {
-          unrefused = refl;
-          brings = sym tells.0;
-          asks =
-              slice_behind name id size answers under.rest (Some x) started
-              ∙ (ap (λ xs. Some (cond more (slices_upload id size xs) (ends_upload id)))
-              (brought_more answers x so_far octets came (sym tells.0))
-              ∙ slice_asks done id size more (so_far ++ octets) next tells.1);
-          alike = λ a is. slice_alike done id size more next a tells.1 is;
-          ended = λ all unrefused brought. image_end name all (so_far ++ octets) unrefused brought;
-        }
-slice_goes done id size answers _ so_far octets next at came tells = absurd tells
-
--- its end
-end_goes : (done : Job) (id : ℕ) (answers : Answers) (x : Answer) (so_far octets : List ℕ) (next : Option Ask)
-    → next_slice (block_of done) answers ≡ Some (ends_upload id) → octets_brought answers ≡ so_far
-    → TellsEnd octets next x → GoesBehind done (uploading (block_of done)) 0 answers x so_far octets next
-end_goes done id answers uploaded so_far octets next at came tells =
-    by_asked (upload_asks (block_of done) answers (ends_upload id) at)
-  where
-    by_asked : ((answers ≡ []) × (starts_upload (block_of done) ≡ ends_upload id)) ⊎ IsUnderWay answers (ends_upload id)
-        → GoesBehind done (uploading (block_of done)) 0 answers uploaded so_far octets next
-    by_asked (inl first) = absurd (let e = first.1 in cc)
-    by_asked (inr under) =
-        let name : BlockName = block_of done in
-        record {
-          unrefused = refl;
-          brings = sym tells.0;
-          asks =
-              slice_behind name under.id under.size answers under.rest (Some uploaded) under.first
-              ∙ ap (option_map (λ (a : Ask). question_of_single done a (so_far ++ octets))) (sym tells.1);
-          alike = λ a is. absurd (let e = tells.1 in cc);
-          ended = λ all unrefused brought. image_end name all (so_far ++ octets) unrefused brought;
-        }
-end_goes done id answers _ so_far octets next at came tells = absurd tells
-
--- whatever is asked
-pub goes_behind : (done : Job) (asked : Ask) (answers : Answers) (x : Answer) (so_far octets : List ℕ) (next : Option Ask)
-    → (conduct_of_single done asked).question_at answers ≡ Some (question_of_single done asked so_far)
-    → octets_brought answers ≡ so_far → BringsOn asked octets next x
-    → GoesBehind done (conduct_of_single done asked) (lead_in asked) answers x so_far octets next
-goes_behind done (ask.Control control) answers x so_far octets next at came tells =
-    status_behind done control answers x so_far octets next at came tells
-goes_behind done (ask.About subject) answers x so_far octets next at came tells =
-    piece_goes done subject answers x so_far octets next came tells
-goes_behind done (ask.Further subject octet) answers x so_far octets next at came tells =
-    piece_goes done subject answers x so_far octets next came tells
-goes_behind done ask.Upload answers x so_far octets next at came tells =
-    start_behind done answers x so_far octets next at came tells
-goes_behind done (ask.Slice id size) answers x so_far octets next at came tells =
-    slice_goes done id size answers x so_far octets next at came tells
-goes_behind done (ask.UploadEnd id) answers x so_far octets next at came tells =
-    end_goes done id answers x so_far octets next at came tells
-
-pub ends_behind : (done : Job) (c : Conduct) (lead : ℕ) (answers : Answers) (x : Answer) (so_far octets : List ℕ)
-    (next : Option Ask)
-    → GoesBehind done c lead answers x so_far octets next → octets_brought answers ≡ so_far
-    → first_refusal c.refusal 0 answers ≡ None → next ≡ None
-    → EndsWith c (answers ++ Some x ∷ []) (good_end (drop lead (so_far ++ octets)) [])
-ends_behind done c lead answers x so_far octets next goes came none over = record {
-  last = λ unrefused. goes.asks
-      ∙ ap (option_map (λ (a : Ask). question_of_single done a (so_far ++ octets))) over;
-  is =
-      goes.ended (answers ++ Some x ∷ []) (unrefused_behind c.refusal answers x none goes.unrefused)
-      (brought_more answers x so_far octets came goes.brings);
-}
+pub ends_refused : (done : Job) (asked : Ask) (answers : Answers) (x : Answer) (number : ℕ)
+    → first_refusal (conduct_of_single done asked).refusal 0 answers ≡ None
+    → is_counted asked (count_of_data answers) ≡ true → refusal_to asked x ≡ Some number
+    → EndsWith (conduct_of_single done asked) (answers ++ Some x ∷ []) (number_end number AsItWas)
+ends_refused done (ask.Head block) answers x number none counted is =
+    head_refused block answers x number none counted is
+ends_refused done (ask.HeadFurther block octet) answers x number none counted is =
+    head_refused block answers x number none counted is
+ends_refused done (ask.Part block place) answers x number none counted is =
+    part_refused block place answers x number none counted is
+ends_refused done asked answers x number none counted is = plain_ends done asked answers x number tt none is
 
 -- ---- what is asked next
 
--- What is asked behind octets that came has a place for each octet, can be written, and leaves fewer answers.
-pub record IsNext (asked : Ask) (octets : List ℕ) (a : Ask) : Type 0 where
+-- What is asked behind octets that came, behind so many others, has a place for each octet, can be written, and leaves
+-- fewer answers.
+pub record IsNext (asked : Ask) (came : ℕ) (octets : List ℕ) (a : Ask) : Type 0 where
   pub room : room_for a ≡ room_for asked
   pub later : (subject : Subject) → a ≡ ask.About subject → ⊥
+  pub behind : (block : DataBlock) → a ≡ ask.Head block → ⊥
   pub writable : (done : Job) → is_writable done a ≡ true
-  pub fewer : (came : ℕ) → came + length octets ≤ room_for asked
-      → asks_left a (came + length octets) + 1 ≤ asks_left asked came
+  pub most : came + length octets + parts_bring a ≤ room_for asked
+  pub fewer : asks_left a (came + length octets) + 1 ≤ asks_left asked came
 
-next_as : (asked : Ask) (octets : List ℕ) (next : Option Ask) (a b : Ask) → next ≡ Some a → next ≡ Some b
-    → IsNext asked octets b → IsNext asked octets a
-next_as asked octets next a b is other fits = subst (IsNext asked octets) (same_some b a (sym other ∙ is)) fits
+next_as : (asked : Ask) (came : ℕ) (octets : List ℕ) (next : Option Ask) (a b : Ask) → next ≡ Some a → next ≡ Some b
+    → IsNext asked came octets b → IsNext asked came octets a
+next_as asked came octets next a b is other fits =
+    subst (IsNext asked came octets) (same_some b a (sym other ∙ is)) fits
 
-piece_next : (asked : Ask) (subject : Subject) (octets : List ℕ) (next : Option Ask) (x : Answer) (a : Ask)
-    → room_for asked ≡ most_joined → ((came : ℕ) → asks_left asked came ≡ 1 + (most_joined - came))
-    → TellsPiece subject octets next x → next ≡ Some a → IsNext asked octets a
-piece_next asked subject octets next (brings octet true piece) a room left tells is =
-    next_as asked octets next a (ask.Further subject octet) is tells.1
+piece_next : (asked : Ask) (subject : Subject) (came : ℕ) (octets : List ℕ) (next : Option Ask) (x : Answer) (a : Ask)
+    → room_for asked ≡ most_joined → asks_left asked came ≡ 1 + (most_joined - came)
+    → came + length octets ≤ most_joined → TellsPiece subject octets next x → next ≡ Some a
+    → IsNext asked came octets a
+piece_next asked subject came octets next (brings octet true piece) a room left fits tells is =
+    next_as asked came octets next a (ask.Further subject octet) is tells.1
     (record {
       room = sym room;
       later = λ about e. absurd (cc);
+      behind = λ block e. absurd (cc);
       writable = λ done. refl;
-      fewer = λ came fits. omega (arith, left came, room, fits, ap length tells.0, tells.2 refl);
+      most = omega (arith, room, fits);
+      fewer = omega (arith, left, fits, ap length tells.0, tells.2 refl);
     })
-piece_next asked subject octets next (brings octet false piece) a room left tells is =
+piece_next asked subject came octets next (brings octet false piece) a room left fits tells is =
     absurd (let e = tells.1 in cc)
-piece_next asked subject octets next _ a room left tells is = absurd tells
+piece_next asked subject came octets next _ a room left fits tells is = absurd tells
 
-pub is_next : (asked : Ask) (octets : List ℕ) (next : Option Ask) (x : Answer) (a : Ask) → BringsOn asked octets next x
-    → next ≡ Some a → IsNext asked octets a
-is_next (ask.Control control) octets next (stands status) a tells is = absurd (let e = tells.2 in cc)
-is_next (ask.Control control) octets next _ a tells is = absurd tells
-is_next (ask.About subject) octets next x a tells is =
-    piece_next (ask.About subject) subject octets next x a refl (λ came. refl) tells is
-is_next (ask.Further subject octet) octets next x a tells is =
-    piece_next (ask.Further subject octet) subject octets next x a refl (λ came. refl) tells is
-is_next ask.Upload octets next (uploads id size) a tells is =
-    next_as ask.Upload octets next a (ask.Slice id size) is tells.1
+start_next : (came : ℕ) (octets : List ℕ) (next : Option Ask) (x : Answer) (a : Ask)
+    → came + length octets ≤ most_uploaded → TellsStart octets next x → next ≡ Some a → IsNext ask.Upload came octets a
+start_next came octets next (uploads id size) a fits tells is =
+    next_as ask.Upload came octets next a (ask.Slice id size) is tells.1
     (record {
       room = refl;
       later = λ about e. absurd (cc);
+      behind = λ block e. absurd (cc);
       writable = λ done. refl;
-      fewer = λ came fits. omega (arith, ap length tells.0);
+      most = omega (arith, fits);
+      fewer = omega (arith, ap length tells.0);
     })
-is_next ask.Upload octets next _ a tells is = absurd tells
-is_next (ask.Slice id size) octets next (slices true piece) a tells is =
-    next_as (ask.Slice id size) octets next a (ask.Slice id size) is tells.1
+start_next came octets next _ a fits tells is = absurd tells
+
+slice_next : (id size came : ℕ) (octets : List ℕ) (next : Option Ask) (x : Answer) (a : Ask)
+    → came + length octets ≤ most_uploaded → TellsSlice id size octets next x → next ≡ Some a
+    → IsNext (ask.Slice id size) came octets a
+slice_next id size came octets next (slices true piece) a fits tells is =
+    next_as (ask.Slice id size) came octets next a (ask.Slice id size) is tells.1
     (record {
       room = refl;
       later = λ about e. absurd (cc);
+      behind = λ block e. absurd (cc);
       writable = λ done. refl;
-      fewer = λ came fits. omega (arith, fits, ap length tells.0, tells.2 refl);
+      most = omega (arith, fits);
+      fewer = omega (arith, fits, ap length tells.0, tells.2 refl);
     })
-is_next (ask.Slice id size) octets next (slices false piece) a tells is =
-    next_as (ask.Slice id size) octets next a (ask.UploadEnd id) is tells.1
+slice_next id size came octets next (slices false piece) a fits tells is =
+    next_as (ask.Slice id size) came octets next a (ask.UploadEnd id) is tells.1
     (record {
       room = refl;
       later = λ about e. absurd (cc);
+      behind = λ block e. absurd (cc);
       writable = λ done. refl;
-      fewer = λ came fits. omega arith;
+      most = omega (arith, fits);
+      fewer = omega arith;
     })
-is_next (ask.Slice id size) octets next _ a tells is = absurd tells
-is_next (ask.UploadEnd id) octets next uploaded a tells is = absurd (let e = tells.1 in cc)
-is_next (ask.UploadEnd id) octets next _ a tells is = absurd tells
+slice_next id size came octets next _ a fits tells is = absurd tells
+
+none_next : (asked : Ask) (came : ℕ) (octets : List ℕ) (next : Option Ask) (a : Ask) → next ≡ None → next ≡ Some a
+    → IsNext asked came octets a
+none_next asked came octets next a none is = absurd (cc)
+
+status_over : (octets : List ℕ) (next : Option Ask) (x : Answer) → TellsStatus octets next x → next ≡ None
+status_over octets next (stands status) tells = tells.2
+status_over octets next _ tells = absurd tells
+
+end_over : (octets : List ℕ) (next : Option Ask) (x : Answer) → TellsEnd octets next x → next ≡ None
+end_over octets next uploaded tells = tells.1
+end_over octets next _ tells = absurd tells
+
+-- there is room for a head
+some_room : (value : Option ℕ) → 8448 ≤ room_for_value value
+some_room None = omega arith
+some_room (Some value) = omega arith
+
+-- a further piece of a head
+head_next : (asked : Ask) (block : DataBlock) (came : ℕ) (octets : List ℕ) (next : Option Ask) (x : Answer) (a : Ask)
+    → room_for asked ≡ room_for_value block.value → asks_left asked came ≡ 2 + (most_joined - came) + most_data
+    → has_pdu block ≡ true → length octets ≤ most_joined - came → TellsOfHead block octets next x → next ≡ Some a
+    → IsNext asked came octets a
+head_next asked block came octets next (brings octet more piece) a room left has fits tells is =
+    next_as asked came octets next a (ask.HeadFurther block octet) is tells.1
+    (record {
+      room = sym room;
+      later = λ about e. absurd (cc);
+      behind = λ other e. absurd (cc);
+      writable = λ done. has;
+      most = omega (arith, room, fits, some_room block.value, ap length tells.0, tells.3);
+      fewer = omega (arith, left, fits, ap length tells.0, tells.3);
+    })
+head_next asked block came octets next _ a room left has fits tells is = absurd tells
+
+comes_less : (value : Option ℕ) (came n count left left' room : ℕ) → came + comes_for value left ≤ room
+    → n ≤ comes_for value count → left' + count ≡ left → came + n + comes_for value left' ≤ room
+comes_less None came n count left left' room most few less = omega (arith, most, few, less)
+comes_less (Some value) came n count left left' room most few less = omega (arith, most, few)
+
+-- the part behind another one
+next_place : (block : DataBlock) (place next : Place) (came : ℕ) (octets : List ℕ) → has_pdu block ≡ true
+    → is_inside place ≡ true → IsBehind place (part_count block place) next
+    → came + comes_for block.value (place.here + place.later) ≤ room_for_value block.value
+    → length octets ≤ comes_for block.value (part_count block place)
+    → IsNext (ask.Part block place) came octets (ask.Part block next)
+next_place block place next came octets has inside behind most fits =
+    let within = place_within place inside in
+    let some : 0 < part_count block place = omega (arith, room_some block has, within.0) in
+    let end : next.from + next.here + next.later ≤ 2097152 =
+    omega (arith, within.1, behind.from, behind.left) in
+    record {
+      room = refl;
+      later = λ about e. absurd (cc);
+      behind = λ other e. absurd (cc);
+      writable = λ done.
+          and_from (has_pdu block) (is_inside next) has
+          (and_from (ltb 0 next.here) (leb (next.from + next.here + next.later) 2097152)
+          (lt-ltb 0 next.here behind.here) (le-leb (next.from + next.here + next.later) 2097152 end));
+      most =
+          comes_less block.value came (length octets) (part_count block place) (place.here + place.later)
+          (next.here + next.later) (room_for_value block.value) most fits behind.left;
+      fewer = omega (arith, behind.left, some);
+    }
+
+part_next : (block : DataBlock) (place : Place) (came : ℕ) (octets : List ℕ) (next : Option Ask) (x : Answer) (a : Ask)
+    → (has_pdu block && is_inside place) ≡ true
+    → came + comes_for block.value (place.here + place.later) ≤ room_for_value block.value
+    → length octets ≤ comes_for block.value (part_count block place) → TellsPart block place octets next x
+    → next ≡ Some a → IsNext (ask.Part block place) came octets a
+part_next block place came octets next x a writable most fits tells is =
+    let both = and_parts (has_pdu block) (is_inside place) writable in
+    let part =
+    some_part block (next_part block place) a (sym (part_told block place octets next x tells) ∙ is) in
+    subst (IsNext (ask.Part block place) came octets) (sym part.2)
+    (next_place block place part.0 came octets both.0 both.1 (place_next block place part.0 part.1) most fits)
+
+pub is_next : (done : Job) (asked : Ask) (came : ℕ) (octets : List ℕ) (next : Option Ask) (x : Answer) (a : Ask)
+    → is_writable done asked ≡ true → came + parts_bring asked ≤ room_for asked
+    → length octets ≤ most_brought asked came → BringsOn asked octets next x → next ≡ Some a
+    → IsNext asked came octets a
+is_next done (ask.Control control) came octets next x a writable most fits tells is =
+    none_next _ came octets next a (status_over octets next x tells) is
+is_next done (ask.About subject) came octets next x a writable most fits tells is =
+    piece_next (ask.About subject) subject came octets next x a refl refl (omega (arith, most, fits)) tells is
+is_next done (ask.Further subject octet) came octets next x a writable most fits tells is =
+    piece_next (ask.Further subject octet) subject came octets next x a refl refl (omega (arith, most, fits)) tells is
+is_next done ask.Upload came octets next x a writable most fits tells is =
+    start_next came octets next x a (omega (arith, most, fits)) tells is
+is_next done (ask.Slice id size) came octets next x a writable most fits tells is =
+    slice_next id size came octets next x a (omega (arith, most, fits)) tells is
+is_next done (ask.UploadEnd id) came octets next x a writable most fits tells is =
+    none_next _ came octets next a (end_over octets next x tells) is
+is_next done (ask.Head block) came octets next x a writable most fits tells is =
+    head_next (ask.Head block) block came octets next x a refl refl writable fits tells is
+is_next done (ask.HeadFurther block octet) came octets next x a writable most fits tells is =
+    head_next (ask.HeadFurther block octet) block came octets next x a refl refl writable fits tells is
+is_next done (ask.Part block place) came octets next x a writable most fits tells is =
+    part_next block place came octets next x a writable most fits tells is
+
+comes_within : (value : Option ℕ) (count left : ℕ) → count ≤ left → comes_for value count ≤ comes_for value left
+comes_within None count left within = within
+comes_within (Some value) count left within = omega arith
+
+-- there is room for what an answer brings
+pub room_within : (asked : Ask) (came n : ℕ) → came + parts_bring asked ≤ room_for asked → n ≤ most_brought asked came
+    → came + n ≤ room_for asked
+room_within (ask.Head block) came n most few = omega (arith, most, few, some_room block.value)
+room_within (ask.HeadFurther block octet) came n most few = omega (arith, most, few, some_room block.value)
+room_within (ask.Part block place) came n most few =
+    let low : part_count block place ≤ place.here + place.later = omega arith in
+    omega (arith, most, few, comes_within block.value (part_count block place) (place.here + place.later) low)
+room_within _ came n most few = omega (arith, most, few)

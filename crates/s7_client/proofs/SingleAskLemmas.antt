@@ -16,10 +16,10 @@ use Rattle.s7_client.specs.declared.running.Running.{Running}
 use Rattle.s7_client.specs.Question.{Question, question_octets}
 use Rattle.s7_client.specs.Answer.{Answer}
 use Rattle.s7_client.specs.Flight.{Row, answers_of, open_count}
-use Rattle.s7_client.specs.Dialogue.{Conduct, first_refusal, octets_brought, plan_of}
+use Rattle.s7_client.specs.Dialogue.{Conduct, first_refusal, count_of_data, plan_of}
 use Rattle.s7_client.specs.Course.{Course, next_sequence, next_question, asked, if_some, asked_on, settled, asking}
 use Rattle.s7_client.specs.Stages.{question_of_single, conduct_of_single, unput_by, awaited_by}
-use Rattle.s7_client.specs.GoesOn.{rows_out, IsAnswered, AsksSingly, ConductsAt}
+use Rattle.s7_client.specs.GoesOn.{octets_kept, questions_left_by, questions_from, is_counted, rows_out, IsAnswered, AsksSingly, IsNextOf, ConductsAt}
 use Rattle.s7_client.specs.Running.{Follows, Reached, unput_of}
 use Rattle.s7_client.proofs.FlightLemmas as flight
 use Rattle.s7_client.proofs.FlightLemmas.{none_next, none_open, all_open, open_append, settled_waits}
@@ -76,7 +76,9 @@ pub record Stands (config : Config) (granted : Option Grant) (rows : List Row) (
   pub next : (conduct_of_single done asked).question_at (answers_of before)
       ≡ Some (question_of_single done asked (take len found))
   pub unrefused : first_refusal (conduct_of_single done asked).refusal 0 (answers_of before) ≡ None
-  pub brought : octets_brought (answers_of before) ≡ take len found
+  pub brought : octets_kept asked (answers_of before) ≡ take len found
+  pub left : questions_left_by asked (answers_of before) ≡ questions_from asked
+  pub counted : is_counted asked (count_of_data (answers_of before)) ≡ true
   pub no_codes : codes ≡ []
 
 pub stands_at : (r : Running) (s : Single) (config : Config) (granted : Option Grant) (rows : List Row) (out : Option ℕ)
@@ -94,6 +96,8 @@ stands_at r s config granted rows out is out_is follows =
       next = h.next;
       unrefused = h.unrefused;
       brought = h.brought;
+      left = h.left;
+      counted = h.counted;
       no_codes = h.no_codes;
     })
 
@@ -112,6 +116,8 @@ follows_alone r s config granted rows is h =
             next = h.next;
             unrefused = h.unrefused;
             brought = h.brought;
+            left = h.left;
+            counted = h.counted;
             no_codes = h.no_codes;
           });
     }
@@ -175,6 +181,8 @@ reached_asked r r' s s' config granted course last is is' same found codes none 
       next = h.next;
       unrefused = h.unrefused;
       brought = h.brought;
+      left = h.left;
+      counted = h.counted;
       no_codes = h.no_codes;
     } in
     let stands' : Stands config granted now.rows r'.job r'.found.items r'.codes s'.ask s'.len s'.out =
@@ -267,3 +275,25 @@ reached_alone r r' s s' config granted course last sequence is is' same found co
         let now = waits (ap is_some out) in
         reached_waiting r r' s config granted course number last is (is' ∙ ap stage.Single now.1) same found codes out
         (now.0 ∙ sym at) follows none
+
+-- what is asked next
+pub next_stands : (config : Config) (granted : Option Grant) (rows : List Row) (done : Job) (found codes : List ℕ)
+    (asked : Ask) (len : ℕ) → Stands config granted rows done found codes asked len None
+    → IsNextOf config granted rows done found codes asked len
+next_stands config granted rows done found codes asked len h = λ s asks out long.
+    let k : Stands config granted rows done found codes s.ask s.len s.out =
+    subst (λ (a : Ask). Stands config granted rows done found codes a s.len s.out) (sym asks)
+    (subst (λ (n : ℕ). Stands config granted rows done found codes asked n s.out) (sym long)
+    (subst (λ (o : Option ℕ). Stands config granted rows done found codes asked len o) (sym out) h)) in
+    record {
+      conduct = k.conduct;
+      before = k.before;
+      answered = k.answered;
+      out = k.are;
+      next = k.next;
+      unrefused = k.unrefused;
+      brought = k.brought;
+      left = k.left;
+      counted = k.counted;
+      no_codes = k.no_codes;
+    }

@@ -1,5 +1,5 @@
 -- Lemmas on questions that are asked alone: their messages, and what isn't put yet.
-use Rattle.std.proofs.Common.{◌≡◌, ◌==◌, ℕ, ◌-◌, ◌≤◌, Bool, true, false, cond, leb, ltb, ◌&&◌, Option, None, List, [], ◌∷◌, length, refl, sym, ap, ◌∙◌, arith}
+use Rattle.std.proofs.Common.{◌≡◌, ◌==◌, ℕ, ◌-◌, ◌≤◌, Bool, true, false, cond, leb, ltb, ◌&&◌, Option, Some, None, List, [], ◌∷◌, length, refl, sym, ap, ◌∙◌, arith}
 use Rattle.std.specs.Prelude.{IsSome, is_some, bit_xor, replicate, unwrap_or}
 use Rattle.std.proofs.lemmas.Bool.{and_parts, leb-true}
 use Rattle.std.proofs.lemmas.List.{length-append, length-replicate}
@@ -8,12 +8,22 @@ use Rattle.s7_wire.proofs.SendLemmas.{length-sent}
 use Rattle.s7_header.specs.declared.header.Kind.TheVariants.{Job as job_kind, User}
 use Rattle.s7_header.specs.declared.user_params.UserParams.{UserParams}
 use Rattle.s7_header.specs.UserParams.{user_spelling}
+use Rattle.s7_header.specs.Negotiation.{most_pdu}
 use Rattle.s7_clock.specs.declared.control.Control.{Control}
 use Rattle.s7_clock.specs.declared.control.Control.TheVariants as control
 use Rattle.s7_clock.specs.Control.{control_spelling}
 use Rattle.s7_clock.specs.Moment.{octets_at}
 use Rattle.s7_szl.specs.Joining.{most_joined}
 use Rattle.s7_block.specs.Telegrams.{slice_function, end_function}
+use Rattle.s7_item.specs.declared.item.Item.{Item}
+use Rattle.s7_item.specs.Params.{items_params}
+use Rattle.s7_item.specs.DataItem.{data_octets}
+use Rattle.s7_item.proofs.SizeLaws.{reads_sized, writes_sized}
+use Rattle.s7_client.specs.declared.data_block.DataBlock.{DataBlock}
+use Rattle.s7_client.specs.declared.data_block.Place.{Place}
+use Rattle.s7_client.specs.declared.subject.Subject.TheVariants.{DataHead}
+use Rattle.s7_client.specs.DataBlocks.{data_item}
+use Rattle.s7_client.specs.DataPlaces.{part_count, question_for, room_for_value, has_pdu, is_inside}
 use Rattle.s7_client.specs.declared.config.Config.{Config}
 use Rattle.s7_client.specs.declared.job.Job.{Job}
 use Rattle.s7_client.specs.declared.job.Job.TheVariants as job
@@ -22,11 +32,15 @@ use Rattle.s7_client.specs.declared.single.Ask.TheVariants as ask
 use Rattle.s7_client.specs.declared.single.Single.{Single}
 use Rattle.s7_client.specs.declared.running.Stage.TheVariants as stage
 use Rattle.s7_client.specs.Codes.{no_fault, invalid_parameters}
-use Rattle.s7_client.specs.Checks.{check_password}
+use Rattle.s7_client.specs.Checks.{octet_count_of, check_password}
+use Rattle.s7_client.specs.Dialogue.{block_octets}
 use Rattle.s7_client.specs.UserData.{request_params, further_params, data_of, filled_text, encoded_after, encoded}
 use Rattle.s7_client.specs.Uploads.{start_params, id_params}
-use Rattle.s7_client.specs.Question.{message_octets, question_octets}
+use Rattle.s7_client.specs.Question.{written, message_octets, question_octets}
 use Rattle.s7_client.specs.Stages.{data_of_job, block_of, question_of_single, single_message, is_sent_well, can_ask_single, unput_by}
+use Rattle.s7_client.proofs.MessageLemmas.{written_sent}
+use Rattle.s7_client.proofs.DataPartLemmas.{byte_octets}
+use Rattle.s7_client.proofs.DataReadLemmas.{write_sized, few_written}
 
 -- ---- the octets that a job sends
 
@@ -77,11 +91,11 @@ data_few _ well = omega arith
 
 -- ---- the message of a question
 
--- it has a header, and few octets
-abbrev IsSmall : List ℕ → Type 0
-IsSmall message = (10 ≤ length message) × (length message ≤ 64)
+-- it has a header, and is no longer than any message may be
+abbrev pub IsSent : List ℕ → Type 0
+IsSent message = (10 ≤ length message) × (length message ≤ most_pdu)
 
-job_small : (sequence : ℕ) (params : List ℕ) → length params ≤ 26 → IsSmall (message_octets job_kind sequence params [])
+job_small : (sequence : ℕ) (params : List ℕ) → length params ≤ 26 → IsSent (message_octets job_kind sequence params [])
 job_small sequence params few =
     let long = length-append params [] in (omega (arith, long), omega (arith, few, long))
 
@@ -97,12 +111,12 @@ body_few [] few = omega arith
 body_few (octet ∷ octets) few = omega (arith, few)
 
 user_small : (sequence : ℕ) (params : UserParams) (octets : List ℕ) → length octets ≤ 10
-    → IsSmall (message_octets User sequence (user_spelling params) (data_of octets))
+    → IsSent (message_octets User sequence (user_spelling params) (data_of octets))
 user_small sequence params octets few =
     let long = length-append (user_spelling params) (data_of octets) in
     (omega (arith, long), omega (arith, long, params_few params, body_few octets few))
 
-control_small : (sequence : ℕ) (c : Control) → IsSmall (message_octets job_kind sequence (control_spelling c) [])
+control_small : (sequence : ℕ) (c : Control) → IsSent (message_octets job_kind sequence (control_spelling c) [])
 control_small sequence control.Start = job_small sequence (control_spelling control.Start) (omega arith)
 control_small sequence control.ColdStart = job_small sequence (control_spelling control.ColdStart) (omega arith)
 control_small sequence control.Stop = job_small sequence (control_spelling control.Stop) (omega arith)
@@ -113,21 +127,53 @@ control_small sequence (control.Insert kind number) =
 control_small sequence (control.Delete kind number) =
     job_small sequence (control_spelling (control.Delete kind number)) (omega arith)
 
-question_small : (done : Job) (found sequence : ℕ) (asked : Ask) (so_far : List ℕ)
+part_sent : (value : Option ℕ) (number from count sequence : ℕ) → (is_some value ≡ true → count ≤ 1885)
+    → IsSent (question_octets sequence (question_for value (data_item number from count)))
+part_sent None number from count sequence few =
+    let items : List Item = data_item number from count ∷ [] in
+    let long = length-append (items_params 0x04 items) [] in
+    let sized = reads_sized 0x04 items in
+    (omega (arith, long), omega (arith, long, sized))
+part_sent (Some value) number from count sequence few =
+    let items : List Item = data_item number from count ∷ [] in
+    let octets : List ℕ = replicate count value in
+    let all : length octets ≡ octet_count_of items =
+    length-replicate count value ∙ omega (arith, byte_octets number from count) in
+    let long = length-append (items_params 0x05 items) (data_octets (written items octets)) in
+    let sized = writes_sized 0x05 items (written items octets) (written_sent items octets all) in
+    let size = write_sized number from count in
+    (omega (arith, long), omega (arith, long, sized, size, few refl))
+
+few_filled : (value : Option ℕ) (block : DataBlock) (place : Place) → has_pdu block ≡ true → block.value ≡ value
+    → is_some value ≡ true → part_count block place ≤ 1885
+few_filled None block place has is some = absurd (cc)
+few_filled (Some value) block place has is some = few_written block place value has is
+
+pub question_sent : (done : Job) (found sequence : ℕ) (asked : Ask) (so_far : List ℕ)
     → can_ask_single done found asked ≡ true
-    → IsSmall (question_octets sequence (question_of_single done asked so_far))
-question_small done found sequence (ask.Control c) so_far can = control_small sequence c
-question_small done found sequence (ask.About subject) so_far can =
+    → IsSent (question_octets sequence (question_of_single done asked so_far))
+question_sent done found sequence (ask.Control c) so_far can = control_small sequence c
+question_sent done found sequence (ask.About subject) so_far can =
     user_small sequence (request_params subject) (data_of_job done)
     (data_few done (and_parts (is_sent_well done) (found == most_joined) can).0)
-question_small done found sequence (ask.Further subject octet) so_far can =
+question_sent done found sequence (ask.Further subject octet) so_far can =
     user_small sequence (further_params subject octet) [] (omega arith)
-question_small done found sequence ask.Upload so_far can =
+question_sent done found sequence ask.Upload so_far can =
     job_small sequence (start_params (block_of done)) (omega arith)
-question_small done found sequence (ask.Slice id size) so_far can =
+question_sent done found sequence (ask.Slice id size) so_far can =
     job_small sequence (id_params slice_function id) (omega arith)
-question_small done found sequence (ask.UploadEnd id) so_far can =
+question_sent done found sequence (ask.UploadEnd id) so_far can =
     job_small sequence (id_params end_function id) (omega arith)
+question_sent done found sequence (ask.Head block) so_far can =
+    user_small sequence (request_params DataHead) (block_octets 0x41 block.number) (omega arith)
+question_sent done found sequence (ask.HeadFurther block octet) so_far can =
+    user_small sequence (further_params DataHead octet) [] (omega arith)
+question_sent done found sequence (ask.Part block place) so_far can =
+    let writable =
+    (and_parts (has_pdu block && is_inside place) (found == room_for_value block.value) can).0 in
+    let has = (and_parts (has_pdu block) (is_inside place) writable).0 in
+    part_sent block.value block.number place.from (part_count block place) sequence
+    (few_filled block.value block place has refl)
 
 -- it is the same whatever came before
 pub same_message : (done : Job) (sequence : ℕ) (asked : Ask) (so_far : List ℕ)
@@ -149,8 +195,8 @@ pub single_few : (config : Config) (size : ℕ) (done : Job) (found : ℕ) (s : 
     → length (unput_by config size done (stage.Single s)) ≤ 16256
 single_few config size done found s least can =
     let message = single_message done s in
-    let small : IsSmall message = question_small done found (unwrap_or s.out 0) s.ask [] can in
-    let sent : length (sent_message size message) ≤ 2032 = length-sent message size (omega (arith, small.1)) least in
+    let sends : IsSent message = question_sent done found (unwrap_or s.out 0) s.ask [] can in
+    let sent : length (sent_message size message) ≤ 2032 = length-sent message size (omega (arith, sends.1)) least in
     few_if s.unput (sent_message size message) (omega (arith, sent))
 
 none_if : (b : Bool) (out : Option ℕ) (octets : List ℕ) → (b ≡ true → IsSome out) → out ≡ None → cond b octets [] ≡ []

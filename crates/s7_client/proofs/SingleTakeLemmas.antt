@@ -1,35 +1,43 @@
 -- Lemmas on jobs that ask one question at a time, as they take its answer.
-use Rattle.std.proofs.Common.{◌≡◌, ◌==◌, ℕ, ◌+◌, ◌≤◌, true, ◌&&◌, Bor, Option, Some, None, List, [], ◌∷◌, ◌++◌, length, take, drop, refl, sym, ap, ◌∙◌, subst, eq-eqb, arith}
+use Rattle.std.proofs.Common.{◌≡◌, ◌==◌, ℕ, ◌+◌, ◌-◌, ◌≤◌, true, eqb, leb, ltb, ◌&&◌, Bor, Option, Some, None, List, [], ◌∷◌, ◌++◌, length, take, drop, refl, sym, ap, ◌∙◌, subst, eq-eqb, arith}
 use Rattle.std.specs.Prelude.{option_map}
 use Rattle.std.proofs.Math.Path.{ap₂}
 use Rattle.std.specs.List.{AllByRecursion}
-use Rattle.std.proofs.lemmas.Bool.{and_parts, eqb-true}
+use Rattle.std.proofs.lemmas.Bool.{and_parts, and_from, eqb-true, leb-true, lt-ltb, le-leb}
 use Rattle.std.proofs.lemmas.List.{append-nil, length-append, length-take-le, take_at}
+use Rattle.s7_block.specs.Heads.{four_at}
 use Rattle.s7_client.specs.declared.config.Config.{Config}
 use Rattle.s7_client.specs.declared.grant.Grant.{Grant}
 use Rattle.s7_client.specs.declared.grant.Leaves.TheVariants.{AsItWas}
 use Rattle.s7_client.specs.declared.job.Job.{Job}
+use Rattle.s7_client.specs.declared.data_block.DataBlock.{DataBlock}
+use Rattle.s7_client.specs.declared.data_block.Place.{Place}
+use Rattle.s7_client.specs.declared.subject.Subject.{Subject}
 use Rattle.s7_client.specs.declared.single.Ask.{Ask}
+use Rattle.s7_client.specs.declared.single.Ask.TheVariants as ask
 use Rattle.s7_client.specs.declared.single.Single.{Single}
 use Rattle.s7_client.specs.declared.running.Stage.TheVariants as stage
 use Rattle.s7_client.specs.declared.running.Running.{Running}
 use Rattle.s7_client.specs.declared.user_data.Told.{Told}
 use Rattle.s7_client.specs.declared.user_data.Told.TheVariants as told
+use Rattle.s7_client.specs.DataBlocks.{tells_data, data_length}
+use Rattle.s7_client.specs.DataPlaces.{room_for_value, comes_for, has_pdu, is_inside}
 use Rattle.s7_client.specs.Question.{Question}
-use Rattle.s7_client.specs.Answer.{Answer, answer_of}
+use Rattle.s7_client.specs.Answer.{Answer, answer_of, brings}
 use Rattle.s7_client.specs.Flight.{Row, answers_of, filled}
-use Rattle.s7_client.specs.Dialogue.{End, Conduct, octets_brought, first_refusal, good_end, number_end, plan_of}
+use Rattle.s7_client.specs.Dialogue.{End, Conduct, first_refusal, good_end, number_end, plan_of}
 use Rattle.s7_client.specs.Course.{Course, for_nothing, asking}
-use Rattle.s7_client.specs.Stages.{question_of_single, conduct_of_single, is_writable, can_ask_single, is_ready, unput_by, IsOver}
-use Rattle.s7_client.specs.Singles.{room_for, lead_in, BringsOn, TellsSingle, TellsIfSome}
-use Rattle.s7_client.specs.GoesOn.{IsAnswered}
-use Rattle.s7_client.specs.Running.{Follows, Reached, awaited_in, unput_of}
+use Rattle.s7_client.specs.Stages.{question_of_single, conduct_of_single, is_writable, can_ask_single, is_ready, IsOver}
+use Rattle.s7_client.specs.Singles.{room_for, parts_bring, most_brought, asks_left, lead_in, TellsHead, BringsOn, BeginsAnew, TellsSingle, TellsIfSome}
+use Rattle.s7_client.specs.GoesOn.{IsAnswered, IsNextOf}
+use Rattle.s7_client.specs.Running.{Follows, Reached, awaited_in}
 use Rattle.s7_client.proofs.FlightLemmas.{PassesBy, answered_pass, filled_first}
 use Rattle.s7_client.proofs.SpotLemmas.{all_append}
 use Rattle.s7_client.proofs.ReachLemmas.{asking_not_over, over_unput}
-use Rattle.s7_client.proofs.SingleAnswerLemmas.{Answers, answers_behind, unrefused_behind, EndsWith, ended_with, ends_refused, GoesBehind, brought_more, goes_behind, ends_behind, IsNext, is_next}
-use Rattle.s7_client.proofs.SingleLemmas.{unasked_unput}
-use Rattle.s7_client.proofs.SingleAskLemmas.{each_known, answered_open, Stands, stands_at, follows_alone}
+use Rattle.s7_client.proofs.SingleAskLemmas.{each_known, answered_open, Stands, stands_at, next_stands}
+use Rattle.s7_client.proofs.SingleBehindLemmas.{Answers, answers_behind, unrefused_behind, EndsWith, ended_with, Keeps, GoesBehind}
+use Rattle.s7_client.proofs.SingleAnswerLemmas.{goes_behind, anew_behind, ends_behind, ends_refused, IsNext, is_next, room_within}
+use Rattle.s7_client.proofs.DataBehindLemmas.{first_place}
 use Rattle.s7_client.proofs.TakeLemmas.{none_filled, IsTakenBy}
 
 -- ---- the telegram that is out
@@ -93,7 +101,7 @@ none_alone r s found config granted rows message is same none follows = by_out s
 -- this is told of the answer to the telegram that is out
 abbrev pub IsToldTo : Single → List ℕ → List ℕ → Told → Type 0
 IsToldTo s found message t =
-    (number : ℕ) × (s.out ≡ Some number) × ((done : Job) → TellsIfSome s.ask (length (take s.len found)) t
+    (number : ℕ) × (s.out ≡ Some number) × ((done : Job) → TellsIfSome s.ask (take s.len found) t
     (answer_of (question_of_single done s.ask (take s.len found)) number message))
 
 -- The answer is there, and this is told of it.
@@ -102,12 +110,12 @@ record Tells (r : Running) (s : Single) (message : List ℕ) (t : Told) : Type 0
   out : s.out ≡ Some number
   answer : Answer
   is : answer_of (asked_alone r s) number message ≡ Some answer
-  tells : TellsSingle s.ask (length (take s.len r.found.items)) t answer
+  tells : TellsSingle s.ask (take s.len r.found.items) t answer
 
-told_some : (asked : Ask) (came : ℕ) (t : Told) (o : Option Answer) → TellsIfSome asked came t o
-    → (x : Answer) × (o ≡ Some x) × TellsSingle asked came t x
-told_some asked came t None h = absurd h
-told_some asked came t (Some x) h = (x, refl, h)
+told_some : (asked : Ask) (so_far : List ℕ) (t : Told) (o : Option Answer) → TellsIfSome asked so_far t o
+    → (x : Answer) × (o ≡ Some x) × TellsSingle asked so_far t x
+told_some asked so_far t None h = absurd h
+told_some asked so_far t (Some x) h = (x, refl, h)
 
 tells_as : (r : Running) (s : Single) (found message : List ℕ) (t t' : Told) → found ≡ r.found.items
     → IsToldTo s found message t → t ≡ t' → Tells r s message t'
@@ -115,7 +123,7 @@ tells_as r s found message t t' same of is =
     let now : IsToldTo s r.found.items message t' =
     subst (IsToldTo s r.found.items message) is (subst (λ (xs : List ℕ). IsToldTo s xs message t) same of) in
     let some =
-    told_some s.ask (length (take s.len r.found.items)) t' (answer_of (asked_alone r s) now.0 message) (now.2 r.job) in
+    told_some s.ask (take s.len r.found.items) t' (answer_of (asked_alone r s) now.0 message) (now.2 r.job) in
     record { number = now.0; out = now.1; answer = some.0; is = some.1; tells = some.2 }
 
 -- ---- the job is over
@@ -161,7 +169,8 @@ refused_alone r r' s found message t number last config granted course is same o
     let h = tells_as r s found message t (told.Refused number) same of told_is in
     let stands = stands_at r s config granted course.rows (Some h.number) is h.out follows in
     ends_alone r r' s config granted course h.number last message h.answer (number_end number AsItWas) stands h.is
-    (ends_refused r.job s.ask (answers_of stands.before) h.answer number stands.unrefused h.tells) at awaits over
+    (ends_refused r.job s.ask (answers_of stands.before) h.answer number stands.unrefused stands.counted h.tells) at
+    awaits over
 
 -- ---- octets came
 
@@ -169,13 +178,20 @@ refused_alone r r' s found message t number last config granted course is same o
 pub record Fits (r : Running) (s : Single) (octets : List ℕ) (next : Option Ask) : Type 0 where
   pub room : s.len + length octets ≤ length r.found.items
   pub whole : length r.found.items ≡ room_for s.ask
-  pub on : (a : Ask) → next ≡ Some a → IsNext s.ask octets a
+  pub on : (a : Ask) → next ≡ Some a → IsNext s.ask s.len octets a
+
+can_alone : (r : Running) (s : Single) → r.stage ≡ stage.Single s
+    → (is_writable r.job s.ask ≡ true) × ((length r.found.items == room_for s.ask) ≡ true)
+can_alone r s is =
+    and_parts (is_writable r.job s.ask) (length r.found.items == room_for s.ask)
+    (ap (is_ready r.job (length r.found.items)) (sym is) ∙ r.ready)
+
+-- what is asked can be written
+pub writable_alone : (r : Running) (s : Single) → r.stage ≡ stage.Single s → is_writable r.job s.ask ≡ true
+writable_alone r s is = (can_alone r s is).0
 
 places : (r : Running) (s : Single) → r.stage ≡ stage.Single s → length r.found.items ≡ room_for s.ask
-places r s is =
-    eqb-true (length r.found.items) (room_for s.ask)
-    (and_parts (is_writable r.job s.ask) (length r.found.items == room_for s.ask)
-    (ap (is_ready r.job (length r.found.items)) (sym is) ∙ r.ready)).1
+places r s is = eqb-true (length r.found.items) (room_for s.ask) (can_alone r s is).1
 
 fits_as : (r : Running) (s : Single) (message : List ℕ) (octets : Bor (List ℕ)) (next : Option Ask)
     → r.stage ≡ stage.Single s → Tells r s message (told.Brought octets next) → Fits r s octets.now next
@@ -183,10 +199,13 @@ fits_as r s message octets next is h =
     let whole = places r s is in
     let came : length (take s.len r.found.items) ≡ s.len =
     length-take-le s.len r.found.items (omega (arith, whole, s.most)) in
+    let few : length octets.now ≤ most_brought s.ask s.len =
+    subst (λ (n : ℕ). length octets.now ≤ most_brought s.ask n) came h.tells.1 in
     record {
-      room = omega (arith, h.tells.1, whole, came, s.most);
+      room = omega (arith, whole, room_within s.ask s.len (length octets.now) s.most few);
       whole = whole;
-      on = λ a some. is_next s.ask octets.now next h.answer a h.tells.0 some;
+      on = λ a some.
+          is_next r.job s.ask s.len octets.now next h.answer a (writable_alone r s is) s.most few h.tells.0 some;
     }
 
 pub fits_told : (r : Running) (s : Single) (found message : List ℕ) (t : Told) (octets : Bor (List ℕ))
@@ -207,14 +226,21 @@ front_with n octets piece rest within =
 abbrev pub placed : Running → Single → List ℕ → List ℕ
 placed r s octets = take s.len r.found.items ++ octets ++ drop (s.len + length octets) r.found.items
 
--- the answer to the telegram that is out, behind those before it
+-- what is kept before the answer to the telegram that is out
+kept_before : (r : Running) (s : Single) (config : Config) (granted : Option Grant) (rows : List Row) (number : ℕ)
+    → (h : IsOut r s config granted rows number) → Keeps s.ask (answers_of h.before) (take s.len r.found.items)
+kept_before r s config granted rows number h = record { are = h.brought; left = h.left; counted = h.counted }
+
+-- that answer, behind those before it
 behind_out : (r : Running) (s : Single) (config : Config) (granted : Option Grant) (rows : List Row) (number : ℕ)
     (x : Answer) (octets : List ℕ) (next : Option Ask)
+    → is_writable r.job s.ask ≡ true
     → (h : IsOut r s config granted rows number) → BringsOn s.ask octets next x
     → GoesBehind r.job (conduct_of_single r.job s.ask) (lead_in s.ask) (answers_of h.before) x
-    (take s.len r.found.items) octets next
-behind_out r s config granted rows number x octets next h tells =
-    goes_behind r.job s.ask (answers_of h.before) x (take s.len r.found.items) octets next h.next h.brought tells
+    (take s.len r.found.items ++ octets) next
+behind_out r s config granted rows number x octets next writable h tells =
+    goes_behind r.job s.ask (answers_of h.before) x (take s.len r.found.items) octets next writable h.next
+    (kept_before r s config granted rows number h) tells
 
 -- nothing more is asked
 pub ended_alone : (r r' : Running) (s : Single) (found message found' : List ℕ) (t : Told) (octets : Bor (List ℕ))
@@ -231,10 +257,11 @@ ended_alone r r' s found message found' t octets next lead last config granted c
     let stands = stands_at r s config granted course.rows (Some h.number) is h.out follows in
     let came = take s.len r.found.items in
     let n : ℕ = lead_in s.ask in
-    let goes = behind_out r s config granted course.rows h.number h.answer octets.now next stands h.tells.0 in
+    let goes = behind_out r s config granted course.rows h.number h.answer octets.now next (writable_alone r s is)
+    stands h.tells.0 in
     let ends =
-    ends_behind r.job (conduct_of_single r.job s.ask) n (answers_of stands.before) h.answer came octets.now next goes
-    stands.brought stands.unrefused over_is in
+    ends_behind r.job (conduct_of_single r.job s.ask) n (answers_of stands.before) h.answer (came ++ octets.now) next
+    goes stands.unrefused over_is in
     ends_alone r r' s config granted course h.number last message h.answer (good_end (drop n (came ++ octets.now)) [])
     stands h.is ends at
     (awaits
@@ -247,24 +274,23 @@ ended_alone r r' s found message found' t octets next lead last config granted c
     over
 
 -- what a job keeps that asks for more
-asks_on : (config : Config) (granted : Option Grant) (rows : List Row) (done : Job) (found codes : List ℕ)
-    (asked : Ask) (len number : ℕ) (x : Answer) (octets : List ℕ) (next : Option Ask) (a : Ask)
+asks_on : (config : Config) (granted : Option Grant) (rows : List Row) (done : Job) (found found' codes : List ℕ)
+    (asked : Ask) (len len' number : ℕ) (x : Answer) (all : List ℕ) (next : Option Ask) (a : Ask)
     → (h : Stands config granted rows done found codes asked len (Some number))
-    → GoesBehind done (conduct_of_single done asked) (lead_in asked) (answers_of h.before) x (take len found) octets
-    next
-    → next ≡ Some a → len ≤ length found
+    → GoesBehind done (conduct_of_single done asked) (lead_in asked) (answers_of h.before) x all next
+    → next ≡ Some a → take len' found' ≡ all
     → Stands config granted (told_rows h.before (question_of_single done asked (take len found)) number x) done
-    (take len found ++ octets ++ drop (len + length octets) found) codes a (len + length octets) None
-asks_on config granted rows done found codes asked len number x octets next a h goes is within =
+    found' codes a len' None
+asks_on config granted rows done found found' codes asked len len' number x all next a h goes is front =
     let q = question_of_single done asked (take len found) in
     let row : Row = record { question = q; number = number; answer = Some x } in
     let rows' = told_rows h.before q number x in
     let answers = answers_of h.before in
     let c = conduct_of_single done asked in
     let alike : conduct_of_single done a ≡ c = goes.alike a is in
-    let found' = take len found ++ octets ++ drop (len + length octets) found in
-    let front : take (len + length octets) found' ≡ take len found ++ octets =
-    front_with len found octets (drop (len + length octets) found) within in
+    let behind : answers_of rows' ≡ answers ++ Some x ∷ [] = answers_behind h.before row in
+    let keeps : Keeps a (answers_of rows') all =
+    subst (λ (xs : Answers). Keeps a xs all) (sym behind) (goes.keeps a is) in
     record {
       conduct = h.conduct ∙ sym alike;
       before = rows';
@@ -272,60 +298,40 @@ asks_on config granted rows done found codes asked len number x octets next a h 
       are = sym (append-nil rows');
       next =
           ap (λ (d : Conduct). d.question_at (answers_of rows')) alike
-          ∙ (ap c.question_at (answers_behind h.before row)
+          ∙ (ap c.question_at behind
           ∙ (goes.asks
-          ∙ (ap (option_map (λ (b : Ask). question_of_single done b (take len found ++ octets))) is
+          ∙ (ap (option_map (λ (b : Ask). question_of_single done b all)) is
           ∙ ap (λ xs. Some (question_of_single done a xs)) (sym front))));
       unrefused =
           ap (λ (d : Conduct). first_refusal d.refusal 0 (answers_of rows')) alike
-          ∙ (ap (first_refusal c.refusal 0) (answers_behind h.before row)
+          ∙ (ap (first_refusal c.refusal 0) behind
           ∙ unrefused_behind c.refusal answers x h.unrefused goes.unrefused);
-      brought =
-          ap octets_brought (answers_behind h.before row)
-          ∙ (brought_more answers x (take len found) octets h.brought goes.brings ∙ sym front);
+      brought = keeps.are ∙ sym front;
+      left = keeps.left;
+      counted = keeps.counted;
       no_codes = h.no_codes;
     }
 
-pub next_alone : (r r1 r' : Running) (s s1 : Single) (found message : List ℕ) (t : Told) (octets : Bor (List ℕ))
-    (next : Option Ask) (last : ℕ) (config : Config) (granted : Option Grant) (course : Course)
-    → r.stage ≡ stage.Single s → found ≡ r.found.items → IsToldTo s found message t → t ≡ told.Brought octets next
-    → next ≡ Some s1.ask → r1.stage ≡ stage.Single s1 → s1.out ≡ None → s1.len ≡ s.len + length octets.now
-    → r1.job ≡ r.job → r1.found.items ≡ placed r s octets.now → r1.codes ≡ r.codes
-    → Follows r config granted course.rows
-    → ((now : Course) → Follows r1 config granted now.rows → now.sequence ≡ course.sequence
-    → unput_of config now.size r1 ≡ []
-    → Reached config granted now (asking (plan_of r1.job config granted).conduct now) r' last)
+-- A job goes on with what it asks next, where it goes on with any course that it follows then.
+goes_alone : (r r' : Running) (s : Single) (message found' : List ℕ) (t : Told) (all : List ℕ) (next : Option Ask)
+    (a : Ask) (len' last : ℕ) (config : Config) (granted : Option Grant) (course : Course)
+    → (h : Tells r s message t) → (before : IsOut r s config granted course.rows h.number)
+    → GoesBehind r.job (conduct_of_single r.job s.ask) (lead_in s.ask) (answers_of before.before) h.answer all next
+    → next ≡ Some a → take len' found' ≡ all
+    → ((now : Course) → IsNextOf config granted now.rows r.job found' r.codes a len' → now.sequence ≡ course.sequence
+    → Reached config granted now (asking (plan_of r.job config granted).conduct now) r' last)
     → IsTakenBy message config granted course r.job r' last
-next_alone r r1 r' s s1 found message t octets next last config granted course is same of told_is next_is is1 out1 len1
-    job1 found1 codes1 follows goes_on =
-    let h = tells_as r s found message t (told.Brought octets next) same of told_is in
-    let fits = fits_as r s message octets next is h in
-    let stands = stands_at r s config granted course.rows (Some h.number) is h.out follows in
-    let goes = behind_out r s config granted course.rows h.number h.answer octets.now next stands h.tells.0 in
-    let q = asked_alone r s in
-    let rows' = told_rows stands.before q h.number h.answer in
+goes_alone r r' s message found' t all next a len' last config granted course h before goes is front goes_on =
+    let rows' = told_rows before.before (asked_alone r s) h.number h.answer in
     let now : Course = record course { rows = rows' } in
     let asks =
-    asks_on config granted course.rows r.job r.found.items r.codes s.ask s.len h.number h.answer octets.now next s1.ask
-    stands goes next_is (omega (arith, fits.room)) in
-    let asks' : Stands config granted rows' r1.job r1.found.items r1.codes s1.ask s1.len s1.out =
-    subst (λ (j : Job). Stands config granted rows' j r1.found.items r1.codes s1.ask s1.len s1.out) (sym job1)
-    (subst (λ (xs : List ℕ). Stands config granted rows' r.job xs r1.codes s1.ask s1.len s1.out) (sym found1)
-    (subst (λ (xs : List ℕ). Stands config granted rows' r.job (placed r s octets.now) xs s1.ask s1.len s1.out)
-    (sym codes1)
-    (subst (λ (n : ℕ). Stands config granted rows' r.job (placed r s octets.now) r.codes s1.ask n s1.out) (sym len1)
-    (subst (λ (o : Option ℕ). Stands config granted rows' r.job (placed r s octets.now) r.codes s1.ask
-    (s.len + length octets.now) o) (sym out1)
-    asks)))) in
-    let put : unput_of config course.size r1 ≡ [] =
-    ap (unput_by config course.size r1.job) is1 ∙ unasked_unput config course.size r1.job s1 out1 in
-    let on : Reached config granted now (asking (plan_of r1.job config granted).conduct now) r' last =
-    goes_on now (follows_alone r1 s1 config granted rows' is1 asks') refl put in
+    asks_on config granted course.rows r.job r.found.items found' r.codes s.ask s.len len' h.number h.answer all next a
+    before goes is front in
     let reached : Reached config granted now (asking (plan_of r.job config granted).conduct now) r' last =
-    subst (λ (j : Job). Reached config granted now (asking (plan_of j config granted).conduct now) r' last) job1 on in
+    goes_on now (next_stands config granted rows' r.job found' r.codes a len' asks) refl in
     record {
       rows = rows';
-      fills = fills_alone r s config granted course.rows h.number message h.answer stands h.is;
+      fills = fills_alone r s config granted course.rows h.number message h.answer before h.is;
       reached =
           record {
             awaits = reached.awaits;
@@ -335,6 +341,28 @@ next_alone r r1 r' s s1 found message t octets next last config granted course i
           };
     }
 
+pub next_alone : (r r' : Running) (s : Single) (found message found' : List ℕ) (t : Told) (octets : Bor (List ℕ))
+    (next : Option Ask) (a : Ask) (last : ℕ) (config : Config) (granted : Option Grant) (course : Course)
+    → r.stage ≡ stage.Single s → found ≡ r.found.items → IsToldTo s found message t → t ≡ told.Brought octets next
+    → next ≡ Some a → found' ≡ placed r s octets.now → Follows r config granted course.rows
+    → ((now : Course) → IsNextOf config granted now.rows r.job found' r.codes a (s.len + length octets.now)
+    → now.sequence ≡ course.sequence
+    → Reached config granted now (asking (plan_of r.job config granted).conduct now) r' last)
+    → IsTakenBy message config granted course r.job r' last
+next_alone r r' s found message found' t octets next a last config granted course is same of told_is next_is put
+    follows goes_on =
+    let h = tells_as r s found message t (told.Brought octets next) same of told_is in
+    let fits = fits_as r s message octets next is h in
+    let stands = stands_at r s config granted course.rows (Some h.number) is h.out follows in
+    let goes = behind_out r s config granted course.rows h.number h.answer octets.now next (writable_alone r s is)
+    stands h.tells.0 in
+    goes_alone r r' s message found' (told.Brought octets next) (take s.len r.found.items ++ octets.now) next a
+    (s.len + length octets.now) last config granted course h stands goes next_is
+    (ap (take (s.len + length octets.now)) put
+    ∙ front_with s.len r.found.items octets.now (drop (s.len + length octets.now) r.found.items)
+    (omega (arith, fits.room)))
+    goes_on
+
 -- and it can be asked
 pub next_ready : (r : Running) (s : Single) (octets : List ℕ) (next : Option Ask) (a : Ask) (n : ℕ)
     → Fits r s octets next → next ≡ Some a → n ≡ length r.found.items → can_ask_single r.job n a ≡ true
@@ -342,3 +370,81 @@ next_ready r s octets next a n fits is same =
     let ready = fits.on a is in
     ap₂ (λ writable all. writable && all) (ready.writable r.job)
     (eq-eqb n (room_for a) (same ∙ (fits.whole ∙ sym ready.room)))
+
+-- ---- octets come anew
+
+-- What is asked then has a place for each octet, can be written, and leaves fewer answers.
+pub record IsAnew (r : Running) (s : Single) (a : Ask) : Type 0 where
+  pub later : (subject : Subject) → a ≡ ask.About subject → ⊥
+  pub behind : (block : DataBlock) → a ≡ ask.Head block → ⊥
+  pub most : parts_bring a ≤ room_for a
+  pub ready : can_ask_single r.job (length r.found.items) a ≡ true
+  pub fewer : asks_left a 0 + 1 ≤ asks_left s.ask s.len
+
+few_data : (octets : List ℕ) → tells_data octets ≡ true → data_length octets ≤ 2097152
+few_data octets is =
+    let load : ℕ = four_at octets 12 in
+    let both = and_parts (leb 37 load) (leb load 2097188) (and_parts (eqb (length octets) 40) (leb 37 load && leb load 2097188) is).1 in
+    omega (arith, leb-true load 2097188 both.1)
+
+comes_all : (value : Option ℕ) (left : ℕ) → left ≤ 2097152 → comes_for value left ≤ room_for_value value
+comes_all None left within = within
+comes_all (Some value) left within = omega arith
+
+head_anew : (r : Running) (s : Single) (block : DataBlock) (so_far : List ℕ) (a : Ask) (x : Answer)
+    → has_pdu block ≡ true → length r.found.items ≡ room_for_value block.value
+    → 2097154 ≤ asks_left s.ask s.len → TellsHead block so_far a x → IsAnew r s a
+head_anew r s block so_far a (brings octet more piece) has whole left told =
+    let size : ℕ = data_length (so_far ++ piece) in
+    let place : Place = told.2.0 in
+    let first = first_place size place told.2.1 in
+    let few = few_data (so_far ++ piece) told.1 in
+    let end : place.from + place.here + place.later ≤ 2097152 = omega (arith, few, first.0, first.2) in
+    subst (IsAnew r s) (sym told.2.2)
+    (record {
+      later = λ about e. absurd (cc);
+      behind = λ other e. absurd (cc);
+      most = comes_all block.value (place.here + place.later) (omega (arith, few, first.2));
+      ready =
+          and_from (has_pdu block && is_inside place) (length r.found.items == room_for_value block.value)
+          (and_from (has_pdu block) (is_inside place) has
+          (and_from (ltb 0 place.here) (leb (place.from + place.here + place.later) 2097152)
+          (lt-ltb 0 place.here first.1) (le-leb (place.from + place.here + place.later) 2097152 end)))
+          (eq-eqb (length r.found.items) (room_for_value block.value) whole);
+      fewer = omega (arith, left, few, first.2);
+    })
+head_anew r s block so_far a _ has whole left told = absurd told
+
+anew_by : (r : Running) (s : Single) (asked : Ask) (so_far : List ℕ) (a : Ask) (x : Answer) → s.ask ≡ asked
+    → is_writable r.job asked ≡ true → length r.found.items ≡ room_for asked → BeginsAnew asked so_far a x
+    → IsAnew r s a
+anew_by r s (ask.Head block) so_far a x is writable whole told =
+    let left : asks_left s.ask s.len ≡ 2 + (8448 - s.len) + 2097152 = ap (λ (b : Ask). asks_left b s.len) is in
+    head_anew r s block so_far a x writable whole (omega (arith, left)) told
+anew_by r s (ask.HeadFurther block octet) so_far a x is writable whole told =
+    let left : asks_left s.ask s.len ≡ 2 + (8448 - s.len) + 2097152 = ap (λ (b : Ask). asks_left b s.len) is in
+    head_anew r s block so_far a x writable whole (omega (arith, left)) told
+anew_by r s _ so_far a x is writable whole told = absurd told
+
+pub anew_told : (r : Running) (s : Single) (found message : List ℕ) (t : Told) (a : Ask)
+    → r.stage ≡ stage.Single s → found ≡ r.found.items → IsToldTo s found message t → t ≡ told.Anew a → IsAnew r s a
+anew_told r s found message t a is same of told_is =
+    let h = tells_as r s found message t (told.Anew a) same of told_is in
+    anew_by r s s.ask (take s.len r.found.items) a h.answer refl (writable_alone r s is) (places r s is) h.tells
+
+pub anew_alone : (r r' : Running) (s : Single) (found message : List ℕ) (t : Told) (a : Ask) (last : ℕ)
+    (config : Config) (granted : Option Grant) (course : Course)
+    → r.stage ≡ stage.Single s → found ≡ r.found.items → IsToldTo s found message t → t ≡ told.Anew a
+    → Follows r config granted course.rows
+    → ((now : Course) → IsNextOf config granted now.rows r.job r.found.items r.codes a 0
+    → now.sequence ≡ course.sequence
+    → Reached config granted now (asking (plan_of r.job config granted).conduct now) r' last)
+    → IsTakenBy message config granted course r.job r' last
+anew_alone r r' s found message t a last config granted course is same of told_is follows goes_on =
+    let h = tells_as r s found message t (told.Anew a) same of told_is in
+    let stands = stands_at r s config granted course.rows (Some h.number) is h.out follows in
+    let goes =
+    anew_behind r.job s.ask (answers_of stands.before) h.answer (take s.len r.found.items) a (writable_alone r s is)
+    (kept_before r s config granted course.rows h.number stands) h.tells in
+    goes_alone r r' s message r.found.items (told.Anew a) [] (Some a) a 0 last config granted course h stands goes refl
+    refl goes_on

@@ -1,6 +1,6 @@
 -- The dialogue of a job: what goes out first, which question may be asked next, and how the job ends, by the answers
 -- so far.
-use Rattle.std.specs.Prelude.{ℕ, ◌+◌, Bool, true, false, ◌==◌, ◌||◌, ◌&&◌, nat_lt, min, max, List, [], ◌∷◌, ◌++◌, length, take, drop, map, slice_get, Option, None, Some, if◌then◌else◌}
+use Rattle.std.specs.Prelude.{ℕ, ◌+◌, Bool, true, false, ◌==◌, ◌||◌, ◌&&◌, nat_lt, min, max, List, [], ◌∷◌, ◌++◌, length, take, drop, map, slice_get, Option, None, Some, if◌then◌else◌, replicate}
 use Rattle.std.specs.List.{flat_map}
 use Rattle.s7_outer.specs.Numbers.{two_octets}
 use Rattle.s7_header.specs.declared.negotiation.Negotiation.{Negotiation}
@@ -21,9 +21,10 @@ use Rattle.s7_client.specs.declared.grant.Leaves.TheVariants.{AsItWas, Connected
 use Rattle.s7_client.specs.declared.job.Job.{Job}
 use Rattle.s7_client.specs.declared.job.Job.TheVariants as job
 use Rattle.s7_client.specs.declared.subject.Subject.{Subject}
-use Rattle.s7_client.specs.declared.subject.Subject.TheVariants.{StatusList, RunState, BlockCounts, BlocksOfKind, BlockHead, Clock, ClockSetting, Password, PasswordClearing}
+use Rattle.s7_client.specs.declared.subject.Subject.TheVariants.{StatusList, RunState, BlockCounts, BlocksOfKind, BlockHead, DataHead, Clock, ClockSetting, Password, PasswordClearing}
 use Rattle.s7_client.specs.Codes.{no_fault, not_connected, negotiation_failed, partly_written}
 use Rattle.s7_client.specs.UserData.{comes_in_pieces, lead_of, filled_text, encoded}
+use Rattle.s7_client.specs.DataBlocks.{data_length, data_parts}
 use Rattle.s7_client.specs.Question.{Question, negotiates, reads, writes, controls, asks, asks_further}
 use Rattle.s7_client.specs.Question.{starts_upload, slices_upload, ends_upload}
 use Rattle.s7_client.specs.Answer.{Answer, grants, tells, notes, stands, brings, uploads, slices, uploaded, refuses, ItemAnswer}
@@ -336,6 +337,61 @@ uploading name = record {
       by_refusal plain_number (first_refusal telegram_refusal 0 answers) (good_end (octets_brought answers) []);
 }
 
+-- ---- whole data blocks
+
+-- how many of the answers are none of user data, which tells the head
+abbrev pub is_of_data : Option Answer → Bool
+is_of_data (Some (brings octet more octets)) = false
+is_of_data (Some (grants granted)) = true
+is_of_data (Some (tells items)) = true
+is_of_data (Some (notes codes)) = true
+is_of_data (Some (stands status)) = true
+is_of_data (Some (uploads id size)) = true
+is_of_data (Some (slices more octets)) = true
+is_of_data (Some uploaded) = true
+is_of_data (Some (refuses error)) = true
+is_of_data None = true
+
+abbrev pub count_of_data : List (Option Answer) → ℕ
+count_of_data [] = 0
+count_of_data (answer ∷ answers) = (if is_of_data answer then 1 else 0) + count_of_data answers
+
+abbrev pub or_later : Option Question → Option Question → Option Question
+or_later (Some question) later = Some question
+or_later None later = later
+
+-- The head of a data block, piece by piece, and then these questions, by how many octets the head says that there are.
+abbrev pub next_of_data : List ℕ → (ℕ → List Question) → List (Option Answer) → Option Question
+next_of_data octets questions [] = Some (asks DataHead octets)
+next_of_data octets questions (answer ∷ answers) =
+    or_later (behind DataHead (octets_brought (answer ∷ answers)) (last_answer answer answers))
+    (slice_get (questions (data_length (octets_brought (answer ∷ answers)))) (count_of_data (answer ∷ answers)))
+
+-- A data block is read whole.
+abbrev pub getting : ℕ → List ℕ → ℕ → Conduct
+getting pdu octets number = record {
+  width = 1;
+  question_at = next_of_data octets (λ size. read_questions (alone (data_parts number size pdu false)));
+  refusal = part_refusal;
+  ended = λ (answers : List (Option Answer)).
+      by_refusal plain_number (first_refusal part_refusal 0 answers) (good_end (octets_told answers) []);
+}
+
+-- the number of a refusal of the head or of the first part, and that of a later one
+abbrev pub fill_number : List (Option Answer) → ℕ → ℕ → ℕ
+fill_number answers place number = if count_of_data (take place answers) == 0 then number else partly_written
+
+-- It is filled with a value.
+abbrev pub filling : ℕ → List ℕ → ℕ → ℕ → Conduct
+filling pdu octets number value = record {
+  width = 1;
+  question_at = next_of_data octets
+      (λ size. write_questions (alone (data_parts number size pdu true)) (replicate size value));
+  refusal = part_refusal;
+  ended = λ (answers : List (Option Answer)).
+      by_refusal (fill_number answers) (first_refusal part_refusal 0 answers) (good_end [] []);
+}
+
 -- a job that asks from its start on
 abbrev pub at_once : Conduct → Plan
 at_once conduct = record { first = nothing; conduct = conduct }
@@ -381,6 +437,9 @@ connected_plan (job.ListOf kind) granted = at_once (asking_about BlocksOfKind (k
 connected_plan (job.Info kind number) granted = at_once (asking_about BlockHead (block_octets kind number))
 connected_plan (job.Upload kind number) granted = at_once (uploading (record { kind = kind; number = number }))
 connected_plan (job.Delete kind number) granted = at_once (controlling (control.Delete kind number))
+connected_plan (job.DbGet number) granted = at_once (getting granted.pdu (block_octets 0x41 number) number)
+connected_plan (job.DbFill number value) granted =
+    at_once (filling granted.pdu (block_octets 0x41 number) number value)
 connected_plan (job.Szl id index) granted = at_once (asking_about StatusList (list_octets id index))
 connected_plan job.ClockRead granted = at_once (asking_about Clock [])
 connected_plan (job.ClockSet moment) granted =

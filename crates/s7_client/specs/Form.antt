@@ -26,8 +26,8 @@ octets_read (item ∷ items) (code ∷ cs) = count_read item code + octets_read 
 
 -- Of several items there are as many codes as items, and the octets of those that were read. Other
 -- jobs have no codes, and only what reads has octets: four for each of seven kinds of blocks, four for each block of a
--- kind, the 36 of a head, the image of a block, an image of a status list adds up, one that tells whether the controller
--- runs does so, and the octets of a clock are ten and have a date and time.
+-- kind, the 36 of a head, the image of a block, the octets of a data block, an image of a status list adds up, one that
+-- tells whether the controller runs does so, and the octets of a clock are ten and have a date and time.
 abbrev pub FormOf : Job → List ℕ → List ℕ → Type 0
 FormOf job.Connect octets codes = (octets ≡ []) × (codes ≡ [])
 FormOf (job.ReadArea item) octets codes = codes ≡ []
@@ -41,6 +41,8 @@ FormOf (job.ListOf kind) octets codes = (length octets % 4 ≡ 0) × (codes ≡ 
 FormOf (job.Info kind number) octets codes = (length octets ≡ 36) × (codes ≡ [])
 FormOf (job.Upload kind number) octets codes = codes ≡ []
 FormOf (job.Delete kind number) octets codes = (octets ≡ []) × (codes ≡ [])
+FormOf (job.DbGet number) octets codes = codes ≡ []
+FormOf (job.DbFill number value) octets codes = (octets ≡ []) × (codes ≡ [])
 FormOf (job.Szl id index) octets codes = (adds_up octets ≡ true) × (codes ≡ [])
 FormOf job.ClockRead octets codes = IsSome (moment_in octets) × (codes ≡ [])
 FormOf (job.ClockSet moment) octets codes = (octets ≡ []) × (codes ≡ [])

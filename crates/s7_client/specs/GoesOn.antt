@@ -1,5 +1,5 @@
 -- What a job under way keeps, so that it goes on from answer to answer as its conduct says.
-use Rattle.std.specs.Prelude.{◌≡◌, ℕ, ◌==◌, Bool, true, false, if◌then◌else◌, List, [], ◌∷◌, ◌++◌, length, take, replicate, slice_get, IsSome, Option, None, Some}
+use Rattle.std.specs.Prelude.{◌≡◌, ℕ, ◌==◌, Bool, true, false, not, if◌then◌else◌, List, [], ◌∷◌, ◌++◌, length, take, drop, replicate, slice_get, IsSome, Option, None, Some}
 use Rattle.std.specs.Bool.{MatchBool}
 use Rattle.std.specs.List.{flat_map, AllByRecursion}
 use Rattle.s7_item.specs.declared.item.Item.{Item}
@@ -18,9 +18,13 @@ use Rattle.s7_client.specs.Answer.{Answer, ItemAnswer, tells, notes, refuses}
 use Rattle.s7_client.specs.Refusals.{telegram_refusal, part_refusal}
 use Rattle.s7_client.specs.Flight.{Row, answers_of}
 use Rattle.s7_client.specs.Left.{joined, questions_left, items_left, octets_left}
-use Rattle.s7_client.specs.Dialogue.{End, Conduct, asked_by, negotiated, departed_end, read_questions, write_questions, first_refusal, write_number, by_refusal, items_told, codes_in, of_answer, octets_told, codes_told, octets_brought, good_end, plan_of}
+use Rattle.s7_client.specs.Dialogue.{End, Conduct, asked_by, negotiated, departed_end, read_questions, write_questions, first_refusal, write_number, by_refusal, items_told, codes_in, of_answer, octets_told, codes_told, octets_brought, count_of_data, good_end, plan_of}
 use Rattle.s7_client.specs.Course.{Course}
+use Rattle.s7_client.specs.declared.single.Ask.{Ask}
+use Rattle.s7_client.specs.declared.single.Ask.TheVariants as ask
 use Rattle.s7_client.specs.declared.single.Single.{Single}
+use Rattle.s7_client.specs.DataBlocks.{data_length}
+use Rattle.s7_client.specs.DataPlaces.{told_for, data_questions, questions_behind as data_questions_behind}
 use Rattle.s7_client.specs.Stages.{unput_by, conduct_of_single, question_of_single}
 use Rattle.s7_client.specs.declared.asking.Refused.{Refused}
 use Rattle.s7_client.specs.Asks.{Asks, items_of, refused_at, Refuses}
@@ -199,6 +203,28 @@ rows_out question (Some number) = record { question = question; number = number;
 abbrev pub IsAnswered : Row → Type 0
 IsAnswered row = IsSome row.answer
 
+-- the octets that are kept of the answers so far: those that they brought, or of parts those that were read
+abbrev pub octets_kept : Ask → List (Option Answer) → List ℕ
+octets_kept (ask.Part block place) answers = told_for block.value answers
+octets_kept _ answers = octets_brought answers
+
+-- The questions behind those that were answered, where parts are asked for, are those from the next one's place on.
+abbrev pub questions_left_by : Ask → List (Option Answer) → List Question
+questions_left_by (ask.Part block place) answers =
+    drop (count_of_data answers) (data_questions block (data_length (octets_brought answers)))
+questions_left_by _ answers = []
+
+abbrev pub questions_from : Ask → List Question
+questions_from (ask.Part block place) = data_questions_behind block (Some place)
+questions_from _ = []
+
+-- Before the first part only the head was asked for.
+abbrev pub is_counted : Ask → ℕ → Bool
+is_counted (ask.Head block) count = count == 0
+is_counted (ask.HeadFurther block octet) count = count == 0
+is_counted (ask.Part block place) count = if place.from == 0 then count == 0 else not (count == 0)
+is_counted _ count = true
+
 -- A job that asks one question at a time asks as its conduct says: of its telegrams all but the one that is out are
 -- answered, no answer refuses, and their octets came.
 pub record AsksSingly (config : Config) (granted : Option Grant) (rows : List Row) (job : Job) (found codes : List ℕ)
@@ -210,8 +236,15 @@ pub record AsksSingly (config : Config) (granted : Option Grant) (rows : List Ro
   pub next : (conduct_of_single job s.ask).question_at (answers_of before)
       ≡ Some (question_of_single job s.ask (take s.len found))
   pub unrefused : first_refusal (conduct_of_single job s.ask).refusal 0 (answers_of before) ≡ None
-  pub brought : octets_brought (answers_of before) ≡ take s.len found
+  pub brought : octets_kept s.ask (answers_of before) ≡ take s.len found
+  pub left : questions_left_by s.ask (answers_of before) ≡ questions_from s.ask
+  pub counted : is_counted s.ask (count_of_data (answers_of before)) ≡ true
   pub no_codes : codes ≡ []
+
+-- It goes on so with what is asked next, once so many octets of its answer came.
+abbrev pub IsNextOf : Config → Option Grant → List Row → Job → List ℕ → List ℕ → Ask → ℕ → Type 0
+IsNextOf config granted rows job found codes asked len =
+    (s : Single) → s.ask ≡ asked → s.out ≡ None → s.len ≡ len → AsksSingly config granted rows job found codes s
 
 -- All that it asked since went out, under sequences up to this last one, and it goes on with it.
 pub record HasAsked (config : Config) (granted : Option Grant) (job : Job) (found codes : List ℕ) (a : Asking)

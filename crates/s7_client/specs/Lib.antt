@@ -1,4 +1,5 @@
 pub mod Codes
+pub mod DataBlocks
 pub mod UserData
 pub mod Uploads
 pub mod Question
@@ -10,6 +11,7 @@ pub mod Flight
 pub mod Refusals
 pub mod Checks
 pub mod Dialogue
+pub mod DataPlaces
 pub mod Course
 pub mod Told
 pub mod Left

@@ -18,6 +18,7 @@ use Rattle.s7_client.specs.declared.answer.Asked.TheVariants as asked
 use Rattle.s7_client.specs.declared.flight.Flight.{Flight}
 use Rattle.s7_client.specs.declared.left.Left.{Left}
 use Rattle.s7_client.specs.declared.left.Left.TheVariants as left
+use Rattle.s7_client.specs.declared.subject.Subject.TheVariants.{DataHead}
 use Rattle.s7_client.specs.declared.single.Ask.{Ask}
 use Rattle.s7_client.specs.declared.single.Ask.TheVariants as ask
 use Rattle.s7_client.specs.declared.single.Single.{Single}
@@ -30,6 +31,7 @@ use Rattle.s7_client.specs.Question.{starts_upload, slices_upload, ends_upload}
 use Rattle.s7_client.specs.Checks.{is_known, octet_count_of, check_moment, check_password}
 use Rattle.s7_client.specs.Left.{questions_left, groups_in, most_parts}
 use Rattle.s7_client.specs.Dialogue.{Conduct, asked_by, list_octets, kind_octets, block_octets, controlling, asking_about, uploading}
+use Rattle.s7_client.specs.DataPlaces.{part_question, block_conduct, has_pdu, is_inside}
 use Rattle.s7_client.specs.Singles.{room_for, asks_left}
 use Rattle.s7_client.specs.Course.{Awaits, for_confirm, for_answers, for_departure, for_nothing}
 pub use Rattle.s7_client.specs.Left.{joined}
@@ -81,6 +83,9 @@ question_of_single job (ask.Further subject octet) so_far = asks_further subject
 question_of_single job ask.Upload so_far = starts_upload (block_of job)
 question_of_single job (ask.Slice id size) so_far = slices_upload id size so_far
 question_of_single job (ask.UploadEnd id) so_far = ends_upload id
+question_of_single job (ask.Head block) so_far = asks DataHead (block_octets 0x41 block.number)
+question_of_single job (ask.HeadFurther block octet) so_far = asks_further DataHead octet so_far
+question_of_single job (ask.Part block place) so_far = part_question block place
 
 -- how it is asked
 abbrev pub conduct_of_single : Job → Ask → Conduct
@@ -90,6 +95,9 @@ conduct_of_single job (ask.Further subject octet) = asking_about subject (data_o
 conduct_of_single job ask.Upload = uploading (block_of job)
 conduct_of_single job (ask.Slice id size) = uploading (block_of job)
 conduct_of_single job (ask.UploadEnd id) = uploading (block_of job)
+conduct_of_single job (ask.Head block) = block_conduct block
+conduct_of_single job (ask.HeadFurther block octet) = block_conduct block
+conduct_of_single job (ask.Part block place) = block_conduct block
 
 -- the message of the telegram that is out
 abbrev pub single_message : Job → Single → List ℕ
@@ -101,9 +109,12 @@ is_sent_well (job.ClockSet moment) = check_moment moment == no_fault
 is_sent_well (job.PasswordSet text) = check_password text == no_fault
 is_sent_well _ = true
 
--- user data that can be written go with what is asked, or none do
+-- User data that can be written go with what is asked, or none do, and a part fits the PDU and is inside the data block.
 abbrev pub is_writable : Job → Ask → Bool
 is_writable job (ask.About subject) = is_sent_well job
+is_writable job (ask.Head block) = has_pdu block
+is_writable job (ask.HeadFurther block octet) = has_pdu block
+is_writable job (ask.Part block place) = has_pdu block && is_inside place
 is_writable job _ = true
 
 -- Such a question can be asked, by a job that has a place for each octet that comes.

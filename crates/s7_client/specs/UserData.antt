@@ -10,8 +10,9 @@ use Rattle.s7_szl.specs.Images.{adds_up}
 use Rattle.s7_szl.specs.Readers.{mode_of}
 use Rattle.s7_szl.specs.Joining.{is_refused}
 use Rattle.s7_clock.specs.Moment.{moment_in}
+use Rattle.s7_client.specs.DataBlocks.{tells_data}
 use Rattle.s7_client.specs.declared.subject.Subject.{Subject}
-use Rattle.s7_client.specs.declared.subject.Subject.TheVariants.{StatusList, RunState, BlockCounts, BlocksOfKind, BlockHead, Clock, ClockSetting, Password, PasswordClearing}
+use Rattle.s7_client.specs.declared.subject.Subject.TheVariants.{StatusList, RunState, BlockCounts, BlocksOfKind, BlockHead, DataHead, Clock, ClockSetting, Password, PasswordClearing}
 
 -- ---- what is asked
 
@@ -22,6 +23,7 @@ group_of RunState = 0x44
 group_of BlockCounts = 0x43
 group_of BlocksOfKind = 0x43
 group_of BlockHead = 0x43
+group_of DataHead = 0x43
 group_of Clock = 0x47
 group_of ClockSetting = 0x47
 group_of Password = 0x45
@@ -33,6 +35,7 @@ subfunction_of RunState = 0x01
 subfunction_of BlockCounts = 0x01
 subfunction_of BlocksOfKind = 0x02
 subfunction_of BlockHead = 0x03
+subfunction_of DataHead = 0x03
 subfunction_of Clock = 0x01
 subfunction_of ClockSetting = 0x02
 subfunction_of Password = 0x01
@@ -96,6 +99,7 @@ comes_in_pieces RunState = true
 comes_in_pieces BlockCounts = true
 comes_in_pieces BlocksOfKind = true
 comes_in_pieces BlockHead = true
+comes_in_pieces DataHead = true
 comes_in_pieces Clock = false
 comes_in_pieces ClockSetting = false
 comes_in_pieces Password = false
@@ -103,13 +107,15 @@ comes_in_pieces PasswordClearing = false
 
 -- The octets are a whole answer: an image that adds up, one that tells whether the controller runs, `30`, a kind and a
 -- count for each of seven kinds of blocks, four octets for each block of a kind, `30`, the kind, `00 22` and the head of
--- a block, ten octets of a clock that has such a date and time, or none.
+-- a block, or that of a data block whose octets are read or filled, ten octets of a clock that has such a date and time,
+-- or none.
 abbrev pub is_whole : Subject → List ℕ → Bool
 is_whole StatusList octets = adds_up octets
 is_whole RunState octets = is_some (mode_of octets)
 is_whole BlockCounts octets = length octets == 28
 is_whole BlocksOfKind octets = length octets % 4 == 0
 is_whole BlockHead octets = length octets == 40
+is_whole DataHead octets = tells_data octets
 is_whole Clock octets = is_some (moment_in octets)
 is_whole ClockSetting octets = length octets == 0
 is_whole Password octets = length octets == 0
@@ -122,6 +128,7 @@ lead_of RunState = 0
 lead_of BlockCounts = 0
 lead_of BlocksOfKind = 0
 lead_of BlockHead = 4
+lead_of DataHead = 4
 lead_of Clock = 0
 lead_of ClockSetting = 0
 lead_of Password = 0

@@ -130,8 +130,8 @@ fn read_codes<'a>(items: &Items, params: &[u8], body: &'a [u8]) -> Option<Answer
     }
 }
 
-// The parameters are the function and the number of items.
-fn counts_items(function: u8, items: &Items, params: &[u8]) -> bool
+/// The parameters are the function and the number of items.
+pub(crate) fn counts_items(function: u8, items: &Items, params: &[u8]) -> bool
     ensures { result ≡ counts_items function items.now params.now }
 {
     params.len() == 2 && params[0] == function && usize::from(params[1]) == items.len()

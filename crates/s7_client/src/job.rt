@@ -29,6 +29,10 @@ pub enum Job {
     Upload { kind: u8, number: u16 },
     /// Delete the block of this kind and number, which may be any. Blocks that are OB, FC or FB can be deleted.
     Delete { kind: u8, number: u16 },
+    /// Read a whole data block, of which the server tells that it has 1 to 2,097,152 octets.
+    DbGet { number: u16 },
+    /// Fill one with a value. Where a part is refused, those before it were written.
+    DbFill { number: u16, value: u8 },
     /// Read the status list (SZL) of this id and index.
     Szl { id: u16, index: u16 },
     /// Read the server's clock.
@@ -65,8 +69,8 @@ pub struct JobResult {
     pub code: u32,
     /// The octets that were read, of several items those of each that was read, joined; of `List` `30`, kind and count
     /// (2) for each of the seven kinds; of `ListOf` number (2), flags and language of each block, by rising numbers; the
-    /// 36 octets of a head; the image of a block; the image of a status list, which that of `Status` is too; the ten
-    /// octets of a clock that was read. None where the code isn't 0.
+    /// 36 octets of a head; the image of a block; the octets of a data block; the image of a status list, which that of
+    /// `Status` is too; the ten octets of a clock that was read. None where the code isn't 0.
     pub octets: Octets,
     /// The return codes of the items of `ReadMany` and `WriteMany`, in the first `count` places;
     /// the other places are 0.

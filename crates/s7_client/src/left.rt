@@ -90,8 +90,8 @@ impl Grouped {
     }
 }
 
-// A group of one item.
-fn alone(item: Item) -> Items
+/// A group of one item.
+pub(crate) fn alone(item: Item) -> Items
     ensures { result ≡ item ∷ [] }
 {
     let mut group = Items::new();

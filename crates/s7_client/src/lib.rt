@@ -9,6 +9,7 @@ pub mod codes;
 mod codes_list;
 mod collect;
 mod config;
+mod data_block;
 mod data_items;
 mod flight;
 mod grant;

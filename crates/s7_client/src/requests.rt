@@ -1,15 +1,17 @@
-// User data, controls and uploads: the questions of jobs that ask one at a time (Snap7 1.4 sources, s7_types.h:
-// TReqFunTypedParams, and the data that follow it).
+// User data, controls, uploads and parts of data blocks: the questions of jobs that ask one at a time (Snap7 1.4 sources,
+// s7_types.h: TReqFunTypedParams, and the data that follow it).
 ghost use Rattle.std.specs.Prelude.{◌≡◌, ℕ, ◌++◌, ◌≤◌, true, [], List, length};
 ghost use Rattle.s7_header.specs.declared.header.Kind.TheVariants as kind;
 ghost use Rattle.s7_header.specs.UserParams.{user_spelling, HasForm};
 ghost use Rattle.s7_header.specs.Negotiation.{most_pdu};
 ghost use Rattle.s7_clock.specs.Control.{control_spelling};
+ghost use Rattle.s7_client.specs.declared.subject.Subject.TheVariants as subject;
 ghost use Rattle.s7_client.specs.UserData.{request_params, further_params, data_of};
 ghost use Rattle.s7_client.specs.Question.{message_octets, question_octets};
 ghost use Rattle.s7_client.specs.Dialogue.{list_octets, block_octets};
 ghost use Rattle.s7_client.specs.Stages.{question_of_single, can_ask_single, is_sent_well, data_of_job, block_of};
 
+use crate::data_block::write_part;
 use crate::job::Job;
 use crate::message::begin_message;
 use crate::password::encoded;
@@ -31,12 +33,15 @@ const MARK: u8 = 0x30;
 /// Where a block is whose head or image is asked for.
 const AT_A: u8 = 0x41;
 
+/// The kind of data blocks.
+const DATA_BLOCK: u8 = 0x41;
+
 /// Writes the message of what the job asks as the one message that the buffer holds.
 pub(crate) fn write_single(job: &Job, ask: &Ask, sequence: u16, message: &mut Buffer)
     requires asks { (found : ℕ) × (can_ask_single job.now found ask.now ≡ true) }
     requires room { message.old.room ≡ most_pdu }
     ensures octets { message.new.octets ≡ question_octets sequence (question_of_single job.now ask.now []) }
-    ensures fits { (10 ≤ length message.new.octets) × (length message.new.octets ≤ 64) }
+    ensures fits { (10 ≤ length message.new.octets) × (length message.new.octets ≤ most_pdu) }
     ensures room { message.new.room ≡ most_pdu }
 {
     match ask {
@@ -46,6 +51,11 @@ pub(crate) fn write_single(job: &Job, ask: &Ask, sequence: u16, message: &mut Bu
         Ask::Upload => write_start(&block_octets(block_of(job)), sequence, message),
         Ask::Slice { id, .. } => write_by_id(SLICE, *id, sequence, message),
         Ask::UploadEnd { id } => write_by_id(END, *id, sequence, message),
+        Ask::Head(block) => write_head(block.number, sequence, message),
+        Ask::HeadFurther(_, octet) => {
+            write_further(Subject::DataHead, *octet, sequence, message)
+        }
+        Ask::Part(block, place) => write_part(block, *place, sequence, message),
     }
 }
 
@@ -72,6 +82,26 @@ fn write_call(control: &Control, sequence: u16, message: &mut Buffer)
     let mut params = [0u8; 26];
     let len = write_control(control, &mut params);
     begin_message(Kind::Job, sequence, &params[..len], 0, message);
+}
+
+// Writes the request for the head of the data block of this number.
+fn write_head(number: u16, sequence: u16, message: &mut Buffer)
+    requires { message.old.room ≡ most_pdu }
+    ensures octets { message.new.octets ≡ message_octets kind.User sequence
+        (user_spelling (request_params subject.DataHead)) (data_of (block_octets 0x41 number)) }
+    ensures fits { (10 ≤ length message.new.octets) × (length message.new.octets ≤ 64) }
+    ensures room { message.new.room ≡ most_pdu }
+{
+    let name = BlockName {
+        kind: DATA_BLOCK,
+        number,
+    };
+    write_user_data(
+        &request_params(Subject::DataHead),
+        &block_octets(name),
+        sequence,
+        message,
+    );
 }
 
 // Writes the request for user data, with the octets that the job sends.

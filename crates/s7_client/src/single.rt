@@ -1,13 +1,16 @@
 // A job that asks one question at a time.
-ghost use Rattle.std.specs.Prelude.{◌≡◌, ◌≤◌, true, IsSome};
+ghost use Rattle.std.specs.Prelude.{◌≡◌, ◌+◌, ◌≤◌, true, IsSome};
 ghost use Rattle.s7_client.specs.declared.subject.Subject.{Subject};
+ghost use Rattle.s7_client.specs.declared.data_block.DataBlock.{DataBlock};
 ghost use Rattle.s7_client.specs.declared.single.Ask.TheVariants as asked;
-ghost use Rattle.s7_client.specs.Singles.{room_for};
+ghost use Rattle.s7_client.specs.Singles.{room_for, parts_bring};
 
 use crate::asking::sequence_after;
 use crate::codes::GOOD;
 use crate::collect::{keep_octets, place_octets};
+use crate::data_block::{DataBlock, Place};
 use crate::grant::Leaves;
+use crate::refusals::number_of_error;
 use crate::running::{Running, Stage};
 use crate::subject::Subject;
 use crate::user_data::{Told, read_single};
@@ -28,6 +31,12 @@ pub(crate) enum Ask {
     Slice { id: u8, size: u32 },
     /// That the upload of this id ends.
     UploadEnd { id: u8 },
+    /// The head of a data block that is read or filled whole.
+    Head(DataBlock),
+    /// The next octets of that head, under this sequence octet.
+    HeadFurther(DataBlock, u8),
+    /// The part of the data block at this place.
+    Part(DataBlock, Place),
 }
 
 /// What a job that asks one question at a time has asked and asks next.
@@ -42,7 +51,8 @@ pub(crate) struct Single {
     /// How many octets of the answer came.
     pub(crate) len: usize,
     ghost first: { (subject : Subject) → ask ≡ asked.About subject → len ≡ 0 },
-    ghost most: { len ≤ room_for ask },
+    ghost alone: { (block : DataBlock) → ask ≡ asked.Head block → len ≡ 0 },
+    ghost most: { len + parts_bring ask ≤ room_for ask },
     ghost put: { unput ≡ true → IsSome out },
 }
 
@@ -51,7 +61,7 @@ impl Single {
     ghost use Rattle.s7_client.specs.declared.job.Job.{Job};
     ghost use Rattle.s7_client.specs.Answer.{answer_of};
     ghost use Rattle.s7_client.specs.Course.{next_sequence};
-    ghost use Rattle.s7_client.specs.Stages.{question_of_single};
+    ghost use Rattle.s7_client.specs.Stages.{question_of_single, is_writable};
     ghost use Rattle.s7_client.specs.Singles.{TellsIfSome};
 
     /// Asks the question under the sequence after this one, where no telegram is out. Gives the last
@@ -83,8 +93,9 @@ impl Single {
     /// What the message tells of the answer to the telegram that is out, behind the octets that came,
     /// which stand at the front of these.
     pub(crate) fn answered<'a>(&self, found: &[u8], message: &'a [u8]) -> Option<Told<'a>>
+        requires { (job : Job) × (is_writable job self.now.ask ≡ true) }
         ensures some { IfSome result (λ told. (number : ℕ) × (self.now.out ≡ Some number) × ((job : Job)
-            → TellsIfSome self.now.ask (length (take self.now.len found.now)) told
+            → TellsIfSome self.now.ask (take self.now.len found.now) told
             (answer_of (question_of_single job self.now.ask (take self.now.len found.now)) number message.now))) }
         ensures none { IfNone result ((job : Job) (number : ℕ) → self.now.out ≡ Some number
             → answer_of (question_of_single job self.now.ask (take self.now.len found.now)) number message.now ≡ None) }
@@ -99,7 +110,19 @@ impl Single {
 }
 
 impl Ask {
-    ghost use Rattle.s7_client.specs.Singles.{lead_in};
+    ghost use Rattle.std.specs.Prelude.{Some};
+    ghost use Rattle.s7_client.specs.Answer.{refuses};
+    ghost use Rattle.s7_client.specs.Singles.{lead_in, refusal_to};
+
+    /// The number that the job ends with where this error word refuses what is asked.
+    pub(crate) fn refused(&self, error: u16) -> u32
+        ensures { refusal_to self.now (refuses error) ≡ Some result }
+    {
+        match self {
+            Ask::Part(block, place) => block.refused(*place, number_of_error(error)),
+            _ => number_of_error(error),
+        }
+    }
 
     /// How many octets of a whole answer stand before what was asked for.
     fn lead(&self) -> usize
@@ -107,7 +130,7 @@ impl Ask {
     {
         match self {
             Ask::About(subject) | Ask::Further(subject, _) => subject.lead(),
-            Ask::Control(_) | Ask::Upload | Ask::Slice { .. } | Ask::UploadEnd { .. } => 0,
+            _ => 0,
         }
     }
 }
@@ -119,7 +142,9 @@ impl Running {
     ghost use Rattle.s7_client.specs.Flight.{Row, filled};
     ghost use Rattle.s7_client.specs.Dialogue.{good_end};
     ghost use Rattle.s7_client.specs.Course.{Course, asking, for_nothing};
-    ghost use Rattle.s7_client.specs.Stages.{IsSingle};
+    ghost use Rattle.s7_client.specs.Stages.{IsSingle, can_ask_single};
+    ghost use Rattle.s7_client.specs.Singles.{asks_left};
+    ghost use Rattle.s7_client.specs.GoesOn.{IsNextOf};
     ghost use Rattle.s7_client.specs.Running.{Follows, Reached, IsOver, IsOpening, awaited_in, unput_of};
     ghost use Rattle.s7_client.specs.Running.{conduct_in, answers_left};
 
@@ -160,15 +185,34 @@ impl Running {
                     self.finish(ask.lead(), len);
                     return Some(sequence);
                 };
-                self.stage = Stage::Single(Single {
-                    ask: next,
-                    out: None,
-                    unput: false,
-                    len,
-                });
-                Some(self.go_on(sequence))
+                Some(self.ask_next(next, len, sequence))
             }
+            Told::Anew(next) => Some(self.ask_next(next, 0, sequence)),
         }
+    }
+
+    // Asks this next under the sequence after this one, once so many octets of its answer came.
+    fn ask_next(&mut self, ask: Ask, len: usize, sequence: u16) -> u16
+        requires first { (subject : Subject) → ask ≡ asked.About subject → len ≡ 0 }
+        requires alone { (block : DataBlock) → ask ≡ asked.Head block → len ≡ 0 }
+        requires most { len + parts_bring ask ≤ room_for ask }
+        requires ready { can_ask_single self.old.job (length self.old.found.items) ask ≡ true }
+        ensures reached { (config : Config) (granted : Option Grant) (course : Course)
+            → IsNextOf config granted course.rows self.old.job self.old.found.items self.old.codes ask len
+            → course.sequence ≡ sequence
+            → Reached config granted course (asking (conduct_in self.old config granted) course) self.new result }
+        ensures fewer { answers_left self.new.stage ≤ asks_left ask len }
+        ensures not_before { IsOpening self.new.stage → ⊥ }
+        ensures few { (config : Config) (size : ℕ) → 128 ≤ size → length (unput_of config size self.new) ≤ 16256 }
+        ensures job { self.new.job ≡ self.old.job }
+    {
+        self.stage = Stage::Single(Single {
+            ask,
+            out: None,
+            unput: false,
+            len,
+        });
+        self.go_on(sequence)
     }
 
     // Ends the job well with the octets from one place to another.

@@ -8,6 +8,8 @@ ghost use Rattle.s7_client.specs.declared.job.Job.TheVariants as job;
 ghost use Rattle.s7_client.specs.declared.single.Ask.TheVariants as asked;
 ghost use Rattle.s7_client.specs.declared.single.Single.{Single};
 ghost use Rattle.s7_client.specs.declared.running.Stage.TheVariants as stage;
+ghost use Rattle.s7_client.specs.DataPlaces.{room_for_value};
+ghost use Rattle.s7_client.specs.Singles.{parts_bring};
 ghost use Rattle.s7_client.specs.Left.{groups_in, AreFew};
 ghost use Rattle.s7_client.specs.Stages.{IsGrant};
 ghost use Rattle.s7_client.specs.Starting.{AsksFirst, Starts};
@@ -15,6 +17,7 @@ ghost use Rattle.s7_client.specs.Starting.{AsksFirst, Starts};
 use crate::asking::Asking;
 use crate::checks::{check_item, check_items, check_moment, check_password, octet_count_of};
 use crate::codes::{GOOD, NOT_CONNECTED, TOO_MANY_ITEMS};
+use crate::data_block::DataBlock;
 use crate::grant::{Grant, Leaves};
 use crate::job::Job;
 use crate::left::{Grouped, Left, items_of};
@@ -76,6 +79,8 @@ fn start_connected(granted: &Grant, job: &Job) -> Start
             kind: *kind,
             number: *number,
         }),
+        Job::DbGet { number } => asking_parts(granted, *number, None),
+        Job::DbFill { number, value } => asking_parts(granted, *number, Some(*value)),
         Job::Szl { .. } => asking_about(Subject::StatusList),
         Job::ClockRead => asking_about(Subject::Clock),
         Job::ClockSet { moment } => set_clock(*moment),
@@ -222,8 +227,26 @@ fn asking_about(subject: Subject) -> Start
     asking_singly(Ask::About(subject), MOST_JOINED)
 }
 
+// A job that reads a whole data block, or fills it with a value.
+fn asking_parts(granted: &Grant, number: u16, value: Option<u8>) -> Start
+    requires { IsGrant granted.now }
+    ensures stage { (s : Single) × (result.stage ≡ stage.Single s)
+        × (s.ask ≡ asked.Head (record { number = number; pdu = granted.now.pdu; value = value }))
+        × (s.out ≡ None) × (s.len ≡ 0) }
+    ensures octets { result.octets ≡ room_for_value value }
+    ensures codes { result.codes ≡ 0 }
+{
+    let block = DataBlock {
+        number,
+        pdu: granted.pdu,
+        value,
+    };
+    asking_singly(Ask::Head(block), block.room())
+}
+
 // A job that asks one question at a time, from this one on.
 fn asking_singly(ask: Ask, octets: usize) -> Start
+    requires { parts_bring ask ≡ 0 }
     ensures stage { (s : Single) × (result.stage ≡ stage.Single s)
         × (s.ask ≡ ask) × (s.out ≡ None) × (s.len ≡ 0) }
     ensures octets { result.octets ≡ octets }

@@ -14,6 +14,8 @@ pub(crate) enum Subject {
     BlocksOfKind,
     /// The head of a block.
     BlockHead,
+    /// The head of a data block that is read or filled whole.
+    DataHead,
     /// What the clock shows.
     Clock,
     /// That the clock shows something else.
@@ -32,7 +34,8 @@ impl Subject {
         ensures { result ≡ group_of self }
     {
         match self {
-            Subject::BlockCounts | Subject::BlocksOfKind | Subject::BlockHead => 0x43,
+            Subject::BlockCounts | Subject::BlocksOfKind | Subject::BlockHead | Subject::DataHead =>
+                0x43,
             Subject::StatusList | Subject::RunState => 0x44,
             Subject::Password | Subject::PasswordClearing => 0x45,
             Subject::Clock | Subject::ClockSetting => 0x47,
@@ -50,7 +53,7 @@ impl Subject {
             | Subject::Clock
             | Subject::Password => 0x01,
             Subject::BlocksOfKind | Subject::ClockSetting | Subject::PasswordClearing => 0x02,
-            Subject::BlockHead => 0x03,
+            Subject::BlockHead | Subject::DataHead => 0x03,
         }
     }
 
@@ -65,6 +68,7 @@ impl Subject {
                 | Subject::BlockCounts
                 | Subject::BlocksOfKind
                 | Subject::BlockHead
+                | Subject::DataHead
         )
     }
 
@@ -73,7 +77,7 @@ impl Subject {
         ensures { result ≡ lead_of self }
     {
         match self {
-            Subject::BlockHead => 4,
+            Subject::BlockHead | Subject::DataHead => 4,
             _ => 0,
         }
     }

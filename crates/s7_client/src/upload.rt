@@ -1,6 +1,6 @@
 // Uploads of blocks: their telegrams, and what acknowledges them (Snap7 1.4 sources, s7_types.h,
 // `TReqFunStartUploadParams`). The layouts are this profile's own.
-ghost use Rattle.std.specs.Prelude.{◌≡◌, ◌++◌, ◌≤◌, [], ℕ, length, option_map, None, Some, IsSome, MatchOption};
+ghost use Rattle.std.specs.Prelude.{◌≡◌, ◌++◌, ◌≤◌, [], ℕ, List, length, option_map, None, Some, IsSome, MatchOption};
 ghost use Rattle.s7_header.specs.declared.header.Kind.TheVariants as kind;
 ghost use Rattle.s7_header.specs.Negotiation.{most_pdu};
 ghost use Rattle.s7_block.specs.Telegrams.{start_function, name_front, is_image_data};
@@ -64,8 +64,8 @@ pub(crate) fn write_by_id(function: u8, id: u8, sequence: u16, message: &mut Buf
 
 /// What the start of an upload is answered: its id, and the length of the image.
 pub(crate) fn read_started<'a>(params: &[u8], body: &[u8]) -> Option<Told<'a>>
-    ensures { (name : _) (came : ℕ) → let answer = acknowledged (starts_upload name) params.now body.now in
-        MatchOption result (answer ≡ None) (λ told. TellsIfSome asked.Upload came told answer) }
+    ensures { (name : _) (so_far : List ℕ) → let answer = acknowledged (starts_upload name) params.now body.now in
+        MatchOption result (answer ≡ None) (λ told. TellsIfSome asked.Upload so_far told answer) }
 {
     if !body.is_empty() {
         return None;
@@ -101,7 +101,7 @@ pub(crate) fn read_slice<'a>(
 ) -> Option<Told<'a>>
     ensures { let answer = acknowledged (slices_upload id size so_far.now) params.now body.now in
         MatchOption result (answer ≡ None)
-        (λ told. TellsIfSome (asked.Slice id size) (length so_far.now) told answer) }
+        (λ told. TellsIfSome (asked.Slice id size) so_far.now told answer) }
 {
     let Slice { more, octets } = fitting(size, so_far, slice_in(params, body)?)?;
     let next = if more {
@@ -157,8 +157,8 @@ fn fitting<'a>(size: u32, so_far: &[u8], slice: Slice<'a>) -> Option<Slice<'a>>
 
 /// What the end of an upload is answered.
 pub(crate) fn read_ended<'a>(params: &[u8], body: &[u8]) -> Option<Told<'a>>
-    ensures { (id came : ℕ) → let answer = acknowledged (ends_upload id) params.now body.now in
-        MatchOption result (answer ≡ None) (λ told. TellsIfSome (asked.UploadEnd id) came told answer) }
+    ensures { (id : ℕ) (so_far : List ℕ) → let answer = acknowledged (ends_upload id) params.now body.now in
+        MatchOption result (answer ≡ None) (λ told. TellsIfSome (asked.UploadEnd id) so_far told answer) }
 {
     if params == [END].as_slice() && body.is_empty() {
         Some(Told::Brought {

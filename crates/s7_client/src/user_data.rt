@@ -1,6 +1,6 @@
-// User data, controls and uploads: the answers to what jobs ask that ask one question at a time (Snap7 1.4 sources,
-// s7_types.h: TS7Params7, and the data that follow it).
-ghost use Rattle.std.specs.Prelude.{◌≡◌, ℕ, ◌+◌, ◌<◌, ◌==◌, ◌&&◌, List, length, if◌then◌else◌};
+// User data, controls, uploads and parts of data blocks: the answers to what jobs ask that ask one question at a time
+// (Snap7 1.4 sources, s7_types.h: TS7Params7, and the data that follow it).
+ghost use Rattle.std.specs.Prelude.{◌≡◌, true, ℕ, ◌+◌, ◌<◌, ◌==◌, ◌&&◌, List, length, if◌then◌else◌};
 ghost use Rattle.std.specs.Prelude.{None, Some, IfSome, IfNone, MatchOption};
 ghost use Rattle.s7_header.specs.Octets.{number_at};
 ghost use Rattle.s7_header.specs.UserParams.{user_params_of};
@@ -8,15 +8,18 @@ ghost use Rattle.s7_szl.specs.Images.{adds_up};
 ghost use Rattle.s7_client.specs.declared.job.Job.{Job};
 ghost use Rattle.s7_client.specs.declared.single.Ask.{Ask};
 ghost use Rattle.s7_client.specs.declared.subject.Subject.{Subject};
+ghost use Rattle.s7_client.specs.declared.subject.Subject.TheVariants as subject;
+ghost use Rattle.s7_client.specs.declared.data_block.DataBlock.{DataBlock};
 ghost use Rattle.s7_client.specs.declared.single.Ask.TheVariants as asked;
 ghost use Rattle.s7_client.specs.UserData.{octets_in, answers_about};
 ghost use Rattle.s7_client.specs.UserData.{is_whole, has_octets, goes_on_with};
 ghost use Rattle.s7_client.specs.Answer.{answer_of, acknowledged, answered_by_user, by_params, brought, is_under};
 ghost use Rattle.s7_client.specs.Answer.{refuses, function_of, tells_status};
 ghost use Rattle.s7_client.specs.Question.{controls};
-ghost use Rattle.s7_client.specs.Stages.{question_of_single};
+ghost use Rattle.s7_client.specs.Stages.{question_of_single, is_writable};
 ghost use Rattle.s7_client.specs.Singles.{TellsIfSome};
 
+use crate::data_block::{DataBlock, read_head, read_part, tells_data};
 use crate::refusals::{number_of_error, number_of_status};
 use crate::single::Ask;
 use crate::subject::Subject;
@@ -54,6 +57,8 @@ pub(crate) enum Told<'a> {
     Refused(u32),
     /// It brings these octets, and this is asked next, if anything is.
     Brought { octets: &'a [u8], next: Option<Ask> },
+    /// This is asked next, whose octets come in the place of those that came.
+    Anew(Ask),
 }
 
 /// What the message tells of the answer to what is asked, behind the octets that came; `None` exactly where it is no
@@ -66,8 +71,10 @@ pub(crate) fn read_single<'a>(
     message: &'a [u8],
 ) -> Option<Told<'a>>
     requires first { (subject : Subject) → ask.now ≡ asked.About subject → length so_far.now ≡ 0 }
+    requires alone { (block : DataBlock) → ask.now ≡ asked.Head block → length so_far.now ≡ 0 }
+    requires writable { (job : Job) × (is_writable job ask.now ≡ true) }
     ensures some { IfSome result (λ told. (job : Job)
-        → TellsIfSome ask.now (length so_far.now) told
+        → TellsIfSome ask.now so_far.now told
         (answer_of (question_of_single job ask.now so_far.now) sequence message.now)) }
     ensures none { IfNone result ((job : Job)
         → answer_of (question_of_single job ask.now so_far.now) sequence message.now ≡ None) }
@@ -80,7 +87,7 @@ pub(crate) fn read_single<'a>(
     }
     let (params, body) = parts(message, &header);
     match header.kind {
-        Kind::Ack => read_refusal(&header),
+        Kind::Ack => read_refusal(ask, &header),
         Kind::AckData => read_acknowledgement(ask, so_far, header.error, params, body),
         Kind::User => read_user_data(ask, so_far, params, body),
         Kind::Job => None,
@@ -88,14 +95,14 @@ pub(crate) fn read_single<'a>(
 }
 
 // The refusal that an acknowledgement without data is, where nothing follows its header.
-fn read_refusal<'a>(header: &Header) -> Option<Told<'a>>
-    ensures { (asked : Ask) (came : ℕ)
+fn read_refusal<'a>(ask: &Ask, header: &Header) -> Option<Told<'a>>
+    ensures { (so_far : List ℕ)
         → let answer = (if header.now.param_len == 0 && header.now.body_len == 0 then Some (refuses header.now.error)
         else None) in
-        MatchOption result (answer ≡ None) (λ told. TellsIfSome asked came told answer) }
+        MatchOption result (answer ≡ None) (λ told. TellsIfSome ask.now so_far told answer) }
 {
     if header.param_len == 0 && header.body_len == 0 {
-        Some(Told::Refused(number_of_error(header.error)))
+        Some(Told::Refused(ask.refused(header.error)))
     } else {
         None
     }
@@ -109,27 +116,29 @@ fn read_acknowledgement<'a>(
     params: &[u8],
     body: &'a [u8],
 ) -> Option<Told<'a>>
+    requires { (job : Job) × (is_writable job ask.now ≡ true) }
     ensures { (job : Job)
         → let answer = (if error == 0
         then acknowledged (question_of_single job ask.now so_far.now) params.now body.now else None) in
-        MatchOption result (answer ≡ None) (λ told. TellsIfSome ask.now (length so_far.now) told answer) }
+        MatchOption result (answer ≡ None) (λ told. TellsIfSome ask.now so_far.now told answer) }
 {
     if error != 0 {
         return None;
     }
     match ask {
         Ask::Control(control) => read_status(control, params, body),
-        Ask::About(_) | Ask::Further(_, _) => None,
+        Ask::About(_) | Ask::Further(_, _) | Ask::Head(_) | Ask::HeadFurther(_, _) => None,
         Ask::Upload => read_started(params, body),
         Ask::Slice { id, size } => read_slice(*id, *size, so_far, params, body),
         Ask::UploadEnd { .. } => read_ended(params, body),
+        Ask::Part(block, place) => read_part(block, *place, params, body),
     }
 }
 
 // What a control is answered.
 fn read_status<'a>(control: &Control, params: &[u8], body: &[u8]) -> Option<Told<'a>>
-    ensures { (came : ℕ) → let answer = acknowledged (controls control.now) params.now body.now in
-        MatchOption result (answer ≡ None) (λ told. TellsIfSome (asked.Control control.now) came told answer) }
+    ensures { (so_far : List ℕ) → let answer = acknowledged (controls control.now) params.now body.now in
+        MatchOption result (answer ≡ None) (λ told. TellsIfSome (asked.Control control.now) so_far told answer) }
 {
     if !body.is_empty() || !tells_status(control, params) {
         return None;
@@ -163,15 +172,40 @@ fn function_of(control: &Control) -> u8
 // What user data with these parameters and data answers.
 fn read_user_data<'a>(ask: &Ask, so_far: &[u8], params: &[u8], body: &'a [u8]) -> Option<Told<'a>>
     requires first { (subject : Subject) → ask.now ≡ asked.About subject → length so_far.now ≡ 0 }
+    requires alone { (block : DataBlock) → ask.now ≡ asked.Head block → length so_far.now ≡ 0 }
     ensures { (job : Job)
         → let answer = answered_by_user (question_of_single job ask.now so_far.now) params.now body.now in
-        MatchOption result (answer ≡ None) (λ told. TellsIfSome ask.now (length so_far.now) told answer) }
+        MatchOption result (answer ≡ None) (λ told. TellsIfSome ask.now so_far.now told answer) }
 {
     match ask {
         Ask::About(subject) => read_piece(*subject, None, &[], params, body),
         Ask::Further(subject, octet) => read_piece(*subject, Some(*octet), so_far, params, body),
-        Ask::Control(_) | Ask::Upload | Ask::Slice { .. } | Ask::UploadEnd { .. } => None,
+        Ask::Head(block) => read_piece_of_head(*block, None, &[], params, body),
+        Ask::HeadFurther(block, octet) => {
+            read_piece_of_head(*block, Some(*octet), so_far, params, body)
+        }
+        Ask::Control(_)
+        | Ask::Upload
+        | Ask::Slice { .. }
+        | Ask::UploadEnd { .. }
+        | Ask::Part(_, _) => { None }
     }
+}
+
+// A piece of the head of a data block, under a sequence octet if one is asked for.
+fn read_piece_of_head<'a>(
+    block: DataBlock,
+    under: Option<u8>,
+    so_far: &[u8],
+    params: &[u8],
+    body: &'a [u8],
+) -> Option<Told<'a>>
+    ensures { let answer = by_params subject.DataHead under so_far.now body.now (user_params_of params.now) in
+        MatchOption result (answer ≡ None)
+        (λ told. TellsIfSome (asked.Head block) so_far.now told answer) }
+{
+    let told = read_piece(Subject::DataHead, under, so_far, params, body)?;
+    Some(read_head(block, so_far, told))
 }
 
 // A piece of an answer in user data about this, under a sequence octet if one is asked for.
@@ -184,7 +218,7 @@ fn read_piece<'a>(
 ) -> Option<Told<'a>>
     ensures { let answer = by_params subject under so_far.now body.now (user_params_of params.now) in
         MatchOption result (answer ≡ None)
-        (λ told. TellsIfSome (asked.About subject) (length so_far.now) told answer) }
+        (λ told. TellsIfSome (asked.About subject) so_far.now told answer) }
 {
     let Ok(params) = read_user(params) else {
         return None;
@@ -256,7 +290,7 @@ fn read_brought<'a>(
 ) -> Option<Told<'a>>
     ensures { let answer = brought subject so_far.now params.now octets.now in
         MatchOption result (answer ≡ None)
-        (λ told. TellsIfSome (asked.About subject) (length so_far.now) told answer) }
+        (λ told. TellsIfSome (asked.About subject) so_far.now told answer) }
 {
     if params.error != 0 {
         return octets
@@ -303,6 +337,7 @@ fn is_whole(subject: Subject, octets: &[u8]) -> bool
         Subject::BlockCounts => octets.len() == COUNTS,
         Subject::BlocksOfKind => octets.len() % ENTRY == 0,
         Subject::BlockHead => octets.len() == HEAD_TOLD,
+        Subject::DataHead => tells_data(octets),
         Subject::Clock => from_octets(octets).is_ok(),
         Subject::ClockSetting | Subject::Password | Subject::PasswordClearing => octets.is_empty(),
     }

@@ -1,7 +1,7 @@
 -- What a job on a connected client asks: reads and writes of one to twenty items, whose answers have room; controls;
 -- user data with its octets, and further octets of what comes in pieces; and uploads.
 use Rattle.std.proofs.Common.{◌≡◌, ℕ, ◌<◌, ◌≤◌, Bool, true, false, ◌&&◌, cond, eqb, leb, ltb, Option, None, Some, List, [], ◌∷◌, length, drop, refl, ap, subst, arith}
-use Rattle.std.specs.Prelude.{IsSome, is_some, slice_get}
+use Rattle.std.specs.Prelude.{IsSome, is_some, slice_get, replicate}
 use Rattle.std.specs.List.{AllByRecursion}
 use Rattle.std.proofs.lemmas.Bool.{and_parts, leb-true}
 use Rattle.s7_item.specs.declared.item.Item.{Item}
@@ -26,8 +26,10 @@ use Rattle.s7_client.specs.UserData.{comes_in_pieces, filled_text, encoded}
 use Rattle.s7_client.specs.Question.{Question, controls, asks_further}
 use Rattle.s7_client.specs.Answer.{Answer, grants, tells, notes, stands, brings, uploads, slices, uploaded, refuses}
 use Rattle.s7_client.specs.Checks.{octet_count_of, check_item, check_items, check_moment, check_password}
+use Rattle.s7_client.specs.DataBlocks.{data_parts}
 use Rattle.s7_client.specs.Dialogue.{End, read_questions, write_questions, alone, listed, if_good, at_once, asking_about, next_piece, behind, last_answer, octets_brought, list_octets, kind_octets, block_octets, plan_of}
 use Rattle.s7_client.proofs.CheckLemmas.{item_checked, items_checked, can_split}
+use Rattle.s7_client.proofs.DataFitLemmas.{data_fit}
 use Rattle.s7_client.proofs.GroupLemmas.{groups_right}
 use Rattle.s7_client.proofs.FitLemmas.{one_of_all, good_sent}
 use Rattle.s7_client.proofs.FlightLemmas.{same_some}
@@ -37,6 +39,7 @@ use Rattle.s7_rig.proofs.PlacedLemmas.{parts_known}
 use Rattle.s7_rig.proofs.UserClockLemmas.{clock_read, length-clock}
 use Rattle.s7_rig.proofs.UserPasswordLemmas.{length-password}
 use Rattle.s7_rig.proofs.UploadAsksLemmas.{of_upload}
+use Rattle.s7_rig.proofs.DataAsksLemmas.{of_data, data_known}
 use Rattle.s7_rig.proofs.AskedItems.{alone_each, groups_each, items_known}
 
 -- ---- all questions of a job
@@ -63,6 +66,14 @@ writes_askable pdu (group ∷ groups) octets each known = ((each.0.0, known.0), 
 parts_short : (pdu : ℕ) (write : Bool) (parts : List Item) → AllByRecursion (CanBeAsked pdu write) parts → AllByRecursion (IsShortGroup pdu write) (alone parts)
 parts_short pdu write [] each = tt
 parts_short pdu write (part ∷ parts) each = (((omega arith, omega arith), each.0.fits), parts_short pdu write parts each.1)
+
+-- items that fit alone
+alone_short : (pdu : ℕ) (write : Bool) (items : List Item)
+    → AllByRecursion (λ (group : List Item). fits pdu write group ≡ true) (alone items)
+    → AllByRecursion (IsShortGroup pdu write) (alone items)
+alone_short pdu write [] each = tt
+alone_short pdu write (item ∷ items) each =
+    (((omega arith, omega arith), each.0), alone_short pdu write items each.1)
 
 groups_short_each : (pdu : ℕ) (write : Bool) (groups : List (List Item)) → AllByRecursion (IsGroup pdu write) groups → AllByRecursion (λ (group : List Item). length group ≤ 20) groups
     → AllByRecursion (IsShortGroup pdu write) groups
@@ -148,6 +159,21 @@ password_can text good =
     let both = both_good (ltb 0 (length text)) (leb (length text) 8) invalid_parameters (omega arith) good in
     length-password text (leb-true (length text) 8 both.1)
 
+-- ---- the parts of a whole data block
+
+parts_read : (number size pdu : ℕ) → 64 ≤ pdu
+    → AllByRecursion (IsAskable pdu) (read_questions (alone (data_parts number size pdu false)))
+parts_read number size pdu least =
+    let parts : List Item = data_parts number size pdu false in
+    reads_askable pdu (alone parts) (alone_short pdu false parts (data_fit number size pdu false least))
+
+parts_written : (number size pdu : ℕ) (octets : List ℕ) → 64 ≤ pdu
+    → AllByRecursion (IsAskable pdu) (write_questions (alone (data_parts number size pdu true)) octets)
+parts_written number size pdu octets least =
+    let parts : List Item = data_parts number size pdu true in
+    writes_askable pdu (alone parts) octets (alone_short pdu true parts (data_fit number size pdu true least))
+    (alone_each HasWord parts (data_known number size pdu true))
+
 -- ---- each job
 
 pub askable : (asked : Job) (config : Config) (granted : Grant) (answers : List (Option Answer)) (q : Question)
@@ -184,6 +210,15 @@ askable (job.Upload kind number) config granted answers q least is =
     tt is
 askable (job.Delete kind number) config granted answers q least is =
     one_askable granted.pdu (controls (control.Delete kind number)) q (length answers) tt is
+askable (job.DbGet number) config granted answers q least is =
+    of_data (IsAskable granted.pdu) (block_octets 0x41 number)
+    (λ size. read_questions (alone (data_parts number size granted.pdu false))) answers q (number, refl)
+    (λ octet so_far. refl) (λ size. parts_read number size granted.pdu least) is
+askable (job.DbFill number value) config granted answers q least is =
+    of_data (IsAskable granted.pdu) (block_octets 0x41 number)
+    (λ size. write_questions (alone (data_parts number size granted.pdu true)) (replicate size value)) answers q
+    (number, refl) (λ octet so_far. refl)
+    (λ size. parts_written number size granted.pdu (replicate size value) least) is
 askable (job.Szl id index) config granted answers q least is =
     piece_askable granted.pdu StatusList (list_octets id index) answers q refl is
 askable job.ClockRead config granted answers q least is = piece_askable granted.pdu Clock [] answers q refl is

@@ -1,5 +1,5 @@
 -- What a plant replies to questions about blocks is whole.
-use Rattle.std.proofs.Common.{◌≡◌, ◌∙◌, inl, ℕ, ◌*◌, ◌≤◌, Bool, true, false, cond, eqb, Option, None, Some}
+use Rattle.std.proofs.Common.{◌≡◌, ◌∙◌, inl, ℕ, ◌+◌, ◌*◌, ◌<◌, ◌≤◌, Bool, true, false, cond, eqb, Option, None, Some}
 use Rattle.std.proofs.Common.{List, [], ◌∷◌, ◌++◌, length, map, filter, take, drop, refl, sym, ap, subst, arith, length-append}
 use Rattle.std.specs.Prelude.{◌%◌, IsSome, unwrap_or, option_map}
 use Rattle.std.specs.declared.cmp.Ordering.{Ordering}
@@ -8,24 +8,26 @@ use Rattle.std.specs.BTreeMap.{is_at}
 use Rattle.std.specs.Cmp.{IsTotalOrder}
 use Rattle.std.specs.List.{AllByRecursion, flat_map}
 use Rattle.std.specs.Map.{keys_of, lookup}
-use Rattle.std.proofs.lemmas.Bool.{and_parts, eqb-true, eq-eqb, leb-true}
+use Rattle.std.proofs.lemmas.Bool.{and_parts, and_from, eqb-true, eq-eqb, leb-true, le-leb}
 use Rattle.std.proofs.lemmas.Cmp.{tied_itself}
 use Rattle.std.proofs.lemmas.List.{length-take-le, length-drop}
 use Rattle.s7_outer.specs.Numbers.{two_octets}
 use Rattle.s7_item.specs.Codes.{data_blocks}
 use Rattle.s7_area.specs.declared.key.AreaKey.{AreaKey}
-use Rattle.s7_area.specs.Memory.{key_cmp, octets_at}
-use Rattle.s7_area.specs.Registers.{db_numbers}
+use Rattle.s7_area.specs.Memory.{AreaList, key_cmp, octets_at}
+use Rattle.s7_area.specs.Registers.{db_numbers, IsArea}
 use Rattle.s7_area.proofs.MemoryLemmas.{key_cmp_total}
 use Rattle.s7_block.specs.declared.block.BlockName.{BlockName}
-use Rattle.s7_block.specs.Heads.{head_agrees}
+use Rattle.s7_block.specs.Heads.{Head, head_agrees, four_at, db_head}
+use Rattle.s7_block.proofs.HeadLemmas.{read as heads_read}
 use Rattle.s7_block.specs.Store.{Images, IsStored, name_cmp, image_at, numbers_of}
 use Rattle.s7_block.proofs.StoreLemmas.{name_cmp_total, numbers_few}
 use Rattle.s7_plant.specs.Answers as plant
 use Rattle.s7_plant.specs.Answers.{db_image, db_octets, image_in, numbers_in, list_entry, entries_told, info_told}
 use Rattle.s7_plant.specs.State.{State}
 use Rattle.s7_plant.specs.declared.request.Request.TheVariants as plain
-use Rattle.s7_client.specs.declared.subject.Subject.TheVariants.{BlockCounts, BlocksOfKind, BlockHead}
+use Rattle.s7_client.specs.declared.subject.Subject.TheVariants.{BlockCounts, BlocksOfKind, BlockHead, DataHead}
+use Rattle.s7_client.specs.DataBlocks.{tells_data}
 use Rattle.s7_rig.specs.Plants.{IsPlant}
 use Rattle.s7_rig.proofs.UserFitLemmas.{refusal_fits}
 use Rattle.s7_rig.proofs.UserServedLemmas.{IsFit}
@@ -92,6 +94,52 @@ head_fits_by s kind number (Some image) plant is =
 pub head_fits : (kind number : ℕ) (state : State) (right : Bool) → IsPlant state
     → IsFit BlockHead (plant.answer state right (plain.Info kind number))
 head_fits kind number state right plant = head_fits_by state kind number _ plant refl
+
+-- ---- that of a data block
+
+-- the length of an area
+abbrev IsSized : List ℕ → Type 0
+IsSized octets = (0 < length octets) × (length octets ≤ 2097152)
+
+sized_step : (b : Bool) (x v : List ℕ) (later : Option (List ℕ)) → cond b (Some x) later ≡ Some v → IsSized x
+    → (later ≡ Some v → IsSized v) → IsSized v
+sized_step true x v later is here more = let same : x ≡ v = cc in subst IsSized same here
+sized_step false x v later is here more = more is
+
+area_sized : (test : AreaKey → Bool) (areas : AreaList) (octets : List ℕ) → AllByRecursion IsArea areas
+    → lookup test areas ≡ Some octets → IsSized octets
+area_sized test [] octets all is = absurd (cc)
+area_sized test (e ∷ areas) octets all is =
+    sized_step (test e.0) e.1 octets (lookup test areas) is (all.0.some, all.0.most)
+    (area_sized test areas octets all.1)
+
+-- what is told of the head
+abbrev data_told : ℕ → List ℕ → List ℕ
+data_told number octets = 0x30 ∷ 0x41 ∷ 0x00 ∷ 0x22 ∷ take 36 (db_image number octets)
+
+load_told : (number : ℕ) (octets : List ℕ) → four_at (data_told number octets) 12 ≡ 36 + length octets
+load_told number octets = ap (λ (h : Head). h.load_length) (heads_read (db_head number (length octets)) octets)
+
+data_whole : (number : ℕ) (octets : List ℕ) → IsSized octets → tells_data (data_told number octets) ≡ true
+data_whole number octets sized =
+    let load = load_told number octets in
+    and_from _ _ refl
+    (and_from _ _ (le-leb 37 (four_at (data_told number octets) 12) (omega (arith, load, sized.0)))
+    (le-leb (four_at (data_told number octets) 12) 2097188 (omega (arith, load, sized.1))))
+
+data_fits_by : (number : ℕ) (found : Option (List ℕ)) → ((octets : List ℕ) → found ≡ Some octets → IsSized octets)
+    → IsFit DataHead (info_told 0x41 (option_map (db_image number) found))
+data_fits_by number None sized = refusal_fits DataHead 0xD209 (omega arith) (omega arith)
+data_fits_by number (Some octets) sized = record {
+  small = omega arith;
+  rest = λ good. record { whole = data_whole number octets (sized octets refl); most = omega arith; short = inl refl };
+}
+
+pub data_fits : (number : ℕ) (state : State) (right : Bool) → IsPlant state
+    → IsFit DataHead (plant.answer state right (plain.Info 0x41 number))
+data_fits number state right plant =
+    data_fits_by number (db_octets state number) (λ octets is.
+    area_sized (is_at (key_cmp (record { area = data_blocks; number = number }))) state.memory.areas octets plant.areas is)
 
 -- ---- each block of a kind is there
 

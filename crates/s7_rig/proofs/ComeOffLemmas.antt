@@ -43,11 +43,12 @@ use Rattle.s7_rig.specs.Exchanges.{IsSecurity, AnyUndone, HasTold}
 use Rattle.s7_rig.specs.Exchanges.{NamesNone}
 use Rattle.s7_rig.specs.Exchanges.{Exchange, entries_of, rows_of, AreTold, Converses}
 use Rattle.s7_rig.proofs.HoldPieces.{behind_is}
+use Rattle.s7_rig.proofs.HoldData.{IsOfItems, reads_items, writes_items}
 use Rattle.s7_rig.proofs.HoldReplies.{IsGood, counts_good, lists_good, mode_good, clock_good, setting_good}
 use Rattle.s7_rig.proofs.HoldReplies.{IsDoneAs, compress_done, copy_done}
 use Rattle.s7_rig.proofs.UploadAsksLemmas.{of_upload}
 use Rattle.s7_rig.proofs.UploadOffLemmas.{upload_good}
-use Rattle.s7_rig.proofs.UnrefusedLemmas.{IsFree, FindsAll, IsOfItems, IsControl, NamesNoBlock, IsAbout, IsUploadOf}
+use Rattle.s7_rig.proofs.UnrefusedLemmas.{IsFree, FindsAll, IsControl, NamesNoBlock, IsAbout, IsUploadOf}
 use Rattle.s7_rig.proofs.UnrefusedLemmas.{part_unrefused, items_unrefused, control_unrefused, about_unrefused}
 use Rattle.s7_rig.proofs.UnrefusedLemmas.{upload_unrefused}
 use Rattle.s7_rig.proofs.AskedItems.{AsksFor, part_reads_for, part_writes_for}
@@ -62,14 +63,6 @@ asked_each : (P : Question → Type 0) (c : Conduct) (place : ℕ) (xs : List Ex
 asked_each P c place [] each asked = tt
 asked_each P c place (x ∷ xs) each asked =
     (each asked.0.answers x.question asked.0.asks, asked_each P c (place + 1) xs each asked.1)
-
-reads_items : (groups : List (List Item)) → AllByRecursion IsOfItems (read_questions groups)
-reads_items [] = tt
-reads_items (group ∷ groups) = (tt, reads_items groups)
-
-writes_items : (groups : List (List Item)) (octets : List ℕ) → AllByRecursion IsOfItems (write_questions groups octets)
-writes_items [] octets = tt
-writes_items (group ∷ groups) octets = (tt, writes_items groups _)
 
 both : (P Q : Question → Type 0) (questions : List Question) → AllByRecursion P questions
     → AllByRecursion Q questions → AllByRecursion (λ (q : Question). P q × Q q) questions

@@ -21,7 +21,7 @@ use Rattle.s7_client.specs.Checks.{check_item, check_items, check_moment, check_
 use Rattle.s7_client.specs.Flight.{answers_of, open_count}
 use Rattle.s7_client.specs.Dialogue.{End, First, nothing, connect_request, disconnect_request, Plan, over, number_end, fault_end, departed_end}
 use Rattle.s7_client.specs.Dialogue.{taken_grant, by_grant, negotiated, connected_plan, unconnected_plan, plan_of}
-use Rattle.s7_client.specs.Dialogue.{Conduct, plain_number, write_number, by_refusal, good_end, controlling, asking_about, uploading, at_once}
+use Rattle.s7_client.specs.Dialogue.{Conduct, plain_number, write_number, by_refusal, good_end, controlling, asking_about, uploading, fill_number, at_once}
 use Rattle.s7_client.specs.Course.{Origin, Course, Awaits, for_confirm, for_answers, for_departure, for_nothing, conduct_of}
 use Rattle.s7_client.specs.Course.{asked_on, asking, blank, by_first, begun, course}
 use Rattle.s7_client.specs.Standing.{IsFault, IsByOctets, IsByDeparture}
@@ -129,6 +129,14 @@ connected_leaves (job.Upload kind number) granted =
     upload_leaves (job.Upload kind number) granted (record { kind = kind; number = number })
 connected_leaves (job.Delete kind number) granted =
     control_leaves (job.Delete kind number) granted (control.Delete kind number)
+connected_leaves (job.DbGet number) granted = record {
+  ends = λ answers. refusal_leaves (job.DbGet number) granted _ _ _ _;
+  departs = λ e. not_departing _ e;
+}
+connected_leaves (job.DbFill number value) granted = record {
+  ends = λ answers. refusal_leaves (job.DbFill number value) granted _ _ _ _;
+  departs = λ e. not_departing _ e;
+}
 connected_leaves (job.Szl id index) granted = about_leaves (job.Szl id index) granted StatusList _
 connected_leaves job.ClockRead granted = about_leaves job.ClockRead granted Clock _
 connected_leaves (job.ClockSet moment) granted =
@@ -182,6 +190,7 @@ stays_or_leaves (job.ClockSet moment) grant answers =
 stays_or_leaves (job.PasswordSet text) grant answers =
     let check = check_password text in
     inl (checked_stays check _ (eqb check 0) answers (refusal_stays plain_number _ _ _))
+stays_or_leaves (job.DbFill number value) grant answers = inl (refusal_stays (fill_number answers) _ _ _)
 stays_or_leaves job.Disconnect grant answers = inr refl
 stays_or_leaves _ grant answers = inl (refusal_stays plain_number _ _ _)
 

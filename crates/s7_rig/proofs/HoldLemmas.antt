@@ -1,6 +1,7 @@
 -- What a question wants of its link is there: further octets are asked of a link that holds them, and slices and the end
 -- of an upload of one that holds the upload.
 use Rattle.std.proofs.Common.{◌≡◌, ℕ, ◌+◌, ◌≤◌, Bool, true, false, cond, eqb, Option, None, Some, List, [], ◌∷◌, ◌++◌, length, ap, sym, ◌∙◌, subst, arith}
+use Rattle.std.specs.Prelude.{replicate}
 use Rattle.std.specs.List.{AllByRecursion}
 use Rattle.std.proofs.lemmas.List.{map-append}
 use Rattle.s7_item.specs.declared.item.Item.{Item}
@@ -14,12 +15,15 @@ use Rattle.s7_client.specs.declared.grant.Leaves.TheVariants.{AsItWas}
 use Rattle.s7_client.specs.declared.job.Job.{Job}
 use Rattle.s7_client.specs.declared.job.Job.TheVariants as job
 use Rattle.s7_client.specs.declared.subject.Subject.{Subject}
+use Rattle.s7_client.specs.declared.subject.Subject.TheVariants.{DataHead}
+use Rattle.s7_client.specs.DataBlocks.{data_parts}
 use Rattle.s7_block.specs.declared.block.BlockName.{BlockName}
 use Rattle.s7_client.specs.Question.{Question, controls, asks, asks_further, starts_upload, slices_upload, ends_upload}
 use Rattle.s7_client.specs.Answer.{Answer}
 use Rattle.s7_client.specs.Checks.{check_item, check_items, check_moment, check_password, octet_count_of}
 use Rattle.s7_client.specs.Flight.{Row, answers_of}
 use Rattle.s7_client.specs.Dialogue.{End, Conduct, Plan, over, number_end, read_questions, write_questions, alone}
+use Rattle.s7_client.specs.Dialogue.{getting, filling, block_octets}
 use Rattle.s7_client.specs.Dialogue.{controlling, asking_about, uploading, listed, if_good, connected_plan, plan_of}
 use Rattle.s7_client.specs.Course.{Origin, conduct_of, course}
 use Rattle.s7_client.proofs.FlightLemmas.{same_some}
@@ -29,6 +33,7 @@ use Rattle.s7_rig.specs.Awaiting.{AreAsked}
 use Rattle.s7_rig.specs.Exchanges.{IsReadyFor, GoesOn, Exchange, rows_of}
 use Rattle.s7_rig.proofs.HoldPieces.{piece_ready}
 use Rattle.s7_rig.proofs.HoldSlices.{slice_ready}
+use Rattle.s7_rig.proofs.HoldData.{reads_items, writes_items, data_ready}
 use Rattle.s7_rig.proofs.HoldTurns.{AreInTurn, course_in_turn, turn_at}
 use Rattle.s7_rig.proofs.TelegramLemmas.{AreOut}
 
@@ -91,6 +96,26 @@ upload_in_turn name = record {
       slice_ready link name answers question answer next asked goes is;
 }
 
+getting_in_turn : (pdu number : ℕ) → AsksInTurn (getting pdu (block_octets 0x41 number) number)
+getting_in_turn pdu number = record {
+  narrow = omega arith;
+  first = λ link next is. subst (IsReadyFor link) (same_some (asks DataHead (block_octets 0x41 number)) next is) tt;
+  behind = λ link answers question answer next asked goes is.
+      data_ready link (block_octets 0x41 number) (λ size. read_questions (alone (data_parts number size pdu false)))
+      (λ size. reads_items (alone (data_parts number size pdu false))) answers question answer next asked goes is;
+}
+
+filling_in_turn : (pdu number value : ℕ) → AsksInTurn (filling pdu (block_octets 0x41 number) number value)
+filling_in_turn pdu number value = record {
+  narrow = omega arith;
+  first = λ link next is. subst (IsReadyFor link) (same_some (asks DataHead (block_octets 0x41 number)) next is) tt;
+  behind = λ link answers question answer next asked goes is.
+      data_ready link (block_octets 0x41 number)
+      (λ size. write_questions (alone (data_parts number size pdu true)) (replicate size value))
+      (λ size. writes_items (alone (data_parts number size pdu true)) (replicate size value)) answers question answer
+      next asked goes is;
+}
+
 -- ---- the questions of each job
 
 -- a job asks plainly, or in turn
@@ -143,6 +168,8 @@ asks_as (job.ListOf kind) granted = about_asks _ _
 asks_as (job.Info kind number) granted = about_asks _ _
 asks_as (job.Upload kind number) granted = in_turn (upload_in_turn (record { kind = kind; number = number }))
 asks_as (job.Delete kind number) granted = control_asks (control.Delete kind number)
+asks_as (job.DbGet number) granted = in_turn (getting_in_turn granted.pdu number)
+asks_as (job.DbFill number value) granted = in_turn (filling_in_turn granted.pdu number value)
 asks_as (job.Szl id index) granted = about_asks _ _
 asks_as job.ClockRead granted = about_asks _ _
 asks_as (job.ClockSet moment) granted = checked_asks (check_moment moment) _ _ (about_asks _ _)

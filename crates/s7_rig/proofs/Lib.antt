@@ -36,6 +36,8 @@ pub mod TelegramLemmas
 pub mod HoldTurns
 pub mod HoldPieces
 pub mod HoldSlices
+pub mod DataAsksLemmas
+pub mod HoldData
 pub mod HoldLemmas
 pub mod HoldReplies
 pub mod AnsweringLemmas

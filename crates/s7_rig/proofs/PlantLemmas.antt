@@ -1,5 +1,5 @@
 -- A plant stays one, whatever is asked that can be carried out.
-use Rattle.std.proofs.Common.{◌≡◌, ◌∙◌, ℕ, zero, suc, ◌≤◌, Bool, true, false, cond, ◌||◌, Option, None, Some}
+use Rattle.std.proofs.Common.{◌≡◌, ◌∙◌, ℕ, zero, suc, ◌≤◌, Bool, true, false, cond, not, eqb, ◌&&◌, ◌||◌, Option, None, Some}
 use Rattle.std.proofs.Common.{List, [], ◌∷◌, length, take, refl, sym, ap, subst, arith}
 use Rattle.std.specs.Prelude.{◌==◌, nat_lt, is_some, unwrap_or}
 use Rattle.std.specs.declared.cmp.Ordering.{Ordering}
@@ -9,20 +9,23 @@ use Rattle.std.specs.BTreeMap.{is_at, insert_entry}
 use Rattle.std.specs.Cmp.{IsTotalOrder}
 use Rattle.std.specs.List.{AllByRecursion}
 use Rattle.std.specs.List.Sorted.{IsStrictlySortedBy}
-use Rattle.std.specs.Map.{keys_of, lookup, remove_entry}
-use Rattle.std.proofs.lemmas.Bool.{ltb-true}
+use Rattle.std.specs.Map.{keys_of, lookup, remove_entry, set_value}
+use Rattle.std.proofs.lemmas.Bool.{eqb-true, ltb-true}
+use Rattle.std.proofs.lemmas.Grind.{common_steps}
 use Rattle.std.proofs.lemmas.Map.{keys-set_value, lookup-none}
 use Rattle.std.proofs.lemmas.Map.Entries.{none_below_head}
 use Rattle.std.proofs.lemmas.Map.Keys.{sorted_tail}
 use Rattle.s7_item.specs.Codes.{good}
 use Rattle.s7_item.specs.DataItem.{octets_at}
+use Rattle.s7_item.specs.Item.{octet_count}
 use Rattle.s7_item.specs.declared.item.Item.{Item}
 use Rattle.s7_item.specs.declared.places.DataPlace.{DataPlace}
 use Rattle.s7_area.specs.declared.key.AreaKey.{AreaKey}
 use Rattle.s7_area.specs.Memory as memory
-use Rattle.s7_area.specs.Memory.{Memory, key_cmp, with_octets, write_code, written}
-use Rattle.s7_area.specs.Places.{changed_at, key_of}
-use Rattle.s7_area.specs.Registers.{db_numbers, most_dbs}
+use Rattle.s7_area.specs.Guards.{is_write_barred}
+use Rattle.s7_area.specs.Memory.{Memory, AreaList, key_cmp, with_octets, code_in, write_code, written}
+use Rattle.s7_area.specs.Places.{is_inside, is_misfit, changed_at, key_of}
+use Rattle.s7_area.specs.Registers.{db_numbers, most_dbs, IsArea, IsMemory}
 use Rattle.s7_block.specs.declared.block.Block.{Block}
 use Rattle.s7_block.specs.Store.{Store, IsStore, IsStored, name_cmp, name_of, image_at, with_block, without_block}
 use Rattle.s7_block.proofs.EntryLemmas.{sorted-insert_entry, sorted-remove_entry, all-insert_entry, all-remove_entry}
@@ -33,13 +36,48 @@ use Rattle.s7_plant.specs.declared.journal.Entry.{Entry}
 use Rattle.s7_plant.specs.declared.request.Ask.{Ask}
 use Rattle.s7_plant.specs.declared.request.Request.{Request}
 use Rattle.s7_plant.specs.declared.request.Request.TheVariants as asks
-use Rattle.s7_plant.specs.Answers.{after, changed, if_allowed, is_barred, takes_block, with_inserted, write_all}
+use Rattle.s7_plant.specs.Answers.{after, changed, is_barred, takes_block, write_all}
 use Rattle.s7_plant.specs.Journals.{AreReady, after_call, calls_of}
 use Rattle.s7_plant.specs.Requests.{IsReady}
 use Rattle.s7_plant.specs.State.{State, begins_with}
 use Rattle.s7_session.specs.Books.{History}
 use Rattle.s7_rig.specs.Plants.{IsPlant}
 use Rattle.s7_rig.specs.Split.{state_at}
+
+-- ---- what writes keep
+
+-- what holds of a memory, and each write of an item keeps, holds whatever is asked
+module _ (P : Memory → Type 0)
+    (each : (m : Memory) (right : Bool) (item : Item) (octets : List ℕ) → P m → P (written m right item octets)) where
+  all_written : (m : Memory) (right : Bool) (items : List Item) (places : List DataPlace) (octets : List ℕ) → P m
+      → P (write_all m right items places octets)
+  all_written m right [] places octets has = has
+  all_written m right (item ∷ items) [] octets has = has
+  all_written m right (item ∷ items) (place ∷ places) octets has =
+      all_written (written m right item (octets_at octets place)) right items places octets
+      (each m right item (octets_at octets place) has)
+
+  either : (b : Bool) (s next : State) → P s.memory → P next.memory → P (cond b s next).memory
+  either true s next has other = has
+  either false s next has other = other
+
+  memory_changed : (s : State) (right : Bool) (request : Request) → P s.memory → P (changed s right request).memory
+  memory_changed s right (asks.Read items) has = has
+  memory_changed s right (asks.Write items places octets) has = all_written s.memory right items places octets has
+  memory_changed s right (asks.Szl id index) has = has
+  memory_changed s right (asks.ClockRead moment) has = has
+  memory_changed s right (asks.ClockSet moment value) has = either (is_barred s right) s _ has has
+  memory_changed s right (asks.Start cold) has = either (is_barred s right) s _ has has
+  memory_changed s right asks.Stop has = either (is_barred s right) s _ has has
+  memory_changed s right asks.Compress has = has
+  memory_changed s right asks.CopyRam has = has
+  memory_changed s right asks.ListAll has = has
+  memory_changed s right (asks.ListOf kind) has = has
+  memory_changed s right (asks.Info kind number) has = has
+  memory_changed s right (asks.StartUpload kind number) has = has
+  memory_changed s right (asks.Insert kind number image spare) has =
+      either (is_barred s right) s _ has (either (takes_block s kind number) _ s has has)
+  memory_changed s right (asks.Delete kind number) has = either (is_barred s right) s _ has has
 
 -- ---- areas keep their names
 
@@ -56,48 +94,73 @@ names_written m right item octets =
     go true new = keys-set_value (is_at (key_cmp (key_of item))) m.areas new
     go false new = refl
 
-names_all : (m : Memory) (right : Bool) (items : List Item) (places : List DataPlace) (octets : List ℕ)
-    → names (write_all m right items places octets) ≡ names m
-names_all m right [] places octets = refl
-names_all m right (item ∷ items) [] octets = refl
-names_all m right (item ∷ items) (place ∷ places) octets =
-    names_all (written m right item (octets_at octets place)) right items places octets
-    ∙ names_written m right item (octets_at octets place)
-
-names_allowed : (s new : State) (right : Bool) → names new.memory ≡ names s.memory
-    → names ((if_allowed s right new).memory) ≡ names s.memory
-names_allowed s new right same = go (is_barred s right)
-  where
-    go : (b : Bool) → names ((cond b s new).memory) ≡ names s.memory
-    go true = refl
-    go false = same
-
-names_inserted : (s : State) (kind number : ℕ) (image : List ℕ)
-    → names ((with_inserted s kind number image).memory) ≡ names s.memory
-names_inserted s kind number image = go (takes_block s kind number) _ refl
-  where
-    go : (b : Bool) (new : State) → names new.memory ≡ names s.memory
-        → names ((cond b new s).memory) ≡ names s.memory
-    go true new same = same
-    go false new same = refl
-
 pub names_changed : (s : State) (right : Bool) (request : Request)
     → keys_of (changed s right request).memory.areas ≡ keys_of s.memory.areas
-names_changed s right (asks.Read items) = refl
-names_changed s right (asks.Write items places octets) = names_all s.memory right items places octets
-names_changed s right (asks.Szl id index) = refl
-names_changed s right (asks.ClockRead moment) = refl
-names_changed s right (asks.ClockSet moment value) = names_allowed s _ right refl
-names_changed s right (asks.Start cold) = names_allowed s _ right refl
-names_changed s right asks.Stop = names_allowed s _ right refl
-names_changed s right asks.Compress = refl
-names_changed s right asks.CopyRam = refl
-names_changed s right asks.ListAll = refl
-names_changed s right (asks.ListOf kind) = refl
-names_changed s right (asks.Info kind number) = refl
-names_changed s right (asks.StartUpload kind number) = refl
-names_changed s right (asks.Insert kind number image spare) = names_allowed s _ right (names_inserted s kind number image)
-names_changed s right (asks.Delete kind number) = names_allowed s _ right refl
+names_changed s right request =
+    memory_changed (λ m. names m ≡ names s.memory) (λ m right item octets same. names_written m right item octets ∙ same)
+    s right request refl
+
+-- ---- and their lengths
+
+abbrev AreAreas : Memory → Type 0
+AreAreas m = AllByRecursion IsArea m.areas
+
+set_step : (b : Bool) (e : AreaKey × List ℕ) (es rest : AreaList) (old new : List ℕ) (later : Option (List ℕ))
+    → cond b (Some e.1) later ≡ Some old → length new ≡ length old → IsArea e → AllByRecursion IsArea es
+    → (later ≡ Some old → AllByRecursion IsArea rest) → AllByRecursion IsArea (cond b ((e.0, new) ∷ es) (e ∷ rest))
+set_step true e es rest old new later found same head tail more =
+    let here : e.1 ≡ old = cc in
+    let long : length new ≡ length e.1 = same ∙ ap length (sym here) in
+    (record { name = head.name; some = rw long head.some; most = rw long head.most; even = rw long head.even }, tail)
+set_step false e es rest old new later found same head tail more = (head, more found)
+
+areas_set : (test : AreaKey → Bool) (es : AreaList) (old new : List ℕ) → lookup test es ≡ Some old
+    → length new ≡ length old → AllByRecursion IsArea es → AllByRecursion IsArea (set_value test es new)
+areas_set test [] old new found same all = tt
+areas_set test (e ∷ es) old new found same all =
+    set_step (test e.0) e es (set_value test es new) old new (lookup test es) found same all.0 all.1
+    (λ later. areas_set test es old new later same all.1)
+
+length-changed : (item : Item) (octets old : List ℕ) → is_inside item (length old) ≡ true
+    → length octets ≡ octet_count item → length (changed_at item octets old) ≡ length old
+unfolding changed_at
+length-changed item octets old inside count = grind (arith, common_steps)
+
+-- the code of a write from that of the place
+abbrev judged : ℕ → Bool → ℕ
+judged code counts = cond (eqb code 255 && not counts) 7 code
+
+areas_inside : (m : Memory) (item : Item) (octets old : List ℕ) (inside counts : Bool)
+    → memory.octets_at m (key_of item) ≡ Some old → is_inside item (length old) ≡ inside
+    → eqb (length octets) (octet_count item) ≡ counts → AreAreas m
+    → AreAreas (cond (eqb (judged (cond inside 255 5) counts) 255) (with_octets m (key_of item) (changed_at item octets old)) m)
+areas_inside m item octets old false counts found is whole all = all
+areas_inside m item octets old true false found is whole all = all
+areas_inside m item octets old true true found is whole all =
+    areas_set (is_at (key_cmp (key_of item))) m.areas old (changed_at item octets old) found
+    (length-changed item octets old is (eqb-true (length octets) (octet_count item) whole)) all
+
+areas_by : (m : Memory) (item : Item) (octets : List ℕ) (barred misfit : Bool) (found : Option (List ℕ))
+    → memory.octets_at m (key_of item) ≡ found → AreAreas m
+    → AreAreas
+    (cond
+    (eqb (cond barred 3 (judged (cond misfit 6 (code_in found item)) (eqb (length octets) (octet_count item)))) 255)
+    (with_octets m (key_of item) (changed_at item octets (unwrap_or found []))) m)
+areas_by m item octets true misfit found is all = all
+areas_by m item octets false true found is all = all
+areas_by m item octets false false None is all = all
+areas_by m item octets false false (Some old) is all =
+    areas_inside m item octets old (is_inside item (length old)) (eqb (length octets) (octet_count item)) is refl refl all
+
+areas_written : (m : Memory) (right : Bool) (item : Item) (octets : List ℕ) → AreAreas m
+    → AreAreas (written m right item octets)
+unfolding written write_code
+areas_written m right item octets all =
+    areas_by m item octets (is_write_barred m.guard right) (is_misfit item) (memory.octets_at m (key_of item)) refl all
+
+areas_changed : (s : State) (right : Bool) (request : Request) → AreAreas s.memory
+    → AreAreas (changed s right request).memory
+areas_changed s right request all = memory_changed AreAreas areas_written s right request all
 
 -- ---- how many entries there are
 
@@ -209,6 +272,7 @@ changed_store s right (asks.Delete kind number) ready store =
 changed_plant : (s : State) (right : Bool) (request : Request) → IsReady request → IsPlant s
     → IsPlant (changed s right request)
 changed_plant s right request ready plant = record {
+  areas = areas_changed s right request plant.areas;
   dbs = subst (λ keys. length (db_numbers keys) ≤ most_dbs) (sym (names_changed s right request)) plant.dbs;
   blocks = changed_store s right request ready plant.blocks;
 }
@@ -240,5 +304,5 @@ plants_at opening entries n ready plant =
     replayed_plant opening (take n (calls_of entries)) (first_ready (calls_of entries) n (calls_ready entries ready)) plant
 
 -- and it begins as one
-pub begins_plant : (m : Memory) → length (db_numbers (keys_of m.areas)) ≤ most_dbs → IsPlant (begins_with m)
-begins_plant m few = record { dbs = few; blocks = store-none 1024 (omega arith) }
+pub begins_plant : (m : Memory) → IsMemory m → IsPlant (begins_with m)
+begins_plant m kept = record { areas = kept.areas; dbs = kept.blocks; blocks = store-none 1024 (omega arith) }

@@ -3,9 +3,8 @@ use Rattle.std.proofs.Common.{◌≡◌, ℕ, zero, suc, ◌+◌, ◌<◌, ◌�
 use Rattle.std.specs.Prelude.{Option, None, Some, Result, Ok, Err, IfOk, unwrap_or, slice_get, map}
 use Rattle.std.specs.List.{AllByRecursion}
 use Rattle.s7_outer.specs.PipesHeld.{PipesHeld}
-use Rattle.std.specs.Map.{keys_of}
 use Rattle.s7_area.specs.Memory.{Memory}
-use Rattle.s7_area.specs.Registers.{db_numbers, most_dbs}
+use Rattle.s7_area.specs.Registers.{IsMemory}
 use Rattle.s7_area.specs.declared.guard.Guard.{Guard}
 use Rattle.s7_header.specs.Negotiation.{most_pdu}
 use Rattle.s7_client.specs.declared.config.Config.{Config}
@@ -173,12 +172,12 @@ module _ (opening : Memory) (limit : ℕ) (config : Config) where
             ∙ ap (λ s. replay after_call s history) holds.opened;
       }
 
-  pub rig_ran : length (db_numbers (keys_of opening.areas)) ≤ most_dbs → 64 ≤ config.pdu → config.pdu ≤ most_pdu → (scripts : List (List Job)) (turning : Turning) (end : EndTold) (start last : State)
+  pub rig_ran : IsMemory opening → 64 ≤ config.pdu → config.pdu ≤ most_pdu → (scripts : List (List Job)) (turning : Turning) (end : EndTold) (start last : State)
       → AllByRecursion ConnectsFirst scripts
       → state_of start.book.opening ≡ begins_with opening → state_of start.book.plant ≡ begins_with opening → start.book.journal ≡ entries_of [] limit
       → AreFresh opening.guard config 1 scripts start.posts → IsRun turning.turns turning.seed turning.steps start last → end ≡ state_told last
       → RigRan opening limit config scripts turning end
-  rig_ran few least most scripts turning end start last first opened unchanged journal fresh run ends =
+  rig_ran kept least most scripts turning end start last first opened unchanged journal fresh run ends =
       let begins : Holds opening limit config start (λ k. []) (λ k. []) = record {
         each = λ k p at. joint_fresh opening limit config start.book p (1 + k) (fresh_at opening.guard config 1 scripts start.posts k p fresh first at) opened journal;
         links = λ k p at. let f = fresh_at opening.guard config 1 scripts start.posts k p fresh first at in omega (arith, f.fresh.link_is);
@@ -187,7 +186,7 @@ module _ (opening : Memory) (limit : ℕ) (config : Config) where
         limited = ap (λ j. j.limit) journal;
         ready = subst (λ (j : Entries). AreReady j.entries) (sym journal) (λ k d within. absurd (omega (arith, within)));
       } in
-      let holds = run_holds opening limit config few least most turning.turns turning.seed turning.steps start last begins run in
+      let holds = run_holds opening limit config kept least most turning.turns turning.seed turning.steps start last begins run in
       record {
         start = start;
         last = last;

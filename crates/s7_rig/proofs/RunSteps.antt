@@ -4,9 +4,8 @@ use Rattle.std.specs.Prelude.{Some, unwrap_or, slice_get, slice_set, ◌==◌, i
 use Rattle.std.proofs.lemmas.Bool.Decides.{nat_tests}
 use Rattle.std.proofs.lemmas.Option.{slice_get_within}
 use Rattle.std.proofs.lemmas.List.{length-set}
-use Rattle.std.specs.Map.{keys_of}
 use Rattle.s7_area.specs.Memory.{Memory}
-use Rattle.s7_area.specs.Registers.{db_numbers, most_dbs}
+use Rattle.s7_area.specs.Registers.{IsMemory}
 use Rattle.s7_header.specs.Negotiation.{most_pdu}
 use Rattle.s7_client.specs.declared.config.Config.{Config}
 use Rattle.s7_client.specs.declared.job.Polled.{Polled}
@@ -97,7 +96,7 @@ module _ (opening : Memory) (limit : ℕ) (config : Config) where
 
   -- ---- a turn
 
-  module _ (few : length (db_numbers (keys_of opening.areas)) ≤ most_dbs) (least : 64 ≤ config.pdu)
+  module _ (kept : IsMemory opening) (least : 64 ≤ config.pdu)
       (most : config.pdu ≤ most_pdu) where
     client_holds : (i : ℕ) (s s' : State) (stirs : Bool) (x y : ℕ → List ℕ) → Holds s x y → (t : ClientTurn i s s' stirs)
         → Holds s' (λ k. x k ++ (if i == k then t.turn.polls.poll.poll.moves.written else [])) (λ k. y k ++ [])
@@ -109,7 +108,7 @@ module _ (opening : Memory) (limit : ℕ) (config : Config) where
         λ k p same is.
         let had = h.each k t.post (ap (slice_get s.posts) same ∙ t.at) in
         let plants : (n : ℕ) → IsPlant (state_at (begins_with opening) (history_of s.book) n) =
-        λ n. plants_at (begins_with opening) s.book.journal.entries n h.ready (begins_plant opening few) in
+        λ n. plants_at (begins_with opening) s.book.journal.entries n h.ready (begins_plant opening kept) in
         let step = client_step opening limit config s.book plants least most t.post t.post' stirs had.octets had.joint t.turn in
         subst (λ q. HasJoint s.book q (x k ++ (if i == k then wrote else [])) (y k ++ [])) (sym is) (record {
           octets = step.0;

@@ -28,6 +28,7 @@ use Rattle.s7_rig.specs.Exchanges.{is_brought, is_secured, is_unnamed, is_furthe
 use Rattle.s7_rig.specs.Exchanges.{is_barred, is_started, is_no_upload, is_sliced, is_ended, uploaded_of}
 use Rattle.s7_rig.specs.Exchanges.{Exchange, entries_of, rows_of, AreTold, Converses}
 use Rattle.s7_rig.specs.Exchanges as exchange
+use Rattle.s7_rig.proofs.HoldData.{IsOfItems}
 use Rattle.s7_rig.proofs.HoldReplies.{IsGood, user_good}
 use Rattle.s7_rig.proofs.HoldReplies.{IsDoneAs, control_good, start_good}
 use Rattle.s7_rig.proofs.AskedItems.{AsksFor}
@@ -64,12 +65,6 @@ all_read : (m n : Memory) (right : Bool) (items : List Item) → SameShape m n �
 all_read m n right [] same free there = tt
 all_read m n right (item ∷ items) same free there =
     (placed_is_read m n right item same free there.0, all_read m n right items same free there.1)
-
--- the question reads or writes items
-abbrev pub IsOfItems : Question → Type 0
-IsOfItems (reads items) = Unit {0}
-IsOfItems (writes items octets) = Unit {0}
-IsOfItems _ = ⊥
 
 -- the call of this control
 abbrev pub IsControl : Control → Question → Type 0

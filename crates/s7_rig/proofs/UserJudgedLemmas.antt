@@ -24,6 +24,7 @@ use Rattle.s7_plant.specs.declared.request.Request.TheVariants as plain
 use Rattle.s7_client.specs.declared.subject.Subject.{Subject}
 use Rattle.s7_client.specs.declared.subject.Subject.TheVariants.{StatusList, RunState, Clock, ClockSetting, Password}
 use Rattle.s7_client.specs.declared.subject.Subject.TheVariants.{PasswordClearing, BlockCounts, BlocksOfKind, BlockHead}
+use Rattle.s7_client.specs.declared.subject.Subject.TheVariants.{DataHead}
 use Rattle.s7_client.specs.UserData.{group_of, subfunction_of, request_params, further_params, data_of, comes_in_pieces}
 use Rattle.s7_client.specs.Question.{Question, controls, asks, asks_further, kind_of, params_of, body_of}
 use Rattle.s7_client.specs.Question.{question_octets}
@@ -211,14 +212,23 @@ judged_kind link pdu s kind there sent is =
     judged_asks link pdu s BlocksOfKind (kind_octets kind) sent
     ∙ ap (λ b. cond b (asks_user link pdu s 0x43 0x02 false (λ moment. plain.ListOf kind)) (informed link pdu s None)) is
 
+head_told : (link : LinkState) (pdu s : ℕ) (octets : List ℕ) (name : Option BlockName) → length octets ≡ 8
+    → named octets 0x41 ≡ name → informed link pdu s (block_told (data_of octets)) ≡ informed link pdu s name
+head_told link pdu s octets name eight is =
+    ap (λ body. informed link pdu s (block_told body)) (sized_data octets 7 eight) ∙ ap (informed link pdu s) is
+
 -- the head is told of the block that the octets name, if they name one
 pub judged_head : (link : LinkState) (pdu s : ℕ) (octets : List ℕ) (name : Option BlockName)
     → IsSent link pdu s (asks BlockHead octets) → length octets ≡ 8 → named octets 0x41 ≡ name
     → judge link (question_octets s (asks BlockHead octets)) ≡ informed link pdu s name
 judged_head link pdu s octets name sent eight is =
-    judged_asks link pdu s BlockHead octets sent
-    ∙ (ap (λ body. informed link pdu s (block_told body)) (sized_data octets 7 eight)
-    ∙ ap (informed link pdu s) is)
+    judged_asks link pdu s BlockHead octets sent ∙ head_told link pdu s octets name eight is
+
+pub judged_data : (link : LinkState) (pdu s : ℕ) (octets : List ℕ) (name : Option BlockName)
+    → IsSent link pdu s (asks DataHead octets) → length octets ≡ 8 → named octets 0x41 ≡ name
+    → judge link (question_octets s (asks DataHead octets)) ≡ informed link pdu s name
+judged_data link pdu s octets name sent eight is =
+    judged_asks link pdu s DataHead octets sent ∙ head_told link pdu s octets name eight is
 
 -- ---- passwords
 
@@ -312,6 +322,8 @@ judged_further link pdu s octet BlocksOfKind so_far sent pieces h =
     judged_long link pdu s octet BlocksOfKind so_far sent ∙ held_goes_on link pdu s octet BlocksOfKind so_far h
 judged_further link pdu s octet BlockHead so_far sent pieces h =
     judged_long link pdu s octet BlockHead so_far sent ∙ held_goes_on link pdu s octet BlockHead so_far h
+judged_further link pdu s octet DataHead so_far sent pieces h =
+    judged_long link pdu s octet DataHead so_far sent ∙ held_goes_on link pdu s octet DataHead so_far h
 judged_further link pdu s octet Clock so_far sent pieces h = absurd (cc)
 judged_further link pdu s octet ClockSetting so_far sent pieces h = absurd (cc)
 judged_further link pdu s octet Password so_far sent pieces h = absurd (cc)

@@ -1,5 +1,5 @@
 -- How a session on a link between two messages replies to each question of a job.
-use Rattle.std.proofs.Common.{◌≡◌, inl, ℕ, ◌<◌, ◌≤◌, Bool, true, false, cond, eqb, ltb, List, [], ◌++◌, length, take}
+use Rattle.std.proofs.Common.{◌≡◌, inl, ℕ, ◌<◌, ◌≤◌, Bool, true, false, cond, eqb, ltb, List, [], ◌++◌, length, take, drop, ap}
 use Rattle.std.proofs.Common.{Option, None, Some, refl, sym, subst, arith}
 use Rattle.std.specs.Prelude.{IsSome, is_some}
 use Rattle.std.proofs.lemmas.Bool.{eq-eqb}
@@ -8,7 +8,7 @@ use Rattle.s7_header.specs.Octets.{number_at}
 use Rattle.s7_item.specs.declared.item.Item.{Item}
 use Rattle.s7_block.specs.declared.block.BlockName.{BlockName}
 use Rattle.s7_block.specs.Kinds.{head_code}
-use Rattle.s7_block.specs.Names.{named}
+use Rattle.s7_block.specs.Names.{number_in, is_name, named_by, named}
 use Rattle.s7_clock.specs.Moment.{moment_in}
 use Rattle.s7_plant.specs.declared.request.Request.{Request}
 use Rattle.s7_plant.specs.declared.request.Request.TheVariants as plain
@@ -19,8 +19,10 @@ use Rattle.s7_wire.specs.Sent.{sent_message}
 use Rattle.s7_client.specs.declared.subject.Subject.{Subject}
 use Rattle.s7_client.specs.declared.subject.Subject.TheVariants.{StatusList, RunState, Clock, ClockSetting, Password}
 use Rattle.s7_client.specs.declared.subject.Subject.TheVariants.{PasswordClearing, BlockCounts, BlocksOfKind, BlockHead}
+use Rattle.s7_client.specs.declared.subject.Subject.TheVariants.{DataHead}
 use Rattle.s7_client.specs.UserData.{group_of, subfunction_of, goes_on_with, comes_in_pieces}
-use Rattle.s7_client.specs.Dialogue.{list_octets, kind_octets}
+use Rattle.s7_client.specs.Dialogue.{list_octets, kind_octets, block_octets}
+use Rattle.s7_client.proofs.FlightLemmas.{same_some}
 use Rattle.s7_client.specs.Question.{Question, negotiates, reads, writes, controls, asks, asks_further, question_octets}
 use Rattle.s7_client.specs.Question.{starts_upload, slices_upload, ends_upload}
 use Rattle.s7_client.specs.Answer.{brings, refuses, answer_of}
@@ -40,12 +42,12 @@ use Rattle.s7_rig.proofs.ControlReplyLemmas.{control_replied}
 use Rattle.s7_rig.proofs.UploadReplyLemmas.{start_replied, slice_replied, end_replied}
 use Rattle.s7_rig.proofs.RepliedLemmas.{IsServed, is_sent, asking_replied, link_replied, refused_replied}
 use Rattle.s7_rig.proofs.UserFitLemmas.{list_fits, state_fits, clock_fits, setting_fits}
-use Rattle.s7_rig.proofs.BlockFitLemmas.{counts_fit, kind_fits, head_fits}
+use Rattle.s7_rig.proofs.BlockFitLemmas.{counts_fit, kind_fits, head_fits, data_fits}
 use Rattle.s7_rig.proofs.UserHeardLemmas.{IsRest, told_params, length-told, length-slice, error_is_heard}
 use Rattle.s7_rig.proofs.UserHeardLemmas.{none_is_heard, slice_is_heard, rest_is_held}
 use Rattle.s7_rig.proofs.UserJudgedLemmas.{IsSecured, judged_list, judged_state, judged_clock}
 use Rattle.s7_rig.proofs.UserJudgedLemmas.{judged_setting, judged_password, judged_clearing, judged_further}
-use Rattle.s7_rig.proofs.UserJudgedLemmas.{judged_counts, judged_kind, judged_head}
+use Rattle.s7_rig.proofs.UserJudgedLemmas.{judged_counts, judged_kind, judged_head, judged_data}
 use Rattle.s7_rig.proofs.UserServedLemmas.{IsFit, user_well}
 use Rattle.s7_rig.proofs.JudgedLemmas.{judged_read}
 use Rattle.s7_rig.proofs.AsksLemmas.{write_is_asked}
@@ -198,6 +200,38 @@ head_replied {first} b js vs pdu s octets None served eight is =
     (judged_head (past first b js).link pdu s octets None (is_sent b js vs pdu s (asks BlockHead octets) served) eight
     is)
 
+-- the head of a data block, which is what its octets name
+same_kind_by : (kind number : ℕ) (name : BlockName) (b : Bool)
+    → cond b (Some (record { kind = kind; number = number })) None ≡ Some name → kind ≡ name.kind
+same_kind_by kind number name true is =
+    ap (λ (n : BlockName). n.kind) (same_some (record { kind = kind; number = number }) name is)
+same_kind_by kind number name false is = absurd (cc)
+
+same_kind : (kind : ℕ) (number : Option ℕ) (name : BlockName) → named_by kind number ≡ Some name → kind ≡ name.kind
+same_kind kind None name is = absurd (cc)
+same_kind kind (Some number) name is = same_kind_by kind number name (is_name kind number) is
+
+names_data : (number : ℕ) (name : BlockName) → named (block_octets 0x41 number) 0x41 ≡ Some name → 0x41 ≡ name.kind
+names_data number name is = same_kind 0x41 (number_in (take 5 (drop 2 (block_octets 0x41 number)))) name is
+
+data_replied : {first : LinkState} (b : List ℕ) (js vs : List Verdict) (pdu s number : ℕ) (name : Option BlockName)
+    → IsServed first b js vs pdu s (asks DataHead (block_octets 0x41 number))
+    → named (block_octets 0x41 number) 0x41 ≡ name
+    → Replies first b js vs pdu (asks DataHead (block_octets 0x41 number)) s
+data_replied {first} b js vs pdu s number (Some name) served is =
+    let octets = block_octets 0x41 number in
+    user_replied b js vs pdu s DataHead octets false (λ moment. plain.Info name.kind name.number) served
+    (judged_data (past first b js).link pdu s octets (Some name) (is_sent b js vs pdu s (asks DataHead octets) served)
+    refl is)
+    (λ moment. (name, is, refl))
+    (λ moment state right for.
+    subst (λ (kind : ℕ). IsFit DataHead (plant.answer state right (plain.Info kind name.number)))
+    (names_data number name is) (data_fits name.number state right for))
+data_replied {first} b js vs pdu s number None served is =
+    let octets = block_octets 0x41 number in
+    unnamed_replied b js vs pdu s DataHead octets served is
+    (judged_data (past first b js).link pdu s octets None (is_sent b js vs pdu s (asks DataHead octets) served) refl is)
+
 -- user data about a password
 secured_replied : {first : LinkState} (b : List ℕ) (js vs : List Verdict) (pdu s : ℕ) (subject : Subject)
     (octets : List ℕ) → IsServed first b js vs pdu s (asks subject octets) → IsSecurity subject
@@ -258,6 +292,10 @@ served_replied {first} b js vs pdu s (asks BlocksOfKind octets) served can ready
     (subst (λ xs. IsServed first b js vs pdu s (asks BlocksOfKind xs)) can.1 served) refl)
 served_replied b js vs pdu s (asks BlockHead octets) served can ready =
     head_replied b js vs pdu s octets (named octets 0x41) served can refl
+served_replied {first} b js vs pdu s (asks DataHead octets) served can ready =
+    subst (λ xs. Replies first b js vs pdu (asks DataHead xs) s) (sym can.1)
+    (data_replied b js vs pdu s can.0 (named (block_octets 0x41 can.0) 0x41)
+    (subst (λ xs. IsServed first b js vs pdu s (asks DataHead xs)) can.1 served) refl)
 served_replied {first} b js vs pdu s (asks Clock octets) served can ready =
     user_replied b js vs pdu s Clock octets true (λ moment. plain.ClockRead moment) served
     (judged_clock (past first b js).link pdu s octets (is_sent b js vs pdu s (asks Clock octets) served))

@@ -25,12 +25,13 @@ use Rattle.s7_block.specs.Sides.{is_held}
 use Rattle.s7_client.specs.declared.subject.Subject.{Subject}
 use Rattle.s7_client.specs.declared.subject.Subject.TheVariants.{StatusList, RunState, Clock, ClockSetting, Password}
 use Rattle.s7_client.specs.declared.subject.Subject.TheVariants.{PasswordClearing, BlockCounts, BlocksOfKind, BlockHead}
+use Rattle.s7_client.specs.declared.subject.Subject.TheVariants.{DataHead}
 use Rattle.s7_client.specs.UserData.{group_of, subfunction_of, comes_in_pieces, is_whole}
 use Rattle.s7_client.specs.Question.{Question, negotiates, reads, writes, controls, asks, asks_further, question_octets}
 use Rattle.s7_client.specs.Question.{starts_upload, slices_upload, ends_upload}
 use Rattle.s7_client.specs.Answer.{Answer, refuses, tells, notes, stands, brings, uploads, slices, uploaded, answer_of}
 use Rattle.s7_client.specs.Flight.{Row, answers_of}
-use Rattle.s7_client.specs.Dialogue.{End, Conduct, list_octets, kind_octets}
+use Rattle.s7_client.specs.Dialogue.{End, Conduct, list_octets, kind_octets, block_octets}
 use Rattle.s7_client.specs.Course.{Origin, conduct_of, next_question}
 use Rattle.s7_session.specs.LinkState.{LinkState, Sliced}
 use Rattle.s7_session.specs.Judgement.{slice_room}
@@ -54,6 +55,7 @@ CanGoWith RunState octets = octets ≡ list_octets 0x0424 0
 CanGoWith BlockCounts octets = octets ≡ []
 CanGoWith BlocksOfKind octets = (kind : ℕ) × (octets ≡ kind_octets kind)
 CanGoWith BlockHead octets = length octets ≡ 8
+CanGoWith DataHead octets = (number : ℕ) × (octets ≡ block_octets 0x41 number)
 CanGoWith Clock octets = octets ≡ []
 CanGoWith ClockSetting octets = (length octets ≡ 10) × IsSome (moment_in octets)
 CanGoWith Password octets = length octets ≡ 8
@@ -127,8 +129,11 @@ abbrev pub HoldsUpload : Bool → LinkState → ℕ → ℕ → List ℕ → Typ
 HoldsUpload true link id size so_far = HoldsImage link id size so_far
 HoldsUpload false link id size so_far = is_held link.upload id ≡ true
 
--- what is left on the link behind an answer: the octets that follow it. No slice answers an end.
+-- what is left on the link behind an answer: the octets that follow it. No slice answers an end, and no user data a
+-- read or a write.
 abbrev pub GoesOn : LinkState → Question → Answer → Type 0
+GoesOn link (reads items) (brings octet more piece) = ⊥
+GoesOn link (writes items octets) (brings octet more piece) = ⊥
 GoesOn link (asks subject octets) (brings octet more piece) = HoldsMore more link subject octet piece
 GoesOn link (asks_further subject asked so_far) (brings octet more piece) =
     HoldsMore more link subject octet (so_far ++ piece)
@@ -147,6 +152,8 @@ AsksFor BlockCounts octets moment request = request ≡ plain.ListAll
 AsksFor BlocksOfKind octets moment request = request ≡ plain.ListOf (slice_index octets 1)
 AsksFor BlockHead octets moment request =
     (name : BlockName) × (named octets 0x41 ≡ Some name) × (request ≡ plain.Info name.kind name.number)
+AsksFor DataHead octets moment request =
+    (name : BlockName) × (named octets 0x41 ≡ Some name) × (request ≡ plain.Info name.kind name.number)
 AsksFor Clock octets moment request = request ≡ plain.ClockRead moment
 AsksFor ClockSetting octets moment request =
     (value : ℕ) × (moment_in octets ≡ Some value) × (request ≡ plain.ClockSet moment value)
@@ -163,6 +170,7 @@ IsSecurity _ = ⊥
 abbrev pub NamesNone : Subject → List ℕ → Type 0
 NamesNone BlocksOfKind octets = is_some (head_code (slice_index octets 1)) ≡ false
 NamesNone BlockHead octets = named octets 0x41 ≡ None
+NamesNone DataHead octets = named octets 0x41 ≡ None
 NamesNone _ octets = ⊥
 
 -- what is heard of a reply to a control, and to user data with this PDU and under this sequence octet

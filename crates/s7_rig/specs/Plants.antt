@@ -1,14 +1,17 @@
 -- The states that a plant can be in, where a reply hangs on more than the request.
 use Rattle.std.specs.Prelude.{◌≤◌, length}
+use Rattle.std.specs.List.{AllByRecursion}
 use Rattle.std.specs.Map.{keys_of}
-use Rattle.s7_area.specs.Registers.{db_numbers, most_dbs}
+use Rattle.s7_area.specs.Registers.{db_numbers, most_dbs, IsArea}
 use Rattle.s7_block.specs.Store.{IsStore}
 use Rattle.s7_plant.specs.declared.request.Request.{Request}
 use Rattle.s7_plant.specs.declared.request.Request.TheVariants as plain
 use Rattle.s7_plant.specs.State.{State}
 
--- the areas have no more data blocks than there may be, and the blocks are a store
+-- the areas have names and lengths that there may be, and no more data blocks than there may be, and the blocks are a
+-- store
 pub record IsPlant (s : State) : Type 0 where
+  pub areas : AllByRecursion IsArea s.memory.areas
   pub dbs : length (db_numbers (keys_of s.memory.areas)) ≤ most_dbs
   pub blocks : IsStore s.blocks
 

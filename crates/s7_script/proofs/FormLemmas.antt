@@ -37,6 +37,8 @@ by_job told (job.ListOf kind) octets cs same few is form = no_codes told cs few 
 by_job told (job.Info kind number) octets cs same few is form = no_codes told cs few is form.1
 by_job told (job.Upload kind number) octets cs same few is form = no_codes told cs few is form
 by_job told (job.Delete kind number) octets cs same few is form = no_codes told cs few is form.1
+by_job told (job.DbGet number) octets cs same few is form = no_codes told cs few is form
+by_job told (job.DbFill number value) octets cs same few is form = no_codes told cs few is form.1
 by_job told (job.Szl id index) octets cs same few is form = no_codes told cs few is form.1
 by_job told job.ClockRead octets cs same few is form =
     (no_codes told cs few is form.1, subst (λ l. IsSome (moment_in l)) (sym same) form.0)

@@ -12,7 +12,7 @@ use Rattle.s7_script.specs.Reading.{is_passed, next_line}
 use Rattle.hex.specs.Hex.{decode_of}
 use Rattle.s7_script.specs.Fields.{number_of}
 use Rattle.s7_script.specs.Moments.{moment_named}
-use Rattle.s7_script.specs.Script.{Written, parts, read_item, read_items, written_item, written_items, read_job, write_job, read_many_job, write_many_job, word_of, within, kind_named, list_of_job, block_named, info_job, upload_job, delete_job, two_octets_in, with_index, list_job, moment_job, set_clock_job, is_printable, password_job, plain_job, or_unknown, ended, job_named, job_of, at_line, line_jobs, script_lines, script, field_of, rest_of, ◌>>=◌}
+use Rattle.s7_script.specs.Script.{Written, parts, read_item, read_items, written_item, written_items, read_job, write_job, read_many_job, write_many_job, word_of, within, kind_named, list_of_job, block_named, info_job, upload_job, delete_job, db_get_job, octet_in, with_value, db_fill_job, two_octets_in, with_index, list_job, moment_job, set_clock_job, is_printable, password_job, plain_job, or_unknown, ended, job_named, job_of, at_line, line_jobs, script_lines, script, field_of, rest_of, ◌>>=◌}
 use Rattle.s7_script.specs.Laws.{KeepsLink}
 use Rattle.s7_script.specs.declared.script_list.ScriptLine.{ScriptLine}
 use Rattle.s7_script.specs.declared.script_fault.ScriptFault.{ScriptFault}
@@ -71,6 +71,24 @@ upload_keeps rest = made (λ (name : BlockName). job.Upload name.kind name.numbe
 delete_keeps : (rest : Option Text) → IfOk (delete_job rest) KeepsLink
 delete_keeps rest = made (λ (name : BlockName). job.Delete name.kind name.number) (block_named rest) (λ name. tt)
 
+get_keeps : (rest : Option Text) → IfOk (db_get_job rest) KeepsLink
+get_keeps None = tt
+get_keeps (Some text) =
+    after (within 1 65535 (number_of (field_of text))) (λ number. ended (job.DbGet number) (rest_of text))
+    (λ number. ended_keeps (job.DbGet number) (rest_of text) tt)
+
+value_keeps : (number : ℕ) (rest : Option Text) → IfOk (with_value number rest) KeepsLink
+value_keeps number None = tt
+value_keeps number (Some text) =
+    after (octet_in (decode_of (field_of text))) (λ value. ended (job.DbFill number value) (rest_of text))
+    (λ value. ended_keeps (job.DbFill number value) (rest_of text) tt)
+
+fill_keeps : (rest : Option Text) → IfOk (db_fill_job rest) KeepsLink
+fill_keeps None = tt
+fill_keeps (Some text) =
+    after (within 1 65535 (number_of (field_of text))) (λ number. with_value number (rest_of text))
+    (λ number. value_keeps number (rest_of text))
+
 index_keeps : (id : ℕ) (rest : Option Text) → IfOk (with_index id rest) KeepsLink
 index_keeps id None = tt
 index_keeps id (Some text) =
@@ -127,10 +145,12 @@ named_keeps name rest =
     (either KeepsLink (bytes_eq name (codes "info")) (info_job rest) _ (info_keeps rest)
     (either KeepsLink (bytes_eq name (codes "upload")) (upload_job rest) _ (upload_keeps rest)
     (either KeepsLink (bytes_eq name (codes "delete")) (delete_job rest) _ (delete_keeps rest)
+    (either KeepsLink (bytes_eq name (codes "dbget")) (db_get_job rest) _ (get_keeps rest)
+    (either KeepsLink (bytes_eq name (codes "dbfill")) (db_fill_job rest) _ (fill_keeps rest)
     (either KeepsLink (bytes_eq name (codes "szl")) (list_job rest) _ (list_keeps rest)
     (either KeepsLink (bytes_eq name (codes "setclock")) (set_clock_job rest) _ (set_clock_keeps rest)
     (either KeepsLink (bytes_eq name (codes "password")) (password_job rest) (or_unknown (plain_job name) rest) (password_keeps rest)
-    (unknown_keeps (plain_job name) rest (plain_keeps name))))))))))))
+    (unknown_keeps (plain_job name) rest (plain_keeps name))))))))))))))
 
 -- ---- the lines
 

@@ -285,6 +285,31 @@ delete_job rest = do
   name ← block_named rest
   Ok (job.Delete name.kind name.number)
 
+-- NUMBER
+abbrev pub db_get_job : Option Text → Result Job ScriptKind
+db_get_job None = Err kind.Fields
+db_get_job (Some text) = do
+  number ← within 1 65535 (number_of (field_of text))
+  ended (job.DbGet number) (rest_of text)
+
+-- an octet, in two hexadecimal digits
+abbrev pub octet_in : Result (List ℕ) FromHexError → Result ℕ ScriptKind
+octet_in (Ok (octet ∷ [])) = Ok octet
+octet_in _ = Err kind.Digits
+
+abbrev pub with_value : ℕ → Option Text → Result Job ScriptKind
+with_value number None = Err kind.Fields
+with_value number (Some text) = do
+  value ← octet_in (decode_of (field_of text))
+  ended (job.DbFill number value) (rest_of text)
+
+-- NUMBER HH
+abbrev pub db_fill_job : Option Text → Result Job ScriptKind
+db_fill_job None = Err kind.Fields
+db_fill_job (Some text) = do
+  number ← within 1 65535 (number_of (field_of text))
+  with_value number (rest_of text)
+
 -- a number of two octets, in four hexadecimal digits
 abbrev pub two_octets_in : Result (List ℕ) FromHexError → Result ℕ ScriptKind
 two_octets_in (Ok (high ∷ low ∷ [])) = Ok (high * 256 + low)
@@ -350,10 +375,12 @@ job_named name rest =
     else (if bytes_eq name (codes "info") then info_job rest
     else (if bytes_eq name (codes "upload") then upload_job rest
     else (if bytes_eq name (codes "delete") then delete_job rest
+    else (if bytes_eq name (codes "dbget") then db_get_job rest
+    else (if bytes_eq name (codes "dbfill") then db_fill_job rest
     else (if bytes_eq name (codes "szl") then list_job rest
     else (if bytes_eq name (codes "setclock") then set_clock_job rest
     else (if bytes_eq name (codes "password") then password_job rest
-    else or_unknown (plain_job name) rest))))))))))
+    else or_unknown (plain_job name) rest))))))))))))
 
 -- the job that a line names
 abbrev pub job_of : Text → Result Job ScriptKind

@@ -4,6 +4,7 @@
 
 mod area_line;
 mod block_line;
+mod data_line;
 mod fault;
 mod guard_line;
 mod item_text;

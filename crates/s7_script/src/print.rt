@@ -79,6 +79,8 @@ fn word_of(job: &Job) -> &'static str
         Job::Info { .. } => "info",
         Job::Upload { .. } => "upload",
         Job::Delete { .. } => "delete",
+        Job::DbGet { .. } => "dbget",
+        Job::DbFill { .. } => "dbfill",
         Job::Szl { .. } => "szl",
         Job::ClockRead => "clock",
         Job::ClockSet { .. } => "setclock",
@@ -119,9 +121,11 @@ fn add_job_values(alloc: Global, text: &mut Vec<u8>, done: &JobResult) -> Result
         ≡ text.old.items ++ flat_map spaced (job_values done.now done.now.job)) }
 {
     match &done.job {
-        Job::ReadArea { .. } | Job::Info { .. } | Job::Upload { .. } | Job::Szl { .. } => {
-            add_octets(alloc, text, done.octets.as_slice())
-        }
+        Job::ReadArea { .. }
+        | Job::Info { .. }
+        | Job::Upload { .. }
+        | Job::DbGet { .. }
+        | Job::Szl { .. } => add_octets(alloc, text, done.octets.as_slice()),
         Job::List => add_numbers(alloc, text, done.octets.as_slice(), COUNT_AT),
         Job::ListOf { .. } => add_numbers(alloc, text, done.octets.as_slice(), NUMBER_AT),
         Job::ReadMany { items } => {
@@ -134,6 +138,7 @@ fn add_job_values(alloc: Global, text: &mut Vec<u8>, done: &JobResult) -> Result
         Job::Connect
         | Job::WriteArea { .. }
         | Job::Delete { .. }
+        | Job::DbFill { .. }
         | Job::ClockSet { .. }
         | Job::Start
         | Job::ColdStart

@@ -11,6 +11,7 @@ ghost use Rattle.s7_script.specs.ScriptShown.{all_written, parts_left};
 
 use crate::ScriptKind;
 use crate::block_line::{delete_job, info_job, list_of_job, upload_job};
+use crate::data_line::{db_fill_job, db_get_job};
 use crate::guard_line::all_graphic;
 use crate::item_text::{ended, read_item};
 use crate::lines::split_field;
@@ -49,6 +50,10 @@ fn job_named(alloc: Global, name: &[u8], rest: Option<&[u8]>) -> Result<Job, Scr
         upload_job(rest)
     } else if name == b"delete".as_slice() {
         delete_job(rest)
+    } else if name == b"dbget".as_slice() {
+        db_get_job(rest)
+    } else if name == b"dbfill".as_slice() {
+        db_fill_job(rest)
     } else if name == b"szl".as_slice() {
         list_job(rest)
     } else if name == b"setclock".as_slice() {

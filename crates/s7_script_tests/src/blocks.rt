@@ -68,6 +68,33 @@ fn blocks(rt: HostRuntime) -> Result<(), Fail> {
     Ok(())
 }
 
+fn asks_data(lines: &[ScriptLine], of: u16, with: Option<u8>) -> bool {
+    let [line] = lines else {
+        return false;
+    };
+    match &line.job {
+        Job::DbGet { number } => *number == of && with.is_none(),
+        Job::DbFill { number, value } => *number == of && with == Some(*value),
+        _ => false,
+    }
+}
+
+#[test]
+fn whole_data_blocks(rt: HostRuntime) -> Result<(), Fail> {
+    for (text, number, value) in [
+        ("dbget 1", 1, None),
+        ("dbget 65535\n", 65_535, None),
+        ("dbfill 1 00", 1, Some(0x00)),
+        ("dbfill 7 fE\r\n", 7, Some(0xFE)),
+    ] {
+        let Ok(script) = read_script(rt.alloc(), text.as_bytes()) else {
+            return Err(Fail::from("not read"));
+        };
+        assert!(rt; asks_data(script.as_slice(), number, value), "{text:?}");
+    }
+    Ok(())
+}
+
 #[test]
 fn wrong_lines(rt: HostRuntime) -> Result<(), Fail> {
     for (text, kind) in [
@@ -93,6 +120,15 @@ fn wrong_lines(rt: HostRuntime) -> Result<(), Fail> {
         ("delete FC", ScriptKind::Fields),
         ("delete FC -1", ScriptKind::Number),
         ("delete FC 5 5", ScriptKind::Fields),
+        ("dbget", ScriptKind::Fields),
+        ("dbget 0", ScriptKind::Number),
+        ("dbget 65536", ScriptKind::Number),
+        ("dbget 1 00", ScriptKind::Fields),
+        ("dbfill 1", ScriptKind::Fields),
+        ("dbfill x 1", ScriptKind::Number),
+        ("dbfill 1 1", ScriptKind::Digits),
+        ("dbfill 1 0011", ScriptKind::Digits),
+        ("dbfill 1 00 11", ScriptKind::Fields),
     ] {
         match read_script(rt.alloc(), text.as_bytes()) {
             Ok(_) => return Err(Fail::from("no fault")),
@@ -150,6 +186,15 @@ fn transfers_are_printed(rt: HostRuntime) -> Result<(), Fail> {
         let done = of_one(alloc, delete, code, &[])?;
         assert!(rt; prints(alloc, 4, &done, expected)?);
     }
+    let get = Job::DbGet { number: 1 };
+    let done = of_one(alloc, get, 0, &[0x11, 0x22])?;
+    assert!(rt; prints(alloc, 5, &done, "5 dbget 00000000 1122\n")?);
+    let fill = Job::DbFill {
+        number: 1,
+        value: 0xFF,
+    };
+    let done = of_one(alloc, fill, 0, &[])?;
+    assert!(rt; prints(alloc, 6, &done, "6 dbfill 00000000 -\n")?);
     Ok(())
 }
 

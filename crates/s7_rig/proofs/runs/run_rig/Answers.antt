@@ -8,6 +8,6 @@ returns c =
     let a = c.args in
     let b = c.in_ok-rig.ensures in
     if_ok (λ end. end_told end ≡ state_told (state_of c.run.new.self)) _ c.into_end.result c.into_end.ensures
-    (λ end is. rig_ran a.areas a.limit a.config c.db_numbers-numbers.ensures.memory.blocks c.requires.least_pdu c.requires.most_pdu (map (λ s. s.items) a.scripts.items)
+    (λ end is. rig_ran a.areas a.limit a.config c.db_numbers-numbers.ensures.memory c.requires.least_pdu c.requires.most_pdu (map (λ s. s.items) a.scripts.items)
     (record { turns = a.schedule.turns.now; seed = a.schedule.seed; steps = a.schedule.steps }) (end_told end) (state_of c.in_ok-rig.rig) (state_of c.run.new.self)
     c.requires.connects b.opening b.plant b.journal b.clients c.in_ok-run.ensures.run is)

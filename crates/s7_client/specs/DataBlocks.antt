@@ -1,0 +1,34 @@
+-- Whole data blocks, as a client reads and fills them: their head tells how many octets they have (Snap7 1.4 reference
+-- manual, `Cli_DBGet`, `Cli_DBFill`), which are read or written item by item.
+use Rattle.std.specs.Prelude.{ℕ, zero, suc, ◌+◌, ◌-◌, ◌*◌, ◌/◌, min, ◌==◌, ◌&&◌, nat_le, Bool, List, [], ◌∷◌, length}
+use Rattle.std.specs.List.{flat_map}
+use Rattle.s7_item.specs.declared.item.Item.{Item}
+use Rattle.s7_block.specs.Heads.{four_at}
+use Rattle.s7_split.specs.Parts.{parts_of}
+
+-- The answer tells the head of a data block of 1 to 2,097,152 octets: `30`, the kind and `00 22` stand before the head, whose
+-- load length counts its own 36 octets too.
+abbrev pub tells_data : List ℕ → Bool
+tells_data octets = length octets == 40 && (nat_le 37 (four_at octets 12) && nat_le (four_at octets 12) 2097188)
+
+-- how many octets the data block has then
+abbrev pub data_length : List ℕ → ℕ
+data_length octets = four_at octets 12 - 36
+
+-- so many bytes of a data block from an octet on
+abbrev pub data_item : ℕ → ℕ → ℕ → Item
+data_item number from count = record { area = 0x84; db = number; word = 0x02; count = count; address = 8 * from }
+
+-- so many items, from an octet on behind which so many are left: 65,535 bytes each, and the last the rest
+abbrev pub data_items_from : ℕ → ℕ → ℕ → ℕ → List Item
+data_items_from zero number from left = []
+data_items_from (suc n) number from left =
+    data_item number from (min 65535 left) ∷ data_items_from n number (from + min 65535 left) (left - min 65535 left)
+
+-- the items of a data block of so many octets
+abbrev pub data_items : ℕ → ℕ → List Item
+data_items number size = data_items_from ((size + 65534) / 65535) number 0 size
+
+-- THE PARTS of a whole data block: those of each item, in order
+abbrev pub data_parts : ℕ → ℕ → ℕ → Bool → List Item
+data_parts number size pdu write = flat_map (λ item. parts_of item pdu write) (data_items number size)
