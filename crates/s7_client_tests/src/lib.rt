@@ -5,9 +5,15 @@
 #[cfg(test)]
 mod answers;
 #[cfg(test)]
+mod asks;
+#[cfg(test)]
 mod blocks;
 #[cfg(test)]
+mod data_blocks;
+#[cfg(test)]
 mod days;
+#[cfg(test)]
+mod exchange;
 #[cfg(test)]
 mod faults;
 #[cfg(test)]
@@ -17,8 +23,10 @@ mod jobs;
 #[cfg(test)]
 mod larger_pdu;
 #[cfg(test)]
-mod steps;
+mod pipes;
 #[cfg(test)]
 mod uploads;
 #[cfg(test)]
 mod user_data;
+#[cfg(test)]
+mod words;

@@ -5,6 +5,10 @@
 #[cfg(test)]
 mod alone;
 #[cfg(test)]
+mod octets;
+#[cfg(test)]
 mod pairs;
+#[cfg(test)]
+mod scene;
 #[cfg(test)]
 mod together;

@@ -1,390 +1,206 @@
-ghost use Rattle.std.specs.Prelude.{◌≡◌, IfOk};
-ghost use Rattle.s7_plant.specs.Requests.{CanBeDone};
-
-use crate::areas::{DB1, a_reply, image_of, no_blocks, says, some_areas, with_right};
-use crate::control::{a_guard, answered, refuses};
-use s7_area::{AreaKey, Areas};
-use s7_block::kinds::{DB, FB, FC, OB, SDB, SFB, SFC, is_stored_kind};
-use s7_block::{Block, Blocks, head_agrees};
-use s7_outer::{Buffer, Memory, Octets};
-use s7_plant::{Book, Plant, Reply, Request};
-use std::alloc::Global;
-use std::marker::Brand;
-use std::sync::ledger::Blank;
+use crate::areas::AREAS;
+use crate::{books, plants};
 use std::test::Fail;
 
-/// The head of data block 1, which has four octets.
-const DB_1_HEAD: &[u8] =
-    b"\x70\x70\x01\x01\x05\x0A\x00\x01\x00\x00\x00\x28\0\0\0\0\0\0\0\0\0\0\0\0\0\0\0\0\0\0\0\0\0\0\x00\x04";
+/// Data blocks 1 and 300 and counters; functions 5 and 258, function block 1 and organization block 1, each with a head
+/// and the body AAAA. The kinds are OB 38, DB 41, SDB 42, FC 43, SFC 44, FB 45 and SFB 46.
+const BLOCKS: &str = "\
+    area 84 1 11223344\n\
+    area 1C 0 00010002\n\
+    area 84 12C AB*10\n\
+    block 43 5 70700101.02.0C.0005.00000026.00*22.0002.AAAA\n\
+    block 45 1 70700101.04.0E.0001.00000026.00*22.0002.AAAA\n\
+    block 38 1 70700101.05.08.0001.00000026.00*22.0002.AAAA\n\
+    block 43 102 70700101.01.0C.0102.00000026.00*22.0002.AAAA";
 
-/// The head of function 5.
-const FC_5_HEAD: &[u8] =
-    b"\x70\x70\x01\x01\x02\x0C\x00\x05\x00\x00\x00\x26\0\0\0\0\0\0\0\0\0\0\0\0\0\0\0\0\0\0\0\0\0\0\x00\x02";
-
-/// An image of 38 octets: a head of this language, type and number, and this octet twice.
-fn an_image(language: u8, code: u8, number: u16, octet: u8) -> [u8; 38] {
-    let mut image = [0; 38];
-    image[..6].copy_from_slice(&[0x70, 0x70, 0x01, 0x01, language, code]);
-    image[6] = (number / 256) as u8;
-    image[7] = (number % 256) as u8;
-    image[11] = 38;
-    image[35] = 2;
-    image[36] = octet;
-    image[37] = octet;
-    image
-}
-
-/// Functions 5 and 258, function block 1 and organization block 1.
-fn some_blocks(alloc: Global) -> Result<Blocks, Fail>
-    ensures { IfOk result (λ blocks. blocks.limit ≡ 1024) }
-{
-    let mut blocks = Blocks::new(alloc, 1_024)?;
-    let rows = [
-        (FC, 0x02, 0x0C, 5),
-        (FB, 0x04, 0x0E, 1),
-        (OB, 0x05, 0x08, 1),
-        (FC, 0x01, 0x0C, 258),
-    ];
-    for (kind, language, code, number) in rows {
-        let image = Octets::copy_of(alloc, &an_image(language, code, number, 0xAA))?;
-        let block = Block {
-            kind,
-            number,
-            image,
-        };
-        if blocks.insert(block).is_err() {
-            return Err(Fail::from("not taken"));
-        }
-    }
-    if blocks.limit() != 1_024 {
-        return Err(Fail::from("another limit"));
-    }
-    Ok(blocks)
-}
-
-/// Data block 300 of so many octets beside `some_areas`.
-fn more_areas(alloc: Global, len: usize) -> Result<Areas, Fail> {
-    let mut areas = some_areas(alloc)?;
-    let octets = Octets::of_vec(vec![in alloc; 0xAB; len]?);
-    let key = AreaKey {
-        area: 0x84,
-        number: 300,
-    };
-    if areas.register(alloc, key, octets).is_err() {
-        return Err(Fail::from("not registered"));
-    }
-    Ok(areas)
-}
-
-/// A plant of those blocks and areas, whose guard has this level, 2 or 3; for another level it has
-/// none.
-fn a_plant(alloc: Global, level: u8, len: usize) -> Result<Plant, Fail> {
-    let mut plant = Plant::new(more_areas(alloc, len)?, some_blocks(alloc)?);
-    plant.areas.set_guard(a_guard(level));
-    Ok(plant)
-}
-
-/// The request to store a block of this image.
-fn an_insert(alloc: Global, kind: u8, number: u16, image: &[u8]) -> Result<Request, Fail>
-    ensures { IfOk result CanBeDone }
-{
-    if !is_stored_kind(kind) || !head_agrees(image, kind, number) {
-        return Err(Fail::from("no block"));
-    }
-    Ok(Request::Insert {
-        kind,
-        number,
-        image: Octets::copy_of(alloc, image)?,
-        spare: Buffer::new(alloc, image.len())?,
-    })
-}
+/// How many blocks there are of each kind; a kind and its list; a kind, a number and the head.
+const TOLD: &str = "\
+    guard 3\n\
+    any count | 0 - 30380001.30410002.30420000.30430002.30440000.30450001.30460000\n\
+    any list 38 | 0 - 00010105\n\
+    any list 41 | 0 - 00010105.012C0105\n\
+    any list 43 | 0 - 00050102.01020101\n\
+    any list 45 | 0 - 00010104\n\
+    any list 42 | D209 - -\n\
+    any list 44 | D209 - -\n\
+    any list 46 | D209 - -\n\
+    any list 0 | D209 - -\n\
+    any info 41 1 | 0 - 30410022.70700101.05.0A.0001.00000028.00*22.0004\n\
+    any info 43 5 | 0 - 30430022.70700101.02.0C.0005.00000026.00*22.0002\n\
+    any info 41 2 | D209 - -\n\
+    any info 43 6 | D209 - -\n\
+    any info 45 5 | D209 - -\n\
+    any info 38 2 | D209 - -\n\
+    any info 44 1 | D209 - -\n\
+    any info 0 1 | D209 - -";
 
 #[test]
-fn blocks_are_counted(rt: HostRuntime) -> Result<(), Fail> {
-    let mut plant = a_plant(rt.alloc(), 3, 10)?;
-    let counts =
-        b"\x30\x38\x00\x01\x30\x41\x00\x02\x30\x42\x00\x00\x30\x43\x00\x02\x30\x44\x00\x00\x30\x45\x00\x01\x30\x46\x00\x00";
-    let reply = answered(rt.alloc(), &mut plant, false, Request::ListAll)?;
-    assert!(rt; says(&reply, b"", counts));
-    Ok(())
+fn blocks_are_counted_and_listed_and_heads_are_told(rt: HostRuntime) -> Result<(), Fail> {
+    plants::does(rt.alloc(), BLOCKS, TOLD)
 }
 
-#[test]
-fn blocks_are_listed(rt: HostRuntime) -> Result<(), Fail> {
-    let mut plant = a_plant(rt.alloc(), 3, 10)?;
-    let rows: [(u8, &[u8]); 4] = [
-        (OB, b"\x00\x01\x01\x05"),
-        (DB, b"\x00\x01\x01\x05\x01\x2C\x01\x05"),
-        (FC, b"\x00\x05\x01\x02\x01\x02\x01\x01"),
-        (FB, b"\x00\x01\x01\x04"),
-    ];
-    for (kind, entries) in rows {
-        let reply = answered(rt.alloc(), &mut plant, false, Request::ListOf { kind })?;
-        assert!(rt; says(&reply, b"", entries), "{kind}");
-    }
-    for kind in [SDB, SFC, SFB, 0x00] {
-        let reply = answered(rt.alloc(), &mut plant, false, Request::ListOf { kind })?;
-        assert!(rt; refuses(&reply, 0xD209), "{kind}");
-    }
-    Ok(())
-}
+/// The same, where data block 300 is as long as one may be that is uploaded.
+const LONG: &str = "\
+    area 84 1 11223344\n\
+    area 1C 0 00010002\n\
+    area 84 12C AB*65536\n\
+    block 43 5 70700101.02.0C.0005.00000026.00*22.0002.AAAA\n\
+    block 45 1 70700101.04.0E.0001.00000026.00*22.0002.AAAA\n\
+    block 38 1 70700101.05.08.0001.00000026.00*22.0002.AAAA\n\
+    block 43 102 70700101.01.0C.0102.00000026.00*22.0002.AAAA\n\
+    guard 2";
 
-#[test]
-fn heads_are_told(rt: HostRuntime) -> Result<(), Fail> {
-    let mut plant = a_plant(rt.alloc(), 3, 10)?;
-    let rows = [
-        (DB, 1, b"\x30\x41\x00\x22", DB_1_HEAD),
-        (FC, 5, b"\x30\x43\x00\x22", FC_5_HEAD),
-    ];
-    for (kind, number, front, head) in rows {
-        let info = Request::Info { kind, number };
-        let reply = answered(rt.alloc(), &mut plant, false, info)?;
-        let told = reply.body.as_slice();
-        assert!(rt; says(&reply, b"", told) && told.len() == 40, "{kind}");
-        assert!(rt; told.starts_with(front) && told.ends_with(head), "{kind}");
-    }
-    for (kind, number) in [(DB, 2), (FC, 6), (FB, 5), (OB, 2), (SFC, 1), (0x00, 1)] {
-        let info = Request::Info { kind, number };
-        let reply = answered(rt.alloc(), &mut plant, false, info)?;
-        assert!(rt; refuses(&reply, 0xD209), "{kind}");
-    }
-    Ok(())
-}
-
-/// The start of an upload, up to the digits.
-const UPLOAD: &[u8] = b"\x1D\0\0\0\0\0\0\0\x07";
-
-/// The reply starts the upload of an image of this head and this octet at its end.
-fn uploads(reply: &Reply, digits: &[u8], len: usize, head: &[u8], last: u8) -> bool {
-    let params = reply.params.as_slice();
-    let image = reply.body.as_slice();
-    says(reply, params, image)
-        && params.len() == 16
-        && params.starts_with(UPLOAD)
-        && params.ends_with(digits)
-        && image.len() == len
-        && image.starts_with(head)
-        && image.last() == Some(&last)
-}
+/// A kind and a number, the parameters with seven digits of the length, and the image.
+const UPLOADS: &str = "\
+    any upload 41 1 | 0 1D.00*7.07.30303030303430 \
+        70700101.05.0A.0001.00000028.00*22.0004.11223344\n\
+    any upload 43 5 | 0 1D.00*7.07.30303030303338 \
+        70700101.02.0C.0005.00000026.00*22.0002.AAAA\n\
+    any upload 41 12C | 0 1D.00*7.07.30303635353732 \
+        70700101.05.0A.012C.00010024.00*22.FFFF.AB*65536\n\
+    any upload 41 2 | D209 - -\n\
+    any upload 43 6 | D209 - -\n\
+    any upload 38 5 | D209 - -\n\
+    any upload 42 1 | D209 - -";
 
 #[test]
 fn images_are_uploaded(rt: HostRuntime) -> Result<(), Fail> {
-    let mut plant = a_plant(rt.alloc(), 2, 65_536)?;
-    let rows: [(u8, u16, &[u8], usize, &[u8], u8); 3] = [
-        (DB, 1, b"0000040", 40, DB_1_HEAD, 0x44),
-        (FC, 5, b"0000038", 38, FC_5_HEAD, 0xAA),
-        (DB, 300, b"0065572", 65_572, b"\x70\x70", 0xAB),
-    ];
-    for (kind, number, digits, len, head, last) in rows {
-        let start = Request::StartUpload { kind, number };
-        let reply = answered(rt.alloc(), &mut plant, false, start)?;
-        assert!(rt; uploads(&reply, digits, len, head, last), "{number}");
-    }
-    for (kind, number) in [(DB, 2), (FC, 6), (OB, 5), (SDB, 1)] {
-        let start = Request::StartUpload { kind, number };
-        let reply = answered(rt.alloc(), &mut plant, false, start)?;
-        assert!(rt; refuses(&reply, 0xD209), "{kind}");
-    }
-    Ok(())
+    plants::does(rt.alloc(), LONG, UPLOADS)
 }
+
+/// A data block that is one octet longer.
+const TOO_LONG: &str = "\
+    area 84 12C AB*65537\n\
+    owner upload 41 12C | 8F04 - -";
 
 #[test]
 fn a_long_image_is_not_uploaded(rt: HostRuntime) -> Result<(), Fail> {
-    let mut plant = a_plant(rt.alloc(), 1, 65_537)?;
-    let start = Request::StartUpload {
-        kind: DB,
-        number: 300,
-    };
-    let reply = answered(rt.alloc(), &mut plant, true, start)?;
-    assert!(rt; refuses(&reply, 0x8F04));
-    Ok(())
+    plants::does(rt.alloc(), AREAS, TOO_LONG)
 }
+
+/// A kind, a number and the image that is stored; how many blocks there are then; the upload.
+const INSERTS: &str = "\
+    any insert 45 7 70700101.07.0E.0007.00000026.00*22.0002.CCCC | 0 2800 -\n\
+    loaded 5\n\
+    any upload 45 7 | 0 1D.00*7.07.30303030303338 \
+        70700101.07.0E.0007.00000026.00*22.0002.CCCC\n\
+    any insert 43 5 70700101.07.0C.0005.00000026.00*22.0002.CCCC | 0 2800 -\n\
+    loaded 5\n\
+    any upload 43 5 | 0 1D.00*7.07.30303030303338 \
+        70700101.07.0C.0005.00000026.00*22.0002.CCCC\n\
+    any insert 38 1 70700101.07.08.0001.00000026.00*22.0002.CCCC | 0 2800 -\n\
+    loaded 5\n\
+    any upload 38 1 | 0 1D.00*7.07.30303030303338 \
+        70700101.07.08.0001.00000026.00*22.0002.CCCC\n\
+    any insert 38 0 70700101.07.08.0000.00000026.00*22.0002.CCCC | 0 2800 -\n\
+    loaded 6\n\
+    any upload 38 0 | 0 1D.00*7.07.30303030303338 \
+        70700101.07.08.0000.00000026.00*22.0002.CCCC";
 
 #[test]
 fn blocks_are_stored(rt: HostRuntime) -> Result<(), Fail> {
-    let mut plant = a_plant(rt.alloc(), 1, 10)?;
-    let rows = [
-        (FB, 0x0E, 7, 5),
-        (FC, 0x0C, 5, 5),
-        (OB, 0x08, 1, 5),
-        (OB, 0x08, 0, 6),
-    ];
-    for (kind, code, number, len) in rows {
-        let image = an_image(0x07, code, number, 0xCC);
-        let insert = an_insert(rt.alloc(), kind, number, &image)?;
-        let reply = answered(rt.alloc(), &mut plant, false, insert)?;
-        assert!(rt; says(&reply, b"\x28\x00", b""), "{kind}");
-        assert_eq!(rt; plant.blocks.len(), len);
-        let start = Request::StartUpload { kind, number };
-        let reply = answered(rt.alloc(), &mut plant, false, start)?;
-        assert!(rt; uploads(&reply, b"0000038", 38, &image, 0xCC), "{kind}");
-    }
-    Ok(())
+    plants::does(rt.alloc(), BLOCKS, INSERTS)
 }
+
+/// A block that is refused, and one that is stored: its image stays with the request, and the room is taken up.
+const TAKEN: &str = "\
+    guard 2\n\
+    any insert 45 7 70700101.07.0E.0007.00000026.00*22.0002.CCCC | D241 - -\n\
+    without 45 7\n\
+    owner insert 45 7 70700101.07.0E.0007.00000026.00*22.0002.CCCC | 0 2800 -\n\
+    last 45 7 CC";
 
 #[test]
 fn a_stored_block_leaves_no_room(rt: HostRuntime) -> Result<(), Fail> {
-    let mut plant = a_plant(rt.alloc(), 2, 10)?;
-    let image = an_image(0x07, 0x0E, 7, 0xCC);
-    for right in [false, true] {
-        let mut reply = a_reply(rt.alloc())?;
-        let mut insert = an_insert(rt.alloc(), FB, 7, &image)?;
-        plant.step(right, &mut insert, &mut reply);
-        let Request::Insert {
-            image: kept,
-            spare,
-            ..
-        } = &insert
-        else {
-            return Err(Fail::from("another request"));
-        };
-        assert!(rt; kept.as_slice() == image.as_slice() && spare.room() == 0);
-        assert!(rt; refuses(&reply, 0xD241) != right);
-        assert!(rt; plant.blocks.get(FB, 7).is_some() == right);
-    }
-    Ok(())
+    plants::does(rt.alloc(), BLOCKS, TAKEN)
 }
+
+/// A kind and a number; how many blocks there are then. Data blocks aren't deleted.
+const DELETES: &str = "\
+    any delete 43 5 | 0 2800 -\n\
+    loaded 3\n\
+    any delete 38 1 | 0 2800 -\n\
+    loaded 2\n\
+    any delete 45 1 | 0 2800 -\n\
+    loaded 1\n\
+    any delete 43 5 | D209 - -\n\
+    any delete 38 1 | D209 - -\n\
+    any delete 41 1 | D209 - -\n\
+    any delete 41 2 | D209 - -\n\
+    any delete 46 1 | D209 - -\n\
+    loaded 1\n\
+    holds 84 1 11223344";
 
 #[test]
 fn blocks_are_deleted(rt: HostRuntime) -> Result<(), Fail> {
-    let mut plant = a_plant(rt.alloc(), 1, 10)?;
-    for (kind, number, len) in [(FC, 5, 3), (OB, 1, 2), (FB, 1, 1)] {
-        let delete = Request::Delete { kind, number };
-        let reply = answered(rt.alloc(), &mut plant, false, delete)?;
-        assert!(rt; says(&reply, b"\x28\x00", b""), "{kind}");
-        assert_eq!(rt; plant.blocks.len(), len);
-    }
-    for (kind, number) in [(FC, 5), (OB, 1), (DB, 1), (DB, 2), (SFB, 1)] {
-        let delete = Request::Delete { kind, number };
-        let reply = answered(rt.alloc(), &mut plant, false, delete)?;
-        assert!(rt; refuses(&reply, 0xD209), "{kind}");
-    }
-    assert_eq!(rt; plant.blocks.len(), 1);
-    assert!(rt; plant.areas.octets_of(DB1).is_some());
-    Ok(())
+    plants::does(rt.alloc(), BLOCKS, DELETES)
 }
+
+/// Without the right no block is stored or deleted; uploads go on.
+const BARRED_2: &str = "\
+    guard 2\n\
+    any insert 43 6 70700101.07.0C.0006.00000026.00*22.0002.CCCC | D241 - -\n\
+    any delete 43 5 | D241 - -\n\
+    any delete 43 6 | D241 - -\n\
+    any delete 41 1 | D241 - -\n\
+    loaded 4\n\
+    any upload 43 6 | D209 - -\n\
+    owner upload 43 5 | 0 1D.00*7.07.30303030303338 \
+        70700101.02.0C.0005.00000026.00*22.0002.AAAA";
+
+/// At level 3 an upload wants the right too.
+const BARRED_3: &str = "\
+    guard 3\n\
+    any insert 43 6 70700101.07.0C.0006.00000026.00*22.0002.CCCC | D241 - -\n\
+    any delete 43 5 | D241 - -\n\
+    any delete 43 6 | D241 - -\n\
+    any delete 41 1 | D241 - -\n\
+    loaded 4\n\
+    any upload 43 6 | D241 - -\n\
+    owner upload 43 5 | 0 1D.00*7.07.30303030303338 \
+        70700101.02.0C.0005.00000026.00*22.0002.AAAA";
 
 #[test]
 fn guards_bar_blocks(rt: HostRuntime) -> Result<(), Fail> {
-    for level in [2, 3] {
-        let mut plant = a_plant(rt.alloc(), level, 10)?;
-        let image = an_image(0x07, 0x0C, 6, 0xCC);
-        let insert = an_insert(rt.alloc(), FC, 6, &image)?;
-        let reply = answered(rt.alloc(), &mut plant, false, insert)?;
-        assert!(rt; refuses(&reply, 0xD241), "{level}");
-        for (kind, number) in [(FC, 5), (FC, 6), (DB, 1)] {
-            let delete = Request::Delete { kind, number };
-            let reply = answered(rt.alloc(), &mut plant, false, delete)?;
-            assert!(rt; refuses(&reply, 0xD241), "{level}");
-        }
-        assert_eq!(rt; plant.blocks.len(), 4);
-        let start = Request::StartUpload {
-            kind: FC,
-            number: 6,
-        };
-        let reply = answered(rt.alloc(), &mut plant, false, start)?;
-        let error = if level == 3 { 0xD241 } else { 0xD209 };
-        assert!(rt; refuses(&reply, error), "{level}");
-        let start = Request::StartUpload {
-            kind: FC,
-            number: 5,
-        };
-        let reply = answered(rt.alloc(), &mut plant, true, start)?;
-        assert!(rt; uploads(&reply, b"0000038", 38, FC_5_HEAD, 0xAA), "{level}");
-    }
-    Ok(())
+    plants::does(rt.alloc(), BLOCKS, BARRED_2)?;
+    plants::does(rt.alloc(), BLOCKS, BARRED_3)
 }
 
-/// 1,024 functions, from 1 on.
-fn full_blocks(alloc: Global) -> Result<Blocks, Fail>
-    ensures { IfOk result (λ blocks. blocks.limit ≡ 1024) }
-{
-    let mut blocks = no_blocks(alloc)?;
-    for number in 1..=1_024 {
-        let image = Octets::copy_of(alloc, &an_image(0x01, 0x0C, number, 0xAA))?;
-        let block = Block {
-            kind: FC,
-            number,
-            image,
-        };
-        if blocks.insert(block).is_err() {
-            return Err(Fail::from("not taken"));
-        }
-    }
-    if blocks.limit() != 1_024 {
-        return Err(Fail::from("another limit"));
-    }
-    Ok(blocks)
-}
+/// As many functions as a plant takes; one more, one in the place of another, and again one more behind a deletion.
+const FULL: &str = "\
+    functions 1 1024\n\
+    owner insert 43 401 70700101.01.0C.0401.00000026.00*22.0002.CCCC | 8F04 - -\n\
+    loaded 1024\n\
+    without 43 401\n\
+    owner insert 43 7 70700101.01.0C.0007.00000026.00*22.0002.CCCC | 0 2800 -\n\
+    owner delete 43 9 | 0 2800 -\n\
+    owner insert 43 401 70700101.01.0C.0401.00000026.00*22.0002.CCCC | 0 2800 -\n\
+    loaded 1024\n\
+    last 43 401 CC";
 
 #[test]
 fn a_full_store_takes_no_new_block(rt: HostRuntime) -> Result<(), Fail> {
-    let mut plant = Plant::new(some_areas(rt.alloc())?, full_blocks(rt.alloc())?);
-    let fresh = an_image(0x01, 0x0C, 1_025, 0xCC);
-    let insert = an_insert(rt.alloc(), FC, 1_025, &fresh)?;
-    let reply = answered(rt.alloc(), &mut plant, true, insert)?;
-    assert!(rt; refuses(&reply, 0x8F04));
-    assert!(rt; plant.blocks.len() == 1_024 && plant.blocks.get(FC, 1_025).is_none());
-    let other = an_image(0x01, 0x0C, 7, 0xCC);
-    let insert = an_insert(rt.alloc(), FC, 7, &other)?;
-    let reply = answered(rt.alloc(), &mut plant, true, insert)?;
-    assert!(rt; says(&reply, b"\x28\x00", b""));
-    let delete = Request::Delete {
-        kind: FC,
-        number: 9,
-    };
-    answered(rt.alloc(), &mut plant, true, delete)?;
-    let insert = an_insert(rt.alloc(), FC, 1_025, &fresh)?;
-    let reply = answered(rt.alloc(), &mut plant, true, insert)?;
-    assert!(rt; says(&reply, b"\x28\x00", b""));
-    assert!(rt; plant.blocks.len() == 1_024 && plant.blocks.get(FC, 1_025).is_some());
-    Ok(())
+    plants::does(rt.alloc(), AREAS, FULL)
 }
 
-/// Carries out a request with a right, and enters it; whether it was entered.
-fn is_entered(alloc: Global, book: &mut Book, request: Request) -> Result<bool, Memory>
-    requires { CanBeDone request }
-{
-    let mut reply = a_reply(alloc)?;
-    Ok(book.step(7, with_right(request), &mut reply).is_ok())
-}
-
-/// The last octet of a block, where it is stored.
-fn last_of(plant: &Plant, kind: u8, number: u16) -> Option<u8> {
-    match plant.blocks.get(kind, number) {
-        Some(block) => block.image.as_slice().last().copied(),
-        None => None,
-    }
-}
+/// What a link enters, and the last octets of function 5 and function block 9 after so many entries.
+const REPLAYED: &str = "\
+    7 insert 43 5 70700101.01.0C.0005.00000026.00*22.0002.BBBB | 0 | 0 2800 -\n\
+    7 insert 45 9 70700101.01.0E.0009.00000026.00*22.0002.CCCC | 1 | 0 2800 -\n\
+    7 delete 43 5 | 2 | 0 2800 -\n\
+    7 insert 43 5 70700101.01.0C.0005.00000026.00*22.0002.BBBB | 3 | 0 2800 -\n\
+    image 0 | last 43 5 AA\n\
+    image 0 | without 45 9\n\
+    image 1 | last 43 5 BB\n\
+    image 1 | without 45 9\n\
+    image 2 | last 43 5 BB\n\
+    image 2 | last 45 9 CC\n\
+    image 3 | without 43 5\n\
+    image 3 | last 45 9 CC\n\
+    image 4 | last 43 5 BB\n\
+    image 4 | last 45 9 CC";
 
 #[test]
 fn blocks_are_replayed(rt: HostRuntime) -> Result<(), Fail> {
-    let areas = more_areas(rt.alloc(), 10)?;
-    let mut book = Book::new(rt.alloc(), areas, some_blocks(rt.alloc())?, 4)?;
-    let function = an_image(0x01, 0x0C, 5, 0xBB);
-    let other = an_image(0x01, 0x0E, 9, 0xCC);
-    let insert = an_insert(rt.alloc(), FC, 5, &function)?;
-    assert!(rt; is_entered(rt.alloc(), &mut book, insert)?);
-    let insert = an_insert(rt.alloc(), FB, 9, &other)?;
-    assert!(rt; is_entered(rt.alloc(), &mut book, insert)?);
-    let delete = Request::Delete {
-        kind: FC,
-        number: 5,
-    };
-    assert!(rt; is_entered(rt.alloc(), &mut book, delete)?);
-    let insert = an_insert(rt.alloc(), FC, 5, &function)?;
-    assert!(rt; is_entered(rt.alloc(), &mut book, insert)?);
-    let rows = [
-        (0, Some(0xAA), None),
-        (1, Some(0xBB), None),
-        (2, Some(0xBB), Some(0xCC)),
-        (3, None, Some(0xCC)),
-        (4, Some(0xBB), Some(0xCC)),
-    ];
-    for (n, function, other) in rows {
-        let image = image_of::<Brand>(rt.alloc(), &book, n, Blank::new(1))?.ok_or("no image")?;
-        assert_eq!(rt; last_of(&image, FC, 5), function);
-        assert_eq!(rt; last_of(&image, FB, 9), other);
-    }
-    Ok(())
+    books::does(rt.alloc(), BLOCKS, 4, REPLAYED)
 }

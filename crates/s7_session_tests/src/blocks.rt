@@ -1,466 +1,240 @@
 // Blocks, from octets to octets.
-
-use crate::links::{SITE, SITE_2, SITE_3, Talk, answers, is_answered};
-use crate::user_data::{GRANTED_64, SETUP_64};
-use s7_outer::Memory;
-use std::alloc::Global;
-use std::sync::Wait;
+use crate::talks::all_hold;
 use std::test::Fail;
-use std::time::Clock;
 
-/// The download of function 5 is announced, with an image of 38 octets.
-const ANNOUNCE: &[u8] = b"\
-    \x32\x01\x00\x00\x00\x11\x00\x20\x00\x00\
-    \x1A\x00\x00\x00\x00\x00\x00\x00\x09\x5F\x30\x43\x30\x30\x30\x30\x35\x50\
-    \x0D\x31\x30\x30\x30\x30\x33\x38\x30\x30\x30\x30\x30\x32";
+/// Messages in hex, by their names.
+const NAMES: &str = "\
+# The download of function 5 is announced, with an image of 38 octets.
+ANNOUNCE 320100000011002000001A00000000000000095F30433030303035500D31303030303338303030303032
+# It is answered, and the server asks for the first piece under its sequence 0001, and further ones.
+ANNOUNCED 3203000000110001000000001A
+ASKED_1 320100000001001200001B00000000000000095F3043303030303550
+ASKED_2 320100000002001200001B00000000000000095F3043303030303550
+ASKED_3 320100000003001200001B00000000000000095F3043303030303550
+# Ten octets of the image and more to follow, and the 28 that are left.
+PIECE_1 3203000000010002000E00001B01000A00FB70700101020C00050000
+PIECE_2 3203000000020002002000001B00001C00FB0026000000000000000000000000000000000000000000000002AABB
+# The server closes the download, and the client answers.
+CLOSE 320100000003001200001C00000000000000095F3043303030303550
+CLOSED 3203000000030001000000001C
+# Another function than the close's.
+NOT_CLOSED 3203000000030001000000001B
+# Function 5 is inserted.
+INSERT 320100000012001A000028000000000000FD000A01003043303030303550055F494E5345
+INSERTED 3203000000120002000000002800
+# It isn't: the link holds no such download.
+NOT_INSERTED 320200000012000000008F03
+# The functions are listed: there are none, or number 5 with flags 01 in language 02.
+LIST 320700000013000800060001120411430200FF0900023043
+NONE_LISTED 320700000013000C000400011208128302010000D2090A000000
+ONE_LISTED 320700000013000C0008000112081283020100000000FF09000400050102
+# The upload of function 5, which the link gives the id 01 and then 02.
+UPLOAD 320100000014001200001D00000000000000095F3043303030303541
+UPLOADED_1 3203000000140010000000001D000000000000010730303030303338
+UPLOADED_2 3203000000140010000000001D000000000000020730303030303338
+# There is no such block.
+NOT_UPLOADED 32020000001400000000D209
+# A slice of the upload of the id 01, which is the whole image.
+SLICE 320100000015000800001E00000000000001
+SLICED 3203000000150002002A00001E00002600FB70700101020C0005000000260000000000000000000000000000000000000000\
+    00000002AABB
+NOT_SLICED 320200000015000000008404
+# The end of that upload.
+END 320100000016000800001F00000000000001
+ENDED 3203000000160001000000001F
+NOT_ENDED 320200000016000000008404
+# Function 5 is deleted, and there is none.
+DELETE 320100000017001A000028000000000000FD000A01003043303030303542055F44454C45
+DELETED 3203000000170002000000002800
+NOT_DELETED 32020000001700000000D209
+# A right is wanted.
+BARRED_INSERT 32020000001200000000D241
+BARRED_DELETE 32020000001700000000D241
+BARRED_UPLOAD 32020000001400000000D241
+# A slice of the upload of the id 02.
+SLICE_2 320100000015000800001E00000000000002
+# No job of the server's has this sequence, which is 0002, and 0009.
+STALE 320200000002000000008104
+FOREIGN 3203000000090002002000001B00001C00FB0026000000000000000000000000000000000000000000000002AABB
+FOREIGN_REFUSED 320200000009000000008104
+# A download that is announced so can't be read, or isn't allowed.
+UNREADABLE 320200000011000000008404
+NOT_ALLOWED 320200000011000000008F03";
 
-/// It is answered, and the server asks for the first piece under its sequence 0001, and further ones.
-const ANNOUNCED: &[u8] = b"\
-    \x32\x03\x00\x00\x00\x11\x00\x01\x00\x00\x00\x00\x1A";
+const LOADED: &str = "\
+asked CONNECT SETUP_64 LIST ANNOUNCE PIECE_1 PIECE_2 CLOSED INSERT UPLOAD 2*SLICE 2*END 2*DELETE
+answered CONFIRM GRANTED_64 NONE_LISTED ANNOUNCED ASKED_1 ASKED_2 CLOSE INSERTED UPLOADED_1 SLICED \
+    NOT_SLICED ENDED NOT_ENDED DELETED NOT_DELETED
+entries 5
 
-const ASKED_1: &[u8] = b"\
-    \x32\x01\x00\x00\x00\x01\x00\x12\x00\x00\
-    \x1B\x00\x00\x00\x00\x00\x00\x00\x09\x5F\x30\x43\x30\x30\x30\x30\x35\x50";
+# The download stays held behind an insert, and an insert may come before the close is answered.
+asked CONNECT SETUP_64 ANNOUNCE PIECE_1 PIECE_2 INSERT DELETE INSERT LIST
+answered CONFIRM GRANTED_64 ANNOUNCED ASKED_1 ASKED_2 CLOSE INSERTED DELETED INSERTED ONE_LISTED
+entries 4
 
-const ASKED_2: &[u8] = b"\
-    \x32\x01\x00\x00\x00\x02\x00\x12\x00\x00\
-    \x1B\x00\x00\x00\x00\x00\x00\x00\x09\x5F\x30\x43\x30\x30\x30\x30\x35\x50";
-
-const ASKED_3: &[u8] = b"\
-    \x32\x01\x00\x00\x00\x03\x00\x12\x00\x00\
-    \x1B\x00\x00\x00\x00\x00\x00\x00\x09\x5F\x30\x43\x30\x30\x30\x30\x35\x50";
-
-/// Ten octets of the image and more to follow, and the 28 that are left.
-const PIECE_1: &[u8] = b"\
-    \x32\x03\x00\x00\x00\x01\x00\x02\x00\x0E\x00\x00\x1B\x01\
-    \x00\x0A\x00\xFB\x70\x70\x01\x01\x02\x0C\x00\x05\x00\x00";
-
-const PIECE_2: &[u8] = b"\
-    \x32\x03\x00\x00\x00\x02\x00\x02\x00\x20\x00\x00\x1B\x00\
-    \x00\x1C\x00\xFB\
-    \x00\x26\x00\x00\x00\x00\x00\x00\x00\x00\x00\x00\x00\x00\x00\x00\x00\x00\x00\x00\x00\x00\x00\x00\x00\x02\xAA\xBB";
-
-/// The server closes the download, and the client answers.
-const CLOSE: &[u8] = b"\
-    \x32\x01\x00\x00\x00\x03\x00\x12\x00\x00\
-    \x1C\x00\x00\x00\x00\x00\x00\x00\x09\x5F\x30\x43\x30\x30\x30\x30\x35\x50";
-
-const CLOSED: &[u8] = b"\x32\x03\x00\x00\x00\x03\x00\x01\x00\x00\x00\x00\x1C";
-
-/// Another function than the close's.
-const NOT_CLOSED: &[u8] = b"\x32\x03\x00\x00\x00\x03\x00\x01\x00\x00\x00\x00\x1B";
-
-/// Function 5 is inserted.
-const INSERT: &[u8] = b"\
-    \x32\x01\x00\x00\x00\x12\x00\x1A\x00\x00\
-    \x28\x00\x00\x00\x00\x00\x00\xFD\x00\x0A\x01\x00\x30\x43\x30\x30\x30\x30\x35\x50\x05\x5F\x49\x4E\x53\x45";
-
-const INSERTED: &[u8] = b"\x32\x03\x00\x00\x00\x12\x00\x02\x00\x00\x00\x00\x28\x00";
-
-/// It isn't: the link holds no such download.
-const NOT_INSERTED: &[u8] = b"\x32\x02\x00\x00\x00\x12\x00\x00\x00\x00\x8F\x03";
-
-/// The functions are listed: there are none, or number 5 with flags 01 in language 02.
-const LIST: &[u8] = b"\
-    \x32\x07\x00\x00\x00\x13\x00\x08\x00\x06\x00\x01\x12\x04\x11\x43\x02\x00\
-    \xFF\x09\x00\x02\x30\x43";
-
-const NONE_LISTED: &[u8] = b"\
-    \x32\x07\x00\x00\x00\x13\x00\x0C\x00\x04\
-    \x00\x01\x12\x08\x12\x83\x02\x01\x00\x00\xD2\x09\x0A\x00\x00\x00";
-
-const ONE_LISTED: &[u8] = b"\
-    \x32\x07\x00\x00\x00\x13\x00\x0C\x00\x08\
-    \x00\x01\x12\x08\x12\x83\x02\x01\x00\x00\x00\x00\xFF\x09\x00\x04\x00\x05\x01\x02";
-
-/// The upload of function 5, which the link gives the id 01 and then 02.
-const UPLOAD: &[u8] = b"\
-    \x32\x01\x00\x00\x00\x14\x00\x12\x00\x00\
-    \x1D\x00\x00\x00\x00\x00\x00\x00\x09\x5F\x30\x43\x30\x30\x30\x30\x35\x41";
-
-const UPLOADED_1: &[u8] = b"\
-    \x32\x03\x00\x00\x00\x14\x00\x10\x00\x00\x00\x00\
-    \x1D\x00\x00\x00\x00\x00\x00\x01\x07\x30\x30\x30\x30\x30\x33\x38";
-
-const UPLOADED_2: &[u8] = b"\
-    \x32\x03\x00\x00\x00\x14\x00\x10\x00\x00\x00\x00\
-    \x1D\x00\x00\x00\x00\x00\x00\x02\x07\x30\x30\x30\x30\x30\x33\x38";
-
-/// There is no such block.
-const NOT_UPLOADED: &[u8] = b"\x32\x02\x00\x00\x00\x14\x00\x00\x00\x00\xD2\x09";
-
-/// A slice of the upload of the id 01, which is the whole image.
-const SLICE: &[u8] = b"\x32\x01\x00\x00\x00\x15\x00\x08\x00\x00\x1E\x00\x00\x00\x00\x00\x00\x01";
-
-const SLICED: &[u8] = b"\
-    \x32\x03\x00\x00\x00\x15\x00\x02\x00\x2A\x00\x00\x1E\x00\
-    \x00\x26\x00\xFB\x70\x70\x01\x01\x02\x0C\x00\x05\x00\x00\
-    \x00\x26\x00\x00\x00\x00\x00\x00\x00\x00\x00\x00\x00\x00\x00\x00\x00\x00\x00\x00\x00\x00\x00\x00\x00\x02\xAA\xBB";
-
-const NOT_SLICED: &[u8] = b"\x32\x02\x00\x00\x00\x15\x00\x00\x00\x00\x84\x04";
-
-/// The end of that upload.
-const END: &[u8] = b"\x32\x01\x00\x00\x00\x16\x00\x08\x00\x00\x1F\x00\x00\x00\x00\x00\x00\x01";
-
-const ENDED: &[u8] = b"\x32\x03\x00\x00\x00\x16\x00\x01\x00\x00\x00\x00\x1F";
-
-const NOT_ENDED: &[u8] = b"\x32\x02\x00\x00\x00\x16\x00\x00\x00\x00\x84\x04";
-
-/// Function 5 is deleted, and there is none.
-const DELETE: &[u8] = b"\
-    \x32\x01\x00\x00\x00\x17\x00\x1A\x00\x00\
-    \x28\x00\x00\x00\x00\x00\x00\xFD\x00\x0A\x01\x00\x30\x43\x30\x30\x30\x30\x35\x42\x05\x5F\x44\x45\x4C\x45";
-
-const DELETED: &[u8] = b"\x32\x03\x00\x00\x00\x17\x00\x02\x00\x00\x00\x00\x28\x00";
-
-const NOT_DELETED: &[u8] = b"\x32\x02\x00\x00\x00\x17\x00\x00\x00\x00\xD2\x09";
-
-/// A right is wanted.
-const BARRED_INSERT: &[u8] = b"\x32\x02\x00\x00\x00\x12\x00\x00\x00\x00\xD2\x41";
-
-const BARRED_DELETE: &[u8] = b"\x32\x02\x00\x00\x00\x17\x00\x00\x00\x00\xD2\x41";
-
-const BARRED_UPLOAD: &[u8] = b"\x32\x02\x00\x00\x00\x14\x00\x00\x00\x00\xD2\x41";
-
-/// A slice of the upload of the id 02.
-const SLICE_2: &[u8] = b"\x32\x01\x00\x00\x00\x15\x00\x08\x00\x00\x1E\x00\x00\x00\x00\x00\x00\x02";
-
-/// No job of the server's has this sequence, which is 0002, and 0009.
-const STALE: &[u8] = b"\x32\x02\x00\x00\x00\x02\x00\x00\x00\x00\x81\x04";
-
-const FOREIGN: &[u8] = b"\
-    \x32\x03\x00\x00\x00\x09\x00\x02\x00\x20\x00\x00\x1B\x00\x00\x1C\x00\xFB\x00\x26\x00\x00\
-    \x00\x00\x00\x00\x00\x00\x00\x00\x00\x00\x00\x00\x00\x00\x00\x00\x00\x00\x00\x00\x00\x02\
-    \xAA\xBB";
-
-const FOREIGN_REFUSED: &[u8] = b"\x32\x02\x00\x00\x00\x09\x00\x00\x00\x00\x81\x04";
-
-/// A download that is announced so can't be read, or isn't allowed.
-const UNREADABLE: &[u8] = b"\x32\x02\x00\x00\x00\x11\x00\x00\x00\x00\x84\x04";
-
-const NOT_ALLOWED: &[u8] = b"\x32\x02\x00\x00\x00\x11\x00\x00\x00\x00\x8F\x03";
-
-const LOADED: &[Talk<'static>] = &[
-    Talk {
-        site: SITE,
-        asked: &[
-            SETUP_64, LIST, ANNOUNCE, PIECE_1, PIECE_2, CLOSED, INSERT, UPLOAD, SLICE, SLICE, END,
-            END, DELETE, DELETE,
-        ],
-        answered: &[
-            GRANTED_64,
-            NONE_LISTED,
-            ANNOUNCED,
-            ASKED_1,
-            ASKED_2,
-            CLOSE,
-            INSERTED,
-            UPLOADED_1,
-            SLICED,
-            NOT_SLICED,
-            ENDED,
-            NOT_ENDED,
-            DELETED,
-            NOT_DELETED,
-        ],
-        entries: 5,
-    },
-    // The download stays held behind an insert, and an insert may come before the close is answered.
-    Talk {
-        site: SITE,
-        asked: &[
-            SETUP_64, ANNOUNCE, PIECE_1, PIECE_2, INSERT, DELETE, INSERT, LIST,
-        ],
-        answered: &[
-            GRANTED_64, ANNOUNCED, ASKED_1, ASKED_2, CLOSE, INSERTED, DELETED, INSERTED, ONE_LISTED,
-        ],
-        entries: 4,
-    },
-    // An upload that is started anew has the next id, and one that isn't started leaves the one that is held.
-    Talk {
-        site: SITE,
-        asked: &[
-            SETUP_64, ANNOUNCE, PIECE_1, PIECE_2, CLOSED, INSERT, UPLOAD, UPLOAD, SLICE, END,
-            DELETE, UPLOAD, SLICE_2,
-        ],
-        answered: &[
-            GRANTED_64,
-            ANNOUNCED,
-            ASKED_1,
-            ASKED_2,
-            CLOSE,
-            INSERTED,
-            UPLOADED_1,
-            UPLOADED_2,
-            NOT_SLICED,
-            NOT_ENDED,
-            DELETED,
-            NOT_UPLOADED,
-            SLICED,
-        ],
-        entries: 5,
-    },
-];
+# An upload that is started anew has the next id, and one that isn't started leaves the one that is held.
+asked CONNECT SETUP_64 ANNOUNCE PIECE_1 PIECE_2 CLOSED INSERT 2*UPLOAD SLICE END DELETE UPLOAD SLICE_2
+answered CONFIRM GRANTED_64 ANNOUNCED ASKED_1 ASKED_2 CLOSE INSERTED UPLOADED_1 UPLOADED_2 NOT_SLICED \
+    NOT_ENDED DELETED NOT_UPLOADED SLICED
+entries 5";
 
 #[test]
 fn a_block_is_loaded_and_deleted(rt: HostRuntime) -> Result<(), Fail> {
-    answers(&rt, rt.alloc(), LOADED)
+    all_hold(&rt, rt.alloc(), NAMES, "", LOADED, 8_192)
 }
 
-const GUARDED: &[Talk<'static>] = &[
-    // What isn't held isn't allowed, whatever the right.
-    Talk {
-        site: SITE_2,
-        asked: &[
-            SETUP_64, INSERT, ANNOUNCE, PIECE_1, PIECE_2, CLOSED, INSERT, DELETE,
-        ],
-        answered: &[
-            GRANTED_64,
-            NOT_INSERTED,
-            ANNOUNCED,
-            ASKED_1,
-            ASKED_2,
-            CLOSE,
-            BARRED_INSERT,
-            BARRED_DELETE,
-        ],
-        entries: 2,
-    },
-    Talk {
-        site: SITE_3,
-        asked: &[SETUP_64, UPLOAD],
-        answered: &[GRANTED_64, BARRED_UPLOAD],
-        entries: 1,
-    },
-];
+const GUARDED: &str = "\
+# What isn't held isn't allowed, whatever the right.
+level 2
+asked CONNECT SETUP_64 INSERT ANNOUNCE PIECE_1 PIECE_2 CLOSED INSERT DELETE
+answered CONFIRM GRANTED_64 NOT_INSERTED ANNOUNCED ASKED_1 ASKED_2 CLOSE BARRED_INSERT BARRED_DELETE
+entries 2
+
+level 3
+asked CONNECT SETUP_64 UPLOAD
+answered CONFIRM GRANTED_64 BARRED_UPLOAD
+entries 1";
 
 #[test]
 fn a_guard_lets_nobody_load(rt: HostRuntime) -> Result<(), Fail> {
-    answers(&rt, rt.alloc(), GUARDED)
+    all_hold(&rt, rt.alloc(), NAMES, "", GUARDED, 8_192)
 }
 
-/// What comes in place of the last piece, and drops the download.
-const DROPPING: &[&[u8]] = &[
-    // It has an error word.
-    b"\
-        \x32\x03\x00\x00\x00\x02\x00\x02\x00\x20\x81\x04\x1B\x00\x00\x1C\x00\xFB\x00\x26\x00\x00\
-        \x00\x00\x00\x00\x00\x00\x00\x00\x00\x00\x00\x00\x00\x00\x00\x00\x00\x00\x00\x00\x00\x02\
-        \xAA\xBB",
-    // It is a refusal.
-    b"\x32\x02\x00\x00\x00\x02\x00\x00\x00\x00\x81\x04",
-    // It ends before its header does.
-    b"\x32\x03\x00\x00\x00\x02\x00\x00\x00\x00",
-    // Its lengths disagree.
-    b"\
-        \x32\x03\x00\x00\x00\x02\x00\x02\x00\x21\x00\x00\x1B\x00\x00\x1C\x00\xFB\x00\x26\x00\x00\
-        \x00\x00\x00\x00\x00\x00\x00\x00\x00\x00\x00\x00\x00\x00\x00\x00\x00\x00\x00\x00\x00\x02\
-        \xAA\xBB",
-    // Whether others follow isn't said by 00 or 01.
-    b"\
-        \x32\x03\x00\x00\x00\x02\x00\x02\x00\x20\x00\x00\x1B\x02\x00\x1C\x00\xFB\x00\x26\x00\x00\
-        \x00\x00\x00\x00\x00\x00\x00\x00\x00\x00\x00\x00\x00\x00\x00\x00\x00\x00\x00\x00\x00\x02\
-        \xAA\xBB",
-    // It has another function.
-    b"\
-        \x32\x03\x00\x00\x00\x02\x00\x02\x00\x20\x00\x00\x1C\x00\x00\x1C\x00\xFB\x00\x26\x00\x00\
-        \x00\x00\x00\x00\x00\x00\x00\x00\x00\x00\x00\x00\x00\x00\x00\x00\x00\x00\x00\x00\x00\x02\
-        \xAA\xBB",
-    // It has a third octet of parameters.
-    b"\
-        \x32\x03\x00\x00\x00\x02\x00\x03\x00\x20\x00\x00\x1B\x00\x00\x00\x1C\x00\xFB\x00\x26\x00\
-        \x00\x00\x00\x00\x00\x00\x00\x00\x00\x00\x00\x00\x00\x00\x00\x00\x00\x00\x00\x00\x00\x00\
-        \x02\xAA\xBB",
-    // The length of the octets is one less.
-    b"\
-        \x32\x03\x00\x00\x00\x02\x00\x02\x00\x20\x00\x00\x1B\x00\x00\x1B\x00\xFB\x00\x26\x00\x00\
-        \x00\x00\x00\x00\x00\x00\x00\x00\x00\x00\x00\x00\x00\x00\x00\x00\x00\x00\x00\x00\x00\x02\
-        \xAA\xBB",
-    // Other octets stand before the image's.
-    b"\
-        \x32\x03\x00\x00\x00\x02\x00\x02\x00\x20\x00\x00\x1B\x00\x00\x1C\x00\xFA\x00\x26\x00\x00\
-        \x00\x00\x00\x00\x00\x00\x00\x00\x00\x00\x00\x00\x00\x00\x00\x00\x00\x00\x00\x00\x00\x02\
-        \xAA\xBB",
-    // It is empty, and others follow.
-    b"\x32\x03\x00\x00\x00\x02\x00\x02\x00\x04\x00\x00\x1B\x01\x00\x00\x00\xFB",
-    // It is the last, and one octet lacks.
-    b"\
-        \x32\x03\x00\x00\x00\x02\x00\x02\x00\x1F\x00\x00\x1B\x00\x00\x1B\x00\xFB\x00\x26\x00\x00\
-        \x00\x00\x00\x00\x00\x00\x00\x00\x00\x00\x00\x00\x00\x00\x00\x00\x00\x00\x00\x00\x00\x02\
-        \xAA",
-    // It passes the length by an octet.
-    b"\
-        \x32\x03\x00\x00\x00\x02\x00\x02\x00\x21\x00\x00\x1B\x00\x00\x1D\x00\xFB\x00\x26\x00\x00\
-        \x00\x00\x00\x00\x00\x00\x00\x00\x00\x00\x00\x00\x00\x00\x00\x00\x00\x00\x00\x00\x00\x02\
-        \xAA\xBB\xCC",
-    // It passes it, and others follow.
-    b"\
-        \x32\x03\x00\x00\x00\x02\x00\x02\x00\x21\x00\x00\x1B\x01\x00\x1D\x00\xFB\x00\x26\x00\x00\
-        \x00\x00\x00\x00\x00\x00\x00\x00\x00\x00\x00\x00\x00\x00\x00\x00\x00\x00\x00\x00\x00\x02\
-        \xAA\xBB\xCC",
-    // It has no data.
-    b"\x32\x03\x00\x00\x00\x02\x00\x02\x00\x00\x00\x00\x1B\x00",
-];
+/// A download is dropped by what comes in place of the last piece.
+const DROPPED: &str = "\
+asked CONNECT SETUP_64 ANNOUNCE PIECE_1 ODD PIECE_2 INSERT
+answered CONFIRM GRANTED_64 ANNOUNCED ASKED_1 ASKED_2 STALE NOT_INSERTED";
 
-fn drops<R: Wait + Clock>(rt: &R, alloc: Global, answer: &[u8]) -> Result<bool, Memory> {
-    let talk = Talk {
-        site: SITE,
-        asked: &[SETUP_64, ANNOUNCE, PIECE_1, answer, PIECE_2, INSERT],
-        answered: &[GRANTED_64, ANNOUNCED, ASKED_1, ASKED_2, STALE, NOT_INSERTED],
-        entries: 0,
-    };
-    is_answered(rt, alloc, &talk)
-}
+/// What comes in place of it.
+const DROPPING: &str = "\
+# It has an error word.
+ODD 3203000000020002002081041B00001C00FB0026000000000000000000000000000000000000000000000002AABB
+
+# It is a refusal.
+ODD 320200000002000000008104
+
+# It ends before its header does.
+ODD 32030000000200000000
+
+# Its lengths disagree.
+ODD 3203000000020002002100001B00001C00FB0026000000000000000000000000000000000000000000000002AABB
+
+# Whether others follow isn't said by 00 or 01.
+ODD 3203000000020002002000001B02001C00FB0026000000000000000000000000000000000000000000000002AABB
+
+# It has another function.
+ODD 3203000000020002002000001C00001C00FB0026000000000000000000000000000000000000000000000002AABB
+
+# It has a third octet of parameters.
+ODD 3203000000020003002000001B0000001C00FB0026000000000000000000000000000000000000000000000002AABB
+
+# The length of the octets is one less.
+ODD 3203000000020002002000001B00001B00FB0026000000000000000000000000000000000000000000000002AABB
+
+# Other octets stand before the image's.
+ODD 3203000000020002002000001B00001C00FA0026000000000000000000000000000000000000000000000002AABB
+
+# It is empty, and others follow.
+ODD 3203000000020002000400001B01000000FB
+
+# It is the last, and one octet lacks.
+ODD 3203000000020002001F00001B00001B00FB0026000000000000000000000000000000000000000000000002AA
+
+# It passes the length by an octet.
+ODD 3203000000020002002100001B00001D00FB0026000000000000000000000000000000000000000000000002AABBCC
+
+# It passes it, and others follow.
+ODD 3203000000020002002100001B01001D00FB0026000000000000000000000000000000000000000000000002AABBCC
+
+# It has no data.
+ODD 3203000000020002000000001B00";
 
 #[test]
 fn a_download_is_dropped(rt: HostRuntime) -> Result<(), Fail> {
-    for (k, answer) in DROPPING.iter().enumerate() {
-        assert!(rt; drops(&rt, rt.alloc(), answer)?, "answer {k}");
-    }
-    Ok(())
+    all_hold(&rt, rt.alloc(), NAMES, DROPPED, DROPPING, 8_192)
 }
 
-const GOES_ON: &[Talk<'static>] = &[
-    // A message under another sequence than the server's job has.
-    Talk {
-        site: SITE,
-        asked: &[
-            SETUP_64, ANNOUNCE, PIECE_1, FOREIGN, PIECE_2, CLOSED, INSERT,
-        ],
-        answered: &[
-            GRANTED_64,
-            ANNOUNCED,
-            ASKED_1,
-            ASKED_2,
-            FOREIGN_REFUSED,
-            CLOSE,
-            INSERTED,
-        ],
-        entries: 1,
-    },
-    // A download that is announced anew takes the place of the one before.
-    Talk {
-        site: SITE,
-        asked: &[SETUP_64, ANNOUNCE, PIECE_1, ANNOUNCE, PIECE_2, INSERT],
-        answered: &[
-            GRANTED_64,
-            ANNOUNCED,
-            ASKED_1,
-            ASKED_2,
-            ANNOUNCED,
-            ASKED_3,
-            STALE,
-            NOT_INSERTED,
-        ],
-        entries: 0,
-    },
-    // The answer to the close can't be read as one.
-    Talk {
-        site: SITE,
-        asked: &[SETUP_64, ANNOUNCE, PIECE_1, PIECE_2, NOT_CLOSED, INSERT],
-        answered: &[GRANTED_64, ANNOUNCED, ASKED_1, ASKED_2, CLOSE, NOT_INSERTED],
-        entries: 0,
-    },
-    // The link ends before the last piece came.
-    Talk {
-        site: SITE,
-        asked: &[SETUP_64, ANNOUNCE, PIECE_1],
-        answered: &[GRANTED_64, ANNOUNCED, ASKED_1, ASKED_2],
-        entries: 0,
-    },
-];
+const GOES_ON: &str = "\
+# A message under another sequence than the server's job has.
+asked CONNECT SETUP_64 ANNOUNCE PIECE_1 FOREIGN PIECE_2 CLOSED INSERT
+answered CONFIRM GRANTED_64 ANNOUNCED ASKED_1 ASKED_2 FOREIGN_REFUSED CLOSE INSERTED
+entries 1
+
+# A download that is announced anew takes the place of the one before.
+asked CONNECT SETUP_64 ANNOUNCE PIECE_1 ANNOUNCE PIECE_2 INSERT
+answered CONFIRM GRANTED_64 ANNOUNCED ASKED_1 ASKED_2 ANNOUNCED ASKED_3 STALE NOT_INSERTED
+
+# The answer to the close can't be read as one.
+asked CONNECT SETUP_64 ANNOUNCE PIECE_1 PIECE_2 NOT_CLOSED INSERT
+answered CONFIRM GRANTED_64 ANNOUNCED ASKED_1 ASKED_2 CLOSE NOT_INSERTED
+
+# The link ends before the last piece came.
+asked CONNECT SETUP_64 ANNOUNCE PIECE_1
+answered CONFIRM GRANTED_64 ANNOUNCED ASKED_1 ASKED_2";
 
 #[test]
 fn a_download_goes_on_or_not(rt: HostRuntime) -> Result<(), Fail> {
-    answers(&rt, rt.alloc(), GOES_ON)
+    all_hold(&rt, rt.alloc(), NAMES, "", GOES_ON, 8_192)
 }
 
-/// Announcements that can't be read.
-const UNREAD: &[&[u8]] = &[
-    // There is no kind 47.
-    b"\
-        \x32\x01\x00\x00\x00\x11\x00\x20\x00\x00\x1A\x00\x00\x00\x00\x00\x00\x00\x09\x5F\x30\x47\
-        \x30\x30\x30\x30\x35\x50\x0D\x31\x30\x30\x30\x30\x33\x38\x30\x30\x30\x30\x30\x32",
-    // The number is 65,536.
-    b"\
-        \x32\x01\x00\x00\x00\x11\x00\x20\x00\x00\x1A\x00\x00\x00\x00\x00\x00\x00\x09\x5F\x30\x43\
-        \x36\x35\x35\x33\x36\x50\x0D\x31\x30\x30\x30\x30\x33\x38\x30\x30\x30\x30\x30\x32",
-    // Another octet is among the digits: of the number, and of both lengths.
-    b"\
-        \x32\x01\x00\x00\x00\x11\x00\x20\x00\x00\x1A\x00\x00\x00\x00\x00\x00\x00\x09\x5F\x30\x43\
-        \x30\x30\x30\x30\x41\x50\x0D\x31\x30\x30\x30\x30\x33\x38\x30\x30\x30\x30\x30\x32",
-    b"\
-        \x32\x01\x00\x00\x00\x11\x00\x20\x00\x00\x1A\x00\x00\x00\x00\x00\x00\x00\x09\x5F\x30\x43\
-        \x30\x30\x30\x30\x35\x50\x0D\x31\x30\x30\x30\x30\x33\x3A\x30\x30\x30\x30\x30\x32",
-    b"\
-        \x32\x01\x00\x00\x00\x11\x00\x20\x00\x00\x1A\x00\x00\x00\x00\x00\x00\x00\x09\x5F\x30\x43\
-        \x30\x30\x30\x30\x35\x50\x0D\x31\x30\x30\x30\x30\x33\x38\x30\x30\x30\x30\x30\x2F",
-    // It isn't the place of downloads.
-    b"\
-        \x32\x01\x00\x00\x00\x11\x00\x20\x00\x00\x1A\x00\x00\x00\x00\x00\x00\x00\x09\x5F\x30\x43\
-        \x30\x30\x30\x30\x35\x41\x0D\x31\x30\x30\x30\x30\x33\x38\x30\x30\x30\x30\x30\x32",
-    // Another octet stands before the lengths.
-    b"\
-        \x32\x01\x00\x00\x00\x11\x00\x20\x00\x00\x1A\x00\x00\x00\x00\x00\x00\x00\x09\x5F\x30\x43\
-        \x30\x30\x30\x30\x35\x50\x0D\x32\x30\x30\x30\x30\x33\x38\x30\x30\x30\x30\x30\x32",
-    // One of the octets 00 is 01.
-    b"\
-        \x32\x01\x00\x00\x00\x11\x00\x20\x00\x00\x1A\x00\x00\x00\x01\x00\x00\x00\x09\x5F\x30\x43\
-        \x30\x30\x30\x30\x35\x50\x0D\x31\x30\x30\x30\x30\x33\x38\x30\x30\x30\x30\x30\x32",
-    // There is a data part.
-    b"\
-        \x32\x01\x00\x00\x00\x11\x00\x20\x00\x01\x1A\x00\x00\x00\x00\x00\x00\x00\x09\x5F\x30\x43\
-        \x30\x30\x30\x30\x35\x50\x0D\x31\x30\x30\x30\x30\x33\x38\x30\x30\x30\x30\x30\x32\x00",
-    // An octet of the parameters is too many.
-    b"\
-        \x32\x01\x00\x00\x00\x11\x00\x21\x00\x00\x1A\x00\x00\x00\x00\x00\x00\x00\x09\x5F\x30\x43\
-        \x30\x30\x30\x30\x35\x50\x0D\x31\x30\x30\x30\x30\x33\x38\x30\x30\x30\x30\x30\x32\x30",
-];
+/// An announcement that can't be read leaves the download that is held.
+const UNREAD_FRAME: &str = "\
+asked CONNECT SETUP_64 ANNOUNCE PIECE_1 ODD PIECE_2 CLOSED INSERT
+answered CONFIRM GRANTED_64 ANNOUNCED ASKED_1 ASKED_2 REFUSAL CLOSE INSERTED
+entries 1
+REFUSAL 320200000011000000008404";
 
-/// Announcements of what isn't allowed.
-const BARRED: &[&[u8]] = &[
-    // Data blocks aren't downloaded, nor system functions.
-    b"\
-        \x32\x01\x00\x00\x00\x11\x00\x20\x00\x00\x1A\x00\x00\x00\x00\x00\x00\x00\x09\x5F\x30\x41\
-        \x30\x30\x30\x30\x35\x50\x0D\x31\x30\x30\x30\x30\x33\x38\x30\x30\x30\x30\x30\x32",
-    b"\
-        \x32\x01\x00\x00\x00\x11\x00\x20\x00\x00\x1A\x00\x00\x00\x00\x00\x00\x00\x09\x5F\x30\x44\
-        \x30\x30\x30\x30\x35\x50\x0D\x31\x30\x30\x30\x30\x33\x38\x30\x30\x30\x30\x30\x32",
-    // The image has 35 octets, and 65,537.
-    b"\
-        \x32\x01\x00\x00\x00\x11\x00\x20\x00\x00\x1A\x00\x00\x00\x00\x00\x00\x00\x09\x5F\x30\x43\
-        \x30\x30\x30\x30\x35\x50\x0D\x31\x30\x30\x30\x30\x33\x35\x30\x30\x30\x30\x30\x32",
-    b"\
-        \x32\x01\x00\x00\x00\x11\x00\x20\x00\x00\x1A\x00\x00\x00\x00\x00\x00\x00\x09\x5F\x30\x43\
-        \x30\x30\x30\x30\x35\x50\x0D\x31\x30\x36\x35\x35\x33\x37\x30\x30\x30\x30\x30\x32",
-];
+/// Such announcements.
+const UNREAD: &str = "\
+# There is no kind 47.
+ODD 320100000011002000001A00000000000000095F30473030303035500D31303030303338303030303032
 
-/// A download that is announced so, and refused so, leaves the one that is held.
-fn refuses<R: Wait + Clock>(
-    rt: &R,
-    alloc: Global,
-    announce: &[u8],
-    refusal: &[u8],
-) -> Result<bool, Memory> {
-    let talk = Talk {
-        site: SITE,
-        asked: &[
-            SETUP_64, ANNOUNCE, PIECE_1, announce, PIECE_2, CLOSED, INSERT,
-        ],
-        answered: &[
-            GRANTED_64, ANNOUNCED, ASKED_1, ASKED_2, refusal, CLOSE, INSERTED,
-        ],
-        entries: 1,
-    };
-    is_answered(rt, alloc, &talk)
-}
+# The number is 65,536.
+ODD 320100000011002000001A00000000000000095F30433635353336500D31303030303338303030303032
+
+# Another octet is among the digits: of the number, and of both lengths.
+ODD 320100000011002000001A00000000000000095F30433030303041500D31303030303338303030303032
+
+ODD 320100000011002000001A00000000000000095F30433030303035500D3130303030333A303030303032
+
+ODD 320100000011002000001A00000000000000095F30433030303035500D3130303030333830303030302F
+
+# It isn't the place of downloads.
+ODD 320100000011002000001A00000000000000095F30433030303035410D31303030303338303030303032
+
+# Another octet stands before the lengths.
+ODD 320100000011002000001A00000000000000095F30433030303035500D32303030303338303030303032
+
+# One of the octets 00 is 01.
+ODD 320100000011002000001A00000001000000095F30433030303035500D31303030303338303030303032
+
+# There is a data part.
+ODD 320100000011002000011A00000000000000095F30433030303035500D3130303030333830303030303200
+
+# An octet of the parameters is too many.
+ODD 320100000011002100001A00000000000000095F30433030303035500D3130303030333830303030303230";
+
+/// So does one of what isn't allowed.
+const BARRED_FRAME: &str = "\
+asked CONNECT SETUP_64 ANNOUNCE PIECE_1 ODD PIECE_2 CLOSED INSERT
+answered CONFIRM GRANTED_64 ANNOUNCED ASKED_1 ASKED_2 REFUSAL CLOSE INSERTED
+entries 1
+REFUSAL 320200000011000000008F03";
+
+/// Such announcements.
+const BARRED: &str = "\
+# Data blocks aren't downloaded, nor system functions.
+ODD 320100000011002000001A00000000000000095F30413030303035500D31303030303338303030303032
+
+ODD 320100000011002000001A00000000000000095F30443030303035500D31303030303338303030303032
+
+# The image has 35 octets, and 65,537.
+ODD 320100000011002000001A00000000000000095F30433030303035500D31303030303335303030303032
+
+ODD 320100000011002000001A00000000000000095F30433030303035500D31303635353337303030303032";
 
 #[test]
 fn downloads_that_are_refused(rt: HostRuntime) -> Result<(), Fail> {
-    for (k, announce) in UNREAD.iter().enumerate() {
-        assert!(rt; refuses(&rt, rt.alloc(), announce, UNREADABLE)?, "row {k}");
-    }
-    for (k, announce) in BARRED.iter().enumerate() {
-        assert!(rt; refuses(&rt, rt.alloc(), announce, NOT_ALLOWED)?, "row {k}");
-    }
-    Ok(())
+    all_hold(&rt, rt.alloc(), NAMES, UNREAD_FRAME, UNREAD, 8_192)?;
+    all_hold(&rt, rt.alloc(), NAMES, BARRED_FRAME, BARRED, 8_192)
 }

@@ -9,6 +9,8 @@ mod links;
 #[cfg(test)]
 mod pdu;
 #[cfg(test)]
+mod talks;
+#[cfg(test)]
 mod uploads;
 #[cfg(test)]
 mod user_data;

@@ -1,152 +1,61 @@
 // The greatest PDU, from octets to octets.
-ghost use Rattle.std.specs.Prelude.{◌<◌};
-
-use crate::links::{CONFIRM, CONNECT, SITE, Site, joined, serve};
-use s7_outer::Memory;
-use s7_session::Outcome;
-use std::alloc::Global;
-use std::sync::Wait;
+use crate::talks::all_hold;
 use std::test::Fail;
-use std::time::Clock;
 
-/// A connect request for a TPDU size of 128.
-const CONNECT_128: &[u8] =
-    b"\x03\x00\x00\x16\x11\xE0\x00\x00\x00\x01\x00\xC0\x01\x07\xC1\x02\x01\x00\xC2\x02\x01\x02";
+/// Packets in hex, and parts of such, by their names.
+const NAMES: &str = "\
+# A connect request for a TPDU size of 128.
+CONNECT_128 0300001611E00000000100C00107C1020100C2020102
+CONFIRM_128 0300001611D00001000100C00107C1020100C2020102
+# A PDU of 1,920 is asked for, and granted.
+SETUP 0300001902F08032010000000400080000F000000100010780
+GRANTED 0300001B02F080320300000004000800000000F000000100010780
+# Reads of 1,902 and of 1,903 bytes.
+READ_1902 0300001F02F080320100000005000E00000401120A1002076E000184000000
+READ_1903 0300001F02F080320100000005000E00000401120A1002076F000184000000
+# The front of a fragment of 1,021 octets, and of one of 125, that isn't the last, and the answer to the first read
+# up
+# to its octets, of which it states 15,216 bits: a message of 1,920.
+ANSWER_1021 0300040402F0003203000000050002077200000401FF043B70
+ANSWER_125 0300008402F0003203000000050002077200000401FF043B70
+# The fronts of further fragments: of 125 octets, and of 899 and of 45 octets that are the last.
+FRONT_125 0300008402F000
+LAST_899 0300038A02F080
+LAST_45 0300003402F080
+# The refusal of the second read.
+OVER_PDU 0300001302F080320200000005000000008500
+# The first fragment of a write of 1,892 bytes up to its octets, of which it states 15,136 bits: a message of 1,920.
+WRITE_1021 0300040402F000320100000006000E07680501120A1002076400018400000000043B20
+WRITTEN 0300001602F0803203000000060002000100000501FF";
 
-const CONFIRM_128: &[u8] =
-    b"\x03\x00\x00\x16\x11\xD0\x00\x01\x00\x01\x00\xC0\x01\x07\xC1\x02\x01\x00\xC2\x02\x01\x02";
+/// Data block 1 has 1,903 octets.
+const FRAME: &str = "\
+block 0..1903";
 
-/// A PDU of 1,920 is asked for, and granted.
-const SETUP: &[u8] =
-    b"\x03\x00\x00\x19\x02\xF0\x80\x32\x01\x00\x00\x00\x04\x00\x08\x00\x00\xF0\x00\x00\x01\x00\x01\x07\x80";
+const GREATEST: &str = "\
+# The greatest PDU is used whole.
+asked CONNECT SETUP READ_1902
+answered CONFIRM GRANTED ANSWER_1021 0..1003 LAST_899 1003..1902
+entries 1
 
-const GRANTED: &[u8] =
-    b"\x03\x00\x00\x1B\x02\xF0\x80\x32\x03\x00\x00\x00\x04\x00\x08\x00\x00\x00\x00\xF0\x00\x00\x01\x00\x01\x07\x80";
+# A small TPDU cuts it: into fifteen fragments of 125 octets, and one of 45.
+asked CONNECT_128 SETUP READ_1902
+answered CONFIRM_128 GRANTED ANSWER_125 0..107 FRONT_125 107..232 FRONT_125 232..357 FRONT_125 357..482 \
+    FRONT_125 482..607 FRONT_125 607..732 FRONT_125 732..857 FRONT_125 857..982 FRONT_125 982..1107 \
+    FRONT_125 1107..1232 FRONT_125 1232..1357 FRONT_125 1357..1482 FRONT_125 1482..1607 FRONT_125 1607..1732 \
+    FRONT_125 1732..1857 LAST_45 1857..1902
+entries 1
 
-/// Reads of 1,902 and of 1,903 bytes.
-const READ_1902: &[u8] = b"\
-    \x03\x00\x00\x1F\x02\xF0\x80\x32\x01\x00\x00\x00\x05\x00\x0E\x00\x00\
-    \x04\x01\x12\x0A\x10\x02\x07\x6E\x00\x01\x84\x00\x00\x00";
+# An answer past it is refused.
+asked CONNECT SETUP READ_1903
+answered CONFIRM GRANTED OVER_PDU
 
-const READ_1903: &[u8] = b"\
-    \x03\x00\x00\x1F\x02\xF0\x80\x32\x01\x00\x00\x00\x05\x00\x0E\x00\x00\
-    \x04\x01\x12\x0A\x10\x02\x07\x6F\x00\x01\x84\x00\x00\x00";
-
-/// The answer to the first up to its octets, of which it states 15,216 bits: a message of 1,920.
-const ANSWER_HEAD: &[u8] =
-    b"\x32\x03\x00\x00\x00\x05\x00\x02\x07\x72\x00\x00\x04\x01\xFF\x04\x3B\x70";
-
-const OVER_PDU: &[u8] =
-    b"\x03\x00\x00\x13\x02\xF0\x80\x32\x02\x00\x00\x00\x05\x00\x00\x00\x00\x85\x00";
-
-/// The octets of data block 1: so many of a pattern of 251.
-fn pattern(alloc: Global, count: usize) -> Result<Vec<u8>, Memory> {
-    let mut octets = Vec::new(alloc);
-    for k in 0..count {
-        octets.extend_from_slice(&[(k % 251) as u8])?;
-    }
-    Ok(octets)
-}
-
-/// A message as its fragments of `most` octets, each behind this front and the last behind another.
-fn in_fragments(
-    alloc: Global,
-    message: &[u8],
-    most: usize,
-    front: &[u8],
-    last: &[u8],
-) -> Result<Vec<u8>, Memory>
-    requires { 0 < most }
-{
-    let mut octets = Vec::new(alloc);
-    let mut rest = message;
-    for _ in 0..message.len() {
-        if rest.len() <= most {
-            break;
-        }
-        let (fragment, others) = rest.split_at(most);
-        octets.extend_from_slice(front)?;
-        octets.extend_from_slice(fragment)?;
-        rest = others;
-    }
-    octets.extend_from_slice(last)?;
-    octets.extend_from_slice(rest)?;
-    Ok(octets)
-}
-
-/// A link that asks for this, with a block of 1,903 octets, is answered so and ends, behind so many entries.
-fn is_answered<R: Wait + Clock>(
-    rt: &R,
-    alloc: Global,
-    asked: &[&[u8]],
-    answered: &[&[u8]],
-    entries: u64,
-) -> Result<bool, Memory> {
-    let octets = pattern(alloc, 1_903)?;
-    let site = Site {
-        octets: octets.as_slice(),
-        ..SITE
-    };
-    let served = serve(rt, alloc, &site, joined(alloc, asked)?, 8_192)?;
-    let output = joined(alloc, answered)?;
-    Ok(served.is(Outcome::Ended, output.as_slice(), entries))
-}
-
-/// The answer to the read of 1,902 bytes as its fragments of `most` octets, with these fronts.
-fn answer(alloc: Global, most: usize, front: &[u8], last: &[u8]) -> Result<Vec<u8>, Memory>
-    requires { 0 < most }
-{
-    let octets = pattern(alloc, 1_902)?;
-    let message = joined(alloc, &[ANSWER_HEAD, octets.as_slice()])?;
-    in_fragments(alloc, &message, most, front, last)
-}
-
-/// The front of a fragment of 1,021 octets that isn't the last, and of 899 octets that is.
-const FRONT_1021: &[u8] = b"\x03\x00\x04\x04\x02\xF0\x00";
-
-const LAST_899: &[u8] = b"\x03\x00\x03\x8A\x02\xF0\x80";
+# A write fills it.
+asked CONNECT SETUP WRITE_1021 0..993 LAST_899 993..1892
+answered CONFIRM GRANTED WRITTEN
+entries 1";
 
 #[test]
 fn the_greatest_pdu_is_used_whole(rt: HostRuntime) -> Result<(), Fail> {
-    let alloc = rt.alloc();
-    let asked = [CONNECT, SETUP, READ_1902];
-    let answer = answer(alloc, 1_021, FRONT_1021, LAST_899)?;
-    assert!(rt; is_answered(&rt, alloc, &asked, &[CONFIRM, GRANTED, &answer], 1)?);
-    Ok(())
-}
-
-#[test]
-fn a_small_tpdu_cuts_the_greatest_pdu(rt: HostRuntime) -> Result<(), Fail> {
-    let alloc = rt.alloc();
-    let asked = [CONNECT_128, SETUP, READ_1902];
-    // Fifteen fragments of 125 octets, and one of 45.
-    let front = b"\x03\x00\x00\x84\x02\xF0\x00";
-    let answer = answer(alloc, 125, front, b"\x03\x00\x00\x34\x02\xF0\x80")?;
-    assert!(rt; is_answered(&rt, alloc, &asked, &[CONFIRM_128, GRANTED, &answer], 1)?);
-    Ok(())
-}
-
-#[test]
-fn an_answer_past_the_greatest_pdu_is_refused(rt: HostRuntime) -> Result<(), Fail> {
-    let asked = [CONNECT, SETUP, READ_1903];
-    assert!(rt; is_answered(&rt, rt.alloc(), &asked, &[CONFIRM, GRANTED, OVER_PDU], 0)?);
-    Ok(())
-}
-
-/// A write of 1,892 bytes up to its octets, of which it states 15,136 bits: a message of 1,920.
-const WRITE_HEAD: &[u8] =
-    b"\x32\x01\x00\x00\x00\x06\x00\x0E\x07\x68\x05\x01\x12\x0A\x10\x02\x07\x64\x00\x01\x84\x00\x00\x00\x00\x04\x3B\x20";
-
-const WRITTEN: &[u8] =
-    b"\x03\x00\x00\x16\x02\xF0\x80\x32\x03\x00\x00\x00\x06\x00\x02\x00\x01\x00\x00\x05\x01\xFF";
-
-#[test]
-fn a_write_fills_the_greatest_pdu(rt: HostRuntime) -> Result<(), Fail> {
-    let alloc = rt.alloc();
-    let octets = pattern(alloc, 1_892)?;
-    let message = joined(alloc, &[WRITE_HEAD, octets.as_slice()])?;
-    let write = in_fragments(alloc, &message, 1_021, FRONT_1021, LAST_899)?;
-    let asked = [CONNECT, SETUP, &write];
-    assert!(rt; is_answered(&rt, alloc, &asked, &[CONFIRM, GRANTED, WRITTEN], 1)?);
-    Ok(())
+    all_hold(&rt, rt.alloc(), NAMES, FRAME, GREATEST, 8_192)
 }

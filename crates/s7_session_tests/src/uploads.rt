@@ -1,394 +1,221 @@
 // Uploads in several slices, and questions about blocks, from octets to octets.
-
-use crate::links::{CONNECT, SITE, Site, Talk, answers, in_packets, is_answered, serve};
-use crate::user_data::{GRANTED_64, SETUP_64};
-use s7_outer::Memory;
-use s7_session::Outcome;
-use std::alloc::Global;
-use std::sync::Wait;
+use crate::talks::all_hold;
 use std::test::Fail;
-use std::time::Clock;
 
-/// The octets of data block 1.
-const OCTETS: [u8; 20] = [
-    0x20, 0x21, 0x22, 0x23, 0x24, 0x25, 0x26, 0x27, 0x28, 0x29, 0x2A, 0x2B, 0x2C, 0x2D, 0x2E, 0x2F,
-    0x30, 0x31, 0x32, 0x33,
-];
+/// Messages in hex, by their names.
+const NAMES: &str = "\
+# The octets of data block 1.
+BLOCK 202122232425262728292A2B2C2D2E2F30313233
+# The upload of data block 1, whose image has 56 octets.
+START 320100000014001200001D00000000000000095F3041303030303141
+STARTED 3203000000140010000000001D000000000000010730303030303536
+# The next slice: 46 octets at PDU 64, and the last ten.
+SLICE 320100000015000800001E00000000000001
+SLICE_1 3203000000150002003200001E01002E00FB70700101050A0001000000380000000000000000000000000000000000000000\
+    0000001420212223242526272829
+SLICE_2 3203000000150002000E00001E00000A00FB2A2B2C2D2E2F30313233
+# There is none.
+NO_SLICE 320200000015000000008404
+# The end of the upload.
+END 320100000016000800001F00000000000001
+ENDED 3203000000160001000000001F
+# Two octets of the last ten are overwritten.
+WRITE 320100000017000E00060501120A1002000200018400008000040010AABB
+WRITTEN 3203000000170002000100000501FF
+# A PDU of 128 is negotiated.
+SETUP_128 32010000001800080000F000000100010080
+GRANTED_128 320300000018000800000000F000000100010080
+# The whole image in one slice.
+SLICE_WHOLE 3203000000150002003C00001E00003800FB70700101050A000100000038000000000000000000000000000000000000\
+    000000000014202122232425262728292A2B2C2D2E2F30313233
+# How many blocks there are of each kind: one data block.
+COUNT 3207000000190008000400011204114301000A000000
+COUNTED 320700000019000C0020000112081283010100000000FF09001C303800003041000130420000304300003044000030450000\
+    30460000
+# Which data blocks there are.
+LIST 32070000001A000800060001120411430200FF0900023041
+LISTED 32070000001A000C0008000112081283020200000000FF09000400010105
+# The head of data block 1, in two slices at PDU 64.
+INFO 32070000001B0008000C0001120411430300FF0900083041303030303141
+INFO_1 32070000001B000C002A000112081283030300010000FF0900263041002270700101050A0001000000380000000000000000\
+    0000000000000000000000000000
+INFO_FURTHER 32070000001C000C00040001120812430303000000000A000000
+INFO_2 32070000001C000C0006000112081283030300000000FF0900020014
+NO_FURTHER 32020000001C000000008404
+# There is no room for a further entry.
+FULL 320200000014000000008F01";
 
-/// The upload of data block 1, whose image has 56 octets.
-const START: &[u8] = b"\
-    \x32\x01\x00\x00\x00\x14\x00\x12\x00\x00\x1D\x00\x00\x00\x00\x00\x00\x00\x09\x5F\x30\x41\
-    \x30\x30\x30\x30\x31\x41";
+const UPLOADS: &str = "\
+block BLOCK
+asked CONNECT SETUP_64 SLICE START 3*SLICE END SLICE
+answered CONFIRM GRANTED_64 NO_SLICE STARTED SLICE_1 SLICE_2 NO_SLICE ENDED NO_SLICE
+entries 1
 
-const STARTED: &[u8] = b"\
-    \x32\x03\x00\x00\x00\x14\x00\x10\x00\x00\x00\x00\x1D\x00\x00\x00\x00\x00\x00\x01\x07\x30\
-    \x30\x30\x30\x30\x35\x36";
+# What is written between two slices isn't in them.
+block BLOCK
+asked CONNECT SETUP_64 START SLICE WRITE SLICE END
+answered CONFIRM GRANTED_64 STARTED SLICE_1 WRITTEN SLICE_2 ENDED
+entries 2
 
-/// The next slice: 46 octets at PDU 64, and the last ten.
-const SLICE: &[u8] = b"\x32\x01\x00\x00\x00\x15\x00\x08\x00\x00\x1E\x00\x00\x00\x00\x00\x00\x01";
+# A slice has the room of the PDU that is granted when it goes out.
+block BLOCK
+asked CONNECT SETUP_64 START SETUP_128 SLICE
+answered CONFIRM GRANTED_64 STARTED GRANTED_128 SLICE_WHOLE
+entries 1
 
-const SLICE_1: &[u8] = b"\
-    \x32\x03\x00\x00\x00\x15\x00\x02\x00\x32\x00\x00\x1E\x01\x00\x2E\x00\xFB\x70\x70\x01\x01\
-    \x05\x0A\x00\x01\x00\x00\x00\x38\x00\x00\x00\x00\x00\x00\x00\x00\x00\x00\x00\x00\x00\x00\
-    \x00\x00\x00\x00\x00\x00\x00\x00\x00\x14\x20\x21\x22\x23\x24\x25\x26\x27\x28\x29";
-
-const SLICE_2: &[u8] = b"\
-    \x32\x03\x00\x00\x00\x15\x00\x02\x00\x0E\x00\x00\x1E\x00\x00\x0A\x00\xFB\x2A\x2B\x2C\x2D\
-    \x2E\x2F\x30\x31\x32\x33";
-
-/// There is none.
-const NO_SLICE: &[u8] = b"\x32\x02\x00\x00\x00\x15\x00\x00\x00\x00\x84\x04";
-
-/// The end of the upload.
-const END: &[u8] = b"\x32\x01\x00\x00\x00\x16\x00\x08\x00\x00\x1F\x00\x00\x00\x00\x00\x00\x01";
-
-const ENDED: &[u8] = b"\x32\x03\x00\x00\x00\x16\x00\x01\x00\x00\x00\x00\x1F";
-
-/// Two octets of the last ten are overwritten.
-const WRITE: &[u8] = b"\
-    \x32\x01\x00\x00\x00\x17\x00\x0E\x00\x06\x05\x01\x12\x0A\x10\x02\x00\x02\x00\x01\x84\x00\
-    \x00\x80\x00\x04\x00\x10\xAA\xBB";
-
-const WRITTEN: &[u8] = b"\x32\x03\x00\x00\x00\x17\x00\x02\x00\x01\x00\x00\x05\x01\xFF";
-
-/// A PDU of 128 is negotiated.
-const SETUP_128: &[u8] =
-    b"\x32\x01\x00\x00\x00\x18\x00\x08\x00\x00\xF0\x00\x00\x01\x00\x01\x00\x80";
-
-const GRANTED_128: &[u8] =
-    b"\x32\x03\x00\x00\x00\x18\x00\x08\x00\x00\x00\x00\xF0\x00\x00\x01\x00\x01\x00\x80";
-
-/// The whole image in one slice.
-const SLICE_WHOLE: &[u8] = b"\
-    \x32\x03\x00\x00\x00\x15\x00\x02\x00\x3C\x00\x00\x1E\x00\x00\x38\x00\xFB\x70\x70\x01\x01\
-    \x05\x0A\x00\x01\x00\x00\x00\x38\x00\x00\x00\x00\x00\x00\x00\x00\x00\x00\x00\x00\x00\x00\
-    \x00\x00\x00\x00\x00\x00\x00\x00\x00\x14\x20\x21\x22\x23\x24\x25\x26\x27\x28\x29\x2A\x2B\
-    \x2C\x2D\x2E\x2F\x30\x31\x32\x33";
-
-/// How many blocks there are of each kind: one data block.
-const COUNT: &[u8] =
-    b"\x32\x07\x00\x00\x00\x19\x00\x08\x00\x04\x00\x01\x12\x04\x11\x43\x01\x00\x0A\x00\x00\x00";
-
-const COUNTED: &[u8] = b"\
-    \x32\x07\x00\x00\x00\x19\x00\x0C\x00\x20\x00\x01\x12\x08\x12\x83\x01\x01\x00\x00\x00\x00\
-    \xFF\x09\x00\x1C\x30\x38\x00\x00\x30\x41\x00\x01\x30\x42\x00\x00\x30\x43\x00\x00\x30\x44\
-    \x00\x00\x30\x45\x00\x00\x30\x46\x00\x00";
-
-/// Which data blocks there are.
-const LIST: &[u8] = b"\
-    \x32\x07\x00\x00\x00\x1A\x00\x08\x00\x06\x00\x01\x12\x04\x11\x43\x02\x00\xFF\x09\x00\x02\
-    \x30\x41";
-
-const LISTED: &[u8] = b"\
-    \x32\x07\x00\x00\x00\x1A\x00\x0C\x00\x08\x00\x01\x12\x08\x12\x83\x02\x02\x00\x00\x00\x00\
-    \xFF\x09\x00\x04\x00\x01\x01\x05";
-
-/// The head of data block 1, in two slices at PDU 64.
-const INFO: &[u8] = b"\
-    \x32\x07\x00\x00\x00\x1B\x00\x08\x00\x0C\x00\x01\x12\x04\x11\x43\x03\x00\xFF\x09\x00\x08\
-    \x30\x41\x30\x30\x30\x30\x31\x41";
-
-const INFO_1: &[u8] = b"\
-    \x32\x07\x00\x00\x00\x1B\x00\x0C\x00\x2A\x00\x01\x12\x08\x12\x83\x03\x03\x00\x01\x00\x00\
-    \xFF\x09\x00\x26\x30\x41\x00\x22\x70\x70\x01\x01\x05\x0A\x00\x01\x00\x00\x00\x38\x00\x00\
-    \x00\x00\x00\x00\x00\x00\x00\x00\x00\x00\x00\x00\x00\x00\x00\x00\x00\x00\x00\x00";
-
-const INFO_FURTHER: &[u8] = b"\
-    \x32\x07\x00\x00\x00\x1C\x00\x0C\x00\x04\x00\x01\x12\x08\x12\x43\x03\x03\x00\x00\x00\x00\
-    \x0A\x00\x00\x00";
-
-const INFO_2: &[u8] = b"\
-    \x32\x07\x00\x00\x00\x1C\x00\x0C\x00\x06\x00\x01\x12\x08\x12\x83\x03\x03\x00\x00\x00\x00\
-    \xFF\x09\x00\x02\x00\x14";
-
-const NO_FURTHER: &[u8] = b"\x32\x02\x00\x00\x00\x1C\x00\x00\x00\x00\x84\x04";
-
-/// There is no room for a further entry.
-const FULL: &[u8] = b"\x32\x02\x00\x00\x00\x14\x00\x00\x00\x00\x8F\x01";
-
-/// That data block, with room for nine entries, for one, and for 256.
-const LONGER: Site<'static> = Site {
-    octets: &OCTETS,
-    ..SITE
-};
-
-const FULL_AT_1: Site<'static> = Site { room: 1, ..LONGER };
-
-const FULL_AT_256: Site<'static> = Site {
-    room: 256,
-    ..LONGER
-};
-
-const UPLOADS: &[Talk<'static>] = &[
-    Talk {
-        site: LONGER,
-        asked: &[SETUP_64, SLICE, START, SLICE, SLICE, SLICE, END, SLICE],
-        answered: &[
-            GRANTED_64, NO_SLICE, STARTED, SLICE_1, SLICE_2, NO_SLICE, ENDED, NO_SLICE,
-        ],
-        entries: 1,
-    },
-    // What is written between two slices isn't in them.
-    Talk {
-        site: LONGER,
-        asked: &[SETUP_64, START, SLICE, WRITE, SLICE, END],
-        answered: &[GRANTED_64, STARTED, SLICE_1, WRITTEN, SLICE_2, ENDED],
-        entries: 2,
-    },
-    // A slice has the room of the PDU that is granted when it goes out.
-    Talk {
-        site: LONGER,
-        asked: &[SETUP_64, START, SETUP_128, SLICE],
-        answered: &[GRANTED_64, STARTED, GRANTED_128, SLICE_WHOLE],
-        entries: 1,
-    },
-    // The history is full: no upload is started, and none is dropped.
-    Talk {
-        site: FULL_AT_1,
-        asked: &[SETUP_64, START, START, SLICE, SLICE, END],
-        answered: &[GRANTED_64, STARTED, FULL, SLICE_1, SLICE_2, ENDED],
-        entries: 1,
-    },
-];
+# The history is full: no upload is started, and none is dropped.
+block BLOCK
+room 1
+asked CONNECT SETUP_64 2*START 2*SLICE END
+answered CONFIRM GRANTED_64 STARTED FULL SLICE_1 SLICE_2 ENDED
+entries 1";
 
 #[test]
 fn an_upload_goes_slice_by_slice(rt: HostRuntime) -> Result<(), Fail> {
-    answers(&rt, rt.alloc(), UPLOADS)
+    all_hold(&rt, rt.alloc(), NAMES, "", UPLOADS, 8_192)
 }
 
-const QUESTIONS: Talk<'static> = Talk {
-    site: LONGER,
-    asked: &[SETUP_64, COUNT, LIST, INFO, INFO_FURTHER, INFO_FURTHER],
-    answered: &[GRANTED_64, COUNTED, LISTED, INFO_1, INFO_2, NO_FURTHER],
-    entries: 3,
-};
+const QUESTIONS: &str = "\
+block BLOCK
+asked CONNECT SETUP_64 COUNT LIST INFO 2*INFO_FURTHER
+answered CONFIRM GRANTED_64 COUNTED LISTED INFO_1 INFO_2 NO_FURTHER
+entries 3";
 
 #[test]
 fn blocks_are_counted_listed_and_told(rt: HostRuntime) -> Result<(), Fail> {
-    assert!(rt; is_answered(&rt, rt.alloc(), &QUESTIONS)?);
-    Ok(())
+    all_hold(&rt, rt.alloc(), NAMES, "", QUESTIONS, 8_192)
 }
 
-const NAMELESS: &[(&[u8], &[u8])] = &[
-    // A start with a data part, with an octet more, of a wrong octet 00, place and first octet.
-    (
-        b"\
-            \x32\x01\x00\x00\x00\x31\x00\x12\x00\x01\x1D\x00\x00\x00\x00\x00\x00\x00\x09\x5F\x30\x41\
-            \x30\x30\x30\x30\x31\x41\x00",
-        b"\x32\x02\x00\x00\x00\x31\x00\x00\x00\x00\x84\x04",
-    ),
-    (
-        b"\
-            \x32\x01\x00\x00\x00\x31\x00\x13\x00\x00\x1D\x00\x00\x00\x00\x00\x00\x00\x09\x5F\x30\x41\
-            \x30\x30\x30\x30\x31\x41\x00",
-        b"\x32\x02\x00\x00\x00\x31\x00\x00\x00\x00\x84\x04",
-    ),
-    (
-        b"\
-            \x32\x01\x00\x00\x00\x31\x00\x12\x00\x00\x1D\x00\x00\x00\x00\x00\x00\x01\x09\x5F\x30\x41\
-            \x30\x30\x30\x30\x31\x41",
-        b"\x32\x02\x00\x00\x00\x31\x00\x00\x00\x00\x84\x04",
-    ),
-    (
-        b"\
-            \x32\x01\x00\x00\x00\x31\x00\x12\x00\x00\x1D\x00\x00\x00\x00\x00\x00\x00\x09\x5F\x30\x41\
-            \x30\x30\x30\x30\x31\x50",
-        b"\x32\x02\x00\x00\x00\x31\x00\x00\x00\x00\x84\x04",
-    ),
-    (
-        b"\
-            \x32\x01\x00\x00\x00\x31\x00\x12\x00\x00\x1D\x00\x00\x00\x00\x00\x00\x00\x09\x5E\x30\x41\
-            \x30\x30\x30\x30\x31\x41",
-        b"\x32\x02\x00\x00\x00\x31\x00\x00\x00\x00\x84\x04",
-    ),
-    // There is no kind 40, and the number is 65,536.
-    (
-        b"\
-            \x32\x01\x00\x00\x00\x31\x00\x12\x00\x00\x1D\x00\x00\x00\x00\x00\x00\x00\x09\x5F\x30\x40\
-            \x30\x30\x30\x30\x31\x41",
-        b"\x32\x02\x00\x00\x00\x31\x00\x00\x00\x00\x84\x04",
-    ),
-    (
-        b"\
-            \x32\x01\x00\x00\x00\x31\x00\x12\x00\x00\x1D\x00\x00\x00\x00\x00\x00\x00\x09\x5F\x30\x41\
-            \x36\x35\x35\x33\x36\x41",
-        b"\x32\x02\x00\x00\x00\x31\x00\x00\x00\x00\x84\x04",
-    ),
-    // Slices and ends of the ids 00, 02 and FF, with a data part, and of another length.
-    (
-        b"\x32\x01\x00\x00\x00\x32\x00\x08\x00\x00\x1E\x00\x00\x00\x00\x00\x00\x00",
-        b"\x32\x02\x00\x00\x00\x32\x00\x00\x00\x00\x84\x04",
-    ),
-    (
-        b"\x32\x01\x00\x00\x00\x32\x00\x08\x00\x00\x1E\x00\x00\x00\x00\x00\x00\x02",
-        b"\x32\x02\x00\x00\x00\x32\x00\x00\x00\x00\x84\x04",
-    ),
-    (
-        b"\x32\x01\x00\x00\x00\x32\x00\x08\x00\x00\x1E\x00\x00\x00\x00\x00\x00\xFF",
-        b"\x32\x02\x00\x00\x00\x32\x00\x00\x00\x00\x84\x04",
-    ),
-    (
-        b"\x32\x01\x00\x00\x00\x32\x00\x08\x00\x01\x1E\x00\x00\x00\x00\x00\x00\x01\x00",
-        b"\x32\x02\x00\x00\x00\x32\x00\x00\x00\x00\x84\x04",
-    ),
-    (
-        b"\x32\x01\x00\x00\x00\x32\x00\x09\x00\x00\x1E\x00\x00\x00\x00\x00\x00\x01\x00",
-        b"\x32\x02\x00\x00\x00\x32\x00\x00\x00\x00\x84\x04",
-    ),
-    (
-        b"\x32\x01\x00\x00\x00\x32\x00\x08\x00\x00\x1E\x00\x00\x01\x00\x00\x00\x01",
-        b"\x32\x02\x00\x00\x00\x32\x00\x00\x00\x00\x84\x04",
-    ),
-    (
-        b"\x32\x01\x00\x00\x00\x33\x00\x08\x00\x00\x1F\x00\x00\x00\x00\x00\x00\x00",
-        b"\x32\x02\x00\x00\x00\x33\x00\x00\x00\x00\x84\x04",
-    ),
-    (
-        b"\x32\x01\x00\x00\x00\x33\x00\x08\x00\x00\x1F\x00\x00\x00\x00\x00\x00\xFF",
-        b"\x32\x02\x00\x00\x00\x33\x00\x00\x00\x00\x84\x04",
-    ),
-    (
-        b"\x32\x01\x00\x00\x00\x33\x00\x08\x00\x01\x1F\x00\x00\x00\x00\x00\x00\x01\x00",
-        b"\x32\x02\x00\x00\x00\x33\x00\x00\x00\x00\x84\x04",
-    ),
-    (
-        b"\x32\x01\x00\x00\x00\x33\x00\x07\x00\x00\x1F\x00\x00\x00\x00\x00\x00",
-        b"\x32\x02\x00\x00\x00\x33\x00\x00\x00\x00\x84\x04",
-    ),
-    // The server's own functions aren't a client's.
-    (
-        b"\
-            \x32\x01\x00\x00\x00\x34\x00\x12\x00\x00\x1B\x00\x00\x00\x00\x00\x00\x00\x09\x5F\x30\x41\
-            \x30\x30\x30\x30\x31\x41",
-        b"\x32\x02\x00\x00\x00\x34\x00\x00\x00\x00\x81\x04",
-    ),
-    (
-        b"\
-            \x32\x01\x00\x00\x00\x34\x00\x12\x00\x00\x1C\x00\x00\x00\x00\x00\x00\x00\x09\x5F\x30\x41\
-            \x30\x30\x30\x30\x31\x41",
-        b"\x32\x02\x00\x00\x00\x34\x00\x00\x00\x00\x81\x04",
-    ),
-    // An insert of what wasn't downloaded, also of a data block, and a delete of one.
-    (
-        b"\
-            \x32\x01\x00\x00\x00\x35\x00\x1A\x00\x00\x28\x00\x00\x00\x00\x00\x00\xFD\x00\x0A\x01\x00\
-            \x30\x43\x30\x30\x30\x30\x35\x50\x05\x5F\x49\x4E\x53\x45",
-        b"\x32\x02\x00\x00\x00\x35\x00\x00\x00\x00\x8F\x03",
-    ),
-    (
-        b"\
-            \x32\x01\x00\x00\x00\x35\x00\x1A\x00\x00\x28\x00\x00\x00\x00\x00\x00\xFD\x00\x0A\x01\x00\
-            \x30\x41\x30\x30\x30\x30\x31\x50\x05\x5F\x49\x4E\x53\x45",
-        b"\x32\x02\x00\x00\x00\x35\x00\x00\x00\x00\x8F\x03",
-    ),
-    (
-        b"\
-            \x32\x01\x00\x00\x00\x35\x00\x1A\x00\x00\x28\x00\x00\x00\x00\x00\x00\xFD\x00\x0A\x01\x00\
-            \x30\x41\x30\x30\x30\x30\x31\x42\x05\x5F\x44\x45\x4C\x45",
-        b"\x32\x02\x00\x00\x00\x35\x00\x00\x00\x00\x8F\x03",
-    ),
-    // They have a data part.
-    (
-        b"\
-            \x32\x01\x00\x00\x00\x35\x00\x1A\x00\x01\x28\x00\x00\x00\x00\x00\x00\xFD\x00\x0A\x01\x00\
-            \x30\x43\x30\x30\x30\x30\x35\x50\x05\x5F\x49\x4E\x53\x45\x00",
-        b"\x32\x02\x00\x00\x00\x35\x00\x00\x00\x00\x84\x04",
-    ),
-    (
-        b"\
-            \x32\x01\x00\x00\x00\x35\x00\x1A\x00\x01\x28\x00\x00\x00\x00\x00\x00\xFD\x00\x0A\x01\x00\
-            \x30\x43\x30\x30\x30\x30\x35\x42\x05\x5F\x44\x45\x4C\x45\x00",
-        b"\x32\x02\x00\x00\x00\x35\x00\x00\x00\x00\x84\x04",
-    ),
-    // An answer that the server awaits none of.
-    (
-        b"\x32\x03\x00\x00\x00\x01\x00\x01\x00\x00\x00\x00\x1C",
-        b"\x32\x02\x00\x00\x00\x01\x00\x00\x00\x00\x81\x04",
-    ),
-    // Lists of kinds that there aren't, and heads of such blocks.
-    (
-        b"\
-            \x32\x07\x00\x00\x00\x36\x00\x08\x00\x06\x00\x01\x12\x04\x11\x43\x02\x00\xFF\x09\x00\x02\
-            \x30\x40",
-        b"\x32\x02\x00\x00\x00\x36\x00\x00\x00\x00\x84\x04",
-    ),
-    (
-        b"\
-            \x32\x07\x00\x00\x00\x36\x00\x08\x00\x06\x00\x01\x12\x04\x11\x43\x02\x00\xFF\x09\x00\x02\
-            \x31\x41",
-        b"\x32\x02\x00\x00\x00\x36\x00\x00\x00\x00\x84\x04",
-    ),
-    (
-        b"\
-            \x32\x07\x00\x00\x00\x36\x00\x08\x00\x05\x00\x01\x12\x04\x11\x43\x02\x00\xFF\x09\x00\x01\
-            \x30",
-        b"\x32\x02\x00\x00\x00\x36\x00\x00\x00\x00\x84\x04",
-    ),
-    (
-        b"\
-            \x32\x07\x00\x00\x00\x36\x00\x08\x00\x0C\x00\x01\x12\x04\x11\x43\x03\x00\xFF\x09\x00\x08\
-            \x30\x47\x30\x30\x30\x30\x31\x41",
-        b"\x32\x02\x00\x00\x00\x36\x00\x00\x00\x00\x84\x04",
-    ),
-    (
-        b"\
-            \x32\x07\x00\x00\x00\x36\x00\x08\x00\x0C\x00\x01\x12\x04\x11\x43\x03\x00\xFF\x09\x00\x08\
-            \x30\x41\x36\x35\x35\x33\x36\x41",
-        b"\x32\x02\x00\x00\x00\x36\x00\x00\x00\x00\x84\x04",
-    ),
-    (
-        b"\
-            \x32\x07\x00\x00\x00\x36\x00\x08\x00\x0C\x00\x01\x12\x04\x11\x43\x03\x00\xFF\x09\x00\x08\
-            \x30\x41\x30\x30\x30\x30\x31\x50",
-        b"\x32\x02\x00\x00\x00\x36\x00\x00\x00\x00\x84\x04",
-    ),
-    // Another subfunction of blocks.
-    (
-        b"\x32\x07\x00\x00\x00\x36\x00\x08\x00\x04\x00\x01\x12\x04\x11\x43\x04\x00\x0A\x00\x00\x00",
-        b"\x32\x02\x00\x00\x00\x36\x00\x00\x00\x00\x81\x04",
-    ),
-];
+/// What is refused between the start and a slice of an upload leaves the upload.
+const REFUSED: &str = "\
+asked CONNECT SETUP_64 START ODD SLICE
+answered CONFIRM GRANTED_64 STARTED REFUSAL SLICE_1
+block BLOCK
+entries 1";
 
-/// What is asked for so is refused so, and the upload goes on.
-fn refuses<R: Wait + Clock>(
-    rt: &R,
-    alloc: Global,
-    asked: &[u8],
-    answered: &[u8],
-) -> Result<bool, Memory> {
-    let talk = Talk {
-        site: LONGER,
-        asked: &[SETUP_64, START, asked, SLICE],
-        answered: &[GRANTED_64, STARTED, answered, SLICE_1],
-        entries: 1,
-    };
-    is_answered(rt, alloc, &talk)
-}
+/// What is asked, and its refusal.
+const NAMELESS: &str = "\
+# A start with a data part, with an octet more, of a wrong octet 00, place and first octet.
+ODD 320100000031001200011D00000000000000095F304130303030314100
+REFUSAL 320200000031000000008404
+
+ODD 320100000031001300001D00000000000000095F304130303030314100
+REFUSAL 320200000031000000008404
+
+ODD 320100000031001200001D00000000000001095F3041303030303141
+REFUSAL 320200000031000000008404
+
+ODD 320100000031001200001D00000000000000095F3041303030303150
+REFUSAL 320200000031000000008404
+
+ODD 320100000031001200001D00000000000000095E3041303030303141
+REFUSAL 320200000031000000008404
+
+# There is no kind 40, and the number is 65,536.
+ODD 320100000031001200001D00000000000000095F3040303030303141
+REFUSAL 320200000031000000008404
+
+ODD 320100000031001200001D00000000000000095F3041363535333641
+REFUSAL 320200000031000000008404
+
+# Slices and ends of the ids 00, 02 and FF, with a data part, and of another length.
+ODD 320100000032000800001E00000000000000
+REFUSAL 320200000032000000008404
+
+ODD 320100000032000800001E00000000000002
+REFUSAL 320200000032000000008404
+
+ODD 320100000032000800001E000000000000FF
+REFUSAL 320200000032000000008404
+
+ODD 320100000032000800011E0000000000000100
+REFUSAL 320200000032000000008404
+
+ODD 320100000032000900001E0000000000000100
+REFUSAL 320200000032000000008404
+
+ODD 320100000032000800001E00000100000001
+REFUSAL 320200000032000000008404
+
+ODD 320100000033000800001F00000000000000
+REFUSAL 320200000033000000008404
+
+ODD 320100000033000800001F000000000000FF
+REFUSAL 320200000033000000008404
+
+ODD 320100000033000800011F0000000000000100
+REFUSAL 320200000033000000008404
+
+ODD 320100000033000700001F000000000000
+REFUSAL 320200000033000000008404
+
+# The server's own functions aren't a client's.
+ODD 320100000034001200001B00000000000000095F3041303030303141
+REFUSAL 320200000034000000008104
+
+ODD 320100000034001200001C00000000000000095F3041303030303141
+REFUSAL 320200000034000000008104
+
+# An insert of what wasn't downloaded, also of a data block, and a delete of one.
+ODD 320100000035001A000028000000000000FD000A01003043303030303550055F494E5345
+REFUSAL 320200000035000000008F03
+
+ODD 320100000035001A000028000000000000FD000A01003041303030303150055F494E5345
+REFUSAL 320200000035000000008F03
+
+ODD 320100000035001A000028000000000000FD000A01003041303030303142055F44454C45
+REFUSAL 320200000035000000008F03
+
+# They have a data part.
+ODD 320100000035001A000128000000000000FD000A01003043303030303550055F494E534500
+REFUSAL 320200000035000000008404
+
+ODD 320100000035001A000128000000000000FD000A01003043303030303542055F44454C4500
+REFUSAL 320200000035000000008404
+
+# An answer that the server awaits none of.
+ODD 3203000000010001000000001C
+REFUSAL 320200000001000000008104
+
+# Lists of kinds that there aren't, and heads of such blocks.
+ODD 320700000036000800060001120411430200FF0900023040
+REFUSAL 320200000036000000008404
+
+ODD 320700000036000800060001120411430200FF0900023141
+REFUSAL 320200000036000000008404
+
+ODD 320700000036000800050001120411430200FF09000130
+REFUSAL 320200000036000000008404
+
+ODD 3207000000360008000C0001120411430300FF0900083047303030303141
+REFUSAL 320200000036000000008404
+
+ODD 3207000000360008000C0001120411430300FF0900083041363535333641
+REFUSAL 320200000036000000008404
+
+ODD 3207000000360008000C0001120411430300FF0900083041303030303150
+REFUSAL 320200000036000000008404
+
+# Another subfunction of blocks.
+ODD 3207000000360008000400011204114304000A000000
+REFUSAL 320200000036000000008104";
 
 #[test]
 fn what_names_no_block_is_refused(rt: HostRuntime) -> Result<(), Fail> {
-    for (k, (asked, answered)) in NAMELESS.iter().enumerate() {
-        assert!(rt; refuses(&rt, rt.alloc(), asked, answered)?, "row {k}");
-    }
-    Ok(())
+    all_hold(&rt, rt.alloc(), NAMES, REFUSED, NAMELESS, 8_192)
 }
 
-/// The upload is started so often, and a slice asked for.
-fn started_often(alloc: Global, times: u32) -> Result<Vec<u8>, Memory> {
-    let mut input = in_packets(alloc, CONNECT, &[SETUP_64])?;
-    let start = in_packets(alloc, &[], &[START])?;
-    for _ in 0..times {
-        input.extend_from_slice(&start)?;
-    }
-    input.extend_from_slice(&in_packets(alloc, &[], &[SLICE])?)?;
-    Ok(input)
-}
+/// The last answer to 256 starts has the id 01 again.
+const OFTEN: &str = "\
+asked CONNECT SETUP_64 256*START SLICE
+answered STARTED SLICE_1
+# The confirm, the grant, and 255 answers of 35 octets.
+behind 8974
+block BLOCK
+room 256
+entries 256";
 
 #[test]
 fn ids_of_uploads_go_from_ff_to_01(rt: HostRuntime) -> Result<(), Fail> {
-    let input = started_often(rt.alloc(), 256)?;
-    let served = serve(&rt, rt.alloc(), &FULL_AT_256, input, 8_192)?;
-    let last = in_packets(rt.alloc(), &[], &[STARTED, SLICE_1])?;
-    assert!(rt; served.outcome == Outcome::Ended && served.output.ends_with(&last));
-    Ok(())
+    all_hold(&rt, rt.alloc(), NAMES, "", OFTEN, 8_192)
 }

@@ -1,547 +1,257 @@
 // Status lists, the clock and control, from octets to octets.
-
-use crate::links::{SITE, SITE_2, Site, Talk, answers, is_answered};
-use s7_outer::{Fate, Memory};
-use std::alloc::Global;
-use std::sync::Wait;
+use crate::talks::all_hold;
 use std::test::Fail;
-use std::time::Clock;
 
-/// A PDU of 240 is negotiated, of 128, and of 64.
-const SETUP: &[u8] = b"\x32\x01\x00\x00\x00\x04\x00\x08\x00\x00\xF0\x00\x00\x01\x00\x01\x00\xF0";
+/// Messages in hex, by their names.
+const NAMES: &str = "\
+# A PDU of 240 is negotiated, of 128, and of 64.
+SETUP 32010000000400080000F0000001000100F0
+GRANTED 320300000004000800000000F0000001000100F0
+SETUP_128 32010000000400080000F000000100010080
+GRANTED_128 320300000004000800000000F000000100010080
+# The read of data block 1.
+READ 320100000005000E00000401120A10020004000184000000
+READ_ANSWER 3203000000050002000800000401FF04002011223344
+# List 001C at index 0 is read, and its further slices.
+LIST 32070000000A000800080001120411440100FF090004001C0000
+FURTHER 32070000000B000C00040001120812440101000000000A000000
+# List 0999 is read, which there is not.
+NO_LIST 32070000000C000800080001120411440100FF09000409990000
+NO_LIST_ANSWER 32070000000C000C000400011208128401010000D4010A000000
+# The clock is read, at the moment 1,709,214,330,123.
+CLOCK_READ 32070000000B0008000400011204114701000A000000
+CLOCK_ANSWER 32070000000B000C000E000112081287010100000000FF09000A00192402291345301235
+# The clock is set to the first moment of 2000, a Saturday, and read then.
+CLOCK_SET 32070000000C0008000E0001120411470200FF09000A00190001010000000007
+CLOCK_SET_ANSWER 32070000000C000C00040001120812870201000000000A000000
+CLOCK_ANSWER_AFTER 32070000000B000C000E000112081287010200000000FF09000A00190001010000000007
+# The controller stops, twice, and starts.
+STOP 32010000000D0010000029000000000009505F50524F4752414D
+STOPPED 32030000000D0002000000002900
+STOP_AGAIN 32010000000E0010000029000000000009505F50524F4752414D
+STOPPED_ALREADY 32030000000E0002000000002907
+START 32010000000F0014000028000000000000FD000009505F50524F4752414D
+STARTED 32030000000F0002000000002800
+# The answer with the whole list, and those with its slices where the PDU is 128.
+WHOLE 32070000000A000C00D8000112081284010100000000FF0900D4001C0000002200060001533753455256455200000000000000\
+    000000000000000000000000000000000000024152454120424F4F4B000000000000000000000000000000000000000000000000\
+    03000000000000000000000000000000000000000000000000000000000000000000044F50454E00000000000000000000000000\
+    00000000000000000000000000000000053030303030303030303100000000000000000000000000000000000000000000000753\
+    3753455256455220504C430000000000000000000000000000000000000000
+FIRST 32070000000A000C006A000112081284010100010000FF090066001C0000002200060001533753455256455200000000000000\
+    000000000000000000000000000000000000024152454120424F4F4B000000000000000000000000000000000000000000000000\
+    03000000000000000000000000000000000000000000000000
+SECOND 32070000000B000C006A000112081284010100010000FF090066000000000000000000044F50454E00000000000000000000\
+    00000000000000000000000000000000000000053030303030303030303100000000000000000000000000000000000000000000\
+    0007533753455256455220504C43000000000000000000000000
+THIRD 32070000000B000C000C000112081284010100000000FF0900080000000000000000
+# The second where the PDU is 64 then.
+AT_64 32070000000B000C002A000112081284010100010000FF090026000000000000000000044F50454E0000000000000000000000\
+    00000000000000000000000000
+# The refusal of a further slice.
+NOT_HELD 32020000000B000000008404
+# That of the subfunction 02 of the group, and its refusal.
+UNKNOWN_FURTHER 32070000000B000C00040001120812440201000000000A000000
+UNKNOWN 32020000000B000000008104
+# The further slice, with octets of unit, last unit and error that are passed over.
+LOUD_FURTHER 32070000000B000C000400011208124401010701D4010A000000
+# The answers of the clock and of a list that there is not, behind another answer.
+CLOCK_ANSWER_2 32070000000B000C000E000112081287010200000000FF09000A00192402291345301235
+NO_LIST_ANSWER_2 32070000000C000C000400011208128401020000D4010A000000
+# A right is cleared where nothing guards the areas, behind another answer too.
+CLEAR 3207000000210008000400011204114502000A000000
+CLEAR_ANSWER_2 320700000021000C000400011208128502020000D6050A000000
+# The refusal where the clock failed.
+CLOCK_FAILED 32020000000B000000008F02
+# That where there is no room for an entry, and a set of the clock without a date.
+NO_ROOM 32020000000B000000008F01
+NO_DATE 32070000000B0008000400011204114702000A000000";
 
-const GRANTED: &[u8] =
-    b"\x32\x03\x00\x00\x00\x04\x00\x08\x00\x00\x00\x00\xF0\x00\x00\x01\x00\x01\x00\xF0";
+const CLOCK: &str = "\
+asked CONNECT SETUP CLOCK_READ
+answered CONFIRM GRANTED CLOCK_ANSWER
+entries 1
 
-const SETUP_128: &[u8] =
-    b"\x32\x01\x00\x00\x00\x04\x00\x08\x00\x00\xF0\x00\x00\x01\x00\x01\x00\x80";
+# Without data.
+asked CONNECT SETUP 32070000000B000800000001120411470100
+answered CONFIRM GRANTED CLOCK_ANSWER
+entries 1
 
-const GRANTED_128: &[u8] =
-    b"\x32\x03\x00\x00\x00\x04\x00\x08\x00\x00\x00\x00\xF0\x00\x00\x01\x00\x01\x00\x80";
+asked CONNECT SETUP CLOCK_SET CLOCK_READ
+answered CONFIRM GRANTED CLOCK_SET_ANSWER CLOCK_ANSWER_AFTER
+entries 2
 
-pub(crate) const SETUP_64: &[u8] =
-    b"\x32\x01\x00\x00\x00\x04\x00\x08\x00\x00\xF0\x00\x00\x01\x00\x01\x00\x40";
+# Without a right.
+level 2
+asked CONNECT SETUP CLOCK_SET CLOCK_READ
+answered CONFIRM GRANTED 32070000000C000C000400011208128702010000D2410A000000 \
+    32070000000B000C000E000112081287010200000000FF09000A00192402291345301235
+entries 2
 
-pub(crate) const GRANTED_64: &[u8] =
-    b"\x32\x03\x00\x00\x00\x04\x00\x08\x00\x00\x00\x00\xF0\x00\x00\x01\x00\x01\x00\x40";
-
-/// The read of data block 1.
-const READ: &[u8] = b"\
-    \x32\x01\x00\x00\x00\x05\x00\x0E\x00\x00\
-    \x04\x01\x12\x0A\x10\x02\x00\x04\x00\x01\x84\x00\x00\x00";
-
-const READ_ANSWER: &[u8] = b"\
-    \x32\x03\x00\x00\x00\x05\x00\x02\x00\x08\x00\x00\
-    \x04\x01\xFF\x04\x00\x20\x11\x22\x33\x44";
-
-/// List 001C at index 0 is read, and its further slices.
-const LIST: &[u8] = b"\
-    \x32\x07\x00\x00\x00\x0A\x00\x08\x00\x08\x00\x01\x12\x04\x11\x44\x01\x00\
-    \xFF\x09\x00\x04\x00\x1C\x00\x00";
-
-const FURTHER: &[u8] = b"\
-        \x32\x07\x00\x00\x00\x0B\x00\x0C\x00\x04\
-        \x00\x01\x12\x08\x12\x44\x01\x01\x00\x00\x00\x00\x0A\x00\x00\x00";
-
-/// List 0999 is read, which there is not.
-const NO_LIST: &[u8] = b"\
-    \x32\x07\x00\x00\x00\x0C\x00\x08\x00\x08\x00\x01\x12\x04\x11\x44\x01\x00\
-    \xFF\x09\x00\x04\x09\x99\x00\x00";
-
-const NO_LIST_ANSWER: &[u8] = b"\
-        \x32\x07\x00\x00\x00\x0C\x00\x0C\x00\x04\
-        \x00\x01\x12\x08\x12\x84\x01\x01\x00\x00\xD4\x01\x0A\x00\x00\x00";
-
-/// The clock is read, at the moment 1,709,214,330,123.
-const CLOCK_READ: &[u8] =
-    b"\x32\x07\x00\x00\x00\x0B\x00\x08\x00\x04\x00\x01\x12\x04\x11\x47\x01\x00\x0A\x00\x00\x00";
-
-const CLOCK_ANSWER: &[u8] = b"\
-    \x32\x07\x00\x00\x00\x0B\x00\x0C\x00\x0E\x00\x01\x12\x08\x12\x87\x01\x01\x00\x00\x00\x00\
-    \xFF\x09\x00\x0A\x00\x19\x24\x02\x29\x13\x45\x30\x12\x35";
-
-/// The clock is set to the first moment of 2000, a Saturday, and read then.
-const CLOCK_SET: &[u8] = b"\
-    \x32\x07\x00\x00\x00\x0C\x00\x08\x00\x0E\x00\x01\x12\x04\x11\x47\x02\x00\
-    \xFF\x09\x00\x0A\x00\x19\x00\x01\x01\x00\x00\x00\x00\x07";
-
-const CLOCK_SET_ANSWER: &[u8] = b"\
-        \x32\x07\x00\x00\x00\x0C\x00\x0C\x00\x04\
-        \x00\x01\x12\x08\x12\x87\x02\x01\x00\x00\x00\x00\x0A\x00\x00\x00";
-
-const CLOCK_ANSWER_AFTER: &[u8] = b"\
-    \x32\x07\x00\x00\x00\x0B\x00\x0C\x00\x0E\x00\x01\x12\x08\x12\x87\x01\x02\x00\x00\x00\x00\
-    \xFF\x09\x00\x0A\x00\x19\x00\x01\x01\x00\x00\x00\x00\x07";
-
-/// The controller stops, twice, and starts.
-const STOP: &[u8] = b"\
-    \x32\x01\x00\x00\x00\x0D\x00\x10\x00\x00\
-    \x29\x00\x00\x00\x00\x00\x09\x50\x5F\x50\x52\x4F\x47\x52\x41\x4D";
-
-const STOPPED: &[u8] = b"\x32\x03\x00\x00\x00\x0D\x00\x02\x00\x00\x00\x00\x29\x00";
-
-const STOP_AGAIN: &[u8] = b"\
-    \x32\x01\x00\x00\x00\x0E\x00\x10\x00\x00\
-    \x29\x00\x00\x00\x00\x00\x09\x50\x5F\x50\x52\x4F\x47\x52\x41\x4D";
-
-const STOPPED_ALREADY: &[u8] = b"\x32\x03\x00\x00\x00\x0E\x00\x02\x00\x00\x00\x00\x29\x07";
-
-const START: &[u8] = b"\
-    \x32\x01\x00\x00\x00\x0F\x00\x14\x00\x00\
-    \x28\x00\x00\x00\x00\x00\x00\xFD\x00\x00\x09\x50\x5F\x50\x52\x4F\x47\x52\x41\x4D";
-
-const STARTED: &[u8] = b"\x32\x03\x00\x00\x00\x0F\x00\x02\x00\x00\x00\x00\x28\x00";
-
-const CLOCK: &[Talk<'static>] = &[
-    Talk {
-        site: SITE,
-        asked: &[SETUP, CLOCK_READ],
-        answered: &[GRANTED, CLOCK_ANSWER],
-        entries: 1,
-    },
-    // Without data.
-    Talk {
-        site: SITE,
-        asked: &[
-            SETUP,
-            b"\x32\x07\x00\x00\x00\x0B\x00\x08\x00\x00\x00\x01\x12\x04\x11\x47\x01\x00",
-        ],
-        answered: &[GRANTED, CLOCK_ANSWER],
-        entries: 1,
-    },
-    Talk {
-        site: SITE,
-        asked: &[SETUP, CLOCK_SET, CLOCK_READ],
-        answered: &[GRANTED, CLOCK_SET_ANSWER, CLOCK_ANSWER_AFTER],
-        entries: 2,
-    },
-    // Without a right.
-    Talk {
-        site: SITE_2,
-        asked: &[SETUP, CLOCK_SET, CLOCK_READ],
-        answered: &[
-            GRANTED,
-            b"\
-                \x32\x07\x00\x00\x00\x0C\x00\x0C\x00\x04\
-                \x00\x01\x12\x08\x12\x87\x02\x01\x00\x00\xD2\x41\x0A\x00\x00\x00",
-            b"\
-                \x32\x07\x00\x00\x00\x0B\x00\x0C\x00\x0E\x00\x01\x12\x08\x12\x87\x01\x02\x00\x00\x00\x00\
-                \xFF\x09\x00\x0A\x00\x19\x24\x02\x29\x13\x45\x30\x12\x35",
-        ],
-        entries: 2,
-    },
-    // The month 13, nine octets, and the subfunction 03.
-    Talk {
-        site: SITE,
-        asked: &[
-            SETUP,
-            b"\
-                \x32\x07\x00\x00\x00\x0C\x00\x08\x00\x0E\x00\x01\x12\x04\x11\x47\x02\x00\
-                \xFF\x09\x00\x0A\x00\x19\x00\x13\x01\x00\x00\x00\x00\x07",
-            b"\
-                \x32\x07\x00\x00\x00\x0C\x00\x08\x00\x0D\x00\x01\x12\x04\x11\x47\x02\x00\
-                \xFF\x09\x00\x09\x00\x19\x00\x01\x01\x00\x00\x00\x00",
-            b"\
-                \x32\x07\x00\x00\x00\x0C\x00\x08\x00\x04\x00\x01\x12\x04\x11\x47\x03\x00\
-                \x0A\x00\x00\x00",
-            CLOCK_READ,
-        ],
-        answered: &[
-            GRANTED,
-            b"\x32\x02\x00\x00\x00\x0C\x00\x00\x00\x00\x84\x04",
-            b"\x32\x02\x00\x00\x00\x0C\x00\x00\x00\x00\x84\x04",
-            b"\x32\x02\x00\x00\x00\x0C\x00\x00\x00\x00\x81\x04",
-            CLOCK_ANSWER,
-        ],
-        entries: 1,
-    },
-];
+# The month 13, nine octets, and the subfunction 03.
+asked CONNECT SETUP 32070000000C0008000E0001120411470200FF09000A00190013010000000007 \
+    32070000000C0008000D0001120411470200FF090009001900010100000000 \
+    32070000000C0008000400011204114703000A000000 CLOCK_READ
+answered CONFIRM GRANTED 2*32020000000C000000008404 32020000000C000000008104 CLOCK_ANSWER
+entries 1";
 
 #[test]
 fn the_clock_is_read_and_set(rt: HostRuntime) -> Result<(), Fail> {
-    answers(&rt, rt.alloc(), CLOCK)
+    all_hold(&rt, rt.alloc(), NAMES, "", CLOCK, 8_192)
 }
 
-const CONTROL: &[Talk<'static>] = &[
-    Talk {
-        site: SITE,
-        asked: &[SETUP, STOP, STOP_AGAIN, START],
-        answered: &[GRANTED, STOPPED, STOPPED_ALREADY, STARTED],
-        entries: 3,
-    },
-    // Without a right.
-    Talk {
-        site: SITE_2,
-        asked: &[SETUP, STOP],
-        answered: &[GRANTED, b"\x32\x02\x00\x00\x00\x0D\x00\x00\x00\x00\xD2\x41"],
-        entries: 1,
-    },
-    // Another function, a stop that breaks off, and one with data.
-    Talk {
-        site: SITE,
-        asked: &[
-            SETUP,
-            b"\x32\x01\x00\x00\x00\x11\x00\x01\x00\x00\x99",
-            b"\x32\x01\x00\x00\x00\x11\x00\x01\x00\x00\x29",
-            b"\
-                \x32\x01\x00\x00\x00\x11\x00\x10\x00\x01\
-                \x29\x00\x00\x00\x00\x00\x09\x50\x5F\x50\x52\x4F\x47\x52\x41\x4D\x00",
-        ],
-        answered: &[
-            GRANTED,
-            b"\x32\x02\x00\x00\x00\x11\x00\x00\x00\x00\x81\x04",
-            b"\x32\x02\x00\x00\x00\x11\x00\x00\x00\x00\x84\x04",
-            b"\x32\x02\x00\x00\x00\x11\x00\x00\x00\x00\x84\x04",
-        ],
-        entries: 0,
-    },
-    // An insert of what wasn't downloaded, without data and with some.
-    Talk {
-        site: SITE,
-        asked: &[
-            SETUP,
-            b"\
-                \x32\x01\x00\x00\x00\x12\x00\x1A\x00\x00\
-                \x28\x00\x00\x00\x00\x00\x00\xFD\x00\x0A\
-                \x01\x00\x30\x41\x30\x30\x30\x30\x31\x50\x05\x5F\x49\x4E\x53\x45",
-            b"\
-                \x32\x01\x00\x00\x00\x12\x00\x1A\x00\x01\
-                \x28\x00\x00\x00\x00\x00\x00\xFD\x00\x0A\
-                \x01\x00\x30\x41\x30\x30\x30\x30\x31\x50\x05\x5F\x49\x4E\x53\x45\x00",
-        ],
-        answered: &[
-            GRANTED,
-            b"\x32\x02\x00\x00\x00\x12\x00\x00\x00\x00\x8F\x03",
-            b"\x32\x02\x00\x00\x00\x12\x00\x00\x00\x00\x84\x04",
-        ],
-        entries: 0,
-    },
-    // Before the negotiation.
-    Talk {
-        site: SITE,
-        asked: &[STOP],
-        answered: &[b"\x32\x02\x00\x00\x00\x0D\x00\x00\x00\x00\x84\x03"],
-        entries: 0,
-    },
-];
+const CONTROL: &str = "\
+asked CONNECT SETUP STOP STOP_AGAIN START
+answered CONFIRM GRANTED STOPPED STOPPED_ALREADY STARTED
+entries 3
+
+# Without a right.
+level 2
+asked CONNECT SETUP STOP
+answered CONFIRM GRANTED 32020000000D00000000D241
+entries 1
+
+# Another function, a stop that breaks off, and one with data.
+asked CONNECT SETUP 3201000000110001000099 3201000000110001000029 \
+    3201000000110010000129000000000009505F50524F4752414D00
+answered CONFIRM GRANTED 320200000011000000008104 2*320200000011000000008404
+
+# An insert of what wasn't downloaded, without data and with some.
+asked CONNECT SETUP 320100000012001A000028000000000000FD000A01003041303030303150055F494E5345 \
+    320100000012001A000128000000000000FD000A01003041303030303150055F494E534500
+answered CONFIRM GRANTED 320200000012000000008F03 320200000012000000008404
+
+# Before the negotiation.
+asked CONNECT STOP
+answered CONFIRM 32020000000D000000008403";
 
 #[test]
 fn control_is_answered(rt: HostRuntime) -> Result<(), Fail> {
-    answers(&rt, rt.alloc(), CONTROL)
+    all_hold(&rt, rt.alloc(), NAMES, "", CONTROL, 8_192)
 }
 
-/// The answer with the whole list, and those with its slices where the PDU is 128.
-const WHOLE: &[u8] = b"\
-    \x32\x07\x00\x00\x00\x0A\x00\x0C\x00\xD8\
-    \x00\x01\x12\x08\x12\x84\x01\x01\x00\x00\x00\x00\xFF\x09\x00\xD4\
-    \x00\x1C\x00\x00\x00\x22\x00\x06\x00\x01\x53\x37\x53\x45\x52\x56\x45\x52\x00\x00\x00\x00\
-    \x00\x00\x00\x00\x00\x00\x00\x00\x00\x00\x00\x00\x00\x00\x00\x00\x00\x00\x00\x00\x00\x02\
-    \x41\x52\x45\x41\x20\x42\x4F\x4F\x4B\x00\x00\x00\x00\x00\x00\x00\x00\x00\x00\x00\x00\x00\
-    \x00\x00\x00\x00\x00\x00\x00\x00\x00\x00\x00\x03\x00\x00\x00\x00\x00\x00\x00\x00\x00\x00\
-    \x00\x00\x00\x00\x00\x00\x00\x00\x00\x00\x00\x00\x00\x00\x00\x00\x00\x00\x00\x00\x00\x00\
-    \x00\x04\x4F\x50\x45\x4E\x00\x00\x00\x00\x00\x00\x00\x00\x00\x00\x00\x00\x00\x00\x00\x00\
-    \x00\x00\x00\x00\x00\x00\x00\x00\x00\x00\x00\x00\x00\x05\x30\x30\x30\x30\x30\x30\x30\x30\
-    \x30\x31\x00\x00\x00\x00\x00\x00\x00\x00\x00\x00\x00\x00\x00\x00\x00\x00\x00\x00\x00\x00\
-    \x00\x00\x00\x07\x53\x37\x53\x45\x52\x56\x45\x52\x20\x50\x4C\x43\x00\x00\x00\x00\x00\x00\
-    \x00\x00\x00\x00\x00\x00\x00\x00\x00\x00\x00\x00\x00\x00";
+const SLICED: &str = "\
+asked CONNECT SETUP LIST
+answered CONFIRM GRANTED WHOLE
+entries 1
 
-const FIRST: &[u8] = b"\
-    \x32\x07\x00\x00\x00\x0A\x00\x0C\x00\x6A\
-    \x00\x01\x12\x08\x12\x84\x01\x01\x00\x01\x00\x00\xFF\x09\x00\x66\
-    \x00\x1C\x00\x00\x00\x22\x00\x06\x00\x01\x53\x37\x53\x45\x52\x56\x45\x52\x00\x00\x00\x00\
-    \x00\x00\x00\x00\x00\x00\x00\x00\x00\x00\x00\x00\x00\x00\x00\x00\x00\x00\x00\x00\x00\x02\
-    \x41\x52\x45\x41\x20\x42\x4F\x4F\x4B\x00\x00\x00\x00\x00\x00\x00\x00\x00\x00\x00\x00\x00\
-    \x00\x00\x00\x00\x00\x00\x00\x00\x00\x00\x00\x03\x00\x00\x00\x00\x00\x00\x00\x00\x00\x00\
-    \x00\x00\x00\x00\x00\x00\x00\x00\x00\x00\x00\x00\x00\x00";
+# Behind the last slice nothing is held.
+asked CONNECT SETUP_128 LIST 3*FURTHER
+answered CONFIRM GRANTED_128 FIRST SECOND THIRD NOT_HELD
+entries 1
 
-const SECOND: &[u8] = b"\
-    \x32\x07\x00\x00\x00\x0B\x00\x0C\x00\x6A\
-    \x00\x01\x12\x08\x12\x84\x01\x01\x00\x01\x00\x00\xFF\x09\x00\x66\
-    \x00\x00\x00\x00\x00\x00\x00\x00\x00\x04\x4F\x50\x45\x4E\x00\x00\x00\x00\x00\x00\x00\x00\
-    \x00\x00\x00\x00\x00\x00\x00\x00\x00\x00\x00\x00\x00\x00\x00\x00\x00\x00\x00\x00\x00\x05\
-    \x30\x30\x30\x30\x30\x30\x30\x30\x30\x31\x00\x00\x00\x00\x00\x00\x00\x00\x00\x00\x00\x00\
-    \x00\x00\x00\x00\x00\x00\x00\x00\x00\x00\x00\x07\x53\x37\x53\x45\x52\x56\x45\x52\x20\x50\
-    \x4C\x43\x00\x00\x00\x00\x00\x00\x00\x00\x00\x00\x00\x00";
+# A job changes nothing of it.
+asked CONNECT SETUP_128 LIST READ FURTHER
+answered CONFIRM GRANTED_128 FIRST READ_ANSWER SECOND
+entries 2
 
-const THIRD: &[u8] = b"\
-    \x32\x07\x00\x00\x00\x0B\x00\x0C\x00\x0C\
-    \x00\x01\x12\x08\x12\x84\x01\x01\x00\x00\x00\x00\xFF\x09\x00\x08\
-    \x00\x00\x00\x00\x00\x00\x00\x00";
-
-/// The second where the PDU is 64 then.
-const AT_64: &[u8] = b"\
-    \x32\x07\x00\x00\x00\x0B\x00\x0C\x00\x2A\
-    \x00\x01\x12\x08\x12\x84\x01\x01\x00\x01\x00\x00\xFF\x09\x00\x26\
-    \x00\x00\x00\x00\x00\x00\x00\x00\x00\x04\x4F\x50\x45\x4E\x00\x00\x00\x00\x00\x00\x00\x00\
-    \x00\x00\x00\x00\x00\x00\x00\x00\x00\x00\x00\x00\x00\x00\x00\x00";
-
-/// The refusal of a further slice.
-const NOT_HELD: &[u8] = b"\x32\x02\x00\x00\x00\x0B\x00\x00\x00\x00\x84\x04";
-
-const SLICED: &[Talk<'static>] = &[
-    Talk {
-        site: SITE,
-        asked: &[SETUP, LIST],
-        answered: &[GRANTED, WHOLE],
-        entries: 1,
-    },
-    // Behind the last slice nothing is held.
-    Talk {
-        site: SITE,
-        asked: &[SETUP_128, LIST, FURTHER, FURTHER, FURTHER],
-        answered: &[GRANTED_128, FIRST, SECOND, THIRD, NOT_HELD],
-        entries: 1,
-    },
-    // A job changes nothing of it.
-    Talk {
-        site: SITE,
-        asked: &[SETUP_128, LIST, READ, FURTHER],
-        answered: &[GRANTED_128, FIRST, READ_ANSWER, SECOND],
-        entries: 2,
-    },
-    // What is left is cut by the PDU that was granted last.
-    Talk {
-        site: SITE,
-        asked: &[SETUP_128, LIST, SETUP_64, FURTHER],
-        answered: &[GRANTED_128, FIRST, GRANTED_64, AT_64],
-        entries: 1,
-    },
-];
+# What is left is cut by the PDU that was granted last.
+asked CONNECT SETUP_128 LIST SETUP_64 FURTHER
+answered CONFIRM GRANTED_128 FIRST GRANTED_64 AT_64
+entries 1";
 
 #[test]
 fn lists_are_sliced_by_the_pdu(rt: HostRuntime) -> Result<(), Fail> {
-    answers(&rt, rt.alloc(), SLICED)
+    all_hold(&rt, rt.alloc(), NAMES, "", SLICED, 8_192)
 }
+
+/// A further slice is asked for so, which isn't held or is unknown; the one that is held goes out behind it.
+const FURTHERS: &str = "\
+asked CONNECT SETUP_128 LIST ODD NEXT
+answered CONFIRM GRANTED_128 FIRST REFUSAL SECOND
+REFUSAL 32020000000B000000008404
+NEXT 32070000000B000C000400011208124401010701D4010A000000
+entries 1";
 
 /// A further slice of another sequence octet, of other groups and subfunctions, and with other data.
-const OTHERS: &[&[u8]] = &[
-    b"\
-        \x32\x07\x00\x00\x00\x0B\x00\x0C\x00\x04\
-        \x00\x01\x12\x08\x12\x44\x01\x02\x00\x00\x00\x00\x0A\x00\x00\x00",
-    b"\
-        \x32\x07\x00\x00\x00\x0B\x00\x0C\x00\x04\
-        \x00\x01\x12\x08\x12\x47\x01\x01\x00\x00\x00\x00\x0A\x00\x00\x00",
-    b"\
-        \x32\x07\x00\x00\x00\x0B\x00\x0C\x00\x04\
-        \x00\x01\x12\x08\x12\x47\x02\x01\x00\x00\x00\x00\x0A\x00\x00\x00",
-    b"\
-        \x32\x07\x00\x00\x00\x0B\x00\x0C\x00\x04\
-        \x00\x01\x12\x08\x12\x45\x01\x01\x00\x00\x00\x00\x0A\x00\x00\x00",
-    b"\
-        \x32\x07\x00\x00\x00\x0B\x00\x0C\x00\x08\
-        \x00\x01\x12\x08\x12\x44\x01\x01\x00\x00\x00\x00\xFF\x09\x00\x04\x00\x1C\x00\x00",
-];
+const OTHERS: &str = "\
+ODD 32070000000B000C00040001120812440102000000000A000000
 
-/// That of the subfunction 02 of the group, and its refusal.
-const UNKNOWN_FURTHER: &[u8] = b"\
-        \x32\x07\x00\x00\x00\x0B\x00\x0C\x00\x04\
-        \x00\x01\x12\x08\x12\x44\x02\x01\x00\x00\x00\x00\x0A\x00\x00\x00";
+ODD 32070000000B000C00040001120812470101000000000A000000
 
-const UNKNOWN: &[u8] = b"\x32\x02\x00\x00\x00\x0B\x00\x00\x00\x00\x81\x04";
+ODD 32070000000B000C00040001120812470201000000000A000000
 
-/// The further slice, with octets of unit, last unit and error that are passed over.
-const LOUD_FURTHER: &[u8] = b"\
-        \x32\x07\x00\x00\x00\x0B\x00\x0C\x00\x04\
-        \x00\x01\x12\x08\x12\x44\x01\x01\x07\x01\xD4\x01\x0A\x00\x00\x00";
+ODD 32070000000B000C00040001120812450101000000000A000000
 
-/// The further slice is asked for so, which isn't held or is unknown; the one that is held goes out behind it.
-fn is_refused<R: Wait + Clock>(
-    rt: &R,
-    alloc: Global,
-    further: &[u8],
-    refusal: &[u8],
-    next: &[u8],
-) -> Result<bool, Memory> {
-    let talk = Talk {
-        site: SITE,
-        asked: &[SETUP_128, LIST, further, next],
-        answered: &[GRANTED_128, FIRST, refusal, SECOND],
-        entries: 1,
-    };
-    is_answered(rt, alloc, &talk)
-}
+ODD 32070000000B000C0008000112081244010100000000FF090004001C0000
+
+# The subfunction 02 of the group.
+ODD 32070000000B000C00040001120812440201000000000A000000
+REFUSAL 32020000000B000000008104
+NEXT 32070000000B000C00040001120812440101000000000A000000";
 
 #[test]
 fn a_further_slice_is_of_the_answer_held(rt: HostRuntime) -> Result<(), Fail> {
-    for (k, other) in OTHERS.iter().enumerate() {
-        assert!(rt;
-            is_refused(&rt, rt.alloc(), other, NOT_HELD, LOUD_FURTHER)?,
-            "row {k}"
-        );
-    }
-    assert!(rt; is_refused(&rt, rt.alloc(), UNKNOWN_FURTHER, UNKNOWN, FURTHER)?);
-    Ok(())
+    all_hold(&rt, rt.alloc(), NAMES, FURTHERS, OTHERS, 8_192)
 }
 
-/// The answers of the clock and of a list that there is not, behind another answer.
-const CLOCK_ANSWER_2: &[u8] = b"\
-    \x32\x07\x00\x00\x00\x0B\x00\x0C\x00\x0E\x00\x01\x12\x08\x12\x87\x01\x02\x00\x00\x00\x00\
-    \xFF\x09\x00\x0A\x00\x19\x24\x02\x29\x13\x45\x30\x12\x35";
+const REPLACED: &str = "\
+asked CONNECT SETUP_128 LIST CLOCK_READ FURTHER
+answered CONFIRM GRANTED_128 FIRST CLOCK_ANSWER_2 NOT_HELD
+entries 2
 
-const NO_LIST_ANSWER_2: &[u8] = b"\
-        \x32\x07\x00\x00\x00\x0C\x00\x0C\x00\x04\
-        \x00\x01\x12\x08\x12\x84\x01\x02\x00\x00\xD4\x01\x0A\x00\x00\x00";
+asked CONNECT SETUP_128 LIST NO_LIST FURTHER
+answered CONFIRM GRANTED_128 FIRST NO_LIST_ANSWER_2 NOT_HELD
+entries 2
 
-/// A right is cleared where nothing guards the areas, behind another answer too.
-const CLEAR: &[u8] =
-    b"\x32\x07\x00\x00\x00\x21\x00\x08\x00\x04\x00\x01\x12\x04\x11\x45\x02\x00\x0A\x00\x00\x00";
-
-const CLEAR_ANSWER_2: &[u8] = b"\
-        \x32\x07\x00\x00\x00\x21\x00\x0C\x00\x04\
-        \x00\x01\x12\x08\x12\x85\x02\x02\x00\x00\xD6\x05\x0A\x00\x00\x00";
-
-const REPLACED: &[Talk<'static>] = &[
-    Talk {
-        site: SITE,
-        asked: &[SETUP_128, LIST, CLOCK_READ, FURTHER],
-        answered: &[GRANTED_128, FIRST, CLOCK_ANSWER_2, NOT_HELD],
-        entries: 2,
-    },
-    Talk {
-        site: SITE,
-        asked: &[SETUP_128, LIST, NO_LIST, FURTHER],
-        answered: &[GRANTED_128, FIRST, NO_LIST_ANSWER_2, NOT_HELD],
-        entries: 2,
-    },
-    Talk {
-        site: SITE,
-        asked: &[SETUP_128, LIST, CLEAR, FURTHER],
-        answered: &[GRANTED_128, FIRST, CLEAR_ANSWER_2, NOT_HELD],
-        entries: 1,
-    },
-];
+asked CONNECT SETUP_128 LIST CLEAR FURTHER
+answered CONFIRM GRANTED_128 FIRST CLEAR_ANSWER_2 NOT_HELD
+entries 1";
 
 #[test]
 fn a_new_answer_takes_the_place_of_the_old(rt: HostRuntime) -> Result<(), Fail> {
-    answers(&rt, rt.alloc(), REPLACED)
+    all_hold(&rt, rt.alloc(), NAMES, "", REPLACED, 8_192)
 }
 
-const REFUSED_LISTS: &[Talk<'static>] = &[
-    // Before the negotiation.
-    Talk {
-        site: SITE,
-        asked: &[LIST, FURTHER],
-        answered: &[
-            b"\x32\x02\x00\x00\x00\x0A\x00\x00\x00\x00\x84\x03",
-            b"\x32\x02\x00\x00\x00\x0B\x00\x00\x00\x00\x84\x03",
-        ],
-        entries: 0,
-    },
-    Talk {
-        site: SITE,
-        asked: &[SETUP, NO_LIST],
-        answered: &[GRANTED, NO_LIST_ANSWER],
-        entries: 1,
-    },
-    Talk {
-        site: SITE,
-        asked: &[SETUP, FURTHER],
-        answered: &[GRANTED, NOT_HELD],
-        entries: 0,
-    },
-    // No index, another transport size, and another subfunction.
-    Talk {
-        site: SITE,
-        asked: &[
-            SETUP,
-            b"\
-                \x32\x07\x00\x00\x00\x0B\x00\x08\x00\x06\
-                \x00\x01\x12\x04\x11\x44\x01\x00\xFF\x09\x00\x02\x00\x1C",
-            b"\
-                \x32\x07\x00\x00\x00\x0B\x00\x08\x00\x08\
-                \x00\x01\x12\x04\x11\x44\x01\x00\xFF\x04\x00\x20\x00\x1C\x00\x00",
-            b"\
-                \x32\x07\x00\x00\x00\x0B\x00\x08\x00\x08\
-                \x00\x01\x12\x04\x11\x44\x02\x00\xFF\x09\x00\x04\x00\x1C\x00\x00",
-        ],
-        answered: &[GRANTED, NOT_HELD, NOT_HELD, UNKNOWN],
-        entries: 0,
-    },
-];
+const REFUSED_LISTS: &str = "\
+# Before the negotiation.
+asked CONNECT LIST FURTHER
+answered CONFIRM 32020000000A000000008403 32020000000B000000008403
+
+asked CONNECT SETUP NO_LIST
+answered CONFIRM GRANTED NO_LIST_ANSWER
+entries 1
+
+asked CONNECT SETUP FURTHER
+answered CONFIRM GRANTED NOT_HELD
+
+# No index, another transport size, and another subfunction.
+asked CONNECT SETUP 32070000000B000800060001120411440100FF090002001C \
+    32070000000B000800080001120411440100FF040020001C0000 \
+    32070000000B000800080001120411440200FF090004001C0000
+answered CONFIRM GRANTED 2*NOT_HELD UNKNOWN";
 
 #[test]
 fn lists_are_refused(rt: HostRuntime) -> Result<(), Fail> {
-    answers(&rt, rt.alloc(), REFUSED_LISTS)
+    all_hold(&rt, rt.alloc(), NAMES, "", REFUSED_LISTS, 8_192)
 }
 
-/// The refusal where the clock failed.
-const CLOCK_FAILED: &[u8] = b"\x32\x02\x00\x00\x00\x0B\x00\x00\x00\x00\x8F\x02";
+const FAILED_CLOCKS: &str = "\
+# A receive, the confirm and the grant go before the clock is asked for the first time. Behind the refusal goes the
+# read's answer, and then the clock is asked again.
+fates ---f---
+asked CONNECT SETUP CLOCK_READ READ CLOCK_READ
+answered CONFIRM GRANTED CLOCK_FAILED READ_ANSWER CLOCK_ANSWER
+entries 2
 
-/// That where there is no room for an entry, and a set of the clock without a date.
-const NO_ROOM: &[u8] = b"\x32\x02\x00\x00\x00\x0B\x00\x00\x00\x00\x8F\x01";
+# It is asked once for each telegram of the clock, and for no other: the eighth call is for the second.
+fates -------f
+asked CONNECT SETUP CLOCK_READ NO_LIST STOP CLOCK_READ
+answered CONFIRM GRANTED CLOCK_ANSWER NO_LIST_ANSWER_2 STOPPED CLOCK_FAILED
+entries 3
 
-const NO_DATE: &[u8] =
-    b"\x32\x07\x00\x00\x00\x0B\x00\x08\x00\x04\x00\x01\x12\x04\x11\x47\x02\x00\x0A\x00\x00\x00";
+# Data that are no date are refused before the clock is asked, at the fifth call.
+fates ----f
+asked CONNECT SETUP NO_DATE CLOCK_READ
+answered CONFIRM GRANTED NOT_HELD CLOCK_FAILED
 
-const FAILED_CLOCKS: &[Talk<'static>] = &[
-    // A receive, the confirm and the grant go before the clock is asked for the first time. Behind the refusal
-    // goes the read's answer, and then the clock is asked again.
-    Talk {
-        site: Site {
-            fates: &[
-                Fate::Pass,
-                Fate::Pass,
-                Fate::Pass,
-                Fate::Fail,
-                Fate::Pass,
-                Fate::Pass,
-                Fate::Pass,
-            ],
-            ..SITE
-        },
-        asked: &[SETUP, CLOCK_READ, READ, CLOCK_READ],
-        answered: &[GRANTED, CLOCK_FAILED, READ_ANSWER, CLOCK_ANSWER],
-        entries: 2,
-    },
-    // It is asked once for each telegram of the clock, and for no other: the eighth call is for the second.
-    Talk {
-        site: Site {
-            fates: &[
-                Fate::Pass,
-                Fate::Pass,
-                Fate::Pass,
-                Fate::Pass,
-                Fate::Pass,
-                Fate::Pass,
-                Fate::Pass,
-                Fate::Fail,
-            ],
-            ..SITE
-        },
-        asked: &[SETUP, CLOCK_READ, NO_LIST, STOP, CLOCK_READ],
-        answered: &[
-            GRANTED,
-            CLOCK_ANSWER,
-            NO_LIST_ANSWER_2,
-            STOPPED,
-            CLOCK_FAILED,
-        ],
-        entries: 3,
-    },
-    // Data that are no date are refused before the clock is asked, at the fifth call.
-    Talk {
-        site: Site {
-            fates: &[Fate::Pass, Fate::Pass, Fate::Pass, Fate::Pass, Fate::Fail],
-            ..SITE
-        },
-        asked: &[SETUP, NO_DATE, CLOCK_READ],
-        answered: &[GRANTED, NOT_HELD, CLOCK_FAILED],
-        entries: 0,
-    },
-    // A clock that fails is noticed before the history, which has no room.
-    Talk {
-        site: Site {
-            fates: &[Fate::Pass, Fate::Pass, Fate::Pass, Fate::Fail],
-            room: 0,
-            ..SITE
-        },
-        asked: &[SETUP, CLOCK_READ, CLOCK_READ],
-        answered: &[GRANTED, CLOCK_FAILED, NO_ROOM],
-        entries: 0,
-    },
-];
+# A clock that fails is noticed before the history, which has no room.
+fates ---f
+room 0
+asked CONNECT SETUP 2*CLOCK_READ
+answered CONFIRM GRANTED CLOCK_FAILED NO_ROOM";
 
 #[test]
 fn a_failed_clock_refuses_its_telegram(rt: HostRuntime) -> Result<(), Fail> {
-    answers(&rt, rt.alloc(), FAILED_CLOCKS)
+    all_hold(&rt, rt.alloc(), NAMES, "", FAILED_CLOCKS, 8_192)
 }

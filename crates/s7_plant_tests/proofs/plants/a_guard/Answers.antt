@@ -1,7 +1,7 @@
 use Rattle.std.proofs.Common.{[], ◌∷◌, refl, lit≤, rules}
 use Rattle.s7_area.specs.Guards.{IsPassword}
-use Rattle.s7_plant_tests.proofs.control.a_guard.Goals.{else-level-ne2-via-then-level-ne2+else-level-ne3, else-level-ne2-via-else-level-ne2}
-use Rattle.s7_plant_tests.proofs.control.a_guard.Goals as goal
+use Rattle.s7_plant_tests.proofs.plants.a_guard.Goals.{else-level-ne2-via-then-level-ne2+else-level-ne3, else-level-ne2-via-else-level-ne2}
+use Rattle.s7_plant_tests.proofs.plants.a_guard.Goals as goal
 
 password : IsPassword (75 ∷ 101 ∷ 121 ∷ 55 ∷ 32 ∷ 32 ∷ 32 ∷ 32 ∷ [])
 password = record {

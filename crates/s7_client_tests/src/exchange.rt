@@ -1,0 +1,311 @@
+// Exchanges of a client over a link, told by texts.
+//
+// A text begins with what holds throughout, each line only where it is wanted: `jobs 1 2 8`, the numbers of parallel
+// jobs that are tried, each asked for and granted (1); `most 1 3 8192`, how many octets the link moves at most in a
+// call, each tried too (8192); `pdu`, which PDU is asked for (480); `patience`, with how many polls without progress
+// a job is over (50); `room`, how many octets the link has room for (4096); and `fates`, what comes of its first
+// calls, `pass` or `fail`.
+//
+// Then line by line comes what happens. `gives OCTETS` is a new link that gives these. A job stands with how it ends,
+// as in `read ITEM : CODE : OCTETS : CODES : CARRIED`: its number in hex, the octets read, the return codes and the
+// message that it carries, where the last ones may be left out. `sent OCTETS` is all that was written on the link,
+// and `count N` how many octets that is. `granted N` is the PDU, or `granted none`, and `closed` or `open` is the
+// client. What a client does over pipes stands in `pipes`.
+//
+// In octets `@` is the number of parallel jobs. A word in capitals is the name of what stands behind it in a text of
+// names.
+use crate::asks::job_of;
+use crate::words::{are, hex_number, number, octets_of, parted, small};
+use s7_client::{Client, Config, Job, JobResult, Polled};
+use s7_outer::{FailingLink, Fate, MemoryLink, Octets, Pipes, Side};
+use std::alloc::Global;
+use std::test::Fail;
+
+/// Names that every text may use. The item `FOUR` is four bytes of data block 1.
+const NAMES: &str = "\
+CONNECT 0300001611e00000000100c0010ac1020100c2020102
+CONFIRM 0300001611d00001000100c0010ac1020100c2020102
+SETUP 0300001902f08032010000000100080000f000000@000@01e0
+GRANTED 0300001b02f080320300000001000800000000f000000@000@01e0
+GRANTED_64 0300001b02f080320300000001000800000000f000000@000@0040
+FOUR 84.1.02.4.0
+READ 0300001f02f080320100000002000e00000401120a10020004000184000000
+READ_ANSWER 0300001d02f0803203000000020002000800000401ff04002011223344
+READ_AGAIN 0300001f02f080320100000003000e00000401120a10020004000184000000
+READ_AGAIN_ANSWER 0300001d02f0803203000000030002000800000401ff04002055667788
+DISCONNECT 0300000b06800001000180";
+
+/// A client, its link and its pipes in the middle of a text.
+#[derive(Drop)]
+pub(crate) struct Exchange<'a> {
+    pub(crate) alloc: Global,
+    text: &'a str,
+    most: usize,
+    pub(crate) client: Client,
+    link: FailingLink<MemoryLink>,
+    pub(crate) pipes: Pipes,
+}
+
+/// The exchange of each row holds: the form, in which `$1` to `$6` are the fields of the row, with `|` between them.
+/// A line of the rows that begins with `#` says what the next row is.
+pub(crate) fn each_holds(alloc: Global, names: &str, form: &str, rows: &str) -> Result<bool, Fail> {
+    let mut some = false;
+    let mut all = true;
+    for row in rows.lines() {
+        if row.starts_with('#') {
+            continue;
+        }
+        all = row_holds(alloc, names, form, row)? && all;
+        some = true;
+    }
+    Ok(some && all)
+}
+
+fn row_holds(alloc: Global, names: &str, form: &str, row: &str) -> Result<bool, Fail> {
+    let text = filled(alloc, form, row)?;
+    holds(alloc, names, text.as_str())
+}
+
+/// The form with the fields of a row, and the row above it.
+fn filled(alloc: Global, form: &str, row: &str) -> Result<String, Fail> {
+    let mut text = format!(in alloc; "row {row}\n{form}")?;
+    let mut marks = ["$1", "$2", "$3", "$4", "$5", "$6"].as_slice();
+    for field in row.split('|') {
+        let [mark, rest @ ..] = marks else {
+            return Err(Fail::from("too many fields"));
+        };
+        marks = rest;
+        text = text.as_str().replace(alloc, *mark, field.trim())?;
+    }
+    Ok(text)
+}
+
+/// The exchange of a text holds with every number of jobs and in all pieces.
+pub(crate) fn holds(alloc: Global, names: &str, text: &str) -> Result<bool, Fail> {
+    let text = with_values(alloc, names, text)?;
+    holds_at_all(alloc, text.as_str())
+}
+
+fn holds_at_all(alloc: Global, text: &str) -> Result<bool, Fail> {
+    let numbers = setting(text, "jobs", "1");
+    let mut some = false;
+    let mut all = true;
+    for jobs in numbers.split_ascii_whitespace() {
+        all = holds_at(alloc, text, jobs)? && all;
+        some = true;
+    }
+    Ok(some && all)
+}
+
+fn holds_at(alloc: Global, text: &str, jobs: &str) -> Result<bool, Fail> {
+    let text = text.replace(alloc, '@', jobs)?;
+    holds_in_pieces(alloc, text.as_str(), jobs)
+}
+
+/// The text with the values in place of the names.
+pub(crate) fn with_values(alloc: Global, names: &str, text: &str) -> Result<String, Fail> {
+    let mut all = String::new(alloc);
+    for line in text.lines() {
+        add_line(&mut all, names, line)?;
+    }
+    Ok(all)
+}
+
+fn add_line(all: &mut String, names: &str, line: &str) -> Result<(), Fail> {
+    for word in line.split_ascii_whitespace() {
+        let value = value_of(names, word);
+        all.push_str(value)?;
+        all.push(' ')?;
+    }
+    all.push('\n')?;
+    Ok(())
+}
+
+/// What a word stands for: itself, where it is no name.
+fn value_of<'a>(names: &'a str, word: &'a str) -> &'a str {
+    let common = setting(NAMES, word, word);
+    setting(names, word, common)
+}
+
+/// What stands behind this word in a line that begins with it, and else the usual.
+fn setting<'a>(text: &'a str, name: &str, usual: &'a str) -> &'a str {
+    for line in text.lines() {
+        let (word, value) = parted(line, ' ');
+        if word == name {
+            return value;
+        }
+    }
+    usual
+}
+
+fn holds_in_pieces(alloc: Global, text: &str, jobs: &str) -> Result<bool, Fail> {
+    let sizes = setting(text, "most", "8192");
+    let mut some = false;
+    for most in sizes.split_ascii_whitespace() {
+        goes_on(alloc, text, jobs, most)?;
+        some = true;
+    }
+    Ok(some)
+}
+
+fn goes_on(alloc: Global, text: &str, jobs: &str, most: &str) -> Result<(), Fail> {
+    let most = usize::from(small(most)?);
+    let mut exchange = begun(alloc, text, jobs, most)?;
+    exchange.go_on()
+}
+
+fn begun<'a>(alloc: Global, text: &'a str, jobs: &str, most: usize) -> Result<Exchange<'a>, Fail> {
+    let client = client_of(alloc, text, jobs)?;
+    let link = link_of(alloc, text, "", most)?;
+    let pipes = Pipes::new(alloc, room_of(text)?, 7)?;
+    Ok(Exchange {
+        alloc,
+        text,
+        most,
+        client,
+        link,
+        pipes,
+    })
+}
+
+fn client_of(alloc: Global, text: &str, jobs: &str) -> Result<Client, Fail> {
+    let pdu = setting(text, "pdu", "480");
+    let patience = setting(text, "patience", "50");
+    let config = Config {
+        jobs: small(jobs)?.clamp(1, 8),
+        pdu: small(pdu)?.clamp(64, 1_920),
+        polls: u32::from(small(patience)?.max(1)),
+        ..Config::new(1, 0, 2)
+    };
+    Ok(Client::new(alloc, config)?)
+}
+
+fn link_of(
+    alloc: Global,
+    text: &str,
+    gives: &str,
+    most: usize,
+) -> Result<FailingLink<MemoryLink>, Fail> {
+    let room = room_of(text)?;
+    let fates = setting(text, "fates", "");
+    let fates = fates_of(alloc, fates)?;
+    let input = Octets::of_vec(octets_of(alloc, gives)?);
+    let inner = MemoryLink::new(alloc, input, most.max(1), room, 7)?;
+    Ok(FailingLink::new(inner, fates))
+}
+
+fn room_of(text: &str) -> Result<usize, Fail> {
+    let room = setting(text, "room", "4096");
+    Ok(usize::from(small(room)?))
+}
+
+fn fates_of(alloc: Global, text: &str) -> Result<Vec<Fate>, Fail> {
+    let mut fates = Vec::new(alloc);
+    for word in text.split_ascii_whitespace() {
+        fates.push(fate_of(word)?)?;
+    }
+    Ok(fates)
+}
+
+fn fate_of(word: &str) -> Result<Fate, Fail> {
+    match word {
+        "pass" => Ok(Fate::Pass),
+        "fail" => Ok(Fate::Fail),
+        _ => Err(Fail::from("no such fate")),
+    }
+}
+
+impl Exchange<'_> {
+    /// What happens in each line is as it says.
+    fn go_on(&mut self) -> Result<(), Fail> {
+        for line in self.text.lines() {
+            if !self.line_holds(line)? {
+                let row = setting(self.text, "row", "");
+                return Err(Fail::from((line, row)));
+            }
+        }
+        Ok(())
+    }
+
+    fn line_holds(&mut self, line: &str) -> Result<bool, Fail> {
+        let (word, rest) = parted(line, ' ');
+        match word {
+            "row" | "jobs" | "most" | "pdu" | "patience" | "room" | "fates" => Ok(true),
+            "gives" => self.give(rest),
+            "sent" => are(self.alloc, rest, self.link.inner().written()),
+            "count" => self.has_written(rest),
+            "granted" => self.is_granted(rest),
+            "closed" => Ok(self.client.closed()),
+            "open" => Ok(!self.client.closed()),
+            _ => self.moves_on(word, rest, line),
+        }
+    }
+
+    fn moves_on(&mut self, word: &str, rest: &str, line: &str) -> Result<bool, Fail> {
+        match word {
+            "starts" => self.starts(rest),
+            "polls" => self.polls(rest),
+            "busy" => self.is_busy(rest),
+            "puts" => self.puts(rest),
+            "takes" => self.takes(rest),
+            "waiting" => self.has_waiting(Side::Server, rest),
+            "unread" => self.has_waiting(Side::Client, rest),
+            _ => self.ends(line),
+        }
+    }
+
+    fn give(&mut self, octets: &str) -> Result<bool, Fail> {
+        self.link = link_of(self.alloc, self.text, octets, self.most)?;
+        Ok(true)
+    }
+
+    fn has_written(&self, count: &str) -> Result<bool, Fail> {
+        Ok(self.link.inner().written().len() as u64 == number(count)?)
+    }
+
+    fn is_granted(&self, pdu: &str) -> Result<bool, Fail> {
+        match self.client.granted() {
+            Some(granted) => Ok(granted == small(pdu)?),
+            None => Ok(pdu == "none"),
+        }
+    }
+
+    /// A job ends as its line says.
+    fn ends(&mut self, line: &str) -> Result<bool, Fail> {
+        let (ask, end) = parted(line, ':');
+        let job = job_of(self.alloc, ask)?;
+        match self.done(job) {
+            Some(told) => is_told(self.alloc, &told, end),
+            None => Ok(false),
+        }
+    }
+
+    /// What one poll after its start makes of a job, which nothing may turn away.
+    fn done(&mut self, job: Job) -> Option<JobResult> {
+        if self.client.start(self.alloc, job).is_err() {
+            return None;
+        }
+        match self.client.poll(&mut self.link) {
+            Polled::Done(told) => Some(told),
+            Polled::Pending | Polled::Idle => None,
+        }
+    }
+}
+
+fn is_told(alloc: Global, told: &JobResult, end: &str) -> Result<bool, Fail> {
+    let mut parts = end.split(':');
+    Ok(
+        hex_number(parts.next().unwrap_or(""))? == told.code
+            && are(alloc, parts.next().unwrap_or(""), told.octets.as_slice())?
+            && has_codes(alloc, told, parts.next().unwrap_or(""))?
+            && are(alloc, parts.next().unwrap_or(""), told.carried.as_slice())?
+            && parts.next().is_none(),
+    )
+}
+
+fn has_codes(alloc: Global, told: &JobResult, codes: &str) -> Result<bool, Fail> {
+    match told.codes.get(..usize::from(told.count)) {
+        Some(told) => are(alloc, codes, told),
+        None => Ok(false),
+    }
+}

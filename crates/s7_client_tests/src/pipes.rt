@@ -1,0 +1,158 @@
+// What a client does over pipes, by one poll after another. `starts JOB` has it start a job, and `busy ITEM` has it
+// turn away a read, since another job is outstanding. `polls idle`, `polls pending` and `polls CODE` is what a poll
+// comes to, the last where a connect is done, with this number. The server `puts OCTETS` into its pipe, and `takes
+// OCTETS` out of the client's, which are all that wait there. `waiting N` and `unread N` is how many octets wait for
+// the server and for the client.
+use crate::asks::job_of;
+use crate::exchange::{Exchange, each_holds, holds};
+use crate::words::{are, hex_number, item_of, number, octets_of};
+use s7_client::{Job, JobResult, Polled, StartCause};
+use s7_outer::{Got, Link, PipeEnd, Sent, Side};
+use std::test::Fail;
+
+impl Exchange<'_> {
+    pub(crate) fn starts(&mut self, ask: &str) -> Result<bool, Fail> {
+        let job = job_of(self.alloc, ask)?;
+        Ok(self.client.start(self.alloc, job).is_ok())
+    }
+
+    /// A read of this item is handed back while another job is outstanding.
+    pub(crate) fn is_busy(&mut self, item: &str) -> Result<bool, Fail> {
+        let item = item_of(item)?;
+        match self.client.start(self.alloc, Job::ReadArea { item }) {
+            Ok(()) => Ok(false),
+            Err(fault) => Ok(
+                fault.cause == StartCause::Pending
+                    && matches!(fault.job, Job::ReadArea { item: back } if back == item),
+            ),
+        }
+    }
+
+    pub(crate) fn polls(&mut self, comes_to: &str) -> Result<bool, Fail> {
+        match self.polled() {
+            Polled::Idle => Ok(comes_to == "idle"),
+            Polled::Pending => Ok(comes_to == "pending"),
+            Polled::Done(told) => is_connected(&told, comes_to),
+        }
+    }
+
+    fn polled(&mut self) -> Polled {
+        let mut end = PipeEnd {
+            pipes: &mut self.pipes,
+            side: Side::Client,
+        };
+        self.client.poll(&mut end)
+    }
+
+    /// The server puts octets, at least one, into its pipe, where there is room for all of them.
+    pub(crate) fn puts(&mut self, octets: &str) -> Result<bool, Fail> {
+        let octets = octets_of(self.alloc, octets)?;
+        if octets.is_empty() {
+            return Ok(false);
+        }
+        let mut end = PipeEnd {
+            pipes: &mut self.pipes,
+            side: Side::Server,
+        };
+        Ok(end.transmit(octets.as_slice()) == Sent::Bytes(octets.len()))
+    }
+
+    /// The server takes all octets that wait, up to 128, which are these.
+    pub(crate) fn takes(&mut self, octets: &str) -> Result<bool, Fail> {
+        let mut into = [0; 128];
+        let mut end = PipeEnd {
+            pipes: &mut self.pipes,
+            side: Side::Server,
+        };
+        match end.receive(&mut into) {
+            Got::Bytes(count) => are(self.alloc, octets, &into[..count]),
+            Got::End | Got::NotYet | Got::Failed => Ok(false),
+        }
+    }
+
+    pub(crate) fn has_waiting(&self, side: Side, count: &str) -> Result<bool, Fail> {
+        Ok(self.pipes.held(side) as u64 == number(count)?)
+    }
+}
+
+fn is_connected(told: &JobResult, code: &str) -> Result<bool, Fail> {
+    Ok(hex_number(code)? == told.code && matches!(told.job, Job::Connect))
+}
+
+/// A client waits so often, and turns away a second job meanwhile.
+const PATIENCE: &str = "\
+patience 2
+room 64
+polls idle
+starts connect
+polls pending
+busy FOUR
+polls 02000000
+closed
+granted none
+polls idle
+waiting 22";
+
+/// The pipes have room for less than a request and an answer have.
+const NARROW: &str = "\
+room 16
+starts connect
+polls pending
+takes 0300001611e00000000100c0010ac102
+puts 0300001611d00001000100c0010ac102
+polls pending
+takes 0100c2020102
+puts 0100c2020102 0300001b02f080320300
+polls pending
+takes 0300001902f080320100000001000800
+puts 000001000800000000f0000001000101
+polls pending
+takes 00f0000001000101e0
+puts e0
+polls 0
+granted 480";
+
+/// A read in three parts, of which the first is answered before all requests are sent: they have 93 octets, and there
+/// is room for 80.
+const ALL_SENT: &str = "\
+jobs 3
+room 80
+puts CONFIRM 0300001b02f080320300000001000800000000f000000300030040
+starts connect
+polls 0
+takes CONNECT SETUP
+puts 0300004702f0803203000000020002003200000401ff040170 11*46
+starts read 84.1.02.102.0
+polls pending
+waiting 80
+unread 71";
+
+/// A client that asks for so many jobs is granted this, and sends so many octets of a read in ten parts while nothing
+/// is answered. A request of one item has 31 octets in its packet.
+const UNANSWERED: &str = "\
+jobs $1
+puts CONFIRM $2
+starts connect
+polls 0
+takes CONNECT SETUP
+starts read 84.1.02.460.0
+polls pending
+waiting $3";
+
+/// The jobs asked for, the grant, and the octets.
+const GRANTS: &str = "\
+1 | 0300001b02f080320300000001000800000000f000000100010040 | 31
+8 | 0300001b02f080320300000001000800000000f000000800020040 | 62
+8 | 0300001b02f080320300000001000800000000f000000300080040 | 93
+8 | 0300001b02f080320300000001000800000000f000000800080040 | 248
+4 | 0300001b02f080320300000001000800000000f000000800080040 | 124
+2 | 0300001b02f080320300000001000800000000f000000000000040 | 31";
+
+#[test]
+fn a_job_goes_on_by_polls(rt: HostRuntime) -> Result<(), Fail> {
+    assert!(rt; holds(rt.alloc(), "", PATIENCE)?);
+    assert!(rt; holds(rt.alloc(), "", NARROW)?);
+    assert!(rt; holds(rt.alloc(), "", ALL_SENT)?);
+    assert!(rt; each_holds(rt.alloc(), "", UNANSWERED, GRANTS)?);
+    Ok(())
+}

@@ -1,0 +1,87 @@
+// The words of texts: numbers and octets.
+use std::alloc::Global;
+use std::test::Fail;
+
+/// Octets that have names.
+const NAMED: &str = "
+    # A connect request for rack 0 and slot 1, and its confirm.
+    request 0300001611e00000000100c0010ac1020100c2020201
+    confirm 0300001611d00001000100c0010ac1020100c2020201
+    # The negotiation of PDU 480 and one job, and its answer.
+    asked 0300001902f08032010000000100080000f0000001000101e0
+    granted 0300001b02f080320300000001000800000000f0000001000101e0
+    # The one fragment of AA BB CC under R_ID 1 and sequence 2, and its acknowledgement.
+    fragment 0300002e02f080320700000002000c0011000112081246010001000000ff09000d12061300000000010003aabbcc
+    taken 0300002102f080320700000002000c00040001120812860100010000000a000000
+    # An acknowledgement of sequence 3, and one of number 2.
+    taken_other 0300002102f080320700000003000c00040001120812860100010000000a000000
+    taken_second 0300002102f080320700000002000c00040001120812860100020000000a000000
+    # The first fragment of AA BB CC DD, with two octets, and the last one.
+    begun 0300002d02f080320700000002000c0010000112081246010001010000ff09000c12061300000000010004aabb
+    ended 0300002b02f080320700000003000c000e000112081246010001000000ff09000a1206130000000001ccdd
+    # The last fragment with the number 2, with the R_ID 2, with one octet, and with none and more to follow.
+    of_another_send 0300002b02f080320700000003000c000e000112081246010002000000ff09000a1206130000000001ccdd
+    of_another_block 0300002b02f080320700000003000c000e000112081246010001000000ff09000a1206130000000002ccdd
+    too_few 0300002a02f080320700000003000c000d000112081246010001000000ff0900091206130000000001cc
+    none_and_more 0300002902f080320700000003000c000c000112081246010001010000ff0900081206130000000001
+    # The acknowledgement of the last fragment of AA BB CC DD.
+    taken_third 0300002102f080320700000003000c00040001120812860100010000000a000000
+    # A fragment of four octets of a block of three.
+    passing 0300002f02f080320700000002000c0012000112081246010001010000ff09000e12061300000000010003aabbccdd
+    # A disconnect request, and an error TPDU.
+    leaves 0300000b06800001000180
+    rejects 030000090470000100
+    # The negotiation of PDU 63.
+    too_small 0300001902f08032010000000100080000f00000010001003f
+    # A message of nine octets.
+    short 0300001002f080320700000002000c00
+";
+
+/// The first word, and what follows it.
+pub(crate) fn cut(text: &str) -> (&str, &str) {
+    match text.split_once(' ') {
+        Some(pair) => pair,
+        None => (text, ""),
+    }
+}
+
+pub(crate) fn number(word: &str) -> Result<u32, Fail> {
+    Ok(word.parse::<u32>()?)
+}
+
+/// The digits of a name, or else the word itself.
+fn digits_of(word: &str) -> &str {
+    for line in NAMED.lines() {
+        let (name, digits) = cut(line.trim());
+        if name == word {
+            return digits;
+        }
+    }
+    word
+}
+
+/// Octets by a name or in hexadecimal digits, or by `#` and a number so many that aren't all alike.
+pub(crate) fn octets(alloc: Global, word: &str) -> Result<Vec<u8>, Fail> {
+    match word.strip_prefix('#') {
+        Some(count) => some_octets(alloc, number(count)?),
+        None => Ok(hex::decode(alloc, digits_of(word))?),
+    }
+}
+
+/// So many octets that aren't all alike.
+pub(crate) fn some_octets(alloc: Global, count: u32) -> Result<Vec<u8>, Fail> {
+    let mut octets = Vec::new(alloc);
+    for k in 0..count {
+        octets.push((k % 251) as u8)?;
+    }
+    Ok(octets)
+}
+
+/// The octets of each word, one after another.
+pub(crate) fn joined(alloc: Global, words: &str) -> Result<Vec<u8>, Fail> {
+    let mut all = Vec::new(alloc);
+    for word in words.split_whitespace() {
+        all.extend_from_slice(octets(alloc, word)?.as_slice())?;
+    }
+    Ok(all)
+}
