@@ -5,7 +5,11 @@
 #[cfg(test)]
 mod blocks;
 #[cfg(test)]
+mod calls;
+#[cfg(test)]
 mod made;
+#[cfg(test)]
+mod over_tcp;
 #[cfg(test)]
 mod panels;
 #[cfg(test)]
