@@ -3,24 +3,24 @@ use Rattle.std.proofs.Common.{◌≡◌, ℕ, ◌-◌, List, [], ◌++◌, lengt
 use Rattle.std.specs.Prelude.{Option}
 use Rattle.std.proofs.lemmas.List.{append-nil, nil_from_length, length-drop}
 use Rattle.s7_wire.specs.Sent.{sent_messages}
-use Rattle.s7_client.specs.declared.config.Config.{Config}
-use Rattle.s7_client.specs.declared.job.Job.{Job}
-use Rattle.s7_client.specs.declared.grant.Grant.{Grant}
-use Rattle.s7_client.specs.declared.grant.Leaves.{Leaves}
-use Rattle.s7_client.specs.declared.asking.Asking.{Asking}
-use Rattle.s7_client.specs.declared.flight.Flight.{Flight}
+use Rattle.s7_dialogue.specs.declared.config.Config.{Config}
+use Rattle.s7_dialogue.specs.declared.job.Job.{Job}
+use Rattle.s7_dialogue.specs.declared.grant.Grant.{Grant}
+use Rattle.s7_dialogue.specs.declared.grant.Leaves.{Leaves}
+use Rattle.s7_dialogue.specs.declared.asking.Asking.{Asking}
+use Rattle.s7_dialogue.specs.declared.flight.Flight.{Flight}
 use Rattle.s7_client.specs.declared.talk.Talk.{Talk}
-use Rattle.s7_client.specs.declared.running.Running.{Running}
-use Rattle.s7_client.specs.declared.running.Stage.{Stage}
-use Rattle.s7_client.specs.declared.running.Stage.TheVariants as stage
-use Rattle.s7_client.specs.Flight.{open_count}
-use Rattle.s7_client.specs.Dialogue.{End, First, nothing, connect_request, disconnect_request, Plan, silent, over, plan_of}
-use Rattle.s7_client.specs.Course.{Origin, Course, for_confirm, for_departure, for_nothing, blank, begun, by_first, conduct_of, asking, asked_on, connect_octets, disconnect_octets}
-use Rattle.s7_client.specs.Stages.{message_of}
-use Rattle.s7_client.specs.Running.{awaited_in, awaited_by, unput_of, unput_by, conduct_in, Begins, BeginsAt, Reached, Follows, IsOver, IsOpening, IsAsking, IsLeaving}
+use Rattle.s7_dialogue.specs.declared.running.Running.{Running}
+use Rattle.s7_dialogue.specs.declared.running.Stage.{Stage}
+use Rattle.s7_dialogue.specs.declared.running.Stage.TheVariants as stage
+use Rattle.s7_dialogue.specs.Flight.{open_count}
+use Rattle.s7_dialogue.specs.Dialogue.{End, First, nothing, connect_request, disconnect_request, Plan, silent, over, plan_of}
+use Rattle.s7_dialogue.specs.Course.{Origin, Course, for_confirm, for_departure, for_nothing, blank, begun, by_first, conduct_of, asking, asked_on, connect_octets, disconnect_octets}
+use Rattle.s7_dialogue.specs.Stages.{message_of}
+use Rattle.s7_dialogue.specs.Running.{awaited_in, awaited_by, unput_of, unput_by, conduct_in, Begins, BeginsAt, Reached, Follows, IsOver, IsOpening, IsAsking, IsLeaving}
 use Rattle.s7_client.specs.At.{StartsAt, BeginsTalk, pending}
-use Rattle.s7_client.proofs.FlightLemmas.{asks_on}
-use Rattle.s7_client.proofs.SingleLemmas.{unasked_unput}
+use Rattle.s7_dialogue.proofs.FlightLemmas.{asks_on}
+use Rattle.s7_dialogue.proofs.SingleLemmas.{unasked_unput}
 use Rattle.s7_client.proofs.PacketLemmas.{IsSettled, asking_settled, conduct_same, follows_as, not_opening, not_leaving}
 
 -- ---- what is begun

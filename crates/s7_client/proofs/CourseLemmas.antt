@@ -5,7 +5,7 @@ use Rattle.s7_tpkt.specs.Cut.{Cut}
 use Rattle.s7_tpkt.specs.Packets.{packets_of, rest_of, state_of, state_by, if_begun, HoldsRest, GoesOn, EndsPacket}
 use Rattle.s7_tpkt.specs.declared.state.FedState.{FedState}
 use Rattle.s7_tpkt.specs.declared.state.FedState.TheVariants as fed
-use Rattle.s7_client.specs.Course.{Origin, Course, Awaits, for_confirm, for_answers, for_departure, for_nothing, begun, run, with_packet, with_rest, unless_over, packets_run, course, limits, limit_in}
+use Rattle.s7_dialogue.specs.Course.{Origin, Course, Awaits, for_confirm, for_answers, for_departure, for_nothing, begun, run, with_packet, with_rest, unless_over, packets_run, course, limits, limit_in}
 
 pub run-append : (origin : Origin) (c : Course) (xs ys : List (List ℕ))
     → run origin c (xs ++ ys) ≡ run origin (run origin c xs) ys

@@ -7,14 +7,14 @@ use Rattle.s7_item.specs.declared.item.Item.{Item}
 use Rattle.s7_item.specs.Sizes.{request_size, answer_size}
 use Rattle.s7_split.specs.Fits.{fits, answer_length}
 use Rattle.s7_split.specs.Parts.{parts_of}
-use Rattle.s7_client.specs.DataBlocks.{data_item, data_items_from, data_parts}
-use Rattle.s7_client.specs.Checks.{octet_count_of}
-use Rattle.s7_client.specs.Dialogue.{alone}
-use Rattle.s7_client.specs.DataPlaces.{parts_of_all}
-use Rattle.s7_client.proofs.GroupLemmas.{octet_count_append}
-use Rattle.s7_client.proofs.SpotLemmas.{all_append}
-use Rattle.s7_client.proofs.DataPartLemmas.{byte_octets, pieces, parts_pieces}
-use Rattle.s7_client.proofs.DataReadLemmas.{write_sized, read_sized}
+use Rattle.s7_dialogue.specs.DataBlocks.{data_item, data_items_from, data_parts}
+use Rattle.s7_dialogue.specs.Checks.{octet_count_of}
+use Rattle.s7_dialogue.specs.Dialogue.{alone}
+use Rattle.s7_dialogue.specs.DataPlaces.{parts_of_all}
+use Rattle.s7_dialogue.proofs.GroupLemmas.{octet_count_append}
+use Rattle.s7_dialogue.proofs.SpotLemmas.{all_append}
+use Rattle.s7_dialogue.proofs.DataPartLemmas.{byte_octets, pieces, parts_pieces}
+use Rattle.s7_dialogue.proofs.DataReadLemmas.{write_sized, read_sized}
 
 -- each item alone fits the PDU
 abbrev FitAlone : ℕ → Bool → List Item → Type 0

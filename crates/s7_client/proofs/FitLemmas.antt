@@ -24,31 +24,31 @@ use Rattle.s7_clock.specs.declared.control.Control.{Control}
 use Rattle.s7_clock.specs.declared.control.Control.TheVariants as control
 use Rattle.s7_clock.specs.Control.{control_spelling}
 use Rattle.s7_clock.specs.Moment.{octets_at}
-use Rattle.s7_client.specs.declared.config.Config.{Config}
-use Rattle.s7_client.specs.declared.grant.Grant.{Grant}
-use Rattle.s7_client.specs.declared.grant.Leaves.TheVariants.{AsItWas}
-use Rattle.s7_client.specs.declared.job.Job.{Job}
-use Rattle.s7_client.specs.declared.job.Job.TheVariants as job
-use Rattle.s7_client.specs.declared.subject.Subject.{Subject}
-use Rattle.s7_client.specs.declared.subject.Subject.TheVariants.{StatusList, RunState, BlockCounts, BlocksOfKind, BlockHead, DataHead, Clock, ClockSetting, Password, PasswordClearing}
-use Rattle.s7_client.specs.UserData.{request_params, further_params, no_data, data_of, filled_text, encoded_after, encoded}
-use Rattle.s7_client.specs.DataBlocks.{data_length, data_parts}
-use Rattle.s7_client.specs.Uploads.{start_params, id_params}
-use Rattle.s7_client.specs.Question.{Question, reads, writes, controls, asks, asks_further, written, message_octets, question_octets}
-use Rattle.s7_client.specs.Question.{starts_upload, slices_upload, ends_upload}
-use Rattle.s7_client.specs.Answer.{Answer}
-use Rattle.s7_client.specs.Checks.{octet_count_of, check_item, check_items, check_moment, check_password}
-use Rattle.s7_client.specs.Stages.{joined}
-use Rattle.s7_client.specs.Flight.{Row, open_count}
-use Rattle.s7_client.specs.Dialogue.{Conduct, Plan, over, End, number_end, read_questions, write_questions, alone, controlling, octets_brought, count_of_data, behind, or_later, next_of_data, last_answer, asking_about, list_octets, kind_octets, block_octets, if_good, connected_plan, plan_of}
-use Rattle.s7_client.specs.Course.{Origin, conduct_of, course}
-use Rattle.s7_client.proofs.CheckLemmas.{item_checked, items_checked, can_split}
-use Rattle.s7_client.proofs.MessageLemmas.{written_sent}
-use Rattle.s7_client.proofs.GroupLemmas.{octet_count_append, joined_alone, groups_right, parts_together}
-use Rattle.s7_client.proofs.FlightLemmas.{same_some, open_append, ComesNext, filled_open}
-use Rattle.s7_client.proofs.RowLemmas.{RowsKept, course_rows}
-use Rattle.s7_client.proofs.BringLemmas.{asks_behind}
-use Rattle.s7_client.proofs.UploadLemmas.{IsOf, IsUnderWay, upload_asks}
+use Rattle.s7_dialogue.specs.declared.config.Config.{Config}
+use Rattle.s7_dialogue.specs.declared.grant.Grant.{Grant}
+use Rattle.s7_dialogue.specs.declared.grant.Leaves.TheVariants.{AsItWas}
+use Rattle.s7_dialogue.specs.declared.job.Job.{Job}
+use Rattle.s7_dialogue.specs.declared.job.Job.TheVariants as job
+use Rattle.s7_dialogue.specs.declared.subject.Subject.{Subject}
+use Rattle.s7_dialogue.specs.declared.subject.Subject.TheVariants.{StatusList, RunState, BlockCounts, BlocksOfKind, BlockHead, DataHead, Clock, ClockSetting, Password, PasswordClearing}
+use Rattle.s7_dialogue.specs.UserData.{request_params, further_params, no_data, data_of, filled_text, encoded_after, encoded}
+use Rattle.s7_dialogue.specs.DataBlocks.{data_length, data_parts}
+use Rattle.s7_dialogue.specs.Uploads.{start_params, id_params}
+use Rattle.s7_dialogue.specs.Question.{Question, reads, writes, controls, asks, asks_further, written, message_octets, question_octets}
+use Rattle.s7_dialogue.specs.Question.{starts_upload, slices_upload, ends_upload}
+use Rattle.s7_dialogue.specs.Answer.{Answer}
+use Rattle.s7_dialogue.specs.Checks.{octet_count_of, check_item, check_items, check_moment, check_password}
+use Rattle.s7_dialogue.specs.Stages.{joined}
+use Rattle.s7_dialogue.specs.Flight.{Row, open_count}
+use Rattle.s7_dialogue.specs.Dialogue.{Conduct, Plan, over, End, number_end, read_questions, write_questions, alone, controlling, octets_brought, count_of_data, behind, or_later, next_of_data, last_answer, asking_about, list_octets, kind_octets, block_octets, if_good, connected_plan, plan_of}
+use Rattle.s7_dialogue.specs.Course.{Origin, conduct_of, course}
+use Rattle.s7_dialogue.proofs.CheckLemmas.{item_checked, items_checked, can_split}
+use Rattle.s7_dialogue.proofs.MessageLemmas.{written_sent}
+use Rattle.s7_dialogue.proofs.GroupLemmas.{octet_count_append, joined_alone, groups_right, parts_together}
+use Rattle.s7_dialogue.proofs.FlightLemmas.{same_some, open_append, ComesNext, filled_open}
+use Rattle.s7_dialogue.proofs.RowLemmas.{RowsKept, course_rows}
+use Rattle.s7_dialogue.proofs.BringLemmas.{asks_behind}
+use Rattle.s7_dialogue.proofs.UploadLemmas.{IsOf, IsUnderWay, upload_asks}
 use Rattle.s7_client.proofs.DataFitLemmas.{data_fit, data_few}
 
 -- ---- general lemmas

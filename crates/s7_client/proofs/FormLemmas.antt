@@ -15,32 +15,32 @@ use Rattle.s7_split.specs.Groups.{groups_of}
 use Rattle.s7_block.specs.declared.block.BlockName.{BlockName}
 use Rattle.s7_clock.specs.declared.control.Control.{Control}
 use Rattle.s7_clock.specs.declared.control.Control.TheVariants as control
-use Rattle.s7_client.specs.declared.config.Config.{Config}
-use Rattle.s7_client.specs.declared.grant.Grant.{Grant}
-use Rattle.s7_client.specs.declared.grant.Leaves.{Leaves}
-use Rattle.s7_client.specs.declared.grant.Leaves.TheVariants.{AsItWas, Connected, Disconnected, Closed}
-use Rattle.s7_client.specs.declared.job.Job.{Job}
-use Rattle.s7_client.specs.declared.job.Job.TheVariants as job
-use Rattle.s7_client.specs.declared.subject.Subject.{Subject}
-use Rattle.s7_client.specs.declared.subject.Subject.TheVariants.{StatusList, RunState, BlockCounts, BlocksOfKind, BlockHead, Clock, ClockSetting, Password, PasswordClearing}
-use Rattle.s7_client.specs.UserData.{is_whole, lead_of}
-use Rattle.s7_client.specs.Question.{Question}
-use Rattle.s7_client.specs.Answer.{Answer, ItemAnswer, grants, tells, notes, stands, refuses, begins_read, begins_refused, item_first, item_answers}
-use Rattle.s7_client.specs.Refusals.{number_of_error, number_of_code, number_of_status, code_refusal, telegram_refusal, part_refusal, control_refusal}
-use Rattle.s7_client.specs.Checks.{octet_count_of, check_item, check_items, check_moment, check_password}
-use Rattle.s7_client.specs.Stages.{joined}
-use Rattle.s7_client.specs.Flight.{Row, answers_of}
-use Rattle.s7_client.specs.Dialogue.{End, Conduct, Plan, departed_end, number_end, fault_end, over, taken_grant, by_grant, negotiated_by, negotiated, read_questions, write_questions, first_or, refusal_in, first_refusal, plain_number, write_number, by_refusal, octets_told, codes_told, octets_brought, count_of_data, fill_number, good_end, alone, listed, controlling, asking_about, uploading, getting, filling, if_good, connected_plan, unconnected_plan, plan_of}
-use Rattle.s7_client.specs.Course.{Origin, for_departure, for_nothing, conduct_of, course}
+use Rattle.s7_dialogue.specs.declared.config.Config.{Config}
+use Rattle.s7_dialogue.specs.declared.grant.Grant.{Grant}
+use Rattle.s7_dialogue.specs.declared.grant.Leaves.{Leaves}
+use Rattle.s7_dialogue.specs.declared.grant.Leaves.TheVariants.{AsItWas, Connected, Disconnected, Closed}
+use Rattle.s7_dialogue.specs.declared.job.Job.{Job}
+use Rattle.s7_dialogue.specs.declared.job.Job.TheVariants as job
+use Rattle.s7_dialogue.specs.declared.subject.Subject.{Subject}
+use Rattle.s7_dialogue.specs.declared.subject.Subject.TheVariants.{StatusList, RunState, BlockCounts, BlocksOfKind, BlockHead, Clock, ClockSetting, Password, PasswordClearing}
+use Rattle.s7_dialogue.specs.UserData.{is_whole, lead_of}
+use Rattle.s7_dialogue.specs.Question.{Question}
+use Rattle.s7_dialogue.specs.Answer.{Answer, ItemAnswer, grants, tells, notes, stands, refuses, begins_read, begins_refused, item_first, item_answers}
+use Rattle.s7_dialogue.specs.Refusals.{number_of_error, number_of_code, number_of_status, code_refusal, telegram_refusal, part_refusal, control_refusal}
+use Rattle.s7_dialogue.specs.Checks.{octet_count_of, check_item, check_items, check_moment, check_password}
+use Rattle.s7_dialogue.specs.Stages.{joined}
+use Rattle.s7_dialogue.specs.Flight.{Row, answers_of}
+use Rattle.s7_dialogue.specs.Dialogue.{End, Conduct, Plan, departed_end, number_end, fault_end, over, taken_grant, by_grant, negotiated_by, negotiated, read_questions, write_questions, first_or, refusal_in, first_refusal, plain_number, write_number, by_refusal, octets_told, codes_told, octets_brought, count_of_data, fill_number, good_end, alone, listed, controlling, asking_about, uploading, getting, filling, if_good, connected_plan, unconnected_plan, plan_of}
+use Rattle.s7_dialogue.specs.Course.{Origin, for_departure, for_nothing, conduct_of, course}
 use Rattle.s7_client.specs.Form.{count_read, octets_read, FormOf, HasForm, IsWhole}
-use Rattle.s7_client.proofs.CheckLemmas.{item_checked, items_checked, can_split}
-use Rattle.s7_client.proofs.GroupLemmas.{joined_alone, parts_together, groups_right}
-use Rattle.s7_client.proofs.FlightLemmas.{same_some, IsAnswered, all_answered, IsEnded}
-use Rattle.s7_client.proofs.RowLemmas.{IsListed, HasAnswer, RowsFit, rows_fit}
+use Rattle.s7_dialogue.proofs.CheckLemmas.{item_checked, items_checked, can_split}
+use Rattle.s7_dialogue.proofs.GroupLemmas.{joined_alone, parts_together, groups_right}
+use Rattle.s7_dialogue.proofs.FlightLemmas.{same_some, IsAnswered, all_answered, IsEnded}
+use Rattle.s7_dialogue.proofs.RowLemmas.{IsListed, HasAnswer, RowsFit, rows_fit}
 use Rattle.s7_client.proofs.PlanLemmas.{IsFaulted, course_over, course_leaves, plan_leaves}
-use Rattle.s7_client.proofs.EndLemmas.{first_none}
-use Rattle.s7_client.proofs.BringLastLemmas.{AsksLast, course_last}
-use Rattle.s7_client.proofs.BringLemmas.{Fits, answer_fits, whole_brought}
+use Rattle.s7_dialogue.proofs.EndLemmas.{first_none}
+use Rattle.s7_dialogue.proofs.BringLastLemmas.{AsksLast, course_last}
+use Rattle.s7_dialogue.proofs.BringLemmas.{Fits, answer_fits, whole_brought}
 
 -- ---- answers that fit
 

@@ -6,7 +6,7 @@ use Rattle.s7_tpkt.specs.Cut.{Cut}
 use Rattle.s7_tpkt.specs.Packets.{HoldsRest, state_of}
 use Rattle.s7_tpkt.specs.declared.state.FedState.TheVariants as fed
 use Rattle.s7_tpkt.proofs.PacketLemmas.{goes_on_at}
-use Rattle.s7_client.specs.Course.{Origin, course, may_send, limits}
+use Rattle.s7_dialogue.specs.Course.{Origin, course, may_send, limits}
 use Rattle.s7_client.specs.Standing.{AwaitsOctets, AllAwaited, SentFirst, IsPrefixOf}
 use Rattle.s7_client.proofs.CourseLemmas.{course_on_more}
 

@@ -4,7 +4,7 @@ use Rattle.s7_cotp.specs.Gathered.{Gathered, is_fault}
 use Rattle.s7_cotp.specs.declared.joining.Joined.TheVariants as joined
 use Rattle.s7_cotp.specs.Messages.{Fragment, Step, more, whole, too_many_fragments, too_long, joined_with, after_step, with_fragment, open_octets, answer_of}
 use Rattle.s7_wire.specs.Bounds.{message_limit}
-use Rattle.s7_client.specs.Course.{nothing_unfinished}
+use Rattle.s7_dialogue.specs.Course.{nothing_unfinished}
 use Rattle.s7_client.specs.At.{unfinished_of}
 
 -- what is held is what the step makes

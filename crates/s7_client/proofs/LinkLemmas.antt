@@ -6,14 +6,14 @@ use Rattle.std.proofs.lemmas.List.{append-nil, nil_from_length}
 use Rattle.std.specs.Io.KnownBytes.{prepend_known, append_known}
 use Rattle.s7_outer.specs.Shown.{Shown}
 use Rattle.s7_outer.specs.Count.{Rose}
-use Rattle.s7_client.specs.declared.config.Config.{Config}
-use Rattle.s7_client.specs.declared.grant.Grant.{Grant}
+use Rattle.s7_dialogue.specs.declared.config.Config.{Config}
+use Rattle.s7_dialogue.specs.declared.grant.Grant.{Grant}
 use Rattle.s7_client.specs.declared.line.Line.{Line}
 use Rattle.s7_client.specs.declared.under_way.UnderWay.{UnderWay}
 use Rattle.s7_client.specs.declared.steps.Step.TheVariants as step
-use Rattle.s7_client.specs.Dialogue.{fault_end}
-use Rattle.s7_client.specs.Running.{awaited_in, IsOver}
-use Rattle.s7_client.specs.Course.{Origin, for_nothing, course, may_send}
+use Rattle.s7_dialogue.specs.Dialogue.{fault_end}
+use Rattle.s7_dialogue.specs.Running.{awaited_in, IsOver}
+use Rattle.s7_dialogue.specs.Course.{Origin, for_nothing, course, may_send}
 use Rattle.s7_client.specs.At.{IsAwaiting, pending}
 use Rattle.s7_client.specs.Standing.{Stands, Fits, Consumes, Moves, IsStep, IsWaiting, HasMetNotYet, HasCause, HasEnded, unread, unsent}
 use Rattle.s7_client.proofs.PacketLemmas.{awaiting_goes_on, closed_stage}

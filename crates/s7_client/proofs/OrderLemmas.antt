@@ -2,7 +2,7 @@
 use Rattle.std.proofs.Common.{◌≡◌, ℕ, ◌<◌, List, [], ◌∷◌, ◌++◌, length, refl, ap, sym, ◌∙◌, subst, append_assoc, arith, length-append}
 use Rattle.std.proofs.lemmas.List.{append-nil, append_cancel_left}
 use Rattle.s7_outer.specs.Shown.{Shown}
-use Rattle.s7_client.specs.Course.{Origin, may_send}
+use Rattle.s7_dialogue.specs.Course.{Origin, may_send}
 use Rattle.s7_client.specs.Order.{Deed, transmits, uses, receives, transmitted_in, used_in, received_in, AreInOrder}
 use Rattle.s7_client.specs.Standing.{Moves, IsOrderly}
 

@@ -3,23 +3,23 @@ use Rattle.std.proofs.Common.{◌≡◌, ◌==◌, Bool, true, false, cond, ℕ,
 use Rattle.std.specs.Prelude.{Option, None, Some, nat_lt}
 use Rattle.std.proofs.lemmas.Bool.Decides.{nat_tests}
 use Rattle.std.proofs.lemmas.List.{append-nil}
-use Rattle.s7_client.specs.declared.config.Config.{Config}
-use Rattle.s7_client.specs.declared.job.Job.{Job}
-use Rattle.s7_client.specs.declared.grant.Grant.{Grant}
-use Rattle.s7_client.specs.declared.grant.Leaves.{Leaves}
-use Rattle.s7_client.specs.declared.grant.Leaves.TheVariants as leaving
-use Rattle.s7_client.specs.declared.running.Running.{Running}
-use Rattle.s7_client.specs.declared.running.Stage.{Stage}
-use Rattle.s7_client.specs.declared.running.Stage.TheVariants as stage
+use Rattle.s7_dialogue.specs.declared.config.Config.{Config}
+use Rattle.s7_dialogue.specs.declared.job.Job.{Job}
+use Rattle.s7_dialogue.specs.declared.grant.Grant.{Grant}
+use Rattle.s7_dialogue.specs.declared.grant.Leaves.{Leaves}
+use Rattle.s7_dialogue.specs.declared.grant.Leaves.TheVariants as leaving
+use Rattle.s7_dialogue.specs.declared.running.Running.{Running}
+use Rattle.s7_dialogue.specs.declared.running.Stage.{Stage}
+use Rattle.s7_dialogue.specs.declared.running.Stage.TheVariants as stage
 use Rattle.s7_client.specs.declared.talk.Talk.{Talk}
 use Rattle.s7_client.specs.declared.under_way.UnderWay.{UnderWay}
-use Rattle.s7_client.specs.Codes.{short_message, invalid_answer}
-use Rattle.s7_client.specs.Flight.{Row, open_count, answers_of, filled}
-use Rattle.s7_client.specs.Dialogue.{Conduct, End, connect_request, fault_end, plan_of}
-use Rattle.s7_client.specs.Course.{Origin, Course, Awaits, for_confirm, for_answers, for_departure, for_nothing, conduct_of, asked_on, asking, with_fault, by_rows, with_message}
-use Rattle.s7_client.specs.Running.{awaited_in, awaited_by, unput_of, unput_by, conduct_in, Reached, Follows, IsOver, IsAsking, IsOpening, IsLeaving, answers_left}
+use Rattle.s7_dialogue.specs.Codes.{short_message, invalid_answer}
+use Rattle.s7_dialogue.specs.Flight.{Row, open_count, answers_of, filled}
+use Rattle.s7_dialogue.specs.Dialogue.{Conduct, End, connect_request, fault_end, plan_of}
+use Rattle.s7_dialogue.specs.Course.{Origin, Course, Awaits, for_confirm, for_answers, for_departure, for_nothing, conduct_of, asked_on, asking, with_fault, by_rows, with_message}
+use Rattle.s7_dialogue.specs.Running.{awaited_in, awaited_by, unput_of, unput_by, conduct_in, Reached, Follows, IsOver, IsAsking, IsOpening, IsLeaving, answers_left}
 use Rattle.s7_client.specs.At.{IsAt, IsAwaiting, LeavesOpen, LeavesLink, Settles, Takes, Reaches, messages_left, pending, unfinished_of}
-use Rattle.s7_client.proofs.FlightLemmas.{asks_on}
+use Rattle.s7_dialogue.proofs.FlightLemmas.{asks_on}
 
 pub asking_awaits : (s : Stage) → IsAsking s → IsAwaiting s
 asking_awaits stage.Opening h = absurd h

@@ -2,17 +2,17 @@
 use Rattle.std.proofs.Common.{◌≡◌, ◌≢◌, ◌⊎◌, inl, inr, ℕ, ◌<◌, Bool, true, false, cond, eqb, Option, Some, None, List, [], length, refl, subst, arith}
 use Rattle.std.proofs.lemmas.Bool.{eqb-true, eqb-false}
 use Rattle.s7_item.specs.Item.{octet_count}
-use Rattle.s7_client.specs.declared.config.Config.{Config}
-use Rattle.s7_client.specs.declared.grant.Grant.{Grant}
-use Rattle.s7_client.specs.declared.grant.Leaves.TheVariants.{Disconnected}
-use Rattle.s7_client.specs.declared.job.Job.{Job}
-use Rattle.s7_client.specs.declared.job.Job.TheVariants as job
-use Rattle.s7_client.specs.Checks.{check_item, check_items, check_moment, check_password, octet_count_of}
-use Rattle.s7_client.specs.Flight.{Row, answers_of, open_count}
-use Rattle.s7_client.specs.Dialogue.{End, fault_end, number_end, departed_end, First, nothing, connect_request, disconnect_request, Plan, over, connecting_plan, is_connect, connected_plan, plan_of}
-use Rattle.s7_client.specs.Course.{Origin, Course, Awaits, for_confirm, for_answers, for_departure, for_nothing, conduct_of, next_question, asked_on, asking, by_first, blank, begun, course}
-use Rattle.s7_client.proofs.FlightLemmas.{nothing_more, settled_ends, IsEnded, asking_ends}
-use Rattle.s7_client.proofs.RowLemmas.{IsKept, course_kept}
+use Rattle.s7_dialogue.specs.declared.config.Config.{Config}
+use Rattle.s7_dialogue.specs.declared.grant.Grant.{Grant}
+use Rattle.s7_dialogue.specs.declared.grant.Leaves.TheVariants.{Disconnected}
+use Rattle.s7_dialogue.specs.declared.job.Job.{Job}
+use Rattle.s7_dialogue.specs.declared.job.Job.TheVariants as job
+use Rattle.s7_dialogue.specs.Checks.{check_item, check_items, check_moment, check_password, octet_count_of}
+use Rattle.s7_dialogue.specs.Flight.{Row, answers_of, open_count}
+use Rattle.s7_dialogue.specs.Dialogue.{End, fault_end, number_end, departed_end, First, nothing, connect_request, disconnect_request, Plan, over, connecting_plan, is_connect, connected_plan, plan_of}
+use Rattle.s7_dialogue.specs.Course.{Origin, Course, Awaits, for_confirm, for_answers, for_departure, for_nothing, conduct_of, next_question, asked_on, asking, by_first, blank, begun, course}
+use Rattle.s7_dialogue.proofs.FlightLemmas.{nothing_more, settled_ends, IsEnded, asking_ends}
+use Rattle.s7_dialogue.proofs.RowLemmas.{IsKept, course_kept}
 
 -- ---- how a course stands at what it awaits
 

@@ -2,15 +2,15 @@
 use Rattle.std.proofs.Common.{◌≡◌, ℕ, Bool, true, List, [], ◌++◌, refl, ap, sym, ◌∙◌, subst}
 use Rattle.std.specs.Prelude.{Option, None, Some, unwrap_or, IsSome, is_some, not, option_map}
 use Rattle.s7_outer.specs.Shown.{Shown}
-use Rattle.s7_client.specs.declared.job.JobResult.{JobResult}
+use Rattle.s7_dialogue.specs.declared.job.JobResult.{JobResult}
 use Rattle.s7_client.specs.declared.job.Polled.TheVariants as polled
-use Rattle.s7_client.specs.declared.grant.Leaves.{Leaves}
+use Rattle.s7_dialogue.specs.declared.grant.Leaves.{Leaves}
 use Rattle.s7_client.specs.declared.line.Line.{Line}
 use Rattle.s7_client.specs.declared.under_way.UnderWay.{UnderWay}
 use Rattle.s7_client.specs.declared.client.Client.{Client}
-use Rattle.s7_client.specs.Dialogue.{End}
-use Rattle.s7_client.specs.Running.{awaited_in, IsResult}
-use Rattle.s7_client.specs.Course.{Origin, for_nothing}
+use Rattle.s7_dialogue.specs.Dialogue.{End}
+use Rattle.s7_dialogue.specs.Running.{awaited_in, IsResult}
+use Rattle.s7_dialogue.specs.Course.{Origin, for_nothing}
 use Rattle.s7_client.specs.Standing.{Stands, unread}
 use Rattle.s7_client.specs.Polling.{StandsFor, IsPoll, IsDoneBy, WaitsOnce, RoundGoesOn, RoundEnds, grant_after, closed_after, job_of, waited_of}
 use Rattle.s7_client.proofs.LinkLemmas.{moves_none}

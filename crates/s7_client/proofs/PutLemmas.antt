@@ -7,18 +7,18 @@ use Rattle.s7_cotp.specs.Gathered.{is_fault}
 use Rattle.s7_cotp.specs.Pairs.{pairs_of, pairs_from, fragments_of}
 use Rattle.s7_wire.specs.Bounds.{limit_of_size, most_packets}
 use Rattle.s7_wire.specs.Sent.{fragment_octets, sent_message}
-use Rattle.s7_client.specs.declared.config.Config.{Config}
-use Rattle.s7_client.specs.declared.grant.Grant.{Grant}
+use Rattle.s7_dialogue.specs.declared.config.Config.{Config}
+use Rattle.s7_dialogue.specs.declared.grant.Grant.{Grant}
 use Rattle.s7_client.specs.declared.talk.Talk.{Talk}
-use Rattle.s7_client.specs.declared.running.Running.{Running}
-use Rattle.s7_client.specs.declared.running.Stage.{Stage}
-use Rattle.s7_client.specs.declared.running.Stage.TheVariants as stage
+use Rattle.s7_dialogue.specs.declared.running.Running.{Running}
+use Rattle.s7_dialogue.specs.declared.running.Stage.{Stage}
+use Rattle.s7_dialogue.specs.declared.running.Stage.TheVariants as stage
 use Rattle.s7_client.specs.declared.line.Line.{Line}
 use Rattle.s7_client.specs.declared.under_way.UnderWay.{UnderWay}
 use Rattle.s7_client.specs.declared.steps.Step.{Step}
-use Rattle.s7_client.specs.Flight.{Row}
-use Rattle.s7_client.specs.Running.{awaited_in, unput_of, Follows, IsOver, IsOpening, IsAsking, IsLeaving, answers_left}
-use Rattle.s7_client.specs.Course.{Origin, Course, course}
+use Rattle.s7_dialogue.specs.Flight.{Row}
+use Rattle.s7_dialogue.specs.Running.{awaited_in, unput_of, Follows, IsOver, IsOpening, IsAsking, IsLeaving, answers_left}
+use Rattle.s7_dialogue.specs.Course.{Origin, Course, course}
 use Rattle.s7_client.specs.At.{IsAt, IsClear, LeavesOpen, Puts, messages_left, pending, unfinished_of}
 use Rattle.s7_client.specs.Standing.{Stands, Fits, IsBetween, IsStep, unsent}
 use Rattle.s7_client.proofs.PacketLemmas.{asking_awaits, one_is_none, over_not_asking}

@@ -2,18 +2,18 @@
 use Rattle.std.proofs.Common.{◌≡◌, Bool, true, false, inl, inr, ℕ, ◌+◌, ◌≤◌, List, [], ◌++◌, refl, ap, sym, ◌∙◌, subst, append_assoc, arith}
 use Rattle.std.specs.Prelude.{Option, Some}
 use Rattle.s7_outer.specs.Shown.{Shown}
-use Rattle.s7_client.specs.declared.config.Config.{Config}
-use Rattle.s7_client.specs.declared.grant.Grant.{Grant}
-use Rattle.s7_client.specs.declared.running.Stage.{Stage}
-use Rattle.s7_client.specs.declared.running.Stage.TheVariants as stage
+use Rattle.s7_dialogue.specs.declared.config.Config.{Config}
+use Rattle.s7_dialogue.specs.declared.grant.Grant.{Grant}
+use Rattle.s7_dialogue.specs.declared.running.Stage.{Stage}
+use Rattle.s7_dialogue.specs.declared.running.Stage.TheVariants as stage
 use Rattle.s7_client.specs.declared.line.Line.{Line}
 use Rattle.s7_client.specs.declared.under_way.UnderWay.{UnderWay}
 use Rattle.s7_client.specs.declared.steps.Step.{Step}
 use Rattle.s7_client.specs.declared.steps.Step.TheVariants as step
-use Rattle.s7_client.specs.Codes.{timed_out}
-use Rattle.s7_client.specs.Dialogue.{End, fault_end}
-use Rattle.s7_client.specs.Running.{awaited_by, IsOver}
-use Rattle.s7_client.specs.Course.{Origin, for_nothing, course}
+use Rattle.s7_dialogue.specs.Codes.{timed_out}
+use Rattle.s7_dialogue.specs.Dialogue.{End, fault_end}
+use Rattle.s7_dialogue.specs.Running.{awaited_by, IsOver}
+use Rattle.s7_dialogue.specs.Course.{Origin, for_nothing, course}
 use Rattle.s7_client.specs.At.{pending}
 use Rattle.s7_client.specs.Standing.{Stands, Fits, Moves, IsOrderly, IsStep, HasMetNotYet, IsUnderWay, HasCause, AwaitsOctets, unread}
 use Rattle.s7_client.specs.Polling.{Waits, Round, RoundGoesOn, RoundEnds}

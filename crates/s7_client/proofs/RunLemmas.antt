@@ -5,19 +5,19 @@ use Rattle.std.specs.Option.{ForSome}
 use Rattle.std.proofs.lemmas.List.{append-nil}
 use Rattle.s7_outer.specs.Shown.{Shown}
 use Rattle.s7_outer.specs.Count.{Rose, RoseBy}
-use Rattle.s7_client.specs.declared.config.Config.{Config}
-use Rattle.s7_client.specs.Codes.{link_ended, receive_failed, send_failed, timed_out}
-use Rattle.s7_client.specs.declared.grant.Grant.{Grant}
-use Rattle.s7_client.specs.declared.job.Job.{Job}
-use Rattle.s7_client.specs.declared.job.Job.TheVariants as job
-use Rattle.s7_client.specs.declared.job.JobResult.{JobResult}
+use Rattle.s7_dialogue.specs.declared.config.Config.{Config}
+use Rattle.s7_dialogue.specs.Codes.{link_ended, receive_failed, send_failed, timed_out}
+use Rattle.s7_dialogue.specs.declared.grant.Grant.{Grant}
+use Rattle.s7_dialogue.specs.declared.job.Job.{Job}
+use Rattle.s7_dialogue.specs.declared.job.Job.TheVariants as job
+use Rattle.s7_dialogue.specs.declared.job.JobResult.{JobResult}
 use Rattle.s7_client.specs.declared.job.Polled.TheVariants as polled
 use Rattle.s7_client.specs.declared.under_way.UnderWay.{UnderWay}
 use Rattle.s7_client.specs.declared.client.Client.{Client}
-use Rattle.s7_client.specs.Dialogue.{End, fault_end}
+use Rattle.s7_dialogue.specs.Dialogue.{End, fault_end}
 use Rattle.s7_client.specs.Form.{HasForm, IsWhole}
-use Rattle.s7_client.specs.Running.{IsGrant}
-use Rattle.s7_client.specs.Course.{Origin, conduct_of}
+use Rattle.s7_dialogue.specs.Running.{IsGrant}
+use Rattle.s7_dialogue.specs.Course.{Origin, conduct_of}
 use Rattle.s7_client.specs.Standing.{HasCause}
 use Rattle.s7_client.specs.Polling.{IsDoneBy, StandsFor, IsStarted, IsPoll, IsDone, WaitsOnce, job_of, waited_of, config_of, grant_of, closed_of, unread_of, grant_after, closed_after, origin_at}
 use Rattle.s7_client.specs.Runs.{IsTired, between_of, JobRun, StillWaits, IsOverNow, Completes}

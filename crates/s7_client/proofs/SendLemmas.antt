@@ -8,17 +8,17 @@ use Rattle.s7_outer.specs.Count.{Rose}
 use Rattle.s7_outer.specs.declared.link.Sent.TheVariants as sent
 use Rattle.s7_tpkt.specs.Packets.{HoldsRest, state_of}
 use Rattle.s7_cotp.specs.Gathered.{is_fault}
-use Rattle.s7_client.specs.declared.config.Config.{Config}
-use Rattle.s7_client.specs.declared.grant.Grant.{Grant}
-use Rattle.s7_client.specs.declared.running.Stage.{Stage}
-use Rattle.s7_client.specs.declared.running.Stage.TheVariants as stage
+use Rattle.s7_dialogue.specs.declared.config.Config.{Config}
+use Rattle.s7_dialogue.specs.declared.grant.Grant.{Grant}
+use Rattle.s7_dialogue.specs.declared.running.Stage.{Stage}
+use Rattle.s7_dialogue.specs.declared.running.Stage.TheVariants as stage
 use Rattle.s7_client.specs.declared.line.Line.{Line}
 use Rattle.s7_client.specs.declared.under_way.UnderWay.{UnderWay}
 use Rattle.s7_client.specs.declared.steps.Step.TheVariants as step
-use Rattle.s7_client.specs.Codes.{send_failed}
-use Rattle.s7_client.specs.Dialogue.{End, fault_end, departed_end}
-use Rattle.s7_client.specs.Running.{awaited_in, awaited_by, unput_of, IsOver, IsLeaving}
-use Rattle.s7_client.specs.Course.{Origin, Course, for_departure, for_nothing, course, may_send, limits}
+use Rattle.s7_dialogue.specs.Codes.{send_failed}
+use Rattle.s7_dialogue.specs.Dialogue.{End, fault_end, departed_end}
+use Rattle.s7_dialogue.specs.Running.{awaited_in, awaited_by, unput_of, IsOver, IsLeaving}
+use Rattle.s7_dialogue.specs.Course.{Origin, Course, for_departure, for_nothing, course, may_send, limits}
 use Rattle.s7_client.specs.At.{IsAt, IsClear, budget, pending, unfinished_of}
 use Rattle.s7_client.specs.Standing.{Stands, Fits, IsStep, unread, unsent}
 use Rattle.s7_client.proofs.PlanLemmas.{plan_leaves}

@@ -3,26 +3,26 @@ use Rattle.std.proofs.Common.{◌≡◌, ℕ, ◌<◌, Bool, false, List, [], �
 use Rattle.std.specs.Prelude.{Option, None, Some, IsSome, if◌then◌else◌, option_map}
 use Rattle.s7_cotp.specs.Gathered.{Gathered, is_fault}
 use Rattle.s7_cotp.specs.Messages.{open_octets}
-use Rattle.s7_client.specs.declared.config.Config.{Config}
-use Rattle.s7_client.specs.declared.job.Job.{Job}
-use Rattle.s7_client.specs.declared.job.Job.TheVariants as job
-use Rattle.s7_client.specs.declared.grant.Grant.{Grant}
-use Rattle.s7_client.specs.declared.grant.Leaves.TheVariants.{Disconnected}
-use Rattle.s7_client.specs.declared.running.Stage.{Stage}
-use Rattle.s7_client.specs.declared.running.Stage.TheVariants as stage
-use Rattle.s7_client.specs.declared.running.Running.{Running}
+use Rattle.s7_dialogue.specs.declared.config.Config.{Config}
+use Rattle.s7_dialogue.specs.declared.job.Job.{Job}
+use Rattle.s7_dialogue.specs.declared.job.Job.TheVariants as job
+use Rattle.s7_dialogue.specs.declared.grant.Grant.{Grant}
+use Rattle.s7_dialogue.specs.declared.grant.Leaves.TheVariants.{Disconnected}
+use Rattle.s7_dialogue.specs.declared.running.Stage.{Stage}
+use Rattle.s7_dialogue.specs.declared.running.Stage.TheVariants as stage
+use Rattle.s7_dialogue.specs.declared.running.Running.{Running}
 use Rattle.s7_client.specs.declared.talk.Talk.{Talk}
 use Rattle.s7_client.specs.declared.line.Line.{Line}
 use Rattle.s7_client.specs.declared.under_way.UnderWay.{UnderWay}
 use Rattle.s7_client.specs.declared.client.Client.{Client}
-use Rattle.s7_client.specs.Codes.{not_connected}
-use Rattle.s7_client.specs.Dialogue.{End, First, nothing, connect_request, disconnect_request, number_end, over, plan_of}
-use Rattle.s7_client.specs.Running.{awaited_in, awaited_by, Begins, IsOver}
-use Rattle.s7_client.specs.Course.{Origin, for_nothing, begun, by_first, blank, conduct_of, limits, begins_anew, size_at, sequence_at, nothing_unfinished}
+use Rattle.s7_dialogue.specs.Codes.{not_connected}
+use Rattle.s7_dialogue.specs.Dialogue.{End, First, nothing, connect_request, disconnect_request, number_end, over, plan_of}
+use Rattle.s7_dialogue.specs.Running.{awaited_in, awaited_by, Begins, IsOver}
+use Rattle.s7_dialogue.specs.Course.{Origin, for_nothing, begun, by_first, blank, conduct_of, limits, begins_anew, size_at, sequence_at, nothing_unfinished}
 use Rattle.s7_client.specs.At.{IsAt, IsClear, LeavesOpen, StartsAt, BeginsTalk, limit_at, unfinished_of}
 use Rattle.s7_client.specs.Standing.{Fits, unread}
 use Rattle.s7_client.specs.Polling.{IsStarted, IsNew, IsBlank, BeginsLine, origin_at}
-use Rattle.s7_client.proofs.FlightLemmas.{asks_on}
+use Rattle.s7_dialogue.proofs.FlightLemmas.{asks_on}
 use Rattle.s7_client.proofs.BeginLemmas.{begun_by, silent_asked}
 use Rattle.s7_client.proofs.PacketLemmas.{left_by, over_not_opening}
 use Rattle.s7_client.proofs.StepLemmas.{limit_here}

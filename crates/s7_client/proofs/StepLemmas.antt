@@ -5,20 +5,20 @@ use Rattle.std.proofs.lemmas.List.{append-nil}
 use Rattle.s7_tpkt.specs.Packets.{HoldsRest, state_of, GoesOn, EndsPacket}
 use Rattle.s7_tpkt.specs.declared.state.FedState.{FedState}
 use Rattle.s7_tpkt.specs.declared.state.FedState.TheVariants as fed
-use Rattle.s7_client.specs.Codes.{bad_packet}
+use Rattle.s7_dialogue.specs.Codes.{bad_packet}
 use Rattle.s7_cotp.specs.Gathered.{is_fault}
 use Rattle.s7_wire.specs.Bounds.{limit_of_size}
-use Rattle.s7_client.specs.declared.config.Config.{Config}
+use Rattle.s7_dialogue.specs.declared.config.Config.{Config}
 use Rattle.s7_client.specs.declared.talk.Talk.{Talk}
-use Rattle.s7_client.specs.declared.grant.Grant.{Grant}
-use Rattle.s7_client.specs.declared.running.Running.{Running}
-use Rattle.s7_client.specs.declared.running.Stage.{Stage}
-use Rattle.s7_client.specs.declared.running.Stage.TheVariants as stage
+use Rattle.s7_dialogue.specs.declared.grant.Grant.{Grant}
+use Rattle.s7_dialogue.specs.declared.running.Running.{Running}
+use Rattle.s7_dialogue.specs.declared.running.Stage.{Stage}
+use Rattle.s7_dialogue.specs.declared.running.Stage.TheVariants as stage
 use Rattle.s7_client.specs.declared.line.Line.{Line}
 use Rattle.s7_client.specs.declared.under_way.UnderWay.{UnderWay}
-use Rattle.s7_client.specs.Dialogue.{fault_end}
-use Rattle.s7_client.specs.Running.{awaited_in, awaited_by, unput_of, IsOver}
-use Rattle.s7_client.specs.Course.{Origin, Course, for_nothing, with_packet, with_fault, by_state, unless_over, course, may_send, limits, limit_in, limit_where}
+use Rattle.s7_dialogue.specs.Dialogue.{fault_end}
+use Rattle.s7_dialogue.specs.Running.{awaited_in, awaited_by, unput_of, IsOver}
+use Rattle.s7_dialogue.specs.Course.{Origin, Course, for_nothing, with_packet, with_fault, by_state, unless_over, course, may_send, limits, limit_in, limit_where}
 use Rattle.s7_client.specs.At.{IsAt, Reaches, Takes, IsAwaiting, IsClear, LeavesOpen, limit_at, messages_left, budget, pending}
 use Rattle.s7_client.specs.Standing.{Stands, Fits, Consumes, AwaitsOctets, IsPrefixOf, unread, unsent}
 use Rattle.s7_client.proofs.PacketLemmas.{awaits_some, over_none, awaiting_goes_on, closed_stage, over_not_opening, over_not_asking, over_not_leaving, none_pending, none_over}

@@ -3,19 +3,18 @@ use Rattle.std.specs.Prelude.{◌≡◌, ◌⊎◌, ℕ, ◌+◌, ◌-◌, ◌*�
 use Rattle.s7_cotp.specs.Gathered.{Gathered, is_fault}
 use Rattle.s7_cotp.specs.Messages.{open_octets}
 use Rattle.s7_wire.specs.Bounds.{first_limit, limit_of_size, most_packets}
-use Rattle.s7_client.specs.declared.grant.Leaves.{Leaves}
-use Rattle.s7_client.specs.declared.grant.Leaves.TheVariants as leaving
-use Rattle.s7_client.specs.declared.running.Stage.{Stage}
-use Rattle.s7_client.specs.declared.running.Stage.TheVariants as stage
+use Rattle.s7_dialogue.specs.declared.running.Stage.{Stage}
+use Rattle.s7_dialogue.specs.declared.running.Stage.TheVariants as stage
 use Rattle.s7_client.specs.declared.talk.Talk.{Talk}
 use Rattle.s7_client.specs.declared.under_way.UnderWay.{UnderWay}
-use Rattle.s7_client.specs.declared.config.Config.{Config}
-use Rattle.s7_client.specs.declared.running.Running.{Running}
-use Rattle.s7_client.specs.declared.grant.Grant.{Grant}
-use Rattle.s7_client.specs.Flight.{Row}
-use Rattle.s7_client.specs.Dialogue.{connect_request, disconnect_request, plan_of}
-use Rattle.s7_client.specs.Running.{awaited_in, unput_of, Begins, Follows, IsOver, IsOpening, IsAsking, IsLeaving, answers_left}
-use Rattle.s7_client.specs.Course.{Origin, Course, Unfinished, blank, begun}
+use Rattle.s7_dialogue.specs.declared.config.Config.{Config}
+use Rattle.s7_dialogue.specs.declared.running.Running.{Running}
+use Rattle.s7_dialogue.specs.declared.grant.Grant.{Grant}
+use Rattle.s7_dialogue.specs.Flight.{Row}
+use Rattle.s7_dialogue.specs.Dialogue.{connect_request, disconnect_request, plan_of}
+use Rattle.s7_dialogue.specs.Running.{awaited_in, unput_of, Begins, Follows, IsOver, IsOpening, IsAsking, IsLeaving, answers_left}
+use Rattle.s7_dialogue.specs.Course.{Origin, Course, Unfinished, blank, begun}
+pub use Rattle.s7_dialogue.specs.Stages.{LeavesLink, LeavesOpen}
 
 -- the message that isn't whole
 abbrev pub unfinished_of : Gathered → Unfinished
@@ -61,20 +60,6 @@ IsAwaiting (stage.Asking a) = Unit {0}
 IsAwaiting (stage.Single s) = Unit {0}
 IsAwaiting stage.Leaving = ⊥
 IsAwaiting (stage.Over code leaves) = ⊥
-
-abbrev pub LeavesLink : Leaves → Type 0
-LeavesLink leaving.AsItWas = Unit {0}
-LeavesLink (leaving.Connected granted) = Unit {0}
-LeavesLink leaving.Disconnected = ⊥
-LeavesLink leaving.Closed = ⊥
-
--- a job that is over and leaves the link to the next one
-abbrev pub LeavesOpen : Stage → Type 0
-LeavesOpen stage.Opening = ⊥
-LeavesOpen (stage.Asking a) = ⊥
-LeavesOpen (stage.Single s) = ⊥
-LeavesOpen stage.Leaving = ⊥
-LeavesOpen (stage.Over code leaves) = LeavesLink leaves
 
 -- no message is begun
 pub record IsClear (joiner : Gathered) : Type 0 where

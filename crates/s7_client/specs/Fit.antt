@@ -1,13 +1,13 @@
 -- How long and how many telegrams are.
 use Rattle.std.specs.Prelude.{◌≡◌, ℕ, ◌≤◌, max, Option, Some, List, length}
-use Rattle.s7_client.specs.declared.config.Config.{Config}
-use Rattle.s7_client.specs.declared.grant.Grant.{Grant}
-use Rattle.s7_client.specs.declared.job.Job.{Job}
-use Rattle.s7_client.specs.Question.{Question, question_octets}
-use Rattle.s7_client.specs.Answer.{Answer}
-use Rattle.s7_client.specs.Flight.{open_count}
-use Rattle.s7_client.specs.Dialogue.{plan_of}
-use Rattle.s7_client.specs.Course.{Origin, course}
+use Rattle.s7_dialogue.specs.declared.config.Config.{Config}
+use Rattle.s7_dialogue.specs.declared.grant.Grant.{Grant}
+use Rattle.s7_dialogue.specs.declared.job.Job.{Job}
+use Rattle.s7_dialogue.specs.Question.{Question, question_octets}
+use Rattle.s7_dialogue.specs.Answer.{Answer}
+use Rattle.s7_dialogue.specs.Flight.{open_count}
+use Rattle.s7_dialogue.specs.Dialogue.{plan_of}
+use Rattle.s7_dialogue.specs.Course.{Origin, course}
 
 -- No message of a job on a connected client passes the PDU that was granted, and never are more unanswered than jobs
 -- were granted, or one.

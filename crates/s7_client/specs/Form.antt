@@ -3,16 +3,16 @@ use Rattle.std.specs.Prelude.{◌≡◌, ◌≢◌, ℕ, ◌+◌, ◌≤◌, ◌
 use Rattle.std.specs.Option.{ForSome}
 use Rattle.s7_item.specs.declared.item.Item.{Item}
 use Rattle.s7_item.specs.Item.{octet_count}
-use Rattle.s7_client.specs.declared.grant.Grant.{Grant}
-use Rattle.s7_client.specs.declared.job.Job.{Job}
-use Rattle.s7_client.specs.declared.job.Job.TheVariants as job
+use Rattle.s7_dialogue.specs.declared.grant.Grant.{Grant}
+use Rattle.s7_dialogue.specs.declared.job.Job.{Job}
+use Rattle.s7_dialogue.specs.declared.job.Job.TheVariants as job
 use Rattle.s7_header.specs.Negotiation.{least_pdu}
 use Rattle.s7_szl.specs.Images.{adds_up}
 use Rattle.s7_szl.specs.Readers.{mode_of}
 use Rattle.s7_clock.specs.Moment.{moment_in}
-use Rattle.s7_client.specs.Codes.{no_fault}
-use Rattle.s7_client.specs.Dialogue.{End, fault_end}
-use Rattle.s7_client.specs.Course.{Origin, for_departure, for_nothing, conduct_of, course}
+use Rattle.s7_dialogue.specs.Codes.{no_fault}
+use Rattle.s7_dialogue.specs.Dialogue.{End, fault_end}
+use Rattle.s7_dialogue.specs.Course.{Origin, for_departure, for_nothing, conduct_of, course}
 
 -- how many octets an item with this code has: none where it wasn't read
 abbrev pub count_read : Item → ℕ → ℕ

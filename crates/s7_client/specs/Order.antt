@@ -1,6 +1,6 @@
 -- The order of what a poll does on its link.
 use Rattle.std.specs.Prelude.{◌≡◌, ℕ, ◌<◌, List, [], ◌∷◌, ◌++◌, length}
-use Rattle.s7_client.specs.Course.{Origin, may_send}
+use Rattle.s7_dialogue.specs.Course.{Origin, may_send}
 
 -- one thing that a poll did
 pub data Deed : Type 0 where

@@ -2,24 +2,24 @@
 use Rattle.std.specs.Prelude.{◌≡◌, ◌⊎◌, ℕ, ◌+◌, ◌<◌, ◌≤◌, Bool, true, false, List, [], ◌++◌, Option, None, Some, option_map, IsSome, ◌-◌, if◌then◌else◌}
 use Rattle.s7_outer.specs.Shown.{Shown}
 use Rattle.s7_outer.specs.Count.{Rose}
-use Rattle.s7_client.specs.declared.config.Config.{Config}
-use Rattle.s7_client.specs.declared.job.Job.{Job}
-use Rattle.s7_client.specs.declared.job.JobResult.{JobResult}
+use Rattle.s7_dialogue.specs.declared.config.Config.{Config}
+use Rattle.s7_dialogue.specs.declared.job.Job.{Job}
+use Rattle.s7_dialogue.specs.declared.job.JobResult.{JobResult}
 use Rattle.s7_client.specs.declared.job.Polled.{Polled}
 use Rattle.s7_client.specs.declared.job.Polled.TheVariants as polled
-use Rattle.s7_client.specs.declared.grant.Grant.{Grant}
-use Rattle.s7_client.specs.declared.grant.Leaves.{Leaves}
-use Rattle.s7_client.specs.declared.grant.Leaves.TheVariants as leaving
-use Rattle.s7_client.specs.Codes.{timed_out}
+use Rattle.s7_dialogue.specs.declared.grant.Grant.{Grant}
+use Rattle.s7_dialogue.specs.declared.grant.Leaves.{Leaves}
+use Rattle.s7_dialogue.specs.declared.grant.Leaves.TheVariants as leaving
+use Rattle.s7_dialogue.specs.Codes.{timed_out}
 use Rattle.s7_client.specs.declared.under_way.UnderWay.{UnderWay}
 use Rattle.s7_client.specs.declared.client.Client.{Client}
 use Rattle.s7_cotp.specs.Gathered.{empty}
 use Rattle.s7_wire.specs.Bounds.{first_limit, message_limit, size_of_code}
 use Rattle.s7_client.specs.declared.line.Line.{Line}
-use Rattle.s7_client.specs.declared.running.Running.{Running}
-use Rattle.s7_client.specs.Dialogue.{End, fault_end}
-use Rattle.s7_client.specs.Running.{IsResult, IsOver, awaited_in}
-use Rattle.s7_client.specs.Course.{Origin, begins_anew, course, for_nothing, asked_size_code}
+use Rattle.s7_dialogue.specs.declared.running.Running.{Running}
+use Rattle.s7_dialogue.specs.Dialogue.{End, fault_end}
+use Rattle.s7_dialogue.specs.Running.{IsResult, IsOver, awaited_in}
+use Rattle.s7_dialogue.specs.Course.{Origin, begins_anew, course, for_nothing, asked_size_code}
 use Rattle.s7_client.specs.At.{LeavesOpen, BeginsTalk, limit_at}
 use Rattle.s7_client.specs.Standing.{Stands, Fits, IsBetween, Moves, IsOrderly, HasCause, HasMetNotYet, IsUnderWay, IsFault, unread, unsent}
 

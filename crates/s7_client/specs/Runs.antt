@@ -3,16 +3,16 @@ use Rattle.std.specs.Prelude.{◌≡◌, ◌⊎◌, ℕ, Bool, false, List, [], 
 use Rattle.s7_outer.specs.Shown.{Shown}
 use Rattle.s7_outer.specs.Count.{RoseBy}
 use Rattle.s7_wire.specs.Bounds.{size_of_code}
-use Rattle.s7_client.specs.declared.config.Config.{Config}
-use Rattle.s7_client.specs.declared.job.Job.{Job}
-use Rattle.s7_client.specs.declared.job.JobResult.{JobResult}
-use Rattle.s7_client.specs.declared.grant.Grant.{Grant}
-use Rattle.s7_client.specs.Codes.{timed_out}
+use Rattle.s7_dialogue.specs.declared.config.Config.{Config}
+use Rattle.s7_dialogue.specs.declared.job.Job.{Job}
+use Rattle.s7_dialogue.specs.declared.job.JobResult.{JobResult}
+use Rattle.s7_dialogue.specs.declared.grant.Grant.{Grant}
+use Rattle.s7_dialogue.specs.Codes.{timed_out}
 use Rattle.s7_client.specs.declared.client.Client.{Client}
-use Rattle.s7_client.specs.Dialogue.{End}
-use Rattle.s7_client.specs.Running.{IsResult}
+use Rattle.s7_dialogue.specs.Dialogue.{End}
+use Rattle.s7_dialogue.specs.Running.{IsResult}
 use Rattle.s7_client.specs.Form.{HasForm, IsWhole}
-use Rattle.s7_client.specs.Course.{Origin, begins_anew, asked_size_code, course}
+use Rattle.s7_dialogue.specs.Course.{Origin, begins_anew, asked_size_code, course}
 use Rattle.s7_client.specs.Standing.{Moves, HasCause, HasMetNotYet, IsUnderWay, IsFault}
 use Rattle.s7_client.specs.Polling.{StandsFor, grant_of, closed_of, size_of, sequence_of, unread_of, config_of, waited_of, job_of, grant_after, closed_after}
 

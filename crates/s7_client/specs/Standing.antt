@@ -7,16 +7,16 @@ use Rattle.s7_tpkt.specs.Packets.{HoldsRest, state_of}
 use Rattle.s7_tpkt.specs.declared.state.FedState.TheVariants as fed
 use Rattle.s7_cotp.specs.Gathered.{is_fault}
 use Rattle.s7_wire.specs.Bounds.{limit_of_size, most_packets}
-use Rattle.s7_client.specs.declared.config.Config.{Config}
-use Rattle.s7_client.specs.declared.grant.Grant.{Grant}
-use Rattle.s7_client.specs.Codes.{link_ended, send_failed, receive_failed}
+use Rattle.s7_dialogue.specs.declared.config.Config.{Config}
+use Rattle.s7_dialogue.specs.declared.grant.Grant.{Grant}
+use Rattle.s7_dialogue.specs.Codes.{link_ended, send_failed, receive_failed}
 use Rattle.s7_client.specs.declared.line.Line.{Line}
 use Rattle.s7_client.specs.declared.under_way.UnderWay.{UnderWay}
 use Rattle.s7_client.specs.declared.steps.Step.{Step}
 use Rattle.s7_client.specs.declared.steps.Step.TheVariants as step
-use Rattle.s7_client.specs.Dialogue.{End, fault_end}
-use Rattle.s7_client.specs.Running.{awaited_in, IsOver, IsOpening}
-use Rattle.s7_client.specs.Course.{Origin, Awaits, for_confirm, for_answers, for_departure, for_nothing, conduct_of, course, may_send, limits}
+use Rattle.s7_dialogue.specs.Dialogue.{End, fault_end}
+use Rattle.s7_dialogue.specs.Running.{awaited_in, IsOver, IsOpening}
+use Rattle.s7_dialogue.specs.Course.{Origin, Awaits, for_confirm, for_answers, for_departure, for_nothing, conduct_of, course, may_send, limits}
 use Rattle.s7_client.specs.At.{IsAt, IsClear, LeavesOpen, budget, pending}
 use Rattle.s7_client.specs.Order.{Deed, transmitted_in, used_in, received_in, AreInOrder}
 

@@ -2,13 +2,12 @@
 ghost use Rattle.std.specs.Prelude.{◌≡◌, ◌<◌, ◌≤◌, [], None, IsSome};
 ghost use Rattle.std.specs.Option.{ForSome};
 ghost use Rattle.s7_header.specs.Negotiation.{most_pdu};
-ghost use Rattle.s7_client.specs.Stages.{IsGrant};
+ghost use Rattle.s7_dialogue.specs.Stages.{IsGrant};
 ghost use Rattle.s7_client.specs.Standing.{Fits, IsBetween, unsent};
 
-use crate::config::Config;
-use crate::grant::Grant;
 use crate::line::Line;
 use crate::under_way::UnderWay;
+use s7_dialogue::{Config, Grant};
 
 /// The client's side of one link: jobs are started one at a time, and polled over the link until
 /// they are done. It begins unconnected.

@@ -5,21 +5,19 @@ ghost use Rattle.s7_cotp.specs.Told.{told_of, tsap_of, CanBeWrittenAgain, fragme
 ghost use Rattle.s7_cotp.specs.declared.joining.Joined.{Joined};
 ghost use Rattle.s7_cotp.specs.Gathered.{is_fault};
 ghost use Rattle.s7_header.specs.Negotiation.{most_pdu};
-ghost use Rattle.s7_client.specs.Running.{IsAsking, IsOpening, unput_of};
-ghost use Rattle.s7_client.specs.Course.{Origin, Course, conduct_of, connect_octets, disconnect_octets};
-ghost use Rattle.s7_client.specs.Course.{with_packet, with_message, confirming, connected};
+ghost use Rattle.s7_dialogue.specs.Running.{IsAsking, IsOpening, unput_of};
+ghost use Rattle.s7_dialogue.specs.Course.{Origin, Course, conduct_of, connect_octets, disconnect_octets};
+ghost use Rattle.s7_dialogue.specs.Course.{with_packet, with_message, confirming, connected};
 ghost use Rattle.s7_client.specs.At.{IsAt, Reaches, Settles, Takes, Puts, BeginsTalk, IsAwaiting, IsClear, messages_left};
 
-use crate::codes::{
-    BAD_PACKET, INVALID_ANSWER, LINK_ENDED, NOT_CONNECTED, SHORT_MESSAGE, TOO_LONG,
-    TOO_MANY_FRAGMENTS,
-};
-use crate::config::Config;
-use crate::grant::Grant;
-use crate::running::{Running, Stage};
 use crate::talk::Talk;
 use crate::under_way::UnderWay;
 use s7_cotp::{Connection, Joined, Tpdu, Tsap, read_tpdu, write_connect, write_disconnect};
+use s7_dialogue::codes::{
+    BAD_PACKET, INVALID_ANSWER, LINK_ENDED, NOT_CONNECTED, SHORT_MESSAGE, TOO_LONG,
+    TOO_MANY_FRAGMENTS,
+};
+use s7_dialogue::{Config, Grant, Running, Stage};
 use s7_wire::{put_message, tpdu_size};
 
 /// The code of the TPDU size that is asked for: 1,024 octets.
@@ -111,7 +109,7 @@ fn tsap(number: u16) -> Tsap
 
 impl Talk {
     /// Takes a packet with this body, for a job that awaits octets.
-    #[tactic(auto, unfolding(crate::specs::Course::with_packet))]
+    #[tactic(auto, unfolding(s7_dialogue::specs::Course::with_packet))]
     pub(crate) fn packet(
         &mut self,
         job: &mut UnderWay,

@@ -4,7 +4,8 @@ ghost use Rattle.s7_client.specs.Polling.{job_of, config_of, waited_of};
 ghost use Rattle.s7_client.specs.Runs.{between_of, JobRun, Completes};
 
 use crate::client::Client;
-use crate::job::{Job, JobResult, Polled, StartCause, StartFault};
+use crate::job::{Polled, StartCause, StartFault};
+use s7_dialogue::{Job, JobResult};
 use s7_outer::Link;
 use std::alloc::Global;
 

@@ -1,16 +1,14 @@
 // The steps of a poll.
 ghost use Rattle.std.specs.Prelude.{◌≡◌, ◌≢◌, ℕ, ◌<◌, ◌≤◌, [], length};
 ghost use Rattle.s7_header.specs.Negotiation.{most_pdu};
-ghost use Rattle.s7_client.specs.Running.{unput_of};
+ghost use Rattle.s7_dialogue.specs.Running.{unput_of};
 ghost use Rattle.s7_client.specs.At.{IsAwaiting, limit_at};
 ghost use Rattle.s7_client.specs.Standing.{Fits, IsStep, Consumes, unread, unsent};
 
-use crate::codes::{BAD_PACKET, LINK_ENDED, RECEIVE_FAILED, SEND_FAILED, TOO_LONG};
-use crate::config::Config;
-use crate::grant::Grant;
 use crate::line::Line;
-use crate::running::Stage;
 use crate::under_way::UnderWay;
+use s7_dialogue::codes::{BAD_PACKET, LINK_ENDED, RECEIVE_FAILED, SEND_FAILED, TOO_LONG};
+use s7_dialogue::{Config, Grant, Stage};
 use s7_outer::{Got, Link, Sent};
 use s7_tpkt::FedState;
 use s7_wire::{FIRST_LIMIT, HEADERS, PIECE};

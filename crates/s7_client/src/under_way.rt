@@ -1,5 +1,5 @@
 // A job that was started and isn't done.
-use crate::running::Running;
+use s7_dialogue::Running;
 use s7_outer::Buffer;
 
 /// A job with what came of it, and how many of its polls met a link that had nothing to give, or no

@@ -6,7 +6,7 @@ use Rattle.s7_outer.specs.declared.memory.Memory.{Memory}
 use Rattle.std.specs.Io.KnownBytes.{prepend_known, append_known}
 use Rattle.std.proofs.lemmas.List.{length-map}
 use Rattle.s7_outer.specs.Shown.{Shown}
-use Rattle.s7_client.specs.declared.config.Config.{Config}
+use Rattle.s7_dialogue.specs.declared.config.Config.{Config}
 use Rattle.s7_client.proofs.LinkLemmas.{prepend_none, append_none}
 use Rattle.s7_partner.specs.declared.role.Role.{Role}
 use Rattle.s7_partner.specs.States.{Act, Parcel}

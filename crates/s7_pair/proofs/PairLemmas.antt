@@ -8,7 +8,7 @@ use Rattle.std.proofs.lemmas.List.{length-map}
 use Rattle.s7_outer.specs.PipesHeld.{PipesHeld}
 use Rattle.s7_outer.specs.Pipes.{across, waiting_for, end_of}
 use Rattle.s7_outer.specs.declared.pipes.Side.TheVariants as side
-use Rattle.s7_client.specs.declared.config.Config.{Config}
+use Rattle.s7_dialogue.specs.declared.config.Config.{Config}
 use Rattle.s7_partner.specs.declared.role.Role.{Role}
 use Rattle.s7_partner.specs.declared.role.Role.TheVariants.{Active, Passive}
 use Rattle.s7_partner.specs.States.{Act, Parcel, given_in, handed_in}

@@ -6,7 +6,7 @@ use Rattle.s7_outer.specs.Out.{AppendsPrefix}
 use Rattle.s7_outer.specs.OutShown.{OutShown}
 use Rattle.s7_outer.specs.Shown.{Shown}
 use Rattle.s7_outer.specs.declared.memory.Memory.{Memory}
-use Rattle.s7_client.specs.declared.config.Config.{Config}
+use Rattle.s7_dialogue.specs.declared.config.Config.{Config}
 use Rattle.s7_partner.specs.declared.role.Role.{Role}
 use Rattle.s7_partner.specs.Held.{closed_of}
 use Rattle.s7_script.specs.declared.send_list.SendLine.{SendLine}

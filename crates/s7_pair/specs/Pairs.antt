@@ -8,7 +8,7 @@ use Rattle.s7_outer.specs.Pipes.{end_of, empty_pipes}
 use Rattle.s7_outer.specs.declared.memory.Memory.{Memory}
 use Rattle.s7_outer.specs.declared.pipes.Side.{Side}
 use Rattle.s7_outer.specs.declared.pipes.Side.TheVariants as side
-use Rattle.s7_client.specs.declared.config.Config.{Config}
+use Rattle.s7_dialogue.specs.declared.config.Config.{Config}
 use Rattle.s7_partner.specs.declared.role.Role.{Role}
 use Rattle.s7_partner.specs.declared.role.Role.TheVariants.{Active, Passive}
 use Rattle.s7_partner.specs.Pairs.{ArePaired, Delivered}

@@ -1,6 +1,6 @@
 -- What one partner came to that was given the blocks of a list.
 use Rattle.std.specs.Prelude.{◌≡◌, ℕ, List, ◌++◌}
-use Rattle.s7_client.specs.declared.config.Config.{Config}
+use Rattle.s7_dialogue.specs.declared.config.Config.{Config}
 use Rattle.s7_partner.specs.declared.role.Role.{Role}
 use Rattle.s7_partner.specs.States.{Act, Parcel, given_in, handed_in}
 use Rattle.s7_partner.specs.Partners.{Course}

@@ -1,6 +1,6 @@
 -- Acts behind others.
 use Rattle.std.proofs.Common.{◌≡◌, List, [], ◌∷◌, ◌++◌, refl, ap, sym, ◌∙◌, append_assoc}
-use Rattle.s7_client.specs.declared.config.Config.{Config}
+use Rattle.s7_dialogue.specs.declared.config.Config.{Config}
 use Rattle.s7_partner.specs.declared.role.Role.{Role}
 use Rattle.s7_partner.specs.States.{State, Act, start, with_act, with_acts, after, read_by, read_in}
 use Rattle.s7_partner.specs.Acts.{AreTaken, AreQuiet}

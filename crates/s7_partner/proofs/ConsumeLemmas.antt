@@ -14,7 +14,7 @@ use Rattle.s7_wire.specs.declared.found.Found.{Found}
 use Rattle.s7_wire.specs.declared.found.Found.TheVariants as finding
 use Rattle.s7_wire.specs.declared.reader.Reader.{Reader}
 use Rattle.s7_wire.proofs.ReaderLemmas.{reader_going}
-use Rattle.s7_client.specs.declared.config.Config.{Config}
+use Rattle.s7_dialogue.specs.declared.config.Config.{Config}
 use Rattle.s7_partner.specs.declared.role.Role.{Role}
 use Rattle.s7_partner.specs.declared.role.Role.TheVariants.{Active, Passive}
 use Rattle.s7_partner.specs.declared.partner.Partner.{Partner}

@@ -3,7 +3,7 @@ use Rattle.std.proofs.Common.{◌≡◌, inl, inr, ℕ, ◌+◌, ◌<◌, ◌≤
 use Rattle.std.proofs.Common.{append-nil, arith, length-append}
 use Rattle.s7_wire.specs.Reading.{Event, reading}
 use Rattle.s7_wire.proofs.GrowthLemmas.{reading_grows}
-use Rattle.s7_client.specs.declared.config.Config.{Config}
+use Rattle.s7_dialogue.specs.declared.config.Config.{Config}
 use Rattle.s7_partner.specs.declared.role.Role.{Role}
 use Rattle.s7_partner.specs.States.{Act, reads, start, after, read_by, read_in}
 use Rattle.s7_partner.specs.Acts.{MayTake}

@@ -6,7 +6,7 @@ use Rattle.std.proofs.lemmas.Bool.Decides.{nat_tests}
 use Rattle.s7_wire.specs.Outgoing.{Outgoing}
 use Rattle.s7_outer.specs.Held.{Held as Room}
 use Rattle.s7_wire.specs.Reads.{size_at}
-use Rattle.s7_client.specs.Codes.{invalid_answer}
+use Rattle.s7_dialogue.specs.Codes.{invalid_answer}
 use Rattle.s7_partner.specs.declared.partner.Partner.{Partner}
 use Rattle.s7_partner.specs.declared.partner.Sending.{Sending as HeldSending}
 use Rattle.s7_partner.specs.declared.partner.Receiving.{Receiving as HeldReceiving}

@@ -13,11 +13,11 @@ use Rattle.s7_header.specs.Header.{header_of, params_of}
 use Rattle.s7_header.specs.Negotiation.{negotiation_of, negotiation_spelling, least_pdu}
 use Rattle.s7_wire.specs.Sent.{sent_message}
 use Rattle.s7_wire.specs.Reading.{Event, opened, message}
-use Rattle.s7_client.specs.declared.config.Config.{Config}
-use Rattle.s7_client.specs.declared.grant.Grant.{Grant}
-use Rattle.s7_client.specs.Question.{negotiates, message_octets}
-use Rattle.s7_client.specs.Answer.{Answer, grants, tells, notes, stands, brings, uploads, slices, uploaded, refuses, answer_of}
-use Rattle.s7_client.specs.Dialogue.{asked_by, taken_grant}
+use Rattle.s7_dialogue.specs.declared.config.Config.{Config}
+use Rattle.s7_dialogue.specs.declared.grant.Grant.{Grant}
+use Rattle.s7_dialogue.specs.Question.{negotiates, message_octets}
+use Rattle.s7_dialogue.specs.Answer.{Answer, grants, tells, notes, stands, brings, uploads, slices, uploaded, refuses, answer_of}
+use Rattle.s7_dialogue.specs.Dialogue.{asked_by, taken_grant}
 use Rattle.s7_partner.specs.declared.role.Role.{Role}
 use Rattle.s7_partner.specs.declared.role.Role.TheVariants.{Active, Passive}
 use Rattle.s7_partner.specs.Telegrams.{Piece, piece_in, sequence_of}

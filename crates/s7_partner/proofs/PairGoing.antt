@@ -4,9 +4,9 @@ use Rattle.std.proofs.Common.{sym, ◌∙◌, subst, arith, if◌then◌else◌,
 use Rattle.std.specs.Prelude.{Option, None, Some, is_none, option_map}
 use Rattle.s7_wire.specs.Reading.{Event, opened, message}
 use Rattle.s7_wire.specs.Sent.{sent_message, sent_messages}
-use Rattle.s7_client.specs.declared.config.Config.{Config}
-use Rattle.s7_client.specs.Course.{next_sequence}
-use Rattle.s7_client.specs.Codes.{short_message, invalid_answer}
+use Rattle.s7_dialogue.specs.declared.config.Config.{Config}
+use Rattle.s7_dialogue.specs.Course.{next_sequence}
+use Rattle.s7_dialogue.specs.Codes.{short_message, invalid_answer}
 use Rattle.s7_partner.specs.declared.role.Role.{Role}
 use Rattle.s7_partner.specs.Telegrams.{Piece, piece_in, confirms, sequence_of}
 use Rattle.s7_partner.specs.States.{Receiving, closed, State, Act, gives, reads, hands, acknowledges, next_number}

@@ -9,8 +9,8 @@ use Rattle.s7_wire.specs.declared.found.Opening.{Opening}
 use Rattle.s7_wire.specs.declared.found.Opening.TheVariants.{Request, Confirm}
 use Rattle.s7_wire.specs.Reading.{Event, opened, Progress, reading}
 use Rattle.s7_wire.specs.Sent.{sent_messages}
-use Rattle.s7_client.specs.declared.config.Config.{Config}
-use Rattle.s7_client.specs.Course.{request_of, connect_octets}
+use Rattle.s7_dialogue.specs.declared.config.Config.{Config}
+use Rattle.s7_dialogue.specs.Course.{request_of, connect_octets}
 use Rattle.s7_partner.specs.declared.role.Role.TheVariants.{Active, Passive}
 use Rattle.s7_partner.specs.States.{Act, start, confirmed, after, Parcel, given_in, read_in, handed_in}
 use Rattle.s7_partner.specs.Partners.{IsPrefixOf}

@@ -14,13 +14,13 @@ use Rattle.s7_header.specs.Header.{header_of, params_of}
 use Rattle.s7_header.specs.Negotiation.{negotiation_of, negotiation_spelling, least_pdu}
 use Rattle.s7_wire.specs.Reading.{opened, message}
 use Rattle.s7_wire.specs.Sent.{sent_message, sent_messages}
-use Rattle.s7_client.specs.declared.config.Config.{Config}
-use Rattle.s7_client.specs.declared.grant.Grant.{Grant}
-use Rattle.s7_client.specs.Codes.{short_message, invalid_answer, negotiation_failed}
-use Rattle.s7_client.specs.Course.{next_sequence}
-use Rattle.s7_client.specs.Question.{negotiates, message_octets}
-use Rattle.s7_client.specs.Answer.{Answer, grants, tells, notes, stands, brings, uploads, slices, uploaded, refuses, answer_of}
-use Rattle.s7_client.specs.Dialogue.{asked_by, taken_grant}
+use Rattle.s7_dialogue.specs.declared.config.Config.{Config}
+use Rattle.s7_dialogue.specs.declared.grant.Grant.{Grant}
+use Rattle.s7_dialogue.specs.Codes.{short_message, invalid_answer, negotiation_failed}
+use Rattle.s7_dialogue.specs.Course.{next_sequence}
+use Rattle.s7_dialogue.specs.Question.{negotiates, message_octets}
+use Rattle.s7_dialogue.specs.Answer.{Answer, grants, tells, notes, stands, brings, uploads, slices, uploaded, refuses, answer_of}
+use Rattle.s7_dialogue.specs.Dialogue.{asked_by, taken_grant}
 use Rattle.s7_partner.specs.declared.role.Role.{Role}
 use Rattle.s7_partner.specs.declared.role.Role.TheVariants.{Active, Passive}
 use Rattle.s7_partner.specs.States.{Sending, negotiating, State, Act, gives, reads, hands, acknowledges, with_code}

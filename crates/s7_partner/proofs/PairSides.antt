@@ -8,10 +8,10 @@ use Rattle.s7_tpkt.specs.Packets.{packet_of}
 use Rattle.s7_wire.specs.Bounds.{size_of_code}
 use Rattle.s7_wire.specs.Reading.{Event, opened, message}
 use Rattle.s7_wire.specs.Sent.{sent_message, sent_messages}
-use Rattle.s7_client.specs.declared.config.Config.{Config}
-use Rattle.s7_client.specs.Course.{request_of}
-use Rattle.s7_client.specs.Dialogue.{asked_by}
-use Rattle.s7_client.specs.Question.{negotiates, question_octets}
+use Rattle.s7_dialogue.specs.declared.config.Config.{Config}
+use Rattle.s7_dialogue.specs.Course.{request_of}
+use Rattle.s7_dialogue.specs.Dialogue.{asked_by}
+use Rattle.s7_dialogue.specs.Question.{negotiates, question_octets}
 use Rattle.s7_partner.specs.declared.role.Role.{Role}
 use Rattle.s7_partner.specs.declared.role.Role.TheVariants.{Active, Passive}
 use Rattle.s7_partner.specs.States.{State, start, starting_octets, Act, gives, reads, hands, acknowledges, confirmed}

@@ -3,7 +3,7 @@ use Rattle.std.proofs.Common.{◌≡◌, ◌⊎◌, inl, inr, ℕ, ◌+◌, ◌<
 use Rattle.std.proofs.Common.{subst, arith, length-append, drop}
 use Rattle.std.specs.Prelude.{Option, None, Some}
 use Rattle.std.proofs.lemmas.List.{length-take}
-use Rattle.s7_client.specs.UserData.{data_of}
+use Rattle.s7_dialogue.specs.UserData.{data_of}
 use Rattle.s7_wire.specs.Reading.{Event}
 use Rattle.s7_partner.specs.Telegrams.{Piece, piece_data, piece_message, room, total_octets}
 use Rattle.s7_partner.specs.States.{Parcel}

@@ -13,8 +13,8 @@ use Rattle.s7_header.specs.Header.{fields_of, if_adds_up, header_of, params_of, 
 use Rattle.s7_header.specs.UserParams.{user_spelling, user_params_of}
 use Rattle.s7_header.proofs.OctetLemmas.{two_of_number}
 use Rattle.s7_header.proofs.UserLemmas.{spelled_user}
-use Rattle.s7_client.specs.Question.{message_octets}
-use Rattle.s7_client.specs.UserData.{data_of, has_octets, octets_in}
+use Rattle.s7_dialogue.specs.Question.{message_octets}
+use Rattle.s7_dialogue.specs.UserData.{data_of, has_octets, octets_in}
 use Rattle.s7_partner.specs.Telegrams.{Piece, piece_head, number_of_four, piece_params, piece_data, piece_message}
 use Rattle.s7_partner.specs.Telegrams.{confirm_message, piece_of_data, piece_of_octets, is_piece, piece_by}
 use Rattle.s7_partner.specs.Telegrams.{piece_of_header, piece_in, confirms_by, confirms_header, confirms}

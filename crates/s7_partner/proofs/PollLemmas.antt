@@ -6,7 +6,7 @@ use Rattle.s7_outer.specs.Held.{Held as Room}
 use Rattle.s7_outer.specs.Shown.{Shown}
 use Rattle.s7_outer.specs.declared.memory.Memory.{Memory}
 use Rattle.s7_wire.specs.Outgoing.{Outgoing}
-use Rattle.s7_client.specs.declared.config.Config.{Config}
+use Rattle.s7_dialogue.specs.declared.config.Config.{Config}
 use Rattle.s7_partner.specs.declared.role.Role.{Role}
 use Rattle.s7_partner.specs.declared.partner.Partner.{Partner}
 use Rattle.s7_partner.specs.declared.partner.Arrived.{Arrived}

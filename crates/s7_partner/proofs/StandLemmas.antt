@@ -5,7 +5,7 @@ use Rattle.s7_outer.specs.Held.{Held as Room}
 use Rattle.s7_wire.specs.Outgoing.{Outgoing}
 use Rattle.s7_wire.specs.Reads.{HasRead, opens_by, ended_with, size_at}
 use Rattle.s7_wire.specs.declared.reader.Reader.{Reader}
-use Rattle.s7_client.specs.declared.config.Config.{Config}
+use Rattle.s7_dialogue.specs.declared.config.Config.{Config}
 use Rattle.s7_partner.specs.declared.role.Role.{Role}
 use Rattle.s7_partner.specs.declared.partner.Partner.{Partner}
 use Rattle.s7_partner.specs.declared.partner.Stage.{Stage as Held}

@@ -4,7 +4,7 @@ use Rattle.std.specs.Prelude.{Option, Some, option_map}
 use Rattle.s7_outer.specs.Held.{Held as Room}
 use Rattle.s7_wire.specs.Reads.{size_at}
 use Rattle.s7_wire.specs.Sent.{sent_message}
-use Rattle.s7_client.specs.Course.{next_sequence}
+use Rattle.s7_dialogue.specs.Course.{next_sequence}
 use Rattle.s7_partner.specs.declared.partner.Partner.{Partner}
 use Rattle.s7_partner.specs.declared.partner.Sending.{Sending as HeldSending}
 use Rattle.s7_partner.specs.declared.partner.Arrived.{Arrived}

@@ -13,8 +13,8 @@ use Rattle.s7_wire.specs.Reads.{HasRead, opens_by, ended_with, size_at}
 use Rattle.s7_wire.specs.declared.found.Opening.{Opening}
 use Rattle.s7_wire.specs.declared.reader.Reader.{Reader}
 use Rattle.s7_wire.proofs.ReaderLemmas.{going_on}
-use Rattle.s7_client.specs.declared.config.Config.{Config}
-use Rattle.s7_client.specs.Codes.{send_failed}
+use Rattle.s7_dialogue.specs.declared.config.Config.{Config}
+use Rattle.s7_dialogue.specs.Codes.{send_failed}
 use Rattle.s7_partner.specs.declared.role.Role.{Role}
 use Rattle.s7_partner.specs.declared.partner.Partner.{Partner}
 use Rattle.s7_partner.specs.declared.partner.Arrived.{Arrived}

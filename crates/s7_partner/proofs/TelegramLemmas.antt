@@ -6,7 +6,7 @@ use Rattle.s7_header.specs.declared.header.Kind.TheVariants.{User}
 use Rattle.s7_header.specs.declared.user_params.UserParams.{UserParams}
 use Rattle.s7_header.specs.Header.{header_of, params_of, body_of}
 use Rattle.s7_header.specs.UserParams.{user_params_of}
-use Rattle.s7_client.specs.UserData.{octets_in}
+use Rattle.s7_dialogue.specs.UserData.{octets_in}
 use Rattle.s7_partner.specs.Telegrams.{piece_of_data, piece_of_octets, is_piece, piece_by, piece_of_kind}
 use Rattle.s7_partner.specs.Telegrams.{piece_of_header, piece_in}
 

@@ -1,6 +1,6 @@
 -- Which acts a partner may take.
 use Rattle.std.specs.Prelude.{◌≡◌, ℕ, ◌<◌, ◌≤◌, true, false, List, [], ◌∷◌, length, None, IsSome}
-use Rattle.s7_client.specs.declared.config.Config.{Config}
+use Rattle.s7_dialogue.specs.declared.config.Config.{Config}
 use Rattle.s7_partner.specs.declared.role.Role.{Role}
 use Rattle.s7_partner.specs.States.{Stage, opening, negotiating, going, closed, State, Act, gives, reads, hands}
 use Rattle.s7_partner.specs.States.{acknowledges, with_act, is_sending}

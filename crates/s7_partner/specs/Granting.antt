@@ -9,12 +9,12 @@ use Rattle.s7_header.specs.declared.negotiation.Negotiation.{Negotiation}
 use Rattle.s7_header.specs.Header.{header_of, params_of}
 use Rattle.s7_header.specs.Negotiation.{negotiation_of, negotiation_spelling, least_pdu}
 use Rattle.s7_wire.specs.Sent.{sent_message}
-use Rattle.s7_client.specs.declared.config.Config.{Config}
-use Rattle.s7_client.specs.declared.grant.Grant.{Grant}
-use Rattle.s7_client.specs.Codes.{negotiation_failed, invalid_answer}
-use Rattle.s7_client.specs.Question.{negotiates, message_octets}
-use Rattle.s7_client.specs.Answer.{Answer, grants, tells, notes, stands, brings, uploads, slices, uploaded, refuses, answer_of}
-use Rattle.s7_client.specs.Dialogue.{asked_by, taken_grant}
+use Rattle.s7_dialogue.specs.declared.config.Config.{Config}
+use Rattle.s7_dialogue.specs.declared.grant.Grant.{Grant}
+use Rattle.s7_dialogue.specs.Codes.{negotiation_failed, invalid_answer}
+use Rattle.s7_dialogue.specs.Question.{negotiates, message_octets}
+use Rattle.s7_dialogue.specs.Answer.{Answer, grants, tells, notes, stands, brings, uploads, slices, uploaded, refuses, answer_of}
+use Rattle.s7_dialogue.specs.Dialogue.{asked_by, taken_grant}
 use Rattle.s7_partner.specs.States.{State, with_code, goes, granted_by}
 
 -- ---- the answer to the negotiation

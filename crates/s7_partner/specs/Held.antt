@@ -1,7 +1,7 @@
 -- What a partner holds of its state.
 use Rattle.std.specs.Prelude.{◌≡◌, ℕ, List, ◌++◌, Option, None, Some, option_map}
 use Rattle.s7_wire.specs.Reads.{HasRead, opens_by, ended_with, size_at}
-use Rattle.s7_client.specs.declared.config.Config.{Config}
+use Rattle.s7_dialogue.specs.declared.config.Config.{Config}
 use Rattle.s7_partner.specs.declared.role.Role.{Role}
 use Rattle.s7_partner.specs.declared.partner.Partner.{Partner}
 use Rattle.s7_partner.specs.declared.partner.Stage.{Stage as Held}

@@ -10,9 +10,9 @@ use Rattle.s7_wire.specs.declared.found.Opening.{Opening}
 use Rattle.s7_wire.specs.declared.found.Opening.TheVariants.{Request, Confirm}
 use Rattle.s7_wire.specs.declared.found.ReadFault.{ReadFault}
 use Rattle.s7_wire.specs.declared.found.ReadFault.TheVariants as fault
-use Rattle.s7_client.specs.declared.config.Config.{Config}
-use Rattle.s7_client.specs.Codes.{not_connected, link_ended, bad_packet, message_too_fragmented, message_too_long}
-use Rattle.s7_client.specs.Codes.{send_failed, receive_failed}
+use Rattle.s7_dialogue.specs.declared.config.Config.{Config}
+use Rattle.s7_dialogue.specs.Codes.{not_connected, link_ended, bad_packet, message_too_fragmented, message_too_long}
+use Rattle.s7_dialogue.specs.Codes.{send_failed, receive_failed}
 use Rattle.s7_partner.specs.declared.role.Role.{Role}
 use Rattle.s7_partner.specs.declared.role.Role.TheVariants.{Active, Passive}
 use Rattle.s7_partner.specs.declared.event.PartnerEvent.{PartnerEvent}

@@ -2,7 +2,7 @@
 use Rattle.std.specs.Prelude.{◌≡◌, ℕ, ◌+◌, ◌*◌, ◌<◌, false, List, ◌++◌, length, is_none, Result, Ok}
 use Rattle.s7_outer.specs.Shown.{Shown}
 use Rattle.s7_outer.specs.declared.memory.Memory.{Memory}
-use Rattle.s7_client.specs.declared.config.Config.{Config}
+use Rattle.s7_dialogue.specs.declared.config.Config.{Config}
 use Rattle.s7_client.specs.Standing.{Moves}
 use Rattle.s7_partner.specs.declared.role.Role.{Role}
 use Rattle.s7_partner.specs.declared.partner.Partner.{Partner}

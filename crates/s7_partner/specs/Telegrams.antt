@@ -14,8 +14,8 @@ use Rattle.s7_header.specs.declared.faults.BadParams.{BadParams}
 use Rattle.s7_header.specs.declared.user_params.UserParams.{UserParams}
 use Rattle.s7_header.specs.Header.{header_of, params_of, body_of}
 use Rattle.s7_header.specs.UserParams.{user_spelling, user_params_of}
-use Rattle.s7_client.specs.UserData.{no_data, data_of, octets_in}
-use Rattle.s7_client.specs.Question.{message_octets}
+use Rattle.s7_dialogue.specs.UserData.{no_data, data_of, octets_in}
+use Rattle.s7_dialogue.specs.Question.{message_octets}
 
 -- ---- what is sent
 

@@ -9,11 +9,11 @@ ghost use Rattle.s7_header.specs.Header.{header_of, params_of, body_of};
 ghost use Rattle.s7_header.specs.Negotiation.{negotiation_spelling, jobs_granted, least_pdu, most_pdu};
 ghost use Rattle.s7_wire.specs.Bounds.{most_packets, most_waiting};
 ghost use Rattle.s7_wire.specs.Sent.{sent_message};
-ghost use Rattle.s7_client.specs.Question.{message_octets, negotiates};
-ghost use Rattle.s7_client.specs.declared.config.Config.{Config as Asking};
-ghost use Rattle.s7_client.specs.Answer.{answer_of, acknowledged, refuses};
-ghost use Rattle.s7_client.specs.Dialogue.{asked_by, taken_grant};
-ghost use Rattle.s7_client.specs.Course.{connect_octets};
+ghost use Rattle.s7_dialogue.specs.Question.{message_octets, negotiates};
+ghost use Rattle.s7_dialogue.specs.declared.config.Config.{Config as Asking};
+ghost use Rattle.s7_dialogue.specs.Answer.{answer_of, acknowledged, refuses};
+ghost use Rattle.s7_dialogue.specs.Dialogue.{asked_by, taken_grant};
+ghost use Rattle.s7_dialogue.specs.Course.{connect_octets};
 ghost use Rattle.s7_partner.specs.States.{starting_octets, confirmed, granted_by};
 ghost use Rattle.s7_partner.specs.Partners.{opening_by};
 ghost use Rattle.s7_partner.specs.Granting.{granted_pdu, pdu_of_answer, pdu_of_grant, asked_in};
@@ -154,7 +154,7 @@ fn asked_by(config: &Config) -> Negotiation
 }
 
 // The PDU that the answer to the negotiation grants, or the number of an error.
-#[tactic(auto, unfolding(s7_client::specs::Answer::answer_of))]
+#[tactic(auto, unfolding(s7_dialogue::specs::Answer::answer_of))]
 fn read_grant(config: &Config, message: &[u8]) -> Result<u16, u32>
     ensures granted { result ≡ granted_pdu config.now message.now }
     ensures least { IfOk result (λ pdu. 64 ≤ pdu) }

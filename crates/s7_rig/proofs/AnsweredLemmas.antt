@@ -19,8 +19,8 @@ use Rattle.s7_plant.specs.Answers.{read_item, write_codes}
 use Rattle.s7_plant.specs.Answers as plant
 use Rattle.s7_plant.specs.Requests.{asked}
 use Rattle.s7_plant.specs.State.{State}
-use Rattle.s7_client.specs.Question.{Question, negotiates, reads, writes}
-use Rattle.s7_client.specs.Answer.{Answer, refuses, grants, tells, notes, item_answers, counts_items, grant_in, acknowledged, by_header, by_kind, answer_of}
+use Rattle.s7_dialogue.specs.Question.{Question, negotiates, reads, writes}
+use Rattle.s7_dialogue.specs.Answer.{Answer, refuses, grants, tells, notes, item_answers, counts_items, grant_in, acknowledged, by_header, by_kind, answer_of}
 use Rattle.s7_session.specs.Judgement.{answer_octets, refusal_octets, reply_octets}
 use Rattle.s7_rig.specs.Heard.{told_of}
 use Rattle.s7_rig.proofs.DataItemLemmas.{items_are_told, read_fits}

@@ -3,11 +3,11 @@ use Rattle.std.proofs.Common.{◌≡◌, ℕ, ◌<◌, ◌≤◌, Option, None, 
 use Rattle.s7_header.specs.declared.negotiation.Negotiation.{Negotiation}
 use Rattle.s7_header.specs.Negotiation.{negotiation_spelling, jobs_granted, most_pdu}
 use Rattle.s7_wire.specs.Sent.{sent_message}
-use Rattle.s7_client.specs.declared.grant.Grant.{Grant}
-use Rattle.s7_client.specs.Question.{Question, question_octets}
-use Rattle.s7_client.specs.Answer.{Answer}
-use Rattle.s7_client.specs.Dialogue.{asked_by, plan_of}
-use Rattle.s7_client.specs.Course.{Origin, conduct_of}
+use Rattle.s7_dialogue.specs.declared.grant.Grant.{Grant}
+use Rattle.s7_dialogue.specs.Question.{Question, question_octets}
+use Rattle.s7_dialogue.specs.Answer.{Answer}
+use Rattle.s7_dialogue.specs.Dialogue.{asked_by, plan_of}
+use Rattle.s7_dialogue.specs.Course.{Origin, conduct_of}
 use Rattle.s7_client.proofs.FitLemmas.{sent_short}
 use Rattle.s7_session.specs.Events.{lives}
 use Rattle.s7_session.specs.Judgement.{answer_octets}

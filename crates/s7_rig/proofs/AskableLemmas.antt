@@ -15,24 +15,24 @@ use Rattle.s7_split.specs.Parts.{parts_of, CanBeAsked}
 use Rattle.s7_split.specs.Groups.{groups_of, IsGroup}
 use Rattle.s7_split.proofs.PartLaws.{parts_asked}
 use Rattle.s7_split.proofs.GroupLaws.{groups_short}
-use Rattle.s7_client.specs.declared.config.Config.{Config}
-use Rattle.s7_client.specs.declared.grant.Grant.{Grant}
-use Rattle.s7_client.specs.declared.job.Job.{Job}
-use Rattle.s7_client.specs.declared.job.Job.TheVariants as job
-use Rattle.s7_client.specs.declared.subject.Subject.{Subject}
-use Rattle.s7_client.specs.declared.subject.Subject.TheVariants.{StatusList, RunState, BlockCounts, BlocksOfKind, BlockHead, Clock, ClockSetting, Password, PasswordClearing}
-use Rattle.s7_client.specs.Codes.{invalid_parameters}
-use Rattle.s7_client.specs.UserData.{comes_in_pieces, filled_text, encoded}
-use Rattle.s7_client.specs.Question.{Question, controls, asks_further}
-use Rattle.s7_client.specs.Answer.{Answer, grants, tells, notes, stands, brings, uploads, slices, uploaded, refuses}
-use Rattle.s7_client.specs.Checks.{octet_count_of, check_item, check_items, check_moment, check_password}
-use Rattle.s7_client.specs.DataBlocks.{data_parts}
-use Rattle.s7_client.specs.Dialogue.{End, read_questions, write_questions, alone, listed, if_good, at_once, asking_about, next_piece, behind, last_answer, octets_brought, list_octets, kind_octets, block_octets, plan_of}
-use Rattle.s7_client.proofs.CheckLemmas.{item_checked, items_checked, can_split}
+use Rattle.s7_dialogue.specs.declared.config.Config.{Config}
+use Rattle.s7_dialogue.specs.declared.grant.Grant.{Grant}
+use Rattle.s7_dialogue.specs.declared.job.Job.{Job}
+use Rattle.s7_dialogue.specs.declared.job.Job.TheVariants as job
+use Rattle.s7_dialogue.specs.declared.subject.Subject.{Subject}
+use Rattle.s7_dialogue.specs.declared.subject.Subject.TheVariants.{StatusList, RunState, BlockCounts, BlocksOfKind, BlockHead, Clock, ClockSetting, Password, PasswordClearing}
+use Rattle.s7_dialogue.specs.Codes.{invalid_parameters}
+use Rattle.s7_dialogue.specs.UserData.{comes_in_pieces, filled_text, encoded}
+use Rattle.s7_dialogue.specs.Question.{Question, controls, asks_further}
+use Rattle.s7_dialogue.specs.Answer.{Answer, grants, tells, notes, stands, brings, uploads, slices, uploaded, refuses}
+use Rattle.s7_dialogue.specs.Checks.{octet_count_of, check_item, check_items, check_moment, check_password}
+use Rattle.s7_dialogue.specs.DataBlocks.{data_parts}
+use Rattle.s7_dialogue.specs.Dialogue.{End, read_questions, write_questions, alone, listed, if_good, at_once, asking_about, next_piece, behind, last_answer, octets_brought, list_octets, kind_octets, block_octets, plan_of}
+use Rattle.s7_dialogue.proofs.CheckLemmas.{item_checked, items_checked, can_split}
 use Rattle.s7_client.proofs.DataFitLemmas.{data_fit}
-use Rattle.s7_client.proofs.GroupLemmas.{groups_right}
+use Rattle.s7_dialogue.proofs.GroupLemmas.{groups_right}
 use Rattle.s7_client.proofs.FitLemmas.{one_of_all, good_sent}
-use Rattle.s7_client.proofs.FlightLemmas.{same_some}
+use Rattle.s7_dialogue.proofs.FlightLemmas.{same_some}
 use Rattle.s7_rig.specs.Exchanges.{AreSome, CanGoWith, IsAskable}
 use Rattle.s7_rig.specs.Written.{AreKnown}
 use Rattle.s7_rig.proofs.PlacedLemmas.{parts_known}

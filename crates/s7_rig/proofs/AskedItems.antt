@@ -7,12 +7,12 @@ use Rattle.s7_item.specs.declared.item.Item.{Item}
 use Rattle.s7_item.specs.Item.{octet_count}
 use Rattle.s7_split.specs.Parts.{parts_of}
 use Rattle.s7_split.specs.Groups.{groups_of}
-use Rattle.s7_client.specs.Question.{Question, reads, writes}
-use Rattle.s7_client.specs.Checks.{is_known, octet_count_of, check_item, check_items}
-use Rattle.s7_client.specs.Dialogue.{read_questions, write_questions, alone}
-use Rattle.s7_client.proofs.CheckLemmas.{item_checked, items_checked, can_split}
-use Rattle.s7_client.proofs.GroupLemmas.{octet_count_append}
-use Rattle.s7_client.proofs.GroupLemmas.{groups_right, parts_together}
+use Rattle.s7_dialogue.specs.Question.{Question, reads, writes}
+use Rattle.s7_dialogue.specs.Checks.{is_known, octet_count_of, check_item, check_items}
+use Rattle.s7_dialogue.specs.Dialogue.{read_questions, write_questions, alone}
+use Rattle.s7_dialogue.proofs.CheckLemmas.{item_checked, items_checked, can_split}
+use Rattle.s7_dialogue.proofs.GroupLemmas.{octet_count_append}
+use Rattle.s7_dialogue.proofs.GroupLemmas.{groups_right, parts_together}
 use Rattle.s7_rig.specs.Written.{AreKnown}
 
 -- this holds of each item that is read or written, and a write has as many octets as its items

@@ -21,9 +21,9 @@ use Rattle.s7_plant.specs.Answers as plant
 use Rattle.s7_plant.specs.Requests.{asked}
 use Rattle.s7_plant.specs.State.{State}
 use Rattle.s7_plant.proofs.CodeLemmas.{codes_in_turn}
-use Rattle.s7_client.specs.Question.{writes, written, question_octets}
-use Rattle.s7_client.specs.Answer.{ItemAnswer, notes, answer_of}
-use Rattle.s7_client.specs.Checks.{octet_count_of}
+use Rattle.s7_dialogue.specs.Question.{writes, written, question_octets}
+use Rattle.s7_dialogue.specs.Answer.{ItemAnswer, notes, answer_of}
+use Rattle.s7_dialogue.specs.Checks.{octet_count_of}
 use Rattle.s7_session.specs.LinkState.{LinkState}
 use Rattle.s7_session.specs.Judgement.{judge, asks_plainly, reply_octets}
 use Rattle.s7_session.proofs.SpelledLemmas.{writes_are_asked}

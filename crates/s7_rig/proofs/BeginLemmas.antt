@@ -1,10 +1,10 @@
 -- How jobs begin on their client.
 use Rattle.std.proofs.Common.{◌≡◌, ◌<◌, false, [], Some, refl, ap, sym, ◌∙◌, subst}
 use Rattle.s7_tpkt.specs.Packets.{rest_of}
-use Rattle.s7_client.specs.declared.grant.Grant.{Grant}
-use Rattle.s7_client.specs.Dialogue.{First, nothing, plan_of}
-use Rattle.s7_client.specs.Course.{Origin, begins_anew, size_at, sequence_at, conduct_of, blank, by_first}
-use Rattle.s7_client.specs.Course.{begun, course, limits}
+use Rattle.s7_dialogue.specs.declared.grant.Grant.{Grant}
+use Rattle.s7_dialogue.specs.Dialogue.{First, nothing, plan_of}
+use Rattle.s7_dialogue.specs.Course.{Origin, begins_anew, size_at, sequence_at, conduct_of, blank, by_first}
+use Rattle.s7_dialogue.specs.Course.{begun, course, limits}
 use Rattle.s7_client.proofs.CourseLemmas.{course_nothing}
 use Rattle.s7_rig.specs.Awaiting.{Awaiting}
 use Rattle.s7_rig.proofs.TelegramLemmas.{AsksAll, asks_all}

@@ -26,8 +26,8 @@ use Rattle.s7_plant.specs.Answers as plant
 use Rattle.s7_plant.specs.Answers.{db_image, db_octets, image_in, numbers_in, list_entry, entries_told, info_told}
 use Rattle.s7_plant.specs.State.{State}
 use Rattle.s7_plant.specs.declared.request.Request.TheVariants as plain
-use Rattle.s7_client.specs.declared.subject.Subject.TheVariants.{BlockCounts, BlocksOfKind, BlockHead, DataHead}
-use Rattle.s7_client.specs.DataBlocks.{tells_data}
+use Rattle.s7_dialogue.specs.declared.subject.Subject.TheVariants.{BlockCounts, BlocksOfKind, BlockHead, DataHead}
+use Rattle.s7_dialogue.specs.DataBlocks.{tells_data}
 use Rattle.s7_rig.specs.Plants.{IsPlant}
 use Rattle.s7_rig.proofs.UserFitLemmas.{refusal_fits}
 use Rattle.s7_rig.proofs.UserServedLemmas.{IsFit}

@@ -7,8 +7,8 @@ use Rattle.s7_outer.specs.PipesHeld.{PipesHeld}
 use Rattle.s7_outer.specs.Pipes.{end_of}
 use Rattle.s7_outer.specs.declared.pipes.Side.TheVariants as side
 use Rattle.s7_client.specs.declared.client.Client.{Client}
-use Rattle.s7_client.specs.declared.job.Job.{Job}
-use Rattle.s7_client.specs.Course.{Origin}
+use Rattle.s7_dialogue.specs.declared.job.Job.{Job}
+use Rattle.s7_dialogue.specs.Course.{Origin}
 use Rattle.s7_client.specs.Polling.{StandsFor, job_of, waited_of, WaitsOnce}
 use Rattle.std.proofs.lemmas.List.{append-nil}
 use Rattle.s7_rig.proofs.ListFacts.{tail_of}

@@ -10,16 +10,16 @@ use Rattle.s7_outer.specs.declared.pipes.Side.TheVariants as side
 use Rattle.s7_area.specs.Memory.{Memory}
 use Rattle.s7_header.specs.Negotiation.{most_pdu}
 use Rattle.s7_client.specs.declared.client.Client.{Client}
-use Rattle.s7_client.specs.declared.config.Config.{Config}
-use Rattle.s7_client.specs.declared.grant.Grant.{Grant}
-use Rattle.s7_client.specs.declared.grant.Leaves.{Leaves}
-use Rattle.s7_client.specs.declared.grant.Leaves.TheVariants.{AsItWas, Disconnected, Closed}
-use Rattle.s7_client.specs.declared.job.Job.{Job}
-use Rattle.s7_client.specs.declared.job.Job.TheVariants as job
-use Rattle.s7_client.specs.declared.job.JobResult.{JobResult}
+use Rattle.s7_dialogue.specs.declared.config.Config.{Config}
+use Rattle.s7_dialogue.specs.declared.grant.Grant.{Grant}
+use Rattle.s7_dialogue.specs.declared.grant.Leaves.{Leaves}
+use Rattle.s7_dialogue.specs.declared.grant.Leaves.TheVariants.{AsItWas, Disconnected, Closed}
+use Rattle.s7_dialogue.specs.declared.job.Job.{Job}
+use Rattle.s7_dialogue.specs.declared.job.Job.TheVariants as job
+use Rattle.s7_dialogue.specs.declared.job.JobResult.{JobResult}
 use Rattle.s7_client.specs.declared.job.Polled.{Polled}
 use Rattle.s7_client.specs.declared.job.Polled.TheVariants as polled
-use Rattle.s7_client.specs.Course.{begins_anew}
+use Rattle.s7_dialogue.specs.Course.{begins_anew}
 use Rattle.s7_client.specs.Standing.{Moves, IsByOctets}
 use Rattle.s7_client.specs.Polling as client
 use Rattle.s7_plant.specs.declared.book.Book.{Book}
@@ -52,10 +52,10 @@ use Rattle.s7_rig.specs.Exchanges.{AnyUndone, entries_of, rows_of, Converses, We
 use Rattle.s7_rig.specs.Turns.{is_full_in, lacks_in}
 use Rattle.s7_session.specs.Telegrams.{AnyFull, clock_failures}
 use Rattle.s7_session.proofs.DoerLemmas.{full_end}
-use Rattle.s7_client.specs.Answer.{Answer}
-use Rattle.s7_client.specs.Codes.{timed_out}
-use Rattle.s7_client.specs.Dialogue.{End, fault_end, departed_end, connected_plan, plan_of}
-use Rattle.s7_client.specs.Flight.{answers_of}
+use Rattle.s7_dialogue.specs.Answer.{Answer}
+use Rattle.s7_dialogue.specs.Codes.{timed_out}
+use Rattle.s7_dialogue.specs.Dialogue.{End, fault_end, departed_end, connected_plan, plan_of}
+use Rattle.s7_dialogue.specs.Flight.{answers_of}
 use Rattle.s7_rig.proofs.OwnLemmas.{own_replies, own_shaped, reads_own, stands_at, all_stand_more}
 use Rattle.s7_rig.specs.Plants.{IsPlant}
 use Rattle.s7_rig.proofs.ClientFacts.{pipes_quiet, has_job, waits_for_none, some_job, took, wrote, same_moment, given_on, taken_on, wrote_nothing}

@@ -17,23 +17,23 @@ use Rattle.s7_block.proofs.DigitLemmas.{names_read}
 use Rattle.s7_clock.specs.declared.control.Control.{Control}
 use Rattle.s7_clock.specs.declared.control.Control.TheVariants as control
 use Rattle.s7_clock.specs.Moment.{octets_at}
-use Rattle.s7_client.specs.declared.grant.Grant.{Grant}
-use Rattle.s7_client.specs.declared.grant.Leaves.TheVariants.{AsItWas}
-use Rattle.s7_client.specs.declared.job.Job.{Job}
-use Rattle.s7_client.specs.declared.job.Job.TheVariants as job
-use Rattle.s7_client.specs.declared.subject.Subject.{Subject}
-use Rattle.s7_client.specs.declared.subject.Subject.TheVariants.{StatusList, RunState, BlockCounts, Clock, ClockSetting}
-use Rattle.s7_client.specs.Question.{Question, controls, asks}
-use Rattle.s7_client.specs.Answer.{Answer}
-use Rattle.s7_client.specs.Refusals.{part_refusal, telegram_refusal, control_refusal}
-use Rattle.s7_client.specs.Checks.{check_item, check_items, check_moment, octet_count_of}
-use Rattle.s7_client.specs.Flight.{answers_of}
-use Rattle.s7_client.specs.Dialogue.{End, Conduct, Plan, number_end, over, read_questions, write_questions, first_or}
-use Rattle.s7_client.specs.Dialogue.{first_refusal}
-use Rattle.s7_client.specs.Dialogue.{plain_number, write_number, by_refusal, octets_told, codes_told, good_end, alone}
-use Rattle.s7_client.specs.Dialogue.{listed, if_good, connected_plan}
-use Rattle.s7_client.specs.Dialogue.{controlling, uploading, octets_brought, brought_end, last_answer, next_piece, asking_about, list_octets}
-use Rattle.s7_client.proofs.FlightLemmas.{same_some}
+use Rattle.s7_dialogue.specs.declared.grant.Grant.{Grant}
+use Rattle.s7_dialogue.specs.declared.grant.Leaves.TheVariants.{AsItWas}
+use Rattle.s7_dialogue.specs.declared.job.Job.{Job}
+use Rattle.s7_dialogue.specs.declared.job.Job.TheVariants as job
+use Rattle.s7_dialogue.specs.declared.subject.Subject.{Subject}
+use Rattle.s7_dialogue.specs.declared.subject.Subject.TheVariants.{StatusList, RunState, BlockCounts, Clock, ClockSetting}
+use Rattle.s7_dialogue.specs.Question.{Question, controls, asks}
+use Rattle.s7_dialogue.specs.Answer.{Answer}
+use Rattle.s7_dialogue.specs.Refusals.{part_refusal, telegram_refusal, control_refusal}
+use Rattle.s7_dialogue.specs.Checks.{check_item, check_items, check_moment, octet_count_of}
+use Rattle.s7_dialogue.specs.Flight.{answers_of}
+use Rattle.s7_dialogue.specs.Dialogue.{End, Conduct, Plan, number_end, over, read_questions, write_questions, first_or}
+use Rattle.s7_dialogue.specs.Dialogue.{first_refusal}
+use Rattle.s7_dialogue.specs.Dialogue.{plain_number, write_number, by_refusal, octets_told, codes_told, good_end, alone}
+use Rattle.s7_dialogue.specs.Dialogue.{listed, if_good, connected_plan}
+use Rattle.s7_dialogue.specs.Dialogue.{controlling, uploading, octets_brought, brought_end, last_answer, next_piece, asking_about, list_octets}
+use Rattle.s7_dialogue.proofs.FlightLemmas.{same_some}
 use Rattle.s7_client.proofs.FitLemmas.{one_of_all}
 use Rattle.s7_session.specs.Verdict.{Verdict}
 use Rattle.s7_rig.specs.Scripts.{IsNoConnect}

@@ -11,16 +11,16 @@ use Rattle.s7_wire.specs.Sent.{sent_message}
 use Rattle.s7_header.specs.declared.negotiation.Negotiation.{Negotiation}
 use Rattle.s7_header.specs.Negotiation.{negotiation_spelling}
 use Rattle.s7_session.specs.Judgement.{answer_octets}
-use Rattle.s7_client.specs.declared.config.Config.{Config}
-use Rattle.s7_client.specs.declared.job.Job.TheVariants as job
-use Rattle.s7_client.specs.declared.grant.Grant.{Grant}
-use Rattle.s7_client.specs.Question.{negotiates, question_octets}
-use Rattle.s7_client.specs.Answer.{grants}
-use Rattle.s7_client.specs.Flight.{Row, answers_of, open_count, filled}
-use Rattle.s7_client.specs.Dialogue.{Plan, connect_request, asked_by, taken_grant, by_grant, negotiating, connecting_plan, plan_of}
-use Rattle.s7_client.specs.Course.{Origin, Course, for_confirm, for_answers, for_nothing, conduct_of, asked_on, asking}
-use Rattle.s7_client.specs.Course.{begins_anew, sequence_at, by_awaits, confirming, with_packet, course, limit_in, limit_where}
-use Rattle.s7_client.proofs.FlightLemmas.{with_answer}
+use Rattle.s7_dialogue.specs.declared.config.Config.{Config}
+use Rattle.s7_dialogue.specs.declared.job.Job.TheVariants as job
+use Rattle.s7_dialogue.specs.declared.grant.Grant.{Grant}
+use Rattle.s7_dialogue.specs.Question.{negotiates, question_octets}
+use Rattle.s7_dialogue.specs.Answer.{grants}
+use Rattle.s7_dialogue.specs.Flight.{Row, answers_of, open_count, filled}
+use Rattle.s7_dialogue.specs.Dialogue.{Plan, connect_request, asked_by, taken_grant, by_grant, negotiating, connecting_plan, plan_of}
+use Rattle.s7_dialogue.specs.Course.{Origin, Course, for_confirm, for_answers, for_nothing, conduct_of, asked_on, asking}
+use Rattle.s7_dialogue.specs.Course.{begins_anew, sequence_at, by_awaits, confirming, with_packet, course, limit_in, limit_where}
+use Rattle.s7_dialogue.proofs.FlightLemmas.{with_answer}
 use Rattle.s7_rig.specs.Heard.{connected_end}
 use Rattle.s7_rig.specs.Awaiting.{telegrams_of, AreAsked, BeginsConnecting, negotiation_row, AsksNegotiation, EndsBy}
 use Rattle.s7_rig.proofs.BeginLemmas.{clear_at_first, first_course}

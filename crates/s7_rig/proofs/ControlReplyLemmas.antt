@@ -4,7 +4,7 @@ use Rattle.s7_block.specs.Names.{is_name}
 use Rattle.s7_clock.specs.declared.control.Control.{Control}
 use Rattle.s7_clock.specs.declared.control.Control.TheVariants as control
 use Rattle.s7_plant.specs.declared.request.Request.{Request}
-use Rattle.s7_client.specs.Question.{controls}
+use Rattle.s7_dialogue.specs.Question.{controls}
 use Rattle.s7_session.specs.Judgement.{plainly}
 use Rattle.s7_session.specs.LinkState.{LinkState}
 use Rattle.s7_session.specs.Owed.{past}

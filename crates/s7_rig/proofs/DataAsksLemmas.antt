@@ -7,16 +7,16 @@ use Rattle.std.specs.List.{AllByRecursion}
 use Rattle.s7_item.specs.declared.item.Item.{Item}
 use Rattle.s7_item.specs.Word.{size_of}
 use Rattle.s7_split.specs.Parts.{parts_of}
-use Rattle.s7_client.specs.declared.subject.Subject.TheVariants.{DataHead}
-use Rattle.s7_client.specs.DataBlocks.{data_length, data_item, data_items_from, data_parts}
-use Rattle.s7_client.specs.DataPlaces.{parts_of_all}
-use Rattle.s7_client.specs.Question.{Question, asks, asks_further}
-use Rattle.s7_client.specs.Answer.{Answer}
-use Rattle.s7_client.specs.Dialogue.{octets_brought, last_answer, behind, or_later, count_of_data, next_of_data}
-use Rattle.s7_client.proofs.DataPartLemmas.{byte_size, pieces, parts_pieces}
-use Rattle.s7_client.proofs.FlightLemmas.{same_some}
+use Rattle.s7_dialogue.specs.declared.subject.Subject.TheVariants.{DataHead}
+use Rattle.s7_dialogue.specs.DataBlocks.{data_length, data_item, data_items_from, data_parts}
+use Rattle.s7_dialogue.specs.DataPlaces.{parts_of_all}
+use Rattle.s7_dialogue.specs.Question.{Question, asks, asks_further}
+use Rattle.s7_dialogue.specs.Answer.{Answer}
+use Rattle.s7_dialogue.specs.Dialogue.{octets_brought, last_answer, behind, or_later, count_of_data, next_of_data}
+use Rattle.s7_dialogue.proofs.DataPartLemmas.{byte_size, pieces, parts_pieces}
+use Rattle.s7_dialogue.proofs.FlightLemmas.{same_some}
 use Rattle.s7_client.proofs.FitLemmas.{one_of_all}
-use Rattle.s7_client.proofs.SpotLemmas.{all_append}
+use Rattle.s7_dialogue.proofs.SpotLemmas.{all_append}
 use Rattle.s7_rig.proofs.HoldPieces.{behind_is}
 
 -- what is asked is the first of two, or the other

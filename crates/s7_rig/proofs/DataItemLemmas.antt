@@ -12,7 +12,7 @@ use Rattle.s7_item.proofs.DataLaws.{length-padding}
 use Rattle.s7_item.proofs.SizeLaws.{answers_fit}
 use Rattle.s7_header.proofs.OctetLemmas.{two_of_number}
 use Rattle.s7_area.specs.Memory.{Memory, read_code, read_octets}
-use Rattle.s7_client.specs.Answer.{ItemAnswer, item_first, begins_read, begins_refused, item_answers}
+use Rattle.s7_dialogue.specs.Answer.{ItemAnswer, item_first, begins_read, begins_refused, item_answers}
 use Rattle.s7_plant.specs.Answers.{read_item}
 use Rattle.s7_rig.specs.Heard.{told_of}
 use Rattle.s7_rig.proofs.ReadLemmas.{IsRefusing, read_whole, read_nothing, read_or_refused}

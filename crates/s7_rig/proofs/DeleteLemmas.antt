@@ -10,7 +10,7 @@ use Rattle.s7_clock.specs.declared.control.Control.TheVariants as control
 use Rattle.s7_clock.proofs.ControlLemmas.{none_by_block}
 use Rattle.s7_plant.specs.declared.request.Request.{Request}
 use Rattle.s7_plant.specs.declared.request.Request.TheVariants as plain
-use Rattle.s7_client.proofs.FlightLemmas.{same_some}
+use Rattle.s7_dialogue.proofs.FlightLemmas.{same_some}
 use Rattle.s7_rig.specs.Exchanges.{request_of}
 
 -- ---- kinds

@@ -7,13 +7,13 @@ use Rattle.s7_plant.specs.declared.request.Ask.{Ask}
 use Rattle.s7_plant.specs.Replies.{Said}
 use Rattle.s7_wire.specs.Bounds.{message_limit}
 use Rattle.s7_wire.specs.Sent.{sent_message}
-use Rattle.s7_client.specs.declared.grant.Grant.{Grant}
-use Rattle.s7_client.specs.Answer.{Answer}
-use Rattle.s7_client.specs.Flight.{Row, open_count}
-use Rattle.s7_client.specs.Dialogue.{End, plan_of}
-use Rattle.s7_client.specs.Course.{Origin, Awaits, for_answers, for_nothing, conduct_of, course}
+use Rattle.s7_dialogue.specs.declared.grant.Grant.{Grant}
+use Rattle.s7_dialogue.specs.Answer.{Answer}
+use Rattle.s7_dialogue.specs.Flight.{Row, open_count}
+use Rattle.s7_dialogue.specs.Dialogue.{End, plan_of}
+use Rattle.s7_dialogue.specs.Course.{Origin, Awaits, for_answers, for_nothing, conduct_of, course}
 use Rattle.s7_client.specs.Standing.{IsByOctets}
-use Rattle.s7_client.proofs.FlightLemmas.{row_message}
+use Rattle.s7_dialogue.proofs.FlightLemmas.{row_message}
 use Rattle.s7_client.proofs.FitLemmas.{sent_short}
 use Rattle.s7_session.specs.LinkState.{LinkState}
 use Rattle.s7_session.specs.Telegrams.{entered_of}

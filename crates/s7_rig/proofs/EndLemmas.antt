@@ -7,26 +7,26 @@ use Rattle.s7_item.specs.Item.{octet_count}
 use Rattle.s7_block.specs.declared.block.BlockName.{BlockName}
 use Rattle.s7_clock.specs.declared.control.Control.{Control}
 use Rattle.s7_clock.specs.declared.control.Control.TheVariants as control
-use Rattle.s7_client.specs.declared.config.Config.{Config}
-use Rattle.s7_client.specs.declared.grant.Grant.{Grant}
-use Rattle.s7_client.specs.declared.grant.Leaves.{Leaves}
-use Rattle.s7_client.specs.declared.grant.Leaves.TheVariants.{AsItWas, Connected, Disconnected, Closed}
-use Rattle.s7_client.specs.declared.job.Job.{Job}
-use Rattle.s7_client.specs.declared.job.Job.TheVariants as job
-use Rattle.s7_client.specs.declared.subject.Subject.{Subject}
-use Rattle.s7_client.specs.declared.subject.Subject.TheVariants.{StatusList, RunState, BlockCounts, BlocksOfKind, BlockHead, Clock, ClockSetting, Password, PasswordClearing}
-use Rattle.s7_client.specs.Answer.{Answer, grants, tells, notes, stands, brings, uploads, slices, uploaded, refuses}
-use Rattle.s7_client.specs.Codes.{not_connected, timed_out}
-use Rattle.s7_client.specs.Checks.{check_item, check_items, check_moment, check_password, octet_count_of}
-use Rattle.s7_client.specs.Flight.{answers_of, open_count}
-use Rattle.s7_client.specs.Dialogue.{End, First, nothing, connect_request, disconnect_request, Plan, over, number_end, fault_end, departed_end}
-use Rattle.s7_client.specs.Dialogue.{taken_grant, by_grant, negotiated, connected_plan, unconnected_plan, plan_of}
-use Rattle.s7_client.specs.Dialogue.{Conduct, plain_number, write_number, by_refusal, good_end, controlling, asking_about, uploading, fill_number, at_once}
-use Rattle.s7_client.specs.Course.{Origin, Course, Awaits, for_confirm, for_answers, for_departure, for_nothing, conduct_of}
-use Rattle.s7_client.specs.Course.{asked_on, asking, blank, by_first, begun, course}
+use Rattle.s7_dialogue.specs.declared.config.Config.{Config}
+use Rattle.s7_dialogue.specs.declared.grant.Grant.{Grant}
+use Rattle.s7_dialogue.specs.declared.grant.Leaves.{Leaves}
+use Rattle.s7_dialogue.specs.declared.grant.Leaves.TheVariants.{AsItWas, Connected, Disconnected, Closed}
+use Rattle.s7_dialogue.specs.declared.job.Job.{Job}
+use Rattle.s7_dialogue.specs.declared.job.Job.TheVariants as job
+use Rattle.s7_dialogue.specs.declared.subject.Subject.{Subject}
+use Rattle.s7_dialogue.specs.declared.subject.Subject.TheVariants.{StatusList, RunState, BlockCounts, BlocksOfKind, BlockHead, Clock, ClockSetting, Password, PasswordClearing}
+use Rattle.s7_dialogue.specs.Answer.{Answer, grants, tells, notes, stands, brings, uploads, slices, uploaded, refuses}
+use Rattle.s7_dialogue.specs.Codes.{not_connected, timed_out}
+use Rattle.s7_dialogue.specs.Checks.{check_item, check_items, check_moment, check_password, octet_count_of}
+use Rattle.s7_dialogue.specs.Flight.{answers_of, open_count}
+use Rattle.s7_dialogue.specs.Dialogue.{End, First, nothing, connect_request, disconnect_request, Plan, over, number_end, fault_end, departed_end}
+use Rattle.s7_dialogue.specs.Dialogue.{taken_grant, by_grant, negotiated, connected_plan, unconnected_plan, plan_of}
+use Rattle.s7_dialogue.specs.Dialogue.{Conduct, plain_number, write_number, by_refusal, good_end, controlling, asking_about, uploading, fill_number, at_once}
+use Rattle.s7_dialogue.specs.Course.{Origin, Course, Awaits, for_confirm, for_answers, for_departure, for_nothing, conduct_of}
+use Rattle.s7_dialogue.specs.Course.{asked_on, asking, blank, by_first, begun, course}
 use Rattle.s7_client.specs.Standing.{IsFault, IsByOctets, IsByDeparture}
 use Rattle.s7_client.specs.Polling.{IsDoneBy, grant_after}
-use Rattle.s7_client.proofs.RowLemmas.{IsKept, course_kept}
+use Rattle.s7_dialogue.proofs.RowLemmas.{IsKept, course_kept}
 use Rattle.s7_rig.specs.Scripts.{IsNoConnect}
 
 -- ---- what ends leave

@@ -8,14 +8,14 @@ use Rattle.s7_outer.specs.PipesHeld.{PipesHeld}
 use Rattle.s7_area.specs.Memory.{Memory}
 use Rattle.s7_area.specs.declared.guard.Guard.{Guard}
 use Rattle.s7_client.specs.declared.client.Client.{Client}
-use Rattle.s7_client.specs.Codes.{link_ended, send_failed, receive_failed, timed_out}
-use Rattle.s7_client.specs.declared.config.Config.{Config}
-use Rattle.s7_client.specs.declared.job.Job.{Job}
-use Rattle.s7_client.specs.declared.job.JobResult.{JobResult}
+use Rattle.s7_dialogue.specs.Codes.{link_ended, send_failed, receive_failed, timed_out}
+use Rattle.s7_dialogue.specs.declared.config.Config.{Config}
+use Rattle.s7_dialogue.specs.declared.job.Job.{Job}
+use Rattle.s7_dialogue.specs.declared.job.JobResult.{JobResult}
 use Rattle.s7_client.specs.declared.job.Polled.{Polled}
 use Rattle.s7_client.specs.declared.job.Polled.TheVariants as polled
-use Rattle.s7_client.specs.Course.{Origin}
-use Rattle.s7_client.specs.Dialogue.{End, fault_end}
+use Rattle.s7_dialogue.specs.Course.{Origin}
+use Rattle.s7_dialogue.specs.Dialogue.{End, fault_end}
 use Rattle.s7_client.specs.Form.{HasForm, EndsHaveForm}
 use Rattle.s7_client.specs.Polling.{IsPoll, IsDoneBy, StandsFor, Comes, job_of, waited_of, origin_at}
 use Rattle.s7_client.specs.Standing.{HasCause}

@@ -4,13 +4,13 @@ use Rattle.s7_tpkt.specs.Packets.{packets_of, rest_of, state_of}
 use Rattle.s7_tpkt.specs.declared.state.FedState.{FedState}
 use Rattle.s7_tpkt.specs.declared.state.FedState.TheVariants as fed
 use Rattle.s7_tpkt.proofs.PacketLemmas.{goes_further}
-use Rattle.s7_client.specs.Dialogue.{Conduct}
-use Rattle.s7_client.specs.Course.{Origin, Course, Awaits, for_confirm, for_answers, for_departure, for_nothing}
-use Rattle.s7_client.specs.Course.{conduct_of, asking, begun, run, by_state, unless_over, packets_run, course, limits}
+use Rattle.s7_dialogue.specs.Dialogue.{Conduct}
+use Rattle.s7_dialogue.specs.Course.{Origin, Course, Awaits, for_confirm, for_answers, for_departure, for_nothing}
+use Rattle.s7_dialogue.specs.Course.{conduct_of, asking, begun, run, by_state, unless_over, packets_run, course, limits}
 use Rattle.s7_client.specs.Standing.{IsPrefixOf}
 use Rattle.s7_client.proofs.CourseLemmas.{run-append}
-use Rattle.s7_client.proofs.FlightLemmas.{asks_on}
-use Rattle.s7_client.proofs.RowLemmas.{IsKept, run_kept}
+use Rattle.s7_dialogue.proofs.FlightLemmas.{asks_on}
+use Rattle.s7_dialogue.proofs.RowLemmas.{IsKept, run_kept}
 
 abbrev pub OutGrows : Course → Course → Type 0
 OutGrows c d = IsPrefixOf c.out d.out

@@ -12,12 +12,12 @@ use Rattle.s7_cotp.specs.Messages.{Step, more, whole, joined_with}
 use Rattle.s7_cotp.proofs.SpellLemmas.{data_again}
 use Rattle.s7_wire.specs.Bounds.{message_limit, limit_of_size}
 use Rattle.s7_wire.specs.Sent.{sent_message}
-use Rattle.s7_client.specs.Flight.{Row, filled}
-use Rattle.s7_client.specs.Dialogue.{Conduct}
-use Rattle.s7_client.specs.Codes.{short_message}
-use Rattle.s7_client.specs.Course.{Origin, Course, Unfinished, for_answers, nothing_unfinished, conduct_of, asking, with_fault}
-use Rattle.s7_client.specs.Course.{by_awaits, by_rows, by_joining, with_message, connected, with_packet, course, limits}
-use Rattle.s7_client.specs.Course.{limit_in, limit_where}
+use Rattle.s7_dialogue.specs.Flight.{Row, filled}
+use Rattle.s7_dialogue.specs.Dialogue.{Conduct}
+use Rattle.s7_dialogue.specs.Codes.{short_message}
+use Rattle.s7_dialogue.specs.Course.{Origin, Course, Unfinished, for_answers, nothing_unfinished, conduct_of, asking, with_fault}
+use Rattle.s7_dialogue.specs.Course.{by_awaits, by_rows, by_joining, with_message, connected, with_packet, course, limits}
+use Rattle.s7_dialogue.specs.Course.{limit_in, limit_where}
 use Rattle.s7_client.proofs.CourseLemmas.{course_held, course_on_more, course_ends}
 use Rattle.s7_rig.specs.Awaiting.{Awaiting}
 use Rattle.s7_rig.proofs.TelegramLemmas.{AsksAll, asks_all}

@@ -3,13 +3,13 @@ use Rattle.std.proofs.Common.{◌≡◌, ℕ, Bool, true, false, Option, Some, L
 use Rattle.std.specs.Prelude.{slice_get}
 use Rattle.std.specs.List.{AllByRecursion}
 use Rattle.s7_item.specs.declared.item.Item.{Item}
-use Rattle.s7_client.specs.declared.subject.Subject.{Subject}
-use Rattle.s7_client.specs.declared.subject.Subject.TheVariants.{DataHead}
-use Rattle.s7_client.specs.DataBlocks.{data_length}
-use Rattle.s7_client.specs.Question.{Question, reads, writes}
-use Rattle.s7_client.specs.Answer.{Answer, brings}
-use Rattle.s7_client.specs.Dialogue.{octets_brought, behind, count_of_data, next_piece, next_of_data}
-use Rattle.s7_client.specs.Dialogue.{read_questions, write_questions}
+use Rattle.s7_dialogue.specs.declared.subject.Subject.{Subject}
+use Rattle.s7_dialogue.specs.declared.subject.Subject.TheVariants.{DataHead}
+use Rattle.s7_dialogue.specs.DataBlocks.{data_length}
+use Rattle.s7_dialogue.specs.Question.{Question, reads, writes}
+use Rattle.s7_dialogue.specs.Answer.{Answer, brings}
+use Rattle.s7_dialogue.specs.Dialogue.{octets_brought, behind, count_of_data, next_piece, next_of_data}
+use Rattle.s7_dialogue.specs.Dialogue.{read_questions, write_questions}
 use Rattle.s7_client.proofs.FitLemmas.{one_of_all}
 use Rattle.s7_session.specs.LinkState.{LinkState}
 use Rattle.s7_rig.specs.Exchanges.{IsReadyFor, GoesOn}

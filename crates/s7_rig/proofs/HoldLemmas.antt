@@ -10,23 +10,23 @@ use Rattle.s7_split.specs.Parts.{parts_of}
 use Rattle.s7_split.specs.Groups.{groups_of}
 use Rattle.s7_clock.specs.declared.control.Control.{Control}
 use Rattle.s7_clock.specs.declared.control.Control.TheVariants as control
-use Rattle.s7_client.specs.declared.grant.Grant.{Grant}
-use Rattle.s7_client.specs.declared.grant.Leaves.TheVariants.{AsItWas}
-use Rattle.s7_client.specs.declared.job.Job.{Job}
-use Rattle.s7_client.specs.declared.job.Job.TheVariants as job
-use Rattle.s7_client.specs.declared.subject.Subject.{Subject}
-use Rattle.s7_client.specs.declared.subject.Subject.TheVariants.{DataHead}
-use Rattle.s7_client.specs.DataBlocks.{data_parts}
+use Rattle.s7_dialogue.specs.declared.grant.Grant.{Grant}
+use Rattle.s7_dialogue.specs.declared.grant.Leaves.TheVariants.{AsItWas}
+use Rattle.s7_dialogue.specs.declared.job.Job.{Job}
+use Rattle.s7_dialogue.specs.declared.job.Job.TheVariants as job
+use Rattle.s7_dialogue.specs.declared.subject.Subject.{Subject}
+use Rattle.s7_dialogue.specs.declared.subject.Subject.TheVariants.{DataHead}
+use Rattle.s7_dialogue.specs.DataBlocks.{data_parts}
 use Rattle.s7_block.specs.declared.block.BlockName.{BlockName}
-use Rattle.s7_client.specs.Question.{Question, controls, asks, asks_further, starts_upload, slices_upload, ends_upload}
-use Rattle.s7_client.specs.Answer.{Answer}
-use Rattle.s7_client.specs.Checks.{check_item, check_items, check_moment, check_password, octet_count_of}
-use Rattle.s7_client.specs.Flight.{Row, answers_of}
-use Rattle.s7_client.specs.Dialogue.{End, Conduct, Plan, over, number_end, read_questions, write_questions, alone}
-use Rattle.s7_client.specs.Dialogue.{getting, filling, block_octets}
-use Rattle.s7_client.specs.Dialogue.{controlling, asking_about, uploading, listed, if_good, connected_plan, plan_of}
-use Rattle.s7_client.specs.Course.{Origin, conduct_of, course}
-use Rattle.s7_client.proofs.FlightLemmas.{same_some}
+use Rattle.s7_dialogue.specs.Question.{Question, controls, asks, asks_further, starts_upload, slices_upload, ends_upload}
+use Rattle.s7_dialogue.specs.Answer.{Answer}
+use Rattle.s7_dialogue.specs.Checks.{check_item, check_items, check_moment, check_password, octet_count_of}
+use Rattle.s7_dialogue.specs.Flight.{Row, answers_of}
+use Rattle.s7_dialogue.specs.Dialogue.{End, Conduct, Plan, over, number_end, read_questions, write_questions, alone}
+use Rattle.s7_dialogue.specs.Dialogue.{getting, filling, block_octets}
+use Rattle.s7_dialogue.specs.Dialogue.{controlling, asking_about, uploading, listed, if_good, connected_plan, plan_of}
+use Rattle.s7_dialogue.specs.Course.{Origin, conduct_of, course}
+use Rattle.s7_dialogue.proofs.FlightLemmas.{same_some}
 use Rattle.s7_client.proofs.FitLemmas.{one_of_all}
 use Rattle.s7_session.specs.LinkState.{LinkState}
 use Rattle.s7_rig.specs.Awaiting.{AreAsked}

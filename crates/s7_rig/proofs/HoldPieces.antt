@@ -2,12 +2,12 @@
 use Rattle.std.proofs.Common.{◌≡◌, ℕ, Bool, true, false, cond, Option, None, Some, List, [], ◌∷◌, ◌++◌, refl, ap, ap₂}
 use Rattle.std.proofs.Common.{sym, ◌∙◌, subst, append-nil}
 use Rattle.std.proofs.lemmas.List.Concat.{flat_map-append}
-use Rattle.s7_client.specs.declared.subject.Subject.{Subject}
-use Rattle.s7_client.specs.UserData.{comes_in_pieces}
-use Rattle.s7_client.specs.Question.{Question, asks, asks_further}
-use Rattle.s7_client.specs.Answer.{Answer, brings}
-use Rattle.s7_client.specs.Dialogue.{octets_in, of_answer, octets_brought, behind, last_answer, next_piece}
-use Rattle.s7_client.proofs.FlightLemmas.{same_some}
+use Rattle.s7_dialogue.specs.declared.subject.Subject.{Subject}
+use Rattle.s7_dialogue.specs.UserData.{comes_in_pieces}
+use Rattle.s7_dialogue.specs.Question.{Question, asks, asks_further}
+use Rattle.s7_dialogue.specs.Answer.{Answer, brings}
+use Rattle.s7_dialogue.specs.Dialogue.{octets_in, of_answer, octets_brought, behind, last_answer, next_piece}
+use Rattle.s7_dialogue.proofs.FlightLemmas.{same_some}
 use Rattle.s7_session.specs.LinkState.{LinkState}
 use Rattle.s7_rig.specs.Exchanges.{IsReadyFor, GoesOn}
 

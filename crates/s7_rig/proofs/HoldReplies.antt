@@ -16,12 +16,12 @@ use Rattle.s7_plant.specs.declared.request.Request.{Request}
 use Rattle.s7_plant.specs.declared.request.Request.TheVariants as plain
 use Rattle.s7_plant.specs.Replies.{Said, said}
 use Rattle.s7_plant.specs.State.{State}
-use Rattle.s7_client.specs.declared.subject.Subject.{Subject}
-use Rattle.s7_client.specs.declared.subject.Subject.TheVariants.{StatusList, RunState, BlockCounts, Clock, ClockSetting}
-use Rattle.s7_client.specs.Answer.{brings, uploads, refuses}
-use Rattle.s7_client.specs.Refusals.{control_refusal, telegram_refusal}
-use Rattle.s7_client.specs.Dialogue.{list_octets}
-use Rattle.s7_client.proofs.FlightLemmas.{same_some}
+use Rattle.s7_dialogue.specs.declared.subject.Subject.{Subject}
+use Rattle.s7_dialogue.specs.declared.subject.Subject.TheVariants.{StatusList, RunState, BlockCounts, Clock, ClockSetting}
+use Rattle.s7_dialogue.specs.Answer.{brings, uploads, refuses}
+use Rattle.s7_dialogue.specs.Refusals.{control_refusal, telegram_refusal}
+use Rattle.s7_dialogue.specs.Dialogue.{list_octets}
+use Rattle.s7_dialogue.proofs.FlightLemmas.{same_some}
 use Rattle.s7_rig.specs.Exchanges.{AsksFor, control_heard, user_heard, upload_heard, request_of}
 use Rattle.s7_rig.proofs.ShapeLemmas.{SameShape}
 

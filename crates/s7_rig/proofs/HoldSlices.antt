@@ -2,11 +2,11 @@
 use Rattle.std.proofs.Common.{◌≡◌, ℕ, Bool, true, false, cond, Option, Some, List, [], ◌∷◌, ◌++◌, ap, ap₂, sym, ◌∙◌}
 use Rattle.std.proofs.Common.{subst, append-nil}
 use Rattle.s7_block.specs.declared.block.BlockName.{BlockName}
-use Rattle.s7_client.specs.Question.{Question, starts_upload, slices_upload, ends_upload}
-use Rattle.s7_client.specs.Answer.{Answer, uploads, slices}
-use Rattle.s7_client.specs.Dialogue.{octets_in, octets_brought, last_answer, behind_slice, behind_start, behind_first}
-use Rattle.s7_client.specs.Dialogue.{next_slice}
-use Rattle.s7_client.proofs.FlightLemmas.{same_some}
+use Rattle.s7_dialogue.specs.Question.{Question, starts_upload, slices_upload, ends_upload}
+use Rattle.s7_dialogue.specs.Answer.{Answer, uploads, slices}
+use Rattle.s7_dialogue.specs.Dialogue.{octets_in, octets_brought, last_answer, behind_slice, behind_start, behind_first}
+use Rattle.s7_dialogue.specs.Dialogue.{next_slice}
+use Rattle.s7_dialogue.proofs.FlightLemmas.{same_some}
 use Rattle.s7_session.specs.LinkState.{LinkState}
 use Rattle.s7_rig.specs.Exchanges.{IsReadyFor, HoldsUpload, GoesOn}
 use Rattle.s7_rig.proofs.HoldPieces.{brought_more, last_more}

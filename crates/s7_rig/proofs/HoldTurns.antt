@@ -1,12 +1,12 @@
 -- Jobs that ask one question at a time: each is asked behind the answers to all before it.
 use Rattle.std.proofs.Common.{◌≡◌, ℕ, ◌≤◌, None, Some, List, [], ◌∷◌, ◌++◌, refl, ap, sym, ◌∙◌, subst, append_assoc, append-nil, arith}
 use Rattle.std.specs.List.{AllByRecursion}
-use Rattle.s7_client.specs.Answer.{Answer}
-use Rattle.s7_client.specs.Flight.{Row, answers_of}
-use Rattle.s7_client.specs.Dialogue.{Conduct}
-use Rattle.s7_client.specs.Course.{Origin, conduct_of, course}
-use Rattle.s7_client.proofs.FlightLemmas.{IsAnswered, all_answered, with_answer}
-use Rattle.s7_client.proofs.RowLemmas.{RowsKept, course_rows}
+use Rattle.s7_dialogue.specs.Answer.{Answer}
+use Rattle.s7_dialogue.specs.Flight.{Row, answers_of}
+use Rattle.s7_dialogue.specs.Dialogue.{Conduct}
+use Rattle.s7_dialogue.specs.Course.{Origin, conduct_of, course}
+use Rattle.s7_dialogue.proofs.FlightLemmas.{IsAnswered, all_answered, with_answer}
+use Rattle.s7_dialogue.proofs.RowLemmas.{RowsKept, course_rows}
 
 -- each of these was asked behind the answers to those before it, and none behind one that is unanswered
 abbrev pub AreInTurn : Conduct → List Row → List Row → Type 0

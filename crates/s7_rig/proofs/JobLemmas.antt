@@ -3,12 +3,12 @@ use Rattle.std.proofs.Common.{◌≡◌, ℕ, zero, suc, ◌+◌, ◌<◌, Some,
 use Rattle.std.proofs.lemmas.List.{append_cancel_left, map-append, nil_from_length}
 use Rattle.std.proofs.lemmas.List.Concat.{flat_map-append}
 use Rattle.s7_wire.specs.Sent.{sent_message}
-use Rattle.s7_client.specs.Flight.{Row, answers_of, open_count, filled}
-use Rattle.s7_client.specs.Dialogue.{End}
-use Rattle.s7_client.specs.Course.{Course, Awaits, for_nothing, conduct_of, next_question, course}
+use Rattle.s7_dialogue.specs.Flight.{Row, answers_of, open_count, filled}
+use Rattle.s7_dialogue.specs.Dialogue.{End}
+use Rattle.s7_dialogue.specs.Course.{Course, Awaits, for_nothing, conduct_of, next_question, course}
 use Rattle.s7_client.specs.Standing.{AwaitsOctets}
-use Rattle.s7_client.proofs.FlightLemmas.{with_answer}
-use Rattle.s7_client.proofs.RowLemmas.{all_append}
+use Rattle.s7_dialogue.proofs.FlightLemmas.{with_answer}
+use Rattle.s7_dialogue.proofs.RowLemmas.{all_append}
 use Rattle.s7_session.specs.Verdict.{Verdict}
 use Rattle.s7_session.specs.Owed.{Past, past, owed, entered}
 use Rattle.s7_session.proofs.PastLemmas.{with_more}

@@ -1,10 +1,10 @@
 -- A client and its session at one moment of a rig's run, as the proofs follow them.
 use Rattle.std.specs.Prelude.{◌≡◌, ◌⊎◌, ℕ, ◌<◌, List, [], ◌++◌, length, map, None, Some}
 use Rattle.s7_area.specs.Memory.{Memory}
-use Rattle.s7_client.specs.declared.config.Config.{Config}
-use Rattle.s7_client.specs.declared.grant.Grant.{Grant}
-use Rattle.s7_client.specs.declared.job.Job.TheVariants as job
-use Rattle.s7_client.specs.Course.{Origin}
+use Rattle.s7_dialogue.specs.declared.config.Config.{Config}
+use Rattle.s7_dialogue.specs.declared.grant.Grant.{Grant}
+use Rattle.s7_dialogue.specs.declared.job.Job.TheVariants as job
+use Rattle.s7_dialogue.specs.Course.{Origin}
 use Rattle.s7_client.specs.Polling as client
 use Rattle.s7_plant.specs.declared.book.Book.{Book}
 use Rattle.s7_plant.specs.State.{begins_with, state_of}

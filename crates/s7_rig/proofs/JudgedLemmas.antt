@@ -17,8 +17,8 @@ use Rattle.s7_item.specs.declared.item.Item.{Item}
 use Rattle.s7_item.specs.Sizes.{answer_size}
 use Rattle.s7_item.proofs.ItemLaws.{reads_back}
 use Rattle.s7_plant.specs.declared.request.Request.TheVariants.{Read}
-use Rattle.s7_client.specs.Question.{Question, negotiates, reads, writes, controls, asks, asks_further, kind_of, params_of, body_of, message_octets, question_octets}
-use Rattle.s7_client.specs.Question.{starts_upload, slices_upload, ends_upload}
+use Rattle.s7_dialogue.specs.Question.{Question, negotiates, reads, writes, controls, asks, asks_further, kind_of, params_of, body_of, message_octets, question_octets}
+use Rattle.s7_dialogue.specs.Question.{starts_upload, slices_upload, ends_upload}
 use Rattle.s7_session.specs.LinkState.{LinkState}
 use Rattle.s7_session.specs.Judgement.{Judgement, own, judge, is_request, kinds, asks_plainly, answer_octets, sequence_of, headed, function_at, pdu_limit, read, negotiation, negotiated}
 use Rattle.s7_session.specs.Events.{is_s7}

@@ -11,8 +11,8 @@ use Rattle.s7_area.specs.declared.guard.Guard.{Guard}
 use Rattle.s7_wire.specs.declared.found.Opening.TheVariants.{Request}
 use Rattle.s7_wire.specs.Reading.{Progress, start, nothing_unfinished, opened as opens, after_packet, limits, with_tpdu, with_body, with_bodies, with_rest, reading}
 use Rattle.s7_wire.proofs.ReadingLemmas.{reading_is, rest_more, body_at}
-use Rattle.s7_client.specs.declared.config.Config.{Config}
-use Rattle.s7_client.specs.Course.{request_of, connect_octets}
+use Rattle.s7_dialogue.specs.declared.config.Config.{Config}
+use Rattle.s7_dialogue.specs.Course.{request_of, connect_octets}
 use Rattle.s7_session.specs.Verdict.{Verdict}
 use Rattle.s7_session.specs.Events.{lives, Made, made, confirmed}
 use Rattle.s7_session.specs.LinkState.{LinkState, first_link}

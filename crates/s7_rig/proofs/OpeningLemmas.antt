@@ -16,12 +16,12 @@ use Rattle.s7_session.specs.Events.{confirmed}
 use Rattle.s7_session.specs.LinkState.{LinkState, first_link}
 use Rattle.s7_session.specs.Owed.{Past, past, owed, entered}
 use Rattle.s7_session.proofs.PastLemmas.{with_more, past_nothing, past_grows}
-use Rattle.s7_client.specs.declared.config.Config.{Config}
-use Rattle.s7_client.specs.declared.grant.Grant.{Grant}
-use Rattle.s7_client.specs.Question.{negotiates, question_octets}
-use Rattle.s7_client.specs.Dialogue.{End, asked_by, taken_grant}
+use Rattle.s7_dialogue.specs.declared.config.Config.{Config}
+use Rattle.s7_dialogue.specs.declared.grant.Grant.{Grant}
+use Rattle.s7_dialogue.specs.Question.{negotiates, question_octets}
+use Rattle.s7_dialogue.specs.Dialogue.{End, asked_by, taken_grant}
 use Rattle.s7_client.specs.Standing.{AwaitsOctets}
-use Rattle.s7_client.specs.Course.{Origin, Course, Awaits, for_nothing, request_of, connect_octets, course}
+use Rattle.s7_dialogue.specs.Course.{Origin, Course, Awaits, for_nothing, request_of, connect_octets, course}
 use Rattle.s7_client.proofs.FrontLemmas.{IsSplit, split_front}
 use Rattle.s7_rig.specs.Settled.{Settled, Serves}
 use Rattle.s7_rig.specs.Awaiting.{BeginsConnecting, AsksNegotiation, EndsBy}

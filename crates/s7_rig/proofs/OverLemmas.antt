@@ -4,8 +4,8 @@ use Rattle.std.specs.Prelude.{Some}
 use Rattle.s7_split.specs.Parts.{parts_of}
 use Rattle.s7_plant.specs.declared.request.Ask.{Ask}
 use Rattle.s7_plant.specs.Replies.{Said}
-use Rattle.s7_client.specs.Dialogue.{End}
-use Rattle.s7_client.specs.Course.{Origin}
+use Rattle.s7_dialogue.specs.Dialogue.{End}
+use Rattle.s7_dialogue.specs.Course.{Origin}
 use Rattle.s7_session.specs.LinkState.{LinkState}
 use Rattle.s7_session.specs.Verdict.{Verdict}
 use Rattle.s7_session.specs.Owed.{owed, entered}

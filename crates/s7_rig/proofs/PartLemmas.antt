@@ -11,19 +11,19 @@ use Rattle.s7_plant.specs.declared.request.Request.TheVariants.{Read}
 use Rattle.s7_plant.specs.Requests.{asked}
 use Rattle.s7_plant.specs.Replies.{Said}
 use Rattle.s7_plant.specs.State.{State}
-use Rattle.s7_client.specs.declared.grant.Grant.{Grant}
-use Rattle.s7_client.specs.declared.grant.Leaves.TheVariants.{AsItWas}
-use Rattle.s7_client.specs.declared.job.Job.TheVariants as job
-use Rattle.s7_client.specs.Question.{Question, reads}
-use Rattle.s7_client.specs.Answer.{Answer, ItemAnswer, refuses, tells}
-use Rattle.s7_client.specs.Refusals.{number_of_code, part_refusal}
-use Rattle.s7_client.specs.Checks.{check_item}
-use Rattle.s7_client.specs.Flight.{answers_of}
-use Rattle.s7_client.specs.Dialogue.{End, Plan, number_end, over, read_questions, first_refusal, plain_number, by_refusal}
-use Rattle.s7_client.specs.Dialogue.{octets_told, good_end, alone, listed, if_good, connected_plan, plan_of}
-use Rattle.s7_client.specs.Course.{Origin, conduct_of}
-use Rattle.s7_client.proofs.FlightLemmas.{nothing_left}
-use Rattle.s7_client.proofs.EndLemmas.{first_none}
+use Rattle.s7_dialogue.specs.declared.grant.Grant.{Grant}
+use Rattle.s7_dialogue.specs.declared.grant.Leaves.TheVariants.{AsItWas}
+use Rattle.s7_dialogue.specs.declared.job.Job.TheVariants as job
+use Rattle.s7_dialogue.specs.Question.{Question, reads}
+use Rattle.s7_dialogue.specs.Answer.{Answer, ItemAnswer, refuses, tells}
+use Rattle.s7_dialogue.specs.Refusals.{number_of_code, part_refusal}
+use Rattle.s7_dialogue.specs.Checks.{check_item}
+use Rattle.s7_dialogue.specs.Flight.{answers_of}
+use Rattle.s7_dialogue.specs.Dialogue.{End, Plan, number_end, over, read_questions, first_refusal, plain_number, by_refusal}
+use Rattle.s7_dialogue.specs.Dialogue.{octets_told, good_end, alone, listed, if_good, connected_plan, plan_of}
+use Rattle.s7_dialogue.specs.Course.{Origin, conduct_of}
+use Rattle.s7_dialogue.proofs.FlightLemmas.{nothing_left}
+use Rattle.s7_dialogue.proofs.EndLemmas.{first_none}
 use Rattle.s7_client.proofs.FormLemmas.{first_positive, part_positive}
 use Rattle.s7_session.specs.Verdict.{Verdict}
 use Rattle.s7_rig.specs.Heard.{told_of}

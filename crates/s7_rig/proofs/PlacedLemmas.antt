@@ -21,8 +21,8 @@ use Rattle.s7_split.specs.Fits.{size}
 use Rattle.s7_split.specs.Parts.{range_end, elements, room_of, parts_from, parts_of, CanBeSplit}
 use Rattle.s7_split.proofs.PartLemmas.{size_some, counts_low}
 use Rattle.s7_split.proofs.PartLaws.{room_some}
-use Rattle.s7_client.specs.Checks.{is_known, is_placed, check_item}
-use Rattle.s7_client.proofs.CheckLemmas.{item_checked, can_split}
+use Rattle.s7_dialogue.specs.Checks.{is_known, is_placed, check_item}
+use Rattle.s7_dialogue.proofs.CheckLemmas.{item_checked, can_split}
 use Rattle.s7_rig.proofs.ShapeLemmas.{SameShape, read_code_same, write_code_same, read_code_placed, write_code_placed}
 
 -- ---- the place of an item

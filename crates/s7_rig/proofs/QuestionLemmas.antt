@@ -4,7 +4,7 @@ use Rattle.std.specs.Prelude.{Option, Some}
 use Rattle.s7_header.specs.declared.negotiation.Negotiation.{Negotiation}
 use Rattle.s7_header.specs.Negotiation.{negotiation_spelling, granted, most_pdu}
 use Rattle.s7_wire.specs.Sent.{sent_message}
-use Rattle.s7_client.specs.Question.{Question, negotiates, question_octets}
+use Rattle.s7_dialogue.specs.Question.{Question, negotiates, question_octets}
 use Rattle.s7_session.specs.Verdict.{Verdict}
 use Rattle.s7_session.specs.Judgement.{Asking, refuse, own, ask, judge, answer_octets, pdu_limit, sequence_of}
 use Rattle.s7_session.specs.Errors.{error_of}

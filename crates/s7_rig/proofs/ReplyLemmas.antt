@@ -12,10 +12,10 @@ use Rattle.s7_plant.specs.Replies.{Said}
 use Rattle.s7_plant.specs.State.{State}
 use Rattle.s7_wire.specs.Bounds.{message_limit}
 use Rattle.s7_wire.specs.Sent.{sent_message, sent_messages}
-use Rattle.s7_client.specs.Question.{Question, negotiates, reads, writes, controls, asks, asks_further, question_octets}
-use Rattle.s7_client.specs.Question.{starts_upload, slices_upload, ends_upload}
-use Rattle.s7_client.specs.Answer.{refuses, tells, notes, answer_of}
-use Rattle.s7_client.proofs.FlightLemmas.{same_some}
+use Rattle.s7_dialogue.specs.Question.{Question, negotiates, reads, writes, controls, asks, asks_further, question_octets}
+use Rattle.s7_dialogue.specs.Question.{starts_upload, slices_upload, ends_upload}
+use Rattle.s7_dialogue.specs.Answer.{refuses, tells, notes, answer_of}
+use Rattle.s7_dialogue.proofs.FlightLemmas.{same_some}
 use Rattle.s7_session.specs.Verdict.{Verdict, Entered, Full, ClockFailed, NoMemory}
 use Rattle.s7_session.specs.Judgement.{Judgement, Asking, refuse, own, ask, judge, plainly, sequence_of, refusal_octets, reply_octets}
 use Rattle.s7_session.specs.Errors.{FULL, CLOCK_FAILED}

@@ -1,9 +1,9 @@
 -- Results that one more comes behind: whether they come off, and once one of them leaves the client unconnected.
 use Rattle.std.proofs.Common.{◌≡◌, ◌≢◌, ◌⊎◌, inl, inr, ℕ, List, [], ◌∷◌, ◌++◌, subst}
 use Rattle.s7_area.specs.Memory.{Memory}
-use Rattle.s7_client.specs.declared.job.Job.TheVariants as job
-use Rattle.s7_client.specs.declared.job.JobResult.{JobResult}
-use Rattle.s7_client.specs.Codes.{timed_out}
+use Rattle.s7_dialogue.specs.declared.job.Job.TheVariants as job
+use Rattle.s7_dialogue.specs.declared.job.JobResult.{JobResult}
+use Rattle.s7_dialogue.specs.Codes.{timed_out}
 use Rattle.s7_rig.specs.Complete.{CanComeOff, IsNoDisconnect, AllComeOff}
 
 -- a job met its last poll, or disconnected

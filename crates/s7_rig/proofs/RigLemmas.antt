@@ -7,8 +7,8 @@ use Rattle.s7_area.specs.Memory.{Memory}
 use Rattle.s7_area.specs.Registers.{IsMemory}
 use Rattle.s7_area.specs.declared.guard.Guard.{Guard}
 use Rattle.s7_header.specs.Negotiation.{most_pdu}
-use Rattle.s7_client.specs.declared.config.Config.{Config}
-use Rattle.s7_client.specs.declared.job.Job.{Job}
+use Rattle.s7_dialogue.specs.declared.config.Config.{Config}
+use Rattle.s7_dialogue.specs.declared.job.Job.{Job}
 use Rattle.s7_client.specs.Polling as client
 use Rattle.s7_plant.specs.declared.book.Book.{Book}
 use Rattle.s7_plant.specs.Journals.{Entries, AreReady, entries_of, calls_of, after_call}

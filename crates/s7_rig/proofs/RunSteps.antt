@@ -7,7 +7,7 @@ use Rattle.std.proofs.lemmas.List.{length-set}
 use Rattle.s7_area.specs.Memory.{Memory}
 use Rattle.s7_area.specs.Registers.{IsMemory}
 use Rattle.s7_header.specs.Negotiation.{most_pdu}
-use Rattle.s7_client.specs.declared.config.Config.{Config}
+use Rattle.s7_dialogue.specs.declared.config.Config.{Config}
 use Rattle.s7_client.specs.declared.job.Polled.{Polled}
 use Rattle.s7_client.specs.declared.job.Polled.TheVariants as polled
 use Rattle.s7_plant.specs.declared.book.Book.{Book}

@@ -5,8 +5,8 @@ use Rattle.std.specs.Prelude.{Bool, None, Some, option_map, unwrap_or}
 use Rattle.s7_outer.specs.Count.{RoseBy}
 use Rattle.s7_outer.specs.PipesHeld.{PipesHeld}
 use Rattle.s7_area.specs.Memory.{Memory}
-use Rattle.s7_client.specs.declared.config.Config.{Config}
-use Rattle.s7_client.specs.declared.job.JobResult.{JobResult}
+use Rattle.s7_dialogue.specs.declared.config.Config.{Config}
+use Rattle.s7_dialogue.specs.declared.job.JobResult.{JobResult}
 use Rattle.s7_client.specs.Polling as client
 use Rattle.s7_plant.specs.declared.book.Book.{Book}
 use Rattle.s7_plant.specs.Journals.{after_call}

@@ -1,13 +1,13 @@
 -- A job that is over leaves both ends between two messages.
 use Rattle.std.proofs.Common.{◌≡◌, ◌⊎◌, inl, inr, ℕ, ◌<◌, Bool, true, false, cond, eqb, Some, List, [], ◌++◌, length, refl, ap, sym, ◌∙◌, subst, append-nil}
 use Rattle.s7_item.specs.Item.{octet_count}
-use Rattle.s7_client.specs.declared.grant.Grant.{Grant}
-use Rattle.s7_client.specs.declared.grant.Leaves.TheVariants.{AsItWas}
-use Rattle.s7_client.specs.declared.job.Job.{Job}
-use Rattle.s7_client.specs.declared.job.Job.TheVariants as job
-use Rattle.s7_client.specs.Checks.{check_item, check_items, check_moment, check_password, octet_count_of}
-use Rattle.s7_client.specs.Dialogue.{End, First, nothing, disconnect_request, Plan, over, number_end, connected_plan, plan_of}
-use Rattle.s7_client.specs.Course.{Origin, Course, Awaits, for_departure, for_nothing, course}
+use Rattle.s7_dialogue.specs.declared.grant.Grant.{Grant}
+use Rattle.s7_dialogue.specs.declared.grant.Leaves.TheVariants.{AsItWas}
+use Rattle.s7_dialogue.specs.declared.job.Job.{Job}
+use Rattle.s7_dialogue.specs.declared.job.Job.TheVariants as job
+use Rattle.s7_dialogue.specs.Checks.{check_item, check_items, check_moment, check_password, octet_count_of}
+use Rattle.s7_dialogue.specs.Dialogue.{End, First, nothing, disconnect_request, Plan, over, number_end, connected_plan, plan_of}
+use Rattle.s7_dialogue.specs.Course.{Origin, Course, Awaits, for_departure, for_nothing, course}
 use Rattle.s7_client.specs.Standing.{AwaitsOctets}
 use Rattle.s7_session.specs.LinkState.{LinkState}
 use Rattle.s7_session.specs.Verdict.{Verdict}

@@ -4,11 +4,11 @@ use Rattle.std.specs.List.{AllByRecursion}
 use Rattle.std.proofs.lemmas.Bool.{eqb-false, ne_eqb}
 use Rattle.std.proofs.lemmas.List.{length-map}
 use Rattle.s7_wire.specs.Sent.{sent_messages}
-use Rattle.s7_client.specs.Answer.{Answer, answer_of}
-use Rattle.s7_client.specs.Flight.{Row, answers_of, open_count, filled}
-use Rattle.s7_client.specs.Dialogue.{Conduct}
-use Rattle.s7_client.specs.Course.{Course, for_answers, for_nothing, next_question, asking}
-use Rattle.s7_client.proofs.FlightLemmas.{IsOpen, IsAnswered, none_open, all_open, open_append, comes_next, AreNext, last_number, asks_on, nothing_more, row_message, with_answer, filled_first}
+use Rattle.s7_dialogue.specs.Answer.{Answer, answer_of}
+use Rattle.s7_dialogue.specs.Flight.{Row, answers_of, open_count, filled}
+use Rattle.s7_dialogue.specs.Dialogue.{Conduct}
+use Rattle.s7_dialogue.specs.Course.{Course, for_answers, for_nothing, next_question, asking}
+use Rattle.s7_dialogue.proofs.FlightLemmas.{IsOpen, IsAnswered, none_open, all_open, open_append, comes_next, AreNext, last_number, asks_on, nothing_more, row_message, with_answer, filled_first}
 use Rattle.s7_rig.specs.Awaiting.{telegrams_of, AreAsked, awaits_with}
 use Rattle.s7_rig.specs.Exchanges.{Exchange, rows_of}
 

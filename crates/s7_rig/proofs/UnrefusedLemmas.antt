@@ -14,12 +14,12 @@ use Rattle.s7_plant.specs.declared.request.Request.TheVariants as plain
 use Rattle.s7_block.specs.declared.block.BlockName.{BlockName}
 use Rattle.s7_clock.specs.declared.control.Control.{Control}
 use Rattle.s7_clock.specs.declared.control.Control.TheVariants as control
-use Rattle.s7_client.specs.declared.subject.Subject.{Subject}
-use Rattle.s7_client.specs.Question.{Question, reads, writes, controls, asks, asks_further}
-use Rattle.s7_client.specs.Question.{starts_upload, slices_upload, ends_upload}
-use Rattle.s7_client.specs.Answer.{Answer, tells, notes}
-use Rattle.s7_client.specs.Refusals.{code_refusal, part_refusal, telegram_refusal, control_refusal}
-use Rattle.s7_client.proofs.FlightLemmas.{same_some}
+use Rattle.s7_dialogue.specs.declared.subject.Subject.{Subject}
+use Rattle.s7_dialogue.specs.Question.{Question, reads, writes, controls, asks, asks_further}
+use Rattle.s7_dialogue.specs.Question.{starts_upload, slices_upload, ends_upload}
+use Rattle.s7_dialogue.specs.Answer.{Answer, tells, notes}
+use Rattle.s7_dialogue.specs.Refusals.{code_refusal, part_refusal, telegram_refusal, control_refusal}
+use Rattle.s7_dialogue.proofs.FlightLemmas.{same_some}
 use Rattle.s7_session.specs.Verdict.{Verdict}
 use Rattle.s7_rig.specs.Heard.{told_of}
 use Rattle.s7_rig.specs.Complete.{IsThere}

@@ -1,10 +1,10 @@
 -- What the job of an upload asks: its start, slices, and its end.
 use Rattle.std.proofs.Common.{◌≡◌, ℕ, Bool, true, false, cond, Option, Some, List, [], ◌∷◌, subst}
 use Rattle.s7_block.specs.declared.block.BlockName.{BlockName}
-use Rattle.s7_client.specs.Question.{Question, starts_upload, slices_upload, ends_upload}
-use Rattle.s7_client.specs.Answer.{Answer, uploads, slices}
-use Rattle.s7_client.specs.Dialogue.{octets_brought, last_answer, behind_slice, behind_start, behind_first, next_slice}
-use Rattle.s7_client.proofs.FlightLemmas.{same_some}
+use Rattle.s7_dialogue.specs.Question.{Question, starts_upload, slices_upload, ends_upload}
+use Rattle.s7_dialogue.specs.Answer.{Answer, uploads, slices}
+use Rattle.s7_dialogue.specs.Dialogue.{octets_brought, last_answer, behind_slice, behind_start, behind_first, next_slice}
+use Rattle.s7_dialogue.proofs.FlightLemmas.{same_some}
 
 module _ (P : Question → Type 0) (slice : (id size : ℕ) (so_far : List ℕ) → P (slices_upload id size so_far))
     (end : (id : ℕ) → P (ends_upload id)) where

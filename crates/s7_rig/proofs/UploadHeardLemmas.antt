@@ -13,9 +13,9 @@ use Rattle.s7_block.specs.Sides.{is_held}
 use Rattle.s7_block.specs.Slices.{Piece, first_piece, left_behind}
 use Rattle.s7_block.proofs.DigitLemmas.{names_read}
 use Rattle.s7_plant.specs.Answers.{upload_params}
-use Rattle.s7_client.specs.Question.{starts_upload, slices_upload, ends_upload}
-use Rattle.s7_client.specs.Answer.{uploads, slices, uploaded, sliced, answer_of}
-use Rattle.s7_client.specs.Uploads.{upload_size, slice_in, fitting}
+use Rattle.s7_dialogue.specs.Question.{starts_upload, slices_upload, ends_upload}
+use Rattle.s7_dialogue.specs.Answer.{uploads, slices, uploaded, sliced, answer_of}
+use Rattle.s7_dialogue.specs.Uploads.{upload_size, slice_in, fitting}
 use Rattle.s7_session.specs.Judgement.{answer_octets, slice_answer}
 use Rattle.s7_session.specs.LinkState.{LinkState}
 use Rattle.s7_session.specs.Transfers.{slice_function, end_function, more_octet, image_data, is_image_data, with_id}

@@ -5,7 +5,7 @@ use Rattle.std.proofs.lemmas.Bool.{eq-eqb}
 use Rattle.s7_block.specs.declared.block.BlockName.{BlockName}
 use Rattle.s7_block.specs.Sides.{left_in, is_held}
 use Rattle.s7_block.specs.Slices.{first_piece, left_behind}
-use Rattle.s7_client.specs.Question.{starts_upload, slices_upload, ends_upload, question_octets, params_of}
+use Rattle.s7_dialogue.specs.Question.{starts_upload, slices_upload, ends_upload, question_octets, params_of}
 use Rattle.s7_session.specs.Judgement.{Judgement, own, judge, function_at, upload_started, slice_answer, upload_sliced}
 use Rattle.s7_session.specs.Judgement.{answer_octets}
 use Rattle.s7_session.specs.LinkState.{LinkState}

@@ -12,8 +12,8 @@ use Rattle.s7_plant.specs.Answers as plant
 use Rattle.s7_plant.specs.Answers.{image_in, refused, upload_params, upload_told}
 use Rattle.s7_plant.specs.Replies.{Said, said}
 use Rattle.s7_plant.specs.State.{State}
-use Rattle.s7_client.specs.Question.{starts_upload, slices_upload, ends_upload}
-use Rattle.s7_client.specs.Answer.{refuses, uploads, slices, uploaded, answer_of}
+use Rattle.s7_dialogue.specs.Question.{starts_upload, slices_upload, ends_upload}
+use Rattle.s7_dialogue.specs.Answer.{refuses, uploads, slices, uploaded, answer_of}
 use Rattle.s7_session.specs.LinkState.{LinkState, next_octet}
 use Rattle.s7_session.specs.Owed.{past}
 use Rattle.s7_session.specs.Judgement.{answer_octets, by_upload, refusal_octets, slice_answer, upload_reply}

@@ -13,9 +13,9 @@ use Rattle.s7_plant.specs.Answers.{controlled, refused, guarded, is_barred, star
 use Rattle.s7_plant.specs.Requests.{asked}
 use Rattle.s7_plant.specs.Replies.{Said}
 use Rattle.s7_plant.specs.State.{State}
-use Rattle.s7_client.specs.Question.{controls}
-use Rattle.s7_client.specs.Answer.{stands, function_of, answer_of}
-use Rattle.s7_client.proofs.FlightLemmas.{same_some}
+use Rattle.s7_dialogue.specs.Question.{controls}
+use Rattle.s7_dialogue.specs.Answer.{stands, function_of, answer_of}
+use Rattle.s7_dialogue.proofs.FlightLemmas.{same_some}
 use Rattle.s7_session.specs.LinkState.{LinkState}
 use Rattle.s7_session.specs.Judgement.{reply_octets, plainly}
 use Rattle.s7_session.specs.Verdict.{Verdict}

@@ -13,10 +13,10 @@ use Rattle.s7_header.proofs.HeaderLemmas.{spelled}
 use Rattle.s7_header.proofs.OctetLemmas.{two_of_number}
 use Rattle.s7_header.proofs.UserLemmas.{spelled_user}
 use Rattle.s7_szl.specs.Joining.{is_refused}
-use Rattle.s7_client.specs.declared.subject.Subject.{Subject}
-use Rattle.s7_client.specs.UserData.{group_of, subfunction_of, octets_in, comes_in_pieces, is_whole, goes_on_with}
-use Rattle.s7_client.specs.Question.{Question}
-use Rattle.s7_client.specs.Answer.{refuses, brings, brought, if_data, is_under, by_params, answered_by_user, answer_of}
+use Rattle.s7_dialogue.specs.declared.subject.Subject.{Subject}
+use Rattle.s7_dialogue.specs.UserData.{group_of, subfunction_of, octets_in, comes_in_pieces, is_whole, goes_on_with}
+use Rattle.s7_dialogue.specs.Question.{Question}
+use Rattle.s7_dialogue.specs.Answer.{refuses, brings, brought, if_data, is_under, by_params, answered_by_user, answer_of}
 use Rattle.s7_session.specs.Judgement.{user_octets, user_data, slice_room, slice_octets, slices_left}
 use Rattle.s7_session.specs.LinkState.{LinkState, Sliced}
 use Rattle.s7_session.specs.Passwords.{no_data}

@@ -17,18 +17,18 @@ use Rattle.s7_clock.specs.Moment.{moment_in}
 use Rattle.s7_clock.specs.declared.control.Control.{Control}
 use Rattle.s7_clock.specs.declared.control.Control.TheVariants as control
 use Rattle.s7_clock.proofs.ControlLemmas.{control_again}
-use Rattle.s7_client.proofs.FlightLemmas.{same_some}
+use Rattle.s7_dialogue.proofs.FlightLemmas.{same_some}
 use Rattle.s7_area.specs.declared.guard.Guard.{Guard}
 use Rattle.s7_plant.specs.declared.request.Request.{Request}
 use Rattle.s7_plant.specs.declared.request.Request.TheVariants as plain
-use Rattle.s7_client.specs.declared.subject.Subject.{Subject}
-use Rattle.s7_client.specs.declared.subject.Subject.TheVariants.{StatusList, RunState, Clock, ClockSetting, Password}
-use Rattle.s7_client.specs.declared.subject.Subject.TheVariants.{PasswordClearing, BlockCounts, BlocksOfKind, BlockHead}
-use Rattle.s7_client.specs.declared.subject.Subject.TheVariants.{DataHead}
-use Rattle.s7_client.specs.UserData.{group_of, subfunction_of, request_params, further_params, data_of, comes_in_pieces}
-use Rattle.s7_client.specs.Question.{Question, controls, asks, asks_further, kind_of, params_of, body_of}
-use Rattle.s7_client.specs.Question.{question_octets}
-use Rattle.s7_client.specs.Dialogue.{kind_octets}
+use Rattle.s7_dialogue.specs.declared.subject.Subject.{Subject}
+use Rattle.s7_dialogue.specs.declared.subject.Subject.TheVariants.{StatusList, RunState, Clock, ClockSetting, Password}
+use Rattle.s7_dialogue.specs.declared.subject.Subject.TheVariants.{PasswordClearing, BlockCounts, BlocksOfKind, BlockHead}
+use Rattle.s7_dialogue.specs.declared.subject.Subject.TheVariants.{DataHead}
+use Rattle.s7_dialogue.specs.UserData.{group_of, subfunction_of, request_params, further_params, data_of, comes_in_pieces}
+use Rattle.s7_dialogue.specs.Question.{Question, controls, asks, asks_further, kind_of, params_of, body_of}
+use Rattle.s7_dialogue.specs.Question.{question_octets}
+use Rattle.s7_dialogue.specs.Dialogue.{kind_octets}
 use Rattle.s7_session.specs.Errors.{WRONG_PASSWORD, NO_RIGHT, error_of}
 use Rattle.s7_session.specs.Judgement as session
 use Rattle.s7_session.specs.Judgement.{Judgement, judge, own, kinds, job, asks_plainly, asks_user, control_in}

@@ -5,7 +5,7 @@ use Rattle.std.specs.Int.Bits.{xor_assoc, xor_self, xor_zero_r}
 use Rattle.std.proofs.lemmas.List.{length-replicate}
 use Rattle.std.proofs.lemmas.Nat.{xor_comm}
 use Rattle.std.proofs.Math.Path.{ap₂}
-use Rattle.s7_client.specs.UserData.{filled_text, encoded_after, encoded}
+use Rattle.s7_dialogue.specs.UserData.{filled_text, encoded_after, encoded}
 use Rattle.s7_session.specs.Passwords.{decoded_after, decoded}
 
 -- what is masked twice is as it was

@@ -16,16 +16,16 @@ use Rattle.s7_plant.specs.declared.request.Request.TheVariants.{Read}
 use Rattle.s7_plant.specs.State.{State}
 use Rattle.s7_plant.specs.Answers as plant
 use Rattle.s7_wire.specs.Sent.{sent_message}
-use Rattle.s7_client.specs.declared.subject.Subject.{Subject}
-use Rattle.s7_client.specs.declared.subject.Subject.TheVariants.{StatusList, RunState, Clock, ClockSetting, Password}
-use Rattle.s7_client.specs.declared.subject.Subject.TheVariants.{PasswordClearing, BlockCounts, BlocksOfKind, BlockHead}
-use Rattle.s7_client.specs.declared.subject.Subject.TheVariants.{DataHead}
-use Rattle.s7_client.specs.UserData.{group_of, subfunction_of, goes_on_with, comes_in_pieces}
-use Rattle.s7_client.specs.Dialogue.{list_octets, kind_octets, block_octets}
-use Rattle.s7_client.proofs.FlightLemmas.{same_some}
-use Rattle.s7_client.specs.Question.{Question, negotiates, reads, writes, controls, asks, asks_further, question_octets}
-use Rattle.s7_client.specs.Question.{starts_upload, slices_upload, ends_upload}
-use Rattle.s7_client.specs.Answer.{brings, refuses, answer_of}
+use Rattle.s7_dialogue.specs.declared.subject.Subject.{Subject}
+use Rattle.s7_dialogue.specs.declared.subject.Subject.TheVariants.{StatusList, RunState, Clock, ClockSetting, Password}
+use Rattle.s7_dialogue.specs.declared.subject.Subject.TheVariants.{PasswordClearing, BlockCounts, BlocksOfKind, BlockHead}
+use Rattle.s7_dialogue.specs.declared.subject.Subject.TheVariants.{DataHead}
+use Rattle.s7_dialogue.specs.UserData.{group_of, subfunction_of, goes_on_with, comes_in_pieces}
+use Rattle.s7_dialogue.specs.Dialogue.{list_octets, kind_octets, block_octets}
+use Rattle.s7_dialogue.proofs.FlightLemmas.{same_some}
+use Rattle.s7_dialogue.specs.Question.{Question, negotiates, reads, writes, controls, asks, asks_further, question_octets}
+use Rattle.s7_dialogue.specs.Question.{starts_upload, slices_upload, ends_upload}
+use Rattle.s7_dialogue.specs.Answer.{brings, refuses, answer_of}
 use Rattle.s7_session.specs.Events.{lives}
 use Rattle.s7_session.specs.LinkState.{LinkState, next_octet}
 use Rattle.s7_session.specs.Owed.{past}

@@ -8,10 +8,10 @@ use Rattle.s7_plant.specs.declared.request.Request.{Request}
 use Rattle.s7_plant.specs.Answers as plant
 use Rattle.s7_plant.specs.Replies.{Said}
 use Rattle.s7_plant.specs.State.{State}
-use Rattle.s7_client.specs.declared.subject.Subject.{Subject}
-use Rattle.s7_client.specs.UserData.{group_of, subfunction_of}
-use Rattle.s7_client.specs.Question.{asks}
-use Rattle.s7_client.specs.Answer.{Answer, brings, refuses, answer_of}
+use Rattle.s7_dialogue.specs.declared.subject.Subject.{Subject}
+use Rattle.s7_dialogue.specs.UserData.{group_of, subfunction_of}
+use Rattle.s7_dialogue.specs.Question.{asks}
+use Rattle.s7_dialogue.specs.Answer.{Answer, brings, refuses, answer_of}
 use Rattle.s7_session.specs.LinkState.{LinkState, next_octet}
 use Rattle.s7_session.specs.Judgement.{user_octets, user_reply, user_link, by_user, slice_room, slice_octets}
 use Rattle.s7_session.specs.Judgement.{slices_left}

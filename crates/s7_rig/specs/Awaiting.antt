@@ -2,12 +2,12 @@
 use Rattle.std.specs.Prelude.{◌≡◌, ℕ, ◌+◌, ◌<◌, ◌==◌, List, [], ◌∷◌, ◌++◌, length, map, Option, None, Some, if◌then◌else◌}
 use Rattle.s7_tpkt.specs.Packets.{rest_of}
 use Rattle.s7_wire.specs.Sent.{sent_message, sent_messages}
-use Rattle.s7_client.specs.Question.{Question, negotiates, question_octets}
-use Rattle.s7_client.specs.Answer.{Answer}
-use Rattle.s7_client.specs.Flight.{Row, answers_of, open_count}
-use Rattle.s7_client.specs.Dialogue.{End, Conduct, asked_by}
-use Rattle.s7_client.specs.Course.{Origin, Awaits, for_confirm, for_answers, for_nothing, nothing_unfinished}
-use Rattle.s7_client.specs.Course.{connect_octets, conduct_of, next_question, course, limits}
+use Rattle.s7_dialogue.specs.Question.{Question, negotiates, question_octets}
+use Rattle.s7_dialogue.specs.Answer.{Answer}
+use Rattle.s7_dialogue.specs.Flight.{Row, answers_of, open_count}
+use Rattle.s7_dialogue.specs.Dialogue.{End, Conduct, asked_by}
+use Rattle.s7_dialogue.specs.Course.{Origin, Awaits, for_confirm, for_answers, for_nothing, nothing_unfinished}
+use Rattle.s7_dialogue.specs.Course.{connect_octets, conduct_of, next_question, course, limits}
 
 -- ---- questions that are out
 

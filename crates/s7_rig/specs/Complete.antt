@@ -7,11 +7,11 @@ use Rattle.s7_area.specs.Guards.{is_read_barred, is_write_barred}
 use Rattle.s7_area.specs.Memory.{Memory, octets_at, place_code}
 use Rattle.s7_item.specs.Codes.{data_blocks}
 use Rattle.s7_szl.specs.Tables.{table_of}
-use Rattle.s7_client.specs.declared.job.Job.{Job}
-use Rattle.s7_client.specs.declared.job.Job.TheVariants as job
-use Rattle.s7_client.specs.declared.job.JobResult.{JobResult}
-use Rattle.s7_client.specs.Checks.{check_item, check_items, check_moment, octet_count_of}
-use Rattle.s7_client.specs.Codes.{no_fault, timed_out}
+use Rattle.s7_dialogue.specs.declared.job.Job.{Job}
+use Rattle.s7_dialogue.specs.declared.job.Job.TheVariants as job
+use Rattle.s7_dialogue.specs.declared.job.JobResult.{JobResult}
+use Rattle.s7_dialogue.specs.Checks.{check_item, check_items, check_moment, octet_count_of}
+use Rattle.s7_dialogue.specs.Codes.{no_fault, timed_out}
 
 -- the item stands in the areas
 abbrev pub IsThere : Memory → Item → Type 0

@@ -3,11 +3,11 @@ use Rattle.std.specs.Prelude.{◌≡◌, ℕ, ◌<◌, ◌≤◌, Bool, false, L
 use Rattle.std.specs.List.{AllByRecursion}
 use Rattle.s7_area.specs.Memory.{read_code, read_octets}
 use Rattle.s7_area.specs.declared.guard.Guard.{Guard}
-use Rattle.s7_client.specs.declared.grant.Grant.{Grant}
-use Rattle.s7_client.specs.declared.job.Job.TheVariants as job
-use Rattle.s7_client.specs.Codes.{no_fault}
-use Rattle.s7_client.specs.Course.{Origin, course}
-use Rattle.s7_client.specs.Dialogue.{End}
+use Rattle.s7_dialogue.specs.declared.grant.Grant.{Grant}
+use Rattle.s7_dialogue.specs.declared.job.Job.TheVariants as job
+use Rattle.s7_dialogue.specs.Codes.{no_fault}
+use Rattle.s7_dialogue.specs.Course.{Origin, course}
+use Rattle.s7_dialogue.specs.Dialogue.{End}
 use Rattle.s7_client.specs.Standing.{IsByOctets}
 use Rattle.s7_header.specs.Negotiation.{most_pdu}
 use Rattle.s7_item.specs.declared.item.Item.{Item}

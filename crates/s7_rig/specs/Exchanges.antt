@@ -22,17 +22,17 @@ use Rattle.s7_block.specs.declared.block.BlockName.{BlockName}
 use Rattle.s7_block.specs.Kinds.{head_code, is_stored_kind}
 use Rattle.s7_block.specs.Names.{is_name, name_octets, named}
 use Rattle.s7_block.specs.Sides.{is_held}
-use Rattle.s7_client.specs.declared.subject.Subject.{Subject}
-use Rattle.s7_client.specs.declared.subject.Subject.TheVariants.{StatusList, RunState, Clock, ClockSetting, Password}
-use Rattle.s7_client.specs.declared.subject.Subject.TheVariants.{PasswordClearing, BlockCounts, BlocksOfKind, BlockHead}
-use Rattle.s7_client.specs.declared.subject.Subject.TheVariants.{DataHead}
-use Rattle.s7_client.specs.UserData.{group_of, subfunction_of, comes_in_pieces, is_whole}
-use Rattle.s7_client.specs.Question.{Question, negotiates, reads, writes, controls, asks, asks_further, question_octets}
-use Rattle.s7_client.specs.Question.{starts_upload, slices_upload, ends_upload}
-use Rattle.s7_client.specs.Answer.{Answer, refuses, tells, notes, stands, brings, uploads, slices, uploaded, answer_of}
-use Rattle.s7_client.specs.Flight.{Row, answers_of}
-use Rattle.s7_client.specs.Dialogue.{End, Conduct, list_octets, kind_octets, block_octets}
-use Rattle.s7_client.specs.Course.{Origin, conduct_of, next_question}
+use Rattle.s7_dialogue.specs.declared.subject.Subject.{Subject}
+use Rattle.s7_dialogue.specs.declared.subject.Subject.TheVariants.{StatusList, RunState, Clock, ClockSetting, Password}
+use Rattle.s7_dialogue.specs.declared.subject.Subject.TheVariants.{PasswordClearing, BlockCounts, BlocksOfKind, BlockHead}
+use Rattle.s7_dialogue.specs.declared.subject.Subject.TheVariants.{DataHead}
+use Rattle.s7_dialogue.specs.UserData.{group_of, subfunction_of, comes_in_pieces, is_whole}
+use Rattle.s7_dialogue.specs.Question.{Question, negotiates, reads, writes, controls, asks, asks_further, question_octets}
+use Rattle.s7_dialogue.specs.Question.{starts_upload, slices_upload, ends_upload}
+use Rattle.s7_dialogue.specs.Answer.{Answer, refuses, tells, notes, stands, brings, uploads, slices, uploaded, answer_of}
+use Rattle.s7_dialogue.specs.Flight.{Row, answers_of}
+use Rattle.s7_dialogue.specs.Dialogue.{End, Conduct, list_octets, kind_octets, block_octets}
+use Rattle.s7_dialogue.specs.Course.{Origin, conduct_of, next_question}
 use Rattle.s7_session.specs.LinkState.{LinkState, Sliced}
 use Rattle.s7_session.specs.Judgement.{slice_room}
 use Rattle.s7_session.specs.Owed.{past, entered}

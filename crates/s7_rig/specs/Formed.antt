@@ -1,12 +1,12 @@
 -- The form of a rig's results.
 use Rattle.std.specs.Prelude.{ℕ, List, All}
 use Rattle.s7_area.specs.Memory.{Memory}
-use Rattle.s7_client.specs.declared.config.Config.{Config}
-use Rattle.s7_client.specs.declared.job.Job.{Job}
-use Rattle.s7_client.specs.declared.job.JobResult.{JobResult}
-use Rattle.s7_client.specs.Dialogue.{End}
+use Rattle.s7_dialogue.specs.declared.config.Config.{Config}
+use Rattle.s7_dialogue.specs.declared.job.Job.{Job}
+use Rattle.s7_dialogue.specs.declared.job.JobResult.{JobResult}
+use Rattle.s7_dialogue.specs.Dialogue.{End}
 use Rattle.s7_client.specs.Form.{HasForm}
-use Rattle.s7_client.specs.Running.{IsResult}
+use Rattle.s7_dialogue.specs.Running.{IsResult}
 use Rattle.s7_rig.specs.Shown.{ClientTold, EndTold}
 use Rattle.s7_rig.specs.Rigs.{RigRan, Turning}
 

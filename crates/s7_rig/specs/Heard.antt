@@ -2,11 +2,11 @@
 use Rattle.std.specs.Prelude.{Bool, []}
 use Rattle.s7_item.specs.declared.item.Item.{Item}
 use Rattle.s7_area.specs.Memory.{Memory, read_code, read_octets}
-use Rattle.s7_client.specs.declared.grant.Grant.{Grant}
-use Rattle.s7_client.specs.declared.grant.Leaves.TheVariants.{Connected}
-use Rattle.s7_client.specs.Codes.{no_fault}
-use Rattle.s7_client.specs.Answer.{ItemAnswer}
-use Rattle.s7_client.specs.Dialogue.{End}
+use Rattle.s7_dialogue.specs.declared.grant.Grant.{Grant}
+use Rattle.s7_dialogue.specs.declared.grant.Leaves.TheVariants.{Connected}
+use Rattle.s7_dialogue.specs.Codes.{no_fault}
+use Rattle.s7_dialogue.specs.Answer.{ItemAnswer}
+use Rattle.s7_dialogue.specs.Dialogue.{End}
 
 -- what is told of an item, with a right or without: its return code, and the octets that the memory gives, none where
 -- the code refuses it

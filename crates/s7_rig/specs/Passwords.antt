@@ -1,6 +1,6 @@
 -- Passwords on their way from a client to its session.
 use Rattle.std.specs.Prelude.{◌≡◌, ℕ, List}
-use Rattle.s7_client.specs.UserData.{encoded}
+use Rattle.s7_dialogue.specs.UserData.{encoded}
 use Rattle.s7_session.specs.Passwords.{decoded}
 
 -- A session reads the password that a client sends.

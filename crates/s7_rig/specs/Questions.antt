@@ -3,11 +3,11 @@ use Rattle.std.specs.Prelude.{◌≡◌, ℕ, ◌<◌, ◌≤◌, List, [], ◌+
 use Rattle.s7_header.specs.declared.negotiation.Negotiation.{Negotiation}
 use Rattle.s7_header.specs.Negotiation.{most_pdu}
 use Rattle.s7_wire.specs.Sent.{sent_message}
-use Rattle.s7_client.specs.declared.grant.Grant.{Grant}
-use Rattle.s7_client.specs.Question.{Question, negotiates, question_octets}
-use Rattle.s7_client.specs.Answer.{Answer, grants, answer_of}
-use Rattle.s7_client.specs.Dialogue.{asked_by}
-use Rattle.s7_client.specs.Course.{Origin, conduct_of}
+use Rattle.s7_dialogue.specs.declared.grant.Grant.{Grant}
+use Rattle.s7_dialogue.specs.Question.{Question, negotiates, question_octets}
+use Rattle.s7_dialogue.specs.Answer.{Answer, grants, answer_of}
+use Rattle.s7_dialogue.specs.Dialogue.{asked_by}
+use Rattle.s7_dialogue.specs.Course.{Origin, conduct_of}
 use Rattle.s7_session.specs.Events.{lives}
 use Rattle.s7_session.specs.LinkState.{LinkState}
 use Rattle.s7_session.specs.Owed.{past}

@@ -2,8 +2,8 @@
 use Rattle.std.specs.Prelude.{◌≡◌, ℕ, ◌<◌, List, [], length, slice_get, Some}
 use Rattle.std.specs.List.{AllByRecursion}
 use Rattle.s7_area.specs.Memory.{Memory}
-use Rattle.s7_client.specs.declared.config.Config.{Config}
-use Rattle.s7_client.specs.declared.job.Job.{Job}
+use Rattle.s7_dialogue.specs.declared.config.Config.{Config}
+use Rattle.s7_dialogue.specs.declared.job.Job.{Job}
 use Rattle.s7_plant.specs.Journals.{entries_of}
 use Rattle.s7_plant.specs.State as plant
 use Rattle.s7_session.specs.Books.{history_of}

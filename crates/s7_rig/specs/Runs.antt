@@ -4,8 +4,8 @@ use Rattle.std.specs.Prelude.{[], ◌∷◌, ◌++◌, zero, suc, length, Option
 use Rattle.s7_draw.specs.Drawing.{seeded}
 use Rattle.s7_outer.specs.Pipes.{empty_pipes}
 use Rattle.s7_area.specs.declared.guard.Guard.{Guard}
-use Rattle.s7_client.specs.declared.config.Config.{Config}
-use Rattle.s7_client.specs.declared.job.Job.{Job}
+use Rattle.s7_dialogue.specs.declared.config.Config.{Config}
+use Rattle.s7_dialogue.specs.declared.job.Job.{Job}
 use Rattle.s7_client.specs.Polling as client
 use Rattle.s7_session.specs.LinkRun as session
 use Rattle.s7_session.specs.LinkState.{first_link}

@@ -1,8 +1,8 @@
 -- The jobs of clients' scripts.
 use Rattle.std.specs.Prelude.{List, [], ◌∷◌}
 use Rattle.std.specs.List.{AllByRecursion}
-use Rattle.s7_client.specs.declared.job.Job.{Job}
-use Rattle.s7_client.specs.declared.job.Job.TheVariants as job
+use Rattle.s7_dialogue.specs.declared.job.Job.{Job}
+use Rattle.s7_dialogue.specs.declared.job.Job.TheVariants as job
 
 -- a job that doesn't connect
 abbrev pub IsNoConnect : Job → Type 0

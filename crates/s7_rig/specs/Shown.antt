@@ -1,6 +1,6 @@
 -- What contracts see of a rig.
 use Rattle.std.specs.Prelude.{ℕ, List, map}
-use Rattle.s7_client.specs.declared.job.JobResult.{JobResult}
+use Rattle.s7_dialogue.specs.declared.job.JobResult.{JobResult}
 use Rattle.s7_plant.specs.declared.book.Book.{Book}
 use Rattle.s7_rig.specs.declared.end.RigClient.{RigClient}
 use Rattle.s7_rig.specs.declared.end.RigEnd.{RigEnd}

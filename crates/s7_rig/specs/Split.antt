@@ -1,9 +1,9 @@
 -- A read of one item that came off, by the calls of a history.
 use Rattle.std.specs.Prelude.{◌≡◌, ℕ, ◌<◌, Bool, false, List, [], ◌∷◌, ◌++◌, take, slice_get, Some}
 use Rattle.s7_area.specs.Memory.{read_code, read_octets}
-use Rattle.s7_client.specs.declared.job.Job.TheVariants as job
-use Rattle.s7_client.specs.declared.job.JobResult.{JobResult}
-use Rattle.s7_client.specs.Codes.{no_fault}
+use Rattle.s7_dialogue.specs.declared.job.Job.TheVariants as job
+use Rattle.s7_dialogue.specs.declared.job.JobResult.{JobResult}
+use Rattle.s7_dialogue.specs.Codes.{no_fault}
 use Rattle.s7_item.specs.declared.item.Item.{Item}
 use Rattle.s7_turn.specs.Histories.{entry, replay}
 use Rattle.s7_plant.specs.declared.request.Request.TheVariants.{Read}

@@ -3,8 +3,8 @@ use Rattle.std.specs.Prelude.{ℕ, ◌==◌, ◌&&◌, Bool, List, Option, is_no
 use Rattle.std.specs.List.{list_all}
 use Rattle.s7_outer.specs.PipesHeld.{PipesHeld}
 use Rattle.s7_client.specs.declared.client.Client.{Client}
-use Rattle.s7_client.specs.declared.job.Job.{Job}
-use Rattle.s7_client.specs.declared.job.JobResult.{JobResult}
+use Rattle.s7_dialogue.specs.declared.job.Job.{Job}
+use Rattle.s7_dialogue.specs.declared.job.JobResult.{JobResult}
 use Rattle.s7_client.specs.Polling.{job_of}
 use Rattle.s7_plant.specs.declared.book.Book.{Book}
 use Rattle.s7_session.specs.declared.session.Session.{Session}

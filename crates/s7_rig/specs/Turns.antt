@@ -8,7 +8,7 @@ use Rattle.s7_outer.specs.PipesHeld.{PipesHeld}
 use Rattle.s7_outer.specs.Pipes.{end_of}
 use Rattle.s7_outer.specs.declared.pipes.Side.TheVariants as side
 use Rattle.s7_client.specs.declared.client.Client.{Client}
-use Rattle.s7_client.specs.declared.job.Job.{Job}
+use Rattle.s7_dialogue.specs.declared.job.Job.{Job}
 use Rattle.s7_client.specs.declared.job.Polled.{Polled}
 use Rattle.s7_client.specs.declared.job.Polled.TheVariants as polled
 use Rattle.s7_client.specs.Polling.{job_of, IsStarted, IsPoll}

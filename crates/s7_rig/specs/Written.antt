@@ -10,7 +10,7 @@ use Rattle.s7_item.specs.DataLaws.{places_of}
 use Rattle.s7_area.specs.Memory.{Memory, write_code}
 use Rattle.s7_plant.specs.declared.request.Request.{Request}
 use Rattle.s7_plant.specs.declared.request.Request.TheVariants.{Write}
-use Rattle.s7_client.specs.Question.{written}
+use Rattle.s7_dialogue.specs.Question.{written}
 
 -- the words of these items are known
 abbrev pub AreKnown : List Item → Type 0

@@ -2,7 +2,7 @@
 ghost use Rattle.std.specs.Prelude.{◌≡◌, ◌≢◌, ◌<◌, ◌≤◌, ◌⊎◌, ◌-◌, ◌++◌, ◌∷◌, [], length, vec_capacity, None, Some};
 ghost use Rattle.std.specs.Prelude.{false, option_map, unwrap_or, IfOk, OnOk, IsSome};
 ghost use Rattle.s7_header.specs.Negotiation.{most_pdu};
-ghost use Rattle.s7_client.specs.declared.config.Config.{Config};
+ghost use Rattle.s7_dialogue.specs.declared.config.Config.{Config};
 ghost use Rattle.s7_plant.specs.Journals.{AreReady};
 ghost use Rattle.s7_session.specs.Stands.{closed_by};
 ghost use Rattle.s7_rig.specs.Numbers.{count_from};

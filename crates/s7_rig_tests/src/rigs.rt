@@ -1,6 +1,6 @@
 ghost use Rattle.std.specs.Prelude.{◌≡◌, ◌<◌, ◌≤◌, All, length, IfOk, ◌∷◌, []};
 ghost use Rattle.s7_header.specs.Negotiation.{most_pdu};
-ghost use Rattle.s7_client.specs.declared.job.Job.TheVariants.{Connect, Szl, ClockRead, Stop, Status, Disconnect};
+ghost use Rattle.s7_dialogue.specs.declared.job.Job.TheVariants.{Connect, Szl, ClockRead, Stop, Status, Disconnect};
 ghost use Rattle.s7_rig.specs.Scripts.{ConnectsFirst};
 
 use s7_area::{AreaKey, Areas};

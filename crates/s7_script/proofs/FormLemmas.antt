@@ -4,12 +4,12 @@ use Rattle.std.specs.Prelude.{IsSome}
 use Rattle.std.proofs.lemmas.List.{length-take-le}
 use Rattle.s7_clock.specs.Moment.{moment_in}
 use Rattle.s7_szl.specs.Readers.{mode_of}
-use Rattle.s7_client.specs.declared.job.Job.{Job}
-use Rattle.s7_client.specs.declared.job.Job.TheVariants as job
-use Rattle.s7_client.specs.declared.job.JobResult.{JobResult}
-use Rattle.s7_client.specs.Dialogue.{End}
+use Rattle.s7_dialogue.specs.declared.job.Job.{Job}
+use Rattle.s7_dialogue.specs.declared.job.Job.TheVariants as job
+use Rattle.s7_dialogue.specs.declared.job.JobResult.{JobResult}
+use Rattle.s7_dialogue.specs.Dialogue.{End}
 use Rattle.s7_client.specs.Form.{FormOf, HasForm, octets_read}
-use Rattle.s7_client.specs.Running.{IsResult}
+use Rattle.s7_dialogue.specs.Running.{IsResult}
 use Rattle.s7_script.specs.Printing.{IsPrintable, IsPrintableOf}
 
 count_is : (told : JobResult) (cs : List ℕ) → told.count ≤ length told.codes → take told.count told.codes ≡ cs → told.count ≡ length cs

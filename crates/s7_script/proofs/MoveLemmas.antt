@@ -5,8 +5,8 @@ use Rattle.std.specs.List.{AllByRecursion, list_all}
 use Rattle.std.specs.Str.{bytes_eq}
 use Rattle.s7_item.specs.declared.item.Item.{Item}
 use Rattle.s7_block.specs.declared.block.BlockName.{BlockName}
-use Rattle.s7_client.specs.declared.job.Job.{Job}
-use Rattle.s7_client.specs.declared.job.Job.TheVariants as job
+use Rattle.s7_dialogue.specs.declared.job.Job.{Job}
+use Rattle.s7_dialogue.specs.declared.job.Job.TheVariants as job
 use Rattle.s7_script.specs.Lines.{Text, lines}
 use Rattle.s7_script.specs.Reading.{is_passed, next_line}
 use Rattle.hex.specs.Hex.{decode_of}

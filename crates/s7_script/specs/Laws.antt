@@ -2,12 +2,12 @@
 use Rattle.std.specs.Prelude.{◌≡◌, ℕ, List, Ok}
 use Rattle.std.specs.List.{AllByRecursion}
 use Rattle.s7_area.specs.Memory.{Memory}
-use Rattle.s7_client.specs.declared.job.Job.{Job}
-use Rattle.s7_client.specs.declared.job.Job.TheVariants as job
-use Rattle.s7_client.specs.declared.job.JobResult.{JobResult}
-use Rattle.s7_client.specs.Dialogue.{End}
+use Rattle.s7_dialogue.specs.declared.job.Job.{Job}
+use Rattle.s7_dialogue.specs.declared.job.Job.TheVariants as job
+use Rattle.s7_dialogue.specs.declared.job.JobResult.{JobResult}
+use Rattle.s7_dialogue.specs.Dialogue.{End}
 use Rattle.s7_client.specs.Form.{HasForm}
-use Rattle.s7_client.specs.Running.{IsResult}
+use Rattle.s7_dialogue.specs.Running.{IsResult}
 use Rattle.s7_script.specs.Lines.{Text}
 use Rattle.s7_script.specs.Reading.{areas}
 use Rattle.s7_script.specs.Spelling.{spelling}

@@ -8,9 +8,9 @@ use Rattle.s7_item.specs.declared.item.Item.{Item}
 use Rattle.s7_szl.specs.Readers.{mode_of}
 use Rattle.s7_clock.specs.Clock.{parts_in}
 use Rattle.s7_clock.specs.Moment.{moment_in}
-use Rattle.s7_client.specs.declared.job.Job.{Job}
-use Rattle.s7_client.specs.declared.job.Job.TheVariants as job
-use Rattle.s7_client.specs.declared.job.JobResult.{JobResult}
+use Rattle.s7_dialogue.specs.declared.job.Job.{Job}
+use Rattle.s7_dialogue.specs.declared.job.Job.TheVariants as job
+use Rattle.s7_dialogue.specs.declared.job.JobResult.{JobResult}
 use Rattle.s7_client.specs.Form.{count_read, octets_read}
 use Rattle.s7_script.specs.Lines.{Text}
 use Rattle.s7_script.specs.Moments.{Parts, date_text}

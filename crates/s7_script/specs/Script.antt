@@ -9,8 +9,8 @@ use Rattle.s7_area.specs.declared.key.AreaKey.{AreaKey}
 use Rattle.s7_item.specs.Word.{size_of}
 use Rattle.s7_item.specs.declared.item.Item.{Item}
 use Rattle.s7_block.specs.declared.block.BlockName.{BlockName}
-use Rattle.s7_client.specs.declared.job.Job.{Job}
-use Rattle.s7_client.specs.declared.job.Job.TheVariants as job
+use Rattle.s7_dialogue.specs.declared.job.Job.{Job}
+use Rattle.s7_dialogue.specs.declared.job.Job.TheVariants as job
 use Rattle.s7_script.specs.Lines.{Text, lines, with_first}
 use Rattle.s7_script.specs.Fields.{is_space, first_field, fields_after, number_of}
 use Rattle.s7_script.specs.Moments.{moment_named}

@@ -3,8 +3,8 @@ use Rattle.std.proofs.Common.{List, [], ◌∷◌, ◌++◌, subst}
 use Rattle.std.specs.Prelude.{ℕ, map}
 use Rattle.std.specs.List.{AllByRecursion}
 use Rattle.s7_outer.specs.FilesShown.{FilesShown}
-use Rattle.s7_client.specs.declared.job.Job.{Job}
-use Rattle.s7_client.specs.declared.job.Job.TheVariants as job
+use Rattle.s7_dialogue.specs.declared.job.Job.{Job}
+use Rattle.s7_dialogue.specs.declared.job.Job.TheVariants as job
 use Rattle.s7_rig.specs.Scripts.{IsNoConnect, NoneConnects, ConnectsFirst}
 use Rattle.s7_script.specs.Laws.{KeepsLink, ScriptsKeepLinks}
 use Rattle.s7_script.specs.declared.script_list.ScriptLine.{ScriptLine}

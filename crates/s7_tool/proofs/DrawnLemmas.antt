@@ -7,8 +7,8 @@ use Rattle.std.proofs.lemmas.Bool.{ne_eqb}
 use Rattle.std.proofs.Math.Seq.{drop-append_seam, take-append_seam}
 use Rattle.s7_draw.specs.Drawing.{drawn_from, first_x, next_x}
 use Rattle.s7_item.specs.declared.item.Item.{Item}
-use Rattle.s7_client.specs.declared.job.Job.{Job}
-use Rattle.s7_client.specs.declared.job.Job.TheVariants as job
+use Rattle.s7_dialogue.specs.declared.job.Job.{Job}
+use Rattle.s7_dialogue.specs.declared.job.Job.TheVariants as job
 use Rattle.s7_rig.specs.Scripts.{ConnectsFirst, IsNoConnect, NoneConnects}
 use Rattle.s7_tool.specs.Drawn.{block_item, drawn, flags_item, kind_of, line_by, lines_of, made_scripts}
 use Rattle.s7_tool.specs.Drawn.{script_of, script_with}

@@ -8,8 +8,8 @@ use Rattle.s7_plant.specs.Answers.{after}
 use Rattle.s7_plant.specs.Histories.{replay}
 use Rattle.s7_plant.specs.Journals.{asks_of}
 use Rattle.s7_plant.specs.State.{State, state_of}
-use Rattle.s7_client.specs.declared.config.Config.{Config}
-use Rattle.s7_client.specs.declared.job.Job.{Job}
+use Rattle.s7_dialogue.specs.declared.config.Config.{Config}
+use Rattle.s7_dialogue.specs.declared.job.Job.{Job}
 use Rattle.s7_rig.proofs.PlantLemmas.{names_changed}
 use Rattle.s7_rig.specs.Rigs.{RigRan, Turning}
 use Rattle.s7_rig.specs.Shown.{EndTold}

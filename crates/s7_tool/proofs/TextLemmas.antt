@@ -1,7 +1,7 @@
 -- Texts of rigs.
 use Rattle.std.specs.List.{list_all, zip}
 use Rattle.std.proofs.Common.{◌≡◌, ◌∙◌, ◌⊎◌, ◌&&◌, Bool, ℕ, refl, sym, ap, inl, inr, List, [], ◌∷◌, ◌++◌, append_assoc, map}
-use Rattle.s7_client.specs.declared.job.JobResult.{JobResult}
+use Rattle.s7_dialogue.specs.declared.job.JobResult.{JobResult}
 use Rattle.s7_rig.specs.Shown.{ClientTold}
 use Rattle.s7_script.specs.Printing.{print}
 use Rattle.s7_tool.specs.RigText.{client_line, client_text, clients_text, results_text}

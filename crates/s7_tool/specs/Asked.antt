@@ -1,7 +1,7 @@
 -- What the words ask for.
 use Rattle.std.specs.Prelude.{ℕ, ◌+◌, ◌*◌, List, Option, map}
 use Rattle.std.specs.Borrow.{Bor}
-use Rattle.s7_client.specs.declared.config.Config.{Config}
+use Rattle.s7_dialogue.specs.declared.config.Config.{Config}
 use Rattle.s7_rig.specs.Rigs.{Turning}
 use Rattle.s7_words.specs.Tool.{RigTold, RunTold, ToolTold, tool_words}
 

@@ -1,7 +1,7 @@
 -- What is drawn, from x to x.
 use Rattle.std.specs.Prelude.{ℕ, zero, suc, List, [], ◌∷◌, ◌==◌, if◌then◌else◌}
 use Rattle.s7_draw.specs.Drawing.{drawn_from, next_x}
-use Rattle.s7_client.specs.declared.job.Job.{Job}
+use Rattle.s7_dialogue.specs.declared.job.Job.{Job}
 use Rattle.s7_tool.specs.Drawn.{kind_of, line_of, script_with}
 
 -- x after so many numbers

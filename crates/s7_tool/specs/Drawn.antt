@@ -4,8 +4,8 @@ use Rattle.std.specs.Prelude.{map, take, drop, replicate, slice_index}
 use Rattle.s7_draw.specs.Drawing.{drawn_from, first_x}
 use Rattle.s7_item.specs.Codes.{bytes, data_blocks, flags}
 use Rattle.s7_item.specs.declared.item.Item.{Item}
-use Rattle.s7_client.specs.declared.job.Job.{Job}
-use Rattle.s7_client.specs.declared.job.Job.TheVariants as job
+use Rattle.s7_dialogue.specs.declared.job.Job.{Job}
+use Rattle.s7_dialogue.specs.declared.job.Job.TheVariants as job
 
 -- THE DRAWN NUMBERS of a seed: as many as 800 lines take at most
 abbrev pub drawn : ℕ → List ℕ

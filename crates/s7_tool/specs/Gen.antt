@@ -5,7 +5,7 @@ use Rattle.s7_outer.specs.OutShown.{OutShown}
 use Rattle.s7_item.specs.Codes.{data_blocks, flags}
 use Rattle.s7_area.specs.declared.key.AreaKey.{AreaKey}
 use Rattle.s7_area.specs.Memory.{Memory}
-use Rattle.s7_client.specs.declared.config.Config.{Config}
+use Rattle.s7_dialogue.specs.declared.config.Config.{Config}
 use Rattle.s7_rig.specs.declared.end.RigEnd.{RigEnd}
 use Rattle.s7_rig.specs.Rigs.{RigRan, Turning}
 use Rattle.s7_rig.specs.Shown.{EndTold, end_told}

@@ -6,7 +6,7 @@ use Rattle.std.specs.List.{count_by, flat_map, list_all}
 use Rattle.std.specs.Map.{values_of}
 use Rattle.s7_area.specs.declared.key.AreaKey.{AreaKey}
 use Rattle.s7_area.specs.Memory.{Memory, octets_at}
-use Rattle.s7_client.specs.declared.job.JobResult.{JobResult}
+use Rattle.s7_dialogue.specs.declared.job.JobResult.{JobResult}
 use Rattle.s7_rig.specs.Shown.{ClientTold, EndTold}
 use Rattle.s7_tool.specs.Report.{line_end}
 use Rattle.s7_tool.specs.RigText.{journal_line}

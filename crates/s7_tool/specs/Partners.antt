@@ -5,7 +5,7 @@ use Rattle.s7_outer.specs.DialShown.{DialShown}
 use Rattle.s7_outer.specs.FilesShown.{FilesShown}
 use Rattle.s7_outer.specs.OutShown.{OutShown}
 use Rattle.s7_outer.specs.Shown.{Shown}
-use Rattle.s7_client.specs.declared.config.Config.{Config}
+use Rattle.s7_dialogue.specs.declared.config.Config.{Config}
 use Rattle.s7_partner.specs.declared.role.Role.TheVariants.{Active}
 use Rattle.s7_script.specs.declared.send_list.SendLine.{SendLine}
 use Rattle.s7_pair.specs.declared.alone.TalkEnd.{TalkEnd}

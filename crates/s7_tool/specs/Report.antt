@@ -5,7 +5,7 @@ use Rattle.std.specs.Io.KnownBytes.{append_known}
 use Rattle.s7_outer.specs.Count.{Rose}
 use Rattle.s7_outer.specs.Out.{AppendsPrefix}
 use Rattle.s7_outer.specs.OutShown.{OutShown}
-use Rattle.s7_client.specs.declared.job.JobResult.{JobResult}
+use Rattle.s7_dialogue.specs.declared.job.JobResult.{JobResult}
 use Rattle.s7_script.specs.Printing.{print}
 use Rattle.s7_script.specs.declared.script_list.ScriptLine.{ScriptLine}
 use Rattle.s7_tool.specs.declared.ended.Ended.{Ended}

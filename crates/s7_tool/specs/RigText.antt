@@ -3,7 +3,7 @@ use Rattle.std.specs.Prelude.{ℕ, All, ◌+◌, ◌==◌, ◌&&◌, Bool, List,
 use Rattle.std.specs.Prelude.{length, map, codes, if◌then◌else◌}
 use Rattle.std.specs.Fmt.{decimal}
 use Rattle.std.specs.List.{list_all, zip}
-use Rattle.s7_client.specs.declared.job.JobResult.{JobResult}
+use Rattle.s7_dialogue.specs.declared.job.JobResult.{JobResult}
 use Rattle.s7_rig.specs.Shown.{ClientTold, EndTold}
 use Rattle.s7_script.specs.Printing.{IsPrintable, print}
 use Rattle.s7_script.specs.declared.script_list.ScriptLine.{ScriptLine}

@@ -3,7 +3,7 @@ use Rattle.std.specs.Prelude.{◌≡◌, ◌⊎◌, ℕ, List, map, Option, Some
 use Rattle.s7_outer.specs.FilesShown.{FilesShown}
 use Rattle.s7_outer.specs.OutShown.{OutShown}
 use Rattle.s7_area.specs.Memory.{Memory}
-use Rattle.s7_client.specs.declared.job.Job.{Job}
+use Rattle.s7_dialogue.specs.declared.job.Job.{Job}
 use Rattle.s7_rig.specs.declared.end.RigEnd.{RigEnd}
 use Rattle.s7_rig.specs.Shown.{EndTold, end_told}
 use Rattle.s7_rig.specs.Rigs.{RigRan}

@@ -6,7 +6,7 @@ ghost use Rattle.std.specs.List.{list_all};
 ghost use Rattle.s7_outer.specs.Count.{Rose};
 ghost use Rattle.s7_outer.specs.Out.{AppendsPrefix};
 ghost use Rattle.s7_outer.specs.OutShown.{OutShown};
-ghost use Rattle.s7_client.specs.declared.job.Job.TheVariants as job;
+ghost use Rattle.s7_dialogue.specs.declared.job.Job.TheVariants as job;
 ghost use Rattle.s7_client.specs.Polling.{job_of, config_of};
 ghost use Rattle.s7_client.specs.Runs.{JobRun, between_of};
 ghost use Rattle.s7_script.specs.Printing.{IsPrintable, print};

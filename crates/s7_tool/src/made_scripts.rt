@@ -1,6 +1,6 @@
 // The scripts that a seed gives.
 ghost use Rattle.std.specs.Prelude.{◌≡◌, ◌<◌, ◌≤◌, ◌*◌, ◌+◌, ◌%◌, [], ◌∷◌, IfOk, OnOk, map, replicate, vec_len};
-ghost use Rattle.s7_client.specs.declared.job.Job.TheVariants as job;
+ghost use Rattle.s7_dialogue.specs.declared.job.Job.TheVariants as job;
 ghost use Rattle.s7_tool.specs.Drawn.{block_item, flags_item, made_scripts};
 ghost use Rattle.s7_tool.specs.Drawing.{after_line, after_lines, line_at, script_at};
 

@@ -1,5 +1,5 @@
 use Rattle.std.proofs.Common.{subst, List, ℕ}
-use Rattle.s7_client.specs.Running.{IsResult}
+use Rattle.s7_dialogue.specs.Running.{IsResult}
 use Rattle.s7_client.proofs.polls.done.Goals as goal
 
 pub returns : goal.returns

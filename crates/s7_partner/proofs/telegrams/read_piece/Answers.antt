@@ -1,7 +1,7 @@
 use Rattle.std.proofs.Common.{◌≡◌, rules, sym, ap, ◌∙◌}
 use Rattle.s7_header.specs.declared.header.Kind.TheVariants.{User}
 use Rattle.s7_header.specs.UserParams.{user_params_of}
-use Rattle.s7_client.specs.UserData.{octets_in}
+use Rattle.s7_dialogue.specs.UserData.{octets_in}
 use Rattle.s7_partner.proofs.TelegramLemmas.{piece_is}
 use Rattle.s7_partner.proofs.telegrams.read_piece.Goals as goal
 

@@ -1,6 +1,6 @@
 use Rattle.std.proofs.Common.{◌≡◌, ◌∙◌, ◌+◌, ◌-◌, ◌∷◌, ◌++◌, [], List, Vec, Global, suc, ap, sym, arith, map, append-nil}
 use Rattle.std.proofs.lemmas.List.{map-append}
-use Rattle.s7_client.specs.declared.job.Job.{Job}
+use Rattle.s7_dialogue.specs.declared.job.Job.{Job}
 use Rattle.s7_tool.specs.Drawing.{after_lines, script_at, scripts_at}
 use Rattle.s7_tool.proofs.DrawnLemmas.{one_more, scripts_made, scripts_more, scripts_none}
 use Rattle.s7_tool.proofs.made_scripts.made_scripts.Goals as goal

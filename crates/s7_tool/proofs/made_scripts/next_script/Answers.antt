@@ -1,5 +1,5 @@
 use Rattle.std.proofs.Common.{◌≡◌, ◌∙◌, ◌+◌, ◌-◌, ◌∷◌, ◌++◌, [], suc, ap, sym, arith, append-nil}
-use Rattle.s7_client.specs.declared.job.Job.TheVariants as job
+use Rattle.s7_dialogue.specs.declared.job.Job.TheVariants as job
 use Rattle.s7_tool.specs.Drawing.{after_line, after_lines, line_at, lines_at}
 use Rattle.s7_tool.proofs.DrawnLemmas.{after_more, after_none, lines_more, lines_none, one_more}
 use Rattle.s7_tool.proofs.made_scripts.next_script.Goals as goal

@@ -1,5 +1,5 @@
 use Rattle.std.proofs.Common.{subst}
-use Rattle.s7_client.specs.declared.config.Config.{Config}
+use Rattle.s7_dialogue.specs.declared.config.Config.{Config}
 use Rattle.s7_partner.specs.declared.role.Role.TheVariants.{Active}
 use Rattle.s7_pair.specs.Talking.{IsFresh, post_of}
 use Rattle.s7_words.specs.Shown.{partner_told_of}

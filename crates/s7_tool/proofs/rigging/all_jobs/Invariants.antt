@@ -1,6 +1,6 @@
 use Rattle.std.proofs.Common.{◌≡◌, ◌++◌, ◌+◌, Vec, Global, map, vec_len}
 use Rattle.std.specs.Vec.Iter.{into_iter_items, into_iter_len}
-use Rattle.s7_client.specs.declared.job.Job.{Job}
+use Rattle.s7_dialogue.specs.declared.job.Job.{Job}
 use Rattle.s7_tool.specs.Run.{jobs_of}
 use Rattle.s7_tool.proofs.rigging.all_jobs.Given as goal
 

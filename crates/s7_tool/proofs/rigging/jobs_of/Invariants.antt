@@ -1,6 +1,6 @@
 use Rattle.std.proofs.Common.{◌≡◌, ◌∷◌, ◌++◌, map}
 use Rattle.std.specs.Vec.Iter.{into_iter_items}
-use Rattle.s7_client.specs.declared.job.Job.TheVariants as job
+use Rattle.s7_dialogue.specs.declared.job.Job.TheVariants as job
 use Rattle.s7_tool.specs.Run.{job_in}
 use Rattle.s7_tool.proofs.rigging.jobs_of.Given as goal
 

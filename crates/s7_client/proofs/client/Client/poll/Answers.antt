@@ -1,6 +1,6 @@
 use Rattle.std.proofs.Common.{◌≡◌, [], refl, sym, ap, ◌∙◌, subst}
 use Rattle.s7_client.specs.declared.under_way.UnderWay.{UnderWay}
-use Rattle.s7_client.specs.Running.{awaited_in, IsResult}
+use Rattle.s7_dialogue.specs.Running.{awaited_in, IsResult}
 use Rattle.s7_client.proofs.PollLemmas.{poll_idle, poll_pending, poll_done, same_under}
 use Rattle.s7_client.proofs.client.Client.poll.Goals as goal
 

@@ -1,8 +1,8 @@
 use Rattle.std.proofs.Common.{◌≡◌, ◌<◌, ◌++◌, length, take, refl, sym, ap, ◌∙◌, arith}
 use Rattle.std.proofs.lemmas.Grind.{common_steps}
 use Rattle.std.proofs.lemmas.List.{take-append-drop}
-use Rattle.s7_client.specs.Codes.{bad_packet, message_too_long}
-use Rattle.s7_client.specs.Course.{by_state}
+use Rattle.s7_dialogue.specs.Codes.{bad_packet, message_too_long}
+use Rattle.s7_dialogue.specs.Course.{by_state}
 use Rattle.s7_client.proofs.FrontLemmas.{earliest_of}
 use Rattle.s7_client.proofs.StepLemmas.{consumes_more, consumes_fault, consumes_whole, more_not_whole, bad_not_whole, too_long_not_whole, bad_faults}
 use Rattle.s7_client.proofs.line.Line.consume.Goals as goal

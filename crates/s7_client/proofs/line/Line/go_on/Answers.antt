@@ -1,5 +1,5 @@
 use Rattle.std.proofs.Common.{refl, inl, inr}
-use Rattle.s7_client.specs.Codes.{link_ended, receive_failed}
+use Rattle.s7_dialogue.specs.Codes.{link_ended, receive_failed}
 use Rattle.s7_client.proofs.PacketLemmas.{none_pending}
 use Rattle.s7_client.proofs.LinkLemmas.{step_used, step_taken, step_waiting, step_broken, empty_of}
 use Rattle.s7_client.proofs.line.Line.go_on.Goals as goal

@@ -1,7 +1,7 @@
 use Rattle.std.proofs.Common.{refl, sym, subst, take}
 use Rattle.s7_client.specs.declared.line.Line.{Line}
 use Rattle.s7_client.specs.declared.under_way.UnderWay.{UnderWay}
-use Rattle.s7_client.specs.Running.{IsOver, IsLeaving}
+use Rattle.s7_dialogue.specs.Running.{IsOver, IsLeaving}
 use Rattle.s7_client.proofs.PacketLemmas.{none_pending}
 use Rattle.s7_client.proofs.LinkLemmas.{some_of, empty_of}
 use Rattle.s7_client.proofs.SendLemmas.{step_sent, step_full, step_unsent, step_over, step_departed, full_of}

@@ -1,5 +1,5 @@
 use Rattle.std.proofs.Common.{refl, sym, ap, subst}
-use Rattle.s7_client.specs.Running.{IsAsking}
+use Rattle.s7_dialogue.specs.Running.{IsAsking}
 use Rattle.s7_client.proofs.BeginLemmas.{begins_opening, begins_asking, begins_leaving, begins_over}
 use Rattle.s7_client.proofs.talk.Talk.begin.Goals as goal
 

@@ -2,7 +2,7 @@ use Rattle.std.proofs.Common.{refl, ap}
 use Rattle.std.specs.Prelude.{Ok}
 use Rattle.s7_wire.specs.Bounds.{size_of_code}
 use Rattle.s7_cotp.specs.Told.{told_of}
-use Rattle.s7_client.specs.Course.{conduct_of, confirming}
+use Rattle.s7_dialogue.specs.Course.{conduct_of, confirming}
 use Rattle.s7_client.proofs.PacketLemmas.{reached_confirm}
 use Rattle.s7_client.proofs.talk.Talk.confirming.Goals as goal
 

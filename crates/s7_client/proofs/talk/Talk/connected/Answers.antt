@@ -1,4 +1,4 @@
-use Rattle.s7_client.specs.Codes.{link_ended, bad_packet}
+use Rattle.s7_dialogue.specs.Codes.{link_ended, bad_packet}
 use Rattle.std.proofs.Common.{arith}
 use Rattle.s7_client.proofs.PacketLemmas.{takes_fault, asking_awaits}
 use Rattle.s7_client.proofs.talk.Talk.connected.Goals as goal

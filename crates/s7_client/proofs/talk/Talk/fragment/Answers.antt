@@ -1,9 +1,9 @@
 use Rattle.std.proofs.Common.{◌≡◌, arith, refl, ap, sym, ◌∙◌, subst}
-use Rattle.s7_client.specs.Codes.{message_too_fragmented, message_too_long}
+use Rattle.s7_dialogue.specs.Codes.{message_too_fragmented, message_too_long}
 use Rattle.s7_cotp.specs.Messages.{Step, Fragment, whole, joined_with}
 use Rattle.s7_cotp.specs.Gathered.{is_fault}
 use Rattle.s7_wire.specs.Bounds.{message_limit}
-use Rattle.s7_client.specs.Course.{Course, Unfinished, conduct_of, by_joining, nothing_unfinished}
+use Rattle.s7_dialogue.specs.Course.{Course, Unfinished, conduct_of, by_joining, nothing_unfinished}
 use Rattle.s7_client.specs.At.{IsAt, Reaches}
 use Rattle.s7_client.proofs.JoinLemmas.{joining_whole, whole_clear, fault_count}
 use Rattle.s7_client.proofs.PacketLemmas.{reaches_from, takes_fault, asking_awaits, awaiting_goes_on}

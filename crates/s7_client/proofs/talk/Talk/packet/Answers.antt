@@ -1,4 +1,4 @@
-use Rattle.s7_client.specs.Codes.{bad_packet}
+use Rattle.s7_dialogue.specs.Codes.{bad_packet}
 use Rattle.std.proofs.Common.{arith}
 use Rattle.s7_client.proofs.PacketLemmas.{takes_fault}
 use Rattle.s7_client.proofs.talk.Talk.packet.Goals as goal

@@ -1,7 +1,7 @@
 use Rattle.std.proofs.Common.{refl, ap, sym, subst}
 use Rattle.s7_wire.specs.Reading.{disconnected, faulted}
 use Rattle.s7_wire.specs.declared.found.Found.TheVariants as finding
-use Rattle.s7_client.specs.Codes.{link_ended}
+use Rattle.s7_dialogue.specs.Codes.{link_ended}
 use Rattle.s7_partner.specs.Steps.{Runs}
 use Rattle.s7_partner.proofs.ConsumeLemmas.{runs_more, runs_opened, runs_message, runs_ended}
 use Rattle.s7_partner.proofs.partner.Partner.consume.Goals as goal

@@ -1,5 +1,5 @@
 use Rattle.std.proofs.Common.{refl, take, subst, sym}
-use Rattle.s7_client.specs.Codes.{link_ended, receive_failed}
+use Rattle.s7_dialogue.specs.Codes.{link_ended, receive_failed}
 use Rattle.s7_partner.specs.Steps.{Runs}
 use Rattle.s7_partner.specs.Partners.{by_end, by_receive}
 use Rattle.s7_partner.proofs.ListLemmas.{some_of, empty_of}

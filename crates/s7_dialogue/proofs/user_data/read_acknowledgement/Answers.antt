@@ -1,0 +1,20 @@
+use Rattle.s7_dialogue.specs.declared.single.Ask.TheVariants as asked
+use Rattle.s7_dialogue.specs.Stages.{block_of}
+use Rattle.s7_dialogue.proofs.UserReadLemmas.{told_of, part_inside}
+use Rattle.s7_dialogue.proofs.user_data.read_acknowledgement.Goals as goal
+
+pub returns-in-Upload : goal.returns-in-Upload
+returns-in-Upload c job =
+    told_of c.args.ask.now asked.Upload c.args.so_far.now c.args.params.now c.args.body.now c.args.error
+    c.read_started.result job c.in-Upload.is c.if-error-ne0.false
+    (c.read_started.ensures (block_of job) c.args.so_far.now)
+
+pub read_part-requires : goal.read_part-requires
+read_part-requires c =
+    part_inside c.requires.0 c.args.ask.now c.in-Part.block c.in-Part.place c.in-Part.is c.requires.1
+
+pub returns-in-Part : goal.returns-in-Part
+returns-in-Part c job =
+    told_of c.args.ask.now (asked.Part c.in-Part.block c.in-Part.place) c.args.so_far.now c.args.params.now
+    c.args.body.now c.args.error
+    c.read_part.result job c.in-Part.is c.if-error-ne0.false (c.read_part.ensures c.args.so_far.now)

@@ -1,0 +1,53 @@
+-- What is checked of a job before anything is sent: the first that applies.
+use Rattle.std.specs.Prelude.{ℕ, ◌+◌, ◌^◌, Bool, not, ◌==◌, ◌||◌, ◌&&◌, nat_lt, nat_le, is_some, List, [], ◌∷◌, length, Result, Ok, Err, if◌then◌else◌}
+use Rattle.std.specs.List.{list_all}
+use Rattle.s7_item.specs.declared.item.Item.{Item}
+use Rattle.s7_item.specs.Word.{size_of}
+use Rattle.s7_item.specs.Item.{octet_count}
+use Rattle.s7_split.specs.Parts.{range_end}
+use Rattle.s7_split.specs.Groups.{packed_of}
+use Rattle.s7_split.specs.declared.packing.PackFault.{PackFault}
+use Rattle.s7_clock.specs.Moment.{first_moment, last_moment}
+use Rattle.s7_dialogue.specs.Codes.{no_fault, invalid_parameters, too_many_items, invalid_word, over_pdu}
+
+abbrev pub is_known : Item → Bool
+is_known item = is_some (size_of item.word)
+
+-- there are elements, exactly one if they are bits, and the range ends inside the address field
+abbrev pub is_placed : Item → Bool
+is_placed item =
+    (not (item.count == 0) && (not (item.word == 0x01) || item.count == 1)) && nat_le (range_end item) (2 ^ 24)
+
+-- how many octets items have together
+abbrev pub octet_count_of : List Item → ℕ
+octet_count_of [] = 0
+octet_count_of (item ∷ items) = octet_count item + octet_count_of items
+
+abbrev pub pack_check : Result Unit PackFault → ℕ
+pack_check (Ok packed) = no_fault
+pack_check (Err fault) = over_pdu
+
+-- of a read or write of one item
+abbrev pub check_item : Item → Bool → ℕ
+check_item item has_octets =
+    if not (is_known item) then invalid_word
+    else (if not (is_placed item && has_octets) then invalid_parameters
+    else no_fault)
+
+-- of a moment that a clock is set to: one that clock octets have
+abbrev pub check_moment : ℕ → ℕ
+check_moment moment =
+    if nat_le first_moment moment && nat_le moment last_moment then no_fault else invalid_parameters
+
+-- of a password: one to eight octets
+abbrev pub check_password : List ℕ → ℕ
+check_password text =
+    if nat_lt 0 (length text) && nat_le (length text) 8 then no_fault else invalid_parameters
+
+-- of a read or write of several
+abbrev pub check_items : List Item → Bool → ℕ → Bool → ℕ
+check_items items has_octets pdu write =
+    if nat_lt 20 (length items) then too_many_items
+    else (if not (list_all is_known items) then invalid_word
+    else (if not (list_all is_placed items && has_octets) then invalid_parameters
+    else pack_check (packed_of pdu write items)))

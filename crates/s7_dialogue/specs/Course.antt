@@ -1,0 +1,263 @@
+-- The course of a job on its link: what the octets that were used make of it, and what may be sent.
+-- The octets are packets of RFC 1006 with TPDUs of ISO 8073, class 0, as a server's link has them.
+use Rattle.std.specs.Prelude.{ℕ, ◌+◌, zero, suc, Bool, false, ◌==◌, ◌&&◌, nat_lt, List, [], ◌∷◌, ◌++◌, length, is_none, Option, None, Some, Result, Ok, Err, if◌then◌else◌}
+use Rattle.s7_outer.specs.Numbers.{two_octets}
+use Rattle.s7_tpkt.specs.Packets.{packet_of, packets_of, rest_of, state_of}
+use Rattle.s7_tpkt.specs.declared.state.FedState.{FedState}
+use Rattle.s7_tpkt.specs.declared.state.FedState.TheVariants as fed
+use Rattle.s7_cotp.specs.Told.{Told, ConnectionTold, connect, confirm, fragment, disconnect, reject}
+use Rattle.s7_cotp.specs.Reading.{tpdu_of}
+use Rattle.s7_cotp.specs.Spelling.{spelling_of_connect, spelling_of_disconnect}
+use Rattle.s7_cotp.specs.Messages.{Step, more, whole, too_many_fragments, too_long, joined_with}
+use Rattle.s7_cotp.specs.declared.tpdu.CotpFault.{CotpFault}
+use Rattle.s7_wire.specs.Bounds.{message_limit, first_limit, size_of_code, limit_of_size}
+use Rattle.s7_wire.specs.Sent.{sent_message}
+use Rattle.s7_dialogue.specs.declared.config.Config.{Config}
+use Rattle.s7_dialogue.specs.declared.job.Job.{Job}
+use Rattle.s7_dialogue.specs.declared.grant.Grant.{Grant}
+use Rattle.s7_dialogue.specs.Codes.{not_connected, link_ended, bad_packet, short_message, message_too_fragmented, message_too_long, invalid_answer}
+use Rattle.s7_dialogue.specs.Question.{Question, question_octets}
+use Rattle.s7_dialogue.specs.Flight.{Row, answers_of, open_count, filled}
+use Rattle.s7_dialogue.specs.Dialogue.{End, fault_end, Conduct, First, nothing, connect_request, disconnect_request, first_refusal, is_connect, plan_of}
+
+-- where a job starts: what the client has by then
+pub record Origin : Type 0 where
+  pub job : Job
+  pub config : Config
+  -- what was granted, and nothing on a client that isn't connected
+  pub granted : Option Grant
+  -- the TPDU size of the link, and the sequence of the last numbered telegram on it
+  pub size : ℕ
+  pub sequence : ℕ
+
+-- what a job waits for
+pub data Awaits : Type 0 where
+  -- the confirm of the connect request
+  for_confirm : Awaits
+  -- answers to questions
+  for_answers : Awaits
+  -- that the disconnect request is transmitted
+  for_departure : Awaits
+  -- nothing: the job is over, with a message that was no answer or none
+  for_nothing : (end : End) → (carried : List ℕ) → Awaits
+
+-- the fragments of a message that isn't whole: their octets, and how many they are
+pub record Unfinished : Type 0 where
+  pub octets : List ℕ
+  pub count : ℕ
+
+abbrev pub nothing_unfinished : Unfinished
+nothing_unfinished = record { octets = []; count = 0 }
+
+pub record Course : Type 0 where
+  -- the questions that went out, in order, with their answers
+  pub rows : List Row
+  pub size : ℕ
+  pub unfinished : Unfinished
+  pub sequence : ℕ
+  -- all octets that may be sent so far
+  pub out : List ℕ
+  pub awaits : Awaits
+
+-- ---- what is sent
+
+-- sequences are 1, 2 and so on, and after FFFF comes 1
+abbrev pub next_sequence : ℕ → ℕ
+next_sequence sequence = if sequence == 0xFFFF then 1 else sequence + 1
+
+-- the TPDU size that is asked for, by its code and in octets
+abbrev pub asked_size_code : ℕ
+asked_size_code = 0x0A
+
+-- the client's reference is 0001, the class 00
+abbrev pub request_of : Config → ConnectionTold
+request_of config = record {
+  dst_ref = 0;
+  src_ref = 1;
+  class = 0;
+  size_code = asked_size_code;
+  calling = two_octets config.calling;
+  called = two_octets config.called;
+}
+
+abbrev pub connect_octets : Config → List ℕ
+connect_octets config = packet_of (spelling_of_connect (request_of config))
+
+-- a disconnect request by the user of the link
+abbrev pub disconnect_octets : List ℕ
+disconnect_octets = packet_of (spelling_of_disconnect 1 1 0x80)
+
+-- ---- what is asked
+
+abbrev pub conduct_of : Origin → Conduct
+conduct_of origin = (plan_of origin.job origin.config origin.granted).conduct
+
+-- what may be asked next: while fewer questions are unanswered than may be, and no answer refuses
+abbrev pub next_question : Conduct → List Row → Option Question
+next_question c rows =
+    if nat_lt (open_count rows) c.width && is_none (first_refusal c.refusal 0 (answers_of rows))
+    then c.question_at (answers_of rows) else None
+
+-- a question goes out under the next sequence
+abbrev pub asked : Course → Question → Course
+asked course question = record course {
+  rows = course.rows ++ record { question = question; number = next_sequence course.sequence; answer = None } ∷ [];
+  sequence = next_sequence course.sequence;
+  out = course.out ++ sent_message course.size (question_octets (next_sequence course.sequence) question);
+}
+
+abbrev pub if_some : Option Question → Course → (Question → Course) → Course
+if_some None course later = course
+if_some (Some question) course later = later question
+
+-- so many questions, at most, go out one after another
+unfoldable pub asked_on : ℕ → Conduct → Course → Course
+asked_on zero c course = course
+asked_on (suc others) c course =
+    if_some (next_question c course.rows) course (λ question. asked_on others c (asked course question))
+
+-- the job is over where no question is unanswered
+abbrev pub settled : Conduct → Course → Course
+settled c course = record course {
+  awaits = if open_count course.rows == 0 then for_nothing (c.ended (answers_of course.rows)) [] else for_answers;
+}
+
+-- ALL QUESTIONS THAT MAY GO OUT go out
+abbrev pub asking : Conduct → Course → Course
+asking c course = settled c (asked_on c.width c course)
+
+-- ---- what is taken
+
+abbrev pub with_fault : Course → ℕ → Course
+with_fault course code = record course { awaits = for_nothing (fault_end code) [] }
+
+abbrev pub by_rows : Conduct → Course → List ℕ → Option (List Row) → Course
+by_rows c course message None = record course { awaits = for_nothing (fault_end invalid_answer) message }
+by_rows c course message (Some rows) = asking c (record course { rows = rows })
+
+-- a whole message
+abbrev pub with_message : Conduct → Course → List ℕ → Course
+with_message c course message =
+    if nat_lt (length message) 10 then with_fault course short_message
+    else by_rows c course message (filled course.rows message)
+
+abbrev pub by_joining : Conduct → Course → Step → Course
+by_joining c course (more octets count) =
+    record course { unfinished = record { octets = octets; count = count } }
+by_joining c course (whole message) = with_message c (record course { unfinished = nothing_unfinished }) message
+by_joining c course too_many_fragments = with_fault course message_too_fragmented
+by_joining c course too_long = with_fault course message_too_long
+
+-- a TPDU where answers are awaited: fragments, and a disconnect request ends the link
+abbrev pub connected : Conduct → Course → Result Told CotpFault → Course
+connected c course (Ok (fragment last user)) =
+    by_joining c course
+    (joined_with message_limit course.unfinished.octets course.unfinished.count (record { last = last; user = user }))
+connected c course (Ok (disconnect reason)) = with_fault course link_ended
+connected c course (Ok (connect told)) = with_fault course bad_packet
+connected c course (Ok (confirm told)) = with_fault course bad_packet
+connected c course (Ok (reject cause)) = with_fault course bad_packet
+connected c course (Err fault) = with_fault course bad_packet
+
+-- a TPDU where the confirm is awaited
+abbrev pub confirming : Conduct → Course → Result Told CotpFault → Course
+confirming c course (Ok (confirm told)) = asking c (record course { size = size_of_code told.size_code })
+confirming c course (Ok (connect told)) = with_fault course not_connected
+confirming c course (Ok (fragment last user)) = with_fault course not_connected
+confirming c course (Ok (disconnect reason)) = with_fault course not_connected
+confirming c course (Ok (reject cause)) = with_fault course not_connected
+confirming c course (Err fault) = with_fault course bad_packet
+
+-- a packet with this body: a job that awaits no octets uses none
+abbrev pub by_awaits : Conduct → Course → List ℕ → Awaits → Course
+by_awaits c course body for_confirm = confirming c course (tpdu_of body)
+by_awaits c course body for_answers = connected c course (tpdu_of body)
+by_awaits c course body for_departure = course
+by_awaits c course body (for_nothing end carried) = course
+
+unfoldable pub with_packet : Origin → Course → List ℕ → Course
+with_packet origin course body = by_awaits (conduct_of origin) course body course.awaits
+
+-- ---- whole courses
+
+-- a connect on a client that isn't connected begins the link anew
+abbrev pub begins_anew : Option Grant → Job → Bool
+begins_anew None job = is_connect job
+begins_anew (Some granted) job = false
+
+-- a link that begins anew has the TPDU size that is asked for, until a confirm tells another, and its first sequence
+-- follows 0
+abbrev pub size_at : Bool → ℕ → ℕ
+size_at anew size = if anew then size_of_code asked_size_code else size
+
+abbrev pub sequence_at : Bool → ℕ → ℕ
+sequence_at anew sequence = if anew then 0 else sequence
+
+abbrev pub blank : Origin → Course
+blank origin = record {
+  rows = [];
+  size = size_at (begins_anew origin.granted origin.job) origin.size;
+  unfinished = nothing_unfinished;
+  sequence = sequence_at (begins_anew origin.granted origin.job) origin.sequence;
+  out = [];
+  awaits = for_confirm;
+}
+
+abbrev pub by_first : Config → Conduct → Course → First → Course
+by_first config c course nothing = asking c course
+by_first config c course connect_request = record course { out = connect_octets config; awaits = for_confirm }
+by_first config c course disconnect_request = record course { out = disconnect_octets; awaits = for_departure }
+
+-- a job that was started
+unfoldable pub begun : Origin → Course
+begun origin =
+    by_first origin.config (conduct_of origin) (blank origin) (plan_of origin.job origin.config origin.granted).first
+
+abbrev pub run : Origin → Course → List (List ℕ) → Course
+run origin course [] = course
+run origin course (body ∷ bodies) = run origin (with_packet origin course body) bodies
+
+-- the length that no packet passes: that of the TPDU size, once the confirm isn't awaited
+abbrev pub limit_where : Awaits → ℕ → ℕ
+limit_where for_confirm size = first_limit
+limit_where for_answers size = limit_of_size size
+limit_where for_departure size = limit_of_size size
+limit_where (for_nothing end carried) size = limit_of_size size
+
+abbrev pub limit_in : Course → ℕ
+limit_in course = limit_where course.awaits course.size
+
+-- that of a packet, by the bodies of those before it
+abbrev pub limits : Origin → List (List ℕ) → ℕ
+limits origin bodies = limit_in (run origin (begun origin) bodies)
+
+-- a packet that can't be one ends a job that isn't over
+abbrev pub by_state : Course → FedState → Course
+by_state course fed.BadVersion = with_fault course bad_packet
+by_state course fed.BadLength = with_fault course bad_packet
+by_state course fed.TooLong = with_fault course message_too_long
+by_state course fed.More = course
+by_state course fed.Whole = course
+
+abbrev pub unless_over : Course → Course → Awaits → Course
+unless_over next course for_confirm = next
+unless_over next course for_answers = next
+unless_over next course for_departure = course
+unless_over next course (for_nothing end carried) = course
+
+abbrev pub with_rest : Course → FedState → Course
+with_rest course state = unless_over (by_state course state) course course.awaits
+
+-- after whole packets
+abbrev pub packets_run : Origin → List ℕ → Course
+packets_run origin b = run origin (begun origin) (packets_of (limits origin) b)
+
+-- THE COURSE of a job after the octets that it used
+unfoldable pub course : Origin → List ℕ → Course
+course origin b =
+    with_rest (packets_run origin b)
+    (state_of (limits origin (packets_of (limits origin) b)) (rest_of (limits origin) b))
+
+-- THE OCTETS THAT MAY BE SENT after them
+abbrev pub may_send : Origin → List ℕ → List ℕ
+may_send origin b = (course origin b).out

@@ -1,0 +1,474 @@
+-- The dialogue of a job: what goes out first, which question may be asked next, and how the job ends, by the answers
+-- so far.
+use Rattle.std.specs.Prelude.{ℕ, ◌+◌, Bool, true, false, ◌==◌, ◌||◌, ◌&&◌, nat_lt, min, max, List, [], ◌∷◌, ◌++◌, length, take, drop, map, slice_get, Option, None, Some, if◌then◌else◌, replicate}
+use Rattle.std.specs.List.{flat_map}
+use Rattle.s7_outer.specs.Numbers.{two_octets}
+use Rattle.s7_header.specs.declared.negotiation.Negotiation.{Negotiation}
+use Rattle.s7_header.specs.Negotiation.{least_pdu}
+use Rattle.s7_item.specs.declared.item.Item.{Item}
+use Rattle.s7_item.specs.Item.{octet_count}
+use Rattle.s7_split.specs.Parts.{parts_of}
+use Rattle.s7_split.specs.Groups.{groups_of}
+use Rattle.s7_clock.specs.declared.control.Control.{Control}
+use Rattle.s7_clock.specs.declared.control.Control.TheVariants as control
+use Rattle.s7_clock.specs.Moment.{octets_at}
+use Rattle.s7_block.specs.declared.block.BlockName.{BlockName}
+use Rattle.s7_block.specs.Names.{name_octets}
+use Rattle.s7_dialogue.specs.declared.config.Config.{Config}
+use Rattle.s7_dialogue.specs.declared.grant.Grant.{Grant}
+use Rattle.s7_dialogue.specs.declared.grant.Leaves.{Leaves}
+use Rattle.s7_dialogue.specs.declared.grant.Leaves.TheVariants.{AsItWas, Connected, Disconnected, Closed}
+use Rattle.s7_dialogue.specs.declared.job.Job.{Job}
+use Rattle.s7_dialogue.specs.declared.job.Job.TheVariants as job
+use Rattle.s7_dialogue.specs.declared.subject.Subject.{Subject}
+use Rattle.s7_dialogue.specs.declared.subject.Subject.TheVariants.{StatusList, RunState, BlockCounts, BlocksOfKind, BlockHead, DataHead, Clock, ClockSetting, Password, PasswordClearing}
+use Rattle.s7_dialogue.specs.Codes.{no_fault, not_connected, negotiation_failed, partly_written}
+use Rattle.s7_dialogue.specs.UserData.{comes_in_pieces, lead_of, filled_text, encoded}
+use Rattle.s7_dialogue.specs.DataBlocks.{data_length, data_parts}
+use Rattle.s7_dialogue.specs.Question.{Question, negotiates, reads, writes, controls, asks, asks_further}
+use Rattle.s7_dialogue.specs.Question.{starts_upload, slices_upload, ends_upload}
+use Rattle.s7_dialogue.specs.Answer.{Answer, grants, tells, notes, stands, brings, uploads, slices, uploaded, refuses, ItemAnswer}
+use Rattle.s7_dialogue.specs.Refusals.{telegram_refusal, part_refusal, control_refusal}
+use Rattle.s7_dialogue.specs.Checks.{check_item, check_items, check_moment, check_password, octet_count_of}
+
+pub record End : Type 0 where
+  -- 0, or the number of an error
+  pub code : ℕ
+  -- what was read
+  pub octets : List ℕ
+  -- the return codes of several items
+  pub codes : List ℕ
+  pub leaves : Leaves
+
+-- How a job asks. Answers stand at the places of their questions, and none where a question is unanswered.
+pub record Conduct : Type 0 where
+  -- how many questions may be unanswered at a time
+  pub width : ℕ
+  -- the question that comes next, behind those at these places, if there is one
+  pub question_at : List (Option Answer) → Option Question
+  -- the number of the error that an answer refuses with, if it refuses: then nothing more is asked
+  pub refusal : Answer → Option ℕ
+  -- the end, once no question is unanswered and none comes next
+  pub ended : List (Option Answer) → End
+
+-- what goes out before any question
+pub data First : Type 0 where
+  nothing : First
+  -- a connect request, and its confirm is awaited
+  connect_request : First
+  -- a disconnect request, and the job ends once it was transmitted
+  disconnect_request : First
+
+pub record Plan : Type 0 where
+  pub first : First
+  pub conduct : Conduct
+
+-- ---- ends
+
+-- an end with this number alone
+abbrev pub number_end : ℕ → Leaves → End
+number_end code leaves = record { code = code; octets = []; codes = []; leaves = leaves }
+
+-- an end that closes the client
+abbrev pub fault_end : ℕ → End
+fault_end code = number_end code Closed
+
+-- nothing is asked
+abbrev pub silent : End → Conduct
+silent end = record { width = 0; question_at = λ answers. None; refusal = λ answer. None; ended = λ answers. end }
+
+-- the job is over at once
+abbrev pub over : End → Plan
+over end = record { first = nothing; conduct = silent end }
+
+-- ---- connect and disconnect
+
+-- the grant that is taken: a PDU from 64 to the one asked for, and from one job to those asked for
+abbrev pub taken_grant : Config → Negotiation → Option Grant
+taken_grant config n =
+    if nat_lt n.pdu least_pdu || nat_lt config.pdu n.pdu then None
+    else Some (record { pdu = n.pdu; jobs = max 1 (min (min n.calling n.called) config.jobs) })
+
+abbrev pub by_grant : Option Grant → End
+by_grant None = number_end negotiation_failed Closed
+by_grant (Some granted) = number_end no_fault (Connected granted)
+
+-- the end by what the negotiation is answered
+abbrev pub negotiated_by : Config → Answer → End
+negotiated_by config (grants n) = by_grant (taken_grant config n)
+negotiated_by config (refuses error) = number_end negotiation_failed Closed
+negotiated_by config (tells items) = number_end negotiation_failed Closed
+negotiated_by config (notes codes) = number_end negotiation_failed Closed
+negotiated_by config (stands status) = number_end negotiation_failed Closed
+negotiated_by config (brings octet more octets) = number_end negotiation_failed Closed
+negotiated_by config (uploads id size) = number_end negotiation_failed Closed
+negotiated_by config (slices more octets) = number_end negotiation_failed Closed
+negotiated_by config uploaded = number_end negotiation_failed Closed
+
+abbrev pub negotiated : Config → List (Option Answer) → End
+negotiated config [] = number_end negotiation_failed Closed
+negotiated config (None ∷ answers) = number_end negotiation_failed Closed
+negotiated config (Some answer ∷ answers) = negotiated_by config answer
+
+abbrev pub asked_by : Config → Negotiation
+asked_by config = record { calling = config.jobs; called = config.jobs; pdu = config.pdu }
+
+-- one question: a PDU and parallel jobs
+abbrev pub negotiating : Config → Conduct
+negotiating config = record {
+  width = 1;
+  question_at = λ (answers : List (Option Answer)). slice_get (negotiates (asked_by config) ∷ []) (length answers);
+  refusal = λ answer. None;
+  ended = negotiated config;
+}
+
+-- the end of a link that the client leaves
+abbrev pub departed_end : End
+departed_end = number_end no_fault Disconnected
+
+-- ---- questions in order
+
+-- the questions of a read of lists of items
+abbrev pub read_questions : List (List Item) → List Question
+read_questions groups = map reads groups
+
+-- the questions of a write, each with as many of the octets as its items have
+abbrev pub write_questions : List (List Item) → List ℕ → List Question
+write_questions [] octets = []
+write_questions (group ∷ groups) octets =
+    writes group (take (octet_count_of group) octets) ∷ write_questions groups (drop (octet_count_of group) octets)
+
+-- a refusal at a place, or else a later one
+abbrev pub first_or : Option ℕ → ℕ → Option (ℕ × ℕ) → Option (ℕ × ℕ)
+first_or None place later = later
+first_or (Some number) place later = Some (place, number)
+
+abbrev pub refusal_in : (Answer → Option ℕ) → Option Answer → Option ℕ
+refusal_in refusal None = None
+refusal_in refusal (Some answer) = refusal answer
+
+-- the place of the first answer that refuses, counted from a place on, and its number
+abbrev pub first_refusal : (Answer → Option ℕ) → ℕ → List (Option Answer) → Option (ℕ × ℕ)
+first_refusal refusal place [] = None
+first_refusal refusal place (answer ∷ answers) =
+    first_or (refusal_in refusal answer) place (first_refusal refusal (place + 1) answers)
+
+-- the number of the refusal at a place, and of one in a write of several parts
+abbrev pub plain_number : ℕ → ℕ → ℕ
+plain_number place number = number
+
+abbrev pub write_number : ℕ → ℕ → ℕ
+write_number place number = if place == 0 then number else partly_written
+
+-- the first refusal, in the order of the questions, ends the job
+abbrev pub by_refusal : (ℕ → ℕ → ℕ) → Option (ℕ × ℕ) → End → End
+by_refusal number None finished = finished
+by_refusal number (Some refused) finished = number_end (number refused.0 refused.1) AsItWas
+
+-- what answers tell of items
+abbrev pub items_told : Answer → List ItemAnswer
+items_told (tells items) = items
+items_told (grants granted) = []
+items_told (notes codes) = []
+items_told (stands status) = []
+items_told (brings octet more octets) = []
+items_told (uploads id size) = []
+items_told (slices more octets) = []
+items_told uploaded = []
+items_told (refuses error) = []
+
+-- the return codes of items, read or written
+abbrev pub codes_in : Answer → List ℕ
+codes_in (tells items) = map (λ (item : ItemAnswer). item.code) items
+codes_in (notes codes) = codes
+codes_in (grants granted) = []
+codes_in (stands status) = []
+codes_in (brings octet more octets) = []
+codes_in (uploads id size) = []
+codes_in (slices more octets) = []
+codes_in uploaded = []
+codes_in (refuses error) = []
+
+abbrev pub of_answer : (Answer → List ℕ) → Option Answer → List ℕ
+of_answer told None = []
+of_answer told (Some answer) = told answer
+
+-- the octets that were read, joined in the order of the questions
+abbrev pub octets_told : List (Option Answer) → List ℕ
+octets_told answers =
+    flat_map (of_answer (λ answer. flat_map (λ (item : ItemAnswer). item.octets) (items_told answer))) answers
+
+abbrev pub codes_told : List (Option Answer) → List ℕ
+codes_told answers = flat_map (of_answer codes_in) answers
+
+abbrev pub good_end : List ℕ → List ℕ → End
+good_end octets codes = record { code = no_fault; octets = octets; codes = codes; leaves = AsItWas }
+
+-- each item alone
+abbrev pub alone : List Item → List (List Item)
+alone items = map (λ item. item ∷ []) items
+
+-- as many questions as were granted may be unanswered, and at least one
+abbrev pub width_of : Grant → ℕ
+width_of granted = max 1 granted.jobs
+
+-- the questions of a list, in order
+abbrev pub listed : Grant → List Question → (Answer → Option ℕ) → (ℕ → ℕ → ℕ) → (List (Option Answer) → End) → Plan
+listed granted questions refusal number finished = record {
+  first = nothing;
+  conduct = record {
+    width = width_of granted;
+    question_at = λ (answers : List (Option Answer)). slice_get questions (length answers);
+    refusal = refusal;
+    ended = λ (answers : List (Option Answer)).
+        by_refusal number (first_refusal refusal 0 answers) (finished answers);
+  };
+}
+
+-- ---- one question at a time
+
+-- one question, the call of a control
+abbrev pub controlling : Control → Conduct
+controlling control = record {
+  width = 1;
+  question_at = λ (answers : List (Option Answer)). slice_get (controls control ∷ []) (length answers);
+  refusal = control_refusal control;
+  ended = λ (answers : List (Option Answer)).
+      by_refusal plain_number (first_refusal (control_refusal control) 0 answers) (good_end [] []);
+}
+
+-- the octets that an answer in user data brings, or a slice of an upload
+abbrev pub octets_in : Answer → List ℕ
+octets_in (brings octet more octets) = octets
+octets_in (slices more octets) = octets
+octets_in (uploads id size) = []
+octets_in uploaded = []
+octets_in (grants granted) = []
+octets_in (tells items) = []
+octets_in (notes codes) = []
+octets_in (stands status) = []
+octets_in (refuses error) = []
+
+abbrev pub octets_brought : List (Option Answer) → List ℕ
+octets_brought answers = flat_map (of_answer octets_in) answers
+
+-- what is asked behind the octets that came, by the last answer: the next octets, where more follow of what comes in
+-- pieces
+abbrev pub behind : Subject → List ℕ → Option Answer → Option Question
+behind subject so_far (Some (brings octet more octets)) =
+    if more && comes_in_pieces subject then Some (asks_further subject octet so_far) else None
+behind subject so_far (Some (grants granted)) = None
+behind subject so_far (Some (tells items)) = None
+behind subject so_far (Some (notes codes)) = None
+behind subject so_far (Some (stands status)) = None
+behind subject so_far (Some (uploads id size)) = None
+behind subject so_far (Some (slices more octets)) = None
+behind subject so_far (Some uploaded) = None
+behind subject so_far (Some (refuses error)) = None
+behind subject so_far None = None
+
+abbrev pub last_answer : Option Answer → List (Option Answer) → Option Answer
+last_answer answer [] = answer
+last_answer answer (next ∷ answers) = last_answer next answers
+
+-- User data about something, with these octets, and then the further octets of its answer, piece by piece.
+abbrev pub next_piece : Subject → List ℕ → List (Option Answer) → Option Question
+next_piece subject octets [] = Some (asks subject octets)
+next_piece subject octets (answer ∷ answers) =
+    behind subject (octets_brought (answer ∷ answers)) (last_answer answer answers)
+
+-- what was asked for, of what the answers bring
+abbrev pub brought_end : Subject → List (Option Answer) → End
+brought_end subject answers = good_end (drop (lead_of subject) (octets_brought answers)) []
+
+abbrev pub asking_about : Subject → List ℕ → Conduct
+asking_about subject octets = record {
+  width = 1;
+  question_at = next_piece subject octets;
+  refusal = telegram_refusal;
+  ended = λ (answers : List (Option Answer)).
+      by_refusal plain_number (first_refusal telegram_refusal 0 answers) (brought_end subject answers);
+}
+
+-- what is asked behind the octets that came of an upload, by the last answer: the next slice while others follow, and
+-- then the end
+abbrev pub behind_slice : ℕ → ℕ → List ℕ → Option Answer → Option Question
+behind_slice id size so_far (Some (slices more octets)) =
+    Some (if more then slices_upload id size so_far else ends_upload id)
+behind_slice id size so_far (Some (grants granted)) = None
+behind_slice id size so_far (Some (tells items)) = None
+behind_slice id size so_far (Some (notes codes)) = None
+behind_slice id size so_far (Some (stands status)) = None
+behind_slice id size so_far (Some (brings octet more octets)) = None
+behind_slice id size so_far (Some (uploads other others)) = None
+behind_slice id size so_far (Some uploaded) = None
+behind_slice id size so_far (Some (refuses error)) = None
+behind_slice id size so_far None = None
+
+-- behind the answer that starts the upload of this id, an image of so many octets
+abbrev pub behind_start : ℕ → ℕ → List (Option Answer) → Option Question
+behind_start id size [] = Some (slices_upload id size [])
+behind_start id size (answer ∷ answers) =
+    behind_slice id size (octets_brought (answer ∷ answers)) (last_answer answer answers)
+
+abbrev pub behind_first : Option Answer → List (Option Answer) → Option Question
+behind_first (Some (uploads id size)) answers = behind_start id size answers
+behind_first (Some (grants granted)) answers = None
+behind_first (Some (tells items)) answers = None
+behind_first (Some (notes codes)) answers = None
+behind_first (Some (stands status)) answers = None
+behind_first (Some (brings octet more octets)) answers = None
+behind_first (Some (slices more octets)) answers = None
+behind_first (Some uploaded) answers = None
+behind_first (Some (refuses error)) answers = None
+behind_first None answers = None
+
+-- The start of the upload of a block, then its slices while others follow, and its end.
+abbrev pub next_slice : BlockName → List (Option Answer) → Option Question
+next_slice name [] = Some (starts_upload name)
+next_slice name (answer ∷ answers) = behind_first answer answers
+
+abbrev pub uploading : BlockName → Conduct
+uploading name = record {
+  width = 1;
+  question_at = next_slice name;
+  refusal = telegram_refusal;
+  ended = λ (answers : List (Option Answer)).
+      by_refusal plain_number (first_refusal telegram_refusal 0 answers) (good_end (octets_brought answers) []);
+}
+
+-- ---- whole data blocks
+
+-- how many of the answers are none of user data, which tells the head
+abbrev pub is_of_data : Option Answer → Bool
+is_of_data (Some (brings octet more octets)) = false
+is_of_data (Some (grants granted)) = true
+is_of_data (Some (tells items)) = true
+is_of_data (Some (notes codes)) = true
+is_of_data (Some (stands status)) = true
+is_of_data (Some (uploads id size)) = true
+is_of_data (Some (slices more octets)) = true
+is_of_data (Some uploaded) = true
+is_of_data (Some (refuses error)) = true
+is_of_data None = true
+
+abbrev pub count_of_data : List (Option Answer) → ℕ
+count_of_data [] = 0
+count_of_data (answer ∷ answers) = (if is_of_data answer then 1 else 0) + count_of_data answers
+
+abbrev pub or_later : Option Question → Option Question → Option Question
+or_later (Some question) later = Some question
+or_later None later = later
+
+-- The head of a data block, piece by piece, and then these questions, by how many octets the head says that there are.
+abbrev pub next_of_data : List ℕ → (ℕ → List Question) → List (Option Answer) → Option Question
+next_of_data octets questions [] = Some (asks DataHead octets)
+next_of_data octets questions (answer ∷ answers) =
+    or_later (behind DataHead (octets_brought (answer ∷ answers)) (last_answer answer answers))
+    (slice_get (questions (data_length (octets_brought (answer ∷ answers)))) (count_of_data (answer ∷ answers)))
+
+-- A data block is read whole.
+abbrev pub getting : ℕ → List ℕ → ℕ → Conduct
+getting pdu octets number = record {
+  width = 1;
+  question_at = next_of_data octets (λ size. read_questions (alone (data_parts number size pdu false)));
+  refusal = part_refusal;
+  ended = λ (answers : List (Option Answer)).
+      by_refusal plain_number (first_refusal part_refusal 0 answers) (good_end (octets_told answers) []);
+}
+
+-- the number of a refusal of the head or of the first part, and that of a later one
+abbrev pub fill_number : List (Option Answer) → ℕ → ℕ → ℕ
+fill_number answers place number = if count_of_data (take place answers) == 0 then number else partly_written
+
+-- It is filled with a value.
+abbrev pub filling : ℕ → List ℕ → ℕ → ℕ → Conduct
+filling pdu octets number value = record {
+  width = 1;
+  question_at = next_of_data octets
+      (λ size. write_questions (alone (data_parts number size pdu true)) (replicate size value));
+  refusal = part_refusal;
+  ended = λ (answers : List (Option Answer)).
+      by_refusal (fill_number answers) (first_refusal part_refusal 0 answers) (good_end [] []);
+}
+
+-- a job that asks from its start on
+abbrev pub at_once : Conduct → Plan
+at_once conduct = record { first = nothing; conduct = conduct }
+
+-- the id and the index of a status list
+abbrev pub list_octets : ℕ → ℕ → List ℕ
+list_octets id index = two_octets id ++ two_octets index
+
+-- a kind of blocks
+abbrev pub kind_octets : ℕ → List ℕ
+kind_octets kind = 0x30 ∷ kind ∷ []
+
+-- a block, which is in the controller's memory
+abbrev pub block_octets : ℕ → ℕ → List ℕ
+block_octets kind number = name_octets (record { kind = kind; number = number }) 0x41
+
+-- ---- each job
+
+abbrev pub if_good : ℕ → Plan → Plan
+if_good check plan = if check == no_fault then plan else over (number_end check AsItWas)
+
+-- the plan of a job on a connected client: what is checked before anything is sent, and then its questions
+abbrev pub connected_plan : Job → Grant → Plan
+connected_plan job.Connect granted = over (number_end no_fault AsItWas)
+connected_plan (job.ReadArea item) granted =
+    if_good (check_item item true)
+    (listed granted (read_questions (alone (parts_of item granted.pdu false))) part_refusal plain_number
+    (λ answers. good_end (octets_told answers) []))
+connected_plan (job.WriteArea item octets) granted =
+    if_good (check_item item (length octets == octet_count item))
+    (listed granted (write_questions (alone (parts_of item granted.pdu true)) octets) part_refusal write_number
+    (λ answers. good_end [] []))
+connected_plan (job.ReadMany items) granted =
+    if_good (check_items items true granted.pdu false)
+    (listed granted (read_questions (groups_of granted.pdu false items)) telegram_refusal plain_number
+    (λ answers. good_end (octets_told answers) (codes_told answers)))
+connected_plan (job.WriteMany items octets) granted =
+    if_good (check_items items (length octets == octet_count_of items) granted.pdu true)
+    (listed granted (write_questions (groups_of granted.pdu true items) octets) telegram_refusal plain_number
+    (λ answers. good_end [] (codes_told answers)))
+connected_plan job.List granted = at_once (asking_about BlockCounts [])
+connected_plan (job.ListOf kind) granted = at_once (asking_about BlocksOfKind (kind_octets kind))
+connected_plan (job.Info kind number) granted = at_once (asking_about BlockHead (block_octets kind number))
+connected_plan (job.Upload kind number) granted = at_once (uploading (record { kind = kind; number = number }))
+connected_plan (job.Delete kind number) granted = at_once (controlling (control.Delete kind number))
+connected_plan (job.DbGet number) granted = at_once (getting granted.pdu (block_octets 0x41 number) number)
+connected_plan (job.DbFill number value) granted =
+    at_once (filling granted.pdu (block_octets 0x41 number) number value)
+connected_plan (job.Szl id index) granted = at_once (asking_about StatusList (list_octets id index))
+connected_plan job.ClockRead granted = at_once (asking_about Clock [])
+connected_plan (job.ClockSet moment) granted =
+    if_good (check_moment moment) (at_once (asking_about ClockSetting (octets_at moment)))
+connected_plan job.Start granted = at_once (controlling control.Start)
+connected_plan job.ColdStart granted = at_once (controlling control.ColdStart)
+connected_plan job.Stop granted = at_once (controlling control.Stop)
+connected_plan job.Compress granted = at_once (controlling control.Compress)
+connected_plan job.CopyRam granted = at_once (controlling control.CopyRam)
+connected_plan job.Status granted = at_once (asking_about RunState (list_octets 0x0424 0))
+connected_plan (job.PasswordSet text) granted =
+    if_good (check_password text) (at_once (asking_about Password (encoded (filled_text text))))
+connected_plan job.PasswordClear granted = at_once (asking_about PasswordClearing [])
+connected_plan job.Disconnect granted = record { first = disconnect_request; conduct = silent departed_end }
+
+-- a connect request, then the negotiation
+abbrev pub connecting_plan : Config → Plan
+connecting_plan config = record { first = connect_request; conduct = negotiating config }
+
+abbrev pub is_connect : Job → Bool
+is_connect job.Connect = true
+is_connect _ = false
+
+-- that of a job on a client that isn't connected: only a connect asks something
+abbrev pub unconnected_plan : Job → Config → Plan
+unconnected_plan job config =
+    if is_connect job then connecting_plan config else over (number_end not_connected Disconnected)
+
+-- THE PLAN of a job by what was granted before it
+abbrev pub plan_of : Job → Config → Option Grant → Plan
+plan_of job config None = unconnected_plan job config
+plan_of job config (Some granted) = connected_plan job granted

@@ -1,0 +1,34 @@
+-- The telegrams that went out for a job, with their answers. Several may be unanswered: an answer is known by the
+-- sequence of its telegram (the PDU reference), in whatever order the answers come.
+use Rattle.std.specs.Prelude.{ℕ, ◌+◌, List, [], ◌∷◌, map, is_none, Option, None, Some, option_map, if◌then◌else◌}
+use Rattle.s7_dialogue.specs.Question.{Question}
+use Rattle.s7_dialogue.specs.Answer.{Answer, answer_of}
+
+pub record Row : Type 0 where
+  pub question : Question
+  -- the sequence under which it went out
+  pub number : ℕ
+  pub answer : Option Answer
+
+-- the answers by the places of their telegrams
+abbrev pub answers_of : List Row → List (Option Answer)
+answers_of rows = map (λ (row : Row). row.answer) rows
+
+-- how many telegrams are unanswered
+unfoldable pub open_count : List Row → ℕ
+open_count [] = 0
+open_count (row ∷ rows) = (if is_none row.answer then 1 else 0) + open_count rows
+
+-- what the message answers to the telegram, where this is unanswered
+abbrev pub answer_to : Row → List ℕ → Option Answer
+answer_to row message = if is_none row.answer then answer_of row.question row.number message else None
+
+abbrev pub filled_by : Row → List Row → Option Answer → Option (List Row) → Option (List Row)
+filled_by row rows (Some answer) later = Some (record row { answer = Some answer } ∷ rows)
+filled_by row rows None later = option_map (λ (others : List Row). row ∷ others) later
+
+-- THE ROWS WITH A MESSAGE as the answer to the first unanswered telegram that it answers, and nothing where it answers
+-- none
+unfoldable pub filled : List Row → List ℕ → Option (List Row)
+filled [] message = None
+filled (row ∷ rows) message = filled_by row rows (answer_to row message) (filled rows message)

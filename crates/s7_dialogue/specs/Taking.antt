@@ -1,0 +1,84 @@
+-- What the parts of an answer's taking come to.
+use Rattle.std.specs.Prelude.{◌≡◌, ◌⊎◌, ℕ, ◌+◌, ◌==◌, Bool, List, [], ◌∷◌, ◌++◌, length, take, drop, slice_index, slice_set, map, None, Some, if◌then◌else◌}
+use lib.Seq.{paste}
+use Rattle.s7_item.specs.declared.item.Item.{Item}
+use Rattle.s7_item.specs.Item.{octet_count}
+use Rattle.s7_dialogue.specs.declared.answer.Asked.{Asked}
+use Rattle.s7_dialogue.specs.declared.answer.Asked.TheVariants as asked
+use Rattle.s7_dialogue.specs.declared.answer.Answer.{Answer}
+use Rattle.s7_dialogue.specs.declared.answer.Answer.TheVariants as told
+use Rattle.s7_dialogue.specs.declared.flight.Flight.{Flight}
+use Rattle.s7_dialogue.specs.declared.job.Job.{Job}
+use Rattle.s7_dialogue.specs.declared.job.Job.TheVariants as job
+use Rattle.s7_dialogue.specs.Question.{Question, reads, writes}
+use Rattle.s7_dialogue.specs.Answer as spelled
+use Rattle.s7_dialogue.specs.Told.{Tells}
+use Rattle.s7_dialogue.specs.Flight.{Row}
+use Rattle.s7_dialogue.specs.Asks.{first_spot, spot_behind, flight_at}
+
+-- a read of items, or a write of octets for them
+abbrev pub question_for : Bool → List Item → List ℕ → Question
+question_for write items octets = if write then writes items octets else reads items
+
+-- the answer tells this to a read of the items, or to a write of some octets for them
+abbrev pub TellsFor : Bool → List Item → Answer → spelled.Answer → Type 0
+TellsFor write items told x = (octets : List ℕ) × Tells (question_for write items octets) told x
+
+-- what is kept is a read or a write of these items
+abbrev pub IsFor : List Item → Asked → Type 0
+IsFor items told = (told ≡ asked.Read items) ⊎ (told ≡ asked.Write items)
+
+-- what is kept of a telegram of these rows, which is unanswered, and what an answer tells to it
+pub record Taken (rows : List Row) (flight : Flight) (told : Answer) : Type 0 where
+  pub front : List Row
+  pub row : Row
+  pub back : List Row
+  pub answer : spelled.Answer
+  pub before : rows ≡ front ++ row ∷ back
+  pub unanswered : row.answer ≡ None
+  pub kept : flight ≡ flight_at (spot_behind first_spot front) row
+  pub tells : Tells row.question told answer
+
+-- the rows with the answer
+abbrev pub rows_with : List Row → Row → List Row → spelled.Answer → List Row
+rows_with front row back answer = front ++ record row { answer = Some answer } ∷ back
+
+abbrev pub answered_rows : {rows : List Row} {flight : Flight} {told : Answer} → Taken rows flight told → List Row
+answered_rows t = rows_with t.front t.row t.back t.answer
+
+-- ---- what is kept of an answer
+
+-- the codes with these at their places, from one on, where there are such places
+abbrev pub with_codes : ℕ → List ℕ → List ℕ → List ℕ
+with_codes place [] codes = codes
+with_codes place (code ∷ noted) codes = with_codes (place + 1) noted (slice_set codes place code)
+
+-- the octets with those of the items that were read at their places, from one on
+abbrev pub with_octets : ℕ → List Item → List spelled.ItemAnswer → List ℕ → List ℕ
+with_octets from [] answers found = found
+with_octets from (item ∷ items) [] found = found
+with_octets from (item ∷ items) (answer ∷ answers) found =
+    with_octets (from + octet_count item) items answers (paste found from answer.octets (length answer.octets))
+
+-- What an answer to a telegram for these items, that doesn't refuse, leaves of what was found.
+abbrev pub Keeps : List Item → Flight → Answer → List ℕ → List ℕ → List ℕ → List ℕ → Type 0
+Keeps items flight (told.Refused error) found codes found' codes' = (found' ≡ found) × (codes' ≡ codes)
+Keeps items flight (told.Granted n) found codes found' codes' = (found' ≡ found) × (codes' ≡ codes)
+Keeps items flight (told.Items body) found codes found' codes' =
+    (answers : List spelled.ItemAnswer) → spelled.item_answers items body.now ≡ Some answers
+    → (found' ≡ with_octets flight.from items answers found)
+    × (codes' ≡ with_codes flight.item (map (λ (item : spelled.ItemAnswer). item.code) answers) codes)
+Keeps items flight (told.Codes noted) found codes found' codes' =
+    (found' ≡ found) × (codes' ≡ with_codes flight.item noted.now codes)
+
+-- of the octets of items those whose code is FF
+abbrev pub without_gaps : List Item → List ℕ → List ℕ → List ℕ
+without_gaps [] codes found = []
+without_gaps (item ∷ items) codes found =
+    (if slice_index codes 0 == 0xFF then take (octet_count item) found else [])
+    ++ without_gaps items (drop 1 codes) (drop (octet_count item) found)
+
+-- the octets that a job read, once it is over
+abbrev pub closed : Job → List ℕ → List ℕ → List ℕ
+closed (job.ReadMany items) codes found = without_gaps items codes found
+closed _ codes found = found

@@ -1,0 +1,41 @@
+-- What is kept of a question, and what the code's answers tell.
+use Rattle.std.specs.Prelude.{◌≡◌, ℕ, length, List, Option, None, Some}
+use Rattle.s7_header.specs.declared.negotiation.Negotiation.{Negotiation}
+use Rattle.s7_dialogue.specs.declared.answer.Asked.{Asked}
+use Rattle.s7_dialogue.specs.declared.answer.Asked.TheVariants as asked
+use Rattle.s7_dialogue.specs.declared.answer.Answer.{Answer}
+use Rattle.s7_dialogue.specs.declared.answer.Answer.TheVariants as told
+use Rattle.s7_dialogue.specs.Question.{Question, negotiates, reads, writes}
+use Rattle.s7_dialogue.specs.Answer as spelled
+
+-- the question is of the kind that is kept, and for the same items
+abbrev pub IsAsked : Asked → Question → Type 0
+IsAsked asked.Negotiation (negotiates n) = Unit {0}
+IsAsked (asked.Read kept) (reads items) = items ≡ kept
+IsAsked (asked.Write kept) (writes items octets) = items ≡ kept
+IsAsked _ _ = ⊥
+
+-- data items that are the answers for these items
+abbrev pub TellsItems : Question → List ℕ → spelled.Answer → Type 0
+TellsItems (reads items) body answer =
+    (answers : List spelled.ItemAnswer) × (spelled.item_answers items body ≡ Some answers) × (answer ≡ spelled.tells answers)
+TellsItems _ body answer = ⊥
+
+abbrev pub TellsCodes : Question → List ℕ → spelled.Answer → Type 0
+TellsCodes (writes items octets) body answer = (answer ≡ spelled.notes body) × (length body ≡ length items)
+TellsCodes _ body answer = ⊥
+
+abbrev pub TellsGrant : Question → Negotiation → spelled.Answer → Type 0
+TellsGrant (negotiates asked) n answer = answer ≡ spelled.grants n
+TellsGrant _ n answer = ⊥
+
+-- what an answer tells to a question
+abbrev pub Tells : Question → Answer → spelled.Answer → Type 0
+Tells question (told.Refused error) answer = answer ≡ spelled.refuses error
+Tells question (told.Granted n) answer = TellsGrant question n answer
+Tells question (told.Items body) answer = TellsItems question body.now answer
+Tells question (told.Codes body) answer = TellsCodes question body.now answer
+
+abbrev pub TellsSome : Question → Answer → Option spelled.Answer → Type 0
+TellsSome question told None = ⊥
+TellsSome question told (Some answer) = Tells question told answer

@@ -1,0 +1,91 @@
+// The data items of a read's answer.
+ghost use Rattle.std.specs.Prelude.{◌≡◌, ◌+◌, ◌≤◌, IsTrue, length, is_some, option_map};
+ghost use Rattle.s7_item.specs.Item.{octet_count};
+ghost use Rattle.s7_header.specs.Octets.{number_at};
+ghost use Rattle.s7_item.specs.DataItem.{padding_of};
+ghost use Rattle.s7_dialogue.specs.Answer.{begins_read, begins_refused, item_answers};
+ghost use Rattle.s7_dialogue.specs.DataItems.{first_of, first_told};
+
+use s7_item::codes::GOOD;
+use s7_item::{Item, Items, is_good, padding_of, stated_length, transport_of};
+
+/// The octets before those of an item: code, transport size and length.
+const HEAD: usize = 4;
+
+/// A data item and what follows it.
+#[derive(Clone, Copy)]
+pub(crate) struct First<'a> {
+    /// FF where the item was read.
+    pub(crate) code: u8,
+    /// The item's octets, none where it was refused.
+    pub(crate) octets: &'a [u8],
+    /// The octets of the data items that follow.
+    pub(crate) rest: &'a [u8],
+}
+
+/// The octets are the answers for these items and nothing more.
+pub(crate) fn are_answers(items: &Items, octets: &[u8]) -> bool
+    ensures { result ≡ is_some (item_answers items.now octets.now) }
+{
+    let mut rest = octets;
+    for (k, item) in items.as_slice().iter().enumerate() {
+        match first_item(item, k + 1 == items.len(), rest) {
+            Some(first) => rest = first.rest,
+            None => return false,
+        }
+    }
+    rest.is_empty()
+}
+
+/// The data item for this item, the last one or not, that the octets begin with; `None` exactly
+/// where they begin with no such data item.
+pub(crate) fn first_item<'a>(item: &Item, last: bool, octets: &'a [u8]) -> Option<First<'a>>
+    ensures { option_map first_told result ≡ first_of item.now last octets.now }
+{
+    if begins_read(item, last, octets) {
+        let count = item.octet_count();
+        return Some(First {
+            code: GOOD,
+            octets: &octets[HEAD..HEAD + count],
+            rest: &octets[HEAD + count + padding_of(count, last)..],
+        });
+    }
+    if begins_refused(octets) {
+        return Some(First {
+            code: octets[0],
+            octets: &[],
+            rest: &octets[HEAD..],
+        });
+    }
+    None
+}
+
+// The octets begin with the data item of this item, which was read.
+fn begins_read(item: &Item, last: bool, octets: &[u8]) -> bool
+    ensures begins { result ≡ begins_read item.now last octets.now }
+    ensures fits { IsTrue result
+        → 4 + octet_count item.now + padding_of (octet_count item.now) last ≤ length octets.now }
+{
+    let count = item.octet_count();
+    let transport = transport_of(item.word);
+    octets.len() >= HEAD + count + padding_of(count, last)
+        && is_good(octets[0])
+        && octets[1] == transport
+        && stated_by(octets) == stated_length(transport, count)
+}
+
+// The octets begin with the data item of an item that was refused.
+fn begins_refused(octets: &[u8]) -> bool
+    ensures begins { result ≡ begins_refused octets.now }
+    ensures fits { IsTrue result → 4 ≤ length octets.now }
+{
+    octets.len() >= HEAD && !is_good(octets[0]) && octets[1] == 0x00 && stated_by(octets) == 0
+}
+
+// The length that a data item states.
+fn stated_by(octets: &[u8]) -> usize
+    requires { 4 ≤ length octets.now }
+    ensures { result ≡ number_at octets.now 2 }
+{
+    usize::from(u16::from_be_bytes([octets[2], octets[3]]))
+}

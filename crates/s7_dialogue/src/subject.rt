@@ -1,0 +1,84 @@
+// What user data is about.
+ghost use Rattle.std.specs.Prelude.{◌≡◌};
+
+/// What a telegram of user data asks for.
+#[derive(Clone, Copy, Debug, PartialEq, Eq)]
+pub(crate) enum Subject {
+    /// The status list of an id and an index.
+    StatusList,
+    /// The status list that tells whether the controller runs.
+    RunState,
+    /// How many blocks there are of each kind.
+    BlockCounts,
+    /// The blocks of a kind.
+    BlocksOfKind,
+    /// The head of a block.
+    BlockHead,
+    /// The head of a data block that is read or filled whole.
+    DataHead,
+    /// What the clock shows.
+    Clock,
+    /// That the clock shows something else.
+    ClockSetting,
+    /// The right that a password gives.
+    Password,
+    /// That the right is given back.
+    PasswordClearing,
+}
+
+impl Subject {
+    ghost use Rattle.s7_dialogue.specs.UserData.{group_of, subfunction_of, comes_in_pieces, lead_of};
+
+    /// The group of a request: 43 blocks, 44 status lists, 45 security, 47 the clock.
+    pub(crate) fn group(self) -> u8
+        ensures { result ≡ group_of self }
+    {
+        match self {
+            Subject::BlockCounts | Subject::BlocksOfKind | Subject::BlockHead | Subject::DataHead =>
+                0x43,
+            Subject::StatusList | Subject::RunState => 0x44,
+            Subject::Password | Subject::PasswordClearing => 0x45,
+            Subject::Clock | Subject::ClockSetting => 0x47,
+        }
+    }
+
+    /// The subfunction.
+    pub(crate) fn subfunction(self) -> u8
+        ensures { result ≡ subfunction_of self }
+    {
+        match self {
+            Subject::StatusList
+            | Subject::RunState
+            | Subject::BlockCounts
+            | Subject::Clock
+            | Subject::Password => 0x01,
+            Subject::BlocksOfKind | Subject::ClockSetting | Subject::PasswordClearing => 0x02,
+            Subject::BlockHead | Subject::DataHead => 0x03,
+        }
+    }
+
+    /// There may be more of an answer than one telegram takes.
+    pub(crate) fn comes_in_pieces(self) -> bool
+        ensures { result ≡ comes_in_pieces self }
+    {
+        matches!(
+            self,
+            Subject::StatusList
+                | Subject::RunState
+                | Subject::BlockCounts
+                | Subject::BlocksOfKind
+                | Subject::BlockHead
+                | Subject::DataHead
+        )
+    }
+
+    /// How many octets of a whole answer stand before what was asked for.
+    pub(crate) fn lead(self) -> usize
+        ensures { result ≡ lead_of self }
+    {
+        match self {
+            Subject::BlockHead | Subject::DataHead => 4,
+            _ => 0,
+        }
+    }
+}
