@@ -1,9 +1,9 @@
 -- Laws of what is sent: no message is longer than the PDU, and no more are unanswered than may be.
-use Rattle.std.proofs.Common.{◌≡◌, ◌⊎◌, inl, inr, ℕ, zero, suc, ◌+◌, ◌-◌, ◌≤◌, Bool, true, false, cond, eqb, leb, ltb, Option, Some, None, List, [], ◌∷◌, ◌++◌, map, length, take, drop, refl, ap, subst, arith}
+use Rattle.std.proofs.Common.{◌≡◌, ◌⊎◌, inl, inr, ℕ, zero, suc, ◌+◌, ◌-◌, ◌*◌, ◌≤◌, Bool, true, false, cond, eqb, leb, ltb, Option, Some, None, List, [], ◌∷◌, ◌++◌, map, length, take, drop, refl, ap, subst, arith}
 use Rattle.std.specs.Prelude.{◌&&◌, max, bit_xor, replicate, slice_get}
 use Rattle.std.specs.List.{AllByRecursion}
 use Rattle.std.proofs.lemmas.Bool.{and_parts, eqb-true, leb-true}
-use Rattle.std.proofs.lemmas.List.{length-append, length-drop, length-replicate, length-take-le}
+use Rattle.std.proofs.lemmas.List.{length-append, length-drop, length-replicate, length-take, length-take-le}
 use Rattle.s7_header.specs.declared.header.Kind.{Kind}
 use Rattle.s7_header.specs.declared.header.Kind.TheVariants as kind
 use Rattle.s7_header.specs.Header.{has_error}
@@ -36,14 +36,18 @@ use Rattle.s7_dialogue.specs.DataBlocks.{data_length, data_parts}
 use Rattle.s7_dialogue.specs.Uploads.{start_params, id_params}
 use Rattle.s7_dialogue.specs.Question.{Question, reads, writes, controls, asks, asks_further, written, message_octets, question_octets}
 use Rattle.s7_dialogue.specs.Question.{starts_upload, slices_upload, ends_upload}
-use Rattle.s7_dialogue.specs.Answer.{Answer}
-use Rattle.s7_dialogue.specs.Checks.{octet_count_of, check_item, check_items, check_moment, check_password}
+use Rattle.s7_dialogue.specs.Question.{announces, awaits_call, gives, inserts, messages_of}
+use Rattle.s7_dialogue.specs.Downloads.{piece_room}
+use Rattle.s7_dialogue.specs.Answer.{Answer, calls}
+use Rattle.s7_dialogue.specs.Checks.{octet_count_of, check_item, check_items, check_moment, check_password, check_image}
 use Rattle.s7_dialogue.specs.Stages.{joined}
 use Rattle.s7_dialogue.specs.Flight.{Row, open_count}
 use Rattle.s7_dialogue.specs.Dialogue.{Conduct, Plan, over, End, number_end, read_questions, write_questions, alone, controlling, octets_brought, count_of_data, behind, or_later, next_of_data, last_answer, asking_about, list_octets, kind_octets, block_octets, if_good, connected_plan, plan_of}
+use Rattle.s7_dialogue.specs.Dialogue.{behind_call, behind_server, next_given}
 use Rattle.s7_dialogue.specs.Course.{Origin, conduct_of, course}
 use Rattle.s7_dialogue.proofs.CheckLemmas.{item_checked, items_checked, can_split}
 use Rattle.s7_dialogue.proofs.MessageLemmas.{written_sent}
+use Rattle.s7_dialogue.proofs.MessagesAskedLemmas.{each_message}
 use Rattle.s7_dialogue.proofs.GroupLemmas.{octet_count_append, joined_alone, groups_right, parts_together}
 use Rattle.s7_dialogue.proofs.FlightLemmas.{same_some, open_append, ComesNext, filled_open}
 use Rattle.s7_dialogue.proofs.RowLemmas.{RowsKept, course_rows}
@@ -154,6 +158,32 @@ upload_short pdu name answers question least (inl first) =
     subst (IsShort pdu) first.1
     (λ sequence. omega (arith, least, message_long kind.Job sequence (start_params name) [] refl))
 upload_short pdu name answers question least (inr under) = slice_short pdu under.id under.size question least under.of
+
+-- ---- downloads
+
+-- what goes out behind the server's job: a piece, as much of the image as the PDU has room for, or the insertion
+behind_short : (pdu : ℕ) (image : List ℕ) (from call : ℕ) (more : Bool) → 64 ≤ pdu
+    → IsShort pdu (cond more (gives image (piece_room pdu) from call) (inserts image call))
+behind_short pdu image from call true least = λ sequence.
+    omega (arith, least, length-take (piece_room pdu) (drop from image))
+behind_short pdu image from call false least = λ sequence. omega (arith, least)
+
+server_short : (pdu : ℕ) (image : List ℕ) (from : ℕ) (last : Option Answer) (question : Question) → 64 ≤ pdu
+    → behind_server image (piece_room pdu) from last ≡ Some question → IsShort pdu question
+server_short pdu image from (Some (calls call)) question least is =
+    subst (IsShort pdu) (same_some (behind_call image (piece_room pdu) from call) question is)
+    (behind_short pdu image from call (ltb from (length image)) least)
+server_short pdu image from (Some _) question least is = absurd (cc)
+server_short pdu image from None question least is = absurd (cc)
+
+download_short : (pdu : ℕ) (image : List ℕ) (answers : List (Option Answer)) (question : Question) → 64 ≤ pdu
+    → next_given image (piece_room pdu) answers ≡ Some question → IsShort pdu question
+download_short pdu image [] question least is =
+    subst (IsShort pdu) (same_some (announces image) question is) (λ sequence. omega (arith, least))
+download_short pdu image (answer ∷ []) question least is =
+    subst (IsShort pdu) (same_some (awaits_call image) question is) (λ sequence. omega (arith, least))
+download_short pdu image (answer ∷ next ∷ answers) question least is =
+    server_short pdu image (piece_room pdu * length answers) (last_answer next answers) question least is
 
 -- ---- the messages of all questions
 
@@ -339,7 +369,7 @@ items_written items octets pdu good =
     let whole = ap octet_count_of right.whole in
     writes_short pdu (groups_of pdu true items) octets (groups_fit pdu true items right) (omega (arith, long, whole))
 
--- no message of a connected client is longer than the PDU that was granted
+-- no question's own message of a connected client is longer than the PDU that was granted
 pub sent_short : (asked : Job) (config : Config) (granted : Grant) (answers : List (Option Answer))
     (question : Question) → 64 ≤ granted.pdu
     → (plan_of asked config (Some granted)).conduct.question_at answers ≡ Some question
@@ -371,6 +401,9 @@ sent_short (job.Info kind number) config granted answers question least is =
 sent_short (job.Upload kind number) config granted answers question least is =
     let name : BlockName = record { kind = kind; number = number } in
     upload_short granted.pdu name answers question least (upload_asks name answers question is)
+sent_short (job.Download image) config granted answers question least is =
+    let sent = good_sent (check_image image) _ answers question is in
+    download_short granted.pdu image answers question least sent.1
 sent_short (job.Delete kind number) config granted answers question least is =
     control_sent granted.pdu (control.Delete kind number) answers question least (omega arith) is
 sent_short (job.DbGet number) config granted answers question least is =
@@ -408,6 +441,15 @@ sent_short (job.PasswordSet text) config granted answers question least is =
 sent_short job.PasswordClear config granted answers question least is =
     piece_short granted.pdu PasswordClearing [] answers question least (omega arith) is
 sent_short job.Disconnect config granted answers question least is = absurd (cc)
+
+-- nor any other of a question
+pub messages_short : (asked : Job) (config : Config) (granted : Grant) (answers : List (Option Answer))
+    (question : Question) (sequence : ℕ) → 64 ≤ granted.pdu
+    → (plan_of asked config (Some granted)).conduct.question_at answers ≡ Some question
+    → AllByRecursion (λ (message : List ℕ). length message ≤ granted.pdu) (messages_of sequence question)
+messages_short asked config granted answers question sequence least is =
+    each_message (λ (message : List ℕ). length message ≤ granted.pdu) question sequence (λ call. omega (arith, least))
+    (sent_short asked config granted answers question least is sequence)
 
 -- ---- how many are unanswered
 
@@ -452,6 +494,8 @@ width_connected (job.ReadMany items) granted =
 width_connected (job.WriteMany items octets) granted =
     checked_width (max 1 granted.jobs) _ _
     (eqb (check_items items (eqb (length octets) (octet_count_of items)) granted.pdu true) 0) (omega arith)
+width_connected (job.Download image) granted =
+    checked_width (max 1 granted.jobs) _ _ (eqb (check_image image) 0) (omega arith)
 width_connected (job.ClockSet moment) granted =
     checked_width (max 1 granted.jobs) _ _ (eqb (check_moment moment) 0) (omega arith)
 width_connected (job.PasswordSet text) granted =

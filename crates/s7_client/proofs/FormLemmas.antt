@@ -24,13 +24,15 @@ use Rattle.s7_dialogue.specs.declared.job.Job.TheVariants as job
 use Rattle.s7_dialogue.specs.declared.subject.Subject.{Subject}
 use Rattle.s7_dialogue.specs.declared.subject.Subject.TheVariants.{StatusList, RunState, BlockCounts, BlocksOfKind, BlockHead, Clock, ClockSetting, Password, PasswordClearing}
 use Rattle.s7_dialogue.specs.UserData.{is_whole, lead_of}
+use Rattle.s7_dialogue.specs.Codes.{refused_otherwise}
+use Rattle.s7_dialogue.specs.Downloads.{piece_room}
 use Rattle.s7_dialogue.specs.Question.{Question}
 use Rattle.s7_dialogue.specs.Answer.{Answer, ItemAnswer, grants, tells, notes, stands, refuses, begins_read, begins_refused, item_first, item_answers}
-use Rattle.s7_dialogue.specs.Refusals.{number_of_error, number_of_code, number_of_status, code_refusal, telegram_refusal, part_refusal, control_refusal}
-use Rattle.s7_dialogue.specs.Checks.{octet_count_of, check_item, check_items, check_moment, check_password}
+use Rattle.s7_dialogue.specs.Refusals.{number_of_error, number_of_code, number_of_status, code_refusal, telegram_refusal, part_refusal, control_refusal, download_refusal}
+use Rattle.s7_dialogue.specs.Checks.{octet_count_of, check_item, check_items, check_moment, check_password, check_image}
 use Rattle.s7_dialogue.specs.Stages.{joined}
 use Rattle.s7_dialogue.specs.Flight.{Row, answers_of}
-use Rattle.s7_dialogue.specs.Dialogue.{End, Conduct, Plan, departed_end, number_end, fault_end, over, taken_grant, by_grant, negotiated_by, negotiated, read_questions, write_questions, first_or, refusal_in, first_refusal, plain_number, write_number, by_refusal, octets_told, codes_told, octets_brought, count_of_data, fill_number, good_end, alone, listed, controlling, asking_about, uploading, getting, filling, if_good, connected_plan, unconnected_plan, plan_of}
+use Rattle.s7_dialogue.specs.Dialogue.{End, Conduct, Plan, departed_end, number_end, fault_end, over, taken_grant, by_grant, negotiated_by, negotiated, read_questions, write_questions, first_or, refusal_in, first_refusal, plain_number, write_number, by_refusal, octets_told, codes_told, octets_brought, count_of_data, fill_number, good_end, alone, listed, controlling, asking_about, uploading, downloading, getting, filling, if_good, connected_plan, unconnected_plan, plan_of}
 use Rattle.s7_dialogue.specs.Course.{Origin, for_departure, for_nothing, conduct_of, course}
 use Rattle.s7_client.specs.Form.{count_read, octets_read, FormOf, HasForm, IsWhole}
 use Rattle.s7_dialogue.proofs.CheckLemmas.{item_checked, items_checked, can_split}
@@ -121,6 +123,11 @@ control_positive control (refuses error) n is =
 control_positive control (stands status) n is =
     code_by (eqb status 0) (number_of_status control status) n (status_positive control status) is
 control_positive control _ n is = absurd (cc)
+
+download_positive : (answer : Answer) (n : ℕ) → download_refusal answer ≡ Some n → 0 < n
+download_positive (refuses error) n is = subst (λ m. 0 < m) (same_some (number_of_error error) n is) (some_error error)
+download_positive (stands status) n is = code_by (eqb status 0) refused_otherwise n (omega arith) is
+download_positive _ n is = absurd (cc)
 
 first_or_positive : (o : Option ℕ) (k : ℕ) (later : Option (ℕ × ℕ)) (r : ℕ × ℕ)
     → ((n : ℕ) → o ≡ Some n → 0 < n) → ((s : ℕ × ℕ) → later ≡ Some s → 0 < s.1) → first_or o k later ≡ Some r → 0 < r.1
@@ -478,16 +485,34 @@ written_formed items octets granted answers good fit none all =
       (λ enough. tt),
     )
 
--- the call of a control gives nothing
+-- a job that ends with nothing where no answer refuses
+nothing_given : (done : Job) (granted : Grant) (conduct : Conduct) (refusal : Answer → Option ℕ) (rows : List Row)
+    (end : End) (carried : List ℕ)
+    → ((answer : Answer) (n : ℕ) → refusal answer ≡ Some n → 0 < n)
+    → ((answers : List (Option Answer)) → conduct.ended answers
+    ≡ by_refusal plain_number (first_refusal refusal 0 answers) (good_end [] []))
+    → FormOf done [] [] → IsWhole done (good_end [] []) → IsEnded conduct rows end carried
+    → Formed (Some granted) done end
+nothing_given done granted conduct refusal rows end carried positive ends form is_all ended =
+    subst (Formed (Some granted) done) (sym (ended.is ∙ ends (answers_of rows)))
+    (refused_formed (Some granted) done plain_number (first_refusal refusal 0 (answers_of rows)) (good_end [] [])
+    (λ r e. first_positive refusal 0 (answers_of rows) r positive e)
+    (λ none. found_formed (Some granted) done [] [] form is_all))
+
+-- the call of a control
 control_formed : (done : Job) (granted : Grant) (control : Control) (rows : List Row) (end : End) (carried : List ℕ)
     → FormOf done [] [] → IsWhole done (good_end [] [])
     → IsEnded (controlling control) rows end carried → Formed (Some granted) done end
 control_formed done granted control rows end carried form is_all ended =
-    let refused = first_refusal (control_refusal control) 0 (answers_of rows) in
-    subst (Formed (Some granted) done) (sym ended.is)
-    (refused_formed (Some granted) done plain_number refused (good_end [] [])
-    (λ r e. first_positive (control_refusal control) 0 (answers_of rows) r (control_positive control) e)
-    (λ none. found_formed (Some granted) done [] [] form is_all))
+    nothing_given done granted (controlling control) (control_refusal control) rows end carried
+    (control_positive control) (λ answers. refl) form is_all ended
+
+-- a download
+download_formed : (image : List ℕ) (granted : Grant) (room : ℕ) (rows : List Row) (end : End) (carried : List ℕ)
+    → IsEnded (downloading image room) rows end carried → Formed (Some granted) (job.Download image) end
+download_formed image granted room rows end carried ended =
+    nothing_given (job.Download image) granted (downloading image room) download_refusal rows end carried
+    download_positive (λ answers. refl) (refl, refl) tt ended
 
 -- an upload gives what the answers brought
 upload_formed : (done : Job) (granted : Grant) (name : BlockName) (rows : List Row) (end : End) (carried : List ℕ)
@@ -592,6 +617,9 @@ connected_formed (job.Info kind number) granted rows end carried asked ended =
     (λ found is. (omega (arith, length-drop 4 found, eqb-true (length found) 40 is), refl)) (λ found. tt) asked ended
 connected_formed (job.Upload kind number) granted rows end carried asked ended =
     upload_formed (job.Upload kind number) granted _ rows end carried (λ found. refl) (λ found. tt) ended
+connected_formed (job.Download image) granted rows end carried asked ended =
+    good_formed (job.Download image) (Some granted) (check_image image) _ rows end carried
+    (λ good asked ended. download_formed image granted (piece_room granted.pdu) rows end carried ended) asked ended
 connected_formed (job.Delete kind number) granted rows end carried asked ended =
     control_formed (job.Delete kind number) granted (control.Delete kind number) rows end carried (refl, refl) tt ended
 connected_formed (job.DbGet number) granted rows end carried asked ended =

@@ -7,7 +7,7 @@ use Rattle.s7_dialogue.specs.declared.grant.Grant.{Grant}
 use Rattle.s7_dialogue.specs.declared.grant.Leaves.TheVariants.{Disconnected}
 use Rattle.s7_dialogue.specs.declared.job.Job.{Job}
 use Rattle.s7_dialogue.specs.declared.job.Job.TheVariants as job
-use Rattle.s7_dialogue.specs.Checks.{check_item, check_items, check_moment, check_password, octet_count_of}
+use Rattle.s7_dialogue.specs.Checks.{check_item, check_items, check_moment, check_password, check_image, octet_count_of}
 use Rattle.s7_dialogue.specs.Flight.{Row, answers_of, open_count}
 use Rattle.s7_dialogue.specs.Dialogue.{End, fault_end, number_end, departed_end, First, nothing, connect_request, disconnect_request, Plan, over, connecting_plan, is_connect, connected_plan, plan_of}
 use Rattle.s7_dialogue.specs.Course.{Origin, Course, Awaits, for_confirm, for_answers, for_departure, for_nothing, conduct_of, next_question, asked_on, asking, by_first, blank, begun, course}
@@ -111,6 +111,7 @@ connected_leaves (job.ReadMany items) granted is =
 connected_leaves (job.WriteMany items octets) granted is =
     absurd
     (asks_if (eqb (check_items items (eqb (length octets) (octet_count_of items)) granted.pdu true) 0) _ _ refl is)
+connected_leaves (job.Download image) granted is = absurd (asks_if (eqb (check_image image) 0) _ _ refl is)
 connected_leaves (job.ClockSet moment) granted is = absurd (asks_if (eqb (check_moment moment) 0) _ _ refl is)
 connected_leaves (job.PasswordSet text) granted is = absurd (asks_if (eqb (check_password text) 0) _ _ refl is)
 connected_leaves job.Disconnect granted is = (refl, refl)

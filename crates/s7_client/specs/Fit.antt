@@ -1,21 +1,22 @@
 -- How long and how many telegrams are.
 use Rattle.std.specs.Prelude.{◌≡◌, ℕ, ◌≤◌, max, Option, Some, List, length}
+use Rattle.std.specs.List.{AllByRecursion}
 use Rattle.s7_dialogue.specs.declared.config.Config.{Config}
 use Rattle.s7_dialogue.specs.declared.grant.Grant.{Grant}
 use Rattle.s7_dialogue.specs.declared.job.Job.{Job}
-use Rattle.s7_dialogue.specs.Question.{Question, question_octets}
+use Rattle.s7_dialogue.specs.Question.{Question, messages_of}
 use Rattle.s7_dialogue.specs.Answer.{Answer}
 use Rattle.s7_dialogue.specs.Flight.{open_count}
 use Rattle.s7_dialogue.specs.Dialogue.{plan_of}
 use Rattle.s7_dialogue.specs.Course.{Origin, course}
 
--- No message of a job on a connected client passes the PDU that was granted, and never are more unanswered than jobs
--- were granted, or one.
+-- No message of a job on a connected client passes the PDU that was granted, and never are more questions unanswered
+-- than jobs were granted, or one.
 pub record TelegramsFit : Type 0 where
-  -- whatever was answered so far
+  -- each message of a question, whatever was answered so far
   pub fits : (asked : Job) (config : Config) (granted : Grant) (answers : List (Option Answer)) (question : Question)
       (sequence : ℕ) → 64 ≤ granted.pdu
       → (plan_of asked config (Some granted)).conduct.question_at answers ≡ Some question
-      → length (question_octets sequence question) ≤ granted.pdu
+      → AllByRecursion (λ (message : List ℕ). length message ≤ granted.pdu) (messages_of sequence question)
   pub few : (origin : Origin) (granted : Grant) (b : List ℕ) → origin.granted ≡ Some granted
       → open_count (course origin b).rows ≤ max 1 granted.jobs

@@ -40,6 +40,7 @@ FormOf job.List octets codes = (length octets ≡ 28) × (codes ≡ [])
 FormOf (job.ListOf kind) octets codes = (length octets % 4 ≡ 0) × (codes ≡ [])
 FormOf (job.Info kind number) octets codes = (length octets ≡ 36) × (codes ≡ [])
 FormOf (job.Upload kind number) octets codes = codes ≡ []
+FormOf (job.Download image) octets codes = (octets ≡ []) × (codes ≡ [])
 FormOf (job.Delete kind number) octets codes = (octets ≡ []) × (codes ≡ [])
 FormOf (job.DbGet number) octets codes = codes ≡ []
 FormOf (job.DbFill number value) octets codes = (octets ≡ []) × (codes ≡ [])

@@ -14,7 +14,7 @@ pub fn ends_have_form()
 {}
 
 /// A law: no message that a job sends on a connected client passes the PDU that was granted, whatever
-/// was answered so far, and never are more telegrams unanswered than jobs were granted, or one.
+/// was answered so far, and never are more questions unanswered than jobs were granted, or one.
 pub fn telegrams_fit()
     ensures { TelegramsFit }
 {}

@@ -13,6 +13,7 @@ pub(crate) fn job_of(alloc: Global, text: &str) -> Result<Job, Fail> {
         "readmany" => read_many(alloc, takes),
         "writemany" => write_many(alloc, takes),
         "password" => password(alloc, takes),
+        "download" => download(alloc, takes),
         "read" | "listof" | "setclock" | "dbget" => one_field(name, takes),
         "info" | "upload" | "delete" => about_block(name, takes),
         "szl" => szl(takes),
@@ -100,6 +101,11 @@ fn fill(takes: &str) -> Result<Job, Fail> {
     let number = small(number)?;
     let value = hex_octet(value)?;
     Ok(Job::DbFill { number, value })
+}
+
+fn download(alloc: Global, takes: &str) -> Result<Job, Fail> {
+    let image = Octets::of_vec(octets_of(alloc, takes)?);
+    Ok(Job::Download { image })
 }
 
 fn password(alloc: Global, takes: &str) -> Result<Job, Fail> {

@@ -13,6 +13,8 @@ mod data_blocks;
 #[cfg(test)]
 mod days;
 #[cfg(test)]
+mod downloads;
+#[cfg(test)]
 mod exchange;
 #[cfg(test)]
 mod faults;

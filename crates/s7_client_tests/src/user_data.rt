@@ -291,6 +291,7 @@ list
 listof 41
 info 41 1
 upload 41 1
+download 70700101050c000500000026 00*22 0002aabb
 delete 45 1
 dbget 1
 dbfill 1 00

@@ -19,7 +19,7 @@ use Rattle.s7_dialogue.specs.declared.left.Left.TheVariants as left
 use Rattle.s7_dialogue.specs.declared.asking.Asking.{Asking}
 use Rattle.s7_dialogue.specs.declared.asking.Refused.{Refused}
 use Rattle.s7_dialogue.specs.declared.running.Stage.TheVariants as stage
-use Rattle.s7_dialogue.specs.Question.{Question}
+use Rattle.s7_dialogue.specs.Question.{Question, question_octets, messages_of}
 use Rattle.s7_dialogue.specs.Answer.{Answer}
 use Rattle.s7_dialogue.specs.Flight.{Row, answers_of, open_count}
 use Rattle.s7_dialogue.specs.Checks.{octet_count_of}
@@ -31,6 +31,7 @@ use Rattle.s7_dialogue.specs.Asks.{asked_of, items_of, Spot, first_spot, spot_pa
 use Rattle.s7_dialogue.specs.GoesOn.{questions_of, refusal_of, conducted, filled_up, octets_at_places, octets_of_row, codes_of_row, octets_so_far, codes_so_far, brings_octets, brings_codes, IsFit, IsUnanswered, Conducts, HasAsked}
 use Rattle.s7_dialogue.proofs.FlightLemmas.{open_append}
 use Rattle.s7_dialogue.proofs.GoingLemmas.{IsLess, takes_less}
+use Rattle.s7_dialogue.proofs.MessagesAskedLemmas.{listed_behind, listed_message}
 use Rattle.s7_dialogue.proofs.SpotLemmas.{spot_append, flights_append, again_append, flights_open, all_append}
 
 -- ---- the next question
@@ -297,6 +298,35 @@ asked_none zero c course none = refl
 asked_none (suc n) c course none =
     ap (λ o. if_some o course (λ question. asked_on n c (asked_course course question))) none
 
+-- a negotiation, a read or a write goes out
+abbrev with_listed : Config → Job → Course → ℕ → Asked → Course
+with_listed config job course from told = record course {
+  rows = course.rows ++ row_of config job course from told ∷ [];
+  sequence = next_sequence course.sequence;
+  out =
+      course.out
+      ++ sent_message course.size
+      (question_octets (next_sequence course.sequence) (question_of config job from told));
+}
+
+asked_listed : (config : Config) (job : Job) (course : Course) (from : ℕ) (told : Asked)
+    → asked_course course (question_of config job from told) ≡ with_listed config job course from told
+asked_listed config job course from told =
+    let q = question_of config job from told in
+    let number = next_sequence course.sequence in
+    ap (λ n. record course {
+      rows = course.rows ++ record { question = q; number = n; answer = None } ∷ [];
+      sequence = n;
+      out = course.out ++ sent_messages course.size (messages_of n q);
+    }) (listed_behind config job from course.sequence told)
+    ∙ ap (λ sent. record course {
+      rows = course.rows ++ row_of config job course from told ∷ [];
+      sequence = number;
+      out = course.out ++ sent;
+    })
+    (ap (sent_messages course.size) (listed_message config job from number told)
+    ∙ append-nil (sent_message course.size (question_octets number q)))
+
 one_opened : (rows : List Row) (row : Row) → row.answer ≡ None → open_count (rows ++ row ∷ []) ≡ open_count rows + 1
 unfolding open_count
 one_opened rows row unanswered =
@@ -341,7 +371,7 @@ asks_more config granted job found codes a course a' b last next put h number st
     let c = (plan_of job config granted).conduct in
     let rows = h.now.rows in
     let q = question_of config job a'.from step.told in
-    let then : Course = asked_course h.now q in
+    let then : Course = with_listed config job h.now a'.from step.told in
     let asked : HasAsked config granted job found codes a course h.now a' last = h.asked in
     let numbered : next ≡ next_sequence h.now.sequence = number ∙ ap next_sequence asked.sequence in
     let pushes : Pushes a' step.told (next_sequence h.now.sequence) b =
@@ -357,7 +387,11 @@ asks_more config granted job found codes a course a' b last next put h number st
     record {
       now = then;
       most = h.most - 1;
-      on = h.on ∙ (ap (λ n. asked_on n c h.now) (one_more h.most some) ∙ asked_first (h.most - 1) c h.now q comes);
+      on =
+          h.on
+          ∙ (ap (λ n. asked_on n c h.now) (one_more h.most some)
+          ∙ (asked_first (h.most - 1) c h.now q comes
+          ∙ ap (asked_on (h.most - 1) c) (asked_listed config job h.now a'.from step.told)));
       enough = omega (arith, h.enough, opened, some, pushes.width);
       asked = record {
         conducts =

@@ -17,8 +17,8 @@ use Rattle.s7_item.specs.declared.item.Item.{Item}
 use Rattle.s7_szl.specs.Joining.{is_refused}
 use Rattle.s7_dialogue.specs.declared.subject.Subject.{Subject}
 use Rattle.s7_dialogue.specs.UserData.{octets_in as data_in, answers_about, comes_in_pieces, is_whole, goes_on_with}
-use Rattle.s7_dialogue.specs.Question.{Question, negotiates, reads, writes, asks, asks_further}
-use Rattle.s7_dialogue.specs.Answer.{Answer, ItemAnswer, tells, notes, brings, refuses, item_answers, counts_items, acknowledged, brought, if_data, is_under, by_params, answered_by_user, by_kind, by_header, answer_of}
+use Rattle.s7_dialogue.specs.Question.{Question, negotiates, reads, writes, asks, asks_further, awaits_call, gives}
+use Rattle.s7_dialogue.specs.Answer.{Answer, ItemAnswer, tells, notes, brings, refuses, item_answers, counts_items, acknowledged, brought, if_data, is_under, by_params, answered_by_user, by_kind, awaits_server, by_call, by_header, answer_of}
 use Rattle.s7_dialogue.specs.Refusals.{telegram_refusal}
 use Rattle.s7_dialogue.specs.Flight.{Row, answers_of}
 use Rattle.s7_dialogue.specs.Dialogue.{refusal_in, first_refusal, of_answer, octets_in, octets_brought, behind, last_answer, next_piece, asking_about}
@@ -133,12 +133,27 @@ kind_fits kind.AckData question h message answer is =
 kind_fits kind.User question h message answer is =
     user_fits question (params_of message h) (body_of message h) answer is
 
+-- whatever is answered where a job of the server's is awaited
+server_fits : (question : Question) (answer : Answer) → awaits_server question ≡ true → Fits question answer
+server_fits (awaits_call image) answer awaits = tt
+server_fits (gives image room from call) answer awaits = tt
+server_fits _ answer awaits = absurd (cc)
+
+awaited_fits : (question : Question) (sequence : ℕ) (message : List ℕ) (h : Header) (answer : Answer) (awaits : Bool)
+    → awaits_server question ≡ awaits
+    → cond awaits (by_call h.kind question h message)
+    (cond (eqb h.sequence sequence) (by_kind h.kind question h message) None) ≡ Some answer
+    → Fits question answer
+awaited_fits question sequence message h answer true awaits is = server_fits question answer awaits
+awaited_fits question sequence message h answer false awaits is =
+    kind_fits h.kind question h message answer
+    (if_some (eqb h.sequence sequence) (by_kind h.kind question h message) answer is).1
+
 header_fits : (question : Question) (sequence : ℕ) (message : List ℕ) (r : Result Header HeaderFault) (answer : Answer)
     → by_header question sequence message r ≡ Some answer → Fits question answer
 header_fits question sequence message (Err fault) answer is = absurd (cc)
 header_fits question sequence message (Ok h) answer is =
-    kind_fits h.kind question h message answer
-    (if_some (eqb h.sequence sequence) (by_kind h.kind question h message) answer is).1
+    awaited_fits question sequence message h answer (awaits_server question) refl is
 
 -- what a message answers to a question fits it
 pub answer_fits : (question : Question) (sequence : ℕ) (message : List ℕ) (answer : Answer)

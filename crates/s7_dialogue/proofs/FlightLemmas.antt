@@ -1,15 +1,16 @@
 -- Laws of telegrams in flight: what asking on adds to them, and which of them a message fills.
 use Rattle.std.proofs.Common.{◌≡◌, ◌⊎◌, inl, inr, ℕ, zero, suc, ◌+◌, ◌<◌, ◌≤◌, Bool, true, false, cond, eqb, ltb, Option, Some, None, List, [], ◌∷◌, ◌++◌, map, length, refl, sym, ap, ◌∙◌, append_assoc, arith}
 use Rattle.std.specs.Prelude.{◌&&◌, is_none, option_map}
-use Rattle.std.specs.List.{AllByRecursion}
+use Rattle.std.specs.List.{AllByRecursion, flat_map}
 use Rattle.std.proofs.lemmas.Bool.{eqb-true, ne_eqb, ltb-true, lt-ltb, le-ltb}
 use Rattle.std.proofs.lemmas.List.{append-nil, length-map}
+use Rattle.std.proofs.lemmas.List.Concat.{flat_map-append}
 use Rattle.s7_wire.specs.Sent.{sent_message, sent_messages}
-use Rattle.s7_dialogue.specs.Question.{Question, question_octets}
+use Rattle.s7_dialogue.specs.Question.{Question, messages_of}
 use Rattle.s7_dialogue.specs.Answer.{Answer, answer_of}
 use Rattle.s7_dialogue.specs.Flight.{Row, answers_of, open_count, answer_to, filled_by, filled}
 use Rattle.s7_dialogue.specs.Dialogue.{End, Conduct, first_refusal}
-use Rattle.s7_dialogue.specs.Course.{Course, for_answers, for_nothing, next_sequence, next_question, asked, if_some, asked_on, settled, asking}
+use Rattle.s7_dialogue.specs.Course.{Course, for_answers, for_nothing, next_question, sequence_behind, asked, if_some, asked_on, settled, asking}
 
 -- general
 pub same_some : {A : Type 0} (x y : A) → Some x ≡ Some y → x ≡ y
@@ -115,21 +116,21 @@ asked_on_keeps P c keeps (suc n) course p =
     if_some_keeps P (next_question c course.rows) course _ (λ none. p)
     (λ question next. asked_on_keeps P c keeps n (asked course question) (keeps course question next p))
 
--- the message of a telegram
-abbrev pub row_message : Row → List ℕ
-row_message row = question_octets row.number row.question
+-- the messages that went out for a question
+abbrev pub row_messages : Row → List (List ℕ)
+row_messages row = messages_of row.number row.question
 
--- a telegram that may go out after these, the last of which has this sequence
+-- a question that may go out after these, behind the last of which the sequence is this
 pub record IsNext (c : Conduct) (rows : List Row) (sequence : ℕ) (row : Row) : Type 0 where
   pub question : next_question c rows ≡ Some row.question
-  pub number : row.number ≡ next_sequence sequence
+  pub number : row.number ≡ sequence_behind sequence row.question
   pub unanswered : row.answer ≡ None
 
 abbrev pub AreNext : Conduct → List Row → ℕ → List Row → Type 0
 AreNext c rows sequence [] = Unit {0}
 AreNext c rows sequence (row ∷ new) = IsNext c rows sequence row × AreNext c (rows ++ row ∷ []) row.number new
 
--- the sequence of the last telegram
+-- the sequence behind the last question
 abbrev pub last_number : ℕ → List Row → ℕ
 last_number sequence [] = sequence
 last_number sequence (row ∷ new) = last_number row.number new
@@ -145,7 +146,7 @@ pub record AsksOn (c : Conduct) (before after : Course) : Type 0 where
   pub new : List Row
   pub rows : after.rows ≡ before.rows ++ new
   pub each : AreNext c before.rows before.sequence new
-  pub out : after.out ≡ before.out ++ sent_messages before.size (map row_message new)
+  pub out : after.out ≡ before.out ++ sent_messages before.size (flat_map row_messages new)
   pub sequence : after.sequence ≡ last_number before.sequence new
   pub size : after.size ≡ before.size
   pub unfinished : after.unfinished ≡ before.unfinished
@@ -166,7 +167,7 @@ asks_nothing c course = record {
 -- the telegram with a question
 abbrev pub row_asked : Course → Question → Row
 row_asked course question =
-    record { question = question; number = next_sequence course.sequence; answer = None }
+    record { question = question; number = sequence_behind course.sequence question; answer = None }
 
 asks_first : (c : Conduct) (course after : Course) (question : Question)
     → next_question c course.rows ≡ Some question → AsksOn c (asked course question) after → AsksOn c course after
@@ -175,8 +176,11 @@ asks_first c course after question next on = record {
   rows = on.rows ∙ append_assoc course.rows (row_asked course question ∷ []) on.new;
   each = (record { question = next; number = refl; unanswered = refl }, on.each);
   out = on.out
-      ∙ append_assoc course.out (sent_message course.size (row_message (row_asked course question)))
-      (sent_messages course.size (map row_message on.new));
+      ∙ (append_assoc course.out (sent_messages course.size (row_messages (row_asked course question)))
+      (sent_messages course.size (flat_map row_messages on.new))
+      ∙ ap (λ sent. course.out ++ sent)
+      (sym (flat_map-append (sent_message course.size) (row_messages (row_asked course question))
+      (flat_map row_messages on.new))));
   sequence = on.sequence;
   size = on.size;
   unfinished = on.unfinished;

@@ -13,7 +13,7 @@ use Rattle.s7_dialogue.specs.declared.asking.Asking.{Asking}
 use Rattle.s7_dialogue.specs.declared.running.Stage.{Stage}
 use Rattle.s7_dialogue.specs.declared.running.Stage.TheVariants as stage
 use Rattle.s7_dialogue.specs.declared.running.Running.{Running}
-use Rattle.s7_dialogue.specs.Checks.{check_item, check_items, check_moment, check_password, octet_count_of}
+use Rattle.s7_dialogue.specs.Checks.{check_item, check_items, check_moment, check_password, check_image, octet_count_of}
 use Rattle.s7_dialogue.specs.Flight.{Row}
 use Rattle.s7_dialogue.specs.Dialogue.{nothing, connect_request, Plan, plan_of}
 use Rattle.s7_dialogue.specs.Stages.{can_fly, can_ask_all, has_places, is_ready, IsOpening}
@@ -62,6 +62,8 @@ connects (job.ClockSet moment) config (Some g) e =
     absurd (checked_first (eqb (check_moment moment) 0) _ _ refl refl e)
 connects (job.PasswordSet text) config (Some g) e =
     absurd (checked_first (eqb (check_password text) 0) _ _ refl refl e)
+connects (job.Download image) config (Some g) e =
+    absurd (checked_first (eqb (check_image image) 0) _ _ refl refl e)
 connects _ config (Some g) e = absurd (cc)
 
 negotiates_first : (config : Config) (found codes : List ℕ) (a : Asking) → IsNew a 1 left.Negotiation

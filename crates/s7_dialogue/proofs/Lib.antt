@@ -5,14 +5,17 @@ pub mod MessageLemmas
 pub mod UserLemmas
 pub mod UserReadLemmas
 pub mod CheckLemmas
+pub mod DownloadImageLemmas
 pub mod GroupLemmas
 pub mod ProgressLemmas
 pub mod GoingLemmas
 pub mod SpotLemmas
+pub mod MessagesAskedLemmas
 pub mod AskLemmas
 pub mod ReadyLemmas
 pub mod StartLemmas
 pub mod UploadLemmas
+pub mod DownloadLemmas
 pub mod DataPartLemmas
 pub mod DataReadLemmas
 pub mod SingleAskLemmas

@@ -21,7 +21,7 @@ use Rattle.s7_dialogue.specs.Answer.{Answer}
 use Rattle.s7_dialogue.specs.Refusals.{telegram_refusal, part_refusal}
 use Rattle.s7_dialogue.specs.Codes.{no_fault}
 use Rattle.s7_dialogue.specs.Flight.{Row, answers_of, open_count}
-use Rattle.s7_dialogue.specs.Checks.{octet_count_of, check_moment, check_password}
+use Rattle.s7_dialogue.specs.Checks.{octet_count_of, check_moment, check_password, check_image}
 use Rattle.s7_dialogue.specs.Left.{joined, groups_in, groups_left, questions_left, octets_left, items_left}
 use Rattle.s7_dialogue.specs.Dialogue.{End, Conduct, Plan, over, is_connect, read_questions, write_questions, first_or, first_refusal, by_refusal, octets_told, codes_told, good_end, number_end, plan_of}
 use Rattle.s7_dialogue.specs.Asks.{first_spot, refused_at}
@@ -167,6 +167,8 @@ rests_or_asks config (Some g) (job.ClockSet moment) groups connects =
     rests_if (check_moment moment == no_fault) _ _ (inr (_, refl))
 rests_or_asks config (Some g) (job.PasswordSet text) groups connects =
     rests_if (check_password text == no_fault) _ _ (inr (_, refl))
+rests_or_asks config (Some g) (job.Download image) groups connects =
+    rests_if (check_image image == no_fault) _ _ (inr (_, refl))
 rests_or_asks config (Some g) job.Disconnect groups connects = inl refl
 rests_or_asks config (Some g) _ groups connects = inr (_, refl)
 

@@ -1,10 +1,10 @@
 -- Lemmas on jobs that ask one question at a time, as they ask it.
-use Rattle.std.proofs.Common.{◌≡◌, ℕ, ◌+◌, ◌<◌, true, cond, ltb, Option, Some, None, List, [], ◌∷◌, ◌++◌, take, refl, sym, ap, ◌∙◌, subst, arith}
+use Rattle.std.proofs.Common.{◌≡◌, ℕ, ◌+◌, ◌-◌, ◌<◌, true, cond, ltb, Option, Some, None, List, [], ◌∷◌, ◌++◌, take, drop, refl, sym, ap, ◌∙◌, subst, arith}
 use Rattle.std.specs.Prelude.{IsSome, is_some, unwrap_or}
 use Rattle.std.specs.List.{AllByRecursion}
 use Rattle.std.proofs.lemmas.Bool.{lt-ltb}
 use Rattle.std.proofs.lemmas.List.{append-nil}
-use Rattle.s7_wire.specs.Sent.{sent_message}
+use Rattle.s7_wire.specs.Sent.{sent_messages}
 use Rattle.s7_dialogue.specs.declared.config.Config.{Config}
 use Rattle.s7_dialogue.specs.declared.grant.Grant.{Grant}
 use Rattle.s7_dialogue.specs.declared.job.Job.{Job}
@@ -13,18 +13,19 @@ use Rattle.s7_dialogue.specs.declared.single.Ask.TheVariants as ask
 use Rattle.s7_dialogue.specs.declared.single.Single.{Single}
 use Rattle.s7_dialogue.specs.declared.running.Stage.TheVariants as stage
 use Rattle.s7_dialogue.specs.declared.running.Running.{Running}
-use Rattle.s7_dialogue.specs.Question.{Question, question_octets}
+use Rattle.s7_dialogue.specs.Question.{Question, messages_of}
 use Rattle.s7_dialogue.specs.Answer.{Answer}
 use Rattle.s7_dialogue.specs.Flight.{Row, answers_of, open_count}
 use Rattle.s7_dialogue.specs.Dialogue.{Conduct, first_refusal, count_of_data, plan_of}
-use Rattle.s7_dialogue.specs.Course.{Course, next_sequence, next_question, asked, if_some, asked_on, settled, asking}
-use Rattle.s7_dialogue.specs.Stages.{question_of_single, conduct_of_single, unput_by, awaited_by}
+use Rattle.s7_dialogue.specs.Course.{Course, next_sequence, next_question, sequence_behind, asked, if_some, asked_on, settled, asking}
+use Rattle.s7_dialogue.specs.Stages.{question_of_single, conduct_of_single, single_messages, unput_by, awaited_by}
+use Rattle.s7_dialogue.specs.Singles.{message_count, is_numbered_ask}
 use Rattle.s7_dialogue.specs.GoesOn.{octets_kept, questions_left_by, questions_from, is_counted, rows_out, IsAnswered, AsksSingly, IsNextOf, ConductsAt}
 use Rattle.s7_dialogue.specs.Running.{Follows, Reached, unput_of}
 use Rattle.s7_dialogue.proofs.FlightLemmas as flight
 use Rattle.s7_dialogue.proofs.FlightLemmas.{none_next, none_open, all_open, open_append, settled_waits}
 use Rattle.s7_dialogue.proofs.AskLemmas.{may_ask, asked_none}
-use Rattle.s7_dialogue.proofs.SingleLemmas.{same_message}
+use Rattle.s7_dialogue.proofs.MessagesAskedLemmas.{single_behind, same_messages}
 
 -- ---- any conduct
 
@@ -136,22 +137,26 @@ width_one config granted rows done found codes asked len out h =
 
 -- ---- the question goes out
 
--- the telegram that isn't put yet
-unput_alone : (config : Config) (size : ℕ) (done : Job) (s : Single) (number : ℕ) → s.unput ≡ true
+-- none of its messages is put yet
+unput_alone : (config : Config) (size : ℕ) (done : Job) (s : Single) (number : ℕ) → s.unput ≡ message_count s.ask
     → s.out ≡ Some number
     → unput_by config size done (stage.Single s)
-    ≡ sent_message size (question_octets number (question_of_single done s.ask []))
+    ≡ sent_messages size (messages_of number (question_of_single done s.ask []))
 unput_alone config size done s number unput out =
-    ap (λ b. cond b (sent_message size (question_octets (unwrap_or s.out 0) (question_of_single done s.ask []))) [])
-    unput
-    ∙ ap (λ o. sent_message size (question_octets (unwrap_or o 0) (question_of_single done s.ask []))) out
+    let all : message_count s.ask - s.unput ≡ 0 = omega (arith, unput) in
+    ap (λ n. sent_messages size (drop n (single_messages done s))) all
+    ∙ ap (λ o. sent_messages size (messages_of (unwrap_or o 0) (question_of_single done s.ask []))) out
 
--- the question went out under the next sequence
+-- the sequence behind what is asked
+abbrev pub behind_ask : Ask → ℕ → ℕ
+behind_ask asked sequence = cond (is_numbered_ask asked) (next_sequence sequence) sequence
+
+-- the question went out
 reached_asked : (r r' : Running) (s s' : Single) (config : Config) (granted : Option Grant) (course : Course)
     (last : ℕ)
     → r.stage ≡ stage.Single s → r'.stage ≡ stage.Single s' → r'.job ≡ r.job → r'.found.items ≡ r.found.items
-    → r'.codes ≡ r.codes → s.out ≡ None → last ≡ next_sequence course.sequence → s'.out ≡ Some last
-    → s'.unput ≡ true → s'.ask ≡ s.ask → s'.len ≡ s.len → Follows r config granted course.rows
+    → r'.codes ≡ r.codes → s.out ≡ None → last ≡ behind_ask s.ask course.sequence → s'.out ≡ Some last
+    → s'.unput ≡ message_count s.ask → s'.ask ≡ s.ask → s'.len ≡ s.len → Follows r config granted course.rows
     → Reached config granted course (asking (plan_of r.job config granted).conduct course) r' last
 reached_asked r r' s s' config granted course last is is' same found codes none next out unput ask_same len follows =
     let c = (plan_of r.job config granted).conduct in
@@ -159,6 +164,8 @@ reached_asked r r' s s' config granted course last is is' same found codes none 
     let so_far = take s.len r.found.items in
     let q = question_of_single r.job s.ask so_far in
     let now = asked course q in
+    let behind : sequence_behind course.sequence q ≡ last =
+    single_behind r.job s.ask so_far course.sequence ∙ sym next in
     let all : course.rows ≡ h.before = h.are ∙ append-nil h.before in
     let unanswered : open_count course.rows ≡ 0 = ap open_count all ∙ answered_open h.before h.answered in
     let one = width_one config granted course.rows r.job r.found.items r.codes s.ask s.len None h in
@@ -176,8 +183,10 @@ reached_asked r r' s s' config granted course last is is' same found codes none 
       before = h.before;
       answered = h.answered;
       are =
-          ap (λ rs. rs ++ record { question = q; number = next_sequence course.sequence; answer = None } ∷ []) all
-          ∙ ap (λ n. h.before ++ record { question = q; number = n; answer = None } ∷ []) (sym next);
+          ap
+          (λ rs. rs ++ record { question = q; number = sequence_behind course.sequence q; answer = None } ∷ [])
+          all
+          ∙ ap (λ n. h.before ++ record { question = q; number = n; answer = None } ∷ []) behind;
       next = h.next;
       unrefused = h.unrefused;
       brought = h.brought;
@@ -194,8 +203,9 @@ reached_asked r r' s s' config granted course last is is' same found codes none 
     (subst (λ (o : Option ℕ). Stands config granted now.rows r.job r.found.items r.codes s.ask s.len o) (sym out)
     stands))))) in
     let put : unput_of config course.size r'
-    ≡ sent_message course.size (question_octets last (question_of_single r'.job s'.ask [])) =
-    ap (unput_by config course.size r'.job) is' ∙ unput_alone config course.size r'.job s' last unput out in
+    ≡ sent_messages course.size (messages_of last (question_of_single r'.job s'.ask [])) =
+    ap (unput_by config course.size r'.job) is'
+    ∙ unput_alone config course.size r'.job s' last (unput ∙ ap message_count (sym ask_same)) out in
     record {
       awaits =
           ap (λ (k : Course). k.awaits) settles
@@ -203,14 +213,14 @@ reached_asked r r' s s' config granted course last is is' same found codes none 
           ∙ ap (awaited_by r'.found.items r'.codes []) (sym is'));
       follows = λ asks. subst (λ (k : Course). Follows r' config granted k.rows) (sym settles)
           (follows_alone r' s' config granted now.rows is' stands');
-      sequence = next ∙ sym (ap (λ (k : Course). k.sequence) settles);
+      sequence = sym behind ∙ sym (ap (λ (k : Course). k.sequence) settles);
       out =
           ap (λ (k : Course). k.out) settles
           ∙ ap (λ xs. course.out ++ xs)
-          (ap (λ n. sent_message course.size (question_octets n q)) (sym next)
-          ∙ (ap (sent_message course.size) (same_message r.job last s.ask so_far)
-          ∙ (ap (λ a. sent_message course.size (question_octets last (question_of_single r.job a []))) (sym ask_same)
-          ∙ (ap (λ j. sent_message course.size (question_octets last (question_of_single j s'.ask []))) (sym same)
+          (ap (λ n. sent_messages course.size (messages_of n q)) behind
+          ∙ (ap (sent_messages course.size) (same_messages r.job s.ask so_far last)
+          ∙ (ap (λ a. sent_messages course.size (messages_of last (question_of_single r.job a []))) (sym ask_same)
+          ∙ (ap (λ j. sent_messages course.size (messages_of last (question_of_single j s'.ask []))) (sym same)
           ∙ sym put))));
     }
 
@@ -258,7 +268,7 @@ pub reached_alone : (r r' : Running) (s s' : Single) (config : Config) (granted 
     (last sequence : ℕ)
     → r.stage ≡ stage.Single s → r'.stage ≡ stage.Single s' → r'.job ≡ r.job → r'.found.items ≡ r.found.items
     → r'.codes ≡ r.codes
-    → (s.out ≡ None → (last ≡ next_sequence sequence) × (s'.out ≡ Some last) × (s'.unput ≡ true))
+    → (s.out ≡ None → (last ≡ behind_ask s.ask sequence) × (s'.out ≡ Some last) × (s'.unput ≡ message_count s.ask))
     → (IsSome s.out → (last ≡ sequence) × (s' ≡ s)) → s'.ask ≡ s.ask → s'.len ≡ s.len
     → Follows r config granted course.rows → course.sequence ≡ sequence → unput_of config course.size r ≡ []
     → Reached config granted course (asking (plan_of r.job config granted).conduct course) r' last
@@ -270,7 +280,7 @@ reached_alone r r' s s' config granted course last sequence is is' same found co
     by_out None out =
         let now = asks out in
         reached_asked r r' s s' config granted course last is is' same found codes out
-        (now.0 ∙ ap next_sequence (sym at)) now.1 now.2 ask_same len follows
+        (now.0 ∙ ap (behind_ask s.ask) (sym at)) now.1 now.2 ask_same len follows
     by_out (Some number) out =
         let now = waits (ap is_some out) in
         reached_waiting r r' s config granted course number last is (is' ∙ ap stage.Single now.1) same found codes out

@@ -1,23 +1,28 @@
 -- Lemmas on jobs that ask one question at a time: what is asked behind one more answer, and how they end with it.
-use Rattle.std.proofs.Common.{◌≡◌, ◌⊎◌, inl, inr, ℕ, ◌+◌, Bool, true, false, cond, ltb, ◌&&◌, Option, Some, None, List, [], ◌∷◌, ◌++◌, length, drop, refl, sym, ap, ◌∙◌, subst, arith}
+use Rattle.std.proofs.Common.{◌≡◌, ◌⊎◌, inl, inr, ℕ, ◌+◌, ◌≤◌, Bool, true, false, cond, ltb, ◌&&◌, Option, Some, None, List, [], ◌∷◌, ◌++◌, length, drop, refl, sym, ap, ◌∙◌, subst, arith}
 use Rattle.std.specs.Prelude.{is_none, option_map}
 use Rattle.std.proofs.Math.Path.{ap₂}
-use Rattle.std.proofs.lemmas.List.{map-append}
+use Rattle.std.proofs.lemmas.Bool.{and_parts}
+use Rattle.std.proofs.lemmas.List.{map-append, nil_from_length}
 use Rattle.s7_clock.specs.declared.control.Control.{Control}
 use Rattle.s7_block.specs.declared.block.BlockName.{BlockName}
 use Rattle.s7_dialogue.specs.declared.job.Job.{Job}
 use Rattle.s7_dialogue.specs.declared.subject.Subject.{Subject}
+use Rattle.s7_dialogue.specs.declared.download.Pieces.{Pieces}
 use Rattle.s7_dialogue.specs.declared.single.Ask.{Ask}
 use Rattle.s7_dialogue.specs.declared.single.Ask.TheVariants as ask
 use Rattle.s7_dialogue.specs.UserData.{comes_in_pieces, lead_of}
 use Rattle.s7_dialogue.specs.Question.{Question, controls, asks_further, starts_upload, slices_upload, ends_upload}
-use Rattle.s7_dialogue.specs.Answer.{Answer, stands, brings, uploads, slices, uploaded}
-use Rattle.s7_dialogue.specs.Refusals.{control_refusal, telegram_refusal}
+use Rattle.s7_dialogue.specs.Question.{announces, awaits_call, gives, inserts}
+use Rattle.s7_dialogue.specs.Answer.{Answer, stands, brings, uploads, slices, uploaded, announced, calls}
+use Rattle.s7_dialogue.specs.Refusals.{control_refusal, telegram_refusal, download_refusal}
 use Rattle.s7_dialogue.specs.Flight.{Row, answers_of, open_count}
 use Rattle.s7_dialogue.specs.Dialogue.{End, Conduct, octets_in, octets_brought, count_of_data, brought_end, first_refusal, good_end, by_refusal, plain_number, controlling, asking_about, next_slice, uploading}
+use Rattle.s7_dialogue.specs.Dialogue.{behind_server, next_given, downloading}
 use Rattle.s7_dialogue.specs.Course.{Course, for_nothing, next_question, settled, asking}
-use Rattle.s7_dialogue.specs.Stages.{data_of_job, block_of, question_of_single, conduct_of_single}
-use Rattle.s7_dialogue.specs.Singles.{lead_in, TellsStatus, TellsPiece, TellsStart, TellsSlice, TellsEnd, BringsOn}
+use Rattle.s7_dialogue.specs.Stages.{data_of_job, block_of, image_of, has_image, question_of_single, conduct_of_single, is_writable}
+use Rattle.s7_dialogue.specs.Singles.{room_for, lead_in, ask_behind, TellsStatus, TellsPiece, TellsStart, TellsSlice, TellsEnd, BringsOn}
+use Rattle.s7_dialogue.specs.Singles.{TellsBegun, TellsCall}
 use Rattle.s7_dialogue.specs.Asks.{earlier}
 use Rattle.s7_dialogue.specs.GoesOn.{octets_kept, questions_left_by, questions_from, is_counted}
 use Rattle.s7_dialogue.proofs.FlightLemmas.{same_some, settled_ends}
@@ -25,6 +30,8 @@ use Rattle.s7_dialogue.proofs.AskLemmas.{refusal_open, asked_none}
 use Rattle.s7_dialogue.proofs.RefusalLemmas.{refusal_more, refusal_same}
 use Rattle.s7_dialogue.proofs.BringLemmas.{piece_behind, brought_append}
 use Rattle.s7_dialogue.proofs.UploadLemmas.{IsUnderWay, upload_asks, slice_behind}
+use Rattle.s7_dialogue.proofs.DownloadImageLemmas.{image_given}
+use Rattle.s7_dialogue.proofs.DownloadLemmas.{download_asks, first_behind, server_behind, asks_called, of_called}
 
 -- ---- one more answer, behind others
 
@@ -89,8 +96,8 @@ pub record Keeps (asked : Ask) (answers : Answers) (octets : List ℕ) : Type 0 
   pub left : questions_left_by asked answers ≡ questions_from asked
   pub counted : is_counted asked (count_of_data answers) ≡ true
 
--- One more answer, which refuses nothing, leaves all these octets. What is asked next is asked in the same way, and where
--- nothing is, the job ends with them, behind so many that stand before what was asked for.
+-- One more answer, which refuses nothing, leaves all these octets. What is asked next is asked in the same way, and
+-- where nothing is, the job ends with them, behind so many that stand before what was asked for.
 pub record GoesBehind (done : Job) (c : Conduct) (lead : ℕ) (answers : Answers) (x : Answer) (all : List ℕ)
     (next : Option Ask) : Type 0 where
   pub unrefused : c.refusal x ≡ None
@@ -280,6 +287,80 @@ end_goes done id answers uploaded so_far octets next at came tells =
         }
 end_goes done id answers _ so_far octets next at came tells = absurd tells
 
+-- ---- downloads
+
+-- the end of a download that no answer refuses, which brought nothing
+given_end : (image : List ℕ) (room : ℕ) (all : Answers) (so_far octets : List ℕ)
+    → first_refusal download_refusal 0 all ≡ None → so_far ≡ [] → octets ≡ []
+    → (downloading image room).ended all ≡ good_end (drop 0 (so_far ++ octets)) []
+given_end image room all so_far octets first none empty =
+    ap (λ o. by_refusal plain_number o (good_end [] [])) first
+    ∙ ap (λ xs. good_end xs []) (sym (ap (λ xs. xs ++ octets) none ∙ empty))
+
+-- its announcement
+announce_goes : (done : Job) (pieces : Pieces) (answers : Answers) (x : Answer) (so_far octets : List ℕ)
+    (next : Option Ask)
+    → next_given (image_of done) pieces.room answers ≡ Some (announces (image_of done)) → so_far ≡ []
+    → TellsBegun pieces octets next x
+    → Brings done (downloading (image_of done) pieces.room) 0 answers x so_far octets next
+announce_goes done pieces answers announced so_far octets next at none tells =
+    let image = image_of done in
+    record {
+      unrefused = refl;
+      brings = sym tells.0;
+      asks =
+          ap (λ (xs : Answers). next_given image pieces.room (xs ++ Some announced ∷ []))
+          (download_asks image pieces.room answers (announces image) at)
+          ∙ ap (option_map (λ (a : Ask). question_of_single done a (so_far ++ octets))) (sym tells.1);
+      alike = λ a is. ap (conduct_of_single done) (same_some a (ask.AwaitCall pieces) (sym is ∙ tells.1));
+      ended = λ all unrefused brought. given_end image pieces.room all so_far octets unrefused none tells.0;
+    }
+announce_goes done pieces answers _ so_far octets next at none tells = absurd tells
+
+-- a job of the server's, once the image was given up to a place
+call_goes : (done : Job) (pieces : Pieces) (from : ℕ) (answers : Answers) (x : Answer) (so_far octets : List ℕ)
+    (next : Option Ask)
+    → ((answer : Option Answer) → next_given (image_of done) pieces.room (answers ++ answer ∷ [])
+    ≡ behind_server (image_of done) pieces.room from answer)
+    → pieces.len ≡ length (image_of done) → so_far ≡ [] → TellsCall pieces from octets next x
+    → Brings done (downloading (image_of done) pieces.room) 0 answers x so_far octets next
+call_goes done pieces from answers (calls call) so_far octets next behind whole none tells =
+    let image = image_of done in
+    record {
+      unrefused = refl;
+      brings = sym tells.0;
+      asks =
+          behind (Some (calls call))
+          ∙ (ap (λ (q : Question). Some q) (sym (asks_called done pieces from call (so_far ++ octets) whole))
+          ∙ ap (option_map (λ (a : Ask). question_of_single done a (so_far ++ octets))) (sym tells.1));
+      alike = λ a is.
+          ap (conduct_of_single done) (same_some a (ask_behind pieces from call) (sym is ∙ tells.1))
+          ∙ of_called (λ (b : Ask). conduct_of_single done b ≡ downloading image pieces.room) pieces from call
+          (λ given. refl) refl;
+      ended = λ all unrefused brought. given_end image pieces.room all so_far octets unrefused none tells.0;
+    }
+call_goes done pieces from answers _ so_far octets next behind whole none tells = absurd tells
+
+-- its insertion
+insert_goes : (done : Job) (pieces : Pieces) (call : ℕ) (answers : Answers) (x : Answer) (so_far octets : List ℕ)
+    (next : Option Ask)
+    → next_given (image_of done) pieces.room answers ≡ Some (inserts (image_of done) call) → so_far ≡ []
+    → TellsStatus octets next x
+    → Brings done (downloading (image_of done) pieces.room) 0 answers x so_far octets next
+insert_goes done pieces call answers (stands status) so_far octets next at none tells =
+    let image = image_of done in
+    record {
+      unrefused = ap (λ n. download_refusal (stands n)) tells.0;
+      brings = sym tells.1;
+      asks =
+          server_behind image pieces.room answers (Some (stands status))
+          (download_asks image pieces.room answers (inserts image call) at)
+          ∙ ap (option_map (λ (a : Ask). question_of_single done a (so_far ++ octets))) (sym tells.2);
+      alike = λ a is. absurd (let e = tells.2 in cc);
+      ended = λ all unrefused brought. given_end image pieces.room all so_far octets unrefused none tells.1;
+    }
+insert_goes done pieces call answers _ so_far octets next at none tells = absurd tells
+
 -- ---- all that isn't asked of whole data blocks
 
 abbrev pub IsPlain : Ask → Type 0
@@ -328,6 +409,17 @@ end_plain : (octets : List ℕ) (next : Option Ask) (x : Answer) (a : Ask) → T
 end_plain octets next uploaded a tells is = absurd (let e = tells.1 in cc)
 end_plain octets next _ a tells is = absurd tells
 
+begun_plain : (pieces : Pieces) (octets : List ℕ) (next : Option Ask) (x : Answer) (a : Ask)
+    → TellsBegun pieces octets next x → next ≡ Some a → IsPlain a
+begun_plain pieces octets next announced a tells is = plain_as a (ask.AwaitCall pieces) next is tells.1 tt
+begun_plain pieces octets next _ a tells is = absurd tells
+
+call_plain : (pieces : Pieces) (from : ℕ) (octets : List ℕ) (next : Option Ask) (x : Answer) (a : Ask)
+    → TellsCall pieces from octets next x → next ≡ Some a → IsPlain a
+call_plain pieces from octets next (calls call) a tells is =
+    plain_as a (ask_behind pieces from call) next is tells.1 (of_called IsPlain pieces from call (λ given. tt) tt)
+call_plain pieces from octets next _ a tells is = absurd tells
+
 goes_plain : (done : Job) (c : Conduct) (lead : ℕ) (answers : Answers) (x : Answer) (so_far octets : List ℕ)
     (next : Option Ask)
     → Brings done c lead answers x so_far octets next → octets_brought answers ≡ so_far
@@ -343,34 +435,71 @@ goes_plain done c lead answers x so_far octets next b came plain =
       ended = λ over none. b.ended (answers ++ Some x ∷ []) none all;
     }
 
+none_came : (so_far : List ℕ) → length so_far ≤ 0 → so_far ≡ []
+none_came so_far few = nil_from_length so_far (omega (arith, few))
+
+-- behind a piece that is given
+given_behind : (done : Job) (pieces : Pieces) (from call : ℕ) (answers : Answers)
+    → next_given (image_of done) pieces.room answers ≡ Some (gives (image_of done) pieces.room from call)
+    → (answer : Option Answer) → next_given (image_of done) pieces.room (answers ++ answer ∷ [])
+    ≡ behind_server (image_of done) pieces.room (from + pieces.room) answer
+given_behind done pieces from call answers at answer =
+    let image = image_of done in
+    let before = download_asks image pieces.room answers (gives image pieces.room from call) at in
+    server_behind image pieces.room answers answer before.0
+    ∙ ap (λ n. behind_server image pieces.room (n + pieces.room) answer) (sym before.1)
+
 -- whatever is asked
 pub plain_goes : (done : Job) (asked : Ask) (answers : Answers) (x : Answer) (so_far octets : List ℕ)
-    (next : Option Ask) → IsPlain asked
+    (next : Option Ask) → IsPlain asked → is_writable done asked ≡ true → length so_far ≤ room_for asked
     → (conduct_of_single done asked).question_at answers ≡ Some (question_of_single done asked so_far)
     → Keeps asked answers so_far → BringsOn asked octets next x
     → GoesBehind done (conduct_of_single done asked) (lead_in asked) answers x (so_far ++ octets) next
-plain_goes done (ask.Control control) answers x so_far octets next plain at kept tells =
+plain_goes done (ask.Control control) answers x so_far octets next plain writable few at kept tells =
     goes_plain done _ _ answers x so_far octets next
     (status_behind done control answers x so_far octets next at kept.are tells) kept.are
     (λ a is. status_plain octets next x a tells is)
-plain_goes done (ask.About subject) answers x so_far octets next plain at kept tells =
+plain_goes done (ask.About subject) answers x so_far octets next plain writable few at kept tells =
     goes_plain done _ _ answers x so_far octets next
     (piece_goes done subject answers x so_far octets next kept.are tells) kept.are
     (λ a is. piece_plain subject octets next x a tells is)
-plain_goes done (ask.Further subject octet) answers x so_far octets next plain at kept tells =
+plain_goes done (ask.Further subject octet) answers x so_far octets next plain writable few at kept tells =
     goes_plain done _ _ answers x so_far octets next
     (piece_goes done subject answers x so_far octets next kept.are tells) kept.are
     (λ a is. piece_plain subject octets next x a tells is)
-plain_goes done ask.Upload answers x so_far octets next plain at kept tells =
+plain_goes done ask.Upload answers x so_far octets next plain writable few at kept tells =
     goes_plain done _ _ answers x so_far octets next
     (start_behind done answers x so_far octets next at kept.are tells) kept.are
     (λ a is. start_plain octets next x a tells is)
-plain_goes done (ask.Slice id size) answers x so_far octets next plain at kept tells =
+plain_goes done (ask.Slice id size) answers x so_far octets next plain writable few at kept tells =
     goes_plain done _ _ answers x so_far octets next
     (slice_goes done id size answers x so_far octets next at kept.are tells) kept.are
     (λ a is. slice_plain id size octets next x a tells is)
-plain_goes done (ask.UploadEnd id) answers x so_far octets next plain at kept tells =
+plain_goes done (ask.UploadEnd id) answers x so_far octets next plain writable few at kept tells =
     goes_plain done _ _ answers x so_far octets next
     (end_goes done id answers x so_far octets next at kept.are tells) kept.are
     (λ a is. end_plain octets next x a tells is)
-plain_goes done _ answers x so_far octets next plain at kept tells = absurd plain
+plain_goes done (ask.Announce pieces) answers x so_far octets next plain writable few at kept tells =
+    goes_plain done _ _ answers x so_far octets next
+    (announce_goes done pieces answers x so_far octets next at (none_came so_far few) tells) kept.are
+    (λ a is. begun_plain pieces octets next x a tells is)
+plain_goes done (ask.AwaitCall pieces) answers x so_far octets next plain writable few at kept tells =
+    let image = image_of done in
+    goes_plain done _ _ answers x so_far octets next
+    (call_goes done pieces 0 answers x so_far octets next
+    (λ answer. first_behind image pieces.room answers answer
+    (download_asks image pieces.room answers (awaits_call image) at))
+    (image_given done pieces writable).whole (none_came so_far few) tells) kept.are
+    (λ a is. call_plain pieces 0 octets next x a tells is)
+plain_goes done (ask.Give pieces from call) answers x so_far octets next plain writable few at kept tells =
+    goes_plain done _ _ answers x so_far octets next
+    (call_goes done pieces (from + pieces.room) answers x so_far octets next
+    (given_behind done pieces from call answers at)
+    (image_given done pieces (and_parts (has_image done pieces) (ltb from pieces.len) writable).0).whole
+    (none_came so_far few) tells) kept.are
+    (λ a is. call_plain pieces (from + pieces.room) octets next x a tells is)
+plain_goes done (ask.Insert pieces call) answers x so_far octets next plain writable few at kept tells =
+    goes_plain done _ _ answers x so_far octets next
+    (insert_goes done pieces call answers x so_far octets next at (none_came so_far few) tells) kept.are
+    (λ a is. status_plain octets next x a tells is)
+plain_goes done _ answers x so_far octets next plain writable few at kept tells = absurd plain

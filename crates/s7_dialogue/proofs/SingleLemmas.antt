@@ -1,9 +1,10 @@
 -- Lemmas on questions that are asked alone: their messages, and what isn't put yet.
-use Rattle.std.proofs.Common.{◌≡◌, ◌==◌, ℕ, ◌-◌, ◌≤◌, Bool, true, false, cond, leb, ltb, ◌&&◌, Option, Some, None, List, [], ◌∷◌, length, refl, sym, ap, ◌∙◌, arith}
+use Rattle.std.proofs.Common.{◌≡◌, ◌==◌, ℕ, zero, suc, ◌-◌, ◌*◌, ◌<◌, ◌≤◌, Bool, true, false, cond, leb, ltb, ◌&&◌, Option, Some, None, List, [], ◌∷◌, ◌++◌, length, drop, refl, sym, ap, ◌∙◌, arith}
 use Rattle.std.specs.Prelude.{IsSome, is_some, bit_xor, replicate, unwrap_or}
+use Rattle.std.specs.List.{AllByRecursion}
 use Rattle.std.proofs.lemmas.Bool.{and_parts, leb-true}
-use Rattle.std.proofs.lemmas.List.{length-append, length-replicate}
-use Rattle.s7_wire.specs.Sent.{sent_message}
+use Rattle.std.proofs.lemmas.List.{length-append, length-replicate, length-drop, length-take, drop_all}
+use Rattle.s7_wire.specs.Sent.{sent_message, sent_messages}
 use Rattle.s7_wire.proofs.SendLemmas.{length-sent}
 use Rattle.s7_header.specs.declared.header.Kind.TheVariants.{Job as job_kind, User}
 use Rattle.s7_header.specs.declared.user_params.UserParams.{UserParams}
@@ -27,6 +28,7 @@ use Rattle.s7_dialogue.specs.DataPlaces.{part_count, question_for, room_for_valu
 use Rattle.s7_dialogue.specs.declared.config.Config.{Config}
 use Rattle.s7_dialogue.specs.declared.job.Job.{Job}
 use Rattle.s7_dialogue.specs.declared.job.Job.TheVariants as job
+use Rattle.s7_dialogue.specs.declared.download.Pieces.{Pieces}
 use Rattle.s7_dialogue.specs.declared.single.Ask.{Ask}
 use Rattle.s7_dialogue.specs.declared.single.Ask.TheVariants as ask
 use Rattle.s7_dialogue.specs.declared.single.Single.{Single}
@@ -36,9 +38,13 @@ use Rattle.s7_dialogue.specs.Checks.{octet_count_of, check_password}
 use Rattle.s7_dialogue.specs.Dialogue.{block_octets}
 use Rattle.s7_dialogue.specs.UserData.{request_params, further_params, data_of, filled_text, encoded_after, encoded}
 use Rattle.s7_dialogue.specs.Uploads.{start_params, id_params}
-use Rattle.s7_dialogue.specs.Question.{written, message_octets, question_octets}
-use Rattle.s7_dialogue.specs.Stages.{data_of_job, block_of, question_of_single, single_message, is_sent_well, can_ask_single, unput_by}
+use Rattle.s7_dialogue.specs.Question.{written, message_octets, question_octets, messages_of, gives}
+use Rattle.s7_dialogue.specs.Downloads.{name_in, announce_params}
+use Rattle.s7_dialogue.specs.Stages.{data_of_job, block_of, image_of, question_of_single, single_messages, is_sent_well, has_image, can_ask_single, unput_by}
+use Rattle.s7_dialogue.specs.Singles.{message_count}
 use Rattle.s7_dialogue.proofs.MessageLemmas.{written_sent}
+use Rattle.s7_dialogue.proofs.MessagesAskedLemmas.{each_message, count_asked, last_message, few_messages}
+use Rattle.s7_dialogue.proofs.DownloadImageLemmas.{IsGiven, image_given}
 use Rattle.s7_dialogue.proofs.DataPartLemmas.{byte_octets}
 use Rattle.s7_dialogue.proofs.DataReadLemmas.{write_sized, few_written}
 
@@ -95,7 +101,7 @@ data_few _ well = omega arith
 abbrev pub IsSent : List ℕ → Type 0
 IsSent message = (10 ≤ length message) × (length message ≤ most_pdu)
 
-job_small : (sequence : ℕ) (params : List ℕ) → length params ≤ 26 → IsSent (message_octets job_kind sequence params [])
+job_small : (sequence : ℕ) (params : List ℕ) → length params ≤ 32 → IsSent (message_octets job_kind sequence params [])
 job_small sequence params few =
     let long = length-append params [] in (omega (arith, long), omega (arith, few, long))
 
@@ -149,6 +155,27 @@ few_filled : (value : Option ℕ) (block : DataBlock) (place : Place) → has_pd
 few_filled None block place has is some = absurd (cc)
 few_filled (Some value) block place has is some = few_written block place value has is
 
+-- a piece of an image
+piece_sent : (image : List ℕ) (room from call sequence : ℕ) → room ≤ 1902
+    → IsSent (question_octets sequence (gives image room from call))
+piece_sent image room from call sequence few =
+    let short = length-take room (drop from image) in (omega arith, omega (arith, few, short))
+
+-- what is known of the image that a job gives
+given : (done : Job) (pieces : Pieces) (found : Bool) → (has_image done pieces && found) ≡ true
+    → IsGiven (image_of done) pieces
+given done pieces found can = image_given done pieces (and_parts (has_image done pieces) found can).0
+
+pub announce_given : (done : Job) (found : ℕ) (asked : Ask) (pieces : Pieces) → asked ≡ ask.Announce pieces
+    → can_ask_single done found asked ≡ true → IsGiven (image_of done) pieces
+announce_given done found asked pieces is can =
+    given done pieces (found == 0) (ap (can_ask_single done found) (sym is) ∙ can)
+
+pub insert_given : (done : Job) (found : ℕ) (asked : Ask) (pieces : Pieces) (call : ℕ) → asked ≡ ask.Insert pieces call
+    → can_ask_single done found asked ≡ true → IsGiven (image_of done) pieces
+insert_given done found asked pieces call is can =
+    given done pieces (found == 0) (ap (can_ask_single done found) (sym is) ∙ can)
+
 pub question_sent : (done : Job) (found sequence : ℕ) (asked : Ask) (so_far : List ℕ)
     → can_ask_single done found asked ≡ true
     → IsSent (question_octets sequence (question_of_single done asked so_far))
@@ -164,6 +191,14 @@ question_sent done found sequence (ask.Slice id size) so_far can =
     job_small sequence (id_params slice_function id) (omega arith)
 question_sent done found sequence (ask.UploadEnd id) so_far can =
     job_small sequence (id_params end_function id) (omega arith)
+question_sent done found sequence (ask.Announce pieces) so_far can =
+    job_small sequence (announce_params (image_of done)) (omega arith)
+question_sent done found sequence (ask.AwaitCall pieces) so_far can = job_small sequence [] (omega arith)
+question_sent done found sequence (ask.Give pieces from call) so_far can =
+    let writable = (and_parts (has_image done pieces && ltb from pieces.len) (found == 0) can).0 in
+    piece_sent (image_of done) pieces.room from call sequence (given done pieces (ltb from pieces.len) writable).few
+question_sent done found sequence (ask.Insert pieces call) so_far can =
+    control_small sequence (control.Insert (name_in (image_of done)).kind (name_in (image_of done)).number)
 question_sent done found sequence (ask.Head block) so_far can =
     user_small sequence (request_params DataHead) (block_octets 0x41 block.number) (omega arith)
 question_sent done found sequence (ask.HeadFurther block octet) so_far can =
@@ -175,35 +210,75 @@ question_sent done found sequence (ask.Part block place) so_far can =
     part_sent block.value block.number place.from (part_count block place) sequence
     (few_filled block.value block place has refl)
 
--- it is the same whatever came before
-pub same_message : (done : Job) (sequence : ℕ) (asked : Ask) (so_far : List ℕ)
-    → question_octets sequence (question_of_single done asked so_far)
-    ≡ question_octets sequence (question_of_single done asked [])
-same_message done sequence (ask.Control c) so_far = refl
-same_message done sequence (ask.About subject) so_far = refl
-same_message done sequence (ask.Further subject octet) so_far = refl
-same_message done sequence _ so_far = refl
-
 -- ---- what isn't put yet
 
-few_if : (b : Bool) (octets : List ℕ) → length octets ≤ 16256 → length (cond b octets []) ≤ 16256
-few_if true octets few = few
-few_if false octets few = omega arith
+pub sent_few : (size : ℕ) (messages : List (List ℕ)) → 128 ≤ size → AllByRecursion IsSent messages
+    → length (sent_messages size messages) ≤ 2032 * length messages
+sent_few size [] least sent = omega arith
+sent_few size (message ∷ messages) least sent =
+    let one : length (sent_message size message) ≤ 2032 =
+    length-sent message size (omega (arith, sent.0.1)) least in
+    omega (
+      arith,
+      length-append (sent_message size message) (sent_messages size messages),
+      one,
+      sent_few size messages least sent.1,
+    )
+
+all_dropped : {A : Type 0} (P : A → Type 0) (n : ℕ) (xs : List A) → AllByRecursion P xs → AllByRecursion P (drop n xs)
+all_dropped P zero xs all = all
+all_dropped P (suc n) [] all = tt
+all_dropped P (suc n) (x ∷ xs) all = all_dropped P n xs all.1
 
 pub single_few : (config : Config) (size : ℕ) (done : Job) (found : ℕ) (s : Single) → 128 ≤ size
     → can_ask_single done found s.ask ≡ true
     → length (unput_by config size done (stage.Single s)) ≤ 16256
 single_few config size done found s least can =
-    let message = single_message done s in
-    let sends : IsSent message = question_sent done found (unwrap_or s.out 0) s.ask [] can in
-    let sent : length (sent_message size message) ≤ 2032 = length-sent message size (omega (arith, sends.1)) least in
-    few_if s.unput (sent_message size message) (omega (arith, sent))
+    let number = unwrap_or s.out 0 in
+    let k = message_count s.ask - s.unput in
+    let sent =
+    all_dropped IsSent k (single_messages done s)
+    (each_message IsSent (question_of_single done s.ask []) number (λ call. (omega arith, omega arith))
+    (question_sent done found number s.ask [] can)) in
+    omega (
+      arith,
+      sent_few size (drop k (single_messages done s)) least sent,
+      length-drop k (single_messages done s),
+      count_asked done s.ask [] number,
+      few_messages s.ask,
+    )
 
-none_if : (b : Bool) (out : Option ℕ) (octets : List ℕ) → (b ≡ true → IsSome out) → out ≡ None → cond b octets [] ≡ []
-none_if true out octets put none = absurd (let e : false ≡ true = sym (ap is_some none) ∙ put refl in cc)
-none_if false out octets put none = refl
+-- nothing, where all was put or the question didn't go out
+pub none_unput : (size : ℕ) (done : Job) (asked : Ask) (sequence n : ℕ) → n ≡ 0
+    → sent_messages size (drop (message_count asked - n) (messages_of sequence (question_of_single done asked []))) ≡ []
+none_unput size done asked sequence n none =
+    ap (sent_messages size)
+    (drop_all (message_count asked - n) (messages_of sequence (question_of_single done asked []))
+    (omega (arith, none, count_asked done asked [] sequence)))
 
--- nothing, before the question went out
+none_out : (n : ℕ) (out : Option ℕ) → (0 < n → IsSome out) → out ≡ None → n ≡ 0
+none_out zero out put none = refl
+none_out (suc n) out put none = absurd (let e : false ≡ true = sym (ap is_some none) ∙ put (omega arith) in cc)
+
 pub unasked_unput : (config : Config) (size : ℕ) (done : Job) (s : Single) → s.out ≡ None
     → unput_by config size done (stage.Single s) ≡ []
-unasked_unput config size done s none = none_if s.unput s.out (sent_message size (single_message done s)) s.put none
+unasked_unput config size done s none =
+    none_unput size done s.ask (unwrap_or s.out 0) s.unput (none_out s.unput s.out s.put none)
+
+-- the last message that isn't put yet
+pub put_last : (size : ℕ) (done : Job) (asked : Ask) (sequence n : ℕ) (message : List ℕ) → 0 < n → n < 2
+    → n ≤ message_count asked → message ≡ question_octets sequence (question_of_single done asked [])
+    → sent_messages size
+    (drop (message_count asked - n) (messages_of sequence (question_of_single done asked [])))
+    ≡ sent_message size message
+    ++ sent_messages size
+    (drop (message_count asked - (n - 1)) (messages_of sequence (question_of_single done asked [])))
+put_last size done asked sequence n message some one most is =
+    let messages = messages_of sequence (question_of_single done asked []) in
+    let at : message_count asked - n ≡ message_count asked - 1 = omega (arith, some, one) in
+    let none : drop (message_count asked - (n - 1)) messages ≡ [] =
+    drop_all (message_count asked - (n - 1)) messages (omega (arith, some, one, count_asked done asked [] sequence)) in
+    ap (λ k. sent_messages size (drop k messages)) at
+    ∙ (ap (sent_messages size) (last_message done asked [] sequence (omega (arith, some, most)))
+    ∙ (ap (λ m. sent_message size m ++ []) (sym is)
+    ∙ ap (λ ms. sent_message size message ++ sent_messages size ms) (sym none)))

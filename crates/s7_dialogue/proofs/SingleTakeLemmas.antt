@@ -74,8 +74,8 @@ fills_alone r s config granted rows number message x h answers =
 pub none_alone : (r : Running) (s : Single) (found : List ℕ) (config : Config) (granted : Option Grant)
     (rows : List Row) (message : List ℕ)
     → r.stage ≡ stage.Single s → found ≡ r.found.items
-    → ((done : Job) (number : ℕ) → s.out ≡ Some number
-    → answer_of (question_of_single done s.ask (take s.len found)) number message ≡ None)
+    → ((number : ℕ) → s.out ≡ Some number
+    → answer_of (question_of_single r.job s.ask (take s.len found)) number message ≡ None)
     → Follows r config granted rows → filled rows message ≡ None
 none_alone r s found config granted rows message is same none follows = by_out s.out refl
   where
@@ -90,7 +90,7 @@ none_alone r s found config granted rows message is same none follows = by_out s
         let row : Row = record { question = asked_alone r s; number = number; answer = None } in
         let silent : answer_of (asked_alone r s) number message ≡ None =
         subst (λ (xs : List ℕ). answer_of (question_of_single r.job s.ask (take s.len xs)) number message ≡ None) same
-        (none r.job number out) in
+        (none number out) in
         none_filled message rows
         (subst (AllByRecursion (PassesBy message)) (sym h.are)
         (all_append (PassesBy message) h.before (row ∷ [])
@@ -99,10 +99,10 @@ none_alone r s found config granted rows message is same none follows = by_out s
 -- ---- what the code says of its answer
 
 -- this is told of the answer to the telegram that is out
-abbrev pub IsToldTo : Single → List ℕ → List ℕ → Told → Type 0
-IsToldTo s found message t =
-    (number : ℕ) × (s.out ≡ Some number) × ((done : Job) → TellsIfSome s.ask (take s.len found) t
-    (answer_of (question_of_single done s.ask (take s.len found)) number message))
+abbrev pub IsToldTo : Running → Single → List ℕ → List ℕ → Told → Type 0
+IsToldTo r s found message t =
+    (number : ℕ) × (s.out ≡ Some number) × TellsIfSome s.ask (take s.len found) t
+    (answer_of (question_of_single r.job s.ask (take s.len found)) number message)
 
 -- The answer is there, and this is told of it.
 record Tells (r : Running) (s : Single) (message : List ℕ) (t : Told) : Type 0 where
@@ -118,12 +118,11 @@ told_some asked so_far t None h = absurd h
 told_some asked so_far t (Some x) h = (x, refl, h)
 
 tells_as : (r : Running) (s : Single) (found message : List ℕ) (t t' : Told) → found ≡ r.found.items
-    → IsToldTo s found message t → t ≡ t' → Tells r s message t'
+    → IsToldTo r s found message t → t ≡ t' → Tells r s message t'
 tells_as r s found message t t' same of is =
-    let now : IsToldTo s r.found.items message t' =
-    subst (IsToldTo s r.found.items message) is (subst (λ (xs : List ℕ). IsToldTo s xs message t) same of) in
-    let some =
-    told_some s.ask (take s.len r.found.items) t' (answer_of (asked_alone r s) now.0 message) (now.2 r.job) in
+    let now : IsToldTo r s r.found.items message t' =
+    subst (IsToldTo r s r.found.items message) is (subst (λ (xs : List ℕ). IsToldTo r s xs message t) same of) in
+    let some = told_some s.ask (take s.len r.found.items) t' (answer_of (asked_alone r s) now.0 message) now.2 in
     record { number = now.0; out = now.1; answer = some.0; is = some.1; tells = some.2 }
 
 -- ---- the job is over
@@ -161,7 +160,7 @@ ends_alone r r' s config granted course number last message x end h answers ends
 -- by a refusal
 pub refused_alone : (r r' : Running) (s : Single) (found message : List ℕ) (t : Told) (number last : ℕ)
     (config : Config) (granted : Option Grant) (course : Course)
-    → r.stage ≡ stage.Single s → found ≡ r.found.items → IsToldTo s found message t → t ≡ told.Refused number
+    → r.stage ≡ stage.Single s → found ≡ r.found.items → IsToldTo r s found message t → t ≡ told.Refused number
     → Follows r config granted course.rows → course.sequence ≡ last
     → awaited_in r' [] ≡ for_nothing (number_end number AsItWas) [] → IsOver r'.stage
     → IsTakenBy message config granted course r.job r' last
@@ -178,7 +177,7 @@ refused_alone r r' s found message t number last config granted course is same o
 pub record Fits (r : Running) (s : Single) (octets : List ℕ) (next : Option Ask) : Type 0 where
   pub room : s.len + length octets ≤ length r.found.items
   pub whole : length r.found.items ≡ room_for s.ask
-  pub on : (a : Ask) → next ≡ Some a → IsNext s.ask s.len octets a
+  pub on : (a : Ask) → next ≡ Some a → IsNext r.job s.ask s.len octets a
 
 can_alone : (r : Running) (s : Single) → r.stage ≡ stage.Single s
     → (is_writable r.job s.ask ≡ true) × ((length r.found.items == room_for s.ask) ≡ true)
@@ -193,14 +192,18 @@ writable_alone r s is = (can_alone r s is).0
 places : (r : Running) (s : Single) → r.stage ≡ stage.Single s → length r.found.items ≡ room_for s.ask
 places r s is = eqb-true (length r.found.items) (room_for s.ask) (can_alone r s is).1
 
+-- there is a place for each octet that came
+came_alone : (r : Running) (s : Single) → r.stage ≡ stage.Single s → length (take s.len r.found.items) ≡ s.len
+came_alone r s is =
+    let whole = places r s is in
+    length-take-le s.len r.found.items (omega (arith, whole, s.most))
+
 fits_as : (r : Running) (s : Single) (message : List ℕ) (octets : Bor (List ℕ)) (next : Option Ask)
     → r.stage ≡ stage.Single s → Tells r s message (told.Brought octets next) → Fits r s octets.now next
 fits_as r s message octets next is h =
     let whole = places r s is in
-    let came : length (take s.len r.found.items) ≡ s.len =
-    length-take-le s.len r.found.items (omega (arith, whole, s.most)) in
     let few : length octets.now ≤ most_brought s.ask s.len =
-    subst (λ (n : ℕ). length octets.now ≤ most_brought s.ask n) came h.tells.1 in
+    subst (λ (n : ℕ). length octets.now ≤ most_brought s.ask n) (came_alone r s is) h.tells.1 in
     record {
       room = omega (arith, whole, room_within s.ask s.len (length octets.now) s.most few);
       whole = whole;
@@ -210,7 +213,7 @@ fits_as r s message octets next is h =
 
 pub fits_told : (r : Running) (s : Single) (found message : List ℕ) (t : Told) (octets : Bor (List ℕ))
     (next : Option Ask)
-    → r.stage ≡ stage.Single s → found ≡ r.found.items → IsToldTo s found message t → t ≡ told.Brought octets next
+    → r.stage ≡ stage.Single s → found ≡ r.found.items → IsToldTo r s found message t → t ≡ told.Brought octets next
     → Fits r s octets.now next
 fits_told r s found message t octets next is same of told_is =
     fits_as r s message octets next is (tells_as r s found message t (told.Brought octets next) same of told_is)
@@ -234,18 +237,19 @@ kept_before r s config granted rows number h = record { are = h.brought; left = 
 -- that answer, behind those before it
 behind_out : (r : Running) (s : Single) (config : Config) (granted : Option Grant) (rows : List Row) (number : ℕ)
     (x : Answer) (octets : List ℕ) (next : Option Ask)
-    → is_writable r.job s.ask ≡ true
+    → r.stage ≡ stage.Single s
     → (h : IsOut r s config granted rows number) → BringsOn s.ask octets next x
     → GoesBehind r.job (conduct_of_single r.job s.ask) (lead_in s.ask) (answers_of h.before) x
     (take s.len r.found.items ++ octets) next
-behind_out r s config granted rows number x octets next writable h tells =
-    goes_behind r.job s.ask (answers_of h.before) x (take s.len r.found.items) octets next writable h.next
-    (kept_before r s config granted rows number h) tells
+behind_out r s config granted rows number x octets next is h tells =
+    let came = came_alone r s is in
+    goes_behind r.job s.ask (answers_of h.before) x (take s.len r.found.items) octets next (writable_alone r s is)
+    (omega (arith, came, s.most)) h.next (kept_before r s config granted rows number h) tells
 
 -- nothing more is asked
 pub ended_alone : (r r' : Running) (s : Single) (found message found' : List ℕ) (t : Told) (octets : Bor (List ℕ))
     (next : Option Ask) (lead last : ℕ) (config : Config) (granted : Option Grant) (course : Course)
-    → r.stage ≡ stage.Single s → found ≡ r.found.items → IsToldTo s found message t → t ≡ told.Brought octets next
+    → r.stage ≡ stage.Single s → found ≡ r.found.items → IsToldTo r s found message t → t ≡ told.Brought octets next
     → next ≡ None → found' ≡ placed r s octets.now → lead ≡ lead_in s.ask → Follows r config granted course.rows
     → course.sequence ≡ last
     → awaited_in r' [] ≡ for_nothing (good_end (drop lead (take (s.len + length octets.now) found')) r.codes) []
@@ -257,7 +261,7 @@ ended_alone r r' s found message found' t octets next lead last config granted c
     let stands = stands_at r s config granted course.rows (Some h.number) is h.out follows in
     let came = take s.len r.found.items in
     let n : ℕ = lead_in s.ask in
-    let goes = behind_out r s config granted course.rows h.number h.answer octets.now next (writable_alone r s is)
+    let goes = behind_out r s config granted course.rows h.number h.answer octets.now next is
     stands h.tells.0 in
     let ends =
     ends_behind r.job (conduct_of_single r.job s.ask) n (answers_of stands.before) h.answer (came ++ octets.now) next
@@ -343,7 +347,7 @@ goes_alone r r' s message found' t all next a len' last config granted course h 
 
 pub next_alone : (r r' : Running) (s : Single) (found message found' : List ℕ) (t : Told) (octets : Bor (List ℕ))
     (next : Option Ask) (a : Ask) (last : ℕ) (config : Config) (granted : Option Grant) (course : Course)
-    → r.stage ≡ stage.Single s → found ≡ r.found.items → IsToldTo s found message t → t ≡ told.Brought octets next
+    → r.stage ≡ stage.Single s → found ≡ r.found.items → IsToldTo r s found message t → t ≡ told.Brought octets next
     → next ≡ Some a → found' ≡ placed r s octets.now → Follows r config granted course.rows
     → ((now : Course) → IsNextOf config granted now.rows r.job found' r.codes a (s.len + length octets.now)
     → now.sequence ≡ course.sequence
@@ -354,7 +358,7 @@ next_alone r r' s found message found' t octets next a last config granted cours
     let h = tells_as r s found message t (told.Brought octets next) same of told_is in
     let fits = fits_as r s message octets next is h in
     let stands = stands_at r s config granted course.rows (Some h.number) is h.out follows in
-    let goes = behind_out r s config granted course.rows h.number h.answer octets.now next (writable_alone r s is)
+    let goes = behind_out r s config granted course.rows h.number h.answer octets.now next is
     stands h.tells.0 in
     goes_alone r r' s message found' (told.Brought octets next) (take s.len r.found.items ++ octets.now) next a
     (s.len + length octets.now) last config granted course h stands goes next_is
@@ -368,7 +372,7 @@ pub next_ready : (r : Running) (s : Single) (octets : List ℕ) (next : Option A
     → Fits r s octets next → next ≡ Some a → n ≡ length r.found.items → can_ask_single r.job n a ≡ true
 next_ready r s octets next a n fits is same =
     let ready = fits.on a is in
-    ap₂ (λ writable all. writable && all) (ready.writable r.job)
+    ap₂ (λ writable all. writable && all) ready.writable
     (eq-eqb n (room_for a) (same ∙ (fits.whole ∙ sym ready.room)))
 
 -- ---- octets come anew
@@ -384,7 +388,9 @@ pub record IsAnew (r : Running) (s : Single) (a : Ask) : Type 0 where
 few_data : (octets : List ℕ) → tells_data octets ≡ true → data_length octets ≤ 2097152
 few_data octets is =
     let load : ℕ = four_at octets 12 in
-    let both = and_parts (leb 37 load) (leb load 2097188) (and_parts (eqb (length octets) 40) (leb 37 load && leb load 2097188) is).1 in
+    let both =
+    and_parts (leb 37 load) (leb load 2097188)
+    (and_parts (eqb (length octets) 40) (leb 37 load && leb load 2097188) is).1 in
     omega (arith, leb-true load 2097188 both.1)
 
 comes_all : (value : Option ℕ) (left : ℕ) → left ≤ 2097152 → comes_for value left ≤ room_for_value value
@@ -427,14 +433,14 @@ anew_by r s (ask.HeadFurther block octet) so_far a x is writable whole told =
 anew_by r s _ so_far a x is writable whole told = absurd told
 
 pub anew_told : (r : Running) (s : Single) (found message : List ℕ) (t : Told) (a : Ask)
-    → r.stage ≡ stage.Single s → found ≡ r.found.items → IsToldTo s found message t → t ≡ told.Anew a → IsAnew r s a
+    → r.stage ≡ stage.Single s → found ≡ r.found.items → IsToldTo r s found message t → t ≡ told.Anew a → IsAnew r s a
 anew_told r s found message t a is same of told_is =
     let h = tells_as r s found message t (told.Anew a) same of told_is in
     anew_by r s s.ask (take s.len r.found.items) a h.answer refl (writable_alone r s is) (places r s is) h.tells
 
 pub anew_alone : (r r' : Running) (s : Single) (found message : List ℕ) (t : Told) (a : Ask) (last : ℕ)
     (config : Config) (granted : Option Grant) (course : Course)
-    → r.stage ≡ stage.Single s → found ≡ r.found.items → IsToldTo s found message t → t ≡ told.Anew a
+    → r.stage ≡ stage.Single s → found ≡ r.found.items → IsToldTo r s found message t → t ≡ told.Anew a
     → Follows r config granted course.rows
     → ((now : Course) → IsNextOf config granted now.rows r.job r.found.items r.codes a 0
     → now.sequence ≡ course.sequence

@@ -9,27 +9,31 @@ use Rattle.std.proofs.lemmas.Slice.{take-put_mid}
 use borrow.Rule.Slice.PartMut.{put_mid}
 use Rattle.s7_header.specs.declared.header.Header.{Header}
 use Rattle.s7_header.specs.declared.header.Kind.{Kind}
-use Rattle.s7_header.specs.declared.header.Kind.TheVariants.{AckData}
+use Rattle.s7_header.specs.declared.header.Kind.TheVariants as kind
 use Rattle.s7_header.specs.Header.{header_of, params_of, body_of}
 use Rattle.s7_header.specs.UserParams.{user_params_of}
 use Rattle.s7_header.specs.declared.user_params.UserParams.{UserParams}
 use Rattle.s7_header.specs.declared.faults.BadParams.{BadParams}
 use Rattle.s7_szl.specs.Joining.{is_refused}
+use Rattle.s7_item.specs.declared.item.Item.{Item}
 use Rattle.s7_dialogue.specs.declared.job.Job.{Job}
 use Rattle.s7_dialogue.specs.declared.data_block.DataBlock.{DataBlock}
 use Rattle.s7_dialogue.specs.declared.data_block.Place.{Place}
 use Rattle.s7_dialogue.specs.declared.subject.Subject.{Subject}
 use Rattle.s7_dialogue.specs.declared.subject.Subject.TheVariants.{DataHead}
+use Rattle.s7_dialogue.specs.declared.download.Pieces.{Pieces}
 use Rattle.s7_dialogue.specs.declared.single.Ask.{Ask}
 use Rattle.s7_dialogue.specs.declared.single.Ask.TheVariants as ask
 use Rattle.s7_dialogue.specs.declared.user_data.Told.{Told}
 use Rattle.s7_dialogue.specs.declared.user_data.Told.TheVariants as told
 use Rattle.s7_dialogue.specs.UserData.{is_whole, goes_on_with}
+use Rattle.s7_dialogue.specs.Question.{Question}
 use Rattle.s7_dialogue.specs.Answer.{Answer, brings, refuses, acknowledged, by_params, answered_by_user, by_kind, answer_of}
-use Rattle.s7_dialogue.specs.DataPlaces.{has_pdu, is_inside}
+use Rattle.s7_dialogue.specs.Answer.{awaits_server, called, by_call}
+use Rattle.s7_dialogue.specs.DataPlaces.{part_at, question_for, has_pdu, is_inside}
 use Rattle.s7_dialogue.specs.Stages.{question_of_single, is_writable}
 use Rattle.s7_dialogue.specs.Singles.{TellsSingle, TellsIfSome, IsWholeIfLast}
-use Rattle.s7_dialogue.proofs.AnswerLemmas.{at_kind}
+use Rattle.s7_dialogue.proofs.AnswerLemmas.{at_kind, at_call}
 use Rattle.s7_dialogue.proofs.BringLemmas.{GoesBehind, params_fit}
 use Rattle.s7_dialogue.proofs.DataReadLemmas.{place_within}
 
@@ -38,38 +42,81 @@ abbrev pub IsToldSingle : Ask → List ℕ → Option Told → Option Answer →
 IsToldSingle asked so_far result answer =
     MatchOption result (answer ≡ None) (λ told. TellsIfSome asked so_far told answer)
 
--- what is told of a message with a header of this kind, and the sequence
-pub some_told : (asked : Ask) (so_far : List ℕ) (sequence : ℕ) (message : List ℕ) (h : Header) (kind : Kind)
-    (result : Option Told) → header_of message ≡ Ok h → h.sequence ≡ sequence → h.kind ≡ kind
-    → ((job : Job) → IsToldSingle asked so_far result
-    (by_kind kind (question_of_single job asked so_far) h message))
-    → IfSome result (λ told. (job : Job) → TellsIfSome asked so_far told
-    (answer_of (question_of_single job asked so_far) sequence message))
-some_told asked so_far sequence message h kind None read same is told = tt
-some_told asked so_far sequence message h kind (Some x) read same is told = λ job.
-    subst (TellsIfSome asked so_far x)
-    (sym (at_kind (question_of_single job asked so_far) sequence message h kind read same is)) (told job)
+pub some_told : (asked : Ask) (so_far : List ℕ) (result : Option Told) (answer : Option Answer)
+    → IsToldSingle asked so_far result answer → IfSome result (λ told. TellsIfSome asked so_far told answer)
+some_told asked so_far None answer told = tt
+some_told asked so_far (Some x) answer told = told
 
-pub none_told : (asked : Ask) (so_far : List ℕ) (sequence : ℕ) (message : List ℕ) (h : Header) (kind : Kind)
-    (result : Option Told) → header_of message ≡ Ok h → h.sequence ≡ sequence → h.kind ≡ kind
-    → ((job : Job) → IsToldSingle asked so_far result
-    (by_kind kind (question_of_single job asked so_far) h message))
-    → IfNone result ((job : Job) → answer_of (question_of_single job asked so_far) sequence message ≡ None)
-none_told asked so_far sequence message h kind None read same is told = λ job.
-    at_kind (question_of_single job asked so_far) sequence message h kind read same is ∙ told job
-none_told asked so_far sequence message h kind (Some x) read same is told = tt
+pub none_told : (asked : Ask) (so_far : List ℕ) (result : Option Told) (answer : Option Answer)
+    → IsToldSingle asked so_far result answer → IfNone result (answer ≡ None)
+none_told asked so_far None answer told = told
+none_told asked so_far (Some x) answer told = tt
+
+-- ---- whose message it is
+
+part_mine : (value : Option ℕ) (item : Item) → awaits_server (question_for value item) ≡ false
+part_mine None item = refl
+part_mine (Some value) item = refl
+
+-- a job of the server's is awaited for these alone
+pub awaits_none : (job : Job) (asked : Ask) (so_far : List ℕ)
+    → ((pieces : Pieces) → asked ≡ ask.AwaitCall pieces → ⊥)
+    → ((pieces : Pieces) (from call : ℕ) → asked ≡ ask.Give pieces from call → ⊥)
+    → awaits_server (question_of_single job asked so_far) ≡ false
+awaits_none job (ask.AwaitCall pieces) so_far first behind = absurd (first pieces refl)
+awaits_none job (ask.Give pieces from call) so_far first behind = absurd (behind pieces from call refl)
+awaits_none job (ask.Part block place) so_far first behind = part_mine block.value (part_at block place)
+awaits_none job _ so_far first behind = refl
+
+-- what is told of a message with a header of this kind, and the sequence
+pub kind_told : (job : Job) (asked : Ask) (so_far : List ℕ) (sequence : ℕ) (message : List ℕ) (h : Header)
+    (kind : Kind) (result : Option Told) → awaits_server (question_of_single job asked so_far) ≡ false
+    → header_of message ≡ Ok h → h.sequence ≡ sequence → h.kind ≡ kind
+    → IsToldSingle asked so_far result (by_kind kind (question_of_single job asked so_far) h message)
+    → IsToldSingle asked so_far result (answer_of (question_of_single job asked so_far) sequence message)
+kind_told job asked so_far sequence message h kind result mine read same is told =
+    subst (IsToldSingle asked so_far result)
+    (sym (at_kind (question_of_single job asked so_far) sequence message h kind mine read same is)) told
+
+-- or where a job of the server's is awaited
+pub call_told : (job : Job) (asked : Ask) (so_far : List ℕ) (sequence : ℕ) (message : List ℕ) (h : Header)
+    (result : Option Told) → awaits_server (question_of_single job asked so_far) ≡ true → header_of message ≡ Ok h
+    → IsToldSingle asked so_far result (by_call h.kind (question_of_single job asked so_far) h message)
+    → IsToldSingle asked so_far result (answer_of (question_of_single job asked so_far) sequence message)
+call_told job asked so_far sequence message h result awaits read told =
+    subst (IsToldSingle asked so_far result)
+    (sym (at_call (question_of_single job asked so_far) sequence message h awaits read)) told
+
+-- what its job tells where this is asked
+pub call_of : (job : Job) (asked asks : Ask) (so_far message params body : List ℕ) (h : Header) (result : Option Told)
+    (question : Question)
+    → asked ≡ asks → h.kind ≡ kind.Job → params ≡ params_of message h → body ≡ body_of message h
+    → question ≡ question_of_single job asks so_far
+    → IsToldSingle asks so_far result (called question h.sequence params body)
+    → IsToldSingle asked so_far result (by_call h.kind (question_of_single job asked so_far) h message)
+call_of job asked asks so_far message params body h result question is kind_is front back same told =
+    subst (λ (a : Ask). IsToldSingle a so_far result (by_call h.kind (question_of_single job a so_far) h message))
+    (sym is)
+    (subst
+    (λ (k : Kind). IsToldSingle asks so_far result (by_call k (question_of_single job asks so_far) h message))
+    (sym kind_is)
+    (subst
+    (λ (q : Question). IsToldSingle asks so_far result
+    (called q h.sequence (params_of message h) (body_of message h)))
+    same
+    (subst (IsToldSingle asks so_far result) (ap₂ (called question h.sequence) front back) told)))
 
 -- what an acknowledgement with data tells
-pub acknowledgement_told : (asked : Ask) (so_far message params body : List ℕ) (h : Header) (result : Option Told)
+pub acknowledgement_told : (job : Job) (asked : Ask) (so_far message params body : List ℕ) (h : Header)
+    (result : Option Told)
     → params ≡ params_of message h → body ≡ body_of message h
-    → ((job : Job) → IsToldSingle asked so_far result
-    (if h.error == 0 then acknowledged (question_of_single job asked so_far) params body else None))
-    → (job : Job) → IsToldSingle asked so_far result
-    (by_kind AckData (question_of_single job asked so_far) h message)
-acknowledgement_told asked so_far message params body h result front back told job =
+    → IsToldSingle asked so_far result
+    (if h.error == 0 then acknowledged (question_of_single job asked so_far) params body else None)
+    → IsToldSingle asked so_far result (by_kind kind.AckData (question_of_single job asked so_far) h message)
+acknowledgement_told job asked so_far message params body h result front back told =
     subst (IsToldSingle asked so_far result)
     (ap₂ (λ xs ys. if h.error == 0 then acknowledged (question_of_single job asked so_far) xs ys else None) front back)
-    (told job)
+    told
 
 -- what is told where this is asked, and there is no error
 pub told_of : (asked asks : Ask) (so_far params body : List ℕ) (error : ℕ) (result : Option Told) (job : Job)

@@ -1,7 +1,8 @@
 -- What answers a client's telegrams (Snap7 1.4 reference manual, and its public sources). An answer
 -- has the sequence of its telegram. A job is answered by an acknowledgement with data and no error,
--- user data by user data, and either by a refusal, an acknowledgement with an error word alone.
-use Rattle.std.specs.Prelude.{ℕ, ◌+◌, Bool, true, not, ◌==◌, ◌&&◌, nat_le, List, [], ◌∷◌, length, drop, take, slice_index, Option, None, Some, option_map, Result, Ok, Err, if◌then◌else◌}
+-- user data by user data, and either by a refusal, an acknowledgement with an error word alone. In a download the server
+-- goes on with jobs of its own, which have sequences of its own.
+use Rattle.std.specs.Prelude.{ℕ, ◌+◌, Bool, true, false, not, ◌==◌, ◌&&◌, nat_le, List, [], ◌∷◌, length, drop, take, slice_index, Option, None, Some, option_map, Result, Ok, Err, if◌then◌else◌}
 use Rattle.s7_header.specs.Octets.{number_at}
 use Rattle.s7_header.specs.declared.header.Header.{Header}
 use Rattle.s7_header.specs.declared.header.Kind.{Kind}
@@ -18,13 +19,15 @@ use Rattle.s7_item.specs.DataItem.{stated_length, padding_of}
 use Rattle.s7_header.specs.declared.user_params.UserParams.{UserParams}
 use Rattle.s7_header.specs.UserParams.{user_params_of}
 use Rattle.s7_block.specs.Slices.{Piece}
-use Rattle.s7_block.specs.Telegrams.{end_function}
+use Rattle.s7_block.specs.Telegrams.{announce_function, piece_function, end_function}
 use Rattle.s7_clock.specs.declared.control.Control.{Control}
 use Rattle.s7_clock.specs.declared.control.Control.TheVariants as control
 use Rattle.s7_dialogue.specs.declared.subject.Subject.{Subject}
 use Rattle.s7_dialogue.specs.UserData.{octets_in, answers_about, goes_on_with}
 use Rattle.s7_dialogue.specs.Question.{Question, negotiates, reads, writes, controls, asks, asks_further}
 use Rattle.s7_dialogue.specs.Question.{starts_upload, slices_upload, ends_upload}
+use Rattle.s7_dialogue.specs.Question.{announces, awaits_call, gives, inserts}
+use Rattle.s7_dialogue.specs.Downloads.{name_in, piece_at, is_call, function_behind}
 use Rattle.s7_dialogue.specs.Uploads.{upload_size, slice_in, fitting}
 
 -- the answer for one item that was read: its return code, and its octets where that is FF
@@ -49,6 +52,10 @@ pub data Answer : Type 0 where
   slices : (more : Bool) → (octets : List ℕ) → Answer
   -- that an upload has ended
   uploaded : Answer
+  -- that a download has begun
+  announced : Answer
+  -- that the server asks on in a download, by a job of this sequence
+  calls : (sequence : ℕ) → Answer
   -- the error word of a refusal
   refuses : (error : ℕ) → Answer
 
@@ -127,6 +134,13 @@ acknowledged (starts_upload name) params body =
 acknowledged (slices_upload id size so_far) params body = option_map sliced (fitting size so_far (slice_in params body))
 acknowledged (ends_upload id) params body =
     if length params == 1 && slice_index params 0 == end_function && length body == 0 then Some uploaded else None
+acknowledged (announces image) params body =
+    if length params == 1 && slice_index params 0 == announce_function && length body == 0 then Some announced else None
+acknowledged (awaits_call image) params body = None
+acknowledged (gives image room from call) params body = None
+acknowledged (inserts image call) params body =
+    if tells_status (control.Insert (name_in image).kind (name_in image).number) params && length body == 0
+    then Some (stands (slice_index params 1)) else None
 
 -- ---- user data
 
@@ -163,6 +177,10 @@ answered_by_user (controls control) params body = None
 answered_by_user (starts_upload name) params body = None
 answered_by_user (slices_upload id size so_far) params body = None
 answered_by_user (ends_upload id) params body = None
+answered_by_user (announces image) params body = None
+answered_by_user (awaits_call image) params body = None
+answered_by_user (gives image room from call) params body = None
+answered_by_user (inserts image call) params body = None
 answered_by_user (asks subject octets) params body = by_params subject None [] body (user_params_of params)
 answered_by_user (asks_further subject octet so_far) params body =
     by_params subject (Some octet) so_far body (user_params_of params)
@@ -175,10 +193,36 @@ by_kind AckData question h message =
     if h.error == 0 then acknowledged question (params_of message h) (body_of message h) else None
 by_kind User question h message = answered_by_user question (params_of message h) (body_of message h)
 
+-- ---- jobs of the server's
+
+-- a job of the server's is awaited
+abbrev pub awaits_server : Question → Bool
+awaits_server (awaits_call image) = true
+awaits_server (gives image room from call) = true
+awaits_server _ = false
+
+-- what its job of this sequence answers, with these parameters and data: it asks for the first piece, or goes on behind
+-- the one that was given
+abbrev pub called : Question → ℕ → List ℕ → List ℕ → Option Answer
+called (awaits_call image) sequence params body =
+    if is_call piece_function (name_in image) params body then Some (calls sequence) else None
+called (gives image room from call) sequence params body =
+    if is_call (function_behind (piece_at image room from)) (name_in image) params body then Some (calls sequence)
+    else None
+called _ sequence params body = None
+
+-- no other message does
+abbrev pub by_call : Kind → Question → Header → List ℕ → Option Answer
+by_call Job question h message = called question h.sequence (params_of message h) (body_of message h)
+by_call Ack question h message = None
+by_call AckData question h message = None
+by_call User question h message = None
+
 abbrev pub by_header : Question → ℕ → List ℕ → Result Header HeaderFault → Option Answer
 by_header question sequence message (Err fault) = None
 by_header question sequence message (Ok h) =
-    if h.sequence == sequence then by_kind h.kind question h message else None
+    if awaits_server question then by_call h.kind question h message
+    else (if h.sequence == sequence then by_kind h.kind question h message else None)
 
 -- WHAT A MESSAGE ANSWERS to a question of this sequence, and nothing where it is no answer to it
 unfoldable pub answer_of : Question → ℕ → List ℕ → Option Answer

@@ -8,6 +8,8 @@ use Rattle.s7_split.specs.Parts.{range_end}
 use Rattle.s7_split.specs.Groups.{packed_of}
 use Rattle.s7_split.specs.declared.packing.PackFault.{PackFault}
 use Rattle.s7_clock.specs.Moment.{first_moment, last_moment}
+use Rattle.s7_block.specs.Heads.{head_agrees}
+use Rattle.s7_dialogue.specs.Downloads.{name_in}
 use Rattle.s7_dialogue.specs.Codes.{no_fault, invalid_parameters, too_many_items, invalid_word, over_pdu}
 
 abbrev pub is_known : Item → Bool
@@ -43,6 +45,11 @@ check_moment moment =
 abbrev pub check_password : List ℕ → ℕ
 check_password text =
     if nat_lt 0 (length text) && nat_le (length text) 8 then no_fault else invalid_parameters
+
+-- of the image of a block: 36 to 65,536 octets, with a head that is its own
+abbrev pub check_image : List ℕ → ℕ
+check_image image =
+    if head_agrees image (name_in image).kind (name_in image).number then no_fault else invalid_parameters
 
 -- of a read or write of several
 abbrev pub check_items : List Item → Bool → ℕ → Bool → ℕ

@@ -11,12 +11,12 @@ use Rattle.s7_cotp.specs.Spelling.{spelling_of_connect, spelling_of_disconnect}
 use Rattle.s7_cotp.specs.Messages.{Step, more, whole, too_many_fragments, too_long, joined_with}
 use Rattle.s7_cotp.specs.declared.tpdu.CotpFault.{CotpFault}
 use Rattle.s7_wire.specs.Bounds.{message_limit, first_limit, size_of_code, limit_of_size}
-use Rattle.s7_wire.specs.Sent.{sent_message}
+use Rattle.s7_wire.specs.Sent.{sent_messages}
 use Rattle.s7_dialogue.specs.declared.config.Config.{Config}
 use Rattle.s7_dialogue.specs.declared.job.Job.{Job}
 use Rattle.s7_dialogue.specs.declared.grant.Grant.{Grant}
 use Rattle.s7_dialogue.specs.Codes.{not_connected, link_ended, bad_packet, short_message, message_too_fragmented, message_too_long, invalid_answer}
-use Rattle.s7_dialogue.specs.Question.{Question, question_octets}
+use Rattle.s7_dialogue.specs.Question.{Question, is_numbered, messages_of}
 use Rattle.s7_dialogue.specs.Flight.{Row, answers_of, open_count, filled}
 use Rattle.s7_dialogue.specs.Dialogue.{End, fault_end, Conduct, First, nothing, connect_request, disconnect_request, first_refusal, is_connect, plan_of}
 
@@ -98,12 +98,20 @@ next_question c rows =
     if nat_lt (open_count rows) c.width && is_none (first_refusal c.refusal 0 (answers_of rows))
     then c.question_at (answers_of rows) else None
 
--- a question goes out under the next sequence
+-- the sequence behind a question: the next one, under which it goes out, where it is numbered
+abbrev pub sequence_behind : ℕ → Question → ℕ
+sequence_behind sequence question = if is_numbered question then next_sequence sequence else sequence
+
+-- a question goes out
 abbrev pub asked : Course → Question → Course
 asked course question = record course {
-  rows = course.rows ++ record { question = question; number = next_sequence course.sequence; answer = None } ∷ [];
-  sequence = next_sequence course.sequence;
-  out = course.out ++ sent_message course.size (question_octets (next_sequence course.sequence) question);
+  rows =
+      course.rows
+      ++ record { question = question; number = sequence_behind course.sequence question; answer = None } ∷ [];
+  sequence = sequence_behind course.sequence question;
+  out =
+      course.out
+      ++ sent_messages course.size (messages_of (sequence_behind course.sequence question) question);
 }
 
 abbrev pub if_some : Option Question → Course → (Question → Course) → Course

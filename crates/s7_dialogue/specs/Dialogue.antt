@@ -1,6 +1,6 @@
 -- The dialogue of a job: what goes out first, which question may be asked next, and how the job ends, by the answers
 -- so far.
-use Rattle.std.specs.Prelude.{ℕ, ◌+◌, Bool, true, false, ◌==◌, ◌||◌, ◌&&◌, nat_lt, min, max, List, [], ◌∷◌, ◌++◌, length, take, drop, map, slice_get, Option, None, Some, if◌then◌else◌, replicate}
+use Rattle.std.specs.Prelude.{ℕ, ◌+◌, ◌*◌, Bool, true, false, ◌==◌, ◌||◌, ◌&&◌, nat_lt, min, max, List, [], ◌∷◌, ◌++◌, length, take, drop, map, slice_get, Option, None, Some, if◌then◌else◌, replicate}
 use Rattle.std.specs.List.{flat_map}
 use Rattle.s7_outer.specs.Numbers.{two_octets}
 use Rattle.s7_header.specs.declared.negotiation.Negotiation.{Negotiation}
@@ -27,9 +27,12 @@ use Rattle.s7_dialogue.specs.UserData.{comes_in_pieces, lead_of, filled_text, en
 use Rattle.s7_dialogue.specs.DataBlocks.{data_length, data_parts}
 use Rattle.s7_dialogue.specs.Question.{Question, negotiates, reads, writes, controls, asks, asks_further}
 use Rattle.s7_dialogue.specs.Question.{starts_upload, slices_upload, ends_upload}
-use Rattle.s7_dialogue.specs.Answer.{Answer, grants, tells, notes, stands, brings, uploads, slices, uploaded, refuses, ItemAnswer}
-use Rattle.s7_dialogue.specs.Refusals.{telegram_refusal, part_refusal, control_refusal}
-use Rattle.s7_dialogue.specs.Checks.{check_item, check_items, check_moment, check_password, octet_count_of}
+use Rattle.s7_dialogue.specs.Question.{announces, awaits_call, gives, inserts}
+use Rattle.s7_dialogue.specs.Downloads.{piece_room}
+use Rattle.s7_dialogue.specs.Answer.{Answer, grants, tells, notes, stands, brings, uploads, slices, uploaded, announced, calls, refuses}
+use Rattle.s7_dialogue.specs.Answer.{ItemAnswer}
+use Rattle.s7_dialogue.specs.Refusals.{telegram_refusal, part_refusal, control_refusal, download_refusal}
+use Rattle.s7_dialogue.specs.Checks.{check_item, check_items, check_moment, check_password, check_image, octet_count_of}
 
 pub record End : Type 0 where
   -- 0, or the number of an error
@@ -104,6 +107,8 @@ negotiated_by config (brings octet more octets) = number_end negotiation_failed 
 negotiated_by config (uploads id size) = number_end negotiation_failed Closed
 negotiated_by config (slices more octets) = number_end negotiation_failed Closed
 negotiated_by config uploaded = number_end negotiation_failed Closed
+negotiated_by config announced = number_end negotiation_failed Closed
+negotiated_by config (calls sequence) = number_end negotiation_failed Closed
 
 abbrev pub negotiated : Config → List (Option Answer) → End
 negotiated config [] = number_end negotiation_failed Closed
@@ -175,6 +180,8 @@ items_told (brings octet more octets) = []
 items_told (uploads id size) = []
 items_told (slices more octets) = []
 items_told uploaded = []
+items_told announced = []
+items_told (calls sequence) = []
 items_told (refuses error) = []
 
 -- the return codes of items, read or written
@@ -187,6 +194,8 @@ codes_in (brings octet more octets) = []
 codes_in (uploads id size) = []
 codes_in (slices more octets) = []
 codes_in uploaded = []
+codes_in announced = []
+codes_in (calls sequence) = []
 codes_in (refuses error) = []
 
 abbrev pub of_answer : (Answer → List ℕ) → Option Answer → List ℕ
@@ -243,6 +252,8 @@ octets_in (brings octet more octets) = octets
 octets_in (slices more octets) = octets
 octets_in (uploads id size) = []
 octets_in uploaded = []
+octets_in announced = []
+octets_in (calls sequence) = []
 octets_in (grants granted) = []
 octets_in (tells items) = []
 octets_in (notes codes) = []
@@ -264,6 +275,8 @@ behind subject so_far (Some (stands status)) = None
 behind subject so_far (Some (uploads id size)) = None
 behind subject so_far (Some (slices more octets)) = None
 behind subject so_far (Some uploaded) = None
+behind subject so_far (Some announced) = None
+behind subject so_far (Some (calls sequence)) = None
 behind subject so_far (Some (refuses error)) = None
 behind subject so_far None = None
 
@@ -302,6 +315,8 @@ behind_slice id size so_far (Some (stands status)) = None
 behind_slice id size so_far (Some (brings octet more octets)) = None
 behind_slice id size so_far (Some (uploads other others)) = None
 behind_slice id size so_far (Some uploaded) = None
+behind_slice id size so_far (Some announced) = None
+behind_slice id size so_far (Some (calls sequence)) = None
 behind_slice id size so_far (Some (refuses error)) = None
 behind_slice id size so_far None = None
 
@@ -320,6 +335,8 @@ behind_first (Some (stands status)) answers = None
 behind_first (Some (brings octet more octets)) answers = None
 behind_first (Some (slices more octets)) answers = None
 behind_first (Some uploaded) answers = None
+behind_first (Some announced) answers = None
+behind_first (Some (calls sequence)) answers = None
 behind_first (Some (refuses error)) answers = None
 behind_first None answers = None
 
@@ -337,6 +354,43 @@ uploading name = record {
       by_refusal plain_number (first_refusal telegram_refusal 0 answers) (good_end (octets_brought answers) []);
 }
 
+-- what goes out behind the server's job of this sequence, once the image was given up to a place: the next octets, at most
+-- so many, and behind the last of them that the block is inserted
+abbrev pub behind_call : List ℕ → ℕ → ℕ → ℕ → Question
+behind_call image room from call =
+    if nat_lt from (length image) then gives image room from call else inserts image call
+
+abbrev pub behind_server : List ℕ → ℕ → ℕ → Option Answer → Option Question
+behind_server image room from (Some (calls call)) = Some (behind_call image room from call)
+behind_server image room from (Some (grants granted)) = None
+behind_server image room from (Some (tells items)) = None
+behind_server image room from (Some (notes codes)) = None
+behind_server image room from (Some (stands status)) = None
+behind_server image room from (Some (brings octet more octets)) = None
+behind_server image room from (Some (uploads id size)) = None
+behind_server image room from (Some (slices more octets)) = None
+behind_server image room from (Some uploaded) = None
+behind_server image room from (Some announced) = None
+behind_server image room from (Some (refuses error)) = None
+behind_server image room from None = None
+
+-- The download of an image is announced, then the server asks for it piece by piece, each of so many octets but the last,
+-- and closes the download, and then the block is inserted.
+abbrev pub next_given : List ℕ → ℕ → List (Option Answer) → Option Question
+next_given image room [] = Some (announces image)
+next_given image room (answer ∷ []) = Some (awaits_call image)
+next_given image room (answer ∷ next ∷ answers) =
+    behind_server image room (room * length answers) (last_answer next answers)
+
+abbrev pub downloading : List ℕ → ℕ → Conduct
+downloading image room = record {
+  width = 1;
+  question_at = next_given image room;
+  refusal = download_refusal;
+  ended = λ (answers : List (Option Answer)).
+      by_refusal plain_number (first_refusal download_refusal 0 answers) (good_end [] []);
+}
+
 -- ---- whole data blocks
 
 -- how many of the answers are none of user data, which tells the head
@@ -349,6 +403,8 @@ is_of_data (Some (stands status)) = true
 is_of_data (Some (uploads id size)) = true
 is_of_data (Some (slices more octets)) = true
 is_of_data (Some uploaded) = true
+is_of_data (Some announced) = true
+is_of_data (Some (calls sequence)) = true
 is_of_data (Some (refuses error)) = true
 is_of_data None = true
 
@@ -436,6 +492,8 @@ connected_plan job.List granted = at_once (asking_about BlockCounts [])
 connected_plan (job.ListOf kind) granted = at_once (asking_about BlocksOfKind (kind_octets kind))
 connected_plan (job.Info kind number) granted = at_once (asking_about BlockHead (block_octets kind number))
 connected_plan (job.Upload kind number) granted = at_once (uploading (record { kind = kind; number = number }))
+connected_plan (job.Download image) granted =
+    if_good (check_image image) (at_once (downloading image (piece_room granted.pdu)))
 connected_plan (job.Delete kind number) granted = at_once (controlling (control.Delete kind number))
 connected_plan (job.DbGet number) granted = at_once (getting granted.pdu (block_octets 0x41 number) number)
 connected_plan (job.DbFill number value) granted =

@@ -6,7 +6,7 @@ use Rattle.s7_dialogue.specs.Answer.{Answer, answer_of}
 
 pub record Row : Type 0 where
   pub question : Question
-  -- the sequence under which it went out
+  -- the sequence under which it went out, or the last one before, where it isn't numbered
   pub number : ℕ
   pub answer : Option Answer
 

@@ -2,6 +2,7 @@ pub mod Codes
 pub mod DataBlocks
 pub mod UserData
 pub mod Uploads
+pub mod Downloads
 pub mod Question
 pub mod Answer
 pub mod DataItems

@@ -1,8 +1,8 @@
--- What a client's numbered telegrams ask, and their octets (Snap7 1.4 reference manual, and its
--- public sources): a header with the sequence, then parameters and data.
-use Rattle.std.specs.Prelude.{ℕ, List, [], ◌∷◌, ◌++◌, length, take, drop}
+-- What a client asks, and the telegrams that go out for it (Snap7 1.4 reference manual, and its public sources): a header
+-- with the sequence, then parameters and data.
+use Rattle.std.specs.Prelude.{ℕ, Bool, true, false, List, [], ◌∷◌, ◌++◌, length, take, drop}
 use Rattle.s7_header.specs.declared.header.Kind.{Kind}
-use Rattle.s7_header.specs.declared.header.Kind.TheVariants.{Job, User}
+use Rattle.s7_header.specs.declared.header.Kind.TheVariants.{Job, AckData, User}
 use Rattle.s7_header.specs.Header.{spelling_of}
 use Rattle.s7_header.specs.declared.negotiation.Negotiation.{Negotiation}
 use Rattle.s7_header.specs.Negotiation.{negotiation_spelling}
@@ -12,12 +12,14 @@ use Rattle.s7_item.specs.Item.{octet_count}
 use Rattle.s7_item.specs.Params.{items_params}
 use Rattle.s7_item.specs.DataItem.{DataItem, data_octets}
 use Rattle.s7_clock.specs.declared.control.Control.{Control}
+use Rattle.s7_clock.specs.declared.control.Control.TheVariants.{Insert}
 use Rattle.s7_clock.specs.Control.{control_spelling}
 use Rattle.s7_block.specs.declared.block.BlockName.{BlockName}
-use Rattle.s7_block.specs.Telegrams.{slice_function, end_function}
+use Rattle.s7_block.specs.Telegrams.{slice_function, end_function, image_data}
 use Rattle.s7_dialogue.specs.declared.subject.Subject.{Subject}
 use Rattle.s7_dialogue.specs.UserData.{request_params, further_params, no_data, data_of}
 use Rattle.s7_dialogue.specs.Uploads.{start_params, id_params}
+use Rattle.s7_dialogue.specs.Downloads.{name_in, piece_at, announce_params, piece_params, close_params}
 
 pub data Question : Type 0 where
   -- a PDU and parallel jobs
@@ -38,6 +40,15 @@ pub data Question : Type 0 where
   slices_upload : (id size : ℕ) → (so_far : List ℕ) → Question
   -- that the upload of this id ends
   ends_upload : (id : ℕ) → Question
+  -- that the download of a block begins, whose image this is
+  announces : (image : List ℕ) → Question
+  -- nothing: the server is to ask for the first piece of the image
+  awaits_call : (image : List ℕ) → Question
+  -- that the server goes on, to whose job of this sequence the image is given from a place on, as much of it as there is
+  -- room for
+  gives : (image : List ℕ) → (room from call : ℕ) → Question
+  -- that the block is inserted, once the job of this sequence is answered, by which the server closes the download
+  inserts : (image : List ℕ) → (call : ℕ) → Question
 
 -- the data items of a write: each item has as many of the octets as its elements have
 abbrev pub written : List Item → List ℕ → List DataItem
@@ -56,6 +67,10 @@ params_of (asks_further subject octet so_far) = user_spelling (further_params su
 params_of (starts_upload name) = start_params name
 params_of (slices_upload id size so_far) = id_params slice_function id
 params_of (ends_upload id) = id_params end_function id
+params_of (announces image) = announce_params image
+params_of (awaits_call image) = []
+params_of (gives image room from call) = piece_params (piece_at image room from)
+params_of (inserts image call) = control_spelling (Insert (name_in image).kind (name_in image).number)
 
 abbrev pub body_of : Question → List ℕ
 body_of (negotiates asked) = []
@@ -67,6 +82,10 @@ body_of (asks_further subject octet so_far) = no_data
 body_of (starts_upload name) = []
 body_of (slices_upload id size so_far) = []
 body_of (ends_upload id) = []
+body_of (announces image) = []
+body_of (awaits_call image) = []
+body_of (gives image room from call) = image_data (piece_at image room from).octets
+body_of (inserts image call) = []
 
 abbrev pub kind_of : Question → Kind
 kind_of (negotiates asked) = Job
@@ -78,6 +97,21 @@ kind_of (asks_further subject octet so_far) = User
 kind_of (starts_upload name) = Job
 kind_of (slices_upload id size so_far) = Job
 kind_of (ends_upload id) = Job
+kind_of (announces image) = Job
+kind_of (awaits_call image) = Job
+kind_of (gives image room from call) = AckData
+kind_of (inserts image call) = Job
+
+-- a question goes out under a sequence of the client's own, unless it answers a job of the server's or nothing goes out
+abbrev pub is_numbered : Question → Bool
+is_numbered (awaits_call image) = false
+is_numbered (gives image room from call) = false
+is_numbered _ = true
+
+-- the sequence of its message, by the client's own
+abbrev pub sequence_in : ℕ → Question → ℕ
+sequence_in sequence (gives image room from call) = call
+sequence_in sequence _ = sequence
 
 -- a message of this kind and sequence with these parameters and data
 abbrev pub message_octets : Kind → ℕ → List ℕ → List ℕ → List ℕ
@@ -92,4 +126,14 @@ job_octets sequence params body = message_octets Job sequence params body
 -- the message of a question
 abbrev pub question_octets : ℕ → Question → List ℕ
 question_octets sequence question =
-    message_octets (kind_of question) sequence (params_of question) (body_of question)
+    message_octets (kind_of question) (sequence_in sequence question) (params_of question) (body_of question)
+
+-- the answer to the job of the server's by which it closes a download
+abbrev pub closing_octets : ℕ → List ℕ
+closing_octets call = message_octets AckData call close_params []
+
+-- THE MESSAGES that go out for a question: its own, before which a download is closed, or none
+abbrev pub messages_of : ℕ → Question → List (List ℕ)
+messages_of sequence (awaits_call image) = []
+messages_of sequence (inserts image call) = closing_octets call ∷ question_octets sequence (inserts image call) ∷ []
+messages_of sequence question = question_octets sequence question ∷ []

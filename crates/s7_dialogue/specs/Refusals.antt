@@ -3,7 +3,7 @@ use Rattle.std.specs.Prelude.{ℕ, ◌==◌, ◌||◌, [], ◌∷◌, Option, No
 use Rattle.s7_dialogue.specs.Codes.{over_pdu, address_out_of_range, invalid_transport, size_mismatch, not_available, invalid_value, no_such_function, already_runs, already_stopped, password_needed, wrong_password, no_password, refused_otherwise}
 use Rattle.s7_clock.specs.declared.control.Control.{Control}
 use Rattle.s7_clock.specs.declared.control.Control.TheVariants as control
-use Rattle.s7_dialogue.specs.Answer.{Answer, grants, tells, notes, stands, brings, uploads, slices, uploaded, refuses}
+use Rattle.s7_dialogue.specs.Answer.{Answer, grants, tells, notes, stands, brings, uploads, slices, uploaded, announced, calls, refuses}
 
 -- by the error word of a header
 abbrev pub number_of_error : ℕ → ℕ
@@ -51,6 +51,8 @@ telegram_refusal (brings octet more octets) = None
 telegram_refusal (uploads id size) = None
 telegram_refusal (slices more octets) = None
 telegram_refusal uploaded = None
+telegram_refusal announced = None
+telegram_refusal (calls sequence) = None
 
 -- the refusal of a telegram or of its one item
 abbrev pub part_refusal : Answer → Option ℕ
@@ -67,6 +69,8 @@ part_refusal (brings octet more octets) = None
 part_refusal (uploads id size) = None
 part_refusal (slices more octets) = None
 part_refusal uploaded = None
+part_refusal announced = None
+part_refusal (calls sequence) = None
 
 -- the refusal of a control, by its telegram or by its status
 abbrev pub control_refusal : Control → Answer → Option ℕ
@@ -80,3 +84,19 @@ control_refusal control (brings octet more octets) = None
 control_refusal control (uploads id size) = None
 control_refusal control (slices more octets) = None
 control_refusal control uploaded = None
+control_refusal control announced = None
+control_refusal control (calls sequence) = None
+
+-- the refusal of a telegram of a download, whose insertion is answered by a status
+abbrev pub download_refusal : Answer → Option ℕ
+download_refusal (refuses error) = Some (number_of_error error)
+download_refusal (stands status) = if status == 0x00 then None else Some refused_otherwise
+download_refusal (grants granted) = None
+download_refusal (tells items) = None
+download_refusal (notes codes) = None
+download_refusal (brings octet more octets) = None
+download_refusal (uploads id size) = None
+download_refusal (slices more octets) = None
+download_refusal uploaded = None
+download_refusal announced = None
+download_refusal (calls sequence) = None

@@ -1,9 +1,10 @@
 -- What is asked alone, and what a message tells of the answer.
-use Rattle.std.specs.Prelude.{◌≡◌, ℕ, ◌+◌, ◌-◌, ◌<◌, ◌≤◌, true, false, if◌then◌else◌, List, [], ◌∷◌, ◌++◌, length, Option, None, Some, option_map}
+use Rattle.std.specs.Prelude.{◌≡◌, ℕ, ◌+◌, ◌-◌, ◌<◌, ◌≤◌, Bool, true, false, nat_lt, if◌then◌else◌, List, [], ◌∷◌, ◌++◌, length, Option, None, Some, option_map}
 use Rattle.s7_szl.specs.Joining.{most_joined}
 use Rattle.s7_dialogue.specs.declared.data_block.DataBlock.{DataBlock}
 use Rattle.s7_dialogue.specs.declared.data_block.Place.{Place}
 use Rattle.s7_dialogue.specs.declared.subject.Subject.{Subject}
+use Rattle.s7_dialogue.specs.declared.download.Pieces.{Pieces}
 use Rattle.s7_dialogue.specs.declared.single.Ask.{Ask}
 use Rattle.s7_dialogue.specs.declared.single.Ask.TheVariants as ask
 use Rattle.s7_dialogue.specs.declared.user_data.Told.{Told}
@@ -11,9 +12,21 @@ use Rattle.s7_dialogue.specs.declared.user_data.Told.TheVariants as told
 use Rattle.s7_dialogue.specs.UserData.{comes_in_pieces, lead_of}
 use Rattle.s7_dialogue.specs.Uploads.{most_uploaded}
 use Rattle.s7_dialogue.specs.DataBlocks.{tells_data, data_length}
-use Rattle.s7_dialogue.specs.Answer.{Answer, tells, notes, stands, brings, uploads, slices, uploaded}
-use Rattle.s7_dialogue.specs.Refusals.{code_refusal, telegram_refusal, part_refusal, control_refusal}
+use Rattle.s7_dialogue.specs.Answer.{Answer, tells, notes, stands, brings, uploads, slices, uploaded, announced, calls}
+use Rattle.s7_dialogue.specs.Refusals.{code_refusal, telegram_refusal, part_refusal, control_refusal, download_refusal}
 use Rattle.s7_dialogue.specs.DataPlaces.{most_data, place_from, part_count, next_part, refused_number, room_for_value, comes_for}
+
+-- how many messages go out for what is asked
+abbrev pub message_count : Ask → ℕ
+message_count (ask.AwaitCall pieces) = 0
+message_count (ask.Insert pieces call) = 2
+message_count _ = 1
+
+-- a question goes out under a sequence of the client's own, unless it answers a job of the server's or nothing goes out
+abbrev pub is_numbered_ask : Ask → Bool
+is_numbered_ask (ask.AwaitCall pieces) = false
+is_numbered_ask (ask.Give pieces from call) = false
+is_numbered_ask _ = true
 
 -- how many octets come in all, at most, of what is asked
 abbrev pub room_for : Ask → ℕ
@@ -23,6 +36,10 @@ room_for (ask.Further subject octet) = most_joined
 room_for ask.Upload = most_uploaded
 room_for (ask.Slice id size) = most_uploaded
 room_for (ask.UploadEnd id) = most_uploaded
+room_for (ask.Announce pieces) = 0
+room_for (ask.AwaitCall pieces) = 0
+room_for (ask.Give pieces from call) = 0
+room_for (ask.Insert pieces call) = 0
 room_for (ask.Head block) = room_for_value block.value
 room_for (ask.HeadFurther block octet) = room_for_value block.value
 room_for (ask.Part block place) = room_for_value block.value
@@ -40,7 +57,8 @@ most_brought (ask.Part block place) came = comes_for block.value (part_count blo
 most_brought asked came = room_for asked - came
 
 -- how many answers are awaited at most, once so many octets came: each before the last one brings some, an upload has a
--- start and an end, and each part of a data block has an octet
+-- start and an end, each part of a data block has an octet, and so has each piece of an image that is given, behind an
+-- announcement and before an insertion
 abbrev pub asks_left : Ask → ℕ → ℕ
 asks_left (ask.Control control) came = 1
 asks_left (ask.About subject) came = 1 + (most_joined - came)
@@ -48,6 +66,10 @@ asks_left (ask.Further subject octet) came = 1 + (most_joined - came)
 asks_left ask.Upload came = 3 + (most_uploaded - came)
 asks_left (ask.Slice id size) came = 2 + (most_uploaded - came)
 asks_left (ask.UploadEnd id) came = 1
+asks_left (ask.Announce pieces) came = 3 + pieces.len
+asks_left (ask.AwaitCall pieces) came = 2 + pieces.len
+asks_left (ask.Give pieces from call) came = 1 + (pieces.len - from)
+asks_left (ask.Insert pieces call) came = 1
 asks_left (ask.Head block) came = 2 + (most_joined - came) + most_data
 asks_left (ask.HeadFurther block octet) came = 2 + (most_joined - came) + most_data
 asks_left (ask.Part block place) came = 1 + (place.here + place.later)
@@ -62,6 +84,10 @@ lead_in _ = 0
 abbrev pub refusal_to : Ask → Answer → Option ℕ
 refusal_to (ask.Control control) answer = control_refusal control answer
 refusal_to (ask.Part block place) answer = option_map (refused_number block place) (part_refusal answer)
+refusal_to (ask.Announce pieces) answer = download_refusal answer
+refusal_to (ask.AwaitCall pieces) answer = download_refusal answer
+refusal_to (ask.Give pieces from call) answer = download_refusal answer
+refusal_to (ask.Insert pieces call) answer = download_refusal answer
 refusal_to _ answer = telegram_refusal answer
 
 -- ---- answers that don't refuse: the octets that they bring, and what is asked next
@@ -95,6 +121,20 @@ abbrev pub TellsEnd : List ℕ → Option Ask → Answer → Type 0
 TellsEnd octets next uploaded = (octets ≡ []) × (next ≡ None)
 TellsEnd octets next _ = ⊥
 
+-- a download has begun: the server is to ask for the first piece
+abbrev pub TellsBegun : Pieces → List ℕ → Option Ask → Answer → Type 0
+TellsBegun pieces octets next announced = (octets ≡ []) × (next ≡ Some (ask.AwaitCall pieces))
+TellsBegun pieces octets next _ = ⊥
+
+-- what goes out behind the server's job of this sequence, once the image was given up to a place
+abbrev pub ask_behind : Pieces → ℕ → ℕ → Ask
+ask_behind pieces from call = if nat_lt from pieces.len then ask.Give pieces from call else ask.Insert pieces call
+
+-- the server asks on
+abbrev pub TellsCall : Pieces → ℕ → List ℕ → Option Ask → Answer → Type 0
+TellsCall pieces from octets next (calls call) = (octets ≡ []) × (next ≡ Some (ask_behind pieces from call))
+TellsCall pieces from octets next _ = ⊥
+
 -- a piece of a head came, and others follow
 abbrev pub TellsOfHead : DataBlock → List ℕ → Option Ask → Answer → Type 0
 TellsOfHead block octets next (brings octet more piece) =
@@ -117,6 +157,10 @@ BringsOn (ask.Further subject octet) octets next answer = TellsPiece subject oct
 BringsOn ask.Upload octets next answer = TellsStart octets next answer
 BringsOn (ask.Slice id size) octets next answer = TellsSlice id size octets next answer
 BringsOn (ask.UploadEnd id) octets next answer = TellsEnd octets next answer
+BringsOn (ask.Announce pieces) octets next answer = TellsBegun pieces octets next answer
+BringsOn (ask.AwaitCall pieces) octets next answer = TellsCall pieces 0 octets next answer
+BringsOn (ask.Give pieces from call) octets next answer = TellsCall pieces (from + pieces.room) octets next answer
+BringsOn (ask.Insert pieces call) octets next answer = TellsStatus octets next answer
 BringsOn (ask.Head block) octets next answer = TellsOfHead block octets next answer
 BringsOn (ask.HeadFurther block octet) octets next answer = TellsOfHead block octets next answer
 BringsOn (ask.Part block place) octets next answer = TellsPart block place octets next answer

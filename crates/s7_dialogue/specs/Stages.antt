@@ -1,10 +1,10 @@
 -- What contracts see of the stage of a job.
-use Rattle.std.specs.Prelude.{ℕ, ◌+◌, ◌-◌, ◌^◌, ◌≤◌, Bool, true, false, not, ◌==◌, ◌||◌, ◌&&◌, nat_lt, nat_le, if◌then◌else◌, List, [], map, length, take, drop, unwrap_or}
+use Rattle.std.specs.Prelude.{ℕ, ◌+◌, ◌-◌, ◌^◌, ◌≤◌, Bool, true, false, not, ◌==◌, ◌||◌, ◌&&◌, nat_lt, nat_le, List, [], map, length, take, drop, unwrap_or}
 use Rattle.std.specs.List.{list_all}
 use Rattle.s7_header.specs.Negotiation.{most_pdu}
 use Rattle.s7_item.specs.declared.item.Item.{Item}
 use Rattle.s7_item.specs.Sizes.{request_size}
-use Rattle.s7_wire.specs.Sent.{sent_message, sent_messages}
+use Rattle.s7_wire.specs.Sent.{sent_messages}
 use Rattle.s7_clock.specs.Moment.{octets_at}
 use Rattle.s7_block.specs.declared.block.BlockName.{BlockName}
 use Rattle.s7_dialogue.specs.declared.config.Config.{Config}
@@ -19,6 +19,7 @@ use Rattle.s7_dialogue.specs.declared.flight.Flight.{Flight}
 use Rattle.s7_dialogue.specs.declared.left.Left.{Left}
 use Rattle.s7_dialogue.specs.declared.left.Left.TheVariants as left
 use Rattle.s7_dialogue.specs.declared.subject.Subject.TheVariants.{DataHead}
+use Rattle.s7_dialogue.specs.declared.download.Pieces.{Pieces}
 use Rattle.s7_dialogue.specs.declared.single.Ask.{Ask}
 use Rattle.s7_dialogue.specs.declared.single.Ask.TheVariants as ask
 use Rattle.s7_dialogue.specs.declared.single.Single.{Single}
@@ -26,13 +27,16 @@ use Rattle.s7_dialogue.specs.declared.running.Stage.{Stage}
 use Rattle.s7_dialogue.specs.declared.running.Stage.TheVariants as stage
 use Rattle.s7_dialogue.specs.Codes.{no_fault}
 use Rattle.s7_dialogue.specs.UserData.{filled_text, encoded}
-use Rattle.s7_dialogue.specs.Question.{Question, negotiates, reads, writes, controls, asks, asks_further, question_octets}
+use Rattle.s7_dialogue.specs.Question.{Question, negotiates, reads, writes, controls, asks, asks_further}
+use Rattle.s7_dialogue.specs.Question.{question_octets, messages_of}
 use Rattle.s7_dialogue.specs.Question.{starts_upload, slices_upload, ends_upload}
-use Rattle.s7_dialogue.specs.Checks.{is_known, octet_count_of, check_moment, check_password}
+use Rattle.s7_dialogue.specs.Question.{announces, awaits_call, gives, inserts}
+use Rattle.s7_dialogue.specs.Checks.{is_known, octet_count_of, check_moment, check_password, check_image}
 use Rattle.s7_dialogue.specs.Left.{questions_left, groups_in, most_parts}
 use Rattle.s7_dialogue.specs.Dialogue.{Conduct, asked_by, list_octets, kind_octets, block_octets, controlling, asking_about, uploading}
+use Rattle.s7_dialogue.specs.Dialogue.{downloading}
 use Rattle.s7_dialogue.specs.DataPlaces.{part_question, block_conduct, has_pdu, is_inside}
-use Rattle.s7_dialogue.specs.Singles.{room_for, asks_left}
+use Rattle.s7_dialogue.specs.Singles.{room_for, message_count, asks_left}
 use Rattle.s7_dialogue.specs.Course.{Awaits, for_confirm, for_answers, for_departure, for_nothing}
 pub use Rattle.s7_dialogue.specs.Left.{joined}
 
@@ -75,6 +79,11 @@ abbrev pub block_of : Job → BlockName
 block_of (job.Upload kind number) = record { kind = kind; number = number }
 block_of _ = record { kind = 0; number = 0 }
 
+-- the image of the block that a job downloads
+abbrev pub image_of : Job → List ℕ
+image_of (job.Download image) = image
+image_of _ = []
+
 -- what is asked, behind the octets that came
 abbrev pub question_of_single : Job → Ask → List ℕ → Question
 question_of_single job (ask.Control control) so_far = controls control
@@ -83,6 +92,10 @@ question_of_single job (ask.Further subject octet) so_far = asks_further subject
 question_of_single job ask.Upload so_far = starts_upload (block_of job)
 question_of_single job (ask.Slice id size) so_far = slices_upload id size so_far
 question_of_single job (ask.UploadEnd id) so_far = ends_upload id
+question_of_single job (ask.Announce pieces) so_far = announces (image_of job)
+question_of_single job (ask.AwaitCall pieces) so_far = awaits_call (image_of job)
+question_of_single job (ask.Give pieces from call) so_far = gives (image_of job) pieces.room from call
+question_of_single job (ask.Insert pieces call) so_far = inserts (image_of job) call
 question_of_single job (ask.Head block) so_far = asks DataHead (block_octets 0x41 block.number)
 question_of_single job (ask.HeadFurther block octet) so_far = asks_further DataHead octet so_far
 question_of_single job (ask.Part block place) so_far = part_question block place
@@ -95,13 +108,17 @@ conduct_of_single job (ask.Further subject octet) = asking_about subject (data_o
 conduct_of_single job ask.Upload = uploading (block_of job)
 conduct_of_single job (ask.Slice id size) = uploading (block_of job)
 conduct_of_single job (ask.UploadEnd id) = uploading (block_of job)
+conduct_of_single job (ask.Announce pieces) = downloading (image_of job) pieces.room
+conduct_of_single job (ask.AwaitCall pieces) = downloading (image_of job) pieces.room
+conduct_of_single job (ask.Give pieces from call) = downloading (image_of job) pieces.room
+conduct_of_single job (ask.Insert pieces call) = downloading (image_of job) pieces.room
 conduct_of_single job (ask.Head block) = block_conduct block
 conduct_of_single job (ask.HeadFurther block octet) = block_conduct block
 conduct_of_single job (ask.Part block place) = block_conduct block
 
--- the message of the telegram that is out
-abbrev pub single_message : Job → Single → List ℕ
-single_message job s = question_octets (unwrap_or s.out 0) (question_of_single job s.ask [])
+-- the messages of what went out
+abbrev pub single_messages : Job → Single → List (List ℕ)
+single_messages job s = messages_of (unwrap_or s.out 0) (question_of_single job s.ask [])
 
 -- a clock is set to a moment that it can show, and a password has from one to eight octets
 abbrev pub is_sent_well : Job → Bool
@@ -109,12 +126,23 @@ is_sent_well (job.ClockSet moment) = check_moment moment == no_fault
 is_sent_well (job.PasswordSet text) = check_password text == no_fault
 is_sent_well _ = true
 
--- User data that can be written go with what is asked, or none do, and a part fits the PDU and is inside the data block.
+-- an image with a head that is its own is given, and a piece of it fits a PDU of 64 to 1,920 octets
+abbrev pub has_image : Job → Pieces → Bool
+has_image job pieces =
+    (check_image (image_of job) == no_fault && pieces.len == length (image_of job))
+    && (nat_le 46 pieces.room && nat_le pieces.room 1902)
+
+-- User data that can be written go with what is asked, or none do, a part fits the PDU and is inside the data block, and a
+-- piece fits it and is inside the image.
 abbrev pub is_writable : Job → Ask → Bool
 is_writable job (ask.About subject) = is_sent_well job
 is_writable job (ask.Head block) = has_pdu block
 is_writable job (ask.HeadFurther block octet) = has_pdu block
 is_writable job (ask.Part block place) = has_pdu block && is_inside place
+is_writable job (ask.Announce pieces) = has_image job pieces
+is_writable job (ask.AwaitCall pieces) = has_image job pieces
+is_writable job (ask.Give pieces from call) = has_image job pieces && nat_lt from pieces.len
+is_writable job (ask.Insert pieces call) = has_image job pieces
 is_writable job _ = true
 
 -- Such a question can be asked, by a job that has a place for each octet that comes.
@@ -128,7 +156,8 @@ abbrev pub unput_by : Config → ℕ → Job → Stage → List ℕ
 unput_by config size job stage.Opening = []
 unput_by config size job (stage.Asking a) =
     sent_messages size (map (message_of config job) (drop (length a.flights.items - a.unput) a.flights.items))
-unput_by config size job (stage.Single s) = if s.unput then sent_message size (single_message job s) else []
+unput_by config size job (stage.Single s) =
+    sent_messages size (drop (message_count s.ask - s.unput) (single_messages job s))
 unput_by config size job stage.Leaving = []
 unput_by config size job (stage.Over code leaves) = []
 

@@ -4,9 +4,11 @@ ghost use Rattle.std.specs.List.{list_all};
 ghost use Rattle.s7_split.specs.Parts.{range_end};
 ghost use Rattle.s7_split.specs.Groups.{groups_of, ends_of};
 ghost use Rattle.s7_dialogue.specs.Checks.{is_known, is_placed, octet_count_of, check_item, check_items};
-ghost use Rattle.s7_dialogue.specs.Checks.{check_moment, check_password};
+ghost use Rattle.s7_dialogue.specs.Checks.{check_moment, check_password, check_image};
 
 use crate::codes::{GOOD, INVALID_PARAMETERS, INVALID_WORD, OVER_PDU, TOO_MANY_ITEMS};
+use crate::download::name_in;
+use s7_block::head_agrees;
 use s7_clock::{FIRST_MOMENT, LAST_MOMENT};
 use s7_item::codes::{BIT, COUNTERS, TIMERS};
 use s7_item::{Item, MOST_ITEMS, size_of};
@@ -14,6 +16,9 @@ use s7_split::{Groups, pack};
 
 /// One more than the highest address.
 const ADDRESSES: u64 = 0x0100_0000;
+
+/// The fewest octets of an image.
+const LEAST_IMAGE: usize = 36;
 
 /// The most octets of a password.
 const MOST_PASSWORD: usize = 8;
@@ -79,6 +84,22 @@ pub(crate) fn check_password(text: &[u8]) -> u32
         INVALID_PARAMETERS
     } else {
         GOOD
+    }
+}
+
+/// The check of the image of a block.
+#[tactic(auto, unfolding(s7_block::specs::Heads::head_agrees))]
+pub(crate) fn check_image(image: &[u8]) -> u32
+    ensures { result ≡ check_image image.now }
+{
+    if image.len() < LEAST_IMAGE {
+        return INVALID_PARAMETERS;
+    }
+    let name = name_in(image);
+    if head_agrees(image, name.kind, name.number) {
+        GOOD
+    } else {
+        INVALID_PARAMETERS
     }
 }
 

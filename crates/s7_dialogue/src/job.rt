@@ -27,6 +27,10 @@ pub enum Job {
     Info { kind: u8, number: u16 },
     /// Read the image of the block of this kind and number, which may be any: its head, and the octets behind it.
     Upload { kind: u8, number: u16 },
+    /// Load the block whose image this is into the controller, under the kind and the number of its head, and insert it
+    /// there. The image has 36 to 65,536 octets, and its head states its length. Blocks that are OB, FC or FB can be
+    /// inserted.
+    Download { image: Octets },
     /// Delete the block of this kind and number, which may be any. Blocks that are OB, FC or FB can be deleted.
     Delete { kind: u8, number: u16 },
     /// Read a whole data block, of which the server tells that it has 1 to 2,097,152 octets.

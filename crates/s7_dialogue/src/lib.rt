@@ -10,6 +10,7 @@ mod collect;
 mod config;
 mod data_block;
 mod data_items;
+mod download;
 mod flight;
 mod grant;
 mod item_list;

@@ -1,6 +1,6 @@
 // The messages of questions.
 ghost use Rattle.std.specs.Prelude.{◌≡◌, ◌+◌, ◌^◌, ◌<◌, ◌≤◌, ◌++◌, All, length, map, is_some, true, false};
-ghost use Rattle.s7_header.specs.Header.{has_error, spelling_of};
+ghost use Rattle.s7_header.specs.Header.{header_len, spelling_of};
 ghost use Rattle.s7_header.specs.Negotiation.{most_pdu};
 ghost use Rattle.s7_item.specs.Item.{octet_count};
 ghost use Rattle.s7_item.specs.Params.{items_params};
@@ -74,8 +74,7 @@ fn begin_items(function: u8, items: &Items, sequence: u16, body_len: u16, messag
     begin_message(Kind::Job, sequence, &params[..len], body_len, message);
 }
 
-/// Begins a message of a kind without an error word: its header, and these parameters, which data of so many octets
-/// follow.
+/// Begins a message without an error: its header, and these parameters, which data of so many octets follow.
 pub(crate) fn begin_message(
     kind: Kind,
     sequence: u16,
@@ -83,8 +82,7 @@ pub(crate) fn begin_message(
     body_len: u16,
     message: &mut Buffer,
 )
-    requires plain { has_error kind ≡ false }
-    requires fits { 10 + length params.now ≤ most_pdu }
+    requires fits { header_len kind + length params.now ≤ most_pdu }
     requires room { message.old.room ≡ most_pdu }
     ensures octets { message.new.octets ≡ spelling_of (record {
       kind = kind;
@@ -93,7 +91,7 @@ pub(crate) fn begin_message(
       body_len = body_len;
       error = 0;
     }) ++ params.now }
-    ensures len { length message.new.octets ≡ 10 + length params.now }
+    ensures len { length message.new.octets ≡ header_len kind + length params.now }
     ensures room { message.new.room ≡ most_pdu }
 {
     let header = Header {

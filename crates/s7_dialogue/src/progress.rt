@@ -1,12 +1,12 @@
 // How a job goes on from answer to answer.
-ghost use Rattle.std.specs.Prelude.{◌≡◌, ℕ, ◌+◌, ◌≤◌, true, false, List, [], ◌++◌, length, take, drop};
+ghost use Rattle.std.specs.Prelude.{◌≡◌, ℕ, ◌+◌, ◌-◌, ◌<◌, ◌≤◌, true, false, List, [], ◌++◌, length, take, drop};
 ghost use Rattle.std.specs.Prelude.{Option, None, Some, IfSome, IfNone, OnSome, IfOk, IfErr};
 ghost use Rattle.std.specs.Option.{ForSome};
 ghost use Rattle.s7_header.specs.Negotiation.{most_pdu};
-ghost use Rattle.s7_wire.specs.Sent.{sent_message};
+ghost use Rattle.s7_wire.specs.Sent.{sent_message, sent_messages};
 ghost use Rattle.s7_dialogue.specs.declared.config.Config.{Config};
 ghost use Rattle.s7_dialogue.specs.declared.grant.Grant.{Grant};
-ghost use Rattle.s7_dialogue.specs.Question.{Question};
+ghost use Rattle.s7_dialogue.specs.Question.{Question, messages_of};
 ghost use Rattle.s7_dialogue.specs.Answer as spelled;
 ghost use Rattle.s7_dialogue.specs.Told.{IsAsked, Tells};
 ghost use Rattle.s7_dialogue.specs.Flight.{Row, answers_of, filled};
@@ -16,6 +16,8 @@ ghost use Rattle.s7_dialogue.specs.Dialogue.{End, fault_end, departed_end, numbe
 ghost use Rattle.s7_dialogue.specs.Dialogue.{connect_request, plan_of};
 ghost use Rattle.s7_dialogue.specs.Course.{Course, asking, for_nothing};
 ghost use Rattle.s7_dialogue.specs.Stages.{octets_of, message_of, can_ask, can_fly, has_places, IsListing, IsGoodLeave};
+ghost use Rattle.s7_dialogue.specs.Stages.{question_of_single, can_ask_single};
+ghost use Rattle.s7_dialogue.specs.Singles.{message_count};
 ghost use Rattle.s7_dialogue.specs.Running.{Begins, Follows, Reached, IsOver, IsAsking, IsOpening, IsLeaving};
 ghost use Rattle.s7_dialogue.specs.Running.{awaited_in, unput_of, conduct_in, answers_left, IsResult, IsGrant};
 ghost use Rattle.s7_dialogue.specs.Stages.{LeavesLink, LeavesOpen};
@@ -27,6 +29,7 @@ use crate::codes::GOOD;
 use crate::codes_list::Codes;
 use crate::collect::{close_gaps, place_codes, place_items};
 use crate::config::Config;
+use crate::download::write_closing;
 use crate::flight::Flight;
 use crate::grant::{Grant, Leaves};
 use crate::job::{Job, JobResult};
@@ -34,6 +37,7 @@ use crate::left::Left;
 use crate::message::{write_negotiation, write_read, write_write};
 use crate::requests::write_single;
 use crate::running::{Running, Stage};
+use crate::single::{Ask, Single};
 use crate::starting::{Start, start_of};
 use crate::taking::{is_alone, negotiated, number_by, octets_of, refusal_of};
 use s7_header::Negotiation;
@@ -126,8 +130,8 @@ impl Running {
                 let Some(sequence) = single.unput_sequence() else {
                     return false;
                 };
-                write_single(&self.job, &single.ask, sequence, message);
-                single.unput = false;
+                write_unput(single, &self.job, sequence, message);
+                single.unput -= 1;
                 true
             }
             Stage::Opening | Stage::Leaving | Stage::Over { .. } => false,
@@ -353,6 +357,30 @@ fn close_found(job: &Job, codes: &Codes, found: &mut Vec<u8>)
     if let Job::ReadMany { items } = job {
         close_gaps(items.as_slice(), codes.as_slice(), found);
     }
+}
+
+// Writes the first message that isn't put yet of what is out under this sequence.
+fn write_unput(single: &Single, job: &Job, sequence: u16, message: &mut Buffer)
+    requires asks { (found : ℕ) × (can_ask_single job.now found single.now.ask ≡ true) }
+    requires some { 0 < single.now.unput }
+    requires room { message.old.room ≡ most_pdu }
+    ensures octets { (size : ℕ) → sent_messages size (drop (message_count single.now.ask - single.now.unput)
+        (messages_of sequence (question_of_single job.now single.now.ask [])))
+        ≡ sent_message size message.new.octets
+        ++ sent_messages size (drop (message_count single.now.ask - (single.now.unput - 1))
+        (messages_of sequence (question_of_single job.now single.now.ask []))) }
+    ensures fits { (10 ≤ length message.new.octets) × (length message.new.octets ≤ most_pdu) }
+    ensures room { message.new.room ≡ most_pdu }
+{
+    if single.unput < 2 {
+        write_single(job, &single.ask, sequence, message);
+        return;
+    }
+    // Two go out for an insertion alone.
+    let Ask::Insert { call, .. } = &single.ask else {
+        unreachable!()
+    };
+    write_closing(*call, message);
 }
 
 // Writes the message of a telegram of the job.

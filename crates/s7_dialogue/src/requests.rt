@@ -1,17 +1,20 @@
 // User data, controls, uploads and parts of data blocks: the questions of jobs that ask one at a time (Snap7 1.4 sources,
 // s7_types.h: TReqFunTypedParams, and the data that follow it).
-ghost use Rattle.std.specs.Prelude.{◌≡◌, ℕ, ◌++◌, ◌≤◌, true, [], List, length};
+ghost use Rattle.std.specs.Prelude.{◌≡◌, ℕ, ◌++◌, ◌<◌, ◌≤◌, true, [], List, length};
 ghost use Rattle.s7_header.specs.declared.header.Kind.TheVariants as kind;
 ghost use Rattle.s7_header.specs.UserParams.{user_spelling, HasForm};
 ghost use Rattle.s7_header.specs.Negotiation.{most_pdu};
 ghost use Rattle.s7_clock.specs.Control.{control_spelling};
 ghost use Rattle.s7_dialogue.specs.declared.subject.Subject.TheVariants as subject;
 ghost use Rattle.s7_dialogue.specs.UserData.{request_params, further_params, data_of};
-ghost use Rattle.s7_dialogue.specs.Question.{message_octets, question_octets};
+ghost use Rattle.s7_dialogue.specs.Question.{message_octets, question_octets, inserts};
 ghost use Rattle.s7_dialogue.specs.Dialogue.{list_octets, block_octets};
 ghost use Rattle.s7_dialogue.specs.Stages.{question_of_single, can_ask_single, is_sent_well, data_of_job, block_of};
+ghost use Rattle.s7_dialogue.specs.Stages.{image_of};
+ghost use Rattle.s7_dialogue.specs.Singles.{message_count};
 
 use crate::data_block::write_part;
+use crate::download::{name_in, write_announce, write_given};
 use crate::job::Job;
 use crate::message::begin_message;
 use crate::password::encoded;
@@ -39,6 +42,7 @@ const DATA_BLOCK: u8 = 0x41;
 /// Writes the message of what the job asks as the one message that the buffer holds.
 pub(crate) fn write_single(job: &Job, ask: &Ask, sequence: u16, message: &mut Buffer)
     requires asks { (found : ℕ) × (can_ask_single job.now found ask.now ≡ true) }
+    requires some { 0 < message_count ask.now }
     requires room { message.old.room ≡ most_pdu }
     ensures octets { message.new.octets ≡ question_octets sequence (question_of_single job.now ask.now []) }
     ensures fits { (10 ≤ length message.new.octets) × (length message.new.octets ≤ most_pdu) }
@@ -51,12 +55,45 @@ pub(crate) fn write_single(job: &Job, ask: &Ask, sequence: u16, message: &mut Bu
         Ask::Upload => write_start(&block_octets(block_of(job)), sequence, message),
         Ask::Slice { id, .. } => write_by_id(SLICE, *id, sequence, message),
         Ask::UploadEnd { id } => write_by_id(END, *id, sequence, message),
+        Ask::Announce(_) => write_announce(image_of(job), sequence, message),
+        // Nothing goes out for it.
+        Ask::AwaitCall(_) => unreachable!(),
+        Ask::Give { pieces, from, call } => {
+            write_given(image_of(job), *pieces, *from, *call, message)
+        }
+        Ask::Insert { .. } => write_insert(image_of(job), sequence, message),
         Ask::Head(block) => write_head(block.number, sequence, message),
         Ask::HeadFurther(_, octet) => {
             write_further(Subject::DataHead, *octet, sequence, message)
         }
         Ask::Part(block, place) => write_part(block, *place, sequence, message),
     }
+}
+
+/// The image of the block that the job downloads.
+pub(crate) fn image_of(job: &Job) -> &[u8]
+    ensures { result.now ≡ image_of job.now }
+{
+    match job {
+        Job::Download { image } => image.as_slice(),
+        _ => &[],
+    }
+}
+
+// Writes the call that inserts the block of this image.
+fn write_insert(image: &[u8], sequence: u16, message: &mut Buffer)
+    requires least { 36 ≤ length image.now }
+    requires room { message.old.room ≡ most_pdu }
+    ensures octets { (call : ℕ) → message.new.octets ≡ question_octets sequence (inserts image.now call) }
+    ensures fits { (10 ≤ length message.new.octets) × (length message.new.octets ≤ 64) }
+    ensures room { message.new.room ≡ most_pdu }
+{
+    let name = name_in(image);
+    let insertion = Control::Insert {
+        kind: name.kind,
+        number: name.number,
+    };
+    write_call(&insertion, sequence, message);
 }
 
 // The block that the job uploads.

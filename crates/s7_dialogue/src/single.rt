@@ -1,15 +1,17 @@
 // A job that asks one question at a time.
-ghost use Rattle.std.specs.Prelude.{◌≡◌, ◌+◌, ◌≤◌, true, IsSome};
+ghost use Rattle.std.specs.Prelude.{◌≡◌, ◌+◌, ◌<◌, ◌≤◌, true, IsSome};
 ghost use Rattle.s7_dialogue.specs.declared.subject.Subject.{Subject};
 ghost use Rattle.s7_dialogue.specs.declared.data_block.DataBlock.{DataBlock};
 ghost use Rattle.s7_dialogue.specs.declared.single.Ask.TheVariants as asked;
-ghost use Rattle.s7_dialogue.specs.Singles.{room_for, parts_bring};
+ghost use Rattle.s7_dialogue.specs.Singles.{message_count, room_for, parts_bring};
 
 use crate::asking::sequence_after;
 use crate::codes::GOOD;
 use crate::collect::{keep_octets, place_octets};
 use crate::data_block::{DataBlock, Place};
+use crate::download::Pieces;
 use crate::grant::Leaves;
+use crate::job::Job;
 use crate::refusals::number_of_error;
 use crate::running::{Running, Stage};
 use crate::subject::Subject;
@@ -28,9 +30,29 @@ pub(crate) enum Ask {
     /// That the upload of the job's block begins.
     Upload,
     /// The next octets of the upload of this id, an image of so many octets.
-    Slice { id: u8, size: u32 },
+    Slice {
+        id: u8,
+        size: u32,
+    },
     /// That the upload of this id ends.
-    UploadEnd { id: u8 },
+    UploadEnd {
+        id: u8,
+    },
+    /// That the download of the job's image begins.
+    Announce(Pieces),
+    /// Nothing: the server is to ask for the first piece of it.
+    AwaitCall(Pieces),
+    /// That the server goes on, to whose job of this sequence the image is given from a place on.
+    Give {
+        pieces: Pieces,
+        from: u32,
+        call: u16,
+    },
+    /// That the block is inserted, once the server's job of this sequence is answered, which closes the download.
+    Insert {
+        pieces: Pieces,
+        call: u16,
+    },
     /// The head of a data block that is read or filled whole.
     Head(DataBlock),
     /// The next octets of that head, under this sequence octet.
@@ -44,31 +66,32 @@ pub(crate) enum Ask {
 pub struct Single {
     /// What its telegram asks that is out, or else what it asks next.
     pub(crate) ask: Ask,
-    /// The sequence of the telegram, where it went out.
+    /// The sequence of the telegram, where it went out, or the last one before, where it has none of the client's own.
     pub(crate) out: Option<u16>,
-    /// It went out and wasn't put to be sent yet.
-    pub(crate) unput: bool,
+    /// How many of its messages went out and weren't put to be sent yet.
+    pub(crate) unput: usize,
     /// How many octets of the answer came.
     pub(crate) len: usize,
     ghost first: { (subject : Subject) → ask ≡ asked.About subject → len ≡ 0 },
     ghost alone: { (block : DataBlock) → ask ≡ asked.Head block → len ≡ 0 },
     ghost most: { len + parts_bring ask ≤ room_for ask },
-    ghost put: { unput ≡ true → IsSome out },
+    ghost put: { 0 < unput → IsSome out },
+    ghost few: { unput ≤ message_count ask },
 }
 
 impl Single {
-    ghost use Rattle.std.specs.Prelude.{ℕ, false, length, take, Some, None, IfSome, IfNone};
-    ghost use Rattle.s7_dialogue.specs.declared.job.Job.{Job};
+    ghost use Rattle.std.specs.Prelude.{ℕ, true, length, take, Some, None, IfSome, IfNone, if◌then◌else◌};
     ghost use Rattle.s7_dialogue.specs.Answer.{answer_of};
     ghost use Rattle.s7_dialogue.specs.Course.{next_sequence};
     ghost use Rattle.s7_dialogue.specs.Stages.{question_of_single, is_writable};
-    ghost use Rattle.s7_dialogue.specs.Singles.{TellsIfSome};
+    ghost use Rattle.s7_dialogue.specs.Singles.{is_numbered_ask, TellsIfSome};
 
-    /// Asks the question under the sequence after this one, where no telegram is out. Gives the last
-    /// sequence.
+    /// Asks the question, under the sequence after this one where it has one of the client's own, if nothing is out.
+    /// Gives the last sequence.
     pub(crate) fn ask_on(&mut self, sequence: u16) -> u16
-        ensures asks { self.old.out ≡ None → (result ≡ next_sequence sequence)
-            × (self.new.out ≡ Some result) × (self.new.unput ≡ true) }
+        ensures asks { self.old.out ≡ None
+            → (result ≡ (if is_numbered_ask self.old.ask then next_sequence sequence else sequence))
+            × (self.new.out ≡ Some result) × (self.new.unput ≡ message_count self.old.ask) }
         ensures waits { IsSome self.old.out → (result ≡ sequence) × (self.new ≡ self.old) }
         ensures ask { self.new.ask ≡ self.old.ask }
         ensures len { self.new.len ≡ self.old.len }
@@ -76,43 +99,53 @@ impl Single {
         if self.out.is_some() {
             return sequence;
         }
-        let next = sequence_after(sequence);
+        let next = if self.ask.is_numbered() {
+            sequence_after(sequence)
+        } else {
+            sequence
+        };
         self.out = Some(next);
-        self.unput = true;
+        self.unput = self.ask.message_count();
         next
     }
 
-    /// The sequence of its telegram, where this wasn't put yet.
+    /// The sequence of its telegram, where a message of this wasn't put yet.
     pub(crate) fn unput_sequence(&self) -> Option<u16>
-        ensures some { IfSome result (λ number. (self.now.unput ≡ true) × (self.now.out ≡ Some number)) }
-        ensures none { IfNone result (self.now.unput ≡ false) }
+        ensures some { IfSome result (λ number. (0 < self.now.unput) × (self.now.out ≡ Some number)) }
+        ensures none { IfNone result (self.now.unput ≡ 0) }
     {
-        if self.unput { self.out } else { None }
+        if self.unput > 0 { self.out } else { None }
     }
 
     /// What the message tells of the answer to the telegram that is out, behind the octets that came,
     /// which stand at the front of these.
-    pub(crate) fn answered<'a>(&self, found: &[u8], message: &'a [u8]) -> Option<Told<'a>>
-        requires { (job : Job) × (is_writable job self.now.ask ≡ true) }
-        ensures some { IfSome result (λ told. (number : ℕ) × (self.now.out ≡ Some number) × ((job : Job)
-            → TellsIfSome self.now.ask (take self.now.len found.now) told
-            (answer_of (question_of_single job self.now.ask (take self.now.len found.now)) number message.now))) }
-        ensures none { IfNone result ((job : Job) (number : ℕ) → self.now.out ≡ Some number
-            → answer_of (question_of_single job self.now.ask (take self.now.len found.now)) number message.now ≡ None) }
+    pub(crate) fn answered<'a>(
+        &self,
+        job: &Job,
+        found: &[u8],
+        message: &'a [u8],
+    ) -> Option<Told<'a>>
+        requires { is_writable job.now self.now.ask ≡ true }
+        ensures some { IfSome result (λ told. (number : ℕ) × (self.now.out ≡ Some number)
+            × TellsIfSome self.now.ask (take self.now.len found.now) told
+            (answer_of (question_of_single job.now self.now.ask (take self.now.len found.now)) number message.now)) }
+        ensures none { IfNone result ((number : ℕ) → self.now.out ≡ Some number
+            → answer_of (question_of_single job.now self.now.ask (take self.now.len found.now)) number message.now
+            ≡ None) }
     {
         let Some(sequence) = self.out else {
             return None;
         };
         // There is no place for octets where a control is asked.
         let len = self.len.min(found.len());
-        read_single(&self.ask, &found[..len], sequence, message)
+        read_single(job, &self.ask, &found[..len], sequence, message)
     }
 }
 
 impl Ask {
     ghost use Rattle.std.specs.Prelude.{Some};
     ghost use Rattle.s7_dialogue.specs.Answer.{refuses};
-    ghost use Rattle.s7_dialogue.specs.Singles.{lead_in, refusal_to};
+    ghost use Rattle.s7_dialogue.specs.Singles.{is_numbered_ask, lead_in, refusal_to};
 
     /// The number that the job ends with where this error word refuses what is asked.
     pub(crate) fn refused(&self, error: u16) -> u32
@@ -122,6 +155,24 @@ impl Ask {
             Ask::Part(block, place) => block.refused(*place, number_of_error(error)),
             _ => number_of_error(error),
         }
+    }
+
+    /// How many messages go out for it.
+    pub(crate) fn message_count(&self) -> usize
+        ensures { result ≡ message_count self.now }
+    {
+        match self {
+            Ask::AwaitCall(_) => 0,
+            Ask::Insert { .. } => 2,
+            _ => 1,
+        }
+    }
+
+    /// It goes out under a sequence of the client's own.
+    fn is_numbered(&self) -> bool
+        ensures { result ≡ is_numbered_ask self.now }
+    {
+        !matches!(self, Ask::AwaitCall(_) | Ask::Give { .. })
     }
 
     /// How many octets of a whole answer stand before what was asked for.
@@ -136,7 +187,7 @@ impl Ask {
 }
 
 impl Running {
-    ghost use Rattle.std.specs.Prelude.{ℕ, ◌+◌, List, length, take, drop, None, Some, Option, IfSome, IfNone, OnSome};
+    ghost use Rattle.std.specs.Prelude.{ℕ, ◌+◌, true, List, length, take, drop, None, Some, Option, IfSome, IfNone, OnSome};
     ghost use Rattle.s7_dialogue.specs.declared.config.Config.{Config};
     ghost use Rattle.s7_dialogue.specs.declared.grant.Grant.{Grant};
     ghost use Rattle.s7_dialogue.specs.Flight.{Row, filled};
@@ -169,7 +220,7 @@ impl Running {
         let Stage::Single(single) = &self.stage else {
             unreachable!()
         };
-        let Some(told) = single.answered(self.found.as_slice(), message) else {
+        let Some(told) = single.answered(&self.job, self.found.as_slice(), message) else {
             return None;
         };
         let (ask, len) = (single.ask, single.len);
@@ -209,7 +260,7 @@ impl Running {
         self.stage = Stage::Single(Single {
             ask,
             out: None,
-            unput: false,
+            unput: 0,
             len,
         });
         self.go_on(sequence)

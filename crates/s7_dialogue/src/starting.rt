@@ -15,9 +15,12 @@ ghost use Rattle.s7_dialogue.specs.Stages.{IsGrant};
 ghost use Rattle.s7_dialogue.specs.Starting.{AsksFirst, Starts};
 
 use crate::asking::Asking;
-use crate::checks::{check_item, check_items, check_moment, check_password, octet_count_of};
+use crate::checks::{
+    check_image, check_item, check_items, check_moment, check_password, octet_count_of,
+};
 use crate::codes::{GOOD, NOT_CONNECTED, TOO_MANY_ITEMS};
 use crate::data_block::DataBlock;
+use crate::download::Pieces;
 use crate::grant::{Grant, Leaves};
 use crate::job::Job;
 use crate::left::{Grouped, Left, items_of};
@@ -29,6 +32,9 @@ use crate::user_data::MOST_JOINED;
 use s7_clock::Control;
 use s7_item::{Item, MOST_ITEMS};
 use s7_split::{Groups, parts};
+
+/// What header, parameters and the head of the data take of the telegram of a piece.
+const HEADS_OF_PIECE: u16 = 18;
 
 /// What a job begins with, and for how many octets it needs room.
 #[derive(Drop)]
@@ -75,6 +81,7 @@ fn start_connected(granted: &Grant, job: &Job) -> Start
         Job::ListOf { .. } => asking_about(Subject::BlocksOfKind),
         Job::Info { .. } => asking_about(Subject::BlockHead),
         Job::Upload { .. } => asking_singly(Ask::Upload, MOST_UPLOADED),
+        Job::Download { image } => download(granted, image.as_slice()),
         Job::Delete { kind, number } => controlling(Control::Delete {
             kind: *kind,
             number: *number,
@@ -207,6 +214,21 @@ fn set_password(text: &[u8]) -> Start
     asking_about(Subject::Password)
 }
 
+fn download(granted: &Grant, image: &[u8]) -> Start
+    requires { IsGrant granted.now }
+    ensures { Starts (job.Download image.now) (Some granted.now) result.stage result.octets result.codes }
+{
+    let check = check_image(image);
+    if check != GOOD {
+        return over(check, Leaves::AsItWas);
+    }
+    let pieces = Pieces {
+        room: granted.pdu - HEADS_OF_PIECE,
+        len: image.len() as u32,
+    };
+    asking_singly(Ask::Announce(pieces), 0)
+}
+
 // A job that asks for this control.
 fn controlling(control: Control) -> Start
     ensures stage { (s : Single) × (result.stage ≡ stage.Single s)
@@ -256,7 +278,7 @@ fn asking_singly(ask: Ask, octets: usize) -> Start
         stage: Stage::Single(Single {
             ask,
             out: None,
-            unput: false,
+            unput: 0,
             len: 0,
         }),
         octets,

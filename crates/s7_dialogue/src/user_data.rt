@@ -1,11 +1,11 @@
 // User data, controls, uploads and parts of data blocks: the answers to what jobs ask that ask one question at a time
 // (Snap7 1.4 sources, s7_types.h: TS7Params7, and the data that follow it).
 ghost use Rattle.std.specs.Prelude.{◌≡◌, true, ℕ, ◌+◌, ◌<◌, ◌==◌, ◌&&◌, List, length, if◌then◌else◌};
-ghost use Rattle.std.specs.Prelude.{None, Some, IfSome, IfNone, MatchOption};
+ghost use Rattle.std.specs.Prelude.{None, Some, IfSome, IfNone, MatchOption, [], Ok};
 ghost use Rattle.s7_header.specs.Octets.{number_at};
+ghost use Rattle.s7_header.specs.Header.{header_of};
 ghost use Rattle.s7_header.specs.UserParams.{user_params_of};
 ghost use Rattle.s7_szl.specs.Images.{adds_up};
-ghost use Rattle.s7_dialogue.specs.declared.job.Job.{Job};
 ghost use Rattle.s7_dialogue.specs.declared.single.Ask.{Ask};
 ghost use Rattle.s7_dialogue.specs.declared.subject.Subject.{Subject};
 ghost use Rattle.s7_dialogue.specs.declared.subject.Subject.TheVariants as subject;
@@ -14,13 +14,17 @@ ghost use Rattle.s7_dialogue.specs.declared.single.Ask.TheVariants as asked;
 ghost use Rattle.s7_dialogue.specs.UserData.{octets_in, answers_about};
 ghost use Rattle.s7_dialogue.specs.UserData.{is_whole, has_octets, goes_on_with};
 ghost use Rattle.s7_dialogue.specs.Answer.{answer_of, acknowledged, answered_by_user, by_params, brought, is_under};
+ghost use Rattle.s7_dialogue.specs.Answer.{awaits_server, by_call};
 ghost use Rattle.s7_dialogue.specs.Answer.{refuses, function_of, tells_status};
-ghost use Rattle.s7_dialogue.specs.Question.{controls};
+ghost use Rattle.s7_dialogue.specs.Question.{controls, inserts};
 ghost use Rattle.s7_dialogue.specs.Stages.{question_of_single, is_writable};
 ghost use Rattle.s7_dialogue.specs.Singles.{TellsIfSome};
 
 use crate::data_block::{DataBlock, read_head, read_part, tells_data};
+use crate::download::{Pieces, read_announced, read_first_call, read_next_call};
+use crate::job::Job;
 use crate::refusals::{number_of_error, number_of_status};
+use crate::requests::image_of;
 use crate::single::Ask;
 use crate::subject::Subject;
 use crate::upload::{read_ended, read_slice, read_started};
@@ -34,8 +38,8 @@ pub(crate) const MOST_JOINED: usize = 8448;
 /// The octets of an image before its records.
 const HEAD: usize = 8;
 
-/// The octets of an answer that counts the blocks of seven kinds, of each block of a kind, and of an answer that tells a
-/// head.
+/// The octets of an answer that counts the blocks of seven kinds, of each block of a kind, and of an answer that tells
+/// a head.
 const COUNTS: usize = 28;
 
 const ENTRY: usize = 4;
@@ -61,10 +65,11 @@ pub(crate) enum Told<'a> {
     Anew(Ask),
 }
 
-/// What the message tells of the answer to what is asked, behind the octets that came; `None` exactly where it is no
-/// such answer.
+/// What the message tells of the answer to what the job asks, behind the octets that came; `None` exactly where it is
+/// no such answer.
 #[tactic(auto, unfolding(crate::specs::Answer::answer_of))]
 pub(crate) fn read_single<'a>(
+    job: &Job,
     ask: &Ask,
     so_far: &[u8],
     sequence: u16,
@@ -72,16 +77,18 @@ pub(crate) fn read_single<'a>(
 ) -> Option<Told<'a>>
     requires first { (subject : Subject) → ask.now ≡ asked.About subject → length so_far.now ≡ 0 }
     requires alone { (block : DataBlock) → ask.now ≡ asked.Head block → length so_far.now ≡ 0 }
-    requires writable { (job : Job) × (is_writable job ask.now ≡ true) }
-    ensures some { IfSome result (λ told. (job : Job)
-        → TellsIfSome ask.now so_far.now told
-        (answer_of (question_of_single job ask.now so_far.now) sequence message.now)) }
-    ensures none { IfNone result ((job : Job)
-        → answer_of (question_of_single job ask.now so_far.now) sequence message.now ≡ None) }
+    requires writable { is_writable job.now ask.now ≡ true }
+    ensures some { IfSome result (λ told. TellsIfSome ask.now so_far.now told
+        (answer_of (question_of_single job.now ask.now so_far.now) sequence message.now)) }
+    ensures none { IfNone result
+        (answer_of (question_of_single job.now ask.now so_far.now) sequence message.now ≡ None) }
 {
     let Ok(header) = read_header(message) else {
         return None;
     };
+    if let Ask::AwaitCall(_) | Ask::Give { .. } = ask {
+        return read_call(job, ask, &header, message);
+    }
     if header.sequence != sequence {
         return None;
     }
@@ -91,6 +98,29 @@ pub(crate) fn read_single<'a>(
         Kind::AckData => read_acknowledgement(ask, so_far, header.error, params, body),
         Kind::User => read_user_data(ask, so_far, params, body),
         Kind::Job => None,
+    }
+}
+
+// What a message with this header tells where a job of the server's is awaited.
+fn read_call<'a>(job: &Job, ask: &Ask, header: &Header, message: &'a [u8]) -> Option<Told<'a>>
+    requires writable { is_writable job.now ask.now ≡ true }
+    requires calls { awaits_server (question_of_single job.now ask.now []) ≡ true }
+    requires header { header_of message.now ≡ Ok header.now }
+    ensures { (so_far : List ℕ)
+        → let answer = by_call header.now.kind (question_of_single job.now ask.now so_far) header.now message.now in
+        MatchOption result (answer ≡ None) (λ told. TellsIfSome ask.now so_far told answer) }
+{
+    let Kind::Job = header.kind else {
+        return None;
+    };
+    let (params, body) = parts(message, header);
+    let image = image_of(job);
+    match ask {
+        Ask::AwaitCall(pieces) => { read_first_call(image, *pieces, header.sequence, params, body) }
+        Ask::Give { pieces, from, .. } => {
+            read_next_call(image, *pieces, *from, header.sequence, params, body)
+        }
+        _ => None,
     }
 }
 
@@ -131,6 +161,9 @@ fn read_acknowledgement<'a>(
         Ask::Upload => read_started(params, body),
         Ask::Slice { id, size } => read_slice(*id, *size, so_far, params, body),
         Ask::UploadEnd { .. } => read_ended(params, body),
+        Ask::Announce(pieces) => read_announced(*pieces, params, body),
+        Ask::AwaitCall(_) | Ask::Give { .. } => None,
+        Ask::Insert { pieces, call } => read_inserted(*pieces, *call, params, body),
         Ask::Part(block, place) => read_part(block, *place, params, body),
     }
 }
@@ -150,6 +183,14 @@ fn read_status<'a>(control: &Control, params: &[u8], body: &[u8]) -> Option<Told
         }),
         status => Some(Told::Refused(number_of_status(control, status))),
     }
+}
+
+// What the insertion of a block that was downloaded is answered.
+fn read_inserted<'a>(pieces: Pieces, call: u16, params: &[u8], body: &[u8]) -> Option<Told<'a>>
+    ensures { (image so_far : List ℕ) → let answer = acknowledged (inserts image call) params.now body.now in
+        MatchOption result (answer ≡ None) (λ told. TellsIfSome (asked.Insert pieces call) so_far told answer) }
+{
+    read_status(&Control::Insert { kind: 0, number: 0 }, params, body)
 }
 
 // The parameters are the function of a control and a status.
@@ -188,6 +229,10 @@ fn read_user_data<'a>(ask: &Ask, so_far: &[u8], params: &[u8], body: &'a [u8]) -
         | Ask::Upload
         | Ask::Slice { .. }
         | Ask::UploadEnd { .. }
+        | Ask::Announce(_)
+        | Ask::AwaitCall(_)
+        | Ask::Give { .. }
+        | Ask::Insert { .. }
         | Ask::Part(_, _) => { None }
     }
 }

@@ -14,7 +14,7 @@ use Rattle.s7_wire.specs.Reading.{Event, opened, message}
 use Rattle.s7_dialogue.specs.declared.config.Config.{Config}
 use Rattle.s7_dialogue.specs.declared.grant.Grant.{Grant}
 use Rattle.s7_dialogue.specs.Question.{negotiates}
-use Rattle.s7_dialogue.specs.Answer.{Answer, grants, tells, notes, stands, brings, uploads, slices, uploaded, refuses, answer_of}
+use Rattle.s7_dialogue.specs.Answer.{Answer, grants, tells, notes, stands, brings, uploads, slices, uploaded, announced, calls, refuses, answer_of}
 use Rattle.s7_dialogue.specs.Dialogue.{asked_by, taken_grant}
 use Rattle.s7_partner.specs.declared.role.Role.{Role}
 use Rattle.s7_partner.specs.declared.role.Role.TheVariants.{Active, Passive}
@@ -54,6 +54,8 @@ answer_idle config s (Some (brings octet more octets)) e = e
 answer_idle config s (Some (uploads id size)) e = e
 answer_idle config s (Some (slices more octets)) e = e
 answer_idle config s (Some uploaded) e = e
+answer_idle config s (Some announced) e = e
+answer_idle config s (Some (calls sequence)) e = e
 
 cond_idle : (b : Bool) (x y : State) → Idle x → Idle y → Idle (if b then x else y)
 cond_idle true x y h k = h

@@ -16,7 +16,7 @@ use Rattle.s7_wire.specs.Reading.{Event, opened, message}
 use Rattle.s7_dialogue.specs.declared.config.Config.{Config}
 use Rattle.s7_dialogue.specs.declared.grant.Grant.{Grant}
 use Rattle.s7_dialogue.specs.Question.{negotiates, message_octets}
-use Rattle.s7_dialogue.specs.Answer.{Answer, grants, tells, notes, stands, brings, uploads, slices, uploaded, refuses, answer_of}
+use Rattle.s7_dialogue.specs.Answer.{Answer, grants, tells, notes, stands, brings, uploads, slices, uploaded, announced, calls, refuses, answer_of}
 use Rattle.s7_dialogue.specs.Dialogue.{asked_by, taken_grant}
 use Rattle.s7_partner.specs.declared.role.Role.{Role}
 use Rattle.s7_partner.specs.declared.role.Role.TheVariants.{Active, Passive}
@@ -79,6 +79,8 @@ answer_grows config s (Some (brings octet more octets)) = (prefix_same s.out, re
 answer_grows config s (Some (uploads id size)) = (prefix_same s.out, refl)
 answer_grows config s (Some (slices more octets)) = (prefix_same s.out, refl)
 answer_grows config s (Some uploaded) = (prefix_same s.out, refl)
+answer_grows config s (Some announced) = (prefix_same s.out, refl)
+answer_grows config s (Some (calls sequence)) = (prefix_same s.out, refl)
 
 -- behind something that is put too
 goes_grows : (s p : State) (pdu : ℕ) → Grows s p → Grows s (goes p pdu)

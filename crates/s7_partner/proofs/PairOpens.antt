@@ -19,7 +19,7 @@ use Rattle.s7_dialogue.specs.declared.grant.Grant.{Grant}
 use Rattle.s7_dialogue.specs.Codes.{short_message, invalid_answer, negotiation_failed}
 use Rattle.s7_dialogue.specs.Course.{next_sequence}
 use Rattle.s7_dialogue.specs.Question.{negotiates, message_octets}
-use Rattle.s7_dialogue.specs.Answer.{Answer, grants, tells, notes, stands, brings, uploads, slices, uploaded, refuses, answer_of}
+use Rattle.s7_dialogue.specs.Answer.{Answer, grants, tells, notes, stands, brings, uploads, slices, uploaded, announced, calls, refuses, answer_of}
 use Rattle.s7_dialogue.specs.Dialogue.{asked_by, taken_grant}
 use Rattle.s7_partner.specs.declared.role.Role.{Role}
 use Rattle.s7_partner.specs.declared.role.Role.TheVariants.{Active, Passive}
@@ -248,6 +248,10 @@ answer_reading config s acts o m (Some (uploads id size)) is only =
 answer_reading config s acts o m (Some (slices more octets)) is only =
     shut_reading Active config s acts o m negotiation_failed
 answer_reading config s acts o m (Some uploaded) is only =
+    shut_reading Active config s acts o m negotiation_failed
+answer_reading config s acts o m (Some announced) is only =
+    shut_reading Active config s acts o m negotiation_failed
+answer_reading config s acts o m (Some (calls sequence)) is only =
     shut_reading Active config s acts o m negotiation_failed
 
 -- ---- a passive partner hears the negotiation

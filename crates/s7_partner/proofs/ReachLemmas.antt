@@ -19,7 +19,7 @@ use Rattle.s7_dialogue.specs.declared.config.Config.{Config}
 use Rattle.s7_dialogue.specs.declared.grant.Grant.{Grant}
 use Rattle.s7_dialogue.specs.Codes.{negotiation_failed, short_message}
 use Rattle.s7_dialogue.specs.Question.{negotiates, message_octets}
-use Rattle.s7_dialogue.specs.Answer.{Answer, grants, tells, notes, stands, brings, uploads, slices, uploaded, refuses, answer_of}
+use Rattle.s7_dialogue.specs.Answer.{Answer, grants, tells, notes, stands, brings, uploads, slices, uploaded, announced, calls, refuses, answer_of}
 use Rattle.s7_dialogue.specs.Dialogue.{asked_by, taken_grant}
 use Rattle.s7_partner.specs.declared.role.Role.{Role}
 use Rattle.s7_partner.specs.declared.role.Role.TheVariants.{Active, Passive}
@@ -180,6 +180,8 @@ answer_by config s (Some (brings octet more octets)) = refl
 answer_by config s (Some (uploads id size)) = refl
 answer_by config s (Some (slices more octets)) = refl
 answer_by config s (Some uploaded) = refl
+answer_by config s (Some announced) = refl
+answer_by config s (Some (calls sequence)) = refl
 
 pub negotiates_active : (old new : Partner) (octets : List ℕ) (role : Role) → role ≡ Active
     → Reaches old new (λ s. by_pdu s (granted_pdu old.config octets))

@@ -13,7 +13,7 @@ use Rattle.s7_dialogue.specs.declared.config.Config.{Config}
 use Rattle.s7_dialogue.specs.declared.grant.Grant.{Grant}
 use Rattle.s7_dialogue.specs.Codes.{negotiation_failed, invalid_answer}
 use Rattle.s7_dialogue.specs.Question.{negotiates, message_octets}
-use Rattle.s7_dialogue.specs.Answer.{Answer, grants, tells, notes, stands, brings, uploads, slices, uploaded, refuses, answer_of}
+use Rattle.s7_dialogue.specs.Answer.{Answer, grants, tells, notes, stands, brings, uploads, slices, uploaded, announced, calls, refuses, answer_of}
 use Rattle.s7_dialogue.specs.Dialogue.{asked_by, taken_grant}
 use Rattle.s7_partner.specs.States.{State, with_code, goes, granted_by}
 
@@ -35,6 +35,8 @@ pdu_of_answer config (Some (brings octet more octets)) = Err negotiation_failed
 pdu_of_answer config (Some (uploads id size)) = Err negotiation_failed
 pdu_of_answer config (Some (slices more octets)) = Err negotiation_failed
 pdu_of_answer config (Some uploaded) = Err negotiation_failed
+pdu_of_answer config (Some announced) = Err negotiation_failed
+pdu_of_answer config (Some (calls sequence)) = Err negotiation_failed
 
 abbrev pub granted_pdu : Config → List ℕ → Result ℕ ℕ
 granted_pdu config octets = pdu_of_answer config (answer_of (negotiates (asked_by config)) 1 octets)

@@ -19,7 +19,7 @@ use Rattle.s7_dialogue.specs.declared.config.Config.{Config}
 use Rattle.s7_dialogue.specs.declared.grant.Grant.{Grant}
 use Rattle.s7_dialogue.specs.Codes.{negotiation_failed, short_message, invalid_answer}
 use Rattle.s7_dialogue.specs.Question.{negotiates, question_octets, message_octets}
-use Rattle.s7_dialogue.specs.Answer.{Answer, grants, tells, notes, stands, brings, uploads, slices, uploaded, refuses, answer_of}
+use Rattle.s7_dialogue.specs.Answer.{Answer, grants, tells, notes, stands, brings, uploads, slices, uploaded, announced, calls, refuses, answer_of}
 use Rattle.s7_dialogue.specs.Dialogue.{asked_by, taken_grant}
 use Rattle.s7_dialogue.specs.Course.{connect_octets, asked_size_code, next_sequence}
 use Rattle.s7_partner.specs.declared.role.Role.{Role}
@@ -200,6 +200,8 @@ by_answer config s (Some (brings octet more octets)) = with_code s negotiation_f
 by_answer config s (Some (uploads id size)) = with_code s negotiation_failed
 by_answer config s (Some (slices more octets)) = with_code s negotiation_failed
 by_answer config s (Some uploaded) = with_code s negotiation_failed
+by_answer config s (Some announced) = with_code s negotiation_failed
+by_answer config s (Some (calls sequence)) = with_code s negotiation_failed
 
 -- what a passive partner grants: at most the PDU of its configuration, and from one to eight jobs each way
 abbrev pub granted_by : Config → Negotiation → Negotiation

@@ -1,5 +1,5 @@
 -- What a client hears of the answers that a session gives.
-use Rattle.std.proofs.Common.{◌≡◌, ℕ, ◌+◌, ◌<◌, ◌≤◌, ◌^◌, Bool, true, cond, eqb, List, [], ◌∷◌, ◌++◌, length, map, drop, Option, None, Some, option_map, Ok, refl, ap, ◌∙◌, arith, length-append}
+use Rattle.std.proofs.Common.{◌≡◌, ℕ, ◌+◌, ◌<◌, ◌≤◌, ◌^◌, Bool, true, false, cond, eqb, List, [], ◌∷◌, ◌++◌, length, map, drop, Option, None, Some, option_map, Ok, refl, ap, ◌∙◌, arith, length-append}
 use Rattle.std.proofs.Math.Seq.{take-append_seam, drop-append_seam}
 use Rattle.std.proofs.lemmas.Bool.{and_from, eq-eqb}
 use Rattle.s7_header.specs.Header.{header_of, refusal_of}
@@ -19,8 +19,8 @@ use Rattle.s7_plant.specs.Answers.{read_item, write_codes}
 use Rattle.s7_plant.specs.Answers as plant
 use Rattle.s7_plant.specs.Requests.{asked}
 use Rattle.s7_plant.specs.State.{State}
-use Rattle.s7_dialogue.specs.Question.{Question, negotiates, reads, writes}
-use Rattle.s7_dialogue.specs.Answer.{Answer, refuses, grants, tells, notes, item_answers, counts_items, grant_in, acknowledged, by_header, by_kind, answer_of}
+use Rattle.s7_dialogue.specs.Question.{Question, negotiates, reads, writes, awaits_call, gives, is_numbered}
+use Rattle.s7_dialogue.specs.Answer.{Answer, refuses, grants, tells, notes, item_answers, counts_items, grant_in, acknowledged, by_header, by_kind, awaits_server, by_call, answer_of}
 use Rattle.s7_session.specs.Judgement.{answer_octets, refusal_octets, reply_octets}
 use Rattle.s7_rig.specs.Heard.{told_of}
 use Rattle.s7_rig.proofs.DataItemLemmas.{items_are_told, read_fits}
@@ -30,29 +30,39 @@ use Rattle.s7_rig.proofs.DataItemLemmas.{items_are_told, read_fits}
 of_sequence : (s : ℕ) (told : Option Answer) → cond (eqb s s) told None ≡ told
 of_sequence s told = ap (λ b. cond b told None) (eq-eqb s s refl)
 
-pub heard_by : (q : Question) (s : ℕ) (message : List ℕ) (h : Header) → header_of message ≡ Ok h → h.sequence ≡ s
-    → answer_of q s message ≡ by_kind h.kind q h message
+-- what goes out under a sequence of the client's own awaits no job of the server's
+own_awaits : (q : Question) → is_numbered q ≡ true → awaits_server q ≡ false
+own_awaits (awaits_call image) numbered = absurd (cc)
+own_awaits (gives image room from call) numbered = absurd (cc)
+own_awaits _ numbered = refl
+
+pub heard_by : (q : Question) (s : ℕ) (message : List ℕ) (h : Header) → is_numbered q ≡ true → header_of message ≡ Ok h
+    → h.sequence ≡ s → answer_of q s message ≡ by_kind h.kind q h message
 unfolding answer_of
-heard_by q s message h is same =
+heard_by q s message h numbered is same =
+    let own : Bool → Option Answer = λ b. cond b (by_kind h.kind q h message) None in
     ap (by_header q s message) is
-    ∙ ap (λ b. cond b (by_kind h.kind q h message) None) (eq-eqb h.sequence s same)
+    ∙ (ap (λ b. cond b (by_call h.kind q h message) (own (eqb h.sequence s))) (own_awaits q numbered)
+    ∙ ap own (eq-eqb h.sequence s same))
 
 -- a refusal is heard with its error word
-pub refusal_is_heard : (q : Question) (s error : ℕ) → s < 2 ^ 16 → error < 2 ^ 16 → answer_of q s (refusal_octets s error) ≡ Some (refuses error)
-refusal_is_heard q s error fits small =
+pub refusal_is_heard : (q : Question) (s error : ℕ) → is_numbered q ≡ true → s < 2 ^ 16 → error < 2 ^ 16
+    → answer_of q s (refusal_octets s error) ≡ Some (refuses error)
+refusal_is_heard q s error numbered fits small =
     let h : Header = refusal_of s error in
-    heard_by q s (refusal_octets s error) h
+    heard_by q s (refusal_octets s error) h numbered
     (spelled 0 0 h [] [] (record { sequence = fits; param_len = omega arith; body_len = omega arith; error = small; no_error = tt }) refl refl) refl
 
 abbrev header_with : ℕ → List ℕ → List ℕ → Header
 header_with s params body = record { kind = AckData; sequence = s; param_len = length params; body_len = length body; error = 0 }
 
 -- an answer with parameters and data is heard as these
-pub answer_is_heard : (q : Question) (s : ℕ) (params body : List ℕ) → s < 2 ^ 16 → length params < 2 ^ 16 → length body < 2 ^ 16
+pub answer_is_heard : (q : Question) (s : ℕ) (params body : List ℕ) → is_numbered q ≡ true → s < 2 ^ 16
+    → length params < 2 ^ 16 → length body < 2 ^ 16
     → answer_of q s (answer_octets s params body) ≡ acknowledged q params body
-answer_is_heard q s params body fits few short =
+answer_is_heard q s params body numbered fits few short =
     let h : Header = header_with s params body in
-    heard_by q s (answer_octets s params body) h
+    heard_by q s (answer_octets s params body) h numbered
     (spelled 0 0 h params body (record { sequence = fits; param_len = few; body_len = short; error = omega arith; no_error = tt }) refl refl) refl
     ∙ (ap (λ xs. acknowledged q xs (drop (length params) (params ++ body))) (take-append_seam params body)
     ∙ ap (acknowledged q params) (drop-append_seam params body))
@@ -60,7 +70,7 @@ answer_is_heard q s params body fits few short =
 -- a grant is heard
 pub negotiation_is_heard : (wanted n : Negotiation) (s : ℕ) → s < 2 ^ 16 → answer_of (negotiates wanted) s (answer_octets s (negotiation_spelling n) []) ≡ Some (grants n)
 negotiation_is_heard wanted n s fits =
-    answer_is_heard (negotiates wanted) s (negotiation_spelling n) [] fits (omega arith) (omega arith)
+    answer_is_heard (negotiates wanted) s (negotiation_spelling n) [] refl fits (omega arith) (omega arith)
     ∙ ap grant_in (spelled_negotiation 0 n)
 
 -- ---- lengths
@@ -89,7 +99,7 @@ read_is_heard state right items s fits most =
     let m = state.memory in
     let params : List ℕ = items_params 0x04 (length items) in
     let body : List ℕ = data_octets (map (read_item m right) items) in
-    answer_is_heard (reads items) s params body fits (omega arith) (omega (arith, read_fits m right items, most))
+    answer_is_heard (reads items) s params body refl fits (omega arith) (omega (arith, read_fits m right items, most))
     ∙ (ap (λ b. cond b (option_map tells (item_answers items body)) None) (counted 0x04 items)
     ∙ ap (option_map tells) (items_are_told m right items))
 
@@ -122,5 +132,5 @@ write_is_heard state right items places octets found s fits many few =
     let params : List ℕ = items_params 0x05 (length items) in
     let codes : List ℕ = write_codes state.memory right items places octets in
     let all : length codes ≡ length items = length-write_codes state.memory right items places octets many in
-    answer_is_heard (writes items found) s params codes fits (omega arith) (omega (arith, all, few))
+    answer_is_heard (writes items found) s params codes refl fits (omega arith) (omega (arith, all, few))
     ∙ ap (λ b. cond b (Some (notes codes)) None) (and_from _ _ (counted 0x05 items) (eq-eqb (length codes) (length items) all))

@@ -1,5 +1,5 @@
 -- What a job on a connected client asks: reads and writes of one to twenty items, whose answers have room; controls;
--- user data with its octets, and further octets of what comes in pieces; and uploads.
+-- user data with its octets, and further octets of what comes in pieces; uploads; and downloads of an image that is good.
 use Rattle.std.proofs.Common.{◌≡◌, ℕ, ◌<◌, ◌≤◌, Bool, true, false, ◌&&◌, cond, eqb, leb, ltb, Option, None, Some, List, [], ◌∷◌, length, drop, refl, ap, subst, arith}
 use Rattle.std.specs.Prelude.{IsSome, is_some, slice_get, replicate}
 use Rattle.std.specs.List.{AllByRecursion}
@@ -22,12 +22,13 @@ use Rattle.s7_dialogue.specs.declared.job.Job.TheVariants as job
 use Rattle.s7_dialogue.specs.declared.subject.Subject.{Subject}
 use Rattle.s7_dialogue.specs.declared.subject.Subject.TheVariants.{StatusList, RunState, BlockCounts, BlocksOfKind, BlockHead, Clock, ClockSetting, Password, PasswordClearing}
 use Rattle.s7_dialogue.specs.Codes.{invalid_parameters}
+use Rattle.s7_dialogue.specs.Downloads.{piece_room}
 use Rattle.s7_dialogue.specs.UserData.{comes_in_pieces, filled_text, encoded}
 use Rattle.s7_dialogue.specs.Question.{Question, controls, asks_further}
-use Rattle.s7_dialogue.specs.Answer.{Answer, grants, tells, notes, stands, brings, uploads, slices, uploaded, refuses}
-use Rattle.s7_dialogue.specs.Checks.{octet_count_of, check_item, check_items, check_moment, check_password}
+use Rattle.s7_dialogue.specs.Answer.{Answer, grants, tells, notes, stands, brings, uploads, slices, uploaded, announced, calls, refuses}
+use Rattle.s7_dialogue.specs.Checks.{octet_count_of, check_item, check_items, check_moment, check_password, check_image}
 use Rattle.s7_dialogue.specs.DataBlocks.{data_parts}
-use Rattle.s7_dialogue.specs.Dialogue.{End, read_questions, write_questions, alone, listed, if_good, at_once, asking_about, next_piece, behind, last_answer, octets_brought, list_octets, kind_octets, block_octets, plan_of}
+use Rattle.s7_dialogue.specs.Dialogue.{End, read_questions, write_questions, alone, listed, if_good, at_once, asking_about, downloading, next_piece, behind, last_answer, octets_brought, list_octets, kind_octets, block_octets, plan_of}
 use Rattle.s7_dialogue.proofs.CheckLemmas.{item_checked, items_checked, can_split}
 use Rattle.s7_client.proofs.DataFitLemmas.{data_fit}
 use Rattle.s7_dialogue.proofs.GroupLemmas.{groups_right}
@@ -39,6 +40,7 @@ use Rattle.s7_rig.proofs.PlacedLemmas.{parts_known}
 use Rattle.s7_rig.proofs.UserClockLemmas.{clock_read, length-clock}
 use Rattle.s7_rig.proofs.UserPasswordLemmas.{length-password}
 use Rattle.s7_rig.proofs.UploadAsksLemmas.{of_upload}
+use Rattle.s7_rig.proofs.DownloadAsksLemmas.{of_download}
 use Rattle.s7_rig.proofs.DataAsksLemmas.{of_data, data_known}
 use Rattle.s7_rig.proofs.AskedItems.{alone_each, groups_each, items_known}
 
@@ -127,6 +129,8 @@ behind_askable pdu subject so_far (Some (stands status)) q is = absurd (cc)
 behind_askable pdu subject so_far (Some (uploads id size)) q is = absurd (cc)
 behind_askable pdu subject so_far (Some (slices more octets)) q is = absurd (cc)
 behind_askable pdu subject so_far (Some uploaded) q is = absurd (cc)
+behind_askable pdu subject so_far (Some announced) q is = absurd (cc)
+behind_askable pdu subject so_far (Some (calls sequence)) q is = absurd (cc)
 behind_askable pdu subject so_far (Some (refuses error)) q is = absurd (cc)
 behind_askable pdu subject so_far None q is = absurd (cc)
 
@@ -208,6 +212,11 @@ askable (job.Info kind number) config granted answers q least is =
 askable (job.Upload kind number) config granted answers q least is =
     of_upload (IsAskable granted.pdu) (λ id size so_far. tt) (λ id. tt) (record { kind = kind; number = number }) answers q
     tt is
+askable (job.Download image) config granted answers q least is =
+    let room = piece_room granted.pdu in
+    let sent = good_sent (check_image image) (at_once (downloading image room)) answers q is in
+    of_download (IsAskable granted.pdu) image room (λ from call less. (sent.0, refl, less)) (λ call. sent.0) answers q
+    sent.0 sent.0 sent.1
 askable (job.Delete kind number) config granted answers q least is =
     one_askable granted.pdu (controls (control.Delete kind number)) q (length answers) tt is
 askable (job.DbGet number) config granted answers q least is =

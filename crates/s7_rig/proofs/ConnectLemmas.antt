@@ -115,7 +115,10 @@ negotiating_in config k = record k {
 
 negotiates_alone : (config : Config) (k : Course) → asking (negotiating config) (blank_of k) ≡ negotiating_in config k
 unfolding asked_on open_count
-negotiates_alone config k = refl
+negotiates_alone config k =
+    let message = question_octets 1 (negotiates (asked_by config)) in
+    ap (λ (sent : List ℕ). record (negotiating_in config k) { out = k.out ++ sent })
+    (append-nil (sent_message 1024 message))
 
 same_blank : (k : Course) → k.rows ≡ [] → k.sequence ≡ 0 → sized k 1024 ≡ blank_of k
 same_blank k none first =

@@ -9,8 +9,9 @@ use Rattle.s7_session.specs.Judgement.{plainly}
 use Rattle.s7_session.specs.LinkState.{LinkState}
 use Rattle.s7_session.specs.Owed.{past}
 use Rattle.s7_session.specs.Verdict.{Verdict}
-use Rattle.s7_rig.specs.Exchanges.{CanCall, Replies, is_barred, request_of}
+use Rattle.s7_rig.specs.Exchanges.{CanCall, is_barred, request_of}
 use Rattle.s7_rig.proofs.RepliedLemmas.{IsServed, is_sent, asking_replied, refused_replied}
+use Rattle.s7_rig.proofs.ReplyLemmas.{RepliesOnce}
 use Rattle.s7_rig.proofs.UserControlLemmas.{control_well}
 use Rattle.s7_rig.proofs.UserJudgedLemmas.{judged_control, judged_barred}
 
@@ -22,7 +23,7 @@ small_by false = omega arith
 barred_replied : {first : LinkState} (b : List ℕ) (js vs : List Verdict) (pdu s kind number : ℕ)
     → IsServed first b js vs pdu s (controls (control.Delete kind number))
     → request_of (control.Delete kind number) ≡ None
-    → Replies first b js vs pdu (controls (control.Delete kind number)) s
+    → RepliesOnce first b js vs pdu (controls (control.Delete kind number)) s
 barred_replied {first} b js vs pdu s kind number served none =
     let q = controls (control.Delete kind number) in
     let name = is_name kind number in
@@ -32,7 +33,7 @@ barred_replied {first} b js vs pdu s kind number served none =
 
 -- only a deletion is one that the plant isn't asked for
 unasked_replied : {first : LinkState} (b : List ℕ) (js vs : List Verdict) (pdu s : ℕ) (c : Control) → CanCall c
-    → IsServed first b js vs pdu s (controls c) → request_of c ≡ None → Replies first b js vs pdu (controls c) s
+    → IsServed first b js vs pdu s (controls c) → request_of c ≡ None → RepliesOnce first b js vs pdu (controls c) s
 unasked_replied b js vs pdu s control.Start can served none = absurd (cc)
 unasked_replied b js vs pdu s control.ColdStart can served none = absurd (cc)
 unasked_replied b js vs pdu s control.Stop can served none = absurd (cc)
@@ -44,7 +45,7 @@ unasked_replied b js vs pdu s (control.Delete kind number) can served none =
 
 pub control_replied : {first : LinkState} (b : List ℕ) (js vs : List Verdict) (pdu s : ℕ) (c : Control)
     (request : Option Request) → IsServed first b js vs pdu s (controls c) → CanCall c → request_of c ≡ request
-    → Replies first b js vs pdu (controls c) s
+    → RepliesOnce first b js vs pdu (controls c) s
 control_replied b js vs pdu s c None served can is = unasked_replied b js vs pdu s c can served is
 control_replied {first} b js vs pdu s c (Some request) served can is =
     let link = (past first b js).link in

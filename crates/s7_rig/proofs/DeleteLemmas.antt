@@ -41,7 +41,7 @@ stored_by false false false false false true g is = refl
 stored_by false false false false false false g is = absurd (cc)
 
 -- a block that there can be is one that a control can name
-block_named : (kind number : ℕ) → is_name kind number ≡ is_block kind number
+pub block_named : (kind number : ℕ) → is_name kind number ≡ is_block kind number
 block_named kind number =
     ap (λ b. b && ltb number 65536)
     (known_by (eqb kind 0x38) (eqb kind 0x41) (eqb kind 0x42) (eqb kind 0x43) (eqb kind 0x44) (eqb kind 0x45)

@@ -1,19 +1,22 @@
 -- A whole job over one link: where both ends are between two messages, and what becomes of the first question that is
 -- out.
 use Rattle.std.proofs.Common.{◌≡◌, inl, inr, ℕ, ◌<◌, ◌≤◌, Option, Some, List, [], ◌∷◌, ◌++◌, length, ap, ap₂, sym, ◌∙◌, subst, arith, length-append, append_assoc, append-nil}
+use Rattle.std.specs.List.{flat_map}
 use Rattle.std.proofs.lemmas.List.{append_cancel_left}
+use Rattle.std.proofs.lemmas.List.Concat.{flat_map-append}
 use Rattle.s7_header.specs.Negotiation.{most_pdu}
 use Rattle.s7_plant.specs.declared.request.Ask.{Ask}
 use Rattle.s7_plant.specs.Replies.{Said}
 use Rattle.s7_wire.specs.Bounds.{message_limit}
-use Rattle.s7_wire.specs.Sent.{sent_message}
+use Rattle.s7_wire.specs.Sent.{sent_message, sent_messages}
 use Rattle.s7_dialogue.specs.declared.grant.Grant.{Grant}
+use Rattle.s7_dialogue.specs.Question.{question_octets}
 use Rattle.s7_dialogue.specs.Answer.{Answer}
 use Rattle.s7_dialogue.specs.Flight.{Row, open_count}
 use Rattle.s7_dialogue.specs.Dialogue.{End, plan_of}
 use Rattle.s7_dialogue.specs.Course.{Origin, Awaits, for_answers, for_nothing, conduct_of, course}
 use Rattle.s7_client.specs.Standing.{IsByOctets}
-use Rattle.s7_dialogue.proofs.FlightLemmas.{row_message}
+use Rattle.s7_dialogue.proofs.FlightLemmas.{row_messages}
 use Rattle.s7_client.proofs.FitLemmas.{sent_short}
 use Rattle.s7_session.specs.LinkState.{LinkState}
 use Rattle.s7_session.specs.Telegrams.{entered_of}
@@ -23,17 +26,16 @@ use Rattle.s7_session.proofs.PastLemmas.{with_more, past_grows}
 use Rattle.s7_rig.specs.Settled.{Settled}
 use Rattle.s7_rig.specs.Awaiting.{telegrams_of, AreAsked, Awaiting}
 use Rattle.s7_rig.specs.Dialogues.{AreReplies}
-use Rattle.s7_rig.specs.Exchanges.{IsReadyFor, IsHeard, link_past, Replies, Exchange, entries_of, rows_of, AreTold, Converses}
-use Rattle.s7_rig.proofs.FrontLemmas.{served_front}
-use Rattle.s7_rig.proofs.JudgedLemmas.{question_is_s7}
+use Rattle.s7_rig.specs.Exchanges.{IsHeard, link_past, Replies, Exchange, entries_of, rows_of, AreTold, Converses}
 use Rattle.s7_rig.proofs.HeardLemmas.{AwaitsAnswers, heard_front}
 use Rattle.s7_rig.proofs.TelegramLemmas.{IsOut, AreOut, open_behind, awaits_more, asked_at}
 use Rattle.s7_rig.proofs.GrowthLemmas.{course_grows}
 use Rattle.s7_rig.proofs.PastFacts.{past_with, entered_grows}
 use Rattle.s7_rig.proofs.ListFacts.{Parts, parts, some_of}
-use Rattle.s7_rig.proofs.ReplyLemmas.{lives_on}
+use Rattle.s7_rig.proofs.SentLemmas.{sent_front, sent_lives}
 use Rattle.s7_rig.proofs.AnsweringLemmas.{question_answered}
-use Rattle.s7_rig.proofs.HoldLemmas.{AreReady}
+use Rattle.s7_rig.proofs.HoldDownload.{IsNext}
+use Rattle.s7_rig.proofs.HoldLemmas.{AreNext}
 
 -- ---- what stands fixed, and where both ends are
 
@@ -77,6 +79,8 @@ pub record Place : Type 0 where
   pub heard : List ℕ
   pub more : List ℕ
   pub out : List ℕ
+  -- what the session sent behind what the client heard so far
+  pub unheard : List (List ℕ)
   -- what the session used so far and its verdicts, and those to come
   pub used : List ℕ
   pub verdicts : List Verdict
@@ -91,14 +95,14 @@ pub record IsAt (w : Whole) (p : Place) : Type 0 where
   pub asked : AreAsked (conduct_of w.origin) 0 (rows_of p.gone ++ p.rows)
   pub told : AreTold w.verdicts p.gone
   pub settled : Settled w.first p.used p.verdicts (Some w.pdu)
-  -- further octets are asked of a link that holds them
-  pub ready : AreReady (past w.first p.used p.verdicts).link p.rows
+  -- the link holds what is asked of it, and what is awaited is sent
+  pub next : AreNext p.unheard (past w.first p.used p.verdicts).link p.rows
   pub heard_is : w.heard ≡ p.heard ++ p.more
   pub out_is : (course w.origin p.heard).out ≡ p.out ++ telegrams_of p.rows
   pub sent_is : w.sent ≡ p.out ++ (p.taken ++ w.unused)
   pub used_is : w.used ≡ p.used ++ p.taken
   pub verdicts_are : w.verdicts ≡ p.verdicts ++ p.left
-  pub owed_is : owed w.first p.used p.verdicts ≡ w.before ++ p.heard
+  pub owed_is : owed w.first p.used p.verdicts ≡ (w.before ++ p.heard) ++ sent_messages 1024 p.unheard
   pub entered_is : entered w.first p.used p.verdicts ≡ w.entries ++ entries_of p.gone
 
 -- Both stand between two messages again, and the job went by exchanges.
@@ -129,23 +133,33 @@ replies_in : (xs new es : List (Ask × Said)) → AreReplies ((xs ++ new) ++ es)
 replies_in [] new es h = replies_front new es h
 replies_in (x ∷ xs) new es h = replies_in xs new es h.1
 
--- what a place owes beyond it
-pub owes_more : (w : Whole) (p : Place) → IsWhole w → IsAt w p
+-- what is owed beyond what was heard at a place
+owes_all : (w : Whole) (p : Place) → IsWhole w → IsAt w p
+    → owed w.first w.used w.verdicts ≡ (w.before ++ p.heard) ++ (p.more ++ w.behind)
+owes_all w p i h = i.owed_is ∙ regrouped w.before w.heard p.heard p.more w.behind h.heard_is
+
+-- and beyond what was owed there, where nothing was unheard
+pub owes_more : (w : Whole) (p : Place) → IsWhole w → IsAt w p → p.unheard ≡ []
     → owed w.first w.used w.verdicts ≡ owed w.first p.used p.verdicts ++ (p.more ++ w.behind)
-owes_more w p i h =
-    i.owed_is
-    ∙ (regrouped w.before w.heard p.heard p.more w.behind h.heard_is
-    ∙ ap (λ x. x ++ (p.more ++ w.behind)) (sym h.owed_is))
+owes_more w p i h none =
+    let start = w.before ++ p.heard in
+    let same : owed w.first p.used p.verdicts ≡ start =
+    h.owed_is ∙ (ap (λ (ms : List (List ℕ)). start ++ sent_messages 1024 ms) none ∙ append-nil start) in
+    owes_all w p i h ∙ ap (λ x. x ++ (p.more ++ w.behind)) (sym same)
 
 -- ---- the first question that is out
 
 -- the octets of a question
 abbrev pub packet_with : Row → List ℕ
-packet_with q = sent_message 1024 (row_message q)
+packet_with q = sent_messages 1024 (row_messages q)
+
+-- those of the first question, and of those behind it
+pub telegrams_first : (q : Row) (later : List Row) → telegrams_of (q ∷ later) ≡ packet_with q ++ telegrams_of later
+telegrams_first q later = flat_map-append (sent_message 1024) (row_messages q) (flat_map row_messages later)
 
 -- what the session replies to it at a place
 abbrev pub RepliesAt : Whole → Place → Row → Type 0
-RepliesAt w p q = Replies w.first p.used p.verdicts p.left w.pdu q.question q.number
+RepliesAt w p q = Replies w.first p.used p.verdicts p.left p.unheard w.pdu q.question q.number
 
 -- The session used the question and gave this reply, and the client heard the reply whole.
 pub record IsReplied (w : Whole) (p : Place) (q : Row) : Type 0 where
@@ -156,7 +170,7 @@ pub record IsReplied (w : Whole) (p : Place) (q : Row) : Type 0 where
   pub most : length reply.message ≤ most_pdu
   pub heard :
       IsHeard w.verdicts (link_past w.first p.used q.number q.question reply.met) q.question q.number reply.message
-      reply.new
+      reply.behind reply.new
   pub more : List ℕ
   pub more_is : p.more ≡ sent_message 1024 reply.message ++ more
 
@@ -175,6 +189,18 @@ past_whole : (w : Whole) (p : Place) (q : Row) (z : List ℕ) (r : RepliesAt w p
     → p.taken ≡ packet_with q ++ z
     → past w.first w.used w.verdicts ≡ past w.first ((p.used ++ packet_with q) ++ z) (r.met ++ r.left)
 past_whole w p q z r h is = ap₂ (past w.first) (used_past w p q z h is) (h.verdicts_are ∙ r.split)
+
+-- the first message that is unheard then, and what is owed behind it
+pub owes_then : (w : Whole) (p : Place) (q : Row) → IsAt w p → (r : RepliesAt w p q)
+    → owed w.first (p.used ++ packet_with q) r.met
+    ≡ (w.before ++ p.heard) ++ (sent_message 1024 r.message ++ sent_messages 1024 r.behind)
+owes_then w p q h r =
+    let before = w.before ++ p.heard in
+    r.serves.owed
+    ∙ (ap (λ x. x ++ sent_messages 1024 r.sent) h.owed_is
+    ∙ (append_assoc before (sent_messages 1024 p.unheard) (sent_messages 1024 r.sent)
+    ∙ ap (λ x. before ++ x)
+    (sym (flat_map-append (sent_message 1024) p.unheard r.sent) ∙ ap (sent_messages 1024) r.in_order)))
 
 module _ (w : Whole) (p : Place) (q : Row) (later : List Row) (i : IsWhole w) (h : IsAt w p)
     (is : p.rows ≡ q ∷ later) where
@@ -197,10 +223,11 @@ module _ (w : Whole) (p : Place) (q : Row) (later : List Row) (i : IsWhole w) (h
       let c = conduct_of w.origin in
       asked_at c 0 (rows_of p.gone) q later (subst (λ rows. AreAsked c 0 (rows_of p.gone ++ rows)) is h.asked)
 
-  is_ready : IsReadyFor (past w.first p.used p.verdicts).link q.question
-  is_ready = (subst (AreReady (past w.first p.used p.verdicts).link) is h.ready).0
+  is_next : IsNext p.unheard (past w.first p.used p.verdicts).link q.question
+  is_next =
+      let next = subst (AreNext p.unheard (past w.first p.used p.verdicts).link) is h.next in (next.0.0, next.1)
 
-  fits_pdu : length (row_message q) ≤ w.pdu
+  fits_pdu : length (question_octets q.number q.question) ≤ w.pdu
   fits_pdu =
       let asks = asks_it in
       let planned =
@@ -230,7 +257,8 @@ module _ (w : Whole) (p : Place) (q : Row) (later : List Row) (i : IsWhole w) (h
       let out : w.sent ≡ p.out ++ (packet_with q ++ (telegrams_of later ++ rest)) =
       i.over.sent
       ∙ (grown
-      ∙ (ap (λ x. x ++ rest) (h.out_is ∙ ap (λ rows. p.out ++ telegrams_of rows) is)
+      ∙ (ap (λ x. x ++ rest)
+      (h.out_is ∙ ap (λ x. p.out ++ x) (ap telegrams_of is ∙ telegrams_first q later))
       ∙ (append_assoc p.out (packet_with q ++ telegrams_of later) rest
       ∙ ap (λ x. p.out ++ x) (append_assoc (packet_with q) (telegrams_of later) rest)))) in
       append_cancel_left p.out (packet_with q ++ (telegrams_of later ++ rest)) (p.taken ++ w.unused)
@@ -241,14 +269,14 @@ module _ (w : Whole) (p : Place) (q : Row) (later : List Row) (i : IsWhole w) (h
   taken_by rest (inr k) = (k.0, k.1)
   taken_by rest (inl k) =
       let waits =
-      served_front p.used p.taken k.0 (row_message q) p.verdicts p.left (Some w.pdu) h.settled
-      (omega (arith, fits_pdu, i.most)) k.1 k.2 in
+      sent_front p.used p.taken k.0 p.verdicts p.left p.unheard w.pdu q.number q.question h.settled
+      (omega (arith, fits_pdu, i.most)) is_next.0 is_next.1 k.1 k.2 in
       let same : owed w.first w.used w.verdicts ≡ owed w.first p.used p.verdicts =
-      ap₂ (owed w.first) h.used_is h.verdicts_are ∙ waits.owed in
+      ap₂ (owed w.first) h.used_is h.verdicts_are ∙ waits.1 in
       absurd
       (omega (
         arith,
-        ap length (sym same ∙ owes_more w p i h),
+        ap length (sym same ∙ owes_more w p i h waits.0),
         length-append (owed w.first p.used p.verdicts) (p.more ++ w.behind),
         length-append p.more w.behind,
         some_more,
@@ -268,16 +296,16 @@ module _ (w : Whole) (p : Place) (q : Row) (later : List Row) (i : IsWhole w) (h
   reply_at z taken =
       let asks = asks_it in
       let live =
-      lives_on p.used (row_message q) z (p.more ++ w.behind) p.verdicts p.left (Some w.pdu) h.settled
-      (omega (arith, fits_pdu, i.most)) (question_is_s7 q.number q.question)
-      (ap₂ (owed w.first) (sym (used_past w p q z h taken)) (sym h.verdicts_are) ∙ owes_more w p i h)
+      sent_lives p.used z (p.more ++ w.behind) p.verdicts p.left p.unheard w.pdu q.number q.question h.settled
+      (omega (arith, fits_pdu, i.most)) is_next.0 is_next.1
+      (λ none. ap₂ (owed w.first) (sym (used_past w p q z h taken)) (sym h.verdicts_are) ∙ owes_more w p i h none)
       (omega (arith, length-append p.more w.behind, some_more)) in
       subst
       (λ n. Settled w.first p.used p.verdicts (Some n)
-      → Replies w.first p.used p.verdicts p.left n q.question q.number) i.pdu_is
+      → Replies w.first p.used p.verdicts p.left p.unheard n q.question q.number) i.pdu_is
       (λ settled. question_answered w.origin i.grant asks.0 q.question q.number w.first p.used p.verdicts p.left
-      i.granted (omega (arith, i.pdu_is, i.least)) (omega (arith, i.pdu_is, i.most)) is_out.low asks.1 settled
-      is_ready live)
+      p.unheard i.granted (omega (arith, i.pdu_is, i.least)) (omega (arith, i.pdu_is, i.most)) is_out.low asks.1
+      settled is_next.0 is_next.1 live)
       h.settled
 
   new_replies : (z : List ℕ) (r : RepliesAt w p q) → p.taken ≡ packet_with q ++ z → AreReplies r.new
@@ -293,13 +321,16 @@ module _ (w : Whole) (p : Place) (q : Row) (later : List Row) (i : IsWhole w) (h
   more_front z r taken =
       let g = past_grows w.first (p.used ++ packet_with q) z (r.met ++ r.left) in
       let a = sent_message 1024 r.message in
-      let before = owed w.first p.used p.verdicts in
-      let same : owed w.first w.used w.verdicts ≡ (before ++ a) ++ g.tail =
+      let others = sent_messages 1024 r.behind in
+      let before = w.before ++ p.heard in
+      let same : owed w.first w.used w.verdicts ≡ (before ++ (a ++ others)) ++ g.tail =
       ap (λ (k : Past). k.owed) (past_whole w p q z r h taken)
-      ∙ (g.owed ∙ ap (λ x. x ++ g.tail) (ap (λ (k : Past). k.owed) (past_replied w p q r) ∙ r.serves.owed)) in (
-        g.tail,
-        append_cancel_left before (a ++ g.tail) (p.more ++ w.behind)
-            (sym (append_assoc before a g.tail) ∙ (sym same ∙ owes_more w p i h)),
+      ∙ (g.owed
+      ∙ ap (λ x. x ++ g.tail) (ap (λ (k : Past). k.owed) (past_replied w p q r) ∙ owes_then w p q h r)) in (
+        others ++ g.tail,
+        append_cancel_left before (a ++ (others ++ g.tail)) (p.more ++ w.behind)
+            (ap (λ x. before ++ x) (sym (append_assoc a others g.tail))
+            ∙ (sym (append_assoc before (a ++ others) g.tail) ∙ (sym same ∙ owes_all w p i h))),
       )
 
   -- ---- the client heard the whole reply
@@ -325,7 +356,7 @@ module _ (w : Whole) (p : Place) (q : Row) (later : List Row) (i : IsWhole w) (h
         most = most;
         heard = subst
             (λ vs. IsHeard vs (link_past w.first p.used q.number q.question r.met) q.question q.number r.message
-            r.new)
+            r.behind r.new)
             (sym h.verdicts_are) (r.heard given);
         more = heard.0;
         more_is = heard.1;

@@ -15,9 +15,9 @@ use Rattle.s7_dialogue.specs.declared.job.Job.{Job}
 use Rattle.s7_dialogue.specs.declared.job.Job.TheVariants as job
 use Rattle.s7_dialogue.specs.declared.subject.Subject.{Subject}
 use Rattle.s7_dialogue.specs.declared.subject.Subject.TheVariants.{StatusList, RunState, BlockCounts, BlocksOfKind, BlockHead, Clock, ClockSetting, Password, PasswordClearing}
-use Rattle.s7_dialogue.specs.Answer.{Answer, grants, tells, notes, stands, brings, uploads, slices, uploaded, refuses}
+use Rattle.s7_dialogue.specs.Answer.{Answer, grants, tells, notes, stands, brings, uploads, slices, uploaded, announced, calls, refuses}
 use Rattle.s7_dialogue.specs.Codes.{not_connected, timed_out}
-use Rattle.s7_dialogue.specs.Checks.{check_item, check_items, check_moment, check_password, octet_count_of}
+use Rattle.s7_dialogue.specs.Checks.{check_item, check_items, check_moment, check_password, check_image, octet_count_of}
 use Rattle.s7_dialogue.specs.Flight.{answers_of, open_count}
 use Rattle.s7_dialogue.specs.Dialogue.{End, First, nothing, connect_request, disconnect_request, Plan, over, number_end, fault_end, departed_end}
 use Rattle.s7_dialogue.specs.Dialogue.{taken_grant, by_grant, negotiated, connected_plan, unconnected_plan, plan_of}
@@ -127,6 +127,12 @@ connected_leaves (job.ListOf kind) granted = about_leaves (job.ListOf kind) gran
 connected_leaves (job.Info kind number) granted = about_leaves (job.Info kind number) granted BlockHead _
 connected_leaves (job.Upload kind number) granted =
     upload_leaves (job.Upload kind number) granted (record { kind = kind; number = number })
+connected_leaves (job.Download image) granted =
+    let check = check_image image in
+    checked_leaves (job.Download image) granted check _ (eqb check 0) (record {
+      ends = λ answers. refusal_leaves (job.Download image) granted _ _ _ _;
+      departs = λ e. not_departing _ e;
+    })
 connected_leaves (job.Delete kind number) granted =
     control_leaves (job.Delete kind number) granted (control.Delete kind number)
 connected_leaves (job.DbGet number) granted = record {
@@ -184,6 +190,9 @@ stays_or_leaves (job.ReadMany items) grant answers =
 stays_or_leaves (job.WriteMany items octets) grant answers =
     let check = check_items items (eqb (length octets) (octet_count_of items)) grant.pdu true in
     inl (checked_stays check _ (eqb check 0) answers (refusal_stays plain_number _ _ _))
+stays_or_leaves (job.Download image) grant answers =
+    let check = check_image image in
+    inl (checked_stays check _ (eqb check 0) answers (refusal_stays plain_number _ _ _))
 stays_or_leaves (job.ClockSet moment) grant answers =
     let check = check_moment moment in
     inl (checked_stays check _ (eqb check 0) answers (refusal_stays plain_number _ _ _))
@@ -213,6 +222,8 @@ negotiated_leaves config (Some (brings octet more octets) ∷ answers) = grant_l
 negotiated_leaves config (Some (uploads id size) ∷ answers) = grant_leaves None
 negotiated_leaves config (Some (slices more octets) ∷ answers) = grant_leaves None
 negotiated_leaves config (Some uploaded ∷ answers) = grant_leaves None
+negotiated_leaves config (Some announced ∷ answers) = grant_leaves None
+negotiated_leaves config (Some (calls sequence) ∷ answers) = grant_leaves None
 
 not_connected_leaves : (done : Job) → PlanLeaves done None (over (number_end not_connected Disconnected))
 not_connected_leaves done =

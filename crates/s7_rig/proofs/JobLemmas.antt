@@ -1,13 +1,14 @@
 -- How a job goes on from place to place, and comes to its end.
 use Rattle.std.proofs.Common.{◌≡◌, ℕ, zero, suc, ◌+◌, ◌<◌, Some, List, [], ◌∷◌, ◌++◌, length, refl, ap, ap₂, sym, ◌∙◌, subst, arith, length-append, append_assoc, append-nil}
+use Rattle.std.specs.List.{flat_map}
 use Rattle.std.proofs.lemmas.List.{append_cancel_left, map-append, nil_from_length}
 use Rattle.std.proofs.lemmas.List.Concat.{flat_map-append}
-use Rattle.s7_wire.specs.Sent.{sent_message}
+use Rattle.s7_wire.specs.Sent.{sent_message, sent_messages}
 use Rattle.s7_dialogue.specs.Flight.{Row, answers_of, open_count, filled}
 use Rattle.s7_dialogue.specs.Dialogue.{End}
 use Rattle.s7_dialogue.specs.Course.{Course, Awaits, for_nothing, conduct_of, next_question, course}
 use Rattle.s7_client.specs.Standing.{AwaitsOctets}
-use Rattle.s7_dialogue.proofs.FlightLemmas.{with_answer}
+use Rattle.s7_dialogue.proofs.FlightLemmas.{row_messages, with_answer}
 use Rattle.s7_dialogue.proofs.RowLemmas.{all_append}
 use Rattle.s7_session.specs.Verdict.{Verdict}
 use Rattle.s7_session.specs.Owed.{Past, past, owed, entered}
@@ -20,8 +21,9 @@ use Rattle.s7_rig.proofs.HeardLemmas.{HearsOn, heard_answer}
 use Rattle.s7_rig.proofs.TelegramLemmas.{IsOut, AreOut, open_behind, awaits_none, filled_behind, asked_both, asked_filled}
 use Rattle.s7_rig.proofs.PastFacts.{past_with}
 use Rattle.s7_rig.proofs.ListFacts.{none_of}
-use Rattle.s7_rig.proofs.HoldLemmas.{AreReady, next_ready}
-use Rattle.s7_rig.proofs.DialogueLemmas.{Whole, IsWhole, Place, IsAt, IsDone, IsReplied, packet_with, owes_more, used_past, awaits_answers, is_replied}
+use Rattle.s7_rig.proofs.HoldLemmas.{AreNext, next_holds}
+use Rattle.s7_rig.proofs.DialogueLemmas.{Whole, IsWhole, Place, IsAt, IsDone, IsReplied, packet_with, telegrams_first}
+use Rattle.s7_rig.proofs.DialogueLemmas.{owes_more, owes_then, used_past, awaits_answers, is_replied}
 
 -- ---- lists that are grouped anew
 
@@ -33,10 +35,9 @@ regrouped o p t u taken is =
     ap (λ x. o ++ (x ++ u)) is ∙ (ap (λ x. o ++ x) (append_assoc p t u) ∙ sym (append_assoc o p (t ++ u)))
 
 telegrams-append : (xs ys : List Row) → telegrams_of (xs ++ ys) ≡ telegrams_of xs ++ telegrams_of ys
-telegrams-append [] ys = refl
-telegrams-append (x ∷ xs) ys =
-    ap (λ z. packet_with x ++ z) (telegrams-append xs ys)
-    ∙ sym (append_assoc (packet_with x) (telegrams_of xs) (telegrams_of ys))
+telegrams-append xs ys =
+    ap (sent_messages 1024) (flat_map-append row_messages xs ys)
+    ∙ flat_map-append (sent_message 1024) (flat_map row_messages xs) (flat_map row_messages ys)
 
 entries_more : (xs : List Exchange) (x : Exchange) → entries_of (xs ++ x ∷ []) ≡ entries_of xs ++ x.entries
 entries_more xs x =
@@ -73,6 +74,7 @@ module _ (w : Whole) (p : Place) (q : Row) (later : List Row) (i : IsWhole w) (h
     heard = p.heard ++ answer_packets;
     more = k.more;
     out = p.out ++ packet_with q;
+    unheard = k.reply.behind;
     used = p.used ++ packet_with q;
     verdicts = k.reply.met;
     taken = k.taken;
@@ -97,7 +99,8 @@ module _ (w : Whole) (p : Place) (q : Row) (later : List Row) (i : IsWhole w) (h
       let new = hears.asks.new in
       let before : List ℕ = packet_with q ++ telegrams_of later in
       hears.asks.out
-      ∙ (ap (λ x. x ++ telegrams_of new) (h.out_is ∙ ap (λ rows. p.out ++ telegrams_of rows) is)
+      ∙ (ap (λ x. x ++ telegrams_of new)
+      (h.out_is ∙ ap (λ x. p.out ++ x) (ap telegrams_of is ∙ telegrams_first q later))
       ∙ (append_assoc p.out before (telegrams_of new)
       ∙ (regrouped p.out (packet_with q) (telegrams_of later) (telegrams_of new) before refl
       ∙ ap (λ x. next.out ++ x) (sym (telegrams-append later new)))))
@@ -105,11 +108,12 @@ module _ (w : Whole) (p : Place) (q : Row) (later : List Row) (i : IsWhole w) (h
   out_now : AreOut next.rows
   out_now = all_append IsOut later hears.asks.new (subst AreOut is h.are_out).1 hears.asks.are_out
 
-  ready_next : AreReady (past w.first next.used next.verdicts).link next.rows
-  ready_next =
-      next_ready w.origin i.grant i.granted (past w.first next.used next.verdicts).link p.heard next.heard p.gone q
+  holds_next : AreNext next.unheard (past w.first next.used next.verdicts).link next.rows
+  holds_next =
+      next_holds w.origin i.grant i.granted (past w.first next.used next.verdicts).link p.heard next.heard p.gone q
       later exchange next.rows (h.rows_are ∙ ap (λ rows. rows_of p.gone ++ rows) is)
-      (subst AreOut is h.are_out).0.unanswered refl (hears.asks.rows ∙ rows_next) out_now asked_next k.heard.goes_on
+      (subst AreOut is h.are_out).0.unanswered refl (hears.asks.rows ∙ rows_next) hears.awaiting.none_more out_now
+      asked_next w.verdicts next.unheard k.heard.told k.heard.goes_on k.heard.unheard
 
   at_next : IsAt w next
   at_next = record {
@@ -120,15 +124,16 @@ module _ (w : Whole) (p : Place) (q : Row) (later : List Row) (i : IsWhole w) (h
     told = all_append (λ (x : Exchange). HasTold w.verdicts x.question x.answer x.entries) p.gone (exchange ∷ []) h.told
         (k.heard.told, tt);
     settled = k.reply.serves.settled;
-    ready = ready_next;
+    next = holds_next;
     heard_is = h.heard_is ∙ (ap (λ x. p.heard ++ x) k.more_is ∙ sym (append_assoc p.heard answer_packets k.more));
     out_is = out_next;
     sent_is = h.sent_is ∙ regrouped p.out (packet_with q) k.taken w.unused p.taken k.taken_is;
     used_is = used_past w p q k.taken h k.taken_is;
     verdicts_are = h.verdicts_are ∙ k.reply.split;
     owed_is =
-        k.reply.serves.owed
-        ∙ (ap (λ x. x ++ answer_packets) h.owed_is ∙ append_assoc w.before p.heard answer_packets);
+        owes_then w p q h k.reply
+        ∙ (sym (append_assoc (w.before ++ p.heard) answer_packets (sent_messages 1024 next.unheard))
+        ∙ ap (λ x. x ++ sent_messages 1024 next.unheard) (append_assoc w.before p.heard answer_packets));
     entered_is =
         k.reply.serves.entered
         ∙ (ap (λ x. x ++ k.reply.new) h.entered_is
@@ -207,9 +212,11 @@ module _ (w : Whole) (p : Place) (i : IsWhole w) (h : IsAt w p) (none : p.rows �
       ∙ (sym (ap (λ (k : Past). k.verdicts) past_last) ∙ i.met) in
       h.verdicts_are ∙ (ap (λ (vs : List Verdict). p.verdicts ++ vs) none ∙ append-nil p.verdicts)
 
+  -- nothing is unheard
   behind_last : w.behind ≡ []
   behind_last =
-      let owes = ap length (sym (ap (λ (k : Past). k.owed) past_last) ∙ owes_more w p i h) in
+      let silent = (subst (AreNext p.unheard (past w.first p.used p.verdicts).link) none h.next).1 in
+      let owes = ap length (sym (ap (λ (k : Past). k.owed) past_last) ∙ owes_more w p i h silent) in
       nil_from_length w.behind
       (omega (
         arith,

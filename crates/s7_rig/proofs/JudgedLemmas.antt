@@ -17,8 +17,7 @@ use Rattle.s7_item.specs.declared.item.Item.{Item}
 use Rattle.s7_item.specs.Sizes.{answer_size}
 use Rattle.s7_item.proofs.ItemLaws.{reads_back}
 use Rattle.s7_plant.specs.declared.request.Request.TheVariants.{Read}
-use Rattle.s7_dialogue.specs.Question.{Question, negotiates, reads, writes, controls, asks, asks_further, kind_of, params_of, body_of, message_octets, question_octets}
-use Rattle.s7_dialogue.specs.Question.{starts_upload, slices_upload, ends_upload}
+use Rattle.s7_dialogue.specs.Question.{Question, negotiates, reads, gives, kind_of, params_of, body_of, is_numbered, sequence_in, message_octets, question_octets}
 use Rattle.s7_session.specs.LinkState.{LinkState}
 use Rattle.s7_session.specs.Judgement.{Judgement, own, judge, is_request, kinds, asks_plainly, answer_octets, sequence_of, headed, function_at, pdu_limit, read, negotiation, negotiated}
 use Rattle.s7_session.specs.Events.{is_s7}
@@ -37,12 +36,16 @@ message_sequence : (kind : Kind) (sequence : ℕ) (params body : List ℕ)
     → sequence_of (message_octets kind sequence params body) ≡ sequence
 message_sequence kind sequence params body = two_of_number sequence
 
-message_is_s7 : (kind : Kind) (sequence : ℕ) (params body : List ℕ) → has_error kind ≡ false
+-- a message of any kind has them
+least-message : (kind : Kind) (sequence : ℕ) (params body : List ℕ)
+    → 10 ≤ length (message_octets kind sequence params body)
+least-message kind sequence params body = omega arith
+
+pub message_is_s7 : (kind : Kind) (sequence : ℕ) (params body : List ℕ)
     → is_s7 (message_octets kind sequence params body) ≡ true
-message_is_s7 kind sequence params body bare =
+message_is_s7 kind sequence params body =
     ap (λ t. t && true)
-    (le-leb 10 (length (message_octets kind sequence params body))
-    (omega (arith, length-message kind sequence params body bare)))
+    (le-leb 10 (length (message_octets kind sequence params body)) (least-message kind sequence params body))
 
 abbrev message_header : Kind → ℕ → List ℕ → List ℕ → Header
 message_header kind sequence params body =
@@ -107,35 +110,39 @@ judged_message link kind sequence params body bare low most fits =
 
 -- ---- questions
 
-question_asks : (question : Question) → has_error (kind_of question) ≡ false
-question_asks (negotiates asked) = refl
-question_asks (reads items) = refl
-question_asks (writes items octets) = refl
-question_asks (controls control) = refl
-question_asks (asks subject octets) = refl
-question_asks (asks_further subject octet so_far) = refl
-question_asks (starts_upload name) = refl
-question_asks (slices_upload id size so_far) = refl
-question_asks (ends_upload id) = refl
+-- one under a sequence of the client's own is a request
+question_asks : (question : Question) → is_numbered question ≡ true → has_error (kind_of question) ≡ false
+question_asks (gives image room from call) numbered = absurd (cc)
+question_asks _ numbered = refl
 
-pub question_sequence : (sequence : ℕ) (question : Question)
+own_sequence : (sequence : ℕ) (question : Question) → is_numbered question ≡ true
+    → sequence_in sequence question ≡ sequence
+own_sequence sequence (gives image room from call) numbered = absurd (cc)
+own_sequence sequence _ numbered = refl
+
+pub question_sequence : (sequence : ℕ) (question : Question) → is_numbered question ≡ true
     → sequence_of (question_octets sequence question) ≡ sequence
-question_sequence sequence question =
-    message_sequence (kind_of question) sequence (params_of question) (body_of question)
+question_sequence sequence question numbered =
+    message_sequence (kind_of question) (sequence_in sequence question) (params_of question) (body_of question)
+    ∙ own_sequence sequence question numbered
 
 pub question_is_s7 : (sequence : ℕ) (question : Question) → is_s7 (question_octets sequence question) ≡ true
 question_is_s7 sequence question =
-    message_is_s7 (kind_of question) sequence (params_of question) (body_of question) (question_asks question)
+    message_is_s7 (kind_of question) (sequence_in sequence question) (params_of question) (body_of question)
 
--- a question that has room in the PDU is judged by its kind, parameters and data
-pub judged_question : (link : LinkState) (sequence : ℕ) (question : Question) → sequence < 65536
-    → length (question_octets sequence question) ≤ most_pdu
+-- it is judged by its kind, parameters and data, where it has room in the PDU
+pub judged_question : (link : LinkState) (sequence : ℕ) (question : Question) → is_numbered question ≡ true
+    → sequence < 65536 → length (question_octets sequence question) ≤ most_pdu
     → length (question_octets sequence question) ≤ pdu_limit link.granted
     → judge link (question_octets sequence question)
     ≡ kinds link (kind_of question) sequence (params_of question) (body_of question)
-judged_question link sequence question low most fits =
-    judged_message link (kind_of question) sequence (params_of question) (body_of question) (question_asks question)
-    low most fits
+judged_question link sequence question numbered low most fits =
+    let same = own_sequence sequence question numbered in
+    let params = params_of question in
+    let body = body_of question in
+    judged_message link (kind_of question) (sequence_in sequence question) params body (question_asks question numbered)
+    (omega (arith, same, low)) most fits
+    ∙ ap (λ n. kinds link (kind_of question) n params body) same
 
 -- what fits the PDU fits the link on which it was granted
 pub within : (link : LinkState) (pdu n : ℕ) → link.granted ≡ Some pdu → n ≤ pdu → n ≤ pdu_limit link.granted
@@ -146,7 +153,7 @@ pub judged_read : (link : LinkState) (pdu sequence : ℕ) (items : List Item) �
     → 0 < length items → length items ≤ 20 → answer_size items ≤ pdu
     → judge link (question_octets sequence (reads items)) ≡ asks_plainly link sequence (Read items)
 judged_read link pdu sequence items granted low most fits some few room =
-    judged_question link sequence (reads items) low (omega (arith, most, fits)) (within link pdu _ granted fits)
+    judged_question link sequence (reads items) refl low (omega (arith, most, fits)) (within link pdu _ granted fits)
     ∙ (ap (λ g. function_at link g 0x04 sequence (params_of (reads items)) []) granted
     ∙ (ap (read link pdu sequence []) (reads_back 0x04 items some few)
     ∙ not_refused _ _ _ (le-ltb pdu (answer_size items) room)))
@@ -155,7 +162,7 @@ judged_read link pdu sequence items granted low most fits some few room =
 pub judged_negotiation : (link : LinkState) (sequence : ℕ) (asked n : Negotiation) → sequence < 65536 → 18 ≤ pdu_limit link.granted → granted asked ≡ Ok n
     → judge link (question_octets sequence (negotiates asked)) ≡ own (answer_octets sequence (negotiation_spelling n) [] ∷ []) (record link { granted = Some n.pdu })
 judged_negotiation link sequence asked n low room is =
-    judged_question link sequence (negotiates asked) low (omega arith) (omega (arith, room))
+    judged_question link sequence (negotiates asked) refl low (omega arith) (omega (arith, room))
     ∙ (ap (negotiation link sequence) (spelled_negotiation 0 asked) ∙ ap (negotiated link sequence) is)
 
 -- from 64 octets on a PDU is granted, up to the greatest

@@ -31,6 +31,7 @@ pub mod GrowthLemmas
 pub mod PlantLemmas
 pub mod ReplyLemmas
 pub mod UploadAsksLemmas
+pub mod DownloadAsksLemmas
 pub mod AskableLemmas
 pub mod TelegramLemmas
 pub mod HoldTurns
@@ -38,9 +39,11 @@ pub mod HoldPieces
 pub mod HoldSlices
 pub mod DataAsksLemmas
 pub mod HoldData
+pub mod HoldDownload
 pub mod HoldLemmas
 pub mod HoldReplies
 pub mod AnsweringLemmas
+pub mod SentLemmas
 pub mod DialogueLemmas
 pub mod JobLemmas
 pub mod SettledLemmas
@@ -71,8 +74,13 @@ pub mod UploadHeardLemmas
 pub mod UserHeardLemmas
 pub mod UserControlLemmas
 pub mod UserServedLemmas
+pub mod OnceLemmas
 pub mod RepliedLemmas
 pub mod UploadReplyLemmas
+pub mod DownloadServedLemmas
+pub mod DownloadJudgedLemmas
+pub mod DownloadHeardLemmas
+pub mod DownloadReplyLemmas
 pub mod ControlReplyLemmas
 pub mod UserFitLemmas
 pub mod BlockFitLemmas

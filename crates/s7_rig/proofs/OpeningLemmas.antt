@@ -190,7 +190,7 @@ module _ (guard : Option Guard) (origin : Origin) (heard sent : List ℕ) (end :
   granted_is = omega (arith, over.most)
 
   -- the session grants what was asked for
-  negotiation_served : Serves first (connect_octets origin.config) [] (negotiation_of origin.config) [] (Some (granted_of origin.config).pdu) (grant_octets origin.config) []
+  negotiation_served : Serves first (connect_octets origin.config) [] (negotiation_octets origin.config) [] (Some (granted_of origin.config).pdu) (grant_octets origin.config) []
   negotiation_served =
       served_negotiation (connect_octets origin.config) [] None 1 (asked_by origin.config) (granted_of origin.config) (opened guard origin.config).settled (omega arith) (omega arith)
       (is_granted (asked_by origin.config) over.least)

@@ -29,7 +29,7 @@ use Rattle.s7_session.specs.Verdict.{Verdict}
 use Rattle.s7_rig.specs.Heard.{told_of}
 use Rattle.s7_rig.specs.Awaiting.{AreAsked}
 use Rattle.s7_rig.specs.Dialogues.{AreReplies, ReadsParts}
-use Rattle.s7_rig.specs.Exchanges.{HasTold, is_refused, is_read, is_written, is_controlled, is_brought, is_secured, is_unnamed, is_barred, is_started, is_no_upload, is_sliced, is_ended, is_further, Exchange, entries_of, rows_of, AreTold, Converses}
+use Rattle.s7_rig.specs.Exchanges.{HasTold, is_refused, is_read, is_written, is_controlled, is_brought, is_secured, is_unnamed, is_barred, is_started, is_no_upload, is_sliced, is_ended, is_announced, is_unstored, is_called, is_given, is_inserted, is_further, Exchange, entries_of, rows_of, AreTold, Converses}
 use Rattle.s7_rig.proofs.TelegramLemmas.{open_none}
 
 -- ---- a read that came off
@@ -149,6 +149,11 @@ part_answered part a new (is_started name block right reply id is names new_is t
 part_answered part a new (is_no_upload name is none new_is told) = absurd (subst Reads is tt)
 part_answered part a new (is_sliced id size so_far octets more is new_is told) = absurd (subst Reads is tt)
 part_answered part a new (is_ended id is new_is told) = absurd (subst Reads is tt)
+part_answered part a new (is_announced image is new_is told) = absurd (subst Reads is tt)
+part_answered part a new (is_unstored image is unstored new_is told) = absurd (subst Reads is tt)
+part_answered part a new (is_called image call is new_is told) = absurd (subst Reads is tt)
+part_answered part a new (is_given image room from call next is new_is told) = absurd (subst Reads is tt)
+part_answered part a new (is_inserted image call right reply is new_is told) = absurd (subst Reads is tt)
 part_answered part a new (is_further subject octet so_far piece more is new_is told) =
     absurd (subst Reads is tt)
 

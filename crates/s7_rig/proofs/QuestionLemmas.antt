@@ -18,12 +18,13 @@ use Rattle.s7_rig.proofs.JudgedLemmas.{question_is_s7, judged_negotiation}
 
 -- a negotiation is granted
 pub served_negotiation : {first : LinkState} (b : List ℕ) (js : List Verdict) (held : Option ℕ) (sequence : ℕ) (asked n : Negotiation) → Settled first b js held → sequence < 65536 → 18 ≤ pdu_limit held → granted asked ≡ Ok n
-    → Serves first b js (question_octets sequence (negotiates asked)) js (Some n.pdu) (sent_message 1024 (answer_octets sequence (negotiation_spelling n) [])) []
+    → Serves first b js (sent_message 1024 (question_octets sequence (negotiates asked))) js (Some n.pdu)
+    (sent_message 1024 (answer_octets sequence (negotiation_spelling n) [])) []
 served_negotiation {first} b js held sequence asked n s low room is =
     let link = (past first b js).link in
     let m = question_octets sequence (negotiates asked) in
     let answer = answer_octets sequence (negotiation_spelling n) [] in
-    let P : List ℕ → Type 0 = λ out. Serves first b js m js (Some n.pdu) out [] in
+    let P : List ℕ → Type 0 = λ out. Serves first b js (sent_message 1024 m) js (Some n.pdu) out [] in
     subst P (append-nil (sent_message 1024 answer))
     (served_own b m js held (Some n.pdu) (answer ∷ []) (record link { granted = Some n.pdu }) s (omega arith)
     (question_is_s7 sequence (negotiates asked))

@@ -1,9 +1,9 @@
 -- How a session replies to a question of a job that is sent on a link that lives after it: it asks the plant, answers
 -- by the link itself, or refuses.
-use Rattle.std.proofs.Common.{◌≡◌, ℕ, ◌<◌, ◌≤◌, List, [], ◌∷◌, ◌++◌, length, Some, subst, arith}
+use Rattle.std.proofs.Common.{◌≡◌, ℕ, ◌<◌, ◌≤◌, true, List, [], ◌∷◌, ◌++◌, length, Some, subst, arith}
 use Rattle.s7_header.specs.Negotiation.{most_pdu}
 use Rattle.s7_wire.specs.Sent.{sent_message}
-use Rattle.s7_dialogue.specs.Question.{Question, question_octets}
+use Rattle.s7_dialogue.specs.Question.{Question, is_numbered, question_octets}
 use Rattle.s7_dialogue.specs.Answer.{refuses}
 use Rattle.s7_session.specs.Events.{lives, refusal_sent}
 use Rattle.s7_session.specs.LinkState.{LinkState}
@@ -11,15 +11,16 @@ use Rattle.s7_session.specs.Owed.{past}
 use Rattle.s7_session.specs.Judgement.{Asking, own, ask, judge, refusal_octets, sequence_of}
 use Rattle.s7_session.specs.Verdict.{Verdict}
 use Rattle.s7_rig.specs.Settled.{Settled}
-use Rattle.s7_rig.specs.Exchanges.{HasTold, Replies}
+use Rattle.s7_rig.specs.Exchanges.{HasTold}
 use Rattle.s7_rig.proofs.ServedLemmas.{ServesTo, KeepsGrant}
 use Rattle.s7_rig.proofs.QuestionLemmas.{served_question, served_by_link, served_refusal}
 use Rattle.s7_rig.proofs.UserJudgedLemmas.{IsSent, RefusesWith}
-use Rattle.s7_rig.proofs.ReplyLemmas.{IsGood, IsAskedWell, asked_replies, own_replies, refused_as}
+use Rattle.s7_rig.proofs.ReplyLemmas.{RepliesOnce, IsGood, IsAskedWell, asked_replies, own_replies, refused_as}
 
--- The question is sent on a link between two messages that lives after it.
+-- The question is sent, under a sequence of the client's own, on a link between two messages that lives after it.
 pub record IsServed (first : LinkState) (b : List ℕ) (js vs : List Verdict) (pdu s : ℕ) (q : Question) : Type 0 where
   pub settled : Settled first b js (Some pdu)
+  pub numbered : is_numbered q ≡ true
   pub low : s < 65536
   pub least : 64 ≤ pdu
   pub most : pdu ≤ most_pdu
@@ -29,21 +30,27 @@ pub record IsServed (first : LinkState) (b : List ℕ) (js vs : List Verdict) (p
 pub is_sent : {first : LinkState} (b : List ℕ) (js vs : List Verdict) (pdu s : ℕ) (q : Question)
     → IsServed first b js vs pdu s q → IsSent (past first b js).link pdu s q
 is_sent b js vs pdu s q served =
-    record { granted = served.settled.grants; low = served.low; most = served.most; fits = served.fits }
+    record {
+      numbered = served.numbered;
+      granted = served.settled.grants;
+      low = served.low;
+      most = served.most;
+      fits = served.fits;
+    }
 
 -- one that asks the plant
 pub asking_replied : {first : LinkState} (b : List ℕ) (js vs : List Verdict) (pdu s : ℕ) (q : Question)
     (asking : Asking) → IsServed first b js vs pdu s q → judge (past first b js).link (question_octets s q) ≡ ask asking
-    → KeepsGrant (past first b js).link asking → IsAskedWell (js ++ vs) q s asking → Replies first b js vs pdu q s
+    → KeepsGrant (past first b js).link asking → IsAskedWell (js ++ vs) q s asking → RepliesOnce first b js vs pdu q s
 asking_replied b js vs pdu s q asking served judged keeps well =
-    asked_replies b js vs pdu s q asking served.low well
+    asked_replies b js vs pdu s q asking served.numbered served.low well
     (served_question b js vs pdu s q asking served.settled served.most served.fits judged keeps served.live)
 
 -- one that the link answers
 pub link_replied : {first : LinkState} (b : List ℕ) (js vs : List Verdict) (pdu s : ℕ) (q : Question)
     (message : List ℕ) (after : LinkState) → IsServed first b js vs pdu s q
     → judge (past first b js).link (question_octets s q) ≡ own (message ∷ []) after → after.granted ≡ Some pdu
-    → IsGood (js ++ vs) after q s message [] → Replies first b js vs pdu q s
+    → IsGood (js ++ vs) after q s message [] → RepliesOnce first b js vs pdu q s
 link_replied b js vs pdu s q message after served judged grants good =
     own_replies b js vs pdu s q message after good
     (served_by_link b js pdu s q message after served.settled served.most served.fits judged grants)
@@ -51,7 +58,7 @@ link_replied b js vs pdu s q message after served judged grants good =
 -- and one that is refused
 pub refused_replied : {first : LinkState} (b : List ℕ) (js vs : List Verdict) (pdu s error : ℕ) (q : Question)
     → IsServed first b js vs pdu s q → RefusesWith (judge (past first b js).link (question_octets s q)) error
-    → error < 65536 → HasTold (js ++ vs) q (refuses error) [] → Replies first b js vs pdu q s
+    → error < 65536 → HasTold (js ++ vs) q (refuses error) [] → RepliesOnce first b js vs pdu q s
 refused_replied {first} b js vs pdu s error q served judged small told =
     let link = (past first b js).link in
     let m = question_octets s q in
@@ -59,7 +66,7 @@ refused_replied {first} b js vs pdu s error q served judged small told =
     (record {
       least = omega arith;
       most = omega arith;
-      heard = refused_as (js ++ vs) link q s error [] told served.low small;
+      heard = refused_as (js ++ vs) link q s error [] told served.numbered served.low small;
     })
     (subst (λ e. ServesTo first b js m js (Some pdu) (refusal_sent 1024 (sequence_of m) e) [] link) judged.2
     (served_refusal b js pdu s q _ served.settled served.most served.fits judged.1))

@@ -12,9 +12,8 @@ use Rattle.s7_plant.specs.Replies.{Said}
 use Rattle.s7_plant.specs.State.{State}
 use Rattle.s7_wire.specs.Bounds.{message_limit}
 use Rattle.s7_wire.specs.Sent.{sent_message, sent_messages}
-use Rattle.s7_dialogue.specs.Question.{Question, negotiates, reads, writes, controls, asks, asks_further, question_octets}
-use Rattle.s7_dialogue.specs.Question.{starts_upload, slices_upload, ends_upload}
-use Rattle.s7_dialogue.specs.Answer.{refuses, tells, notes, answer_of}
+use Rattle.s7_dialogue.specs.Question.{Question, negotiates, reads, writes, is_numbered, question_octets}
+use Rattle.s7_dialogue.specs.Answer.{Answer, refuses, tells, notes, answer_of}
 use Rattle.s7_dialogue.proofs.FlightLemmas.{same_some}
 use Rattle.s7_session.specs.Verdict.{Verdict, Entered, Full, ClockFailed, NoMemory}
 use Rattle.s7_session.specs.Judgement.{Judgement, Asking, refuse, own, ask, judge, plainly, sequence_of, refusal_octets, reply_octets}
@@ -29,7 +28,8 @@ use Rattle.s7_rig.specs.Asked.{IsAnswered, is_entered, is_full, is_failed}
 use Rattle.s7_rig.specs.Heard.{told_of}
 use Rattle.s7_rig.specs.Written.{AreKnown, own_data, own_places, own_write, own_codes}
 use Rattle.s7_rig.specs.Plants.{IsStateFor}
-use Rattle.s7_rig.specs.Exchanges.{AnyUndone, GoesOn, link_past, HasTold, is_refused, is_read, is_written, IsHeard, Replies}
+use Rattle.s7_rig.specs.Exchanges.{AnyUndone, GoesOn, HasTold, is_refused, is_read, is_written}
+use Rattle.s7_rig.specs.Dialogues.{AreReplies}
 use Rattle.s7_rig.proofs.ServedLemmas.{ServesTo, served_message}
 use Rattle.s7_rig.proofs.JudgedLemmas.{question_sequence}
 use Rattle.s7_rig.proofs.AnsweredLemmas.{refusal_is_heard, read_is_heard, length-read, least-read, length-write_codes, length-write}
@@ -78,9 +78,39 @@ pub lives_on : {first : LinkState} (b m z more : List ℕ) (js vs : List Verdict
 lives_on {first} b m z more js vs granted s most is owes some =
     lives_by b m z more js vs granted s most is owes some (standing_cases (past first (b ++ sent_message 1024 m) (js ++ vs)).standing)
 
+-- ---- one message, and its answer
+
+-- The message is an answer to the question, behind which nothing is unheard.
+pub record IsHeardOnce (verdicts : List Verdict) (link : LinkState) (question : Question) (number : ℕ)
+    (message : List ℕ) (new : List (Ask × Said)) : Type 0 where
+  pub answer : Answer
+  pub is : answer_of question number message ≡ Some answer
+  pub told : HasTold verdicts question answer new
+  pub goes_on : GoesOn link question answer
+
+-- the state of a link that used the message of a question
+abbrev pub link_once : LinkState → List ℕ → ℕ → Question → List Verdict → LinkState
+link_once first b number question verdicts =
+    (past first (b ++ sent_message 1024 (question_octets number question)) verdicts).link
+
+-- The message of a question is answered by one message, of which the rest holds as of any reply.
+pub record RepliesOnce (first : LinkState) (b : List ℕ) (js vs : List Verdict) (pdu : ℕ) (question : Question)
+    (number : ℕ) : Type 0 where
+  pub met : List Verdict
+  pub left : List Verdict
+  pub split : js ++ vs ≡ met ++ left
+  pub message : List ℕ
+  pub new : List (Ask × Said)
+  pub serves : Serves first b js (sent_message 1024 (question_octets number question)) met (Some pdu)
+      (sent_message 1024 message) new
+  pub least : AreReplies new → 10 ≤ length message
+  pub most : AreReplies new → length message ≤ most_pdu
+  pub heard : AreReplies new
+      → IsHeardOnce (js ++ vs) (link_once first b number question met) question number message new
+
 -- ---- a refusal
 
-any_full : (js vs rest : List Verdict) → vs ≡ Full ∷ rest → AnyFull (js ++ vs)
+pub any_full : (js vs rest : List Verdict) → vs ≡ Full ∷ rest → AnyFull (js ++ vs)
 any_full [] vs rest is = subst AnyFull (sym is) tt
 any_full (Full ∷ js) vs rest is = tt
 any_full (Entered reply moment ∷ js) vs rest is = any_full js vs rest is
@@ -97,42 +127,36 @@ any_failed (NoMemory ∷ js) vs rest is = any_failed js vs rest is
 -- nothing goes on behind a refusal
 refusal_ends : (link : LinkState) (q : Question) (error : ℕ) → GoesOn link q (refuses error)
 refusal_ends link (negotiates asked) error = tt
-refusal_ends link (reads items) error = tt
-refusal_ends link (writes items octets) error = tt
-refusal_ends link (controls control) error = tt
-refusal_ends link (asks subject octets) error = tt
-refusal_ends link (asks_further subject octet so_far) error = tt
-refusal_ends link (starts_upload name) error = tt
-refusal_ends link (slices_upload id size so_far) error = tt
-refusal_ends link (ends_upload id) error = tt
+refusal_ends link _ error = tt
 
 -- a refusal is heard under the question's sequence
 pub refused_as : (all : List Verdict) (link : LinkState) (q : Question) (s error : ℕ) (new : List (Ask × Said))
-    → HasTold all q (refuses error) new → s < 65536 → error < 65536
-    → IsHeard all link q s (refusal_octets (sequence_of (question_octets s q)) error) new
-refused_as all link q s error new told low small = record {
+    → HasTold all q (refuses error) new → is_numbered q ≡ true → s < 65536 → error < 65536
+    → IsHeardOnce all link q s (refusal_octets (sequence_of (question_octets s q)) error) new
+refused_as all link q s error new told numbered low small = record {
   answer = refuses error;
-  is = ap (λ n. answer_of q s (refusal_octets n error)) (question_sequence s q)
-      ∙ refusal_is_heard q s error (omega (arith, low)) (omega (arith, small));
+  is = ap (λ n. answer_of q s (refusal_octets n error)) (question_sequence s q numbered)
+      ∙ refusal_is_heard q s error numbered (omega (arith, low)) (omega (arith, small));
   told = told;
   goes_on = refusal_ends link q error;
 }
 
 refused : (all : List Verdict) (link : LinkState) (q : Question) (s error : ℕ) (new : List (Ask × Said))
-    → AnyUndone all → s < 65536 → error < 65536
-    → IsHeard all link q s (refusal_octets (sequence_of (question_octets s q)) error) new
-refused all link q s error new undone low small = refused_as all link q s error new (is_refused error undone refl) low small
+    → AnyUndone all → is_numbered q ≡ true → s < 65536 → error < 65536
+    → IsHeardOnce all link q s (refusal_octets (sequence_of (question_octets s q)) error) new
+refused all link q s error new undone numbered low small =
+    refused_as all link q s error new (is_refused error undone refl) numbered low small
 
-met_split : (js vs rest : List Verdict) (v : Verdict) → vs ≡ v ∷ rest → js ++ vs ≡ (js ++ v ∷ []) ++ rest
+pub met_split : (js vs rest : List Verdict) (v : Verdict) → vs ≡ v ∷ rest → js ++ vs ≡ (js ++ v ∷ []) ++ rest
 met_split js vs rest v is = ap (λ x. js ++ x) is ∙ sym (append_assoc js (v ∷ []) rest)
 
 -- a question that wasn't done is refused
 undone_replies : {first : LinkState} (b : List ℕ) (js vs rest : List Verdict) (v : Verdict) (pdu s error : ℕ)
-    (q : Question) → vs ≡ v ∷ rest → AnyUndone (js ++ vs) → s < 65536 → error < 65536
-    → Serves first b js (question_octets s q) (js ++ v ∷ []) (Some pdu)
+    (q : Question) → vs ≡ v ∷ rest → AnyUndone (js ++ vs) → is_numbered q ≡ true → s < 65536 → error < 65536
+    → Serves first b js (sent_message 1024 (question_octets s q)) (js ++ v ∷ []) (Some pdu)
     (refusal_sent 1024 (sequence_of (question_octets s q)) error) []
-    → Replies first b js vs pdu q s
-undone_replies {first} b js vs rest v pdu s error q is undone low small serves = record {
+    → RepliesOnce first b js vs pdu q s
+undone_replies {first} b js vs rest v pdu s error q is undone numbered low small serves = record {
   met = js ++ v ∷ [];
   left = rest;
   split = met_split js vs rest v is;
@@ -141,7 +165,7 @@ undone_replies {first} b js vs rest v pdu s error q is undone low small serves =
   serves = serves;
   least = λ h. omega arith;
   most = λ h. omega arith;
-  heard = λ h. refused (js ++ vs) (link_past first b s q (js ++ v ∷ [])) q s error [] undone low small;
+  heard = λ h. refused (js ++ vs) (link_once first b s q (js ++ v ∷ [])) q s error [] undone numbered low small;
 }
 
 -- ---- replies
@@ -151,7 +175,7 @@ pub record IsGood (all : List Verdict) (link : LinkState) (q : Question) (s : �
     (new : List (Ask × Said)) : Type 0 where
   pub least : 10 ≤ length message
   pub most : length message ≤ most_pdu
-  pub heard : IsHeard all link q s message new
+  pub heard : IsHeardOnce all link q s message new
 
 -- Whatever state gives the reply at whatever moment, the message that is made of it is good.
 pub record IsAskedWell (all : List Verdict) (q : Question) (s : ℕ) (asking : Asking) : Type 0 where
@@ -163,9 +187,9 @@ pub record IsAskedWell (all : List Verdict) (q : Question) (s : ℕ) (asking : A
 
 -- a question that asks the plant has its reply
 pub asked_replies : {first : LinkState} (b : List ℕ) (js vs : List Verdict) (pdu s : ℕ) (q : Question)
-    (asking : Asking) → s < 65536 → IsAskedWell (js ++ vs) q s asking
-    → IsAnswered first b js (question_octets s q) vs (Some pdu) asking → Replies first b js vs pdu q s
-asked_replies {first} b js vs pdu s q asking low well (is_entered reply moment rest is serves link) =
+    (asking : Asking) → is_numbered q ≡ true → s < 65536 → IsAskedWell (js ++ vs) q s asking
+    → IsAnswered first b js (question_octets s q) vs (Some pdu) asking → RepliesOnce first b js vs pdu q s
+asked_replies {first} b js vs pdu s q asking numbered low well (is_entered reply moment rest is serves link) =
     let new : List (Ask × Said) = (asking.ask moment, reply) ∷ [] in
     let met : List Verdict = js ++ Entered reply moment ∷ [] in
     record {
@@ -174,24 +198,24 @@ asked_replies {first} b js vs pdu s q asking low well (is_entered reply moment r
       split = met_split js vs rest (Entered reply moment) is;
       message = well.message reply;
       new = new;
-      serves = subst (λ out. Serves first b js (question_octets s q) met (Some pdu) out new)
+      serves = subst (λ out. Serves first b js (sent_message 1024 (question_octets s q)) met (Some pdu) out new)
           (ap (sent_messages 1024) (well.messages reply) ∙ append-nil (sent_message 1024 (well.message reply))) serves;
       least = λ h. (well.good moment reply h.0.0 h.0.1 h.0.2).least;
       most = λ h. (well.good moment reply h.0.0 h.0.1 h.0.2).most;
-      heard = λ h. subst (λ l. IsHeard (js ++ vs) l q s (well.message reply) new) (sym link)
+      heard = λ h. subst (λ l. IsHeardOnce (js ++ vs) l q s (well.message reply) new) (sym link)
           (well.good moment reply h.0.0 h.0.1 h.0.2).heard;
     }
-asked_replies b js vs pdu s q asking low well (is_full rest is serves) =
-    undone_replies b js vs rest Full pdu s FULL q is (inl (any_full js vs rest is)) low (omega arith) serves
-asked_replies b js vs pdu s q asking low well (is_failed rest is timed serves) =
-    undone_replies b js vs rest ClockFailed pdu s CLOCK_FAILED q is (inr (any_failed js vs rest is)) low (omega arith)
-    serves
+asked_replies b js vs pdu s q asking numbered low well (is_full rest is serves) =
+    undone_replies b js vs rest Full pdu s FULL q is (inl (any_full js vs rest is)) numbered low (omega arith) serves
+asked_replies b js vs pdu s q asking numbered low well (is_failed rest is timed serves) =
+    undone_replies b js vs rest ClockFailed pdu s CLOCK_FAILED q is (inr (any_failed js vs rest is)) numbered low
+    (omega arith) serves
 
 -- and one that the link itself answers has its answer
 pub own_replies : {first : LinkState} (b : List ℕ) (js vs : List Verdict) (pdu s : ℕ) (q : Question)
     (message : List ℕ) (link : LinkState) → IsGood (js ++ vs) link q s message []
     → ServesTo first b js (question_octets s q) js (Some pdu) (sent_message 1024 message) [] link
-    → Replies first b js vs pdu q s
+    → RepliesOnce first b js vs pdu q s
 own_replies b js vs pdu s q message link good served = record {
   met = js;
   left = vs;
@@ -201,7 +225,7 @@ own_replies b js vs pdu s q message link good served = record {
   serves = served.serves;
   least = λ h. good.least;
   most = λ h. good.most;
-  heard = λ h. subst (λ l. IsHeard (js ++ vs) l q s message []) (sym served.leaves) good.heard;
+  heard = λ h. subst (λ l. IsHeardOnce (js ++ vs) l q s message []) (sym served.leaves) good.heard;
 }
 
 -- ---- reads and writes
@@ -218,7 +242,7 @@ read_heard state right items s reply low room gives =
 read_told : (all : List Verdict) (link : LinkState) (state : State) (right : Bool) (items : List Item) (s : ℕ)
     (reply : Said) → s < 65536 → answer_size items ≤ most_pdu
     → reply ≡ plant.answer_of state (asked right (Read items))
-    → IsHeard all link (reads items) s (reply_octets s reply) ((asked right (Read items), reply) ∷ [])
+    → IsHeardOnce all link (reads items) s (reply_octets s reply) ((asked right (Read items), reply) ∷ [])
 read_told all link state right items s reply low room gives =
     let heard = read_heard state right items s reply low room gives in
     record {
@@ -241,7 +265,7 @@ write_heard state right items octets s reply low few known short gives =
 write_told : (all : List Verdict) (link : LinkState) (state : State) (right : Bool) (items : List Item)
     (octets : List ℕ) (s : ℕ) (reply : Said) → s < 65536 → length items ≤ 20 → AreKnown items
     → IsShort s items octets → reply ≡ plant.answer_of state (asked right (own_write items octets))
-    → IsHeard all link (writes items octets) s (reply_octets s reply)
+    → IsHeardOnce all link (writes items octets) s (reply_octets s reply)
     ((asked right (own_write items octets), reply) ∷ [])
 write_told all link state right items octets s reply low few known short gives =
     let heard = write_heard state right items octets s reply low few known short gives in

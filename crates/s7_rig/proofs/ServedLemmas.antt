@@ -53,7 +53,7 @@ served_by {first} b m js vs granted j s most is judged =
 -- A message is served, and leaves the link so.
 pub record ServesTo (first : LinkState) (b : List ℕ) (js : List Verdict) (m : List ℕ) (js' : List Verdict)
     (granted : Option ℕ) (out : List ℕ) (new : List (Ask × Said)) (left : LinkState) : Type 0 where
-  pub serves : Serves first b js m js' granted out new
+  pub serves : Serves first b js (sent_message 1024 m) js' granted out new
   pub leaves : (past first (b ++ sent_message 1024 m) js').link ≡ left
 
 -- a step that leaves the link alive, with no verdict over

@@ -5,7 +5,7 @@ use Rattle.s7_dialogue.specs.declared.grant.Grant.{Grant}
 use Rattle.s7_dialogue.specs.declared.grant.Leaves.TheVariants.{AsItWas}
 use Rattle.s7_dialogue.specs.declared.job.Job.{Job}
 use Rattle.s7_dialogue.specs.declared.job.Job.TheVariants as job
-use Rattle.s7_dialogue.specs.Checks.{check_item, check_items, check_moment, check_password, octet_count_of}
+use Rattle.s7_dialogue.specs.Checks.{check_item, check_items, check_moment, check_password, check_image, octet_count_of}
 use Rattle.s7_dialogue.specs.Dialogue.{End, First, nothing, disconnect_request, Plan, over, number_end, connected_plan, plan_of}
 use Rattle.s7_dialogue.specs.Course.{Origin, Course, Awaits, for_departure, for_nothing, course}
 use Rattle.s7_client.specs.Standing.{AwaitsOctets}
@@ -16,7 +16,7 @@ use Rattle.s7_rig.specs.Settled.{Settled}
 use Rattle.s7_rig.specs.Dialogues.{IsJobOver}
 use Rattle.s7_rig.proofs.BeginLemmas.{first_course, BeginsAsking, begins_asking}
 use Rattle.s7_rig.proofs.ListFacts.{none_of}
-use Rattle.s7_rig.proofs.HoldLemmas.{first_ready}
+use Rattle.s7_rig.proofs.HoldLemmas.{first_holds}
 use Rattle.s7_rig.proofs.DialogueLemmas.{Whole, IsWhole, Place, IsAt, IsDone}
 use Rattle.s7_rig.proofs.JobLemmas.{done}
 
@@ -39,6 +39,7 @@ connected_first (job.WriteArea item octets) granted =
 connected_first (job.ReadMany items) granted = checked_first (check_items items true granted.pdu false) _ _ refl
 connected_first (job.WriteMany items octets) granted =
     checked_first (check_items items (eqb (length octets) (octet_count_of items)) granted.pdu true) _ _ refl
+connected_first (job.Download image) granted = checked_first (check_image image) _ _ refl
 connected_first (job.ClockSet moment) granted = checked_first (check_moment moment) _ _ refl
 connected_first (job.PasswordSet text) granted = checked_first (check_password text) _ _ refl
 connected_first job.Disconnect granted = inr refl
@@ -68,6 +69,7 @@ first_place w b js u begins = record {
   verdicts = js;
   taken = u.taken;
   left = u.left;
+  unheard = [];
 }
 
 at_first : (w : Whole) (b : List ℕ) (js : List Verdict) (u : IsUnused w b js) (begins : BeginsAsking w.origin)
@@ -79,14 +81,14 @@ at_first w b js u begins i = record {
   asked = begins.asks.asked;
   told = tt;
   settled = u.settled;
-  ready = first_ready w.origin i.grant i.granted (past w.first b js).link begins.asks.new begins.asks.rows
+  next = first_holds w.origin i.grant i.granted (past w.first b js).link begins.asks.new begins.asks.rows
       begins.asks.are_out begins.asks.asked;
   heard_is = refl;
   out_is = begins.asks.out;
   sent_is = u.sent_is;
   used_is = u.used_is;
   verdicts_are = u.verdicts_are;
-  owed_is = sym u.owed_is ∙ sym (append-nil w.before);
+  owed_is = sym u.owed_is ∙ (sym (append-nil w.before) ∙ sym (append-nil (w.before ++ [])));
   entered_is = sym u.entered_is ∙ sym (append-nil w.entries);
 }
 

@@ -1,14 +1,15 @@
 -- The telegrams of a job, and what is asked behind them.
-use Rattle.std.proofs.Common.{◌≡◌, ℕ, ◌+◌, ◌<◌, Bool, true, false, cond, eqb, Option, None, Some, List, [], ◌∷◌, ◌++◌, length, map, refl, ap, sym, ◌∙◌, subst, arith, length-append}
-use Rattle.std.specs.List.{AllByRecursion}
+use Rattle.std.proofs.Common.{◌≡◌, ℕ, ◌+◌, ◌<◌, Bool, true, false, cond, eqb, Option, None, Some, List, [], ◌∷◌, ◌++◌, length, refl, ap, sym, ◌∙◌, subst, arith, length-append}
+use Rattle.std.specs.List.{AllByRecursion, flat_map}
 use Rattle.std.proofs.lemmas.Bool.{eqb-false, ne_eqb}
 use Rattle.std.proofs.lemmas.List.{length-map}
 use Rattle.s7_wire.specs.Sent.{sent_messages}
 use Rattle.s7_dialogue.specs.Answer.{Answer, answer_of}
 use Rattle.s7_dialogue.specs.Flight.{Row, answers_of, open_count, filled}
 use Rattle.s7_dialogue.specs.Dialogue.{Conduct}
-use Rattle.s7_dialogue.specs.Course.{Course, for_answers, for_nothing, next_question, asking}
-use Rattle.s7_dialogue.proofs.FlightLemmas.{IsOpen, IsAnswered, none_open, all_open, open_append, comes_next, AreNext, last_number, asks_on, nothing_more, row_message, with_answer, filled_first}
+use Rattle.s7_dialogue.specs.Course.{Course, for_answers, for_nothing, next_question, next_sequence, asking}
+use Rattle.s7_dialogue.specs.Question.{is_numbered}
+use Rattle.s7_dialogue.proofs.FlightLemmas.{IsOpen, IsAnswered, none_open, all_open, open_append, comes_next, AreNext, last_number, asks_on, nothing_more, row_messages, with_answer, filled_first}
 use Rattle.s7_rig.specs.Awaiting.{telegrams_of, AreAsked, awaits_with}
 use Rattle.s7_rig.specs.Exchanges.{Exchange, rows_of}
 
@@ -85,17 +86,21 @@ next_asked c rows sequence (row ∷ new) next =
           (next_asked c (rows ++ row ∷ []) row.number new next.1),
     )
 
-low_next : (s : ℕ) (b : Bool) → eqb s 65535 ≡ b → s < 65536 → cond b 1 (s + 1) < 65536
+low_next : (s : ℕ) (last : Bool) → eqb s 65535 ≡ last → s < 65536 → cond last 1 (s + 1) < 65536
 low_next s true e low = omega arith
 low_next s false e low =
     let other = eqb-false s 65535 e in
     omega (arith, low, other)
 
+low_behind : (s : ℕ) (numbered : Bool) → s < 65536 → cond numbered (next_sequence s) s < 65536
+low_behind s true low = low_next s (eqb s 65535) refl low
+low_behind s false low = low
+
 next_out : (c : Conduct) (rows : List Row) (sequence : ℕ) (new : List Row) → AreNext c rows sequence new
     → sequence < 65536 → AreOut new × (last_number sequence new < 65536)
 next_out c rows sequence [] next low = (tt, low)
 next_out c rows sequence (row ∷ new) next low =
-    let low_too = low_next sequence (eqb sequence 65535) refl low in
+    let low_too = low_behind sequence (is_numbered row.question) low in
     let here : row.number < 65536 = subst (λ n. n < 65536) (sym next.0.number) low_too in
     let others = next_out c (rows ++ row ∷ []) row.number new next.1 here in
     ((record { unanswered = next.0.unanswered; low = here }, others.0), others.1)
@@ -123,7 +128,7 @@ asks_all c course size low =
       are_out = out.0;
       asked = next_asked c course.rows course.sequence on.new on.each;
       rows = on.rows;
-      out = on.out ∙ ap (λ n. course.out ++ sent_messages n (map row_message on.new)) size;
+      out = on.out ∙ ap (λ n. course.out ++ sent_messages n (flat_map row_messages on.new)) size;
       size = on.size ∙ size;
       unfinished = on.unfinished;
       sequence = subst (λ n. n < 65536) (sym on.sequence) out.1;

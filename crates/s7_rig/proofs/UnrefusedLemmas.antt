@@ -26,6 +26,7 @@ use Rattle.s7_rig.specs.Complete.{IsThere}
 use Rattle.s7_rig.specs.Exchanges.{IsSecurity, AnyUndone, HasTold, is_refused, is_read, is_written, is_controlled}
 use Rattle.s7_rig.specs.Exchanges.{is_brought, is_secured, is_unnamed, is_further, NamesNone, request_of}
 use Rattle.s7_rig.specs.Exchanges.{is_barred, is_started, is_no_upload, is_sliced, is_ended, uploaded_of}
+use Rattle.s7_rig.specs.Exchanges.{is_announced, is_unstored, is_called, is_given, is_inserted}
 use Rattle.s7_rig.specs.Exchanges.{Exchange, entries_of, rows_of, AreTold, Converses}
 use Rattle.s7_rig.specs.Exchanges as exchange
 use Rattle.s7_rig.proofs.HoldData.{IsOfItems}
@@ -132,6 +133,16 @@ module _ (n : Memory) (verdicts : List Verdict) (all_done : AnyUndone verdicts â
       absurd (subst (FindsAll n) is finds).1
   part_unrefused question answer new (is_further subject octet so_far piece more is entered told) shaped finds =
       absurd (subst (FindsAll n) is finds).1
+  part_unrefused question answer new (is_announced image is entered told) shaped finds =
+      absurd (subst (FindsAll n) is finds).1
+  part_unrefused question answer new (is_unstored image is unstored entered told) shaped finds =
+      absurd (subst (FindsAll n) is finds).1
+  part_unrefused question answer new (is_called image call is entered told) shaped finds =
+      absurd (subst (FindsAll n) is finds).1
+  part_unrefused question answer new (is_given image room from call next is entered told) shaped finds =
+      absurd (subst (FindsAll n) is finds).1
+  part_unrefused question answer new (is_inserted image call right reply is entered told) shaped finds =
+      absurd (subst (FindsAll n) is finds).1
 
   -- and no telegram for items is refused
   pub items_unrefused : (question : Question) (answer : Answer) (new : List (Ask Ã— Said))
@@ -162,6 +173,16 @@ module _ (n : Memory) (verdicts : List Verdict) (all_done : AnyUndone verdicts â
   items_unrefused question answer new (is_ended id is entered told) shaped of =
       absurd (subst IsOfItems is of)
   items_unrefused question answer new (is_further subject octet so_far piece more is entered told) shaped of =
+      absurd (subst IsOfItems is of)
+  items_unrefused question answer new (is_announced image is entered told) shaped of =
+      absurd (subst IsOfItems is of)
+  items_unrefused question answer new (is_unstored image is unstored entered told) shaped of =
+      absurd (subst IsOfItems is of)
+  items_unrefused question answer new (is_called image call is entered told) shaped of =
+      absurd (subst IsOfItems is of)
+  items_unrefused question answer new (is_given image room from call next is entered told) shaped of =
+      absurd (subst IsOfItems is of)
+  items_unrefused question answer new (is_inserted image call right reply is entered told) shaped of =
       absurd (subst IsOfItems is of)
 
   -- a control that is done isn't refused
@@ -204,6 +225,16 @@ module _ (n : Memory) (verdicts : List Verdict) (all_done : AnyUndone verdicts â
       absurd (subst (IsControl c) is of)
   control_unrefused c function named done question answer new
       (is_further subject octet so_far piece more is entered told) shaped of = absurd (subst (IsControl c) is of)
+  control_unrefused c function named done question answer new (is_announced image is entered told) shaped of =
+      absurd (subst (IsControl c) is of)
+  control_unrefused c function named done question answer new (is_unstored image is unstored entered told) shaped of =
+      absurd (subst (IsControl c) is of)
+  control_unrefused c function named done question answer new (is_called image call is entered told) shaped of =
+      absurd (subst (IsControl c) is of)
+  control_unrefused c function named done question answer new (is_given image room from call next is entered told) shaped of =
+      absurd (subst (IsControl c) is of)
+  control_unrefused c function named done question answer new (is_inserted image call right reply is entered told) shaped of =
+      absurd (subst (IsControl c) is of)
 
   -- nor is user data that is replied to without an error
   pub about_unrefused : (subject : Subject) (octets : List â„•) â†’ (IsSecurity subject â†’ âŠ¥)
@@ -254,6 +285,16 @@ module _ (n : Memory) (verdicts : List Verdict) (all_done : AnyUndone verdicts â
   about_unrefused subject octets plain named good question answer new
       (is_controlled c right request reply is wants entered told) shaped of =
       absurd (subst (IsAbout subject octets) is of)
+  about_unrefused subject octets plain named good question answer new (is_announced image is entered told) shaped of =
+      absurd (subst (IsAbout subject octets) is of)
+  about_unrefused subject octets plain named good question answer new (is_unstored image is unstored entered told) shaped of =
+      absurd (subst (IsAbout subject octets) is of)
+  about_unrefused subject octets plain named good question answer new (is_called image call is entered told) shaped of =
+      absurd (subst (IsAbout subject octets) is of)
+  about_unrefused subject octets plain named good question answer new (is_given image room from call next is entered told) shaped of =
+      absurd (subst (IsAbout subject octets) is of)
+  about_unrefused subject octets plain named good question answer new (is_inserted image call right reply is entered told) shaped of =
+      absurd (subst (IsAbout subject octets) is of)
 
   -- nor is anything of the upload of a block whose start is replied to without an error
   pub upload_unrefused : (name : BlockName) â†’ uploaded_of name â‰¡ Some name
@@ -297,3 +338,13 @@ module _ (n : Memory) (verdicts : List Verdict) (all_done : AnyUndone verdicts â
       absurd (subst (IsUploadOf name) is of)
   upload_unrefused name named good question answer new
       (is_further subject octet so_far piece more is entered told) shaped of = absurd (subst (IsUploadOf name) is of)
+  upload_unrefused name named good question answer new (is_announced image is entered told) shaped of =
+      absurd (subst (IsUploadOf name) is of)
+  upload_unrefused name named good question answer new (is_unstored image is unstored entered told) shaped of =
+      absurd (subst (IsUploadOf name) is of)
+  upload_unrefused name named good question answer new (is_called image call is entered told) shaped of =
+      absurd (subst (IsUploadOf name) is of)
+  upload_unrefused name named good question answer new (is_given image room from call next is entered told) shaped of =
+      absurd (subst (IsUploadOf name) is of)
+  upload_unrefused name named good question answer new (is_inserted image call right reply is entered told) shaped of =
+      absurd (subst (IsUploadOf name) is of)

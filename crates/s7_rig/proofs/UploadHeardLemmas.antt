@@ -32,13 +32,13 @@ size_read id n most = names_read.numbers 7 n (omega (arith, most))
 pub start_is_heard : (name : BlockName) (s id n : ℕ) → s < 65536 → n ≤ 65572
     → answer_of (starts_upload name) s (answer_octets s (with_id (upload_params n) id) []) ≡ Some (uploads id n)
 start_is_heard name s id n low most =
-    answer_is_heard (starts_upload name) s (with_id (upload_params n) id) [] (omega (arith, low)) (omega arith)
+    answer_is_heard (starts_upload name) s (with_id (upload_params n) id) [] refl (omega (arith, low)) (omega arith)
     (omega arith)
     ∙ ap (option_map (uploads id)) (size_read id n most)
 
 -- ---- slices
 
-data_is_image : (octets : List ℕ) → is_image_data (image_data octets) ≡ true
+pub data_is_image : (octets : List ℕ) → is_image_data (image_data octets) ≡ true
 data_is_image octets =
     let body = image_data octets in
     let same : length octets ≡ length body - 4 = omega arith in
@@ -57,22 +57,22 @@ piece_is_read false octets =
 none_wrong : (a b c d : Bool) → a ≡ false → b ≡ false → c ≡ false → d ≡ false → (a || b || c || d) ≡ false
 none_wrong a b c d no_a no_b no_c no_d = rw (no_a, no_b, no_c, no_d) refl
 
--- the first octets of the rest of an image go on with those before them
-piece_fits : (size : ℕ) (so_far rest : List ℕ) (room : ℕ) (more : Bool) → 0 < room → length (so_far ++ rest) ≡ size
-    → size ≤ 65572 → ltb room (length rest) ≡ more
-    → is_wrong 65572 size so_far (record { more = more; octets = take room rest }) ≡ false
-piece_fits size so_far rest room true some whole most more =
+-- the first octets of the rest of an image go on with those before them, where it has no more octets than it may
+pub piece_fits : (limit size : ℕ) (so_far rest : List ℕ) (room : ℕ) (more : Bool) → 0 < room
+    → length (so_far ++ rest) ≡ size → size ≤ limit → ltb room (length rest) ≡ more
+    → is_wrong limit size so_far (record { more = more; octets = take room rest }) ≡ false
+piece_fits limit size so_far rest room true some whole most more =
     let over = ltb-true room (length rest) more in
     let taken = length-take-le room rest (omega (arith, over)) in
     let all = length-append so_far rest in
     none_wrong _ _ _ _ (le-ltb size (length so_far + length (take room rest)) (omega (arith, taken, over, all, whole)))
-    (le-ltb 65572 (length so_far + length (take room rest)) (omega (arith, taken, over, all, whole, most)))
+    (le-ltb limit (length so_far + length (take room rest)) (omega (arith, taken, over, all, whole, most)))
     (ne_eqb (length (take room rest)) 0 (λ e. omega (arith, e, taken, some))) refl
-piece_fits size so_far rest room false some whole most more =
+piece_fits limit size so_far rest room false some whole most more =
     let same = ap length (take_all room rest (ltb-false room (length rest) more)) in
     let all = length-append so_far rest in
     none_wrong _ _ _ _ (le-ltb size (length so_far + length (take room rest)) (omega (arith, same, all, whole)))
-    (le-ltb 65572 (length so_far + length (take room rest)) (omega (arith, same, all, whole, most))) refl
+    (le-ltb limit (length so_far + length (take room rest)) (omega (arith, same, all, whole, most))) refl
     (ap not (eq-eqb (length so_far + length (take room rest)) size (omega (arith, same, all, whole))))
 
 slice_by : (s id size room : ℕ) (so_far rest : List ℕ) (more : Bool) → s < 65536 → 0 < room → room ≤ most_pdu
@@ -82,10 +82,10 @@ slice_by : (s id size room : ℕ) (so_far rest : List ℕ) (more : Bool) → s <
 slice_by s id size room so_far rest more low some few whole most is =
     let piece : Piece = record { more = more; octets = take room rest } in
     answer_is_heard (slices_upload id size so_far) s (slice_function ∷ more_octet more ∷ [])
-    (image_data (take room rest)) (omega (arith, low)) (omega arith) (omega (arith, length-take room rest, few))
+    (image_data (take room rest)) refl (omega (arith, low)) (omega arith) (omega (arith, length-take room rest, few))
     ∙ (ap (λ read. option_map sliced (fitting size so_far read)) (piece_is_read more (take room rest))
     ∙ ap (λ wrong. option_map sliced (cond wrong None (Some piece)))
-    (piece_fits size so_far rest room more some whole most is))
+    (piece_fits 65572 size so_far rest room more some whole most is))
 
 -- the first octets are heard, as many as a telegram takes
 pub slice_is_heard : (s id size room : ℕ) (so_far rest : List ℕ) → s < 65536 → 0 < room → room ≤ most_pdu
@@ -121,4 +121,4 @@ rest_is_held link id size room so_far rest false held whole most more =
 pub end_is_heard : (s id : ℕ) → s < 65536
     → answer_of (ends_upload id) s (answer_octets s (end_function ∷ []) []) ≡ Some uploaded
 end_is_heard s id low =
-    answer_is_heard (ends_upload id) s (end_function ∷ []) [] (omega (arith, low)) (omega arith) (omega arith)
+    answer_is_heard (ends_upload id) s (end_function ∷ []) [] refl (omega (arith, low)) (omega arith) (omega arith)

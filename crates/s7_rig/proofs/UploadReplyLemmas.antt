@@ -19,11 +19,11 @@ use Rattle.s7_session.specs.Owed.{past}
 use Rattle.s7_session.specs.Judgement.{answer_octets, by_upload, refusal_octets, slice_answer, upload_reply}
 use Rattle.s7_session.specs.Transfers.{end_function, image_room, with_id, with_upload}
 use Rattle.s7_session.specs.Verdict.{Verdict}
-use Rattle.s7_rig.specs.Exchanges.{HoldsImage, GoesOn, Replies, is_started, is_no_upload, is_sliced, is_ended}
+use Rattle.s7_rig.specs.Exchanges.{HoldsImage, GoesOn, is_started, is_no_upload, is_sliced, is_ended}
 use Rattle.s7_rig.specs.Exchanges.{uploaded_of, upload_heard}
 use Rattle.s7_rig.proofs.AnsweredLemmas.{refusal_is_heard}
 use Rattle.s7_rig.proofs.RepliedLemmas.{IsServed, is_sent, asking_replied, link_replied, refused_replied}
-use Rattle.s7_rig.proofs.ReplyLemmas.{IsGood, IsAskedWell}
+use Rattle.s7_rig.proofs.ReplyLemmas.{RepliesOnce, IsGood, IsAskedWell}
 use Rattle.s7_rig.proofs.UploadHeardLemmas.{start_is_heard, slice_is_heard, length-slice, rest_is_held, end_is_heard}
 use Rattle.s7_rig.proofs.UploadJudgedLemmas.{judged_start, judged_slice, judged_end}
 
@@ -80,7 +80,7 @@ error_heard name s error link low small bad =
       least = subst (λ (octets : List ℕ). 10 ≤ length octets) (sym message) (omega arith);
       most = subst (λ (octets : List ℕ). length octets ≤ most_pdu) (sym message) (omega arith);
       is = ap (answer_of (starts_upload name) s) message
-          ∙ (refusal_is_heard (starts_upload name) s error (omega (arith, low)) (omega (arith, small))
+          ∙ (refusal_is_heard (starts_upload name) s error refl (omega (arith, low)) (omega (arith, small))
           ∙ ap Some (sym heard));
       goes_on = subst (λ answer. GoesOn (with_upload link reply) (starts_upload name) answer) (sym heard) tt;
     }
@@ -122,7 +122,7 @@ start_well all link s name block low names = record {
 -- a name of no block is refused
 pub start_replied : {first : LinkState} (b : List ℕ) (js vs : List Verdict) (pdu s : ℕ) (name : BlockName)
     (block : Option BlockName) → IsServed first b js vs pdu s (starts_upload name) → uploaded_of name ≡ block
-    → Replies first b js vs pdu (starts_upload name) s
+    → RepliesOnce first b js vs pdu (starts_upload name) s
 start_replied {first} b js vs pdu s name (Some block) served is =
     let link = (past first b js).link in
     let q = starts_upload name in
@@ -158,7 +158,7 @@ slice_good all link pdu s id size so_far rest low least few whole most held =
 
 pub slice_replied : {first : LinkState} (b : List ℕ) (js vs : List Verdict) (pdu s id size : ℕ) (so_far : List ℕ)
     → IsServed first b js vs pdu s (slices_upload id size so_far)
-    → HoldsImage (past first b js).link id size so_far → Replies first b js vs pdu (slices_upload id size so_far) s
+    → HoldsImage (past first b js).link id size so_far → RepliesOnce first b js vs pdu (slices_upload id size so_far) s
 slice_replied {first} b js vs pdu s id size so_far served h =
     let link = (past first b js).link in
     let q = slices_upload id size so_far in
@@ -185,7 +185,7 @@ end_good all link s id low = record {
 
 pub end_replied : {first : LinkState} (b : List ℕ) (js vs : List Verdict) (pdu s id : ℕ)
     → IsServed first b js vs pdu s (ends_upload id) → is_held (past first b js).link.upload id ≡ true
-    → Replies first b js vs pdu (ends_upload id) s
+    → RepliesOnce first b js vs pdu (ends_upload id) s
 end_replied {first} b js vs pdu s id served held =
     let link = (past first b js).link in
     let q = ends_upload id in

@@ -88,7 +88,7 @@ done_heard c s status low =
     record {
       least = omega arith;
       most = omega arith;
-      is = answer_is_heard (controls c) s params [] (omega (arith, low)) (omega arith) (omega arith)
+      is = answer_is_heard (controls c) s params [] refl (omega (arith, low)) (omega arith) (omega arith)
           ∙ ap (λ t. cond (t && true) (Some (stands status)) None) (eq-eqb (function_of c) (function_of c) refl);
     }
 
@@ -96,14 +96,14 @@ lacking_heard : (c : Control) (s : ℕ) → s < 65536 → IsControlHeard c s (re
 lacking_heard c s low = record {
   least = omega arith;
   most = omega arith;
-  is = refusal_is_heard (controls c) s 0xD209 (omega (arith, low)) (omega arith);
+  is = refusal_is_heard (controls c) s 0xD209 refl (omega (arith, low)) (omega arith);
 }
 
 barred_heard : (c : Control) (s : ℕ) → s < 65536 → IsControlHeard c s (refused 0xD241)
 barred_heard c s low = record {
   least = omega arith;
   most = omega arith;
-  is = refusal_is_heard (controls c) s 0xD241 (omega (arith, low)) (omega arith);
+  is = refusal_is_heard (controls c) s 0xD241 refl (omega (arith, low)) (omega arith);
 }
 
 heard_by_kind : (c : Control) (s : ℕ) (reply : Said) → s < 65536 → IsOfControl (function_of c) reply

@@ -15,7 +15,7 @@ use Rattle.s7_header.proofs.UserLemmas.{spelled_user}
 use Rattle.s7_szl.specs.Joining.{is_refused}
 use Rattle.s7_dialogue.specs.declared.subject.Subject.{Subject}
 use Rattle.s7_dialogue.specs.UserData.{group_of, subfunction_of, octets_in, comes_in_pieces, is_whole, goes_on_with}
-use Rattle.s7_dialogue.specs.Question.{Question}
+use Rattle.s7_dialogue.specs.Question.{Question, is_numbered}
 use Rattle.s7_dialogue.specs.Answer.{refuses, brings, brought, if_data, is_under, by_params, answered_by_user, answer_of}
 use Rattle.s7_session.specs.Judgement.{user_octets, user_data, slice_room, slice_octets, slices_left}
 use Rattle.s7_session.specs.LinkState.{LinkState, Sliced}
@@ -37,20 +37,22 @@ told_params subject octet more error = record {
   error = error;
 }
 
--- the question asks about this, behind these octets, and under a sequence octet if it names one
+-- The question asks about this, behind these octets, and under a sequence octet if it names one. It goes out under a
+-- sequence of the client's own.
 abbrev pub IsAbout : Question → Subject → Option ℕ → List ℕ → Type 0
 IsAbout q subject under so_far =
-    (params body : List ℕ)
-    → answered_by_user q params body ≡ by_params subject under so_far body (user_params_of params)
+    (is_numbered q ≡ true)
+    × ((params body : List ℕ)
+    → answered_by_user q params body ≡ by_params subject under so_far body (user_params_of params))
 
-user_is_heard : (q : Question) (s octet more error : ℕ) (subject : Subject) (body : List ℕ) → s < 65536
-    → length body < 65536
+user_is_heard : (q : Question) (s octet more error : ℕ) (subject : Subject) (body : List ℕ) → is_numbered q ≡ true
+    → s < 65536 → length body < 65536
     → answer_of q s (user_octets s (told_params subject octet more error) body)
     ≡ answered_by_user q (user_spelling (told_params subject octet more error)) body
-user_is_heard q s octet more error subject body low short =
+user_is_heard q s octet more error subject body numbered low short =
     let u = told_params subject octet more error in
     let h : Header = record { kind = User; sequence = s; param_len = 12; body_len = length body; error = 0 } in
-    heard_by q s (user_octets s u body) h
+    heard_by q s (user_octets s u body) h numbered
     (spelled 0 0 h (user_spelling u) body
     (record {
       sequence = omega (arith, low);
@@ -82,8 +84,8 @@ told_is_heard : (q : Question) (subject : Subject) (under : Option ℕ) (s octet
     ≡ brought subject so_far (told_params subject octet more error) octets
 told_is_heard q subject under s octet more error so_far body octets about is low small most short has =
     let u = told_params subject octet more error in
-    user_is_heard q s octet more error subject body low short
-    ∙ (about (user_spelling u) body
+    user_is_heard q s octet more error subject body about.0 low short
+    ∙ (about.1 (user_spelling u) body
     ∙ (params_are_told subject under octet more error so_far body small most is
     ∙ ap (if_data subject so_far u) has))
 

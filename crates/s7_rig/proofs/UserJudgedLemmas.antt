@@ -27,7 +27,7 @@ use Rattle.s7_dialogue.specs.declared.subject.Subject.TheVariants.{PasswordClear
 use Rattle.s7_dialogue.specs.declared.subject.Subject.TheVariants.{DataHead}
 use Rattle.s7_dialogue.specs.UserData.{group_of, subfunction_of, request_params, further_params, data_of, comes_in_pieces}
 use Rattle.s7_dialogue.specs.Question.{Question, controls, asks, asks_further, kind_of, params_of, body_of}
-use Rattle.s7_dialogue.specs.Question.{question_octets}
+use Rattle.s7_dialogue.specs.Question.{is_numbered, question_octets}
 use Rattle.s7_dialogue.specs.Dialogue.{kind_octets}
 use Rattle.s7_session.specs.Errors.{WRONG_PASSWORD, NO_RIGHT, error_of}
 use Rattle.s7_session.specs.Judgement as session
@@ -42,8 +42,9 @@ use Rattle.s7_rig.specs.Exchanges.{HoldsRest, request_of}
 use Rattle.s7_rig.proofs.DeleteLemmas.{deletion, delete_read, delete_unread, unstored}
 use Rattle.s7_rig.proofs.JudgedLemmas.{judged_question, chosen, not_refused, within}
 
--- a telegram under a sequence, on a link on which this PDU was granted, that has room in it
+-- a telegram under a sequence of the client's own, on a link on which this PDU was granted, that has room in it
 pub record IsSent (link : LinkState) (pdu s : ℕ) (q : Question) : Type 0 where
+  pub numbered : is_numbered q ≡ true
   pub granted : link.granted ≡ Some pdu
   pub low : s < 65536
   pub most : pdu ≤ most_pdu
@@ -52,7 +53,8 @@ pub record IsSent (link : LinkState) (pdu s : ℕ) (q : Question) : Type 0 where
 pub judged_sent : (link : LinkState) (pdu s : ℕ) (q : Question) → IsSent link pdu s q
     → judge link (question_octets s q) ≡ kinds link (kind_of q) s (params_of q) (body_of q)
 judged_sent link pdu s q sent =
-    judged_question link s q sent.low (omega (arith, sent.most, sent.fits)) (within link pdu _ sent.granted sent.fits)
+    judged_question link s q sent.numbered sent.low (omega (arith, sent.most, sent.fits))
+    (within link pdu _ sent.granted sent.fits)
 
 -- ---- controls
 

@@ -1,6 +1,6 @@
 -- How a session on a link between two messages replies to each question of a job.
 use Rattle.std.proofs.Common.{◌≡◌, inl, ℕ, ◌<◌, ◌≤◌, Bool, true, false, cond, eqb, ltb, List, [], ◌++◌, length, take, drop, ap}
-use Rattle.std.proofs.Common.{Option, None, Some, refl, sym, subst, arith}
+use Rattle.std.proofs.Common.{Option, None, Some, refl, sym, ◌∙◌, subst, arith}
 use Rattle.std.specs.Prelude.{IsSome, is_some}
 use Rattle.std.proofs.lemmas.Bool.{eq-eqb}
 use Rattle.s7_header.specs.Negotiation.{most_pdu}
@@ -15,7 +15,7 @@ use Rattle.s7_plant.specs.declared.request.Request.TheVariants as plain
 use Rattle.s7_plant.specs.declared.request.Request.TheVariants.{Read}
 use Rattle.s7_plant.specs.State.{State}
 use Rattle.s7_plant.specs.Answers as plant
-use Rattle.s7_wire.specs.Sent.{sent_message}
+use Rattle.s7_wire.specs.Sent.{sent_messages}
 use Rattle.s7_dialogue.specs.declared.subject.Subject.{Subject}
 use Rattle.s7_dialogue.specs.declared.subject.Subject.TheVariants.{StatusList, RunState, Clock, ClockSetting, Password}
 use Rattle.s7_dialogue.specs.declared.subject.Subject.TheVariants.{PasswordClearing, BlockCounts, BlocksOfKind, BlockHead}
@@ -24,7 +24,8 @@ use Rattle.s7_dialogue.specs.UserData.{group_of, subfunction_of, goes_on_with, c
 use Rattle.s7_dialogue.specs.Dialogue.{list_octets, kind_octets, block_octets}
 use Rattle.s7_dialogue.proofs.FlightLemmas.{same_some}
 use Rattle.s7_dialogue.specs.Question.{Question, negotiates, reads, writes, controls, asks, asks_further, question_octets}
-use Rattle.s7_dialogue.specs.Question.{starts_upload, slices_upload, ends_upload}
+use Rattle.s7_dialogue.specs.Question.{starts_upload, slices_upload, ends_upload, announces, awaits_call, gives, inserts}
+use Rattle.s7_dialogue.specs.Question.{messages_of}
 use Rattle.s7_dialogue.specs.Answer.{brings, refuses, answer_of}
 use Rattle.s7_session.specs.Events.{lives}
 use Rattle.s7_session.specs.LinkState.{LinkState, next_octet}
@@ -51,7 +52,8 @@ use Rattle.s7_rig.proofs.UserJudgedLemmas.{judged_counts, judged_kind, judged_he
 use Rattle.s7_rig.proofs.UserServedLemmas.{IsFit, user_well}
 use Rattle.s7_rig.proofs.JudgedLemmas.{judged_read}
 use Rattle.s7_rig.proofs.AsksLemmas.{write_is_asked}
-use Rattle.s7_rig.proofs.ReplyLemmas.{IsGood, read_well, write_well}
+use Rattle.s7_rig.proofs.ReplyLemmas.{RepliesOnce, IsGood, read_well, write_well}
+use Rattle.s7_rig.proofs.OnceLemmas.{IsOne, one_numbered, alone_sent, once_replies}
 
 -- ---- passwords
 
@@ -60,9 +62,9 @@ secured_heard : (good : Bool) (s octet error : ℕ) (subject : Subject) (octets 
     → answer_of (asks subject octets) s (user_octets s (told_params subject octet 0 error) no_data)
     ≡ Some (cond good (brings octet false []) (refuses error))
 secured_heard true s octet error subject octets low small whole is =
-    none_is_heard (asks subject octets) subject None s octet error [] (λ params body. refl) refl low small whole is
+    none_is_heard (asks subject octets) subject None s octet error [] (refl, λ params body. refl) refl low small whole is
 secured_heard false s octet error subject octets low small whole is =
-    error_is_heard (asks subject octets) subject None s octet error [] (λ params body. refl) refl low small is
+    error_is_heard (asks subject octets) subject None s octet error [] (refl, λ params body. refl) refl low small is
 
 secured_ends : (good : Bool) (link : LinkState) (octet error : ℕ) (subject : Subject) (octets : List ℕ)
     → GoesOn link (asks subject octets) (cond good (brings octet false []) (refuses error))
@@ -101,7 +103,7 @@ further_good all link pdu s octet subject so_far rest low least most r sliced =
       heard = record {
         answer = brings octet (ltb room (length rest)) (take room rest);
         is = slice_is_heard (asks_further subject octet so_far) subject (Some octet) s octet pdu so_far rest
-            (λ params body. refl) (eq-eqb octet octet refl) low least most r;
+            (refl, λ params body. refl) (eq-eqb octet octet refl) low least most r;
         told = is_further subject octet so_far (take room rest) (ltb room (length rest)) refl refl refl;
         goes_on = rest_is_held link subject octet pdu so_far rest sliced r;
       };
@@ -111,7 +113,7 @@ further_good all link pdu s octet subject so_far rest low least most r sliced =
 
 read_replied : {first : LinkState} (b : List ℕ) (js vs : List Verdict) (pdu s : ℕ) (items : List Item)
     → IsServed first b js vs pdu s (reads items) → IsAskable pdu (reads items)
-    → Replies first b js vs pdu (reads items) s
+    → RepliesOnce first b js vs pdu (reads items) s
 read_replied {first} b js vs pdu s items served can =
     let link = (past first b js).link in
     asking_replied b js vs pdu s (reads items) (plainly link s (Read items)) served
@@ -120,7 +122,7 @@ read_replied {first} b js vs pdu s items served can =
 
 write_replied : {first : LinkState} (b : List ℕ) (js vs : List Verdict) (pdu s : ℕ) (items : List Item)
     (octets : List ℕ) → IsServed first b js vs pdu s (writes items octets) → IsAskable pdu (writes items octets)
-    → Replies first b js vs pdu (writes items octets) s
+    → RepliesOnce first b js vs pdu (writes items octets) s
 write_replied {first} b js vs pdu s items octets served can =
     let link = (past first b js).link in
     asking_replied b js vs pdu s (writes items octets) (plainly link s (own_write items octets)) served
@@ -136,7 +138,7 @@ user_replied : {first : LinkState} (b : List ℕ) (js vs : List Verdict) (pdu s 
     → ((moment : ℕ) → AsksFor subject octets moment (request moment))
     → ((moment : ℕ) (state : State) (right : Bool) → IsStateFor (request moment) state
     → IsFit subject (plant.answer state right (request moment)))
-    → Replies first b js vs pdu (asks subject octets) s
+    → RepliesOnce first b js vs pdu (asks subject octets) s
 user_replied {first} b js vs pdu s subject octets timed request served judged told fits =
     let link = (past first b js).link in
     asking_replied b js vs pdu s (asks subject octets)
@@ -146,7 +148,7 @@ user_replied {first} b js vs pdu s subject octets timed request served judged to
 
 state_replied : {first : LinkState} (b : List ℕ) (js vs : List Verdict) (pdu s : ℕ)
     → IsServed first b js vs pdu s (asks RunState (list_octets 0x0424 0))
-    → Replies first b js vs pdu (asks RunState (list_octets 0x0424 0)) s
+    → RepliesOnce first b js vs pdu (asks RunState (list_octets 0x0424 0)) s
 state_replied {first} b js vs pdu s served =
     let octets = list_octets 0x0424 0 in
     user_replied b js vs pdu s RunState octets false (λ moment. plain.Szl 0x0424 0) served
@@ -155,7 +157,7 @@ state_replied {first} b js vs pdu s served =
 
 setting_by : {first : LinkState} (b : List ℕ) (js vs : List Verdict) (pdu s : ℕ) (octets : List ℕ)
     (value : Option ℕ) → IsServed first b js vs pdu s (asks ClockSetting octets) → length octets ≡ 10
-    → moment_in octets ≡ value → IsSome value → Replies first b js vs pdu (asks ClockSetting octets) s
+    → moment_in octets ≡ value → IsSome value → RepliesOnce first b js vs pdu (asks ClockSetting octets) s
 setting_by b js vs pdu s octets None served ten is some = absurd (cc)
 setting_by {first} b js vs pdu s octets (Some value) served ten is some =
     user_replied b js vs pdu s ClockSetting octets true (λ moment. plain.ClockSet moment value) served
@@ -167,7 +169,7 @@ setting_by {first} b js vs pdu s octets (Some value) served ten is some =
 unnamed_replied : {first : LinkState} (b : List ℕ) (js vs : List Verdict) (pdu s : ℕ) (subject : Subject)
     (octets : List ℕ) → IsServed first b js vs pdu s (asks subject octets) → NamesNone subject octets
     → judge (past first b js).link (question_octets s (asks subject octets)) ≡ informed (past first b js).link pdu s None
-    → Replies first b js vs pdu (asks subject octets) s
+    → RepliesOnce first b js vs pdu (asks subject octets) s
 unnamed_replied b js vs pdu s subject octets served none judged =
     refused_replied b js vs pdu s 0x8404 (asks subject octets) served (_, judged, refl) (omega arith)
     (is_unnamed subject octets refl none refl refl)
@@ -175,7 +177,7 @@ unnamed_replied b js vs pdu s subject octets served none judged =
 -- blocks of a kind
 kind_replied : {first : LinkState} (b : List ℕ) (js vs : List Verdict) (pdu s kind : ℕ) (there : Bool)
     → IsServed first b js vs pdu s (asks BlocksOfKind (kind_octets kind)) → is_some (head_code kind) ≡ there
-    → Replies first b js vs pdu (asks BlocksOfKind (kind_octets kind)) s
+    → RepliesOnce first b js vs pdu (asks BlocksOfKind (kind_octets kind)) s
 kind_replied {first} b js vs pdu s kind true served is =
     let q = asks BlocksOfKind (kind_octets kind) in
     user_replied b js vs pdu s BlocksOfKind (kind_octets kind) false (λ moment. plain.ListOf kind) served
@@ -189,7 +191,7 @@ kind_replied {first} b js vs pdu s kind false served is =
 -- the head of a block
 head_replied : {first : LinkState} (b : List ℕ) (js vs : List Verdict) (pdu s : ℕ) (octets : List ℕ)
     (name : Option BlockName) → IsServed first b js vs pdu s (asks BlockHead octets) → length octets ≡ 8
-    → named octets 0x41 ≡ name → Replies first b js vs pdu (asks BlockHead octets) s
+    → named octets 0x41 ≡ name → RepliesOnce first b js vs pdu (asks BlockHead octets) s
 head_replied {first} b js vs pdu s octets (Some name) served eight is =
     user_replied b js vs pdu s BlockHead octets false (λ moment. plain.Info name.kind name.number) served
     (judged_head (past first b js).link pdu s octets (Some name) (is_sent b js vs pdu s (asks BlockHead octets) served)
@@ -217,7 +219,7 @@ names_data number name is = same_kind 0x41 (number_in (take 5 (drop 2 (block_oct
 data_replied : {first : LinkState} (b : List ℕ) (js vs : List Verdict) (pdu s number : ℕ) (name : Option BlockName)
     → IsServed first b js vs pdu s (asks DataHead (block_octets 0x41 number))
     → named (block_octets 0x41 number) 0x41 ≡ name
-    → Replies first b js vs pdu (asks DataHead (block_octets 0x41 number)) s
+    → RepliesOnce first b js vs pdu (asks DataHead (block_octets 0x41 number)) s
 data_replied {first} b js vs pdu s number (Some name) served is =
     let octets = block_octets 0x41 number in
     user_replied b js vs pdu s DataHead octets false (λ moment. plain.Info name.kind name.number) served
@@ -238,7 +240,7 @@ secured_replied : {first : LinkState} (b : List ℕ) (js vs : List Verdict) (pdu
     → goes_on_with subject [] false [] ≡ true
     → IsSecured (past first b js).link s (group_of subject) (subfunction_of subject)
     (judge (past first b js).link (question_octets s (asks subject octets)))
-    → Replies first b js vs pdu (asks subject octets) s
+    → RepliesOnce first b js vs pdu (asks subject octets) s
 secured_replied {first} b js vs pdu s subject octets served security whole of =
     let link = (past first b js).link in
     let octet = next_octet link.user_sequence in
@@ -250,7 +252,7 @@ secured_replied {first} b js vs pdu s subject octets served security whole of =
 further_replied : {first : LinkState} (b : List ℕ) (js vs : List Verdict) (pdu s octet : ℕ) (subject : Subject)
     (so_far : List ℕ) → IsServed first b js vs pdu s (asks_further subject octet so_far)
     → comes_in_pieces subject ≡ true → HoldsRest (past first b js).link subject octet so_far
-    → Replies first b js vs pdu (asks_further subject octet so_far) s
+    → RepliesOnce first b js vs pdu (asks_further subject octet so_far) s
 further_replied {first} b js vs pdu s octet subject so_far served pieces h =
     let link = (past first b js).link in
     let q = asks_further subject octet so_far in
@@ -265,64 +267,78 @@ further_replied {first} b js vs pdu s octet subject so_far served pieces h =
     (record { whole = h.whole; most = h.most; short = inl pieces }) refl)
 
 served_replied : {first : LinkState} (b : List ℕ) (js vs : List Verdict) (pdu s : ℕ) (q : Question)
-    → IsServed first b js vs pdu s q → IsAskable pdu q → IsReadyFor (past first b js).link q
-    → Replies first b js vs pdu q s
-served_replied b js vs pdu s (negotiates n) served can ready = absurd can
-served_replied b js vs pdu s (reads items) served can ready = read_replied b js vs pdu s items served can
-served_replied b js vs pdu s (writes items octets) served can ready =
+    → IsOne q → IsServed first b js vs pdu s q → IsAskable pdu q → IsReadyFor (past first b js).link q
+    → RepliesOnce first b js vs pdu q s
+served_replied b js vs pdu s (negotiates n) one served can ready = absurd can
+served_replied b js vs pdu s (reads items) one served can ready = read_replied b js vs pdu s items served can
+served_replied b js vs pdu s (writes items octets) one served can ready =
     write_replied b js vs pdu s items octets served can
-served_replied b js vs pdu s (controls c) served can ready =
+served_replied b js vs pdu s (controls c) one served can ready =
     control_replied b js vs pdu s c (request_of c) served can refl
-served_replied {first} b js vs pdu s (asks StatusList octets) served can ready =
+served_replied {first} b js vs pdu s (asks StatusList octets) one served can ready =
     let id = number_at octets 0 in
     let index = number_at octets 2 in
     user_replied b js vs pdu s StatusList octets false (λ moment. plain.Szl id index) served
     (judged_list (past first b js).link pdu s octets (is_sent b js vs pdu s (asks StatusList octets) served) can)
     (λ moment. refl) (λ moment state right for. list_fits id index state right)
-served_replied {first} b js vs pdu s (asks RunState octets) served can ready =
-    subst (λ xs. Replies first b js vs pdu (asks RunState xs) s) (sym can)
+served_replied {first} b js vs pdu s (asks RunState octets) one served can ready =
+    subst (λ xs. RepliesOnce first b js vs pdu (asks RunState xs) s) (sym can)
     (state_replied b js vs pdu s (subst (λ xs. IsServed first b js vs pdu s (asks RunState xs)) can served))
-served_replied {first} b js vs pdu s (asks BlockCounts octets) served can ready =
+served_replied {first} b js vs pdu s (asks BlockCounts octets) one served can ready =
     user_replied b js vs pdu s BlockCounts octets false (λ moment. plain.ListAll) served
     (judged_counts (past first b js).link pdu s octets (is_sent b js vs pdu s (asks BlockCounts octets) served))
     (λ moment. refl) (λ moment state right for. counts_fit state right)
-served_replied {first} b js vs pdu s (asks BlocksOfKind octets) served can ready =
-    subst (λ xs. Replies first b js vs pdu (asks BlocksOfKind xs) s) (sym can.1)
+served_replied {first} b js vs pdu s (asks BlocksOfKind octets) one served can ready =
+    subst (λ xs. RepliesOnce first b js vs pdu (asks BlocksOfKind xs) s) (sym can.1)
     (kind_replied b js vs pdu s can.0 (is_some (head_code can.0))
     (subst (λ xs. IsServed first b js vs pdu s (asks BlocksOfKind xs)) can.1 served) refl)
-served_replied b js vs pdu s (asks BlockHead octets) served can ready =
+served_replied b js vs pdu s (asks BlockHead octets) one served can ready =
     head_replied b js vs pdu s octets (named octets 0x41) served can refl
-served_replied {first} b js vs pdu s (asks DataHead octets) served can ready =
-    subst (λ xs. Replies first b js vs pdu (asks DataHead xs) s) (sym can.1)
+served_replied {first} b js vs pdu s (asks DataHead octets) one served can ready =
+    subst (λ xs. RepliesOnce first b js vs pdu (asks DataHead xs) s) (sym can.1)
     (data_replied b js vs pdu s can.0 (named (block_octets 0x41 can.0) 0x41)
     (subst (λ xs. IsServed first b js vs pdu s (asks DataHead xs)) can.1 served) refl)
-served_replied {first} b js vs pdu s (asks Clock octets) served can ready =
+served_replied {first} b js vs pdu s (asks Clock octets) one served can ready =
     user_replied b js vs pdu s Clock octets true (λ moment. plain.ClockRead moment) served
     (judged_clock (past first b js).link pdu s octets (is_sent b js vs pdu s (asks Clock octets) served))
     (λ moment. refl) (λ moment state right for. clock_fits moment state right)
-served_replied b js vs pdu s (asks ClockSetting octets) served can ready =
+served_replied b js vs pdu s (asks ClockSetting octets) one served can ready =
     setting_by b js vs pdu s octets (moment_in octets) served can.0 refl can.1
-served_replied {first} b js vs pdu s (asks Password octets) served can ready =
+served_replied {first} b js vs pdu s (asks Password octets) one served can ready =
     secured_replied b js vs pdu s Password octets served tt refl
     (judged_password (past first b js).link pdu s octets (is_sent b js vs pdu s (asks Password octets) served) can)
-served_replied {first} b js vs pdu s (asks PasswordClearing octets) served can ready =
+served_replied {first} b js vs pdu s (asks PasswordClearing octets) one served can ready =
     secured_replied b js vs pdu s PasswordClearing octets served tt refl
     (judged_clearing (past first b js).link pdu s octets (is_sent b js vs pdu s (asks PasswordClearing octets) served)
     can)
-served_replied b js vs pdu s (asks_further subject octet so_far) served can ready =
+served_replied b js vs pdu s (asks_further subject octet so_far) one served can ready =
     further_replied b js vs pdu s octet subject so_far served can ready
-served_replied b js vs pdu s (starts_upload name) served can ready =
+served_replied b js vs pdu s (starts_upload name) one served can ready =
     start_replied b js vs pdu s name (uploaded_of name) served refl
-served_replied b js vs pdu s (slices_upload id size so_far) served can ready =
+served_replied b js vs pdu s (slices_upload id size so_far) one served can ready =
     slice_replied b js vs pdu s id size so_far served ready
-served_replied b js vs pdu s (ends_upload id) served can ready = end_replied b js vs pdu s id served ready
+served_replied b js vs pdu s (ends_upload id) one served can ready = end_replied b js vs pdu s id served ready
+served_replied b js vs pdu s (announces image) one served can ready = absurd one
+served_replied b js vs pdu s (awaits_call image) one served can ready = absurd one
+served_replied b js vs pdu s (gives image room from call) one served can ready = absurd one
+served_replied b js vs pdu s (inserts image call) one served can ready = absurd one
 
--- A question that can be asked has its reply, where the link lives after it.
-pub replied : {first : LinkState} (b : List ℕ) (js vs : List Verdict) (pdu : ℕ) (q : Question) (s : ℕ)
-    → Settled first b js (Some pdu) → s < 65536 → 64 ≤ pdu → pdu ≤ most_pdu → length (question_octets s q) ≤ pdu
-    → IsAskable pdu q → IsReadyFor (past first b js).link q
-    → (past first (b ++ sent_message 1024 (question_octets s q)) (js ++ vs)).standing ≡ lives
-    → Replies first b js vs pdu q s
-replied b js vs pdu q s settled low least most fits can ready live =
-    served_replied b js vs pdu s q
-    (record { settled = settled; low = low; least = least; most = most; fits = fits; live = live }) can ready
+-- A question of one message that can be asked has its reply, where the link lives after it.
+pub replied : {first : LinkState} (b : List ℕ) (js vs : List Verdict) (unheard : List (List ℕ)) (pdu : ℕ) (q : Question)
+    (s : ℕ) → IsOne q → Settled first b js (Some pdu) → s < 65536 → 64 ≤ pdu → pdu ≤ most_pdu
+    → length (question_octets s q) ≤ pdu → IsAskable pdu q → IsReadyFor (past first b js).link q → unheard ≡ []
+    → (past first (b ++ sent_messages 1024 (messages_of s q)) (js ++ vs)).standing ≡ lives
+    → Replies first b js vs unheard pdu q s
+replied {first} b js vs unheard pdu q s one settled low least most fits can ready none live =
+    once_replies b js vs unheard pdu s q one none
+    (served_replied b js vs pdu s q one
+    (record {
+      settled = settled;
+      numbered = one_numbered q one;
+      low = low;
+      least = least;
+      most = most;
+      fits = fits;
+      live = ap (λ sent. (past first (b ++ sent) (js ++ vs)).standing) (alone_sent s q one) ∙ live;
+    })
+    can ready)

@@ -44,10 +44,10 @@ is_heard_by : (good : Bool) (s octet pdu : ℕ) (subject : Subject) (octets : Li
     → answer_of (asks subject octets) s (message_by good s octet pdu subject reply)
     ≡ Some (heard_by good octet pdu reply)
 is_heard_by true s octet pdu subject octets reply low least most fit is =
-    slice_is_heard (asks subject octets) subject None s octet pdu [] reply.body (λ params body. refl) refl low least
+    slice_is_heard (asks subject octets) subject None s octet pdu [] reply.body (refl, λ params body. refl) refl low least
     most (fit.rest (eqb-true reply.error 0 is))
 is_heard_by false s octet pdu subject octets reply low least most fit is =
-    error_is_heard (asks subject octets) subject None s octet reply.error [] (λ params body. refl) refl low fit.small
+    error_is_heard (asks subject octets) subject None s octet reply.error [] (refl, λ params body. refl) refl low fit.small
     is
 
 long_by : (good : Bool) (s octet pdu : ℕ) (subject : Subject) (reply : Said) → 64 ≤ pdu → pdu ≤ most_pdu

@@ -15,14 +15,14 @@ use Rattle.s7_rig.specs.Settled.{Serves}
 pub data IsAnswered (first : LinkState) (b : List ℕ) (js : List Verdict) (message : List ℕ) (vs : List Verdict)
     (granted : Option ℕ) (asking : Asking) : Type 0 where
   is_entered : (reply : Said) (moment : ℕ) (rest : List Verdict) → vs ≡ Entered reply moment ∷ rest
-      → Serves first b js message (js ++ Entered reply moment ∷ []) granted
+      → Serves first b js (sent_message 1024 message) (js ++ Entered reply moment ∷ []) granted
       (sent_messages 1024 (asking.messages reply)) ((asking.ask moment, reply) ∷ [])
       → (past first (b ++ sent_message 1024 message) (js ++ Entered reply moment ∷ [])).link ≡ asking.link reply
       → IsAnswered first b js message vs granted asking
   is_full : (rest : List Verdict) → vs ≡ Full ∷ rest
-      → Serves first b js message (js ++ Full ∷ []) granted (refusal_sent 1024 (sequence_of message) FULL) []
+      → Serves first b js (sent_message 1024 message) (js ++ Full ∷ []) granted (refusal_sent 1024 (sequence_of message) FULL) []
       → IsAnswered first b js message vs granted asking
   is_failed : (rest : List Verdict) → vs ≡ ClockFailed ∷ rest → asking.is_timed ≡ true
-      → Serves first b js message (js ++ ClockFailed ∷ []) granted
+      → Serves first b js (sent_message 1024 message) (js ++ ClockFailed ∷ []) granted
       (refusal_sent 1024 (sequence_of message) CLOCK_FAILED) []
       → IsAnswered first b js message vs granted asking

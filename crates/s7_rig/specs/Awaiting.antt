@@ -1,8 +1,9 @@
 -- Where a client stands between two messages of a job.
-use Rattle.std.specs.Prelude.{◌≡◌, ℕ, ◌+◌, ◌<◌, ◌==◌, List, [], ◌∷◌, ◌++◌, length, map, Option, None, Some, if◌then◌else◌}
+use Rattle.std.specs.Prelude.{◌≡◌, ℕ, ◌+◌, ◌<◌, ◌==◌, List, [], ◌∷◌, ◌++◌, length, Option, None, Some, if◌then◌else◌}
+use Rattle.std.specs.List.{flat_map}
 use Rattle.s7_tpkt.specs.Packets.{rest_of}
 use Rattle.s7_wire.specs.Sent.{sent_message, sent_messages}
-use Rattle.s7_dialogue.specs.Question.{Question, negotiates, question_octets}
+use Rattle.s7_dialogue.specs.Question.{Question, negotiates, question_octets, messages_of}
 use Rattle.s7_dialogue.specs.Answer.{Answer}
 use Rattle.s7_dialogue.specs.Flight.{Row, answers_of, open_count}
 use Rattle.s7_dialogue.specs.Dialogue.{End, Conduct, asked_by}
@@ -13,7 +14,7 @@ use Rattle.s7_dialogue.specs.Course.{connect_octets, conduct_of, next_question, 
 
 -- the octets of telegrams, in TPDUs of 1,024 octets
 abbrev pub telegrams_of : List Row → List ℕ
-telegrams_of rows = sent_messages 1024 (map (λ (row : Row). question_octets row.number row.question) rows)
+telegrams_of rows = sent_messages 1024 (flat_map (λ (row : Row). messages_of row.number row.question) rows)
 
 -- the conduct asks the question behind so many answers
 pub record IsAsked (c : Conduct) (place : ℕ) (question : Question) : Type 0 where

@@ -1,5 +1,5 @@
 -- The questions of a job on a connected client, and what a session answers to each.
-use Rattle.std.specs.Prelude.{◌≡◌, ◌⊎◌, ℕ, ◌<◌, ◌≤◌, Bool, true, false, ◌==◌, ◌&&◌, nat_lt, if◌then◌else◌, List, []}
+use Rattle.std.specs.Prelude.{◌≡◌, ◌⊎◌, ℕ, ◌+◌, ◌<◌, ◌≤◌, Bool, true, false, ◌==◌, ◌&&◌, nat_lt, if◌then◌else◌, List, []}
 use Rattle.std.specs.Prelude.{◌∷◌, ◌++◌, length, take, slice_index, map, IsSome, is_some, Option, None, Some}
 use Rattle.std.specs.List.{AllByRecursion, flat_map}
 use Rattle.s7_item.specs.declared.item.Item.{Item}
@@ -9,10 +9,10 @@ use Rattle.s7_plant.specs.declared.request.Ask.{Ask}
 use Rattle.s7_plant.specs.declared.request.Request.{Request}
 use Rattle.s7_plant.specs.declared.request.Request.TheVariants.{Read}
 use Rattle.s7_plant.specs.declared.request.Request.TheVariants as plain
-use Rattle.s7_plant.specs.Requests.{asked}
+use Rattle.s7_plant.specs.Requests.{asked, no_room}
 use Rattle.s7_plant.specs.Replies.{Said}
 use Rattle.s7_plant.specs.State.{State}
-use Rattle.s7_wire.specs.Sent.{sent_message}
+use Rattle.s7_wire.specs.Sent.{sent_message, sent_messages}
 use Rattle.s7_header.specs.Negotiation.{most_pdu}
 use Rattle.s7_header.specs.Octets.{number_at}
 use Rattle.s7_clock.specs.declared.control.Control.{Control}
@@ -22,18 +22,26 @@ use Rattle.s7_block.specs.declared.block.BlockName.{BlockName}
 use Rattle.s7_block.specs.Kinds.{head_code, is_stored_kind}
 use Rattle.s7_block.specs.Names.{is_name, name_octets, named}
 use Rattle.s7_block.specs.Sides.{is_held}
+use Rattle.s7_block.specs.Assembly.{awaiting, whole}
+use Rattle.s7_block.specs.Telegrams.{piece_function, close_function}
 use Rattle.s7_dialogue.specs.declared.subject.Subject.{Subject}
 use Rattle.s7_dialogue.specs.declared.subject.Subject.TheVariants.{StatusList, RunState, Clock, ClockSetting, Password}
 use Rattle.s7_dialogue.specs.declared.subject.Subject.TheVariants.{PasswordClearing, BlockCounts, BlocksOfKind, BlockHead}
 use Rattle.s7_dialogue.specs.declared.subject.Subject.TheVariants.{DataHead}
 use Rattle.s7_dialogue.specs.UserData.{group_of, subfunction_of, comes_in_pieces, is_whole}
-use Rattle.s7_dialogue.specs.Question.{Question, negotiates, reads, writes, controls, asks, asks_further, question_octets}
+use Rattle.s7_dialogue.specs.Question.{Question, negotiates, reads, writes, controls, asks, asks_further, messages_of}
 use Rattle.s7_dialogue.specs.Question.{starts_upload, slices_upload, ends_upload}
-use Rattle.s7_dialogue.specs.Answer.{Answer, refuses, tells, notes, stands, brings, uploads, slices, uploaded, answer_of}
+use Rattle.s7_dialogue.specs.Question.{announces, awaits_call, gives, inserts}
+use Rattle.s7_dialogue.specs.Downloads.{name_in, piece_room}
+use Rattle.s7_dialogue.specs.Checks.{check_image}
+use Rattle.s7_dialogue.specs.Codes.{no_fault}
+use Rattle.s7_dialogue.specs.Answer.{Answer, refuses, tells, notes, stands, brings, uploads, slices, uploaded, announced}
+use Rattle.s7_dialogue.specs.Answer.{calls, answer_of}
 use Rattle.s7_dialogue.specs.Flight.{Row, answers_of}
 use Rattle.s7_dialogue.specs.Dialogue.{End, Conduct, list_octets, kind_octets, block_octets}
 use Rattle.s7_dialogue.specs.Course.{Origin, conduct_of, next_question}
 use Rattle.s7_session.specs.LinkState.{LinkState, Sliced}
+use Rattle.s7_session.specs.Transfers.{server_job_octets}
 use Rattle.s7_session.specs.Judgement.{slice_room}
 use Rattle.s7_session.specs.Owed.{past, entered}
 use Rattle.s7_session.specs.Telegrams.{AnyFull, clock_failures}
@@ -79,8 +87,8 @@ CanCall (control.Insert kind number) = ⊥
 CanCall _ = Unit {0}
 
 -- A question that reads items, whose answer has room in the PDU, or writes items of known words; a control; user data
--- with its octets; further octets of an answer that comes in pieces; or the start of an upload, a slice or the end of
--- one.
+-- with its octets; further octets of an answer that comes in pieces; the start of an upload, a slice or the end of one; or
+-- what a download of an image with its own head goes by, in pieces that fit the PDU.
 abbrev pub IsAskable : ℕ → Question → Type 0
 IsAskable pdu (negotiates n) = ⊥
 IsAskable pdu (reads items) = AreSome items × (answer_size items ≤ pdu)
@@ -91,6 +99,11 @@ IsAskable pdu (asks_further subject octet so_far) = comes_in_pieces subject ≡ 
 IsAskable pdu (starts_upload name) = Unit {0}
 IsAskable pdu (slices_upload id size so_far) = Unit {0}
 IsAskable pdu (ends_upload id) = Unit {0}
+IsAskable pdu (announces image) = check_image image ≡ no_fault
+IsAskable pdu (awaits_call image) = check_image image ≡ no_fault
+IsAskable pdu (gives image room from call) =
+    (check_image image ≡ no_fault) × (room ≡ piece_room pdu) × (from < length image)
+IsAskable pdu (inserts image call) = check_image image ≡ no_fault
 
 -- ---- further octets
 
@@ -113,11 +126,28 @@ pub record HoldsImage (link : LinkState) (id size : ℕ) (so_far : List ℕ) : T
   pub whole : length (so_far ++ rest) ≡ size
   pub most : size ≤ 65572
 
--- what a question wants of the link: further octets are held, or the upload that it names
+-- The link holds the download of this image, of a kind that is stored, of which the octets up to a place came, and the
+-- server's job of this sequence asks for the next ones.
+pub record HoldsPieces (link : LinkState) (image : List ℕ) (from call : ℕ) : Type 0 where
+  pub stored : is_stored_kind (name_in image).kind ≡ true
+  pub download : link.download
+      ≡ Some (record { name = name_in image; progress = awaiting (length image) (take from image) })
+  pub job : link.server_job ≡ Some (record { sequence = call; function = piece_function })
+
+-- It holds it with all its octets, and the server's job of this sequence closes it.
+pub record HoldsWhole (link : LinkState) (image : List ℕ) (call : ℕ) : Type 0 where
+  pub stored : is_stored_kind (name_in image).kind ≡ true
+  pub download : link.download ≡ Some (record { name = name_in image; progress = whole image })
+  pub job : link.server_job ≡ Some (record { sequence = call; function = close_function })
+
+-- what a question wants of the link: further octets are held, the upload that it names, or the download
 abbrev pub IsReadyFor : LinkState → Question → Type 0
 IsReadyFor link (asks_further subject octet so_far) = HoldsRest link subject octet so_far
 IsReadyFor link (slices_upload id size so_far) = HoldsImage link id size so_far
 IsReadyFor link (ends_upload id) = is_held link.upload id ≡ true
+IsReadyFor link (awaits_call image) = HoldsPieces link image 0 link.job_sequence
+IsReadyFor link (gives image room from call) = HoldsPieces link image from call
+IsReadyFor link (inserts image call) = HoldsWhole link image call
 IsReadyFor link _ = Unit {0}
 
 -- where more octets follow, they are held
@@ -129,8 +159,28 @@ abbrev pub HoldsUpload : Bool → LinkState → ℕ → ℕ → List ℕ → Typ
 HoldsUpload true link id size so_far = HoldsImage link id size so_far
 HoldsUpload false link id size so_far = is_held link.upload id ≡ true
 
--- what is left on the link behind an answer: the octets that follow it. No slice answers an end, and no user data a
--- read or a write.
+-- the server's job by which it asks for the first piece of an image
+abbrev pub first_call : LinkState → List ℕ → List ℕ
+first_call link image = server_job_octets link.job_sequence piece_function (name_in image)
+
+-- the messages that the session sent and its client hasn't heard, where this is asked: where the server is to ask for the
+-- first piece it did so with its last answer, and else there is none
+abbrev pub IsAwaited : List (List ℕ) → LinkState → Question → Type 0
+IsAwaited unheard link (awaits_call image) = unheard ≡ first_call link image ∷ []
+IsAwaited unheard link _ = unheard ≡ []
+
+-- those behind the answer to a question
+abbrev pub IsUnheard : List (List ℕ) → LinkState → Question → Answer → Type 0
+IsUnheard unheard link (announces image) announced = unheard ≡ first_call link image ∷ []
+IsUnheard unheard link _ _ = unheard ≡ []
+
+-- where more of an image is to be given, the link awaits it, and else it has all of it
+abbrev pub HoldsGiven : Bool → LinkState → List ℕ → ℕ → ℕ → Type 0
+HoldsGiven true link image from call = HoldsPieces link image from call
+HoldsGiven false link image from call = HoldsWhole link image call
+
+-- what is left on the link behind an answer: the octets that follow it, or how far a download is. No slice answers an end,
+-- and no user data a read or a write.
 abbrev pub GoesOn : LinkState → Question → Answer → Type 0
 GoesOn link (reads items) (brings octet more piece) = ⊥
 GoesOn link (writes items octets) (brings octet more piece) = ⊥
@@ -140,6 +190,11 @@ GoesOn link (asks_further subject asked so_far) (brings octet more piece) =
 GoesOn link (starts_upload name) (uploads id size) = HoldsImage link id size []
 GoesOn link (slices_upload id size so_far) (slices more octets) = HoldsUpload more link id size (so_far ++ octets)
 GoesOn link (ends_upload id) (slices more octets) = ⊥
+GoesOn link (announces image) announced = HoldsPieces link image 0 link.job_sequence
+GoesOn link (awaits_call image) (calls call) = HoldsPieces link image 0 call
+GoesOn link (gives image room from call) (calls next) =
+    HoldsGiven (nat_lt (from + room) (length image)) link image (from + room) next
+GoesOn link (inserts image call) (calls next) = ⊥
 GoesOn link _ _ = Unit {0}
 
 -- ---- what is told
@@ -202,9 +257,10 @@ AnyUndone verdicts = AnyFull verdicts ⊎ (0 < clock_failures verdicts)
 -- What a question was answered, and what was entered for it. It is refused where one of the verdicts is that the
 -- history was full or the clock failed. Otherwise a request was entered with a right or without: a read tells what the
 -- memory has of the state that gave the reply, a write notes the codes that this memory gives, and of control, of user
--- data and of the start of an upload the reply is told. Passwords, further octets, slices and the end of an upload
--- enter nothing, and neither does a name of no block, which is refused, or a block that isn't deleted, since its kind
--- isn't stored or its number is too large.
+-- data, of the start of an upload and of the insertion of the very image that was given the reply is told. Passwords,
+-- further octets, slices and the end of an upload enter nothing, and neither do a download up to its insertion, a name of
+-- no block, which is refused, a block that isn't deleted, since its kind isn't stored or its number is too large, or one
+-- that isn't downloaded, since its kind isn't stored.
 pub data HasTold (verdicts : List Verdict) (question : Question) (answer : Answer) (new : List (Ask × Said))
     : Type 0 where
   is_refused : (error : ℕ) → AnyUndone verdicts → answer ≡ refuses error → HasTold verdicts question answer new
@@ -240,36 +296,56 @@ pub data HasTold (verdicts : List Verdict) (question : Question) (answer : Answe
       → new ≡ [] → answer ≡ slices more octets → HasTold verdicts question answer new
   is_ended : (id : ℕ) → question ≡ ends_upload id → new ≡ [] → answer ≡ uploaded
       → HasTold verdicts question answer new
+  is_announced : (image : List ℕ) → question ≡ announces image → new ≡ [] → answer ≡ announced
+      → HasTold verdicts question answer new
+  is_unstored : (image : List ℕ) → question ≡ announces image → is_stored_kind (name_in image).kind ≡ false → new ≡ []
+      → answer ≡ refuses 0x8F03 → HasTold verdicts question answer new
+  is_called : (image : List ℕ) (call : ℕ) → question ≡ awaits_call image → new ≡ [] → answer ≡ calls call
+      → HasTold verdicts question answer new
+  is_given : (image : List ℕ) (room from call next : ℕ) → question ≡ gives image room from call → new ≡ []
+      → answer ≡ calls next → HasTold verdicts question answer new
+  is_inserted : (image : List ℕ) (call : ℕ) (right : Bool) (reply : Said) → question ≡ inserts image call
+      → new
+      ≡ (asked right (plain.Insert (name_in image).kind (name_in image).number image no_room), reply) ∷ []
+      → answer ≡ control_heard reply → HasTold verdicts question answer new
   is_further : (subject : Subject) (octet : ℕ) (so_far piece : List ℕ) (more : Bool)
       → question ≡ asks_further subject octet so_far → new ≡ [] → answer ≡ brings octet more piece
       → HasTold verdicts question answer new
 
--- The message is an answer to the question, this was entered for it, and the link goes on with the octets behind it.
+-- The message is an answer to the question, behind which these messages are unheard, this was entered for it, and the link
+-- goes on with what follows it.
 pub record IsHeard (verdicts : List Verdict) (link : LinkState) (question : Question) (number : ℕ) (message : List ℕ)
-    (new : List (Ask × Said)) : Type 0 where
+    (behind : List (List ℕ)) (new : List (Ask × Said)) : Type 0 where
   pub answer : Answer
   pub is : answer_of question number message ≡ Some answer
   pub told : HasTold verdicts question answer new
   pub goes_on : GoesOn link question answer
+  pub unheard : IsUnheard behind link question answer
 
 -- the state of a link that used a question
 abbrev pub link_past : LinkState → List ℕ → ℕ → Question → List Verdict → LinkState
 link_past first b number question verdicts =
-    (past first (b ++ sent_message 1024 (question_octets number question)) verdicts).link
+    (past first (b ++ sent_messages 1024 (messages_of number question)) verdicts).link
 
--- A question is answered by one message. Where the replies are those of states, it is no longer than the greatest PDU,
--- and the client hears it as an answer.
-pub record Replies (first : LinkState) (b : List ℕ) (js vs : List Verdict) (pdu : ℕ) (question : Question) (number : ℕ)
-    : Type 0 where
+-- A question is answered by one message, the first of those that the session sent and its client hasn't heard, with what
+-- it sends for the question behind them. Where the replies are those of states, it is no longer than the greatest PDU, and
+-- the client hears it as an answer.
+pub record Replies (first : LinkState) (b : List ℕ) (js vs : List Verdict) (unheard : List (List ℕ)) (pdu : ℕ)
+    (question : Question) (number : ℕ) : Type 0 where
   pub met : List Verdict
   pub left : List Verdict
   pub split : js ++ vs ≡ met ++ left
+  pub sent : List (List ℕ)
   pub message : List ℕ
+  pub behind : List (List ℕ)
+  pub in_order : unheard ++ sent ≡ message ∷ behind
   pub new : List (Ask × Said)
-  pub serves : Serves first b js (question_octets number question) met (Some pdu) (sent_message 1024 message) new
+  pub serves : Serves first b js (sent_messages 1024 (messages_of number question)) met (Some pdu)
+      (sent_messages 1024 sent) new
   pub least : AreReplies new → 10 ≤ length message
   pub most : AreReplies new → length message ≤ most_pdu
-  pub heard : AreReplies new → IsHeard (js ++ vs) (link_past first b number question met) question number message new
+  pub heard : AreReplies new
+      → IsHeard (js ++ vs) (link_past first b number question met) question number message behind new
 
 -- a question, the sequence of its telegram, its answer, and what was entered for it
 pub record Exchange : Type 0 where

@@ -6,7 +6,6 @@ use Rattle.s7_plant.specs.declared.request.Ask.{Ask}
 use Rattle.s7_plant.specs.Replies.{Said}
 use Rattle.s7_wire.specs.declared.found.Opening.TheVariants.{Request}
 use Rattle.s7_wire.specs.Reading.{nothing_unfinished, limits, reading}
-use Rattle.s7_wire.specs.Sent.{sent_message}
 use Rattle.s7_session.specs.Events.{lives}
 use Rattle.s7_session.specs.LinkState.{LinkState, first_link}
 use Rattle.s7_session.specs.Owed.{past, owed, entered}
@@ -31,13 +30,13 @@ pub record Waits (first : LinkState) (b more : List ℕ) (js vs : List Verdict) 
   pub owed : owed first (b ++ more) (js ++ vs) ≡ owed first b js
   pub entered : entered first (b ++ more) (js ++ vs) ≡ entered first b js
 
--- A message leaves the link between two messages, with these verdicts met and this PDU granted. These octets more are
+-- What was sent leaves the link between two messages, with these verdicts met and this PDU granted. These octets more are
 -- owed for it, and this was entered.
-pub record Serves (first : LinkState) (b : List ℕ) (js : List Verdict) (message : List ℕ) (js' : List Verdict)
+pub record Serves (first : LinkState) (b : List ℕ) (js : List Verdict) (sent : List ℕ) (js' : List Verdict)
     (granted : Option ℕ) (out : List ℕ) (new : List (Ask × Said)) : Type 0 where
-  pub settled : Settled first (b ++ sent_message 1024 message) js' granted
-  pub owed : owed first (b ++ sent_message 1024 message) js' ≡ owed first b js ++ out
-  pub entered : entered first (b ++ sent_message 1024 message) js' ≡ entered first b js ++ new
+  pub settled : Settled first (b ++ sent) js' granted
+  pub owed : owed first (b ++ sent) js' ≡ owed first b js ++ out
+  pub entered : entered first (b ++ sent) js' ≡ entered first b js ++ new
 
 -- The octets open a link to areas with this guard: it stands before its first message, with no PDU granted, and these
 -- octets are owed.

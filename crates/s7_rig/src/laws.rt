@@ -13,10 +13,12 @@ pub fn rigs_are_formed()
 }
 
 /// A law: a session that stands between two messages answers each question that a job of its client can ask, by one
-/// message, and the client hears it as an answer to that question. This holds whatever state gives the reply, of blocks
-/// whatever state of a plant, and where the history is full or the clock fails; a name of no block is refused, and so is
-/// the deletion of a block that isn't stored. Where an answer in user data, or the image of a block, has more octets than
-/// a telegram takes, the link holds them, and further octets are answered from there; an upload is held until its end.
+/// message, the first that the client hasn't heard, and the client hears it as an answer to that question. This holds
+/// whatever state gives the reply, of blocks whatever state of a plant, and where the history is full or the clock fails;
+/// a name of no block is refused, and so is the deletion or the download of a block that isn't stored. Where an answer in
+/// user data, or the image of a block, has more octets than a telegram takes, the link holds them, and further octets are
+/// answered from there; an upload is held until its end. In a download the server asks for the image from its front to its
+/// end, and what is then asked of the plant is the insertion of that very image.
 pub fn questions_are_heard()
     ensures { QuestionsAreHeard }
 {}

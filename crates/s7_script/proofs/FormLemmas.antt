@@ -36,6 +36,7 @@ by_job told job.List octets cs same few is form = no_codes told cs few is form.1
 by_job told (job.ListOf kind) octets cs same few is form = no_codes told cs few is form.1
 by_job told (job.Info kind number) octets cs same few is form = no_codes told cs few is form.1
 by_job told (job.Upload kind number) octets cs same few is form = no_codes told cs few is form
+by_job told (job.Download image) octets cs same few is form = no_codes told cs few is form.1
 by_job told (job.Delete kind number) octets cs same few is form = no_codes told cs few is form.1
 by_job told (job.DbGet number) octets cs same few is form = no_codes told cs few is form
 by_job told (job.DbFill number value) octets cs same few is form = no_codes told cs few is form.1

@@ -1,5 +1,5 @@
 -- No line of a script connects or disconnects.
-use Rattle.std.proofs.Common.{◌≡◌, ℕ, Bool, true, false, cond, List, [], ◌∷◌, ◌++◌, Option, None, Some, Result, Ok, Err, IfOk, subst}
+use Rattle.std.proofs.Common.{◌≡◌, ◌==◌, ℕ, Bool, true, false, cond, List, [], ◌∷◌, ◌++◌, length, Option, None, Some, Result, Ok, Err, IfOk, subst}
 use Rattle.std.specs.Prelude.{IfSome, codes}
 use Rattle.std.specs.List.{AllByRecursion, list_all}
 use Rattle.std.specs.Str.{bytes_eq}
@@ -10,9 +10,10 @@ use Rattle.s7_dialogue.specs.declared.job.Job.TheVariants as job
 use Rattle.s7_script.specs.Lines.{Text, lines}
 use Rattle.s7_script.specs.Reading.{is_passed, next_line}
 use Rattle.hex.specs.Hex.{decode_of}
+use Rattle.hex.specs.declared.error.FromHexError.{FromHexError}
 use Rattle.s7_script.specs.Fields.{number_of}
 use Rattle.s7_script.specs.Moments.{moment_named}
-use Rattle.s7_script.specs.Script.{Written, parts, read_item, read_items, written_item, written_items, read_job, write_job, read_many_job, write_many_job, word_of, within, kind_named, list_of_job, block_named, info_job, upload_job, delete_job, db_get_job, octet_in, with_value, db_fill_job, two_octets_in, with_index, list_job, moment_job, set_clock_job, is_printable, password_job, plain_job, or_unknown, ended, job_named, job_of, at_line, line_jobs, script_lines, script, field_of, rest_of, ◌>>=◌}
+use Rattle.s7_script.specs.Script.{Written, parts, read_item, read_items, written_item, written_items, read_job, write_job, read_many_job, write_many_job, word_of, within, kind_named, list_of_job, block_named, info_job, upload_job, with_image, download_job, delete_job, db_get_job, octet_in, with_value, db_fill_job, two_octets_in, with_index, list_job, moment_job, set_clock_job, is_printable, password_job, plain_job, or_unknown, ended, job_named, job_of, at_line, line_jobs, script_lines, script, field_of, rest_of, ◌>>=◌}
 use Rattle.s7_script.specs.Laws.{KeepsLink}
 use Rattle.s7_script.specs.declared.script_list.ScriptLine.{ScriptLine}
 use Rattle.s7_script.specs.declared.script_fault.ScriptFault.{ScriptFault}
@@ -67,6 +68,16 @@ info_keeps rest = made (λ (name : BlockName). job.Info name.kind name.number) (
 
 upload_keeps : (rest : Option Text) → IfOk (upload_job rest) KeepsLink
 upload_keeps rest = made (λ (name : BlockName). job.Upload name.kind name.number) (block_named rest) (λ name. tt)
+
+image_keeps : (rest : Option Text) (r : Result (List ℕ) FromHexError) → IfOk (with_image rest r) KeepsLink
+image_keeps rest (Ok image) = ended_keeps (job.Download image) rest tt
+image_keeps rest (Err e) = tt
+
+download_keeps : (rest : Option Text) → IfOk (download_job rest) KeepsLink
+download_keeps None = tt
+download_keeps (Some text) =
+    either KeepsLink (length (field_of text) == 0) (Err kind.Digits)
+    (with_image (rest_of text) (decode_of (field_of text))) tt (image_keeps (rest_of text) (decode_of (field_of text)))
 
 delete_keeps : (rest : Option Text) → IfOk (delete_job rest) KeepsLink
 delete_keeps rest = made (λ (name : BlockName). job.Delete name.kind name.number) (block_named rest) (λ name. tt)
@@ -144,13 +155,14 @@ named_keeps name rest =
     (either KeepsLink (bytes_eq name (codes "listof")) (list_of_job rest) _ (list_of_keeps rest)
     (either KeepsLink (bytes_eq name (codes "info")) (info_job rest) _ (info_keeps rest)
     (either KeepsLink (bytes_eq name (codes "upload")) (upload_job rest) _ (upload_keeps rest)
+    (either KeepsLink (bytes_eq name (codes "download")) (download_job rest) _ (download_keeps rest)
     (either KeepsLink (bytes_eq name (codes "delete")) (delete_job rest) _ (delete_keeps rest)
     (either KeepsLink (bytes_eq name (codes "dbget")) (db_get_job rest) _ (get_keeps rest)
     (either KeepsLink (bytes_eq name (codes "dbfill")) (db_fill_job rest) _ (fill_keeps rest)
     (either KeepsLink (bytes_eq name (codes "szl")) (list_job rest) _ (list_keeps rest)
     (either KeepsLink (bytes_eq name (codes "setclock")) (set_clock_job rest) _ (set_clock_keeps rest)
     (either KeepsLink (bytes_eq name (codes "password")) (password_job rest) (or_unknown (plain_job name) rest) (password_keeps rest)
-    (unknown_keeps (plain_job name) rest (plain_keeps name))))))))))))))
+    (unknown_keeps (plain_job name) rest (plain_keeps name)))))))))))))))
 
 -- ---- the lines
 

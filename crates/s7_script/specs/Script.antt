@@ -280,6 +280,17 @@ upload_job rest = do
   name ← block_named rest
   Ok (job.Upload name.kind name.number)
 
+abbrev pub with_image : Option Text → Result (List ℕ) FromHexError → Result Job ScriptKind
+with_image rest (Err e) = Err kind.Digits
+with_image rest (Ok image) = ended (job.Download image) rest
+
+-- HEX, an even number of hexadecimal digits, at least two
+abbrev pub download_job : Option Text → Result Job ScriptKind
+download_job None = Err kind.Fields
+download_job (Some text) =
+    if length (field_of text) == 0 then Err kind.Digits
+    else with_image (rest_of text) (decode_of (field_of text))
+
 abbrev pub delete_job : Option Text → Result Job ScriptKind
 delete_job rest = do
   name ← block_named rest
@@ -374,13 +385,14 @@ job_named name rest =
     else (if bytes_eq name (codes "listof") then list_of_job rest
     else (if bytes_eq name (codes "info") then info_job rest
     else (if bytes_eq name (codes "upload") then upload_job rest
+    else (if bytes_eq name (codes "download") then download_job rest
     else (if bytes_eq name (codes "delete") then delete_job rest
     else (if bytes_eq name (codes "dbget") then db_get_job rest
     else (if bytes_eq name (codes "dbfill") then db_fill_job rest
     else (if bytes_eq name (codes "szl") then list_job rest
     else (if bytes_eq name (codes "setclock") then set_clock_job rest
     else (if bytes_eq name (codes "password") then password_job rest
-    else or_unknown (plain_job name) rest))))))))))))
+    else or_unknown (plain_job name) rest)))))))))))))
 
 -- the job that a line names
 abbrev pub job_of : Text → Result Job ScriptKind

@@ -1,13 +1,17 @@
 // The jobs of lines about blocks.
 ghost use Rattle.std.specs.Prelude.{◌≡◌, option_map};
-ghost use Rattle.s7_script.specs.Script.{block_named, delete_job, info_job, kind_named, list_of_job, upload_job, with_number, word_of};
+ghost use Rattle.s7_script.specs.Script.{Gives, block_named, delete_job, download_job, info_job, kind_named};
+ghost use Rattle.s7_script.specs.Script.{list_of_job, upload_job, with_number, word_of};
 
 use crate::ScriptKind;
 use crate::item_text::{ended, within};
 use crate::lines::{number, split_field};
+use crate::written::octets_in;
 use s7_block::BlockName;
 use s7_block::kinds::{DB, FB, FC, OB, SDB, SFB, SFC};
 use s7_client::Job;
+use s7_outer::Octets;
+use std::alloc::Global;
 
 /// The list of the blocks of a kind.
 pub(crate) fn list_of_job(rest: Option<&[u8]>) -> Result<Job, ScriptKind>
@@ -37,7 +41,19 @@ pub(crate) fn upload_job(rest: Option<&[u8]>) -> Result<Job, ScriptKind>
     Ok(Job::Upload { kind, number })
 }
 
-/// That it is deleted.
+/// The download of an image.
+pub(crate) fn download_job(alloc: Global, rest: Option<&[u8]>) -> Result<Job, ScriptKind>
+    ensures { Gives (λ j. j) result (download_job (option_map (λ t. t.now) rest.entry)) }
+{
+    let Some(text) = rest else {
+        return Err(ScriptKind::Fields);
+    };
+    let (field, rest) = split_field(text);
+    let image = Octets::of_vec(octets_in(alloc, field)?);
+    ended(Job::Download { image }, rest)
+}
+
+/// That a block is deleted.
 pub(crate) fn delete_job(rest: Option<&[u8]>) -> Result<Job, ScriptKind>
     ensures { result ≡ delete_job (option_map (λ t. t.now) rest.entry) }
 {

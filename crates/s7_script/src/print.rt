@@ -78,6 +78,7 @@ fn word_of(job: &Job) -> &'static str
         Job::ListOf { .. } => "listof",
         Job::Info { .. } => "info",
         Job::Upload { .. } => "upload",
+        Job::Download { .. } => "download",
         Job::Delete { .. } => "delete",
         Job::DbGet { .. } => "dbget",
         Job::DbFill { .. } => "dbfill",
@@ -137,6 +138,7 @@ fn add_job_values(alloc: Global, text: &mut Vec<u8>, done: &JobResult) -> Result
         Job::Status => add_mode(text, done.octets.as_slice()),
         Job::Connect
         | Job::WriteArea { .. }
+        | Job::Download { .. }
         | Job::Delete { .. }
         | Job::DbFill { .. }
         | Job::ClockSet { .. }

@@ -18,6 +18,10 @@ use std::alloc::Global;
 ///
 /// - `read KEY WORD START COUNT` and `write KEY WORD START HEX`: one item;
 /// - `readmany` and `writemany`: any number of items in the same form, with ` ; ` between two;
+/// - `list`, which counts blocks, `listof KIND`, `info KIND NUMBER`, `upload KIND NUMBER` and `delete KIND NUMBER`: a
+///   block's `KIND` is `OB`, `DB`, `SDB`, `FC`, `SFC`, `FB` or `SFB`, its number from 0 to 65,535;
+/// - `download HEX`: the image of a block, with its head;
+/// - `dbget NUMBER` and `dbfill NUMBER HH`: a data block from 1 to 65,535, and the octet that fills it;
 /// - `szl ID INDEX`: a status list, by two numbers of four hexadecimal digits in either case;
 /// - `clock`, and `setclock MOMENT`: `MOMENT` is a date and time `YYYY-MM-DDThh:mm:ss.mmm` of the years 1990 to 2089;
 /// - `start`, `coldstart`, `stop`, `compress` and `copy`, which control, and `status`, which asks whether it runs;

@@ -10,7 +10,7 @@ ghost use Rattle.s7_script.specs.Script.{write_job, write_many_job, written_item
 ghost use Rattle.s7_script.specs.ScriptShown.{all_written, parts_left};
 
 use crate::ScriptKind;
-use crate::block_line::{delete_job, info_job, list_of_job, upload_job};
+use crate::block_line::{delete_job, download_job, info_job, list_of_job, upload_job};
 use crate::data_line::{db_fill_job, db_get_job};
 use crate::guard_line::all_graphic;
 use crate::item_text::{ended, read_item};
@@ -48,6 +48,8 @@ fn job_named(alloc: Global, name: &[u8], rest: Option<&[u8]>) -> Result<Job, Scr
         info_job(rest)
     } else if name == b"upload".as_slice() {
         upload_job(rest)
+    } else if name == b"download".as_slice() {
+        download_job(alloc, rest)
     } else if name == b"delete".as_slice() {
         delete_job(rest)
     } else if name == b"dbget".as_slice() {

@@ -1,6 +1,7 @@
 // Lines about blocks, and their results.
 use crate::printing::{of_one, prints};
 use s7_client::Job;
+use s7_outer::Octets;
 use s7_script::{ScriptFault, ScriptKind, ScriptLine, read_script};
 use std::test::Fail;
 
@@ -68,6 +69,32 @@ fn blocks(rt: HostRuntime) -> Result<(), Fail> {
     Ok(())
 }
 
+fn loads(lines: &[ScriptLine], expected: &[u8]) -> bool {
+    let [line] = lines else {
+        return false;
+    };
+    match &line.job {
+        Job::Download { image } => image.as_slice() == expected,
+        _ => false,
+    }
+}
+
+#[test]
+fn images(rt: HostRuntime) -> Result<(), Fail> {
+    let two: &[u8] = &[0x70, 0xAB];
+    for (text, image) in [
+        ("download 70Ab", two),
+        ("download 70aB\r\n", two),
+        ("download 00\n", &[0x00]),
+    ] {
+        let Ok(script) = read_script(rt.alloc(), text.as_bytes()) else {
+            return Err(Fail::from("not read"));
+        };
+        assert!(rt; loads(script.as_slice(), image), "{text:?}");
+    }
+    Ok(())
+}
+
 fn asks_data(lines: &[ScriptLine], of: u16, with: Option<u8>) -> bool {
     let [line] = lines else {
         return false;
@@ -117,6 +144,11 @@ fn wrong_lines(rt: HostRuntime) -> Result<(), Fail> {
         ("upload", ScriptKind::Fields),
         ("upload XB 1", ScriptKind::Word),
         ("upload DB 65536", ScriptKind::Number),
+        ("download", ScriptKind::Fields),
+        ("download ", ScriptKind::Digits),
+        ("download 707", ScriptKind::Digits),
+        ("download 70x0", ScriptKind::Digits),
+        ("download 7070 70", ScriptKind::Fields),
         ("delete FC", ScriptKind::Fields),
         ("delete FC -1", ScriptKind::Number),
         ("delete FC 5 5", ScriptKind::Fields),
@@ -214,5 +246,19 @@ fn heads_are_printed(rt: HostRuntime) -> Result<(), Fail> {
     let line = "4 info 00000000 \
                 70700101050a000100000028000000000000000000000000000000000000000000000004\n";
     assert!(rt; prints(alloc, 4, &done, line)?);
+    Ok(())
+}
+
+#[test]
+fn downloads_are_printed(rt: HostRuntime) -> Result<(), Fail> {
+    let alloc = rt.alloc();
+    for (code, expected) in [
+        (0, "7 download 00000000 -\n"),
+        (0x0230_0000, "7 download 02300000 -\n"),
+    ] {
+        let image = Octets::copy_of(alloc, &[0x70, 0x70])?;
+        let done = of_one(alloc, Job::Download { image }, code, &[])?;
+        assert!(rt; prints(alloc, 7, &done, expected)?);
+    }
     Ok(())
 }

@@ -1,4 +1,4 @@
-// Rigs that upload and delete blocks, and read and fill whole data blocks.
+// Rigs that download, upload and delete blocks, and read and fill whole data blocks.
 use crate::calls::{ROOM, all_hold};
 use std::test::Fail;
 
@@ -111,4 +111,90 @@ clients 1";
 #[test]
 fn whole_data_blocks_are_read_and_filled(rt: HostRuntime) -> Result<(), Fail> {
     all_hold(rt.alloc(), "", "", WHOLE, ROOM)
+}
+
+/// Rigs that load blocks.
+const LOADING: &str = "\
+files areas.txt script.txt
+areas.txt s7 areas 2
+clients 1";
+
+/// A block that is loaded, listed, uploaded and deleted; images that aren't sent, and one of a kind that isn't loaded;
+/// a guard; the longest image at the least PDU and at the greatest; and one image after another under a name.
+const LOADED: &str = "\
+call rig areas.txt script.txt
+areas.txt s7 areas 2
+areas.txt DB 1 4
+areas.txt 4*00
+script.txt download 70700101050C000500000026~22 x 00~0002aabb
+script.txt listof FC
+script.txt upload FC 5
+script.txt delete FC 5
+script.txt upload FC 5
+prints client 1 line 0 connect 00000000 -
+prints client 1 line 1 download 00000000 -
+prints client 1 line 2 listof 00000000 5
+prints client 1 line 3 upload 00000000 70700101050c000500000026~22 x 00~0002aabb
+prints client 1 line 4 delete 00000000 -
+prints client 1 line 5 upload 00C00000 -
+prints journal 5
+status 6
+
+call rig areas.txt script.txt
+script.txt download 7070
+script.txt download 70700101050C000500000027~22 x 00~0002aabb
+script.txt download 707001010507000500000026~22 x 00~0002aabb
+script.txt download 70700101050C000500000026~22 x 00~0003aabb
+script.txt download 70700101050A000500000026~22 x 00~0002aabb
+script.txt list
+prints client 1 line 0 connect 00000000 -
+prints client 1 line 1 download 00200000 -
+prints client 1 line 2 download 00200000 -
+prints client 1 line 3 download 00200000 -
+prints client 1 line 4 download 00200000 -
+prints client 1 line 5 download 02300000 -
+prints client 1 line 6 list 00000000 0 0 0 0 0 0 0
+prints journal 1
+status 6
+
+call rig areas.txt script.txt
+areas.txt s7 areas 2
+areas.txt protect 2 ABCDEFGH
+script.txt download 707001010508000100000024~24 x 00~
+script.txt password ABCDEFGH
+script.txt download 707001010508000100000024~24 x 00~
+script.txt list
+prints client 1 line 0 connect 00000000 -
+prints client 1 line 1 download 01D00000 -
+prints client 1 line 2 password 00000000 -
+prints client 1 line 3 download 00000000 -
+prints client 1 line 4 list 00000000 1 0 0 0 0 0 0
+prints journal 3
+status 6
+
+call rig areas.txt script.txt --pdu 64
+room 300000
+script.txt download 70700101050E000100010000~22 x 00~ffdc~65500 x 5a~
+script.txt upload FB 1
+prints client 1 line 0 connect 00000000 -
+prints client 1 line 1 download 00000000 -
+prints client 1 line 2 upload 00000000 70700101050e000100010000~22 x 00~ffdc~65500 x 5a~
+prints journal 2
+
+call rig areas.txt script.txt --pdu 1920
+room 300000
+script.txt download 70700101050E000100010000~22 x 00~ffdc~65500 x 5a~
+script.txt upload FB 1
+script.txt download 70700101050E00010000002a~22 x 00~0006c3c3c3c3c3c3
+script.txt upload FB 1
+prints client 1 line 0 connect 00000000 -
+prints client 1 line 1 download 00000000 -
+prints client 1 line 2 upload 00000000 70700101050e000100010000~22 x 00~ffdc~65500 x 5a~
+prints client 1 line 3 download 00000000 -
+prints client 1 line 4 upload 00000000 70700101050e00010000002a~22 x 00~0006c3c3c3c3c3c3
+prints journal 4";
+
+#[test]
+fn blocks_are_loaded(rt: HostRuntime) -> Result<(), Fail> {
+    all_hold(rt.alloc(), "", LOADING, LOADED, ROOM)
 }

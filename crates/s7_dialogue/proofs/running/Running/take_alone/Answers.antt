@@ -6,7 +6,7 @@ use Rattle.s7_dialogue.proofs.SingleTakeLemmas.{none_alone, refused_alone, writa
 use Rattle.s7_dialogue.proofs.running.Running.take_alone.Goals as goal
 
 pub answered-requires : goal.answered-requires
-answered-requires c = (c.args.self.now.job, writable_alone c.args.self.now c.in-Single.single c.in-Single.is)
+answered-requires c = writable_alone c.args.self.now c.in-Single.single c.in-Single.is
 
 pub returns-in_default-answered-clause-none : goal.returns-in_default-answered-clause-none
 returns-in_default-answered-clause-none c = λ config granted rows follows.

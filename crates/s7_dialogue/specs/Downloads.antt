@@ -1,0 +1,63 @@
+-- Downloads of blocks, as a client announces, gives and closes them (after Snap7 1.4 sources, s7_types.h,
+-- `TReqFunStartUploadParams`). The layouts are this profile's own.
+use Rattle.std.specs.Prelude.{ℕ, ◌-◌, ◌==◌, ◌&&◌, Bool, if◌then◌else◌, List, [], ◌∷◌, ◌++◌, length, drop}
+use Rattle.std.specs.Prelude.{◌%◌, slice_index}
+use Rattle.std.specs.Str.{bytes_eq}
+use Rattle.s7_block.specs.declared.block.BlockName.{BlockName}
+use Rattle.s7_block.specs.Heads.{two_at}
+use Rattle.s7_block.specs.Names.{digits, name_octets}
+use Rattle.s7_block.specs.Slices.{Piece, first_piece}
+use Rattle.s7_block.specs.Telegrams.{announce_function, piece_function, close_function, name_front, more_octet}
+
+-- ---- the image
+
+-- the kind of blocks that a head has so: OB, DB, SDB, FC, SFC, FB, SFB, and 0 where it is none
+abbrev pub kind_of_code : ℕ → ℕ
+kind_of_code code =
+    if code == 0x08 then 0x38
+    else (if code == 0x0A then 0x41
+    else (if code == 0x0B then 0x42
+    else (if code == 0x0C then 0x43
+    else (if code == 0x0D then 0x44
+    else (if code == 0x0E then 0x45
+    else (if code == 0x0F then 0x46
+    else 0))))))
+
+-- the block that the head of an image is of: its number is one of two octets
+abbrev pub name_in : List ℕ → BlockName
+name_in image = record { kind = kind_of_code (slice_index image 5); number = two_at image 6 % 65536 }
+
+-- how many octets of an image go in one telegram: header, parameters and the head of the data take 18 of the PDU
+abbrev pub piece_room : ℕ → ℕ
+piece_room pdu = pdu - 18
+
+-- the octets from a place on, at most as many as there is room for
+abbrev pub piece_at : List ℕ → ℕ → ℕ → Piece
+piece_at image room from = first_piece room (drop from image)
+
+-- ---- what is sent
+
+-- The parameters that announce a download: the block is at `P`, and behind `0D 31` stand six digits of the image's length
+-- and six of the body's length, which the head tells.
+abbrev pub announce_params : List ℕ → List ℕ
+announce_params image =
+    name_front announce_function ++ name_octets (name_in image) 0x50
+    ++ 0x0D ∷ 0x31 ∷ digits 6 (length image) ++ digits 6 (two_at image 34)
+
+-- those of the answer to a job of the server's that asks for a piece, and to the one that closes the download
+abbrev pub piece_params : Piece → List ℕ
+piece_params piece = piece_function ∷ more_octet piece.more ∷ []
+
+abbrev pub close_params : List ℕ
+close_params = close_function ∷ []
+
+-- ---- what comes
+
+-- Parameters and data are the job of the server's with this function for the block at `P`, which has no data.
+abbrev pub is_call : ℕ → BlockName → List ℕ → List ℕ → Bool
+is_call function name params body =
+    bytes_eq params (name_front function ++ name_octets name 0x50) && length body == 0
+
+-- the function that follows a piece: the next piece is asked for where others follow, and else the download is closed
+abbrev pub function_behind : Piece → ℕ
+function_behind piece = if piece.more then piece_function else close_function
