@@ -153,6 +153,7 @@ fn fates(alloc: Global, text: &str) -> Result<Vec<Fate>, Fail> {
 fn outcome(name: &str, number: u64) -> Option<Outcome> {
     match name {
         "Ended" => Some(Outcome::Ended),
+        "ReadFault" => Some(Outcome::ReadFault),
         "WriteFault" => Some(Outcome::WriteFault),
         "Torn" => Some(Outcome::Torn(number as usize)),
         "BadFrame" => Some(Outcome::BadFrame { at: number }),
@@ -183,6 +184,17 @@ pub(crate) struct Desk {
     count: u64,
     room: u64,
     ghost fits: { count ≤ room },
+}
+
+impl Desk {
+    /// So many blocks are loaded, and data block 1 has these octets.
+    pub(crate) fn holds(&self, blocks: u64, octets: &[u8]) -> bool {
+        let key = AreaKey {
+            area: 0x84,
+            number: 1,
+        };
+        self.plant.blocks.len() as u64 == blocks && self.plant.areas.octets_of(key) == Some(octets)
+    }
 }
 
 impl Doer for Desk {
