@@ -13,7 +13,7 @@ use Rattle.s7_area.specs.Memory.{Memory, key_cmp, octets_at, code_in, put_code, 
 use Rattle.s7_area.specs.Laws.{WrittenIsRead}
 
 -- what is known where a write with a right to it has the code FF
-record IsGood (m : Memory) (item : Item) (octets : List ℕ) : Type 0 where
+pub record IsGood (m : Memory) (item : Item) (octets : List ℕ) : Type 0 where
   pub old : List ℕ
   pub fits : is_misfit item ≡ false
   pub found : octets_at m (key_of item) ≡ Some old
@@ -35,7 +35,7 @@ good_by m item octets true found a b is = absurd (omega arith)
 good_by m item octets false None a b is = absurd (omega arith)
 good_by m item octets false (Some old) a b is = good_inside m item octets old _ _ a b refl refl is
 
-good : (m : Memory) (item : Item) (octets : List ℕ) → put_code m item octets ≡ 255 → IsGood m item octets
+pub good : (m : Memory) (item : Item) (octets : List ℕ) → put_code m item octets ≡ 255 → IsGood m item octets
 good m item octets is = good_by m item octets _ _ refl refl is
 
 -- a write that isn't barred has the code of its place, and leaves a read that isn't either
@@ -45,11 +45,11 @@ allowed_by level false true b code two three is = absurd (omega arith)
 allowed_by level false false true code two three is = absurd (omega arith)
 allowed_by level false false false code two three is = (is, refl)
 
-record IsAllowed (m : Memory) (right : Bool) (item : Item) (octets : List ℕ) : Type 0 where
+pub record IsAllowed (m : Memory) (right : Bool) (item : Item) (octets : List ℕ) : Type 0 where
   pub code : put_code m item octets ≡ 255
   pub read : is_read_barred m.guard right ≡ false
 
-allowed : (m : Memory) (right : Bool) (item : Item) (octets : List ℕ) → write_code m right item octets ≡ 255 → IsAllowed m right item octets
+pub allowed : (m : Memory) (right : Bool) (item : Item) (octets : List ℕ) → write_code m right item octets ≡ 255 → IsAllowed m right item octets
 unfolding write_code
 allowed m right item octets is =
     let both = allowed_by (level_of m.guard) right _ _ (put_code m item octets) refl refl is in
@@ -68,7 +68,7 @@ lookup_set test (e ∷ es) old new found =
 seam : (xs ys zs : List ℕ) (s n : ℕ) → length xs ≡ s → length ys ≡ n → take n (drop s ((xs ++ ys) ++ zs)) ≡ ys
 seam xs ys zs s n a b = rw (← a, ← b, append_assoc, drop-append_seam, take-append_seam) refl
 
-length-changed_at : (item : Item) (octets old : List ℕ) → is_inside item (length old) ≡ true → length octets ≡ octet_count item → length (changed_at item octets old) ≡ length old
+pub length-changed_at : (item : Item) (octets old : List ℕ) → is_inside item (length old) ≡ true → length octets ≡ octet_count item → length (changed_at item octets old) ≡ length old
 unfolding changed_at
 length-changed_at item octets old inside count = grind (arith, common_steps)
 

@@ -7,7 +7,7 @@ use Rattle.s7_item.specs.Codes.{good, bits}
 use Rattle.s7_item.specs.declared.item.Item.{Item}
 use Rattle.s7_area.specs.Places.{bit_of, with_bit}
 use Rattle.s7_area.specs.Keys.{is_key, is_numbered}
-use Rattle.s7_area.specs.Memory.{Memory, key_cmp, octets_at, with_area, read_code, read_octets, write_code, written}
+use Rattle.s7_area.specs.Memory.{Memory, key_cmp, octets_at, with_area, shape_of, read_code, read_octets, write_code, written}
 use Rattle.s7_area.specs.Registers.{most_octets, most_in_all, total_of, is_wrong_size, is_db_too_many, fault_of}
 use Rattle.s7_area.specs.declared.key.AreaKey.{AreaKey}
 
@@ -24,6 +24,11 @@ WrittenIsRead =
     → (item.word == bits) ≡ false → write_code m right item octets ≡ good
     → (read_code (written m right item octets) right item ≡ good)
     × (read_octets (written m right item octets) right item ≡ octets)
+
+-- a write leaves the names of the areas and their lengths
+abbrev pub WritesKeepTheShape : Type 0
+WritesKeepTheShape =
+    (m : Memory) (right : Bool) (item : Item) (octets : List ℕ) → shape_of (written m right item octets) ≡ shape_of m
 
 -- an area of this name and length may join
 pub record IsFaultless (m : Memory) (key : AreaKey) (len : ℕ) : Type 0 where

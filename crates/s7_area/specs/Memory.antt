@@ -1,5 +1,5 @@
 -- A memory: its areas in the order of their names, its guard, and what items read and write there.
-use Rattle.std.specs.Prelude.{ℕ, ◌==◌, ◌&&◌, Bool, not, if◌then◌else◌, Option, None, Some, unwrap_or, List, [], length}
+use Rattle.std.specs.Prelude.{ℕ, ◌==◌, ◌&&◌, Bool, not, if◌then◌else◌, Option, None, Some, unwrap_or, List, [], length, map}
 use Rattle.std.specs.declared.cmp.Ordering.{Ordering}
 use Rattle.std.specs.Ordering.{nat_cmp, ordering_then}
 use Rattle.std.specs.Map.{lookup, set_value, remove_entry}
@@ -43,6 +43,14 @@ without_area m key = record m { areas = remove_entry (is_at (key_cmp key)) m.are
 -- the memory with other octets in an area that is there
 abbrev pub with_octets : Memory → AreaKey → List ℕ → Memory
 with_octets m key octets = record m { areas = set_value (is_at (key_cmp key)) m.areas octets }
+
+-- names and how many octets each has
+abbrev pub lengths_of : AreaList → List (AreaKey × ℕ)
+lengths_of areas = map (λ e. (e.0, length e.1)) areas
+
+-- the same of a memory: what no write changes
+abbrev pub shape_of : Memory → List (AreaKey × ℕ)
+shape_of m = lengths_of m.areas
 
 -- the code of an item whose area has these octets
 abbrev pub code_in : Option (List ℕ) → Item → ℕ

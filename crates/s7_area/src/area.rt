@@ -43,6 +43,15 @@ impl Area {
         Octets::of_vec(self.octets)
     }
 
+    /// Takes over the octets of an area that has as many.
+    pub(crate) fn overwrite(&mut self, from: &Area)
+        requires { length from.now ≡ length self.old }
+        ensures { self.new ≡ from.now }
+    {
+        let area = self.octets.as_mut_slice();
+        area.copy_from_slice(from.octets.as_slice());
+    }
+
     /// Writes octets to the place of an item.
     pub(crate) fn write(&mut self, item: &Item, octets: &[u8])
         requires fits { is_misfit item.now ≡ false }

@@ -7,7 +7,8 @@ ghost use Rattle.s7_item.specs.Codes.{good};
 ghost use Rattle.s7_item.specs.Item.{octet_count};
 ghost use Rattle.s7_item.specs.DataItem.{carries};
 ghost use Rattle.s7_area.specs.Guards.{is_read_barred, is_write_barred};
-ghost use Rattle.s7_area.specs.Memory.{no_areas, octets_at, with_area, without_area, entries_of, read_code, read_octets, write_code, written};
+ghost use Rattle.s7_area.specs.Memory.{no_areas, octets_at, with_area, without_area, entries_of, lengths_of, shape_of};
+ghost use Rattle.s7_area.specs.Memory.{read_code, read_octets, write_code, written};
 
 use crate::area::Area;
 use crate::db_numbers::DbNumbers;
@@ -239,6 +240,17 @@ impl Areas {
         })
     }
 
+    /// Takes over the octets and the guard of areas that have the same names and lengths. It takes no
+    /// memory.
+    pub fn overwrite(&mut self, from: &Areas)
+        requires { shape_of from.now ≡ shape_of self.old }
+        ensures { self.new ≡ from.now }
+    {
+        overwrite_map(&mut self.map, &from.map);
+        self.total = from.total;
+        self.guard = from.guard;
+    }
+
     /// Registers an area. The first that applies is the refusal: `Key` where no area may have this
     /// name; `Size` where there are no octets, more than 2,097,152, an odd number of them for counters
     /// or timers, or more than 16,777,216 with those of all areas; `Exists` where an area of this
@@ -345,6 +357,31 @@ fn copy_map(
     match map.clone() {
         Ok(map) => Ok(Some(map)),
         Err(_) => Err(Memory),
+    }
+}
+
+/// Takes over the octets of areas that have the same names and lengths.
+fn overwrite_map(map: &mut Option<BTreeMap<AreaKey, Area>>, from: &Option<BTreeMap<AreaKey, Area>>)
+    requires { lengths_of (entries_of from.now) ≡ lengths_of (entries_of map.old) }
+    ensures { entries_of map.new ≡ entries_of from.now }
+{
+    let Some(map) = map else {
+        return;
+    };
+    let Some(from) = from else {
+        return;
+    };
+    overwrite_each(map, from);
+}
+
+fn overwrite_each(map: &mut BTreeMap<AreaKey, Area>, from: &BTreeMap<AreaKey, Area>)
+    requires { lengths_of from.now.entries ≡ lengths_of map.old.entries }
+    ensures { map.new.entries ≡ from.now.entries }
+{
+    for (key, octets) in from {
+        if let Some(area) = map.get_mut(key) {
+            area.overwrite(octets);
+        }
     }
 }
 

@@ -15,7 +15,7 @@ pub use areas::{Areas, ItemAnswer};
 pub use db_numbers::DbNumbers;
 pub use guard::Guard;
 pub use key::AreaKey;
-pub use laws::{areas_join, bits_stand_alone, written_is_read};
+pub use laws::{areas_join, bits_stand_alone, writes_keep_the_shape, written_is_read};
 pub use register::{RegisterFault, Unknown};
 
 #[cfg(test)]

@@ -185,6 +185,20 @@ fn guards_bar_items(rt: HostRuntime) -> Result<(), Fail> {
 }
 
 #[test]
+fn areas_take_over_others(rt: HostRuntime) -> Result<(), Fail> {
+    let mut areas = two_areas(rt.alloc())?;
+    let mut image = areas.copy(rt.alloc())?;
+    areas.write(true, &item(0x84, 1, 0x02, 4, 0), &[5, 6, 7, 8]);
+    areas.write(true, &item(0x1C, 0, 0x1C, 1, 1), &[0, 9]);
+    areas.set_guard(guard(3));
+    image.overwrite(&areas);
+    assert!(rt; image.octets_of(DB1) == Some([5, 6, 7, 8].as_slice()));
+    assert!(rt; image.octets_of(COUNTERS) == Some([0, 1, 0, 9].as_slice()));
+    assert!(rt; image.guard() == guard(3));
+    Ok(())
+}
+
+#[test]
 fn areas_are_registered(rt: HostRuntime) -> Result<(), Fail> {
     let mut areas = two_areas(rt.alloc())?;
     let rows = [

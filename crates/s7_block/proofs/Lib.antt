@@ -1,5 +1,6 @@
 pub mod EntryLemmas
 pub mod StoreLemmas
+pub mod MarkLemmas
 pub mod SliceLemmas
 pub mod AssemblyLemmas
 pub mod NameLemmas

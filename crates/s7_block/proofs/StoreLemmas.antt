@@ -234,7 +234,7 @@ remove_none_step : {K X : Type 0} (b : Bool) (e : K × X) (es rest : List (K × 
 remove_none_step true e es rest later none more = cc
 remove_none_step false e es rest later none more = ap (λ l. e ∷ l) (more none)
 
-remove_none : {K X : Type 0} (test : K → Bool) (es : List (K × X)) → lookup test es ≡ None → remove_entry test es ≡ es
+pub remove_none : {K X : Type 0} (test : K → Bool) (es : List (K × X)) → lookup test es ≡ None → remove_entry test es ≡ es
 remove_none test [] none = refl
 remove_none test (e ∷ es) none = remove_none_step (test e.0) e es (remove_entry test es) (lookup test es) none (remove_none test es)
 

@@ -17,3 +17,15 @@ head_code kind =
     else (if kind == 0x45 then Some 0x0E
     else (if kind == 0x46 then Some 0x0F
     else None))))))
+
+-- the kind that a head has a code for, and 0 where the code is of none
+abbrev pub kind_of_code : ℕ → ℕ
+kind_of_code code =
+    if code == 0x08 then 0x38
+    else (if code == 0x0A then 0x41
+    else (if code == 0x0B then 0x42
+    else (if code == 0x0C then 0x43
+    else (if code == 0x0D then 0x44
+    else (if code == 0x0E then 0x45
+    else (if code == 0x0F then 0x46
+    else 0))))))

@@ -5,6 +5,7 @@ pub mod Telegrams
 pub mod Store
 pub mod StoreView
 pub mod StorePlaces
+pub mod Marks
 pub mod Slices
 pub mod Sides
 pub mod UploadView

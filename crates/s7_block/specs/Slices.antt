@@ -1,10 +1,14 @@
 -- An image cut into slices (Snap7 1.4 reference manual, block upload and download).
-use Rattle.std.specs.Prelude.{◌≡◌, ℕ, ◌+◌, Bool, true, nat_lt, if◌then◌else◌, Option, None, Some, List, [], ◌∷◌, length, take, drop, flat_map, ⊤}
+use Rattle.std.specs.Prelude.{◌≡◌, ℕ, ◌+◌, ◌-◌, Bool, true, nat_lt, if◌then◌else◌, Option, None, Some, List, [], ◌∷◌, length, take, drop, flat_map, ⊤}
 
 -- octets that come together, and whether others follow them
 pub record Piece : Type 0 where
   pub more : Bool
   pub octets : List ℕ
+
+-- how many octets of an image go in one telegram: header, parameters and the head of the data take 18 of the PDU
+abbrev pub image_room : ℕ → ℕ
+image_room pdu = pdu - 18
 
 -- the first octets, at most so many, of which others follow where there are some
 abbrev pub first_piece : ℕ → List ℕ → Piece

@@ -39,6 +39,7 @@ impl Model for Blocks {
 impl Blocks {
     ghost use Rattle.s7_block.specs.Store.{name_of, block_at, with_block, without_block, numbers_of, is_full, fault_of};
     ghost use Rattle.s7_block.specs.Store.{IsStore};
+    ghost use Rattle.s7_block.specs.StoreView.{images_of};
     ghost use Rattle.s7_block.specs.StorePlaces.{IsAt, IsGapFor};
 
     /// A store without blocks that may have up to `limit`, at most 1,024. Their places are taken
@@ -68,6 +69,14 @@ impl Blocks {
         ensures store { IsStore self.now }
     {
         self.limit
+    }
+
+    /// The blocks in the order of their names, lent.
+    pub(crate) fn as_slice(&self) -> &[Block]
+        ensures images { images_of result.now ≡ self.now.images }
+        ensures store { IsStore self.now }
+    {
+        self.blocks.as_slice()
     }
 
     /// The block of this name, lent. `None` comes exactly where there is none.

@@ -1,5 +1,5 @@
-//! Blocks of a controller and their transfers: heads, names, a store of blocks, and the sides of an
-//! upload and of a download.
+//! Blocks of a controller and their transfers: heads, names, a store of blocks, marks of
+//! their names, and the sides of an upload and of a download.
 #![tactic(auto)]
 
 mod assembly;
@@ -10,6 +10,7 @@ mod download;
 mod head;
 pub mod kinds;
 mod laws;
+mod marks;
 mod name;
 mod numbers;
 mod upload;
@@ -21,6 +22,7 @@ pub use client::BlockClient;
 pub use download::DownloadSide;
 pub use head::{db_head, head_agrees};
 pub use laws::{heads_are_read, names_are_read, one_name_changes, pieces_are_joined, slices_join};
+pub use marks::{Mark, Marks};
 pub use name::{NAME, read_digits, read_name, write_digits, write_name};
 pub use numbers::Numbers;
 pub use upload::{Slice, UploadSide};

@@ -117,6 +117,57 @@ fn faults_come_in_order(rt: HostRuntime) -> Result<(), Fail> {
     Ok(())
 }
 
+/// The functions of these numbers.
+fn functions(alloc: Global, numbers: &[u16]) -> Result<Blocks, Memory> {
+    let mut blocks = Blocks::new(alloc, 8)?;
+    for number in numbers {
+        let _ = blocks.insert(function(alloc, *number)?);
+    }
+    Ok(blocks)
+}
+
+/// A number that a function is marked with; none for 0, which takes the function out.
+fn mark(marks: &mut Marks, number: u16, with: u64) {
+    let name = BlockName { kind: 0x43, number };
+    if with == 0 {
+        marks.remove(name);
+    } else if marks.as_slice().len() < marks.limit() {
+        marks.put(name, with);
+    }
+}
+
+#[test]
+fn blocks_are_marked(rt: HostRuntime) -> Result<(), Fail> {
+    let blocks = functions(rt.alloc(), &[5, 2])?;
+    let rows: [(&[(u16, u64)], &[(u16, u64)]); 7] = [
+        (&[], &[(2, 0), (5, 0)]),
+        (&[(5, 7)], &[(2, 0), (5, 7)]),
+        (&[(1, 7), (9, 8)], &[(1, 7), (2, 0), (5, 0), (9, 8)]),
+        (&[(3, 7), (3, 8)], &[(2, 0), (3, 8), (5, 0)]),
+        (&[(2, 7), (2, 0)], &[(5, 0)]),
+        (&[(4, 0), (2, 0), (5, 0)], &[]),
+        (&[(2, 0), (2, 7)], &[(2, 7), (5, 0)]),
+    ];
+    for (edits, told) in rows {
+        let mut marks = Marks::of(rt.alloc(), &blocks)?;
+        for &(number, with) in edits {
+            mark(&mut marks, number, with);
+        }
+        let mut copy = Marks::of(rt.alloc(), &blocks)?;
+        if marks.limit() <= copy.limit() {
+            copy.overwrite(&marks);
+        }
+        for list in [marks.as_slice(), copy.as_slice()] {
+            assert!(rt; list.len() == told.len());
+            for (mark, told) in list.iter().zip(told) {
+                let number = mark.1.unwrap_or(0);
+                assert!(rt; mark.0.kind == 0x43 && (mark.0.number, number) == *told);
+            }
+        }
+    }
+    Ok(())
+}
+
 #[test]
 fn images_are_sliced(rt: HostRuntime) -> Result<(), Fail> {
     let mut side = UploadSide::new(rt.alloc(), 2_000)?;

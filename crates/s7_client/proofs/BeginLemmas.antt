@@ -18,10 +18,10 @@ use Rattle.s7_dialogue.specs.Dialogue.{End, First, nothing, connect_request, dis
 use Rattle.s7_dialogue.specs.Course.{Origin, Course, for_confirm, for_departure, for_nothing, blank, begun, by_first, conduct_of, asking, asked_on, connect_octets, disconnect_octets}
 use Rattle.s7_dialogue.specs.Stages.{message_of}
 use Rattle.s7_dialogue.specs.Running.{awaited_in, awaited_by, unput_of, unput_by, conduct_in, Begins, BeginsAt, Reached, Follows, IsOver, IsOpening, IsAsking, IsLeaving}
-use Rattle.s7_client.specs.At.{StartsAt, BeginsTalk, pending}
+use Rattle.s7_client.specs.At.{StartsAt, BeginsTalk, pending, size_by, size_in}
 use Rattle.s7_dialogue.proofs.FlightLemmas.{asks_on}
 use Rattle.s7_dialogue.proofs.SingleLemmas.{unasked_unput}
-use Rattle.s7_client.proofs.PacketLemmas.{IsSettled, asking_settled, conduct_same, follows_as, not_opening, not_leaving}
+use Rattle.s7_client.proofs.PacketLemmas.{IsSettled, asking_settled, conduct_same, follows_as, not_opening, not_leaving, opening_not_asking}
 
 -- ---- what is begun
 
@@ -54,16 +54,16 @@ begins_as : (r : Running) (config : Config) (granted : Option Grant) (s : Stage)
 begins_as r config granted s is h = subst (BeginsAt r config granted) is h
 
 pending_one : (config : Config) (size : ℕ) (t : Talk) (r : Running) (octets : List ℕ) → t.outbox.unsent ≡ octets
-    → unput_of config t.size r ≡ [] → octets ≡ pending config t r
+    → unput_of config (size_in t) r ≡ [] → octets ≡ pending config t r
 pending_one config size t r octets put none = sym (append-nil octets)
-    ∙ (ap (λ x. octets ++ x) (sym none) ∙ ap (λ x. x ++ unput_of config t.size r) (sym put))
+    ∙ (ap (λ x. octets ++ x) (sym none) ∙ ap (λ x. x ++ unput_of config (size_in t) r) (sym put))
 
 -- ---- a connect
 
 starts_opening : (origin : Origin) (t t' : Talk) (r : Running) (config : Config) → origin.config ≡ config
-    → r.job ≡ origin.job → t.size ≡ (blank origin).size → t.sequence ≡ (blank origin).sequence
+    → r.job ≡ origin.job → size_in t ≡ (blank origin).size → t.sequence ≡ (blank origin).sequence
     → r.stage ≡ stage.Opening → Begins r config origin.granted → t'.outbox.unsent ≡ connect_octets config
-    → t'.size ≡ t.size → t'.sequence ≡ t.sequence
+    → size_in t' ≡ size_in t → t'.sequence ≡ t.sequence
     → StartsAt origin (begun origin) t' r
 starts_opening origin t t' r config ec ej size sequence is begins put size' sequence' =
     let first : (plan_of origin.job origin.config origin.granted).first ≡ connect_request =
@@ -77,29 +77,30 @@ starts_opening origin t t' r config ec ej size sequence is begins put size' sequ
       opens = λ h. (first, refl);
       follows = λ h. absurd (subst IsAsking is h);
       departs = λ h. absurd (subst IsLeaving is h);
-      out = pending_one origin.config t'.size t' r (connect_octets origin.config) (put ∙ ap connect_octets (sym ec))
-          (ap (unput_by origin.config t'.size r.job) is);
+      out = pending_one origin.config (size_in t') t' r (connect_octets origin.config) (put ∙ ap connect_octets (sym ec))
+          (ap (unput_by origin.config (size_in t') r.job) is);
     })
 
 pub begins_opening : (config : Config) (t t' : Talk) (r : Running) → r.stage ≡ stage.Opening
-    → t'.outbox.unsent ≡ connect_octets config → t'.size ≡ t.size → t'.sequence ≡ t.sequence → t'.joiner ≡ t.joiner
+    → t'.outbox.unsent ≡ connect_octets config → t'.reader ≡ t.reader → t'.sequence ≡ t.sequence
     → BeginsTalk config t r t' r
-begins_opening config t t' r is put size sequence joiner = record {
+begins_opening config t t' r is put reader sequence = record {
   starts = λ origin ec ej size' sequence' begins. starts_opening origin t t' r config ec ej size' sequence' is begins
-      put size sequence;
+      put (ap size_by reader) sequence;
   few = omega (arith, ap length put);
   quiet = λ h. absurd (subst IsOver is h);
-  size = size;
-  joiner = joiner;
+  opening = λ h. h;
+  opens = λ h. h;
+  reader = reader;
   job = refl;
 }
 
 -- ---- a disconnect
 
 starts_leaving : (origin : Origin) (t t' : Talk) (r : Running) (config : Config) → origin.config ≡ config
-    → r.job ≡ origin.job → t.size ≡ (blank origin).size → t.sequence ≡ (blank origin).sequence
+    → r.job ≡ origin.job → size_in t ≡ (blank origin).size → t.sequence ≡ (blank origin).sequence
     → r.stage ≡ stage.Leaving → Begins r config origin.granted → t'.outbox.unsent ≡ disconnect_octets
-    → t'.size ≡ t.size → t'.sequence ≡ t.sequence
+    → size_in t' ≡ size_in t → t'.sequence ≡ t.sequence
     → StartsAt origin (begun origin) t' r
 starts_leaving origin t t' r config ec ej size sequence is begins put size' sequence' =
     let first : (plan_of origin.job origin.config origin.granted).first ≡ disconnect_request =
@@ -113,28 +114,29 @@ starts_leaving origin t t' r config ec ej size sequence is begins put size' sequ
       opens = λ h. absurd (subst IsOpening is h);
       follows = λ h. absurd (subst IsAsking is h);
       departs = λ h. first;
-      out = pending_one origin.config t'.size t' r disconnect_octets put (ap (unput_by origin.config t'.size r.job) is);
+      out = pending_one origin.config (size_in t') t' r disconnect_octets put (ap (unput_by origin.config (size_in t') r.job) is);
     })
 
 pub begins_leaving : (config : Config) (t t' : Talk) (r : Running) → r.stage ≡ stage.Leaving
-    → t'.outbox.unsent ≡ disconnect_octets → t'.size ≡ t.size → t'.sequence ≡ t.sequence → t'.joiner ≡ t.joiner
+    → t'.outbox.unsent ≡ disconnect_octets → t'.reader ≡ t.reader → t'.sequence ≡ t.sequence
     → BeginsTalk config t r t' r
-begins_leaving config t t' r is put size sequence joiner = record {
+begins_leaving config t t' r is put reader sequence = record {
   starts = λ origin ec ej size' sequence' begins. starts_leaving origin t t' r config ec ej size' sequence' is begins
-      put size sequence;
+      put (ap size_by reader) sequence;
   few = omega (arith, ap length put);
   quiet = λ h. absurd (subst IsOver is h);
-  size = size;
-  joiner = joiner;
+  opening = λ h. h;
+  opens = λ h. h;
+  reader = reader;
   job = refl;
 }
 
 -- ---- a job that is over at once
 
 starts_over : (origin : Origin) (t t' : Talk) (r : Running) (config : Config) (code : ℕ) (leaves : Leaves)
-    → origin.config ≡ config → r.job ≡ origin.job → t.size ≡ (blank origin).size
+    → origin.config ≡ config → r.job ≡ origin.job → size_in t ≡ (blank origin).size
     → t.sequence ≡ (blank origin).sequence → r.stage ≡ stage.Over code leaves → Begins r config origin.granted
-    → t'.outbox.unsent ≡ [] → t'.size ≡ t.size → t'.sequence ≡ t.sequence
+    → t'.outbox.unsent ≡ [] → size_in t' ≡ size_in t → t'.sequence ≡ t.sequence
     → StartsAt origin (begun origin) t' r
 starts_over origin t t' r config code leaves ec ej size sequence is begins put size' sequence' =
     let end : End = record { code = code; octets = r.found.items; codes = r.codes; leaves = leaves } in
@@ -149,19 +151,20 @@ starts_over origin t t' r config code leaves ec ej size sequence is begins put s
       opens = λ h. absurd (subst IsOpening is h);
       follows = λ h. absurd (subst IsAsking is h);
       departs = λ h. absurd (subst IsLeaving is h);
-      out = pending_one origin.config t'.size t' r [] put (ap (unput_by origin.config t'.size r.job) is);
+      out = pending_one origin.config (size_in t') t' r [] put (ap (unput_by origin.config (size_in t') r.job) is);
     })
 
 pub begins_over : (config : Config) (t t' : Talk) (r : Running) (code : ℕ) (leaves : Leaves)
-    → r.stage ≡ stage.Over code leaves → t'.outbox.unsent ≡ [] → t'.size ≡ t.size → t'.sequence ≡ t.sequence
-    → t'.joiner ≡ t.joiner → BeginsTalk config t r t' r
-begins_over config t t' r code leaves is put size sequence joiner = record {
+    → r.stage ≡ stage.Over code leaves → t'.outbox.unsent ≡ [] → t'.reader ≡ t.reader → t'.sequence ≡ t.sequence
+    → BeginsTalk config t r t' r
+begins_over config t t' r code leaves is put reader sequence = record {
   starts = λ origin ec ej size' sequence' begins. starts_over origin t t' r config code leaves ec ej size' sequence' is
-      begins put size sequence;
+      begins put (ap size_by reader) sequence;
   few = omega (arith, ap length put);
   quiet = λ h. put;
-  size = size;
-  joiner = joiner;
+  opening = λ h. h;
+  opens = λ h. h;
+  reader = reader;
   job = refl;
 }
 
@@ -197,12 +200,12 @@ asks_first r config granted stage.Leaving asks is begins = absurd asks
 asks_first r config granted (stage.Over code leaves) asks is begins = absurd asks
 
 starts_asking : (origin : Origin) (t t' : Talk) (r r' : Running) (config : Config) (last : ℕ)
-    → origin.config ≡ config → r.job ≡ origin.job → t.size ≡ (blank origin).size
+    → origin.config ≡ config → r.job ≡ origin.job → size_in t ≡ (blank origin).size
     → t.sequence ≡ (blank origin).sequence → IsAsking r.stage → Begins r config origin.granted
     → ((before : Course) → Follows r config origin.granted before.rows → before.sequence ≡ t.sequence
     → unput_of config before.size r ≡ []
     → Reached config origin.granted before (asking (conduct_in r config origin.granted) before) r' last)
-    → t'.outbox.unsent ≡ [] → t'.size ≡ t.size → t'.sequence ≡ last → r'.job ≡ r.job
+    → t'.outbox.unsent ≡ [] → size_in t' ≡ size_in t → t'.sequence ≡ last → r'.job ≡ r.job
     → StartsAt origin (begun origin) t' r'
 starts_asking origin t t' r r' config last ec ej size sequence asks begins reached put size' sequence' done =
     let granted = origin.granted in
@@ -227,22 +230,23 @@ starts_asking origin t t' r r' config last ec ej size sequence asks begins reach
       out =
           k.out
           ∙ (ap (λ n. unput_of config n r') (sym (size' ∙ size))
-          ∙ (ap (λ (x : Config). unput_of x t'.size r') (sym ec)
-          ∙ ap (λ x. x ++ unput_of origin.config t'.size r') (sym put)));
+          ∙ (ap (λ (x : Config). unput_of x (size_in t') r') (sym ec)
+          ∙ ap (λ x. x ++ unput_of origin.config (size_in t') r') (sym put)));
     })
 
 pub begins_asking : (config : Config) (t t' : Talk) (r r' : Running) (last : ℕ) → IsAsking r.stage
     → ((granted : Option Grant) (before : Course) → Follows r config granted before.rows → before.sequence ≡ t.sequence
     → unput_of config before.size r ≡ []
     → Reached config granted before (asking (conduct_in r config granted) before) r' last)
-    → t'.outbox.unsent ≡ [] → t'.size ≡ t.size → t'.sequence ≡ last → t'.joiner ≡ t.joiner → r'.job ≡ r.job
-    → BeginsTalk config t r t' r'
-begins_asking config t t' r r' last asks reached put size sequence joiner done = record {
+    → t'.outbox.unsent ≡ [] → t'.reader ≡ t.reader → t'.sequence ≡ last → r'.job ≡ r.job
+    → (IsOpening r'.stage → ⊥) → BeginsTalk config t r t' r'
+begins_asking config t t' r r' last asks reached put reader sequence done not_before = record {
   starts = λ origin ec ej size' sequence' begins. starts_asking origin t t' r r' config last ec ej size' sequence' asks
-      begins (reached origin.granted) put size sequence done;
+      begins (reached origin.granted) put (ap size_by reader) sequence done;
   few = omega (arith, ap length put);
   quiet = λ h. put;
-  size = size;
-  joiner = joiner;
+  opening = λ h. absurd (opening_not_asking r.stage h asks);
+  opens = λ h. absurd (not_before h);
+  reader = reader;
   job = done;
 }

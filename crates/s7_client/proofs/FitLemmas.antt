@@ -37,7 +37,7 @@ use Rattle.s7_dialogue.specs.Uploads.{start_params, id_params}
 use Rattle.s7_dialogue.specs.Question.{Question, reads, writes, controls, asks, asks_further, written, message_octets, question_octets}
 use Rattle.s7_dialogue.specs.Question.{starts_upload, slices_upload, ends_upload}
 use Rattle.s7_dialogue.specs.Question.{announces, awaits_call, gives, inserts, messages_of}
-use Rattle.s7_dialogue.specs.Downloads.{piece_room}
+use Rattle.s7_block.specs.Slices.{image_room}
 use Rattle.s7_dialogue.specs.Answer.{Answer, calls}
 use Rattle.s7_dialogue.specs.Checks.{octet_count_of, check_item, check_items, check_moment, check_password, check_image}
 use Rattle.s7_dialogue.specs.Stages.{joined}
@@ -163,27 +163,27 @@ upload_short pdu name answers question least (inr under) = slice_short pdu under
 
 -- what goes out behind the server's job: a piece, as much of the image as the PDU has room for, or the insertion
 behind_short : (pdu : ℕ) (image : List ℕ) (from call : ℕ) (more : Bool) → 64 ≤ pdu
-    → IsShort pdu (cond more (gives image (piece_room pdu) from call) (inserts image call))
+    → IsShort pdu (cond more (gives image (image_room pdu) from call) (inserts image call))
 behind_short pdu image from call true least = λ sequence.
-    omega (arith, least, length-take (piece_room pdu) (drop from image))
+    omega (arith, least, length-take (image_room pdu) (drop from image))
 behind_short pdu image from call false least = λ sequence. omega (arith, least)
 
 server_short : (pdu : ℕ) (image : List ℕ) (from : ℕ) (last : Option Answer) (question : Question) → 64 ≤ pdu
-    → behind_server image (piece_room pdu) from last ≡ Some question → IsShort pdu question
+    → behind_server image (image_room pdu) from last ≡ Some question → IsShort pdu question
 server_short pdu image from (Some (calls call)) question least is =
-    subst (IsShort pdu) (same_some (behind_call image (piece_room pdu) from call) question is)
+    subst (IsShort pdu) (same_some (behind_call image (image_room pdu) from call) question is)
     (behind_short pdu image from call (ltb from (length image)) least)
 server_short pdu image from (Some _) question least is = absurd (cc)
 server_short pdu image from None question least is = absurd (cc)
 
 download_short : (pdu : ℕ) (image : List ℕ) (answers : List (Option Answer)) (question : Question) → 64 ≤ pdu
-    → next_given image (piece_room pdu) answers ≡ Some question → IsShort pdu question
+    → next_given image (image_room pdu) answers ≡ Some question → IsShort pdu question
 download_short pdu image [] question least is =
     subst (IsShort pdu) (same_some (announces image) question is) (λ sequence. omega (arith, least))
 download_short pdu image (answer ∷ []) question least is =
     subst (IsShort pdu) (same_some (awaits_call image) question is) (λ sequence. omega (arith, least))
 download_short pdu image (answer ∷ next ∷ answers) question least is =
-    server_short pdu image (piece_room pdu * length answers) (last_answer next answers) question least is
+    server_short pdu image (image_room pdu * length answers) (last_answer next answers) question least is
 
 -- ---- the messages of all questions
 

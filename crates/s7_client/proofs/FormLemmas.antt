@@ -25,7 +25,7 @@ use Rattle.s7_dialogue.specs.declared.subject.Subject.{Subject}
 use Rattle.s7_dialogue.specs.declared.subject.Subject.TheVariants.{StatusList, RunState, BlockCounts, BlocksOfKind, BlockHead, Clock, ClockSetting, Password, PasswordClearing}
 use Rattle.s7_dialogue.specs.UserData.{is_whole, lead_of}
 use Rattle.s7_dialogue.specs.Codes.{refused_otherwise}
-use Rattle.s7_dialogue.specs.Downloads.{piece_room}
+use Rattle.s7_block.specs.Slices.{image_room}
 use Rattle.s7_dialogue.specs.Question.{Question}
 use Rattle.s7_dialogue.specs.Answer.{Answer, ItemAnswer, grants, tells, notes, stands, refuses, begins_read, begins_refused, item_first, item_answers}
 use Rattle.s7_dialogue.specs.Refusals.{number_of_error, number_of_code, number_of_status, code_refusal, telegram_refusal, part_refusal, control_refusal, download_refusal}
@@ -619,7 +619,7 @@ connected_formed (job.Upload kind number) granted rows end carried asked ended =
     upload_formed (job.Upload kind number) granted _ rows end carried (λ found. refl) (λ found. tt) ended
 connected_formed (job.Download image) granted rows end carried asked ended =
     good_formed (job.Download image) (Some granted) (check_image image) _ rows end carried
-    (λ good asked ended. download_formed image granted (piece_room granted.pdu) rows end carried ended) asked ended
+    (λ good asked ended. download_formed image granted (image_room granted.pdu) rows end carried ended) asked ended
 connected_formed (job.Delete kind number) granted rows end carried asked ended =
     control_formed (job.Delete kind number) granted (control.Delete kind number) rows end carried (refl, refl) tt ended
 connected_formed (job.DbGet number) granted rows end carried asked ended =

@@ -1,6 +1,7 @@
 -- Laws of the octets that a job used: each was used where octets were awaited, and after all that could be sent was
 -- transmitted.
-use Rattle.std.proofs.Common.{◌≡◌, ◌⊎◌, inl, inr, ℕ, ◌<◌, ◌≤◌, List, [], ◌∷◌, ◌++◌, length, take, refl, ap, sym, ◌∙◌, subst, arith, length-append}
+use Rattle.std.proofs.Common.{◌≡◌, ◌⊎◌, inl, inr, ℕ, ◌<◌, ◌≤◌, List, [], ◌∷◌, ◌++◌, length, take}
+use Rattle.std.proofs.Common.{refl, ap, sym, ◌∙◌, subst, arith, length-append}
 use Rattle.std.proofs.lemmas.List.{append-nil, length-take-le, take-take}
 use Rattle.s7_tpkt.specs.Cut.{Cut}
 use Rattle.s7_tpkt.specs.Packets.{HoldsRest, state_of}
@@ -42,6 +43,10 @@ split_front (x ∷ xs) more (y ∷ front) rest e =
 
 -- ---- octets of one packet
 
+-- no octet before the last one ends a packet or shows a fault
+abbrev pub OnlyLastShows : ℕ → List ℕ → List ℕ → Type 0
+OnlyLastShows limit held used = (k : ℕ) → k < length used → state_of limit (held ++ take k used) ≡ fed.More
+
 -- a front ends before the packet, or has the course of before it
 abbrev IsEarlier : Origin → List ℕ → List ℕ → Type 0
 IsEarlier origin b front =
@@ -50,7 +55,7 @@ IsEarlier origin b front =
 -- while a packet comes, the course is that before it
 front_course : (origin : Origin) (b used front rest : List ℕ) (cutter : Cut) → HoldsRest (limits origin) b cutter
     → state_of cutter.limit cutter.held ≡ fed.More
-    → ((k : ℕ) → k < length used → state_of cutter.limit (cutter.held ++ take k used) ≡ fed.More)
+    → OnlyLastShows cutter.limit cutter.held used
     → 0 < length rest → IsSplit b used front rest → IsEarlier origin b front
 front_course origin b used front rest cutter h more earliest some (inl y) = inl y
 front_course origin b used front rest cutter h more earliest some (inr y) =
@@ -72,7 +77,7 @@ awaited_there origin b front awaits all (inr same) = subst (λ c. AwaitsOctets c
 -- octets of one packet, of which no earlier one ended it, were each used where octets were awaited
 pub all_awaited_on : (origin : Origin) (b used : List ℕ) (cutter : Cut) → HoldsRest (limits origin) b cutter
     → state_of cutter.limit cutter.held ≡ fed.More
-    → ((k : ℕ) → k < length used → state_of cutter.limit (cutter.held ++ take k used) ≡ fed.More)
+    → OnlyLastShows cutter.limit cutter.held used
     → AwaitsOctets (course origin b).awaits → AllAwaited origin b → AllAwaited origin (b ++ used)
 all_awaited_on origin b used cutter h more earliest awaits all front rest e some =
     awaited_there origin b front awaits all
@@ -87,7 +92,7 @@ sent_there origin b front w sent first (inr same) =
 -- and each after all that could be sent was transmitted, where that was so before the packet
 pub sent_first_on : (origin : Origin) (b used w : List ℕ) (cutter : Cut) → HoldsRest (limits origin) b cutter
     → state_of cutter.limit cutter.held ≡ fed.More
-    → ((k : ℕ) → k < length used → state_of cutter.limit (cutter.held ++ take k used) ≡ fed.More)
+    → OnlyLastShows cutter.limit cutter.held used
     → may_send origin b ≡ w → SentFirst origin b w → SentFirst origin (b ++ used) w
 sent_first_on origin b used w cutter h more earliest sent first front rest e some =
     sent_there origin b front w sent first
@@ -96,7 +101,7 @@ sent_first_on origin b used w cutter h more earliest sent first front rest e som
 -- what is so at all fronts of a piece is so at those of a front of it
 pub earliest_of : (limit : ℕ) (held piece : List ℕ) (n : ℕ) → n ≤ length piece
     → ((k : ℕ) → k < n → state_of limit (held ++ take k piece) ≡ fed.More)
-    → (k : ℕ) → k < length (take n piece) → state_of limit (held ++ take k (take n piece)) ≡ fed.More
+    → OnlyLastShows limit held (take n piece)
 earliest_of limit held piece n least h k less =
     let below : k < n = omega (arith, less, length-take-le n piece least) in
     subst (λ x. state_of limit (held ++ x) ≡ fed.More) (sym (take-take k n piece (omega (arith, below)))) (h k below)

@@ -1,7 +1,8 @@
 pub mod CourseLemmas
 pub mod PlanLemmas
 pub mod FrontLemmas
-pub mod JoinLemmas
+pub mod FoundLemmas
+pub mod TurnLemmas
 pub mod PacketLemmas
 pub mod StepLemmas
 pub mod OrderLemmas

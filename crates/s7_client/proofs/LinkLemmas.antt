@@ -204,13 +204,13 @@ waits_here origin l l' u b w config ec s awaiting sent none = record {
 
 fits_with : (l : Line) (u : UnderWay) (octets : _) → Fits l u → Fits (record l { inbox = octets }) u
 fits_with l u octets f = record {
-  going = f.going;
-  more = f.more;
-  limit = f.limit;
+  reads = f.reads;
+  unsized = f.unsized;
+  sized = f.sized;
   opening = f.opening;
   between = λ h.
       let k = f.between h in
-      record { held = k.held; limit = k.limit; clear = k.clear; sent = k.sent };
+      record { reads = k.reads; sized = k.sized; held = k.held; clear = k.clear; sent = k.sent };
   many = f.many;
   few = f.few;
   quiet = f.quiet;

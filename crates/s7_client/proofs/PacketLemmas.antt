@@ -18,7 +18,7 @@ use Rattle.s7_dialogue.specs.Flight.{Row, open_count, answers_of, filled}
 use Rattle.s7_dialogue.specs.Dialogue.{Conduct, End, connect_request, fault_end, plan_of}
 use Rattle.s7_dialogue.specs.Course.{Origin, Course, Awaits, for_confirm, for_answers, for_departure, for_nothing, conduct_of, asked_on, asking, with_fault, by_rows, with_message}
 use Rattle.s7_dialogue.specs.Running.{awaited_in, awaited_by, unput_of, unput_by, conduct_in, Reached, Follows, IsOver, IsAsking, IsOpening, IsLeaving, answers_left}
-use Rattle.s7_client.specs.At.{IsAt, IsAwaiting, LeavesOpen, LeavesLink, Settles, Takes, Reaches, messages_left, pending, unfinished_of}
+use Rattle.s7_client.specs.At.{IsAt, IsAwaiting, LeavesOpen, LeavesLink, Reaches, joiner_in, messages_left, pending, size_in, unfinished_of}
 use Rattle.s7_dialogue.proofs.FlightLemmas.{asks_on}
 
 pub asking_awaits : (s : Stage) → IsAsking s → IsAwaiting s
@@ -41,6 +41,13 @@ awaiting_goes_on (stage.Asking a) h over = over
 awaiting_goes_on (stage.Single single) h over = over
 awaiting_goes_on stage.Leaving h over = h
 awaiting_goes_on (stage.Over code leaves) h over = h
+
+pub opening_not_asking : (s : Stage) → IsOpening s → IsAsking s → ⊥
+opening_not_asking stage.Opening h a = a
+opening_not_asking (stage.Asking asked) h a = h
+opening_not_asking (stage.Single single) h a = h
+opening_not_asking stage.Leaving h a = h
+opening_not_asking (stage.Over code leaves) h a = h
 
 pub over_not_opening : (s : Stage) → IsOver s → IsOpening s → ⊥
 over_not_opening stage.Opening over h = over
@@ -109,35 +116,11 @@ over_unput config size job (stage.Over code leaves) h = refl
 -- nothing is to be sent
 pub none_pending : (config : Config) (t : Talk) (r : Running) → t.outbox.unsent ≡ []
     → ((size : ℕ) → unput_of config size r ≡ []) → pending config t r ≡ []
-none_pending config t r sent unput = ap (λ x. x ++ unput_of config t.size r) sent ∙ unput t.size
+none_pending config t r sent unput = ap (λ x. x ++ unput_of config (size_in t) r) sent ∙ unput (size_in t)
 
 pub none_over : (config : Config) (t : Talk) (r : Running) → t.outbox.unsent ≡ [] → IsOver r.stage
     → pending config t r ≡ []
 none_over config t r sent over = none_pending config t r sent (λ size. over_unput config size r.job r.stage over)
-
-settled_by_fault : (config : Config) (code : ℕ) (t : Talk) (u : UnderWay)
-    → awaited_in u.running [] ≡ for_nothing (fault_end code) [] → IsOver u.running.stage → t.outbox.unsent ≡ []
-    → Settles config t u
-settled_by_fault config code t u e over none = record {
-  going = λ h. absurd (h over);
-  none = none;
-  few = omega (arith, ap length (over_unput config t.size u.running.job u.running.stage over));
-  clear = λ h. absurd (closed_stage u.running code e h);
-  opening = λ h. absurd (over_not_opening u.running.stage over h);
-}
-
--- a job that awaited octets is over by a fault
-pub takes_fault : (config : Config) (code : ℕ) (t t' : Talk) (u u' : UnderWay) → IsAwaiting u.running.stage
-    → ((carried : List ℕ) → awaited_in u'.running carried ≡ for_nothing (fault_end code) carried)
-    → IsOver u'.running.stage
-    → t'.outbox.unsent ≡ [] → t'.joiner.count ≤ t.joiner.count → Takes config t u t' u'
-takes_fault config code t t' u u' awaiting e over none count = record {
-  settles = settled_by_fault config code t' u' (e []) over none;
-  many = λ h. omega (arith, h, count);
-  less = λ held least most.
-      let some = awaits_some u.running.stage awaiting in
-      omega (arith, least, most, some, over_none u'.running.stage over);
-}
 
 -- ---- how a job goes on
 
@@ -191,9 +174,9 @@ follows_as r config config' granted granted' rows ec eg f =
 reaches_asked : (origin : Origin) (before here : Course) (t : Talk) (u : UnderWay) (config : Config)
     (granted : Option Grant) (c : Conduct) (last : ℕ)
     → origin.config ≡ config → origin.granted ≡ granted
-    → Reached config granted before (asking c here) u.running last → u.running.job ≡ origin.job → t.size ≡ before.size
-    → t.size ≡ here.size
-    → t.sequence ≡ last → unfinished_of t.joiner ≡ here.unfinished → u.carried.octets ≡ [] → t.outbox.unsent ≡ []
+    → Reached config granted before (asking c here) u.running last → u.running.job ≡ origin.job → size_in t ≡ before.size
+    → size_in t ≡ here.size
+    → t.sequence ≡ last → unfinished_of (joiner_in t) ≡ here.unfinished → u.carried.octets ≡ [] → t.outbox.unsent ≡ []
     → Reaches origin before (asking c here) t u
 reaches_asked origin before here t u config granted c last ec eg h done size size' sequence unfinished silent none =
     let r = u.running in
@@ -215,27 +198,19 @@ reaches_asked origin before here t u config granted c last ec eg h done size siz
           h.out
           ∙ (ap (λ (x : Config). before.out ++ unput_of x before.size r) (sym ec)
           ∙ (ap (λ x. before.out ++ unput_of origin.config x r) (sym size)
-          ∙ ap (λ x. before.out ++ (x ++ unput_of origin.config t.size r)) (sym none)));
+          ∙ ap (λ x. before.out ++ (x ++ unput_of origin.config (size_in t) r)) (sym none)));
     }
 
 pub reached : (origin : Origin) (before here : Course) (t : Talk) (u : UnderWay) (config : Config)
     (granted : Option Grant) (c : Conduct) (last : ℕ)
     → origin.config ≡ config → origin.granted ≡ granted → c ≡ conduct_of origin
-    → Reached config granted before (asking c here) u.running last → u.running.job ≡ origin.job → t.size ≡ before.size
-    → t.size ≡ here.size
-    → t.sequence ≡ last → unfinished_of t.joiner ≡ here.unfinished → u.carried.octets ≡ [] → t.outbox.unsent ≡ []
+    → Reached config granted before (asking c here) u.running last → u.running.job ≡ origin.job → size_in t ≡ before.size
+    → size_in t ≡ here.size
+    → t.sequence ≡ last → unfinished_of (joiner_in t) ≡ here.unfinished → u.carried.octets ≡ [] → t.outbox.unsent ≡ []
     → Reaches origin before (asking (conduct_of origin) here) t u
 reached origin before here t u config granted c last ec eg same h done size size' sequence unfinished silent none =
     subst (λ x. Reaches origin before (asking x here) t u) same
     (reaches_asked origin before here t u config granted c last ec eg h done size size' sequence unfinished silent none)
-
--- what was allowed before is all that counts
-pub reaches_from : (origin : Origin) (before before' course : Course) (t : Talk) (u : UnderWay)
-    → before'.out ≡ before.out → Reaches origin before' course t u → Reaches origin before course t u
-reaches_from origin before before' course t u same r = record {
-  at = r.at;
-  out = r.out ∙ ap (λ o. o ++ pending origin.config t u.running) same;
-}
 
 -- ---- a whole message
 
@@ -268,8 +243,8 @@ pub reached_answer : (origin : Origin) (course : Course) (t t' : Talk) (u u' : U
     → IsAsking u.running.stage → IsAt origin course t u → filled course.rows message ≡ Some rows
     → Reached config granted course (asking (conduct_in u.running config granted) (record course { rows = rows }))
     u'.running last
-    → u'.running.job ≡ u.running.job → u'.carried.octets ≡ u.carried.octets → t'.size ≡ t.size → t'.sequence ≡ last
-    → t'.joiner ≡ t.joiner → t'.outbox.unsent ≡ []
+    → u'.running.job ≡ u.running.job → u'.carried.octets ≡ u.carried.octets → size_in t' ≡ size_in t → t'.sequence ≡ last
+    → joiner_in t' ≡ joiner_in t → t'.outbox.unsent ≡ []
     → Reaches origin course (with_message (conduct_of origin) course whole) t' u'
 reached_answer origin course t t' u u' config granted message whole rows last ec eg same long asks at is h done carried
     size sequence joiner none =
@@ -307,36 +282,31 @@ reached_nothing origin course t u u' message whole same long at is e over done c
 -- ---- the confirm
 
 -- the negotiation is to be asked
-opened : (origin : Origin) (course : Course) (t : Talk) (u : UnderWay) (r : Running) (config : Config)
-    → origin.config ≡ config → IsOpening u.running.stage → IsAt origin course t u
-    → ((plan_of u.running.job config origin.granted).first ≡ connect_request → Follows r config origin.granted [])
-    → Follows r config origin.granted course.rows
-opened origin course t u r config ec opening at follows =
+opened : (origin : Origin) (course : Course) (t : Talk) (u : UnderWay) (r : Running) → IsOpening u.running.stage
+    → IsAt origin course t u
+    → ((plan_of u.running.job origin.config origin.granted).first ≡ connect_request
+    → Follows r origin.config origin.granted [])
+    → Follows r origin.config origin.granted course.rows
+opened origin course t u r opening at follows =
     let h = at.opens opening in
-    let first : (plan_of u.running.job config origin.granted).first ≡ connect_request =
-    ap (λ j. (plan_of j config origin.granted).first) at.job
-    ∙ (ap (λ (k : Config). (plan_of origin.job k origin.granted).first) (sym ec) ∙ h.0) in
-    subst (Follows r config origin.granted) (sym h.1) (follows first)
+    subst (Follows r origin.config origin.granted) (sym h.1)
+    (follows (ap (λ j. (plan_of j origin.config origin.granted).first) at.job ∙ h.0))
 
--- the link has the size that the confirm told, and the negotiation is asked
-pub reached_confirm : (origin : Origin) (course after : Course) (size : ℕ) (t t' : Talk) (u u' : UnderWay)
-    (r : Running) (config : Config) (last : ℕ)
-    → after ≡ asking (conduct_of origin) (record course { size = size }) → origin.config ≡ config
+pub reached_open : (origin : Origin) (course : Course) (t t' : Talk) (u u' : UnderWay) (r : Running) (last : ℕ)
     → IsOpening u.running.stage → IsAt origin course t u
-    → ((plan_of u.running.job config origin.granted).first ≡ connect_request → Follows r config origin.granted [])
-    → ((before : Course) → Follows r config origin.granted before.rows → before.sequence ≡ t.sequence
-    → Reached config origin.granted before (asking (conduct_in r config origin.granted) before) u'.running last)
-    → r.job ≡ u.running.job → u'.running.job ≡ r.job → u'.carried.octets ≡ u.carried.octets → t'.size ≡ size
-    → t'.sequence ≡ last → t'.joiner ≡ t.joiner → t'.outbox.unsent ≡ []
-    → Reaches origin course after t' u'
-reached_confirm origin course after size t t' u u' r config last is ec opening at follows asks done done' carried same
-    sequence joiner none =
-    let here : Course = record course { size = size } in
+    → ((plan_of u.running.job origin.config origin.granted).first ≡ connect_request
+    → Follows r origin.config origin.granted [])
+    → (Follows r origin.config origin.granted course.rows → course.sequence ≡ t.sequence
+    → Reached origin.config origin.granted course (asking (conduct_in r origin.config origin.granted) course)
+    u'.running last)
+    → r.job ≡ u.running.job → u'.running.job ≡ r.job → u'.carried.octets ≡ u.carried.octets
+    → size_in t' ≡ size_in t → joiner_in t' ≡ joiner_in t → t'.sequence ≡ last → t'.outbox.unsent ≡ []
+    → Reaches origin course (asking (conduct_of origin) course) t' u'
+reached_open origin course t t' u u' r last opening at follows asks done done' carried size joiner sequence none =
     let going = awaiting_goes_on u.running.stage (opening_awaits u.running.stage opening) in
-    subst (λ x. Reaches origin course x t' u') (sym is)
-    (reaches_from origin course here (asking (conduct_of origin) here) t' u' refl
-    (reached origin here here t' u' config origin.granted (conduct_in r config origin.granted) last ec refl
-    (conduct_same r.job origin.job config origin.config origin.granted origin.granted (done ∙ at.job) (sym ec) refl)
-    (asks here (opened origin course t u r config ec opening at follows) (sym at.sequence))
-    (done' ∙ (done ∙ at.job)) same same sequence (ap unfinished_of joiner ∙ at.unfinished going)
-    (carried ∙ at.silent going) none))
+    reached origin course course t' u' origin.config origin.granted (conduct_in r origin.config origin.granted) last
+    refl refl
+    (conduct_same r.job origin.job origin.config origin.config origin.granted origin.granted (done ∙ at.job) refl refl)
+    (asks (opened origin course t u r opening at follows) (sym at.sequence))
+    (done' ∙ (done ∙ at.job)) (size ∙ at.size) (size ∙ at.size) sequence
+    (ap unfinished_of joiner ∙ at.unfinished going) (carried ∙ at.silent going) none

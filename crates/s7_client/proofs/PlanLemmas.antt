@@ -1,5 +1,6 @@
 -- Laws of the plans of jobs: how a course stands at what it awaits, and which of them begins with a disconnect request.
-use Rattle.std.proofs.Common.{◌≡◌, ◌≢◌, ◌⊎◌, inl, inr, ℕ, ◌<◌, Bool, true, false, cond, eqb, Option, Some, None, List, [], length, refl, subst, arith}
+use Rattle.std.proofs.Common.{◌≡◌, ◌≢◌, ◌⊎◌, inl, inr, ℕ, ◌<◌, Bool, true, false, cond, eqb, Option, Some, None, List, [], length, refl, ap, subst, arith}
+use Rattle.std.specs.Prelude.{IsSome}
 use Rattle.std.proofs.lemmas.Bool.{eqb-true, eqb-false}
 use Rattle.s7_item.specs.Item.{octet_count}
 use Rattle.s7_dialogue.specs.declared.config.Config.{Config}
@@ -7,10 +8,11 @@ use Rattle.s7_dialogue.specs.declared.grant.Grant.{Grant}
 use Rattle.s7_dialogue.specs.declared.grant.Leaves.TheVariants.{Disconnected}
 use Rattle.s7_dialogue.specs.declared.job.Job.{Job}
 use Rattle.s7_dialogue.specs.declared.job.Job.TheVariants as job
+use Rattle.s7_dialogue.specs.Codes.{not_connected}
 use Rattle.s7_dialogue.specs.Checks.{check_item, check_items, check_moment, check_password, check_image, octet_count_of}
 use Rattle.s7_dialogue.specs.Flight.{Row, answers_of, open_count}
 use Rattle.s7_dialogue.specs.Dialogue.{End, fault_end, number_end, departed_end, First, nothing, connect_request, disconnect_request, Plan, over, connecting_plan, is_connect, connected_plan, plan_of}
-use Rattle.s7_dialogue.specs.Course.{Origin, Course, Awaits, for_confirm, for_answers, for_departure, for_nothing, conduct_of, next_question, asked_on, asking, by_first, blank, begun, course}
+use Rattle.s7_dialogue.specs.Course.{Origin, Course, Awaits, for_confirm, for_answers, for_departure, for_nothing, conduct_of, next_question, asked_on, asking, by_first, begins_anew, blank, begun, course}
 use Rattle.s7_dialogue.proofs.FlightLemmas.{nothing_more, settled_ends, IsEnded, asking_ends}
 use Rattle.s7_dialogue.proofs.RowLemmas.{IsKept, course_kept}
 
@@ -128,3 +130,38 @@ pub plan_leaves : (done : Job) (config : Config) (granted : Option Grant)
     → (done ≡ job.Disconnect) × (departed_end ≡ (plan_of done config granted).conduct.ended [])
 plan_leaves done config None is = absurd (unconnected_leaves (is_connect done) config is)
 plan_leaves done config (Some granted) is = connected_leaves done granted is
+
+-- ---- a connect request goes out first
+
+opens_if : (b : Bool) (plan : Plan) (end : End) → plan.first ≡ nothing
+    → (cond b plan (over end)).first ≡ connect_request
+    → ⊥
+opens_if true plan end asks opens = absurd (cc)
+opens_if false plan end asks opens = absurd (cc)
+
+connected_opens : (done : Job) (granted : Grant) → (connected_plan done granted).first ≡ connect_request → ⊥
+connected_opens (job.ReadArea item) granted is =
+    opens_if (eqb (check_item item true) 0) _ _ refl is
+connected_opens (job.WriteArea item octets) granted is =
+    opens_if (eqb (check_item item (eqb (length octets) (octet_count item))) 0) _ _ refl is
+connected_opens (job.ReadMany items) granted is =
+    opens_if (eqb (check_items items true granted.pdu false) 0) _ _ refl is
+connected_opens (job.WriteMany items octets) granted is =
+    opens_if (eqb (check_items items (eqb (length octets) (octet_count_of items)) granted.pdu true) 0) _ _ refl is
+connected_opens (job.Download image) granted is = opens_if (eqb (check_image image) 0) _ _ refl is
+connected_opens (job.ClockSet moment) granted is = opens_if (eqb (check_moment moment) 0) _ _ refl is
+connected_opens (job.PasswordSet text) granted is = opens_if (eqb (check_password text) 0) _ _ refl is
+connected_opens _ granted is = absurd (cc)
+
+-- only that of a job on a client that isn't connected
+pub plan_opens : (done : Job) (config : Config) (granted : Option Grant) → IsSome granted
+    → (plan_of done config granted).first ≡ connect_request → ⊥
+plan_opens done config None some is = absurd (cc)
+plan_opens done config (Some granted) some is = connected_opens done granted is
+
+-- and of the connect that begins the link anew
+pub plan_anew : (done : Job) (config : Config) (granted : Option Grant) → begins_anew granted done ≡ true
+    → (plan_of done config granted).first ≡ connect_request
+plan_anew done config None anew =
+    ap (λ (b : Bool). (cond b (connecting_plan config) (over (number_end not_connected Disconnected))).first) anew
+plan_anew done config (Some granted) anew = absurd (cc)

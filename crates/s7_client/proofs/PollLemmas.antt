@@ -7,10 +7,11 @@ use Rattle.s7_client.specs.declared.job.Polled.TheVariants as polled
 use Rattle.s7_dialogue.specs.declared.grant.Leaves.{Leaves}
 use Rattle.s7_client.specs.declared.line.Line.{Line}
 use Rattle.s7_client.specs.declared.under_way.UnderWay.{UnderWay}
-use Rattle.s7_client.specs.declared.client.Client.{Client}
+use Rattle.s7_client.specs.declared.connection.Connection.{Connection}
 use Rattle.s7_dialogue.specs.Dialogue.{End}
 use Rattle.s7_dialogue.specs.Running.{awaited_in, IsResult}
 use Rattle.s7_dialogue.specs.Course.{Origin, for_nothing}
+use Rattle.s7_client.specs.At.{size_in}
 use Rattle.s7_client.specs.Standing.{Stands, unread}
 use Rattle.s7_client.specs.Polling.{StandsFor, IsPoll, IsDoneBy, WaitsOnce, RoundGoesOn, RoundEnds, grant_after, closed_after, job_of, waited_of}
 use Rattle.s7_client.proofs.LinkLemmas.{moves_none}
@@ -22,7 +23,7 @@ none_is (Some u) empty e h = absurd (cc)
 none_under : (o : Option UnderWay) (u : UnderWay) → o ≡ None → o ≡ Some u → ⊥
 none_under o u none some = cc
 
-pub poll_idle : (c : Client) (link : Shown) (empty : Bool) → is_some c.job ≡ not empty → empty ≡ true
+pub poll_idle : (c : Connection) (link : Shown) (empty : Bool) → is_some c.job ≡ not empty → empty ≡ true
     → IsPoll c link c link polled.Idle
 poll_idle c link empty e h = record {
   moves = moves_none c.line link;
@@ -35,12 +36,12 @@ pub same_under : (u u' : UnderWay) → Some u ≡ Some u' → u ≡ u'
 same_under u u' e = ap (λ o. unwrap_or o u) e
 
 -- whatever the client stands for, its job's line does
-stands_at : (old : Client) (u : UnderWay) (origin : Origin) (b w : List ℕ) → old.job ≡ Some u
+stands_at : (old : Connection) (u : UnderWay) (origin : Origin) (b w : List ℕ) → old.job ≡ Some u
     → StandsFor old origin b w → Stands origin old.line u b w
 stands_at old u origin b w is s = subst (λ x. Stands origin old.line x b w) (same_under s.under_way u (sym s.is ∙ is))
     s.stands
 
-pub poll_pending : (old new : Client) (u u' : UnderWay) (link link' : Shown) → old.job ≡ Some u → new.job ≡ Some u'
+pub poll_pending : (old new : Connection) (u u' : UnderWay) (link link' : Shown) → old.job ≡ Some u → new.job ≡ Some u'
     → new.config ≡ old.config → new.granted ≡ old.granted → new.is_closed ≡ old.is_closed
     → RoundGoesOn old.line u link new.line u' link' old.config old.granted → IsPoll old link new link' polled.Pending
 poll_pending old new u u' link link' is is' config granted closed r = record {
@@ -74,7 +75,7 @@ poll_pending old new u u' link link' is is' config granted closed r = record {
   );
 }
 
-some_of : (old : Client) (u : UnderWay) → old.job ≡ Some u → IsSome (job_of old)
+some_of : (old : Connection) (u : UnderWay) → old.job ≡ Some u → IsSome (job_of old)
 some_of old u is = subst (λ o. IsSome o) (sym (ap (option_map (λ (x : UnderWay). x.running.job)) is)) refl
 
 done_by : (origin : Origin) (link link' : Shown) (kept : List ℕ) (end : End) (carried b w : List ℕ) (waited : Option ℕ)
@@ -83,13 +84,13 @@ done_by : (origin : Origin) (link link' : Shown) (kept : List ℕ) (end : End) (
 done_by origin link link' kept end carried b w waited n is h =
     subst (IsDoneBy origin link link' kept end carried b w) (sym is) h
 
-pub poll_done : (old new : Client) (u u' : UnderWay) (line : Line) (link link' : Shown) (leaves : Leaves)
+pub poll_done : (old new : Connection) (u u' : UnderWay) (line : Line) (link link' : Shown) (leaves : Leaves)
     (told : JobResult) → old.job ≡ Some u → new.job ≡ None → new.config ≡ old.config
     → new.granted ≡ grant_after leaves old.granted → new.is_closed ≡ closed_after leaves old.is_closed
     → RoundEnds old.line u link line u' link' old.config old.granted
     → ((end : End) → awaited_in u'.running [] ≡ for_nothing end [] → leaves ≡ end.leaves)
     → ((end : End) → awaited_in u'.running [] ≡ for_nothing end [] → IsResult told u'.running.job end u'.carried.octets)
-    → unread new.line ≡ unread line → new.line.talk.size ≡ line.talk.size → new.line.talk.sequence ≡ line.talk.sequence
+    → unread new.line ≡ unread line → size_in new.line.talk ≡ size_in line.talk → new.line.talk.sequence ≡ line.talk.sequence
     → IsPoll old link new link' (polled.Done told)
 poll_done old new u u' line link link' leaves told is none config granted closed r left result inbox size
     sequence = record {

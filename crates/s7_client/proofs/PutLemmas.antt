@@ -1,11 +1,13 @@
 -- Laws of telegrams that are put: nothing more is to be sent than before.
 use Rattle.std.proofs.Common.{◌≡◌, ◌⊎◌, inl, inr, ℕ, zero, suc, ◌+◌, ◌-◌, ◌*◌, ◌<◌, ◌≤◌, min, List, [], ◌++◌, length, ap, sym, ◌∙◌, subst, arith, length-append}
-use Rattle.std.specs.Prelude.{Option}
+use Rattle.std.specs.Prelude.{Option, IsSome}
 use Rattle.std.specs.List.{flat_map}
 use Rattle.s7_outer.specs.Shown.{Shown}
-use Rattle.s7_cotp.specs.Gathered.{is_fault}
+use Rattle.s7_tpkt.specs.Packets.{HoldsRest}
 use Rattle.s7_cotp.specs.Pairs.{pairs_of, pairs_from, fragments_of}
-use Rattle.s7_wire.specs.Bounds.{limit_of_size, most_packets}
+use Rattle.s7_wire.specs.Bounds.{most_packets}
+use Rattle.s7_wire.specs.Reads.{size_at, held_by}
+use Rattle.s7_wire.specs.declared.reader.Reader.{Reader}
 use Rattle.s7_wire.specs.Sent.{fragment_octets, sent_message}
 use Rattle.s7_dialogue.specs.declared.config.Config.{Config}
 use Rattle.s7_dialogue.specs.declared.grant.Grant.{Grant}
@@ -18,10 +20,10 @@ use Rattle.s7_client.specs.declared.under_way.UnderWay.{UnderWay}
 use Rattle.s7_client.specs.declared.steps.Step.{Step}
 use Rattle.s7_dialogue.specs.Flight.{Row}
 use Rattle.s7_dialogue.specs.Running.{awaited_in, unput_of, Follows, IsOver, IsOpening, IsAsking, IsLeaving, answers_left}
-use Rattle.s7_dialogue.specs.Course.{Origin, Course, course}
-use Rattle.s7_client.specs.At.{IsAt, IsClear, LeavesOpen, Puts, messages_left, pending, unfinished_of}
+use Rattle.s7_dialogue.specs.Course.{Origin, Course, course, limits}
+use Rattle.s7_client.specs.At.{IsAt, IsReading, IsClear, LeavesOpen, Puts, joiner_in, messages_left, pending, size_by, size_in, unfinished_of}
 use Rattle.s7_client.specs.Standing.{Stands, Fits, IsBetween, IsStep, unsent}
-use Rattle.s7_client.proofs.PacketLemmas.{asking_awaits, one_is_none, over_not_asking}
+use Rattle.s7_client.proofs.PacketLemmas.{asking_awaits, one_is_none, opening_not_asking, over_not_asking}
 use Rattle.s7_client.proofs.StepLemmas.{left_over}
 
 -- the stage is the same, or both ask
@@ -39,13 +41,6 @@ back P apart s s' (inr a) h = absurd (apart s' h a.1)
 forth : (P : Stage → Type 0) → ((s : Stage) → P s → IsAsking s → ⊥) → (s s' : Stage) → AreAlike s s' → P s → P s'
 forth P apart s s' (inl e) h = subst P (sym e) h
 forth P apart s s' (inr a) h = absurd (apart s h a.0)
-
-opening_not_asking : (s : Stage) → IsOpening s → IsAsking s → ⊥
-opening_not_asking stage.Opening h a = a
-opening_not_asking (stage.Asking asked) h a = h
-opening_not_asking (stage.Single single) h a = h
-opening_not_asking stage.Leaving h a = h
-opening_not_asking (stage.Over code leaves) h a = h
 
 leaving_not_asking : (s : Stage) → IsLeaving s → IsAsking s → ⊥
 leaving_not_asking stage.Opening h a = h
@@ -68,6 +63,9 @@ same_messages s s' (inr a) same =
 
 -- ---- where the client stands
 
+put_size : (config : Config) (t t' : Talk) (r r' : Running) → Puts config t r t' r' → size_in t' ≡ size_in t
+put_size config t t' r r' p = ap size_by p.reader
+
 at_put : (origin : Origin) (c : Course) (t t' : Talk) (u : UnderWay) (r : Running) (config : Config)
     → origin.config ≡ config → Puts config t u.running t' r → IsAt origin c t u
     → IsAt origin c t' (record u { running = r })
@@ -76,9 +74,9 @@ at_put origin c t t' u r config ec p at =
     let same = alike config t t' u.running r p in
     record {
       job = p.job ∙ at.job;
-      size = p.size ∙ at.size;
+      size = put_size config t t' u.running r p ∙ at.size;
       sequence = p.sequence ∙ at.sequence;
-      unfinished = λ h. ap unfinished_of p.joiner
+      unfinished = λ h. ap (λ (x : Reader). unfinished_of x.transport.joiner) p.reader
           ∙ at.unfinished (λ o. h (forth IsOver over_not_asking s r.stage same o));
       awaits = at.awaits ∙ sym (p.awaits u.carried.octets);
       opens = λ h. at.opens (back IsOpening opening_not_asking s r.stage same h);
@@ -97,8 +95,8 @@ stands_put origin l t u r b w config ec p s = record {
   at = at_put origin (course origin b) l.talk t u r config ec p s.at;
   owed = s.owed ∙ ap (λ x. w ++ x)
       (sym (subst (λ (k : Config). pending k t r ≡ pending k l.talk u.running) (sym ec) p.pending));
-  rest = λ h. s.rest (λ o. h
-      (forth IsOver over_not_asking u.running.stage r.stage (alike config l.talk t u.running r p) o));
+  rest = λ h. subst (λ (x : Reader). HoldsRest (limits origin) b x.cutter) (sym p.reader) (s.rest (λ o. h
+      (forth IsOver over_not_asking u.running.stage r.stage (alike config l.talk t u.running r p) o)));
   sent_first = s.sent_first;
   all_awaited = s.all_awaited;
 }
@@ -108,9 +106,10 @@ stands_put origin l t u r b w config ec p s = record {
 between_put : (config : Config) (l : Line) (t : Talk) (r r' : Running) → Puts config l.talk r t r' → IsBetween l
     → t.outbox.unsent ≡ unsent l → IsBetween (record l { talk = t })
 between_put config l t r r' p h same = record {
-  held = h.held;
-  limit = h.limit ∙ ap limit_of_size (sym p.size);
-  clear = subst IsClear (sym p.joiner) h.clear;
+  reads = subst IsReading (sym p.reader) h.reads;
+  sized = subst (λ (x : Reader). IsSome (size_at x)) (sym p.reader) h.sized;
+  held = ap held_by p.reader ∙ h.held;
+  clear = subst (λ (x : Reader). IsClear x.transport.joiner) (sym p.reader) h.clear;
   sent = same ∙ h.sent;
 }
 
@@ -127,15 +126,17 @@ fits_put config l t u r p f =
     let same = alike config l.talk t u.running r p in
     let going : (IsOver r.stage → ⊥) → IsOver s → ⊥ = λ h o. h (forth IsOver over_not_asking s r.stage same o) in
     record {
-      going = λ h. ap (λ x. is_fault x.state) p.joiner ∙ f.going (going h);
-      more = λ h. f.more (going h);
-      limit = λ h. f.limit (going h);
-      opening = λ h. subst IsClear (sym p.joiner) (f.opening (back IsOpening opening_not_asking s r.stage same h));
+      reads = λ h. subst IsReading (sym p.reader) (f.reads (going h));
+      unsized = λ h. ap size_at p.reader ∙ f.unsized (back IsOpening opening_not_asking s r.stage same h);
+      sized = λ h before. subst (λ (x : Reader). IsSome (size_at x)) (sym p.reader)
+          (f.sized (going h) (λ o. before (forth IsOpening opening_not_asking s r.stage same o)));
+      opening = λ h. subst (λ (x : Reader). IsClear x.transport.joiner) (sym p.reader)
+          (f.opening (back IsOpening opening_not_asking s r.stage same h));
       between = λ h.
           let over = left_over r.stage h in
           between_put config l t u.running r p (f.between (back LeavesOpen open_not_asking s r.stage same h))
           (unsent_by config l.talk t u.running r p.same over);
-      many = λ h. omega (arith, f.many (going h), ap (λ x. x.count) p.joiner);
+      many = λ h. omega (arith, f.many (going h), ap (λ (x : Reader). x.transport.joiner.count) p.reader);
       few = p.few f.few;
       quiet = λ h. unsent_by config l.talk t u.running r p.same h
           ∙ f.quiet (back IsOver over_not_asking s r.stage same h);
@@ -144,10 +145,10 @@ fits_put config l t u r p f =
 
 -- ---- a step after it
 
-less_put : (n n' count count' held out out' now : ℕ) → n' ≡ n → count' ≡ count → out' ≡ out
-    → now < (n' * 533000 - (count' * 8200 + held)) * 16384 + out'
+less_put : (n n' count count' held held' out out' now : ℕ) → n' ≡ n → count' ≡ count → held' ≡ held → out' ≡ out
+    → now < (n' * 533000 - (count' * 8200 + held')) * 16384 + out'
     → now < (n * 533000 - (count * 8200 + held)) * 16384 + out
-less_put n n' count count' held out out' now a b c h = omega (arith, a, b, c, h)
+less_put n n' count count' held held' out out' now a b c d h = omega (arith, a, b, c, d, h)
 
 pub step_put : (l l' : Line) (t : Talk) (u u' : UnderWay) (r : Running) (link link' : Shown) (config : Config)
     (granted : Option Grant) (result : Step) → Puts config l.talk u.running t r
@@ -160,11 +161,12 @@ step_put l l' t u u' r link link' config granted result p k = record {
   waited = k.waited;
   stood = λ origin b w ec eg s h. k.stood origin b w ec eg (stands_put origin l t u r b w config ec p s) h;
   orderly = λ origin b w ec eg s. k.orderly origin b w ec eg (stands_put origin l t u r b w config ec p s);
-  less = λ e. less_put (messages_left u.running.stage) (messages_left r.stage) l.talk.joiner.count t.joiner.count
-      (length l.cutter.held)
+  less = λ e. less_put (messages_left u.running.stage) (messages_left r.stage) (joiner_in l.talk).count
+      (joiner_in t).count (length (held_by l.talk.reader)) (length (held_by t.reader))
       (length (pending config l.talk u.running)) (length (pending config t r)) _
       (same_messages u.running.stage r.stage (alike config l.talk t u.running r p) p.as_many)
-      (ap (λ x. x.count) p.joiner) (ap length p.pending) (k.less e);
+      (ap (λ (x : Reader). x.transport.joiner.count) p.reader) (ap (λ (x : Reader). length (held_by x)) p.reader)
+      (ap length p.pending) (k.less e);
   not_yet = k.not_yet;
   met = λ origin b w ec eg s e. k.met origin b w ec eg (stands_put origin l t u r b w config ec p s) e;
   over = k.over;
@@ -193,26 +195,27 @@ sent_some message size =
     some_fragments (fragments_of n room) room 0 n message (omega arith)
 
 pub puts_telegram : (config : Config) (t t' : Talk) (r r' : Running) (message : List ℕ) → t.outbox.unsent ≡ []
-    → t'.outbox.unsent ≡ sent_message t.size message
-    → length (sent_message t.size message) ≤ most_packets
+    → t'.outbox.unsent ≡ sent_message (size_in t) message
+    → length (sent_message (size_in t) message) ≤ most_packets
     → ((size : ℕ) → unput_of config size r ≡ sent_message size message ++ unput_of config size r') → IsAsking r.stage
     → IsAsking r'.stage
-    → t'.size ≡ t.size → t'.sequence ≡ t.sequence → t'.joiner ≡ t.joiner
+    → t'.reader ≡ t.reader → t'.sequence ≡ t.sequence
     → ((granted : Option Grant) (rows : List Row) → Follows r config granted rows → Follows r' config granted rows)
     → ((carried : List ℕ) → awaited_in r' carried ≡ awaited_in r carried)
     → answers_left r'.stage ≡ answers_left r.stage → r'.job ≡ r.job
     → Puts config t r t' r'
-puts_telegram config t t' r r' message none put few unput asks asks' size sequence joiner follows awaits as_many
-    done = record {
+puts_telegram config t t' r r' message none put few unput asks asks' reader sequence follows awaits as_many
+    done =
+    let size : size_in t' ≡ size_in t = ap size_by reader in
+    record {
       pending =
-          ap (λ x. x ++ unput_of config t'.size r') put
-          ∙ (ap (λ n. sent_message t.size message ++ unput_of config n r') size
-          ∙ (sym (unput t.size) ∙ ap (λ x. x ++ unput_of config t.size r) (sym none)));
-      none = λ empty. absurd (omega (arith, ap length (sym put ∙ empty), sent_some message t.size));
+          ap (λ x. x ++ unput_of config (size_in t') r') put
+          ∙ (ap (λ n. sent_message (size_in t) message ++ unput_of config n r') size
+          ∙ (sym (unput (size_in t)) ∙ ap (λ x. x ++ unput_of config (size_in t) r) (sym none)));
+      none = λ empty. absurd (omega (arith, ap length (sym put ∙ empty), sent_some message (size_in t)));
       few = λ h. omega (arith, few, ap length put);
-      size = size;
+      reader = reader;
       sequence = sequence;
-      joiner = joiner;
       same = inr (asks, asks');
       follows = follows;
       awaits = awaits;

@@ -172,9 +172,9 @@ still_under_way origin l u b w s going = record {
 
 fits_waited : (l : Line) (u : UnderWay) (n : _) → Fits l u → Fits l (record u { waited = n })
 fits_waited l u n f = record {
-  going = f.going;
-  more = f.more;
-  limit = f.limit;
+  reads = f.reads;
+  unsized = f.unsized;
+  sized = f.sized;
   opening = f.opening;
   between = f.between;
   many = f.many;

@@ -13,7 +13,7 @@ use Rattle.s7_dialogue.specs.declared.job.Job.TheVariants as job
 use Rattle.s7_dialogue.specs.declared.job.JobResult.{JobResult}
 use Rattle.s7_client.specs.declared.job.Polled.TheVariants as polled
 use Rattle.s7_client.specs.declared.under_way.UnderWay.{UnderWay}
-use Rattle.s7_client.specs.declared.client.Client.{Client}
+use Rattle.s7_client.specs.declared.connection.Connection.{Connection}
 use Rattle.s7_dialogue.specs.Dialogue.{End, fault_end}
 use Rattle.s7_client.specs.Form.{HasForm, IsWhole}
 use Rattle.s7_dialogue.specs.Running.{IsGrant}
@@ -39,20 +39,20 @@ waits_more (Some m) (Some k) n polls e h =
     let same : m ≡ n = ap (λ x. unwrap_or x 0) e in
     (ap Some (h.0 ∙ ap (λ x. x + 1) same), omega (arith, h.0, h.1, same))
 
-pub fewer_polls : (old new : Client) (n : ℕ) → waited_of old ≡ Some n → new.config ≡ old.config
+pub fewer_polls : (old new : Connection) (n : ℕ) → waited_of old ≡ Some n → new.config ≡ old.config
     → WaitsOnce (waited_of old) (waited_of new) (config_of old).polls
     → (config_of new).polls - unwrap_or (waited_of new) 0 < (config_of old).polls - unwrap_or (waited_of old) 0
 fewer_polls old new n e config h =
     let k = waits_more (waited_of old) (waited_of new) n (config_of old).polls e h in
     omega (arith, ap (λ (x : Config). x.polls) config, ap (λ x. unwrap_or x 0) k.0, k.1, ap (λ x. unwrap_or x 0) e)
 
-stands_joined : (c : Client) (origin : Origin) (b w x y x' y' : List ℕ)
+stands_joined : (c : Connection) (origin : Origin) (b w x y x' y' : List ℕ)
     → StandsFor c origin ((b ++ x) ++ x') ((w ++ y) ++ y') → StandsFor c origin (b ++ (x ++ x')) (w ++ (y ++ y'))
 stands_joined c origin b w x y x' y' s =
     subst (λ z. StandsFor c origin z (w ++ (y ++ y'))) (append_assoc b x x')
     (subst (λ z. StandsFor c origin ((b ++ x) ++ x') z) (append_assoc w y y') s)
 
-pub awaits_none : (c : Client) (link : Shown) → waited_of c ≡ Some 0 → StillWaits c link c link
+pub awaits_none : (c : Connection) (link : Shown) → waited_of c ≡ Some 0 → StillWaits c link c link
 unfolding moves_none moves_received
 awaits_none c link e = record {
   moves = moves_none c.line link;
@@ -70,7 +70,7 @@ awaits_none c link e = record {
 rises : (n a b c : ℕ) → RoseBy n a b → Rose b c → RoseBy (n + 1) a c
 rises n a b c h k = omega (arith, h, k)
 
-pub awaits_on : (old c c2 : Client) (k k1 k2 : Shown) → StillWaits old k c k1 → IsPoll c k1 c2 k2 polled.Pending
+pub awaits_on : (old c c2 : Connection) (k k1 k2 : Shown) → StillWaits old k c k1 → IsPoll c k1 c2 k2 polled.Pending
     → StillWaits old k c2 k2
 unfolding moves_both
 awaits_on old c c2 k k1 k2 m p =
@@ -89,14 +89,14 @@ awaits_on old c c2 k k1 k2 m p =
           (p.comes.1 origin (b ++ m.moves.used) (w ++ m.moves.written) (m.stood origin b w s)).stands;
     }
 
-over_joined : (origin : Origin) (k k2 : Shown) (old new : Client) (told : JobResult) (b w x y x' y' : List ℕ)
+over_joined : (origin : Origin) (k k2 : Shown) (old new : Connection) (told : JobResult) (b w x y x' y' : List ℕ)
     → IsOverNow origin k k2 old new told ((b ++ x) ++ x') ((w ++ y) ++ y')
     → IsOverNow origin k k2 old new told (b ++ (x ++ x')) (w ++ (y ++ y'))
 over_joined origin k k2 old new told b w x y x' y' s =
     subst (λ z. IsOverNow origin k k2 old new told z (w ++ (y ++ y'))) (append_assoc b x x')
     (subst (λ z. IsOverNow origin k k2 old new told ((b ++ x) ++ x') z) (append_assoc w y y') s)
 
-cause_now : (origin : Origin) (k k1 k2 : Shown) (c c2 : Client) (end : End) (carried b w : List ℕ) (n : ℕ)
+cause_now : (origin : Origin) (k k1 k2 : Shown) (c c2 : Connection) (end : End) (carried b w : List ℕ) (n : ℕ)
     → k.faults ≤ k1.faults → RoseBy n k.waits k1.waits → waited_of c ≡ Some n → 1 ≤ origin.config.polls
     → IsDoneBy origin k1 k2 (unread_of c2) end carried b w (waited_of c)
     → HasCause origin k k2 (unread_of c2) end carried b w ⊎ IsTired origin k k2 (unread_of c2) end carried b w
@@ -112,7 +112,7 @@ cause_now origin k k1 k2 c c2 end carried b w n faults rose waited least (inr h)
     })
 
 -- the last poll, after polls that raised the waits so often
-done_now : (origin : Origin) (k k1 k2 : Shown) (old c c2 : Client) (told : JobResult) (b w : List ℕ) (n : ℕ)
+done_now : (origin : Origin) (k k1 k2 : Shown) (old c c2 : Connection) (told : JobResult) (b w : List ℕ) (n : ℕ)
     → k.faults ≤ k1.faults → RoseBy n k.waits k1.waits → waited_of c ≡ Some n
     → grant_of c ≡ grant_of old → closed_of c ≡ closed_of old → 1 ≤ origin.config.polls
     → IsDone origin k1 k2 c c2 told b w → IsOverNow origin k k2 old c2 told b w
@@ -127,7 +127,7 @@ done_now origin k k1 k2 old c c2 told b w n faults rose waited granted closed le
   sequence = h.sequence;
 }
 
-pub completes_now : (old c c2 : Client) (k k1 k2 : Shown) (told : JobResult) → StillWaits old k c k1
+pub completes_now : (old c c2 : Connection) (k k1 k2 : Shown) (told : JobResult) → StillWaits old k c k1
     → IsPoll c k1 c2 k2 (polled.Done told) → Completes old k c2 k2 told
 unfolding moves_both
 completes_now old c c2 k k1 k2 told m p = record {
@@ -188,7 +188,7 @@ granted_enough o h g is = (h g is).least
 
 -- ---- from the start
 
-pub runs_whole : (old mid new : Client) (link link' : Shown) (asked : Job) (told : JobResult) → IsStarted old mid asked
+pub runs_whole : (old mid new : Connection) (link link' : Shown) (asked : Job) (told : JobResult) → IsStarted old mid asked
     → Completes mid link new link' told
     → JobRun (config_of old) (between_of old) asked link link' told (between_of new)
 runs_whole old mid new link link' asked told s k =
@@ -225,5 +225,5 @@ none_some : (o : Option Job) → IsSome o → o ≡ None → ⊥
 none_some None h e = cc
 none_some (Some x) h e = cc
 
-pub none_awaited : (c : Client) → IsSome (job_of c) → job_of c ≡ None → ⊥
+pub none_awaited : (c : Connection) → IsSome (job_of c) → job_of c ≡ None → ⊥
 none_awaited c some none = none_some (job_of c) some none

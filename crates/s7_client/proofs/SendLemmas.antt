@@ -1,13 +1,14 @@
 -- Laws of octets that are sent, and of jobs that are over once they are.
 use Rattle.std.proofs.Common.{◌≡◌, inl, inr, ℕ, ◌+◌, ◌-◌, ◌*◌, ◌<◌, ◌≤◌, List, [], ◌++◌, length, refl, ap, sym, ◌∙◌, subst, append_assoc, arith, length-append}
-use Rattle.std.specs.Prelude.{Option, None, Some, unwrap_or, option_map, IfSome, ◌↔◌}
+use Rattle.std.specs.Prelude.{Option, None, Some, IsSome, unwrap_or, option_map, IfSome, ◌↔◌}
 use Rattle.std.proofs.lemmas.List.{append-nil}
 use Rattle.std.specs.Io.KnownBytes.{append_known}
 use Rattle.s7_outer.specs.Shown.{Shown}
 use Rattle.s7_outer.specs.Count.{Rose}
 use Rattle.s7_outer.specs.declared.link.Sent.TheVariants as sent
-use Rattle.s7_tpkt.specs.Packets.{HoldsRest, state_of}
-use Rattle.s7_cotp.specs.Gathered.{is_fault}
+use Rattle.s7_tpkt.specs.Packets.{HoldsRest}
+use Rattle.s7_wire.specs.Reads.{size_at, held_by}
+use Rattle.s7_wire.specs.declared.reader.Reader.{Reader}
 use Rattle.s7_dialogue.specs.declared.config.Config.{Config}
 use Rattle.s7_dialogue.specs.declared.grant.Grant.{Grant}
 use Rattle.s7_dialogue.specs.declared.running.Stage.{Stage}
@@ -19,7 +20,7 @@ use Rattle.s7_dialogue.specs.Codes.{send_failed}
 use Rattle.s7_dialogue.specs.Dialogue.{End, fault_end, departed_end}
 use Rattle.s7_dialogue.specs.Running.{awaited_in, awaited_by, unput_of, IsOver, IsLeaving}
 use Rattle.s7_dialogue.specs.Course.{Origin, Course, for_departure, for_nothing, course, may_send, limits}
-use Rattle.s7_client.specs.At.{IsAt, IsClear, budget, pending, unfinished_of}
+use Rattle.s7_client.specs.At.{IsAt, IsReading, IsClear, budget, pending, joiner_in, size_by, size_in, unfinished_of}
 use Rattle.s7_client.specs.Standing.{Stands, Fits, IsStep, unread, unsent}
 use Rattle.s7_client.proofs.PlanLemmas.{plan_leaves}
 use Rattle.s7_client.proofs.PacketLemmas.{closed_stage, left_by, none_over}
@@ -31,20 +32,21 @@ use Rattle.s7_client.proofs.LinkLemmas.{went_not_yet, went_not_over, not_yet_not
 
 -- only what is to be sent changed
 pub record Sends (l l' : Line) (written : List ℕ) : Type 0 where
-  pub cutter : l'.cutter ≡ l.cutter
+  pub reader : l'.talk.reader ≡ l.talk.reader
   pub inbox : unread l ≡ unread l'
-  pub joiner : l'.talk.joiner ≡ l.talk.joiner
-  pub size : l'.talk.size ≡ l.talk.size
   pub sequence : l'.talk.sequence ≡ l.talk.sequence
   pub out : unsent l ≡ written ++ unsent l'
+
+same_size : (l l' : Line) (written : List ℕ) → Sends l l' written → size_in l'.talk ≡ size_in l.talk
+same_size l l' written k = ap size_by k.reader
 
 at_sent : (origin : Origin) (c : Course) (l l' : Line) (u : UnderWay) (written : List ℕ) → Sends l l' written
     → IsAt origin c l.talk u → IsAt origin c l'.talk u
 at_sent origin c l l' u written k at = record {
   job = at.job;
-  size = k.size ∙ at.size;
+  size = same_size l l' written k ∙ at.size;
   sequence = k.sequence ∙ at.sequence;
-  unfinished = λ h. ap unfinished_of k.joiner ∙ at.unfinished h;
+  unfinished = λ h. ap (λ (r : Reader). unfinished_of r.transport.joiner) k.reader ∙ at.unfinished h;
   awaits = at.awaits;
   opens = at.opens;
   follows = at.follows;
@@ -56,12 +58,13 @@ pending_sent : (config : Config) (l l' : Line) (u : UnderWay) (written : List �
     → pending config l.talk u.running ≡ written ++ pending config l'.talk u.running
 pending_sent config l l' u written k =
     let unput : ℕ → List ℕ = λ n. unput_of config n u.running in
-    ap (λ x. x ++ unput l.talk.size) k.out
-    ∙ (append_assoc written (unsent l') (unput l.talk.size) ∙ ap (λ n. written ++ (unsent l' ++ unput n)) (sym k.size))
+    ap (λ x. x ++ unput (size_in l.talk)) k.out
+    ∙ (append_assoc written (unsent l') (unput (size_in l.talk))
+    ∙ ap (λ n. written ++ (unsent l' ++ unput n)) (sym (same_size l l' written k)))
 
 pub some_pending : (config : Config) (l : Line) (u : UnderWay) → 0 < length (unsent l)
     → 0 < length (pending config l.talk u.running)
-some_pending config l u some = omega (arith, some, length-append (unsent l) (unput_of config l.talk.size u.running))
+some_pending config l u some = omega (arith, some, length-append (unsent l) (unput_of config (size_in l.talk) u.running))
 
 stands_sent : (origin : Origin) (l l' : Line) (u : UnderWay) (b w written : List ℕ) → Sends l l' written
     → Stands origin l u b w → Stands origin l' u b (w ++ written)
@@ -69,7 +72,7 @@ stands_sent origin l l' u b w written k s = record {
   at = at_sent origin (course origin b) l l' u written k s.at;
   owed = s.owed ∙ (ap (λ x. w ++ x) (pending_sent origin.config l l' u written k)
       ∙ sym (append_assoc w written (pending origin.config l'.talk u.running)));
-  rest = λ h. subst (λ x. HoldsRest (limits origin) b x) (sym k.cutter) (s.rest h);
+  rest = λ h. subst (λ (r : Reader). HoldsRest (limits origin) b r.cutter) (sym k.reader) (s.rest h);
   sent_first = λ front rest e some. prefix_on (may_send origin front) w written (s.sent_first front rest e some);
   all_awaited = s.all_awaited;
 }
@@ -77,12 +80,12 @@ stands_sent origin l l' u b w written k s = record {
 fits_sent : (l l' : Line) (u : UnderWay) (written : List ℕ) → Sends l l' written → Fits l u
     → 0 < length (unsent l) → Fits l' u
 fits_sent l l' u written k f some = record {
-  going = λ h. ap (λ x. is_fault x.state) k.joiner ∙ f.going h;
-  more = λ h. ap (λ x. state_of x.limit x.held) k.cutter ∙ f.more h;
-  limit = λ h. omega (arith, f.limit h, ap (λ x. x.limit) k.cutter);
-  opening = λ h. subst IsClear (sym k.joiner) (f.opening h);
+  reads = λ h. subst IsReading (sym k.reader) (f.reads h);
+  unsized = λ h. ap size_at k.reader ∙ f.unsized h;
+  sized = λ h before. subst (λ (r : Reader). IsSome (size_at r)) (sym k.reader) (f.sized h before);
+  opening = λ h. subst (λ (r : Reader). IsClear r.transport.joiner) (sym k.reader) (f.opening h);
   between = λ h. absurd (some_not_none (unsent l) some (f.between h).sent);
-  many = λ h. omega (arith, f.many h, ap (λ x. x.count) k.joiner);
+  many = λ h. omega (arith, f.many h, ap (λ (r : Reader). r.transport.joiner.count) k.reader);
   few = omega (arith, f.few, ap length k.out, length-append written (unsent l'));
   quiet = λ h. absurd (some_not_none (unsent l) some (f.quiet h));
   carried = f.carried;
@@ -108,10 +111,10 @@ step_sent l l' u link link' written config granted fits some k sent wrote space 
   stood = λ origin b w ec eg s h. subst (λ x. Stands origin l' u x (w ++ written)) (sym (append-nil b))
       (stands_sent origin l l' u b w written k s);
   orderly = λ origin b w ec eg s. orderly_sent origin (unread l) b w _ sent refl refl;
-  less = λ e. less_sent u.running.stage l.talk.joiner.count l'.talk.joiner.count (length l.cutter.held)
-      (length l'.cutter.held)
+  less = λ e. less_sent u.running.stage (joiner_in l.talk).count (joiner_in l'.talk).count
+      (length (held_by l.talk.reader)) (length (held_by l'.talk.reader))
       (length (pending config l.talk u.running)) (length (pending config l'.talk u.running)) (length written)
-      (ap (λ x. x.count) k.joiner) (ap (λ x. length x.held) k.cutter)
+      (ap (λ (r : Reader). r.transport.joiner.count) k.reader) (ap (λ (r : Reader). length (held_by r)) k.reader)
       (ap length (pending_sent config l l' u written k) ∙ length-append written (pending config l'.talk u.running))
       sent;
   not_yet = λ e. absurd (went_not_yet e);
@@ -186,7 +189,7 @@ step_unsent l l' u u' link link' config granted fits some k wrote space same fau
         ends_as = e [];
         carries = ap (λ x. x.octets) carried ∙ s.at.silent (λ h'. some_not_none (unsent l) some (fits.quiet h'));
         job = job ∙ s.at.job;
-        size = k.size ∙ s.at.size;
+        size = same_size l l' [] k ∙ s.at.size;
         sequence = k.sequence ∙ s.at.sequence;
         cause = inr (inr (inr
             (inr (record {

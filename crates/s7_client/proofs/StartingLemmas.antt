@@ -1,8 +1,13 @@
 -- Laws of jobs that are started.
-use Rattle.std.proofs.Common.{◌≡◌, ℕ, ◌<◌, Bool, false, List, [], ◌++◌, length, length-append, refl, ap, sym, ◌∙◌, subst, arith}
-use Rattle.std.specs.Prelude.{Option, None, Some, IsSome, if◌then◌else◌, option_map}
-use Rattle.s7_cotp.specs.Gathered.{Gathered, is_fault}
-use Rattle.s7_cotp.specs.Messages.{open_octets}
+use Rattle.std.proofs.Common.{◌≡◌, ℕ, ◌<◌, Bool, true, false, List, [], ◌++◌, length, length-append, refl, ap, sym, ◌∙◌, subst, arith}
+use Rattle.std.specs.Prelude.{Option, None, Some, IsSome, if◌then◌else◌, option_map, unwrap_or}
+use Rattle.s7_cotp.specs.Gathered.{Gathered}
+use Rattle.s7_tpkt.specs.Packets.{packets_of, rest_of}
+use Rattle.s7_wire.specs.Reading.{Progress, start, reading}
+use Rattle.s7_wire.specs.Reads.{HasRead, opens_by, ended_with, size_at, held_by}
+use Rattle.s7_wire.specs.declared.found.Opening.{Opening}
+use Rattle.s7_wire.specs.declared.found.Opening.TheVariants.{Confirm}
+use Rattle.s7_wire.specs.declared.reader.Reader.{Reader}
 use Rattle.s7_dialogue.specs.declared.config.Config.{Config}
 use Rattle.s7_dialogue.specs.declared.job.Job.{Job}
 use Rattle.s7_dialogue.specs.declared.job.Job.TheVariants as job
@@ -14,18 +19,20 @@ use Rattle.s7_dialogue.specs.declared.running.Running.{Running}
 use Rattle.s7_client.specs.declared.talk.Talk.{Talk}
 use Rattle.s7_client.specs.declared.line.Line.{Line}
 use Rattle.s7_client.specs.declared.under_way.UnderWay.{UnderWay}
-use Rattle.s7_client.specs.declared.client.Client.{Client}
+use Rattle.s7_client.specs.declared.connection.Connection.{Connection}
 use Rattle.s7_dialogue.specs.Codes.{not_connected}
-use Rattle.s7_dialogue.specs.Dialogue.{End, First, nothing, connect_request, disconnect_request, number_end, over, plan_of}
-use Rattle.s7_dialogue.specs.Running.{awaited_in, awaited_by, Begins, IsOver}
-use Rattle.s7_dialogue.specs.Course.{Origin, for_nothing, begun, by_first, blank, conduct_of, limits, begins_anew, size_at, sequence_at, nothing_unfinished}
-use Rattle.s7_client.specs.At.{IsAt, IsClear, LeavesOpen, StartsAt, BeginsTalk, limit_at, unfinished_of}
-use Rattle.s7_client.specs.Standing.{Fits, unread}
-use Rattle.s7_client.specs.Polling.{IsStarted, IsNew, IsBlank, BeginsLine, origin_at}
+use Rattle.s7_dialogue.specs.Dialogue.{End, First, nothing, connect_request, disconnect_request, number_end, Plan, over, plan_of}
+use Rattle.s7_dialogue.specs.Running.{awaited_in, awaited_by, Begins, BeginsAt, IsOver, IsOpening}
+use Rattle.s7_dialogue.specs.Course.{Origin, for_nothing, begun, by_first, blank, conduct_of, limits, begins_anew, size_at as size_of_link, sequence_at, nothing_unfinished}
+use Rattle.s7_client.specs.At.{IsAt, IsReading, IsClear, LeavesOpen, StartsAt, BeginsTalk, joiner_in, size_in, unfinished_of}
+use Rattle.s7_client.specs.Standing.{Fits, IsBetween, unread, unsent}
+use Rattle.s7_client.specs.Polling.{IsStarted, IsNew, IsBlank, origin_at}
 use Rattle.s7_dialogue.proofs.FlightLemmas.{asks_on}
 use Rattle.s7_client.proofs.BeginLemmas.{begun_by, silent_asked}
 use Rattle.s7_client.proofs.PacketLemmas.{left_by, over_not_opening}
-use Rattle.s7_client.proofs.StepLemmas.{limit_here}
+use Rattle.s7_client.proofs.PlanLemmas.{plan_opens, plan_anew}
+use Rattle.s7_client.proofs.StepLemmas.{clear_as, left_over, limit_here}
+use Rattle.s7_client.proofs.TurnLemmas.{limit_read}
 use Rattle.s7_client.proofs.CourseLemmas.{course_nothing, holds_nothing}
 
 -- ---- the beginning of a course
@@ -43,7 +50,7 @@ begun_unfinished origin = first_unfinished origin (plan_of origin.job origin.con
 -- the client stands at the beginning of the course
 begun_at : (origin : Origin) (l : Line) (u : UnderWay) → u.running.job ≡ origin.job → IsBlank u
     → StartsAt origin (begun origin) l.talk u.running
-    → ((IsOver u.running.stage → ⊥) → unfinished_of l.talk.joiner ≡ nothing_unfinished)
+    → ((IsOver u.running.stage → ⊥) → unfinished_of (joiner_in l.talk) ≡ nothing_unfinished)
     → IsAt origin (begun origin) l.talk u
 begun_at origin l u done blank_ starts unfinished = record {
   job = done;
@@ -60,19 +67,30 @@ begun_at origin l u done blank_ starts unfinished = record {
 none_in_nothing : (front rest : List ℕ) → [] ≡ front ++ rest → 0 < length rest → ⊥
 none_in_nothing front rest e some = omega (arith, ap length e, length-append front rest, some)
 
+-- the link is between two messages where a job begins, and its confirm has come but where it is awaited
+pub record IsReady (t : Talk) (s : Stage) : Type 0 where
+  pub reads : IsReading t.reader
+  pub held : held_by t.reader ≡ []
+  pub clear : IsClear (joiner_in t)
+  pub unsized : IsOpening s → size_at t.reader ≡ None
+  pub sized : (IsOpening s → ⊥) → IsSome (size_at t.reader)
+
+none_unfinished : (j : Gathered) → IsClear j → unfinished_of j ≡ nothing_unfinished
+none_unfinished j h = ap (λ o. record { octets = o; count = j.count }) h.octets
+    ∙ ap (λ n. record { octets = []; count = n }) h.count
+
 -- a job was started
-started : (old new : Client) (done : Job) (u : UnderWay) → new.job ≡ Some u → u.running.job ≡ done → IsBlank u
+started : (old new : Connection) (done : Job) (u : UnderWay) → new.job ≡ Some u → u.running.job ≡ done → IsBlank u
     → StartsAt (origin_at old done) (begun (origin_at old done)) new.line.talk u.running
     → new.config ≡ old.config → new.granted ≡ old.granted
     → unread new.line ≡ (if begins_anew old.granted done then [] else unread old.line)
     → new.is_closed ≡ (if begins_anew old.granted done then false else old.is_closed)
-    → ((IsOver u.running.stage → ⊥) → unfinished_of new.line.talk.joiner ≡ nothing_unfinished)
-    → ((IsOver u.running.stage → ⊥) → (new.line.cutter.held ≡ [])
-    × (new.line.cutter.limit ≡ limit_at u.running.stage new.line.talk.size))
+    → ((IsOver u.running.stage → ⊥) → IsReady new.line.talk u.running.stage)
     → IsStarted old new done
-started old new done u is same blank_ starts config granted inbox closed unfinished cutter =
+started old new done u is same blank_ starts config granted inbox closed ready =
     let origin = origin_at old done in
-    let at = begun_at origin new.line u same blank_ starts unfinished in
+    let at = begun_at origin new.line u same blank_ starts
+    (λ h. none_unfinished (joiner_in new.line.talk) (ready h).clear) in
     let nothing_used = course_nothing origin in
     record {
       stands = record {
@@ -83,9 +101,12 @@ started old new done u is same blank_ starts config granted inbox closed unfinis
         stands = record {
           at = subst (λ c. IsAt origin c new.line.talk u) (sym nothing_used) at;
           owed = ap (λ c. c.out) nothing_used ∙ starts.out;
-          rest = λ h. holds_nothing (limits origin) new.line.cutter (cutter h).0
-              ((cutter h).1 ∙ sym (limit_here (begun origin) u.running [] new.line.talk.size
-              starts.awaits starts.size));
+          rest = λ h.
+              let k = ready h in
+              holds_nothing (limits origin) new.line.talk.reader.cutter k.held
+              (limit_read new.line.talk.reader k.reads
+              ∙ sym (limit_here (begun origin) new.line.talk u.running [] starts.awaits starts.size h k.unsized
+              k.sized));
           sent_first = λ front rest e some. absurd (none_in_nothing front rest e some);
           all_awaited = λ front rest e some. absurd (none_in_nothing front rest e some);
         };
@@ -97,41 +118,130 @@ started old new done u is same blank_ starts config granted inbox closed unfinis
       closed = closed;
     }
 
-pub clear_new : (l : Line) → IsNew l → IsClear l.talk.joiner
-clear_new l h = record {
-  octets = ap open_octets h.joiner;
-  count = ap (λ (j : Gathered). j.count) h.joiner;
-  going = ap (λ (j : Gathered). is_fault j.state) h.joiner;
-}
-
-none_unfinished : (j : Gathered) → IsClear j → unfinished_of j ≡ nothing_unfinished
-none_unfinished j h = ap (λ o. record { octets = o; count = j.count }) h.octets
-    ∙ ap (λ n. record { octets = []; count = n }) h.count
-
 -- ---- where a line begins a job
 
-starts_where : (old : Client) (t t' : Talk) (r r' : Running) (anew : Bool) → begins_anew old.granted r.job ≡ anew
-    → t.size ≡ size_at anew old.line.talk.size → t.sequence ≡ sequence_at anew old.line.talk.sequence
+starts_where : (old : Connection) (t t' : Talk) (r r' : Running) (anew : Bool) → begins_anew old.granted r.job ≡ anew
+    → size_in t ≡ size_of_link anew (size_in old.line.talk) → t.sequence ≡ sequence_at anew old.line.talk.sequence
     → Begins r old.config old.granted → BeginsTalk old.config t r t' r'
     → StartsAt (origin_at old r.job) (begun (origin_at old r.job)) t' r'
 starts_where old t t' r r' anew is size sequence begins b =
-    b.starts (origin_at old r.job) refl refl (size ∙ ap (λ x. size_at x old.line.talk.size) (sym is))
+    b.starts (origin_at old r.job) refl refl (size ∙ ap (λ x. size_of_link x (size_in old.line.talk)) (sym is))
     (sequence ∙ ap (λ x. sequence_at x old.line.talk.sequence) (sym is)) begins
 
-pub started_line : (old new : Client) (line : Line) (r : Running) (u : UnderWay) (anew : Bool)
+pub started_line : (old new : Connection) (line : Line) (r : Running) (u : UnderWay) (anew : Bool)
     → begins_anew old.granted r.job ≡ anew → new.job ≡ Some u → IsBlank u → Begins r old.config old.granted
     → new.config ≡ old.config → new.granted ≡ old.granted → new.is_closed ≡ (if anew then false else old.is_closed)
     → unread new.line ≡ (if anew then [] else unread old.line)
-    → line.talk.size ≡ size_at anew old.line.talk.size → line.talk.sequence ≡ sequence_at anew old.line.talk.sequence
-    → IsClear line.talk.joiner
-    → BeginsLine old.config line r new.line u.running → IsStarted old new r.job
-started_line old new line r u anew is there blank_ begins config granted closed inbox size sequence clear b =
-    started old new r.job u there b.talk.job blank_ (starts_where old line.talk new.line.talk r u.running anew is size
-    sequence begins b.talk) config granted
+    → size_in line.talk ≡ size_of_link anew (size_in old.line.talk)
+    → line.talk.sequence ≡ sequence_at anew old.line.talk.sequence
+    → IsReady new.line.talk u.running.stage
+    → BeginsTalk old.config line.talk r new.line.talk u.running → IsStarted old new r.job
+started_line old new line r u anew is there blank_ begins config granted closed inbox size sequence ready b =
+    started old new r.job u there b.job blank_ (starts_where old line.talk new.line.talk r u.running anew is size
+    sequence begins b) config granted
     (inbox ∙ ap (λ (x : Bool). if x then [] else unread old.line) (sym is))
     (closed ∙ ap (λ (x : Bool). if x then false else old.is_closed) (sym is))
-    (λ h. ap unfinished_of b.talk.joiner ∙ none_unfinished line.talk.joiner clear)
-    (λ h. (b.held, b.limit))
+    (λ h. ready)
+
+-- what fits a job that begins there
+pub fits_ready : (l : Line) (t : Talk) (r : Running) (u : UnderWay) (config : Config)
+    → IsReady l.talk u.running.stage → BeginsTalk config t r l.talk u.running → u.carried.room ≡ 8192 → Fits l u
+fits_ready l t r u config k b room = record {
+  reads = λ h. k.reads;
+  unsized = k.unsized;
+  sized = λ h before. k.sized before;
+  opening = λ h. k.clear;
+  between = λ h.
+      let over = left_over u.running.stage h in
+      record {
+        reads = k.reads;
+        sized = k.sized (over_not_opening u.running.stage over);
+        held = k.held;
+        clear = k.clear;
+        sent = b.quiet over;
+      };
+  many = λ h. omega (arith, k.clear.count);
+  few = b.few;
+  quiet = b.quiet;
+  carried = room;
+}
+
+-- a job that opens is a connect that begins the link anew
+first_opens : (r : Running) (config : Config) (granted : Option Grant) (s : Stage) → IsOpening s → r.stage ≡ s
+    → Begins r config granted → (plan_of r.job config granted).first ≡ connect_request
+first_opens r config granted stage.Opening h is begins = subst (BeginsAt r config granted) is begins
+first_opens r config granted (stage.Asking a) h is begins = absurd h
+first_opens r config granted (stage.Single s) h is begins = absurd h
+first_opens r config granted stage.Leaving h is begins = absurd h
+first_opens r config granted (stage.Over code leaves) h is begins = absurd h
+
+-- and such a connect opens
+anew_opens : (r : Running) (config : Config) (granted : Option Grant) (s : Stage) → r.stage ≡ s
+    → BeginsAt r config granted s → (plan_of r.job config granted).first ≡ connect_request → IsOpening s
+anew_opens r config granted stage.Opening is begins first = tt
+anew_opens r config granted (stage.Asking a) is begins first =
+    absurd (let x : nothing ≡ connect_request = sym begins.0 ∙ first in cc)
+anew_opens r config granted (stage.Single s) is begins first =
+    absurd (let x : nothing ≡ connect_request = sym begins.0 ∙ first in cc)
+anew_opens r config granted stage.Leaving is begins first =
+    absurd (let x : disconnect_request ≡ connect_request = sym begins ∙ first in cc)
+anew_opens r config granted (stage.Over code leaves) is begins first =
+    absurd (let x : nothing ≡ connect_request = sym (ap (λ (p : Plan). p.first) begins) ∙ first in cc)
+
+-- on a client that is connected
+pub ready_between : (l : Line) (t : Talk) (r r' : Running) (config : Config) (granted : Option Grant) → IsBetween l
+    → BeginsTalk config l.talk r t r' → Begins r config granted → IsSome granted → IsReady t r'.stage
+ready_between l t r r' config granted k b begins some =
+    let before : IsOpening r'.stage → ⊥ =
+    λ h. plan_opens r.job config granted some (first_opens r config granted r.stage (b.opens h) refl begins) in
+    record {
+      reads = subst IsReading (sym b.reader) k.reads;
+      held = ap held_by b.reader ∙ k.held;
+      clear = subst (λ (x : Reader). IsClear x.transport.joiner) (sym b.reader) k.clear;
+      unsized = λ h. absurd (before h);
+      sized = λ h. subst (λ (x : Reader). IsSome (size_at x)) (sym b.reader) k.sized;
+    }
+
+-- on a link that begins anew
+pub ready_new : (l : Line) (t : Talk) (r r' : Running) (config : Config) (granted : Option Grant) → IsNew l
+    → BeginsTalk config l.talk r t r' → Begins r config granted → begins_anew granted r.job ≡ true → IsReady t r'.stage
+ready_new l t r r' config granted k b begins anew =
+    let opening : IsOpening r'.stage =
+    b.opening (anew_opens r config granted r.stage refl begins (plan_anew r.job config granted anew)) in
+    record {
+      reads = subst IsReading (sym b.reader) k.reads;
+      held = ap held_by b.reader ∙ k.held;
+      clear = subst (λ (x : Reader). IsClear x.transport.joiner) (sym b.reader) k.clear;
+      unsized = λ h. ap size_at b.reader ∙ k.size;
+      sized = λ before. absurd (before opening);
+    }
+
+nothing_read : (opening : Opening) → reading opening [] ≡ start
+unfolding reading packets_of rest_of
+nothing_read opening = refl
+
+nothing_held : (ls : List (List ℕ) → ℕ) → rest_of ls [] ≡ []
+unfolding rest_of
+nothing_held ls = refl
+
+-- a link of which nothing was read
+pub new_line : (l : Line) → HasRead l.talk.reader [] → opens_by l.talk.reader ≡ Confirm
+    → ended_with l.talk.reader ≡ None → l.talk.sequence ≡ 0 → unsent l ≡ [] → unread l ≡ [] → IsNew l
+new_line l h opening going sequence sent none =
+    let r = l.talk.reader in
+    let nothing = nothing_read (opens_by r) in
+    record {
+      reads = record { opening = opening; going = going; some = ∣ ([], h) ∣₁ };
+      size = h.is.size ∙ ap (λ (p : Progress). p.size) nothing;
+      held = sym (h.rest going).held ∙ nothing_held _;
+      clear = clear_as r (h.is.unfinished ∙ ap (λ (p : Progress). p.unfinished) nothing);
+      sequence = sequence;
+      sent = sent;
+      unread = none;
+    }
+
+pub new_size : (l : Line) → IsNew l → size_in l.talk ≡ 1024
+new_size l k = ap (λ o. unwrap_or o 1024) k.size
 
 pub connected_not_anew : (granted : Option Grant) (done : Job) → IsSome granted → begins_anew granted done ≡ false
 connected_not_anew None done h = absurd (cc)
@@ -174,12 +284,12 @@ unfolding turned_end
 turned_shut r e h = left_by r.found.items r.codes [] [] turned_end r.stage e h
 
 -- what the client has then
-pub record IsTurned (old : Client) (t : Talk) (r r' : Running) : Type 0 where
+pub record IsTurned (old : Connection) (t : Talk) (r r' : Running) : Type 0 where
   pub starts : StartsAt (origin_at old r.job) (begun (origin_at old r.job)) t r'
   pub over : IsOver r'.stage
   pub shut : LeavesOpen r'.stage → ⊥
 
-pub is_turned : (old : Client) (t : Talk) (r r' : Running) → begins_anew old.granted r.job ≡ false
+pub is_turned : (old : Connection) (t : Talk) (r r' : Running) → begins_anew old.granted r.job ≡ false
     → Begins r old.config old.granted → BeginsTalk old.config old.line.talk r t r' → old.granted ≡ None
     → IsTurned old t r r'
 is_turned old t r r' is begins b none =
@@ -187,12 +297,12 @@ is_turned old t r r' is begins b none =
     let e = turned_awaits (origin_at old r.job) t r' none is starts in
     record { starts = starts; over = turned_over r' e; shut = turned_shut r' e }
 
-pub fits_turned : (old : Client) (l : Line) (r : Running) (u : UnderWay) → IsTurned old l.talk r u.running
+pub fits_turned : (old : Connection) (l : Line) (r : Running) (u : UnderWay) → IsTurned old l.talk r u.running
     → BeginsTalk old.config old.line.talk r l.talk u.running → u.carried.room ≡ 8192 → Fits l u
 fits_turned old l r u k b room = record {
-  going = λ h. absurd (h k.over);
-  more = λ h. absurd (h k.over);
-  limit = λ h. absurd (h k.over);
+  reads = λ h. absurd (h k.over);
+  unsized = λ h. absurd (over_not_opening u.running.stage k.over h);
+  sized = λ h before. absurd (h k.over);
   opening = λ h. absurd (over_not_opening u.running.stage k.over h);
   between = λ h. absurd (k.shut h);
   many = λ h. absurd (h k.over);
@@ -201,7 +311,7 @@ fits_turned old l r u k b room = record {
   carried = room;
 }
 
-pub started_turned : (old new : Client) (r : Running) (u : UnderWay) → begins_anew old.granted r.job ≡ false
+pub started_turned : (old new : Connection) (r : Running) (u : UnderWay) → begins_anew old.granted r.job ≡ false
     → new.job ≡ Some u → IsBlank u → IsTurned old new.line.talk r u.running → u.running.job ≡ r.job
     → new.config ≡ old.config → new.granted ≡ old.granted → new.is_closed ≡ old.is_closed
     → unread new.line ≡ unread old.line → IsStarted old new r.job
@@ -209,5 +319,4 @@ started_turned old new r u is there blank_ k done config granted closed inbox =
     started old new r.job u there done blank_ k.starts config granted
     (inbox ∙ ap (λ (x : Bool). if x then [] else unread old.line) (sym is))
     (closed ∙ ap (λ (x : Bool). if x then false else old.is_closed) (sym is))
-    (λ h. absurd (h k.over))
     (λ h. absurd (h k.over))

@@ -1,13 +1,20 @@
 -- Laws of the steps of a poll.
-use Rattle.std.proofs.Common.{◌≡◌, ◌⊎◌, inl, inr, ℕ, ◌+◌, ◌*◌, ◌<◌, ◌≤◌, List, [], ◌++◌, length, take, refl, ap, sym, ◌∙◌, subst, append_assoc, arith, length-append}
-use Rattle.std.specs.Prelude.{Option}
-use Rattle.std.proofs.lemmas.List.{append-nil}
-use Rattle.s7_tpkt.specs.Packets.{HoldsRest, state_of, GoesOn, EndsPacket}
-use Rattle.s7_tpkt.specs.declared.state.FedState.{FedState}
+use Rattle.std.proofs.Common.{◌≡◌, ℕ, ◌+◌, ◌*◌, ◌<◌, ◌≤◌, List, [], ◌++◌, length, take, drop}
+use Rattle.std.proofs.Common.{refl, ap, sym, ◌∙◌, subst, append_assoc, arith}
+use Rattle.std.specs.Prelude.{Option, None, Some, IsSome, unwrap_or}
+use Rattle.std.specs.Option.{ForSome}
+use Rattle.std.proofs.lemmas.List.{append-nil, length-take-le, take-append-drop}
+use Rattle.s7_tpkt.specs.Packets.{state_of}
 use Rattle.s7_tpkt.specs.declared.state.FedState.TheVariants as fed
-use Rattle.s7_dialogue.specs.Codes.{bad_packet}
-use Rattle.s7_cotp.specs.Gathered.{is_fault}
-use Rattle.s7_wire.specs.Bounds.{limit_of_size}
+use Rattle.s7_wire.specs.Bounds.{size_of_code}
+use Rattle.s7_wire.specs.Reading as link
+use Rattle.s7_wire.specs.Reading.{limit_by}
+use Rattle.s7_wire.specs.Reads.{HasRead, HasFound, opens_by, size_at, message_at, unfinished_in, held_by, limit_at}
+use Rattle.s7_wire.specs.declared.found.Found.{Found}
+use Rattle.s7_wire.specs.declared.found.Found.TheVariants as finding
+use Rattle.s7_wire.specs.declared.found.ReadFault.{ReadFault}
+use Rattle.s7_wire.specs.declared.found.ReadFault.TheVariants.{BadFrame, FrameTooLong, BadTpdu, Unexpected, TooManyFragments, TooLong}
+use Rattle.s7_wire.specs.declared.reader.Reader.{Reader}
 use Rattle.s7_dialogue.specs.declared.config.Config.{Config}
 use Rattle.s7_client.specs.declared.talk.Talk.{Talk}
 use Rattle.s7_dialogue.specs.declared.grant.Grant.{Grant}
@@ -16,14 +23,16 @@ use Rattle.s7_dialogue.specs.declared.running.Stage.{Stage}
 use Rattle.s7_dialogue.specs.declared.running.Stage.TheVariants as stage
 use Rattle.s7_client.specs.declared.line.Line.{Line}
 use Rattle.s7_client.specs.declared.under_way.UnderWay.{UnderWay}
+use Rattle.s7_dialogue.specs.Codes.{link_ended}
 use Rattle.s7_dialogue.specs.Dialogue.{fault_end}
-use Rattle.s7_dialogue.specs.Running.{awaited_in, awaited_by, unput_of, IsOver}
-use Rattle.s7_dialogue.specs.Course.{Origin, Course, for_nothing, with_packet, with_fault, by_state, unless_over, course, may_send, limits, limit_in, limit_where}
-use Rattle.s7_client.specs.At.{IsAt, Reaches, Takes, IsAwaiting, IsClear, LeavesOpen, limit_at, messages_left, budget, pending}
-use Rattle.s7_client.specs.Standing.{Stands, Fits, Consumes, AwaitsOctets, IsPrefixOf, unread, unsent}
+use Rattle.s7_dialogue.specs.Running.{awaited_in, awaited_by, unput_of, IsOver, IsOpening, IsAsking}
+use Rattle.s7_dialogue.specs.Course.{Origin, Course, for_nothing, nothing_unfinished, conduct_of, asking, with_fault, with_message, course, may_send, limit_in, limit_where}
+use Rattle.s7_client.specs.At.{IsAt, IsReading, Reaches, Settles, IsAwaiting, IsClear, LeavesOpen, code_at, joiner_in, messages_left, budget, pending, size_by, size_in}
+use Rattle.s7_client.specs.Standing.{Stands, Fits, Consumes, AwaitsOctets, IsPrefixOf, unread, unsent, work}
 use Rattle.s7_client.proofs.PacketLemmas.{awaits_some, over_none, awaiting_goes_on, closed_stage, over_not_opening, over_not_asking, over_not_leaving, none_pending, none_over}
-use Rattle.s7_client.proofs.FrontLemmas.{all_awaited_on, sent_first_on}
-use Rattle.s7_client.proofs.CourseLemmas.{holds_on, course_on, course_on_more, course_ends, limit_after, more_short}
+use Rattle.s7_client.proofs.FrontLemmas.{OnlyLastShows, earliest_of, all_awaited_on, sent_first_on}
+use Rattle.s7_client.proofs.FoundLemmas.{AreAlike, after_found, as_course, code_where}
+use Rattle.s7_client.proofs.TurnLemmas.{IsAlike, Reads, Turns, held_short, limit_read, reads_octets}
 
 pub prefix_on : (front all more : List ℕ) → IsPrefixOf front all → IsPrefixOf front (all ++ more)
 prefix_on front all more h = (h.0 ++ more, ap (λ x. x ++ more) h.1 ∙ append_assoc front h.0 more)
@@ -60,78 +69,250 @@ pub sent_whole : (origin : Origin) (l : Line) (u : UnderWay) (b w : List ℕ) (c
 sent_whole origin l u b w config ec s none =
     s.owed ∙ (ap (λ x. w ++ x) (ap (λ (k : Config). pending k l.talk u.running) ec ∙ none) ∙ append-nil w)
 
-sent_with : (all w more : List ℕ) → all ≡ w → more ≡ [] → all ≡ w ++ more
-sent_with all w more sent none = sent ∙ (sym (append-nil w) ∙ ap (λ x. w ++ x) (sym none))
+-- ---- what fits a job and its reader
 
--- ---- octets are used, and no packet ends
+-- the limit of a packet is that of the course
+limit_alike : (size : Option ℕ) (s : Stage) (found codes carried : List ℕ) → (IsOver s → ⊥)
+    → (IsOpening s → size ≡ None) → ((IsOpening s → ⊥) → IsSome size)
+    → limit_where (awaited_by found codes carried s) (unwrap_or size 1024) ≡ limit_by size
+limit_alike None stage.Opening found codes carried going none some = refl
+limit_alike (Some n) stage.Opening found codes carried going none some = absurd (let x = none tt in cc)
+limit_alike None (stage.Asking a) found codes carried going none some = absurd (let x = some (λ h. h) in cc)
+limit_alike (Some n) (stage.Asking a) found codes carried going none some = refl
+limit_alike None (stage.Single s) found codes carried going none some = absurd (let x = some (λ h. h) in cc)
+limit_alike (Some n) (stage.Single s) found codes carried going none some = refl
+limit_alike None stage.Leaving found codes carried going none some = absurd (let x = some (λ h. h) in cc)
+limit_alike (Some n) stage.Leaving found codes carried going none some = refl
+limit_alike size (stage.Over code leaves) found codes carried going none some = absurd (going tt)
 
-less_used : (s : Stage) (count count' held held' used out out' : ℕ) → 1 ≤ messages_left s → count ≤ 64 → count' ≡ count
-    → 0 < used → held' ≡ held + used → held' ≤ 8199 → out' ≡ 0
-    → budget s count' held' * 16384 + out' < budget s count held * 16384 + out
-less_used s count count' held held' used out out' a most same some all short none =
-    let n = messages_left s in
-    omega (arith, a, most, same, some, all, short, none)
+pub limit_here : (c : Course) (t : Talk) (r : Running) (carried : List ℕ) → c.awaits ≡ awaited_in r carried
+    → size_in t ≡ c.size → (IsOver r.stage → ⊥) → (IsOpening r.stage → size_at t.reader ≡ None)
+    → ((IsOpening r.stage → ⊥) → IsSome (size_at t.reader)) → limit_in c ≡ limit_by (size_at t.reader)
+limit_here c t r carried awaits same going none some =
+    ap (λ a. limit_where a c.size) awaits
+    ∙ (ap (limit_where (awaited_in r carried)) (sym same)
+    ∙ limit_alike (size_at t.reader) r.stage r.found.items r.codes carried going none some)
 
-pub consumes_more : (l l' : Line) (u : UnderWay) (used : List ℕ) (config : Config) (granted : Option Grant)
-    → Fits l u → IsAwaiting u.running.stage → unsent l ≡ [] → ((size : ℕ) → unput_of config size u.running ≡ [])
-    → 0 < length used → unread l ≡ used ++ unread l' → l'.talk ≡ l.talk
-    → l'.cutter.held ≡ l.cutter.held ++ used → l'.cutter.limit ≡ l.cutter.limit
-    → state_of l'.cutter.limit l'.cutter.held ≡ fed.More
-    → ((limits : List (List ℕ) → ℕ) (b : List ℕ) → HoldsRest limits b l.cutter → GoesOn limits b used)
-    → ((k : ℕ) → k < length used → state_of l.cutter.limit (l.cutter.held ++ take k used) ≡ fed.More)
-    → Consumes l u l' u config granted
-consumes_more l l' u used config granted fits awaiting sent unput some inbox talk held limit more goes earliest =
+-- a job that awaits octets awaits the confirm, or answers behind it
+awaits_alike : (size : Option ℕ) (s : Stage) (found codes carried : List ℕ) → IsAwaiting s
+    → (IsOpening s → size ≡ None) → ((IsOpening s → ⊥) → IsSome size)
+    → AreAlike size (awaited_by found codes carried s)
+awaits_alike None stage.Opening found codes carried h none some = refl
+awaits_alike (Some n) stage.Opening found codes carried h none some = absurd (let x = none tt in cc)
+awaits_alike None (stage.Asking a) found codes carried h none some = absurd (let x = some (λ k. k) in cc)
+awaits_alike (Some n) (stage.Asking a) found codes carried h none some = refl
+awaits_alike None (stage.Single s) found codes carried h none some = absurd (let x = some (λ k. k) in cc)
+awaits_alike (Some n) (stage.Single s) found codes carried h none some = refl
+awaits_alike size stage.Leaving found codes carried h none some = absurd h
+awaits_alike size (stage.Over code leaves) found codes carried h none some = absurd h
+
+alike : (origin : Origin) (b w : List ℕ) (l : Line) (u : UnderWay) → Fits l u → IsAwaiting u.running.stage
+    → Stands origin l u b w → IsAlike l.talk.reader (course origin b)
+alike origin b w l u fits awaiting s =
     let going = awaiting_goes_on u.running.stage awaiting in
-    let none : unsent l' ≡ [] = ap (λ t. t.outbox.unsent) talk ∙ sent in
+    let r = u.running in
+    record {
+      unfinished = s.at.unfinished going;
+      awaits = subst (λ a. AreAlike (size_at l.talk.reader) a) (sym s.at.awaits)
+          (awaits_alike (size_at l.talk.reader) r.stage r.found.items r.codes u.carried.octets awaiting fits.unsized
+          (fits.sized going));
+    }
+
+-- where the confirm has come, answers are awaited, and before it the confirm is
+asks_sized : (size : Option ℕ) (s : Stage) → IsAwaiting s → (IsOpening s → size ≡ None) → IsSome size → IsAsking s
+asks_sized size stage.Opening h none some = absurd (let x = subst IsSome (none tt) some in cc)
+asks_sized size (stage.Asking a) h none some = tt
+asks_sized size (stage.Single s) h none some = tt
+asks_sized size stage.Leaving h none some = absurd h
+asks_sized size (stage.Over code leaves) h none some = absurd h
+
+pub asks_where : (l : Line) (u : UnderWay) → Fits l u → IsAwaiting u.running.stage → IsSome (size_at l.talk.reader)
+    → IsAsking u.running.stage
+asks_where l u fits awaiting some = asks_sized (size_at l.talk.reader) u.running.stage awaiting fits.unsized some
+
+opens_unsized : (size : Option ℕ) (s : Stage) → IsAwaiting s → ((IsOpening s → ⊥) → IsSome size) → size ≡ None
+    → IsOpening s
+opens_unsized size stage.Opening h some none = tt
+opens_unsized size (stage.Asking a) h some none = absurd (let x = subst IsSome none (some (λ k. k)) in cc)
+opens_unsized size (stage.Single s) h some none = absurd (let x = subst IsSome none (some (λ k. k)) in cc)
+opens_unsized size stage.Leaving h some none = absurd h
+opens_unsized size (stage.Over code leaves) h some none = absurd h
+
+pub opens_where : (l : Line) (u : UnderWay) → Fits l u → IsAwaiting u.running.stage → size_at l.talk.reader ≡ None
+    → IsOpening u.running.stage
+opens_where l u fits awaiting none =
+    opens_unsized (size_at l.talk.reader) u.running.stage awaiting
+    (fits.sized (awaiting_goes_on u.running.stage awaiting)) none
+
+-- ---- a front of the octets
+
+-- the first octets were read, and this was found
+pub record UsesFront (l : Line) (t : Talk) (after used : List ℕ) (found : Found) : Type 0 where
+  pub some : 0 < length used
+  pub earliest : OnlyLastShows (limit_at l.talk.reader) (held_by l.talk.reader) used
+  pub inbox : unread l ≡ used ++ after
+  pub reads : Reads l.talk.reader t.reader used found
+
+pub uses_front : (l : Line) (t : Talk) (u : UnderWay) (piece after : List ℕ) (n : ℕ) (found : Found) → Fits l u
+    → IsAwaiting u.running.stage → piece ≡ unread l → after ≡ drop n (unread l) → n ≤ length piece → 0 < n
+    → opens_by t.reader ≡ opens_by l.talk.reader
+    → ((k : ℕ) → k < n → state_of (limit_at l.talk.reader) (held_by l.talk.reader ++ take k piece) ≡ fed.More)
+    → ((b : List ℕ) → HasRead l.talk.reader b → HasFound t.reader b (take n piece) found)
+    → UsesFront l t after (take n piece) found
+uses_front l t u piece after n found fits awaiting is rest least some opening earliest finds =
+    let r = l.talk.reader in
+    let some_used : 0 < length (take n piece) = omega (arith, length-take-le n piece least, some) in
+    let last = earliest_of (limit_at r) (held_by r) piece n least earliest in
+    record {
+      some = some_used;
+      earliest = last;
+      inbox = sym (take-append-drop n (unread l))
+          ∙ (ap (λ x. take n x ++ drop n (unread l)) (sym is) ∙ ap (λ x. take n piece ++ x) (sym rest));
+      reads = reads_octets r t.reader (take n piece) found (fits.reads (awaiting_goes_on u.running.stage awaiting))
+          opening some_used last finds;
+    }
+
+pub opens_at : (l : Line) (t : Talk) (u : UnderWay) (after used : List ℕ) (found : Found) (connection : _) → Fits l u
+    → IsAwaiting u.running.stage → UsesFront l t after used found → found ≡ finding.Opened connection
+    → IsOpening u.running.stage
+opens_at l t u after used found connection fits awaiting k is =
+    opens_where l u fits awaiting (subst (λ x. Turns x l.talk.reader t.reader) is k.reads.turns).1
+
+pub asks_at : (l : Line) (t : Talk) (u : UnderWay) (after used : List ℕ) (found : Found) → Fits l u
+    → IsAwaiting u.running.stage → UsesFront l t after used found → found ≡ finding.Message
+    → IsAsking u.running.stage
+asks_at l t u after used found fits awaiting k is =
+    asks_where l u fits awaiting (subst (λ x. Turns x l.talk.reader t.reader) is k.reads.turns).1
+
+pub message_short : (l : Line) (t : Talk) (after used : List ℕ) (found : Found) → UsesFront l t after used found
+    → found ≡ finding.Message → length (message_at t.reader) ≤ 8192
+message_short l t after used found k is = (subst (λ x. Turns x l.talk.reader t.reader) is k.reads.turns).3
+
+-- no message is begun where nothing is unfinished
+pub clear_as : (r : Reader) → unfinished_in r.transport.joiner ≡ link.nothing_unfinished → IsClear r.transport.joiner
+clear_as r e = record {
+  octets = ap (λ (u : link.Unfinished). u.octets) e;
+  count = ap (λ (u : link.Unfinished). u.count) e;
+}
+
+nothing_as : (r : Reader) → IsClear r.transport.joiner → unfinished_in r.transport.joiner ≡ link.nothing_unfinished
+nothing_as r h =
+    ap (λ x. record { octets = x; count = r.transport.joiner.count }) h.octets
+    ∙ ap (λ n. record { octets = []; count = n }) h.count
+
+-- ---- octets are used
+
+pub consumes : (l l' : Line) (u u' : UnderWay) (used : List ℕ) (found : Found) (config : Config)
+    (granted : Option Grant)
+    → Fits l u → IsAwaiting u.running.stage → unsent l ≡ [] → ((size : ℕ) → unput_of config size u.running ≡ [])
+    → 0 < length used → OnlyLastShows (limit_at l.talk.reader) (held_by l.talk.reader) used
+    → unread l ≡ used ++ unread l' → u'.waited ≡ u.waited
+    → Reads l.talk.reader l'.talk.reader used found → Fits l' u' → work config l' u' < work config l u
+    → ((origin : Origin) (c : Course) → origin.config ≡ config → origin.granted ≡ granted → IsAt origin c l.talk u
+    → Reaches origin c (after_found (conduct_of origin) c found (message_at l'.talk.reader)
+    (unfinished_in l'.talk.reader.transport.joiner)) l'.talk u')
+    → Consumes l u l' u' config granted
+consumes l l' u u' used found config granted fits awaiting sent unput some earliest inbox waited reads fits' less
+    reaches =
+    let going = awaiting_goes_on u.running.stage awaiting in
+    let r = l.talk.reader in
+    let r' = l'.talk.reader in
+    let more = r.more (fits.reads going).going in
     let none_before : pending config l.talk u.running ≡ [] = none_pending config l.talk u.running sent unput in
     record {
       used = used;
       some = some;
       inbox = inbox;
-      fits = record {
-        going = λ h. ap (λ t. is_fault t.joiner.state) talk ∙ fits.going h;
-        more = λ h. more;
-        limit = λ h. omega (arith, fits.limit going, limit);
-        opening = λ h. subst IsClear (ap (λ t. t.joiner) (sym talk)) (fits.opening h);
-        between = λ h. absurd (left_not_awaiting u.running.stage h awaiting);
-        many = λ h. omega (arith, fits.many going, ap (λ t. t.joiner.count) talk);
-        few = omega (arith, ap length none);
-        quiet = λ h. none;
-        carried = fits.carried;
-      };
-      waited = refl;
+      fits = fits';
+      waited = waited;
       stood = λ origin b w ec eg s.
-          let r = s.rest going in
-          let g = goes (limits origin) b r in
-          let same = course_on_more origin b used l.cutter l'.cutter r (fits.more going) g held limit more in
+          let rest = s.rest going in
+          let uses = reads.uses origin b rest in
+          let c = course origin b in
+          let same = uses.is (alike origin b w l u fits awaiting s) in
+          let reached = reaches origin c ec eg s.at in
+          let at : IsAt origin (course origin (b ++ used)) l'.talk u' =
+          subst (λ x. IsAt origin x l'.talk u') (sym same) reached.at in
+          let sent_all : c.out ≡ w = sent_whole origin l u b w config ec s none_before in
           record {
-            at = subst (λ c. IsAt origin c l'.talk u) (sym same)
-                (subst (λ t. IsAt origin (course origin b) t u) (sym talk) s.at);
-            owed = ap (λ c. c.out) same ∙ (s.owed ∙ ap (λ t. w ++ pending origin.config t u.running) (sym talk));
-            rest = λ h. holds_on (limits origin) b used l.cutter l'.cutter r g held limit;
-            sent_first = sent_first_on origin b used w l.cutter r (fits.more going) earliest
-                (sent_whole origin l u b w config ec s none_before) s.sent_first;
-            all_awaited = all_awaited_on origin b used l.cutter r (fits.more going) earliest
+            at = at;
+            owed = ap (λ x. x.out) same
+                ∙ (reached.out ∙ ap (λ x. x ++ pending origin.config l'.talk u'.running) sent_all);
+            rest = λ h.
+                let reading_ = fits'.reads h in
+                record {
+                  held = uses.rest reading_.going;
+                  limit = uses.limit reading_.going
+                      ∙ (limit_here (course origin (b ++ used)) l'.talk u'.running u'.carried.octets at.awaits at.size h
+                      fits'.unsized (fits'.sized h) ∙ sym (limit_read r' reading_));
+                };
+            sent_first = sent_first_on origin b used w r.cutter rest more earliest sent_all s.sent_first;
+            all_awaited = all_awaited_on origin b used r.cutter rest more earliest
                 (awaits_here (course origin b) u awaiting s.at.awaits) s.all_awaited;
           };
-      less = less_used u.running.stage l.talk.joiner.count l'.talk.joiner.count (length l.cutter.held)
-          (length l'.cutter.held) (length used)
-          (length (pending config l.talk u.running)) (length (pending config l'.talk u.running))
-          (awaits_some u.running.stage awaiting) (fits.many going) (ap (λ t. t.joiner.count) talk) some
-          (ap length held ∙ length-append l.cutter.held used)
-          (more_short l'.cutter.limit l'.cutter.held (omega (arith, fits.limit going, limit)) more)
-          (ap length (none_pending config l'.talk u.running none unput));
+      less = less;
     }
 
--- ---- a packet that can't be one
+sent_with : (all w more : List ℕ) → all ≡ w → more ≡ [] → all ≡ w ++ more
+sent_with all w more sent none = sent ∙ (sym (append-nil w) ∙ ap (λ x. w ++ x) (sym none))
 
-unless_awaiting : (found codes carried : List ℕ) (next c : Course) (s : Stage) → IsAwaiting s
-    → unless_over next c (awaited_by found codes carried s) ≡ next
-unless_awaiting found codes carried next c stage.Opening h = refl
-unless_awaiting found codes carried next c (stage.Asking a) h = refl
-unless_awaiting found codes carried next c (stage.Single single) h = refl
-unless_awaiting found codes carried next c stage.Leaving h = absurd h
-unless_awaiting found codes carried next c (stage.Over code leaves) h = absurd h
+-- ---- nothing was found
+
+less_more : (s : Stage) (count count' held held' out out' : ℕ) → 1 ≤ messages_left s → count' ≤ 64 → held' ≤ 8199
+    → count * 8200 + held < count' * 8200 + held' → out' ≡ 0
+    → budget s count' held' * 16384 + out' < budget s count held * 16384 + out
+less_more s count count' held held' out out' a few short further none =
+    let n = messages_left s in
+    omega (arith, a, few, short, further, none)
+
+pub consumes_more : (l l' : Line) (u : UnderWay) (used : List ℕ) (found : Found) (config : Config)
+    (granted : Option Grant) → found ≡ finding.More
+    → Fits l u → IsAwaiting u.running.stage → unsent l ≡ [] → ((size : ℕ) → unput_of config size u.running ≡ [])
+    → UsesFront l l'.talk (unread l') used found → l'.talk ≡ record l.talk { reader = l'.talk.reader }
+    → Consumes l u l' u config granted
+consumes_more l l' u used found config granted is fits awaiting sent unput front talk =
+    let going = awaiting_goes_on u.running.stage awaiting in
+    let r = l.talk.reader in
+    let r' = l'.talk.reader in
+    let turns = subst (λ x. Turns x r r') is front.reads.turns in
+    let none : unsent l' ≡ [] = ap (λ (t : Talk). t.outbox.unsent) talk ∙ sent in
+    let none' = none_pending config l'.talk u.running none unput in
+    let many = turns.2.many (fits.many going) in
+    let size : size_in l'.talk ≡ size_in l.talk = ap (λ o. unwrap_or o 1024) turns.1 in
+    consumes l l' u u used found config granted fits awaiting sent unput front.some front.earliest front.inbox refl
+    front.reads (record {
+      reads = λ h. turns.0;
+      unsized = λ h. turns.1 ∙ fits.unsized h;
+      sized = λ h before. subst IsSome (sym turns.1) (fits.sized h before);
+      opening = λ h. clear_as r' (turns.3 (fits.unsized h) ∙ nothing_as r (fits.opening h));
+      between = λ h. absurd (left_not_awaiting u.running.stage h awaiting);
+      many = λ h. many;
+      few = omega (arith, ap length none);
+      quiet = λ h. none;
+      carried = fits.carried;
+    })
+    (less_more u.running.stage (joiner_in l.talk).count (joiner_in l'.talk).count (length (held_by r))
+    (length (held_by r')) (length (pending config l.talk u.running)) (length (pending config l'.talk u.running))
+    (awaits_some u.running.stage awaiting) many (held_short r' turns.0) turns.2.further (ap length none'))
+    (λ origin c ec eg at.
+    subst (λ x. Reaches origin c (after_found (conduct_of origin) c x (message_at r')
+    (unfinished_in r'.transport.joiner)) l'.talk u) (sym is) (record {
+      at = record {
+        job = at.job;
+        size = size ∙ at.size;
+        sequence = ap (λ (t : Talk). t.sequence) talk ∙ at.sequence;
+        unfinished = λ h. refl;
+        awaits = at.awaits;
+        opens = at.opens;
+        follows = at.follows;
+        departs = at.departs;
+        silent = at.silent;
+      };
+      out = sent_with c.out c.out _ refl
+          (ap (λ (k : Config). pending k l'.talk u.running) ec ∙ none');
+    }))
+
+-- ---- the link ends, or a packet is at fault
 
 less_over : (s s' : Stage) (count count' held held' out out' : ℕ) → 1 ≤ messages_left s → messages_left s' ≡ 0
     → count ≤ 64 → held ≤ 8199 → out' ≡ 0
@@ -139,16 +320,17 @@ less_over : (s s' : Stage) (count count' held held' out out' : ℕ) → 1 ≤ me
 less_over s s' count count' held held' out out' a over most short none = omega (arith, a, over, most, short, none)
 
 -- the course ends with a fault
-fault_at : (origin : Origin) (c : Course) (t : Talk) (u u' : UnderWay) (code : ℕ) → IsAt origin c t u
+fault_at : (origin : Origin) (c : Course) (t t' : Talk) (u u' : UnderWay) (code : ℕ) → IsAt origin c t u
+    → size_in t' ≡ size_in t → t'.sequence ≡ t.sequence
     → u'.running.job ≡ u.running.job → u'.carried.octets ≡ u.carried.octets
     → (IsOver u.running.stage → ⊥)
     → ((carried : List ℕ) → awaited_in u'.running carried ≡ for_nothing (fault_end code) carried)
     → IsOver u'.running.stage
-    → IsAt origin (with_fault c code) t u'
-fault_at origin c t u u' code at job carried going e over = record {
+    → IsAt origin (with_fault c code) t' u'
+fault_at origin c t t' u u' code at size sequence job carried going e over = record {
   job = job ∙ at.job;
-  size = at.size;
-  sequence = at.sequence;
+  size = size ∙ at.size;
+  sequence = sequence ∙ at.sequence;
   unfinished = λ h. absurd (h over);
   awaits = ap (for_nothing (fault_end code)) (sym (carried ∙ at.silent going)) ∙ sym (e u'.carried.octets);
   opens = λ h. absurd (over_not_opening u'.running.stage over h);
@@ -157,93 +339,254 @@ fault_at origin c t u u' code at job carried going e over = record {
   silent = λ h. absurd (h over);
 }
 
-pub consumes_fault : (l l' : Line) (u u' : UnderWay) (used : List ℕ) (config : Config)
+consumes_end : (l l' : Line) (u u' : UnderWay) (used : List ℕ) (found : Found) (config : Config)
     (granted : Option Grant) (code : ℕ)
     → Fits l u → IsAwaiting u.running.stage → unsent l ≡ [] → ((size : ℕ) → unput_of config size u.running ≡ [])
-    → 0 < length used → unread l ≡ used ++ unread l' → l'.talk ≡ l.talk
-    → l'.cutter.held ≡ l.cutter.held ++ used → l'.cutter.limit ≡ l.cutter.limit
-    → ((c : Course) → by_state c (state_of l'.cutter.limit l'.cutter.held) ≡ with_fault c code)
-    → ((limits : List (List ℕ) → ℕ) (b : List ℕ) → HoldsRest limits b l.cutter → GoesOn limits b used)
-    → ((k : ℕ) → k < length used → state_of l.cutter.limit (l.cutter.held ++ take k used) ≡ fed.More)
+    → UsesFront l l'.talk (unread l') used found → l'.talk ≡ record l.talk { reader = l'.talk.reader }
+    → size_at l'.talk.reader ≡ size_at l.talk.reader
+    → ((conduct : _) (c : Course) → c.awaits ≡ awaited_in u.running u.carried.octets
+    → after_found conduct c found (message_at l'.talk.reader) (unfinished_in l'.talk.reader.transport.joiner)
+    ≡ with_fault c code)
     → ((carried : List ℕ) → awaited_in u'.running carried ≡ for_nothing (fault_end code) carried)
     → IsOver u'.running.stage → u'.running.job ≡ u.running.job
     → u'.carried ≡ u.carried → u'.waited ≡ u.waited
     → Consumes l u l' u' config granted
-consumes_fault l l' u u' used config granted code fits awaiting sent unput some inbox talk held limit fault goes
-    earliest e over job carried waited =
+consumes_end l l' u u' used found config granted code fits awaiting sent unput front talk size after e
+    over job carried waited =
     let going = awaiting_goes_on u.running.stage awaiting in
-    let none : unsent l' ≡ [] = ap (λ t. t.outbox.unsent) talk ∙ sent in
-    let none_before : pending config l.talk u.running ≡ [] = none_pending config l.talk u.running sent unput in
-    record {
-      used = used;
-      some = some;
-      inbox = inbox;
-      fits = record {
-        going = λ h. absurd (h over);
-        more = λ h. absurd (h over);
-        limit = λ h. absurd (h over);
-        opening = λ h. absurd (over_not_opening u'.running.stage over h);
-        between = λ h. absurd (closed_stage u'.running code (e []) h);
-        many = λ h. absurd (h over);
-        few = omega (arith, ap length none);
-        quiet = λ h. none;
-        carried = ap (λ x. x.room) carried ∙ fits.carried;
+    let r = l.talk.reader in
+    let none : unsent l' ≡ [] = ap (λ (t : Talk). t.outbox.unsent) talk ∙ sent in
+    consumes l l' u u' used found config granted fits awaiting sent unput front.some front.earliest front.inbox waited
+    front.reads (record {
+      reads = λ h. absurd (h over);
+      unsized = λ h. absurd (over_not_opening u'.running.stage over h);
+      sized = λ h before. absurd (h over);
+      opening = λ h. absurd (over_not_opening u'.running.stage over h);
+      between = λ h. absurd (closed_stage u'.running code (e []) h);
+      many = λ h. absurd (h over);
+      few = omega (arith, ap length none);
+      quiet = λ h. none;
+      carried = ap (λ x. x.room) carried ∙ fits.carried;
+    })
+    (less_over u.running.stage u'.running.stage (joiner_in l.talk).count (joiner_in l'.talk).count (length (held_by r))
+    (length (held_by l'.talk.reader)) (length (pending config l.talk u.running))
+    (length (pending config l'.talk u'.running))
+    (awaits_some u.running.stage awaiting) (over_none u'.running.stage over) (fits.many going)
+    (held_short r (fits.reads going)) (ap length (none_over config l'.talk u'.running none over)))
+    (λ origin c ec eg at.
+    subst (λ x. Reaches origin c x l'.talk u') (sym (after (conduct_of origin) c at.awaits)) (record {
+      at = fault_at origin c l.talk l'.talk u u' code at (ap (λ o. unwrap_or o 1024) size)
+          (ap (λ (t : Talk). t.sequence) talk) job (ap (λ x. x.octets) carried) going e over;
+      out = sent_with c.out c.out _ refl (none_over origin.config l'.talk u'.running none over);
+    }))
+
+pub consumes_disconnect : (l l' : Line) (u u' : UnderWay) (used : List ℕ) (found : Found) (config : Config)
+    (granted : Option Grant) → found ≡ finding.Disconnected
+    → Fits l u → IsAwaiting u.running.stage → unsent l ≡ [] → ((size : ℕ) → unput_of config size u.running ≡ [])
+    → UsesFront l l'.talk (unread l') used found → l'.talk ≡ record l.talk { reader = l'.talk.reader }
+    → ((carried : List ℕ) → awaited_in u'.running carried ≡ for_nothing (fault_end link_ended) carried)
+    → IsOver u'.running.stage → u'.running.job ≡ u.running.job
+    → u'.carried ≡ u.carried → u'.waited ≡ u.waited
+    → Consumes l u l' u' config granted
+consumes_disconnect l l' u u' used found config granted is fits awaiting sent unput front talk =
+    consumes_end l l' u u' used found config granted link_ended fits awaiting sent unput front talk
+    (subst (λ x. Turns x l.talk.reader l'.talk.reader) is front.reads.turns)
+    (λ conduct c awaits. ap (λ x. after_found conduct c x (message_at l'.talk.reader)
+    (unfinished_in l'.talk.reader.transport.joiner)) is)
+
+-- the code is that of where the confirm is awaited, or not
+code_by : (fault : ReadFault) (s : Stage) (found codes carried : List ℕ)
+    → code_where (awaited_by found codes carried s) fault ≡ code_at s fault
+code_by BadFrame s found codes carried = refl
+code_by FrameTooLong s found codes carried = refl
+code_by BadTpdu s found codes carried = refl
+code_by Unexpected stage.Opening found codes carried = refl
+code_by Unexpected (stage.Asking a) found codes carried = refl
+code_by Unexpected (stage.Single single) found codes carried = refl
+code_by Unexpected stage.Leaving found codes carried = refl
+code_by Unexpected (stage.Over code leaves) found codes carried = refl
+code_by TooManyFragments s found codes carried = refl
+code_by TooLong s found codes carried = refl
+
+pub consumes_fault : (l l' : Line) (u u' : UnderWay) (used : List ℕ) (found : Found) (fault : ReadFault) (code : ℕ)
+    (config : Config) (granted : Option Grant) → found ≡ finding.Fault fault
+    → Fits l u → IsAwaiting u.running.stage → unsent l ≡ [] → ((size : ℕ) → unput_of config size u.running ≡ [])
+    → UsesFront l l'.talk (unread l') used found → l'.talk ≡ record l.talk { reader = l'.talk.reader }
+    → code ≡ code_at u.running.stage fault
+    → ((carried : List ℕ) → awaited_in u'.running carried ≡ for_nothing (fault_end code) carried)
+    → IsOver u'.running.stage → u'.running.job ≡ u.running.job
+    → u'.carried ≡ u.carried → u'.waited ≡ u.waited
+    → Consumes l u l' u' config granted
+consumes_fault l l' u u' used found fault code config granted is fits awaiting sent unput front talk same =
+    let r = u.running in
+    consumes_end l l' u u' used found config granted code fits awaiting sent unput front talk
+    (subst (λ x. Turns x l.talk.reader l'.talk.reader) is front.reads.turns)
+    (λ conduct c awaits. ap (λ x. after_found conduct c x (message_at l'.talk.reader)
+    (unfinished_in l'.talk.reader.transport.joiner)) is
+    ∙ ap (with_fault c) (ap (λ a. code_where a fault) awaits
+    ∙ (code_by fault r.stage r.found.items r.codes u.carried.octets ∙ sym same)))
+
+-- ---- the confirm, and a message
+
+less_whole : (s s' : Stage) (count count' held held' out out' : ℕ) → messages_left s' + 1 ≤ messages_left s
+    → count ≤ 64 → held ≤ 8199 → count' ≡ 0 → held' ≡ 0 → out' ≤ 16256
+    → budget s' count' held' * 16384 + out' < budget s count held * 16384 + out
+less_whole s s' count count' held held' out out' fewer most short none empty few =
+    omega (arith, fewer, most, short, none, empty, few)
+
+few_pending : (config : Config) (t : Talk) (r : Running) → t.outbox.unsent ≡ []
+    → length (unput_of config (size_in t) r) ≤ 16256 → length (pending config t r) ≤ 16256
+few_pending config t r none few = subst (λ x. length (x ++ unput_of config (size_in t) r) ≤ 16256) (sym none) few
+
+least_size : (o : Option ℕ) → ForSome o (λ n. 128 ≤ n) → 128 ≤ unwrap_or o 1024
+least_size None h = omega arith
+least_size (Some n) h = omega (arith, h n refl)
+
+consumes_settled : (l : Line) (m : Talk) (l' : Line) (u u' : UnderWay) (used : List ℕ) (found : Found) (config : Config)
+    (granted : Option Grant)
+    → Fits l u → IsAwaiting u.running.stage → unsent l ≡ [] → ((size : ℕ) → unput_of config size u.running ≡ [])
+    → 0 < length used → OnlyLastShows (limit_at l.talk.reader) (held_by l.talk.reader) used
+    → unread l ≡ used ++ unread l'
+    → Reads l.talk.reader l'.talk.reader used found → Settles config m u l'.talk u'
+    → IsReading l'.talk.reader → IsSome (size_at l'.talk.reader)
+    → unfinished_in l'.talk.reader.transport.joiner ≡ link.nothing_unfinished → held_by l'.talk.reader ≡ []
+    → ((origin : Origin) (c : Course) → origin.config ≡ config → origin.granted ≡ granted → IsAt origin c l.talk u
+    → Reaches origin c (after_found (conduct_of origin) c found (message_at l'.talk.reader)
+    (unfinished_in l'.talk.reader.transport.joiner)) l'.talk u')
+    → Consumes l u l' u' config granted
+consumes_settled l m l' u u' used found config granted fits awaiting sent unput some earliest inbox reads settles
+    reading_ sized clear held reaches =
+    let going = awaiting_goes_on u.running.stage awaiting in
+    let r = l.talk.reader in
+    let r' = l'.talk.reader in
+    let is_clear = clear_as r' clear in
+    consumes l l' u u' used found config granted fits awaiting sent unput some earliest inbox settles.waited
+    reads (record {
+      reads = λ h. reading_;
+      unsized = λ h. absurd (settles.not_before h);
+      sized = λ h before. sized;
+      opening = λ h. absurd (settles.not_before h);
+      between = λ h. record {
+        reads = reading_;
+        sized = sized;
+        held = held;
+        clear = is_clear;
+        sent = settles.none;
       };
-      waited = waited;
-      stood = λ origin b w ec eg s.
-          let r = s.rest going in
-          let g = goes (limits origin) b r in
-          let c = course origin b in
-          let sent_all : c.out ≡ w = sent_whole origin l u b w config ec s none_before in
-          let same : course origin (b ++ used) ≡ with_fault c code =
-          course_on origin b used l.cutter l'.cutter r (fits.more going) g held limit
-          ∙ (ap (λ next. unless_over next c c.awaits) (fault c)
-          ∙ (ap (unless_over (with_fault c code) c) s.at.awaits
-          ∙ unless_awaiting u.running.found.items u.running.codes u.carried.octets (with_fault c code) c
-          u.running.stage awaiting)) in
-          let at : IsAt origin (with_fault c code) l.talk u' =
-          fault_at origin c l.talk u u' code s.at job (ap (λ x. x.octets) carried) going e over in
-          record {
-            at = subst (λ x. IsAt origin x l'.talk u') (sym same)
-                (subst (λ t. IsAt origin (with_fault c code) t u') (sym talk) at);
-            owed = ap (λ x. x.out) same
-                ∙ sent_with c.out w _ sent_all (none_over origin.config l'.talk u'.running none over);
-            rest = λ h. absurd (h over);
-            sent_first = sent_first_on origin b used w l.cutter r (fits.more going) earliest sent_all s.sent_first;
-            all_awaited = all_awaited_on origin b used l.cutter r (fits.more going) earliest
-                (awaits_here (course origin b) u awaiting s.at.awaits) s.all_awaited;
-          };
-      less = less_over u.running.stage u'.running.stage l.talk.joiner.count l'.talk.joiner.count (length l.cutter.held)
-          (length l'.cutter.held)
-          (length (pending config l.talk u.running)) (length (pending config l'.talk u'.running))
-          (awaits_some u.running.stage awaiting) (over_none u'.running.stage over) (fits.many going)
-          (more_short l.cutter.limit l.cutter.held (fits.limit going) (fits.more going))
-          (ap length (none_over config l'.talk u'.running none over));
-    }
+      many = λ h. omega (arith, is_clear.count);
+      few = omega (arith, ap length settles.none);
+      quiet = λ h. settles.none;
+      carried = settles.room ∙ fits.carried;
+    })
+    (less_whole u.running.stage u'.running.stage (joiner_in l.talk).count (joiner_in l'.talk).count
+    (length (held_by r)) (length (held_by r')) (length (pending config l.talk u.running))
+    (length (pending config l'.talk u'.running)) settles.fewer (fits.many going) (held_short r (fits.reads going))
+    is_clear.count (ap length held)
+    (few_pending config l'.talk u'.running settles.none
+    (settles.few (size_in l'.talk) (least_size (size_at r') r'.transport.least_size)))) reaches
 
--- ---- a whole packet
+-- the client stands where the confirm has come, with its size
+at_opened : (origin : Origin) (c : Course) (t t' : Talk) (u : UnderWay) → IsAt origin c t u
+    → t'.sequence ≡ t.sequence
+    → unfinished_in t'.reader.transport.joiner ≡ unfinished_in t.reader.transport.joiner
+    → IsAt origin (record c { size = size_in t' }) t' u
+at_opened origin c t t' u at sequence unfinished = record {
+  job = at.job;
+  size = refl;
+  sequence = sequence ∙ at.sequence;
+  unfinished = λ h. ap as_course unfinished ∙ at.unfinished h;
+  awaits = at.awaits;
+  opens = at.opens;
+  follows = at.follows;
+  departs = at.departs;
+  silent = at.silent;
+}
 
-limit_by_stage : (found codes carried : List ℕ) (size : ℕ) (s : Stage)
-    → limit_where (awaited_by found codes carried s) size ≡ limit_at s size
-limit_by_stage found codes carried size stage.Opening = refl
-limit_by_stage found codes carried size (stage.Asking a) = refl
-limit_by_stage found codes carried size (stage.Single single) = refl
-limit_by_stage found codes carried size stage.Leaving = refl
-limit_by_stage found codes carried size (stage.Over code leaves) = refl
+-- what was allowed before is all that counts
+reaches_from : (origin : Origin) (before before' next : Course) (t : Talk) (u : UnderWay)
+    → before'.out ≡ before.out → Reaches origin before' next t u → Reaches origin before next t u
+reaches_from origin before before' next t u same r = record {
+  at = r.at;
+  out = r.out ∙ ap (λ o. o ++ pending origin.config t u.running) same;
+}
 
--- the limit of the next packet is that of where the client stands
-pub limit_here : (c : Course) (r : Running) (carried : List ℕ) (size : ℕ) → c.awaits ≡ awaited_in r carried
-    → size ≡ c.size → limit_in c ≡ limit_at r.stage size
-limit_here c r carried size awaits same =
-    ap (λ a. limit_where a c.size) awaits
-    ∙ (limit_by_stage r.found.items r.codes carried c.size r.stage ∙ ap (limit_at r.stage) (sym same))
+pub consumes_open : (l : Line) (m : Talk) (l' : Line) (u u' : UnderWay) (used : List ℕ) (found : Found) (connection : _)
+    (config : Config) (granted : Option Grant) → found ≡ finding.Opened connection
+    → Fits l u → IsAwaiting u.running.stage → unsent l ≡ [] → ((size : ℕ) → unput_of config size u.running ≡ [])
+    → UsesFront l m (unread l') used found → m ≡ record l.talk { reader = m.reader }
+    → Settles config m u l'.talk u'
+    → ((origin : Origin) (c : Course) → IsAt origin c m u
+    → Reaches origin c (asking (conduct_of origin) c) l'.talk u')
+    → Consumes l u l' u' config granted
+consumes_open l m l' u u' used found connection config granted is fits awaiting sent unput front talk settles
+    reaches =
+    let reader = settles.reader in
+    let r = l.talk.reader in
+    let r' = l'.talk.reader in
+    let reads' : Reads r r' used found = subst (λ (x : Reader). Reads r x used found) (sym reader) front.reads in
+    let turns = subst (λ x. Turns x r r') is reads'.turns in
+    let opening = opens_where l u fits awaiting turns.1 in
+    let size : size_in m ≡ size_of_code connection.size_code =
+    ap size_by (sym reader) ∙ ap (λ o. unwrap_or o 1024) turns.2 in
+    consumes_settled l m l' u u' used found config granted fits awaiting sent unput front.some front.earliest
+    front.inbox reads' settles turns.0
+    (subst IsSome (sym turns.2) refl) (turns.3 ∙ nothing_as r (fits.opening opening)) turns.4
+    (λ origin c ec eg at.
+    let here : Course = record c { size = size_in m } in
+    let reached = reaches origin here (at_opened origin c l.talk m u at (ap (λ (t : Talk). t.sequence) talk)
+    (ap (λ (x : Reader). unfinished_in x.transport.joiner) (sym reader) ∙ turns.3)) in
+    subst (λ x. Reaches origin c (after_found (conduct_of origin) c x (message_at r')
+    (unfinished_in r'.transport.joiner)) l'.talk u') (sym is)
+    (subst (λ n. Reaches origin c (asking (conduct_of origin) (record c { size = n })) l'.talk u') size
+    (reaches_from origin c here (asking (conduct_of origin) here) l'.talk u' refl reached)))
 
-pub left_limit : (s : Stage) (size : ℕ) → LeavesOpen s → limit_at s size ≡ limit_of_size size
-left_limit stage.Opening size h = absurd h
-left_limit (stage.Asking a) size h = refl
-left_limit (stage.Single single) size h = refl
-left_limit stage.Leaving size h = refl
-left_limit (stage.Over code leaves) size h = refl
+-- the client stands where a message is whole
+at_whole : (origin : Origin) (c : Course) (t t' : Talk) (u : UnderWay) → IsAt origin c t u
+    → size_in t' ≡ size_in t → t'.sequence ≡ t.sequence
+    → unfinished_in t'.reader.transport.joiner ≡ link.nothing_unfinished
+    → IsAt origin (record c { unfinished = nothing_unfinished }) t' u
+at_whole origin c t t' u at size sequence unfinished = record {
+  job = at.job;
+  size = size ∙ at.size;
+  sequence = sequence ∙ at.sequence;
+  unfinished = λ h. ap as_course unfinished;
+  awaits = at.awaits;
+  opens = at.opens;
+  follows = at.follows;
+  departs = at.departs;
+  silent = at.silent;
+}
+
+pub consumes_message : (l : Line) (m : Talk) (l' : Line) (u u' : UnderWay) (used : List ℕ) (found : Found)
+    (config : Config) (granted : Option Grant) → found ≡ finding.Message
+    → Fits l u → IsAwaiting u.running.stage → unsent l ≡ [] → ((size : ℕ) → unput_of config size u.running ≡ [])
+    → UsesFront l m (unread l') used found → m ≡ record l.talk { reader = m.reader }
+    → Settles config m u l'.talk u'
+    → ((origin : Origin) (c : Course) → origin.config ≡ config → origin.granted ≡ granted → IsAt origin c m u
+    → Reaches origin c (with_message (conduct_of origin) c (message_at m.reader)) l'.talk u')
+    → Consumes l u l' u' config granted
+consumes_message l m l' u u' used found config granted is fits awaiting sent unput front talk settles
+    reaches =
+    let reader = settles.reader in
+    let r = l.talk.reader in
+    let r' = l'.talk.reader in
+    let reads' : Reads r r' used found = subst (λ (x : Reader). Reads r x used found) (sym reader) front.reads in
+    let turns = subst (λ x. Turns x r r') is reads'.turns in
+    consumes_settled l m l' u u' used found config granted fits awaiting sent unput front.some front.earliest
+    front.inbox reads' settles turns.0
+    (subst IsSome (sym turns.2) turns.1) turns.4 turns.5
+    (λ origin c ec eg at.
+    let here : Course = record c { unfinished = nothing_unfinished } in
+    let reached = reaches origin here ec eg (at_whole origin c l.talk m u at
+    (ap size_by (sym reader) ∙ ap (λ o. unwrap_or o 1024) turns.2) (ap (λ (t : Talk). t.sequence) talk)
+    (ap (λ (x : Reader). unfinished_in x.transport.joiner) (sym reader) ∙ turns.4)) in
+    subst (λ x. Reaches origin c (after_found (conduct_of origin) c x (message_at r')
+    (unfinished_in r'.transport.joiner)) l'.talk u') (sym is)
+    (subst (λ (x : Reader). Reaches origin c (with_message (conduct_of origin) here (message_at x)) l'.talk u')
+    (sym reader) (reaches_from origin c here (with_message (conduct_of origin) here (message_at m.reader)) l'.talk
+    u' refl reached)))
+
+-- ---- stages
 
 pub left_over : (s : Stage) → LeavesOpen s → IsOver s
 left_over stage.Opening h = h
@@ -251,96 +594,3 @@ left_over (stage.Asking a) h = h
 left_over (stage.Single single) h = h
 left_over stage.Leaving h = h
 left_over (stage.Over code leaves) h = tt
-
-less_whole : (fresh now before out out' : ℕ) → fresh < before → now ≡ fresh → out' ≤ 16256
-    → now * 16384 + out' < before * 16384 + out
-less_whole fresh now before out out' less same few = omega (arith, less, same, few)
-
-few_pending : (config : Config) (t : Talk) (r : Running) → t.outbox.unsent ≡ []
-    → length (unput_of config t.size r) ≤ 16256 → length (pending config t r) ≤ 16256
-few_pending config t r none few = subst (λ x. length (x ++ unput_of config t.size r) ≤ 16256) (sym none) few
-
-pub consumes_whole : (l l' : Line) (u u' : UnderWay) (used body : List ℕ) (config : Config) (granted : Option Grant)
-    → Fits l u → IsAwaiting u.running.stage → unsent l ≡ [] → ((size : ℕ) → unput_of config size u.running ≡ [])
-    → 0 < length used → unread l ≡ used ++ unread l'
-    → l'.cutter.held ≡ [] → l'.cutter.limit ≡ limit_at u'.running.stage l'.talk.size → l'.cutter.limit ≤ 8199
-    → ((limits : List (List ℕ) → ℕ) (b : List ℕ) → HoldsRest limits b l.cutter → EndsPacket limits b used body)
-    → ((k : ℕ) → k < length used → state_of l.cutter.limit (l.cutter.held ++ take k used) ≡ fed.More)
-    → ((origin : Origin) (c : Course) → origin.config ≡ config → origin.granted ≡ granted → IsAt origin c l.talk u
-    → Reaches origin c (with_packet origin c body) l'.talk u')
-    → Takes config l.talk u l'.talk u' → u'.carried.room ≡ 8192 → u'.waited ≡ u.waited
-    → Consumes l u l' u' config granted
-consumes_whole l l' u u' used body config granted fits awaiting sent unput some inbox held limit most ends_packet
-    earliest reaches takes carried waited =
-    let going = awaiting_goes_on u.running.stage awaiting in
-    let short = more_short l.cutter.limit l.cutter.held (fits.limit going) (fits.more going) in
-    let none_before : pending config l.talk u.running ≡ [] = none_pending config l.talk u.running sent unput in
-    record {
-      used = used;
-      some = some;
-      inbox = inbox;
-      fits = record {
-        going = takes.settles.going;
-        more = λ h. ap (state_of l'.cutter.limit) held;
-        limit = λ h. most;
-        opening = takes.settles.opening;
-        between = λ h. record {
-          held = held;
-          limit = limit ∙ left_limit u'.running.stage l'.talk.size h;
-          clear = takes.settles.clear h;
-          sent = takes.settles.none;
-        };
-        many = λ h. takes.many (fits.many going);
-        few = omega (arith, ap length takes.settles.none);
-        quiet = λ h. takes.settles.none;
-        carried = carried;
-      };
-      waited = waited;
-      stood = λ origin b w ec eg s.
-          let r = s.rest going in
-          let e = ends_packet (limits origin) b r in
-          let c = course origin b in
-          let c' = with_packet origin c body in
-          let same : course origin (b ++ used) ≡ c' = course_ends origin b used body l.cutter r (fits.more going) e in
-          let reached = reaches origin c ec eg s.at in
-          let sent_all : c.out ≡ w = sent_whole origin l u b w config ec s none_before in
-          record {
-            at = subst (λ x. IsAt origin x l'.talk u') (sym same) reached.at;
-            owed = ap (λ x. x.out) same
-                ∙ (reached.out ∙ ap (λ x. x ++ pending origin.config l'.talk u'.running) sent_all);
-            rest = λ h. record {
-              held = e.rest ∙ sym held;
-              limit = limit_after origin b used body l.cutter r (fits.more going) e
-                  ∙ (ap limit_in same
-                  ∙ (limit_here c' u'.running u'.carried.octets l'.talk.size reached.at.awaits reached.at.size
-                  ∙ sym limit));
-            };
-            sent_first = sent_first_on origin b used w l.cutter r (fits.more going) earliest sent_all s.sent_first;
-            all_awaited = all_awaited_on origin b used l.cutter r (fits.more going) earliest
-                (awaits_here (course origin b) u awaiting s.at.awaits) s.all_awaited;
-          };
-      less = less_whole (budget u'.running.stage l'.talk.joiner.count 0)
-          (budget u'.running.stage l'.talk.joiner.count (length l'.cutter.held))
-          (budget u.running.stage l.talk.joiner.count (length l.cutter.held))
-          (length (pending config l.talk u.running)) (length (pending config l'.talk u'.running))
-          (takes.less (length l.cutter.held) short (fits.many going))
-          (ap (λ x. budget u'.running.stage l'.talk.joiner.count (length x)) held)
-          (few_pending config l'.talk u'.running takes.settles.none takes.settles.few);
-    }
-
--- ---- states
-
-pub more_not_whole : (state : FedState) → state ≡ fed.More → state ≡ fed.Whole → ⊥
-more_not_whole state e f = cc
-
-pub too_long_not_whole : (state : FedState) → state ≡ fed.TooLong → state ≡ fed.Whole → ⊥
-too_long_not_whole state e f = cc
-
-pub bad_not_whole : (state : FedState) → (state ≡ fed.BadVersion) ⊎ (state ≡ fed.BadLength) → state ≡ fed.Whole → ⊥
-bad_not_whole state (inl e) f = cc
-bad_not_whole state (inr e) f = cc
-
-pub bad_faults : (c : Course) (state : FedState) → (state ≡ fed.BadVersion) ⊎ (state ≡ fed.BadLength)
-    → by_state c state ≡ with_fault c bad_packet
-bad_faults c state (inl e) = ap (by_state c) e
-bad_faults c state (inr e) = ap (by_state c) e

@@ -1,8 +1,13 @@
 -- Where a job stands in its course, by what the client holds.
-use Rattle.std.specs.Prelude.{◌≡◌, ◌⊎◌, ℕ, ◌+◌, ◌-◌, ◌*◌, ◌<◌, ◌≤◌, false, List, [], ◌++◌, length, Option}
-use Rattle.s7_cotp.specs.Gathered.{Gathered, is_fault}
+use Rattle.std.specs.Prelude.{◌≡◌, ◌⊎◌, ℕ, ◌+◌, ◌-◌, ◌*◌, ◌≤◌, List, [], ◌++◌, length, Option, None, unwrap_or}
+use Rattle.s7_cotp.specs.Gathered.{Gathered}
 use Rattle.s7_cotp.specs.Messages.{open_octets}
-use Rattle.s7_wire.specs.Bounds.{first_limit, limit_of_size, most_packets}
+use Rattle.s7_wire.specs.Bounds.{most_packets, size_of_code}
+use Rattle.s7_wire.specs.Reads.{HasRead, opens_by, ended_with, size_at}
+use Rattle.s7_wire.specs.declared.found.Opening.TheVariants.{Confirm}
+use Rattle.s7_wire.specs.declared.found.ReadFault.{ReadFault}
+use Rattle.s7_wire.specs.declared.found.ReadFault.TheVariants.{BadFrame, FrameTooLong, BadTpdu, Unexpected, TooManyFragments, TooLong}
+use Rattle.s7_wire.specs.declared.reader.Reader.{Reader}
 use Rattle.s7_dialogue.specs.declared.running.Stage.{Stage}
 use Rattle.s7_dialogue.specs.declared.running.Stage.TheVariants as stage
 use Rattle.s7_client.specs.declared.talk.Talk.{Talk}
@@ -10,30 +15,39 @@ use Rattle.s7_client.specs.declared.under_way.UnderWay.{UnderWay}
 use Rattle.s7_dialogue.specs.declared.config.Config.{Config}
 use Rattle.s7_dialogue.specs.declared.running.Running.{Running}
 use Rattle.s7_dialogue.specs.declared.grant.Grant.{Grant}
+use Rattle.s7_dialogue.specs.Codes.{not_connected, bad_packet, message_too_fragmented, message_too_long}
 use Rattle.s7_dialogue.specs.Flight.{Row}
 use Rattle.s7_dialogue.specs.Dialogue.{connect_request, disconnect_request, plan_of}
 use Rattle.s7_dialogue.specs.Running.{awaited_in, unput_of, Begins, Follows, IsOver, IsOpening, IsAsking, IsLeaving, answers_left}
-use Rattle.s7_dialogue.specs.Course.{Origin, Course, Unfinished, blank, begun}
+use Rattle.s7_dialogue.specs.Course.{Origin, Course, Unfinished, asked_size_code, blank, begun}
 pub use Rattle.s7_dialogue.specs.Stages.{LeavesLink, LeavesOpen}
 
 -- the message that isn't whole
 abbrev pub unfinished_of : Gathered → Unfinished
 unfinished_of joiner = record { octets = open_octets joiner; count = joiner.count }
 
--- the length that no packet passes
-abbrev pub limit_at : Stage → ℕ → ℕ
-limit_at stage.Opening size = first_limit
-limit_at (stage.Asking a) size = limit_of_size size
-limit_at (stage.Single s) size = limit_of_size size
-limit_at stage.Leaving size = limit_of_size size
-limit_at (stage.Over code leaves) size = limit_of_size size
+abbrev pub joiner_in : Talk → Gathered
+joiner_in t = t.reader.transport.joiner
+
+-- the TPDU size of the link: the one that is asked for, until the confirm tells another
+abbrev pub size_by : Reader → ℕ
+size_by r = unwrap_or (size_at r) (size_of_code asked_size_code)
+
+abbrev pub size_in : Talk → ℕ
+size_in t = size_by t.reader
+
+-- a reader of a link that was dialled, on which nothing has ended
+pub record IsReading (r : Reader) : Type 0 where
+  pub opening : opens_by r ≡ Confirm
+  pub going : ended_with r ≡ None
+  pub some : ∥ ((b : List ℕ) × HasRead r b) ∥₁
 
 -- The client stands at this place of the course of the job that started there.
 pub record IsAt (origin : Origin) (course : Course) (t : Talk) (u : UnderWay) : Type 0 where
   pub job : u.running.job ≡ origin.job
-  pub size : t.size ≡ course.size
+  pub size : size_in t ≡ course.size
   pub sequence : t.sequence ≡ course.sequence
-  pub unfinished : (IsOver u.running.stage → ⊥) → unfinished_of t.joiner ≡ course.unfinished
+  pub unfinished : (IsOver u.running.stage → ⊥) → unfinished_of (joiner_in t) ≡ course.unfinished
   pub awaits : course.awaits ≡ awaited_in u.running u.carried.octets
   -- a job that isn't over goes on as its plan says, and no message came that answers nothing
   pub opens : IsOpening u.running.stage
@@ -45,7 +59,7 @@ pub record IsAt (origin : Origin) (course : Course) (t : Talk) (u : UnderWay) : 
 
 -- what is still to be sent: octets of telegrams that were put, and those that weren't put yet
 abbrev pub pending : Config → Talk → Running → List ℕ
-pending config t r = t.outbox.unsent ++ unput_of config t.size r
+pending config t r = t.outbox.unsent ++ unput_of config (size_in t) r
 
 -- The client stands at a place of the course, and what is to be sent is what may be sent there beyond what was
 -- allowed before.
@@ -65,7 +79,6 @@ IsAwaiting (stage.Over code leaves) = ⊥
 pub record IsClear (joiner : Gathered) : Type 0 where
   pub octets : open_octets joiner ≡ []
   pub count : joiner.count ≡ 0
-  pub going : is_fault joiner.state ≡ false
 
 -- More octets than a message and a packet beyond it have: 64 fragments in packets of at most 8,199 octets.
 abbrev pub octets_of_message : ℕ
@@ -87,20 +100,34 @@ budget stage fragments held = messages_left stage * octets_of_message - (fragmen
 abbrev pub most_unput : ℕ
 most_unput = 8 * most_packets
 
--- what a packet leaves, whatever the course
-pub record Settles (config : Config) (t : Talk) (u : UnderWay) : Type 0 where
-  pub going : (IsOver u.running.stage → ⊥) → is_fault t.joiner.state ≡ false
-  pub none : t.outbox.unsent ≡ []
-  pub few : length (unput_of config t.size u.running) ≤ most_unput
-  pub clear : LeavesOpen u.running.stage → IsClear t.joiner
-  pub opening : IsOpening u.running.stage → IsClear t.joiner
+-- what the confirm or a message leaves, whatever the course
+pub record Settles (config : Config) (t : Talk) (u : UnderWay) (t' : Talk) (u' : UnderWay) : Type 0 where
+  pub reader : t'.reader ≡ t.reader
+  pub none : t'.outbox.unsent ≡ []
+  pub few : (size : ℕ) → 128 ≤ size → length (unput_of config size u'.running) ≤ most_unput
+  pub not_before : IsOpening u'.running.stage → ⊥
+  -- one message less is left to take
+  pub fewer : messages_left u'.running.stage + 1 ≤ messages_left u.running.stage
+  pub room : u'.carried.room ≡ u.carried.room
+  pub waited : u'.waited ≡ u.waited
 
--- and how much less there is to use then
-pub record Takes (config : Config) (t : Talk) (u : UnderWay) (t' : Talk) (u' : UnderWay) : Type 0 where
-  pub settles : Settles config t' u'
-  pub many : t.joiner.count ≤ 64 → t'.joiner.count ≤ 64
-  pub less : (held : ℕ) → held ≤ 8199 → t.joiner.count ≤ 64
-      → budget u'.running.stage t'.joiner.count 0 < budget u.running.stage t.joiner.count held
+-- ---- packets at fault
+
+-- the code of a TPDU that may not come: where the confirm is awaited, no other connects
+abbrev pub unexpected_at : Stage → ℕ
+unexpected_at stage.Opening = not_connected
+unexpected_at (stage.Asking a) = bad_packet
+unexpected_at (stage.Single s) = bad_packet
+unexpected_at stage.Leaving = bad_packet
+unexpected_at (stage.Over code leaves) = bad_packet
+
+abbrev pub code_at : Stage → ReadFault → ℕ
+code_at s BadFrame = bad_packet
+code_at s FrameTooLong = message_too_long
+code_at s BadTpdu = bad_packet
+code_at s Unexpected = unexpected_at s
+code_at s TooManyFragments = message_too_fragmented
+code_at s TooLong = message_too_long
 
 -- ---- what is put
 
@@ -111,9 +138,8 @@ pub record Puts (config : Config) (t : Talk) (r : Running) (t' : Talk) (r' : Run
   -- where the outbox is empty then, nothing is to be sent
   pub none : t'.outbox.unsent ≡ [] → (size : ℕ) → unput_of config size r' ≡ []
   pub few : length t.outbox.unsent ≤ most_packets → length t'.outbox.unsent ≤ most_packets
-  pub size : t'.size ≡ t.size
+  pub reader : t'.reader ≡ t.reader
   pub sequence : t'.sequence ≡ t.sequence
-  pub joiner : t'.joiner ≡ t.joiner
   pub same : ((t'.outbox.unsent ≡ t.outbox.unsent) × (r' ≡ r)) ⊎ (IsAsking r.stage × IsAsking r'.stage)
   pub follows : (granted : Option Grant) (rows : List Row) → Follows r config granted rows
       → Follows r' config granted rows
@@ -123,7 +149,7 @@ pub record Puts (config : Config) (t : Talk) (r : Running) (t' : Talk) (r' : Run
 
 -- The client stands at a place of the course before which nothing was used, and may send all that may be sent there.
 pub record StartsAt (origin : Origin) (course : Course) (t : Talk) (r : Running) : Type 0 where
-  pub size : t.size ≡ course.size
+  pub size : size_in t ≡ course.size
   pub sequence : t.sequence ≡ course.sequence
   pub awaits : course.awaits ≡ awaited_in r []
   pub opens : IsOpening r.stage
@@ -134,10 +160,11 @@ pub record StartsAt (origin : Origin) (course : Course) (t : Talk) (r : Running)
 
 -- What a job asks first was asked, or its request was put.
 pub record BeginsTalk (config : Config) (t : Talk) (r : Running) (t' : Talk) (r' : Running) : Type 0 where
-  pub starts : (origin : Origin) → origin.config ≡ config → r.job ≡ origin.job → t.size ≡ (blank origin).size
+  pub starts : (origin : Origin) → origin.config ≡ config → r.job ≡ origin.job → size_in t ≡ (blank origin).size
       → t.sequence ≡ (blank origin).sequence → Begins r config origin.granted → StartsAt origin (begun origin) t' r'
   pub few : length t'.outbox.unsent ≤ most_packets
   pub quiet : IsOver r'.stage → t'.outbox.unsent ≡ []
-  pub size : t'.size ≡ t.size
-  pub joiner : t'.joiner ≡ t.joiner
+  pub opening : IsOpening r.stage → IsOpening r'.stage
+  pub opens : IsOpening r'.stage → IsOpening r.stage
+  pub reader : t'.reader ≡ t.reader
   pub job : r'.job ≡ r.job

@@ -5,3 +5,4 @@ pub mod Polling
 pub mod Form
 pub mod Fit
 pub mod Runs
+pub mod Completions

@@ -1,5 +1,5 @@
 -- What starting and polling do.
-use Rattle.std.specs.Prelude.{◌≡◌, ◌⊎◌, ℕ, ◌+◌, ◌<◌, ◌≤◌, Bool, true, false, List, [], ◌++◌, Option, None, Some, option_map, IsSome, ◌-◌, if◌then◌else◌}
+use Rattle.std.specs.Prelude.{◌≡◌, ◌⊎◌, ℕ, ◌+◌, ◌<◌, Bool, true, false, List, [], ◌++◌, Option, None, Some, option_map, IsSome, ◌-◌, if◌then◌else◌}
 use Rattle.s7_outer.specs.Shown.{Shown}
 use Rattle.s7_outer.specs.Count.{Rose}
 use Rattle.s7_dialogue.specs.declared.config.Config.{Config}
@@ -12,51 +12,50 @@ use Rattle.s7_dialogue.specs.declared.grant.Leaves.{Leaves}
 use Rattle.s7_dialogue.specs.declared.grant.Leaves.TheVariants as leaving
 use Rattle.s7_dialogue.specs.Codes.{timed_out}
 use Rattle.s7_client.specs.declared.under_way.UnderWay.{UnderWay}
-use Rattle.s7_client.specs.declared.client.Client.{Client}
-use Rattle.s7_cotp.specs.Gathered.{empty}
-use Rattle.s7_wire.specs.Bounds.{first_limit, message_limit, size_of_code}
+use Rattle.s7_client.specs.declared.connection.Connection.{Connection}
+use Rattle.s7_wire.specs.Bounds.{size_of_code}
+use Rattle.s7_wire.specs.Reads.{size_at, held_by}
 use Rattle.s7_client.specs.declared.line.Line.{Line}
-use Rattle.s7_dialogue.specs.declared.running.Running.{Running}
 use Rattle.s7_dialogue.specs.Dialogue.{End, fault_end}
 use Rattle.s7_dialogue.specs.Running.{IsResult, IsOver, awaited_in}
 use Rattle.s7_dialogue.specs.Course.{Origin, begins_anew, course, for_nothing, asked_size_code}
-use Rattle.s7_client.specs.At.{LeavesOpen, BeginsTalk, limit_at}
+use Rattle.s7_client.specs.At.{LeavesOpen, IsReading, IsClear, joiner_in, size_in}
 use Rattle.s7_client.specs.Standing.{Stands, Fits, IsBetween, Moves, IsOrderly, HasCause, HasMetNotYet, IsUnderWay, IsFault, unread, unsent}
 
 -- the job that is outstanding
-abbrev pub job_of : Client → Option Job
+abbrev pub job_of : Connection → Option Job
 job_of c = option_map (λ (u : UnderWay). u.running.job) c.job
 
 -- how many of its polls met a link that had nothing to give, or no room
-abbrev pub waited_of : Client → Option ℕ
+abbrev pub waited_of : Connection → Option ℕ
 waited_of c = option_map (λ (u : UnderWay). u.waited) c.job
 
-abbrev pub config_of : Client → Config
+abbrev pub config_of : Connection → Config
 config_of c = c.config
 
 -- what was granted, and nothing on a client that isn't connected
-abbrev pub grant_of : Client → Option Grant
+abbrev pub grant_of : Connection → Option Grant
 grant_of c = c.granted
 
-abbrev pub granted_pdu : Client → Option ℕ
+abbrev pub granted_pdu : Connection → Option ℕ
 granted_pdu c = option_map (λ (g : Grant). g.pdu) c.granted
 
-abbrev pub closed_of : Client → Bool
+abbrev pub closed_of : Connection → Bool
 closed_of c = c.is_closed
 
 -- the TPDU size of its link, and the sequence of the last numbered telegram
-abbrev pub size_of : Client → ℕ
-size_of c = c.line.talk.size
+abbrev pub size_of : Connection → ℕ
+size_of c = size_in c.line.talk
 
-abbrev pub sequence_of : Client → ℕ
+abbrev pub sequence_of : Connection → ℕ
 sequence_of c = c.line.talk.sequence
 
 -- the octets that were read and not used
-abbrev pub unread_of : Client → List ℕ
+abbrev pub unread_of : Connection → List ℕ
 unread_of c = unread c.line
 
 -- where a job starts on a client
-abbrev pub origin_at : Client → Job → Origin
+abbrev pub origin_at : Connection → Job → Origin
 origin_at c job = record {
   job = job;
   config = c.config;
@@ -66,7 +65,7 @@ origin_at c job = record {
 }
 
 -- The client stands for the octets that its job has used and those that it has transmitted, since it started there.
-pub record StandsFor (c : Client) (origin : Origin) (b written : List ℕ) : Type 0 where
+pub record StandsFor (c : Connection) (origin : Origin) (b written : List ℕ) : Type 0 where
   pub under_way : UnderWay
   pub is : c.job ≡ Some under_way
   pub config : origin.config ≡ c.config
@@ -74,7 +73,7 @@ pub record StandsFor (c : Client) (origin : Origin) (b written : List ℕ) : Typ
   pub stands : Stands origin c.line under_way b written
 
 -- a client that isn't connected and has no job
-pub record IsFresh (c : Client) (asked : Config) : Type 0 where
+pub record IsFresh (c : Connection) (asked : Config) : Type 0 where
   pub config : config_of c ≡ asked
   pub granted : grant_of c ≡ None
   pub closed : closed_of c ≡ false
@@ -87,7 +86,7 @@ pub record IsFresh (c : Client) (asked : Config) : Type 0 where
 
 -- The job was started: it has used and transmitted nothing. What was read before and not used is still there, but for
 -- a link that begins anew.
-pub record IsStarted (old new : Client) (job : Job) : Type 0 where
+pub record IsStarted (old new : Connection) (job : Job) : Type 0 where
   pub stands : StandsFor new (origin_at old job) [] []
   pub waited : waited_of new ≡ Some 0
   pub unread : unread_of new ≡ (if begins_anew (grant_of old) job then [] else unread_of old)
@@ -127,7 +126,7 @@ IsDoneBy origin link link' kept end carried b written waited =
     ⊎ IsByPatience origin link link' kept end carried b written waited
 
 -- how a job that started there and has used and transmitted these octets is done
-pub record IsDone (origin : Origin) (link link' : Shown) (old new : Client) (told : JobResult)
+pub record IsDone (origin : Origin) (link link' : Shown) (old new : Connection) (told : JobResult)
     (b written : List ℕ) : Type 0 where
   pub end : End
   pub carried : List ℕ
@@ -140,7 +139,7 @@ pub record IsDone (origin : Origin) (link link' : Shown) (old new : Client) (tol
   pub sequence : sequence_of new ≡ (course origin b).sequence
 
 -- the job goes on
-pub record IsPending (origin : Origin) (link' : Shown) (new : Client) (b written : List ℕ) : Type 0 where
+pub record IsPending (origin : Origin) (link' : Shown) (new : Connection) (b written : List ℕ) : Type 0 where
   pub stands : StandsFor new origin b written
   pub met : HasMetNotYet origin (unread_of new) link' b written
 
@@ -151,14 +150,14 @@ WaitsOnce None (Some now) polls = ⊥
 WaitsOnce (Some before) None polls = ⊥
 WaitsOnce None None polls = ⊥
 
-pub record Pends (old new : Client) (link link' : Shown) : Type 0 where
+pub record Pends (old new : Connection) (link link' : Shown) : Type 0 where
   pub rose : Rose link.waits link'.waits
   pub waited : WaitsOnce (waited_of old) (waited_of new) (config_of old).polls
   pub granted : grant_of new ≡ grant_of old
   pub closed : closed_of new ≡ closed_of old
 
 -- what a poll comes to, by the octets that it used and transmitted
-abbrev pub Comes : Client → Shown → Client → Shown → List ℕ → List ℕ → Polled → Type 0
+abbrev pub Comes : Connection → Shown → Connection → Shown → List ℕ → List ℕ → Polled → Type 0
 Comes old link new link' used written (polled.Done result) =
     (IsSome (job_of old)) × (job_of new ≡ None)
     × ((origin : Origin) (b w : List ℕ) → StandsFor old origin b w
@@ -170,7 +169,7 @@ Comes old link new link' used written polled.Pending =
 Comes old link new link' used written polled.Idle =
     (job_of old ≡ None) × (new ≡ old) × (link' ≡ link)
 
-pub record IsPoll (old : Client) (link : Shown) (new : Client) (link' : Shown) (result : Polled) : Type 0 where
+pub record IsPoll (old : Connection) (link : Shown) (new : Connection) (link' : Shown) (result : Polled) : Type 0 where
   pub moves : Moves (unread_of old) link (unread_of new) link'
   -- what it moved falls into deeds in order: octets were used only where all was sent, and received only where none was
   -- unused
@@ -183,10 +182,10 @@ pub record IsPoll (old : Client) (link : Shown) (new : Client) (link' : Shown) (
 
 -- a link that nothing moved on
 pub record IsNew (l : Line) : Type 0 where
-  pub held : l.cutter.held ≡ []
-  pub limit : l.cutter.limit ≡ first_limit
-  pub joiner : l.talk.joiner ≡ empty message_limit
-  pub size : l.talk.size ≡ size_of_code asked_size_code
+  pub reads : IsReading l.talk.reader
+  pub size : size_at l.talk.reader ≡ None
+  pub held : held_by l.talk.reader ≡ []
+  pub clear : IsClear (joiner_in l.talk)
   pub sequence : l.talk.sequence ≡ 0
   pub sent : unsent l ≡ []
   pub unread : unread l ≡ []
@@ -226,7 +225,7 @@ pub record EndsBy (origin : Origin) (link link' : Shown) (l : Line) (u : UnderWa
   pub carried : List ℕ
   pub ends_as : awaited_in u.running [] ≡ for_nothing end []
   pub carries : u.carried.octets ≡ carried
-  pub size : l.talk.size ≡ (course origin b).size
+  pub size : size_in l.talk ≡ (course origin b).size
   pub sequence : l.talk.sequence ≡ (course origin b).sequence
   pub job : u.running.job ≡ origin.job
   pub cause : IsDoneBy origin link link' (unread l) end carried b written (Some waited)
@@ -253,11 +252,3 @@ pub record IsBlank (u : UnderWay) : Type 0 where
   pub carried : u.carried.octets ≡ []
   pub room : u.carried.room ≡ 8192
   pub waited : u.waited ≡ 0
-
--- a job of which nothing was used begins on a line
-pub record BeginsLine (config : Config) (l : Line) (r : Running) (l' : Line) (r' : Running) : Type 0 where
-  pub talk : BeginsTalk config l.talk r l'.talk r'
-  pub held : l'.cutter.held ≡ []
-  pub limit : l'.cutter.limit ≡ limit_at r'.stage l'.talk.size
-  pub most : l'.cutter.limit ≤ 8199
-  pub inbox : unread l' ≡ unread l

@@ -8,7 +8,7 @@ use Rattle.s7_dialogue.specs.declared.job.Job.{Job}
 use Rattle.s7_dialogue.specs.declared.job.JobResult.{JobResult}
 use Rattle.s7_dialogue.specs.declared.grant.Grant.{Grant}
 use Rattle.s7_dialogue.specs.Codes.{timed_out}
-use Rattle.s7_client.specs.declared.client.Client.{Client}
+use Rattle.s7_client.specs.declared.connection.Connection.{Connection}
 use Rattle.s7_dialogue.specs.Dialogue.{End}
 use Rattle.s7_dialogue.specs.Running.{IsResult}
 use Rattle.s7_client.specs.Form.{HasForm, IsWhole}
@@ -27,7 +27,7 @@ pub record Between : Type 0 where
   -- the octets that were read and not used
   pub unread : List ℕ
 
-abbrev pub between_of : Client → Between
+abbrev pub between_of : Connection → Between
 between_of c = record {
   granted = grant_of c;
   is_closed = closed_of c;
@@ -83,7 +83,7 @@ pub record JobRun (config : Config) (before : Between) (asked : Job) (link link'
 -- ---- the parts of it
 
 -- polls that left the job outstanding
-pub record StillWaits (old : Client) (link : Shown) (c : Client) (link' : Shown) : Type 0 where
+pub record StillWaits (old : Connection) (link : Shown) (c : Connection) (link' : Shown) : Type 0 where
   pub moves : Moves (unread_of old) link (unread_of c) link'
   pub config : config_of c ≡ config_of old
   pub granted : grant_of c ≡ grant_of old
@@ -96,7 +96,7 @@ pub record StillWaits (old : Client) (link : Shown) (c : Client) (link' : Shown)
       → StandsFor c origin (b ++ moves.used) (w ++ moves.written)
 
 -- how a job is done, since the client stood for these octets
-pub record IsOverNow (origin : Origin) (link link' : Shown) (old new : Client) (told : JobResult)
+pub record IsOverNow (origin : Origin) (link link' : Shown) (old new : Connection) (told : JobResult)
     (b written : List ℕ) : Type 0 where
   pub end : End
   pub carried : List ℕ
@@ -109,7 +109,7 @@ pub record IsOverNow (origin : Origin) (link link' : Shown) (old new : Client) (
   pub sequence : sequence_of new ≡ (course origin b).sequence
 
 -- polls up to the one that was done
-pub record Completes (old : Client) (link : Shown) (new : Client) (link' : Shown) (told : JobResult) : Type 0 where
+pub record Completes (old : Connection) (link : Shown) (new : Connection) (link' : Shown) (told : JobResult) : Type 0 where
   pub moves : Moves (unread_of old) link (unread_of new) link'
   pub config : config_of new ≡ config_of old
   pub idle : job_of new ≡ None

@@ -1,12 +1,11 @@
 -- What a client stands for while a job is under way, and what its polls do.
-use Rattle.std.specs.Prelude.{◌≡◌, ◌⊎◌, ℕ, ◌+◌, ◌-◌, ◌*◌, ◌<◌, ◌≤◌, false, List, [], ◌++◌, length, Option, Some, option_map, IsTrue}
+use Rattle.std.specs.Prelude.{◌≡◌, ◌⊎◌, ℕ, ◌+◌, ◌-◌, ◌*◌, ◌<◌, ◌≤◌, List, [], ◌++◌, length, Option, None, Some, IsSome, option_map, IsTrue}
 use Rattle.std.specs.Io.KnownBytes.{prepend_known, append_known, IsAtEnd}
 use Rattle.s7_outer.specs.Shown.{Shown}
 use Rattle.s7_outer.specs.Count.{Rose}
-use Rattle.s7_tpkt.specs.Packets.{HoldsRest, state_of}
-use Rattle.s7_tpkt.specs.declared.state.FedState.TheVariants as fed
-use Rattle.s7_cotp.specs.Gathered.{is_fault}
-use Rattle.s7_wire.specs.Bounds.{limit_of_size, most_packets}
+use Rattle.s7_tpkt.specs.Packets.{HoldsRest}
+use Rattle.s7_wire.specs.Bounds.{most_packets}
+use Rattle.s7_wire.specs.Reads.{size_at, held_by}
 use Rattle.s7_dialogue.specs.declared.config.Config.{Config}
 use Rattle.s7_dialogue.specs.declared.grant.Grant.{Grant}
 use Rattle.s7_dialogue.specs.Codes.{link_ended, send_failed, receive_failed}
@@ -17,7 +16,7 @@ use Rattle.s7_client.specs.declared.steps.Step.TheVariants as step
 use Rattle.s7_dialogue.specs.Dialogue.{End, fault_end}
 use Rattle.s7_dialogue.specs.Running.{awaited_in, IsOver, IsOpening}
 use Rattle.s7_dialogue.specs.Course.{Origin, Awaits, for_confirm, for_answers, for_departure, for_nothing, conduct_of, course, may_send, limits}
-use Rattle.s7_client.specs.At.{IsAt, IsClear, LeavesOpen, budget, pending}
+use Rattle.s7_client.specs.At.{IsAt, IsReading, IsClear, LeavesOpen, budget, pending, joiner_in, size_in}
 use Rattle.s7_client.specs.Order.{Deed, transmitted_in, used_in, received_in, AreInOrder}
 
 abbrev pub unread : Line → List ℕ
@@ -51,25 +50,27 @@ AllAwaited origin b =
 pub record Stands (origin : Origin) (l : Line) (u : UnderWay) (b written : List ℕ) : Type 0 where
   pub at : IsAt origin (course origin b) l.talk u
   pub owed : may_send origin b ≡ written ++ pending origin.config l.talk u.running
-  pub rest : (IsOver u.running.stage → ⊥) → HoldsRest (limits origin) b l.cutter
+  pub rest : (IsOver u.running.stage → ⊥) → HoldsRest (limits origin) b l.talk.reader.cutter
   pub sent_first : SentFirst origin b written
   pub all_awaited : AllAwaited origin b
 
 -- a link between two messages
 pub record IsBetween (l : Line) : Type 0 where
-  pub held : l.cutter.held ≡ []
-  pub limit : l.cutter.limit ≡ limit_of_size l.talk.size
-  pub clear : IsClear l.talk.joiner
+  pub reads : IsReading l.talk.reader
+  pub sized : IsSome (size_at l.talk.reader)
+  pub held : held_by l.talk.reader ≡ []
+  pub clear : IsClear (joiner_in l.talk)
   pub sent : unsent l ≡ []
 
 -- what holds of a line and its job, whatever the course
 pub record Fits (l : Line) (u : UnderWay) : Type 0 where
-  pub going : (IsOver u.running.stage → ⊥) → is_fault l.talk.joiner.state ≡ false
-  pub more : (IsOver u.running.stage → ⊥) → state_of l.cutter.limit l.cutter.held ≡ fed.More
-  pub limit : (IsOver u.running.stage → ⊥) → l.cutter.limit ≤ 8199
-  pub opening : IsOpening u.running.stage → IsClear l.talk.joiner
+  pub reads : (IsOver u.running.stage → ⊥) → IsReading l.talk.reader
+  -- the confirm has come, but where it is awaited
+  pub unsized : IsOpening u.running.stage → size_at l.talk.reader ≡ None
+  pub sized : (IsOver u.running.stage → ⊥) → (IsOpening u.running.stage → ⊥) → IsSome (size_at l.talk.reader)
+  pub opening : IsOpening u.running.stage → IsClear (joiner_in l.talk)
   pub between : LeavesOpen u.running.stage → IsBetween l
-  pub many : (IsOver u.running.stage → ⊥) → l.talk.joiner.count ≤ 64
+  pub many : (IsOver u.running.stage → ⊥) → (joiner_in l.talk).count ≤ 64
   pub few : length (unsent l) ≤ most_packets
   pub quiet : IsOver u.running.stage → unsent l ≡ []
   pub carried : u.carried.room ≡ 8192
@@ -142,7 +143,7 @@ pub record HasEnded (origin : Origin) (link link' : Shown) (l : Line) (u : Under
   pub carries : u.carried.octets ≡ carried
   -- what the link has of it
   pub job : u.running.job ≡ origin.job
-  pub size : l.talk.size ≡ (course origin b).size
+  pub size : size_in l.talk ≡ (course origin b).size
   pub sequence : l.talk.sequence ≡ (course origin b).sequence
   pub cause : HasCause origin link link' (unread l) end carried b written
 
@@ -192,7 +193,8 @@ pub record IsUnderWay (origin : Origin) (b written : List ℕ) : Type 0 where
 -- how much a job can still do: octets to use, and then octets to send, which are fewer than 16,384 behind a packet
 abbrev pub work : Config → Line → UnderWay → ℕ
 work config l u =
-    budget u.running.stage l.talk.joiner.count (length l.cutter.held) * 16384 + length (pending config l.talk u.running)
+    budget u.running.stage (joiner_in l.talk).count (length (held_by l.talk.reader)) * 16384
+    + length (pending config l.talk u.running)
 
 -- what one step comes to
 pub record IsStep (l : Line) (u : UnderWay) (link : Shown) (l' : Line) (u' : UnderWay) (link' : Shown)
@@ -216,7 +218,7 @@ pub record IsStep (l : Line) (u : UnderWay) (link : Shown) (l' : Line) (u' : Und
       → Stands origin l u b w
       → result ≡ step.Over → HasEnded origin link link' l' u' (b ++ moves.used) (w ++ moves.written)
 
--- what using octets that were read does, up to the end of one packet
+-- what using octets that were received does, up to the end of one packet
 pub record Consumes (l : Line) (u : UnderWay) (l' : Line) (u' : UnderWay) (config : Config)
     (granted : Option Grant) : Type 0 where
   pub used : List ℕ

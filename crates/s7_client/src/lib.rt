@@ -2,9 +2,13 @@
 #![tactic(auto)]
 
 mod client;
+mod completion;
+mod connection;
+mod counter;
 mod job;
 mod laws;
 mod line;
+mod op;
 mod packets;
 mod polls;
 mod runs;
@@ -13,6 +17,10 @@ mod talk;
 mod under_way;
 
 pub use client::Client;
+pub use completion::Completion;
+pub use connection::Connection;
+pub use counter::Counter;
 pub use job::{Polled, StartCause, StartFault};
 pub use laws::{ends_have_form, telegrams_fit};
+pub use op::{op_of, tell};
 pub use s7_dialogue::{Config, ItemList, Job, JobResult, codes};

@@ -1,26 +1,27 @@
-// How a job puts telegrams and takes packets.
-ghost use Rattle.std.specs.Prelude.{◌≡◌, ℕ, ◌+◌, ◌≤◌, [], length, false, Ok};
+// How a job puts telegrams and takes messages.
+ghost use Rattle.std.specs.Prelude.{◌≡◌, ◌<◌, ◌≤◌, ℕ, List, [], ◌++◌, length, take, None};
 ghost use Rattle.s7_outer.specs.Numbers.{two_octets};
-ghost use Rattle.s7_cotp.specs.Told.{told_of, tsap_of, CanBeWrittenAgain, fragment};
-ghost use Rattle.s7_cotp.specs.declared.joining.Joined.{Joined};
-ghost use Rattle.s7_cotp.specs.Gathered.{is_fault};
+ghost use Rattle.s7_tpkt.specs.Packets.{state_of};
+ghost use Rattle.s7_tpkt.specs.declared.state.FedState.TheVariants.{More};
+ghost use Rattle.s7_cotp.specs.Told.{tsap_of};
 ghost use Rattle.s7_header.specs.Negotiation.{most_pdu};
+ghost use Rattle.s7_wire.specs.Reads.{HasRead, HasFound, HasMessage, opens_by, ended_with, message_at};
+ghost use Rattle.s7_wire.specs.Reads.{held_by, limit_at};
 ghost use Rattle.s7_dialogue.specs.Running.{IsAsking, IsOpening, unput_of};
-ghost use Rattle.s7_dialogue.specs.Course.{Origin, Course, conduct_of, connect_octets, disconnect_octets};
-ghost use Rattle.s7_dialogue.specs.Course.{with_packet, with_message, confirming, connected};
-ghost use Rattle.s7_client.specs.At.{IsAt, Reaches, Settles, Takes, Puts, BeginsTalk, IsAwaiting, IsClear, messages_left};
+ghost use Rattle.s7_dialogue.specs.Course.{Origin, Course, conduct_of, asking, connect_octets, disconnect_octets};
+ghost use Rattle.s7_dialogue.specs.Course.{with_message};
+ghost use Rattle.s7_client.specs.At.{IsAt, Reaches, Settles, Puts, BeginsTalk, size_in};
 
 use crate::talk::Talk;
 use crate::under_way::UnderWay;
-use s7_cotp::{Connection, Joined, Tpdu, Tsap, read_tpdu, write_connect, write_disconnect};
-use s7_dialogue::codes::{
-    BAD_PACKET, INVALID_ANSWER, LINK_ENDED, NOT_CONNECTED, SHORT_MESSAGE, TOO_LONG,
-    TOO_MANY_FRAGMENTS,
-};
+use s7_cotp::{Connection, Tsap, write_connect, write_disconnect};
+use s7_dialogue::codes::{INVALID_ANSWER, SHORT_MESSAGE};
 use s7_dialogue::{Config, Grant, Running, Stage};
-use s7_wire::{put_message, tpdu_size};
+use s7_wire::{Found, Taken, put_message};
 
-/// The code of the TPDU size that is asked for: 1,024 octets.
+/// The TPDU size that is asked for, in octets, and its code.
+const ASKED_SIZE: u16 = 1_024;
+
 const SIZE_CODE: u8 = 0x0A;
 
 /// Each side's reference.
@@ -57,7 +58,20 @@ impl Talk {
         }
         if running.write_next(config, &mut self.message) {
             self.outbox.clear();
-            put_message(&mut self.outbox, self.size, self.message.as_slice());
+            let size = self.size();
+            put_message(&mut self.outbox, size, self.message.as_slice());
+        }
+    }
+
+    // The TPDU size of the link: the one that is asked for, until the confirm tells another.
+    fn size(&self) -> u16
+        ensures size { result ≡ size_in self.now }
+        ensures least { 128 ≤ result }
+        ensures most { result ≤ 8192 }
+    {
+        match self.reader.size() {
+            Some(size) => size,
+            None => ASKED_SIZE,
         }
     }
 
@@ -65,9 +79,8 @@ impl Talk {
     fn put_disconnect(&mut self)
         requires { self.old.outbox ≡ record { unsent = []; room = 4096 } }
         ensures unsent { self.new.outbox.unsent ≡ disconnect_octets }
-        ensures size { self.new.size ≡ self.old.size }
+        ensures reader { self.new.reader ≡ self.old.reader }
         ensures sequence { self.new.sequence ≡ self.old.sequence }
-        ensures joiner { self.new.joiner ≡ self.old.joiner }
     {
         let mut octets = [0u8; 7];
         let len = write_disconnect(REFERENCE, REFERENCE, BY_USER, &mut octets);
@@ -78,9 +91,8 @@ impl Talk {
     fn put_connect(&mut self, config: &Config)
         requires { self.old.outbox ≡ record { unsent = []; room = 4096 } }
         ensures unsent { self.new.outbox.unsent ≡ connect_octets config.now }
-        ensures size { self.new.size ≡ self.old.size }
+        ensures reader { self.new.reader ≡ self.old.reader }
         ensures sequence { self.new.sequence ≡ self.old.sequence }
-        ensures joiner { self.new.joiner ≡ self.old.joiner }
     {
         let request = Connection {
             dst_ref: 0,
@@ -108,82 +120,41 @@ fn tsap(number: u16) -> Tsap
 }
 
 impl Talk {
-    /// Takes a packet with this body, for a job that awaits octets.
-    #[tactic(auto, unfolding(s7_dialogue::specs::Course::with_packet))]
-    pub(crate) fn packet(
-        &mut self,
-        job: &mut UnderWay,
-        config: &Config,
-        granted: Option<Grant>,
-        body: &[u8],
-    )
-        requires awaiting { IsAwaiting job.old.running.stage }
-        requires going { is_fault self.old.joiner.state ≡ false }
-        requires clear { IsOpening job.old.running.stage → IsClear self.old.joiner }
-        requires sent { self.old.outbox.unsent ≡ [] }
-        requires unput { (size : ℕ) → unput_of config.now size job.old.running ≡ [] }
-        requires carried { job.old.carried.room ≡ 8192 }
-        requires pdu { config.now.pdu ≤ most_pdu }
-        requires jobs { config.now.jobs ≤ 8 }
-        ensures reaches { (origin : Origin) (course : Course) → origin.config ≡ config.now → origin.granted ≡ granted
-            → IsAt origin course self.old job.old
-            → Reaches origin course (with_packet origin course body.now) self.new job.new }
-        ensures takes { Takes config.now self.old job.old self.new job.new }
-        ensures carried { job.new.carried.room ≡ 8192 }
-        ensures waited { job.new.waited ≡ job.old.waited }
+    /// Reads octets up to the end of one packet or of the piece, and says what they end: none is used behind
+    /// a message before what is asked then is sent.
+    pub(crate) fn read(&mut self, piece: &[u8]) -> Taken
+        requires some { 0 < length piece.now }
+        requires going { ended_with self.old.reader ≡ None }
+        ensures taken { result.octets ≤ length piece.now }
+        ensures some { 0 < result.octets }
+        ensures found { (b : List ℕ) → HasRead self.old.reader b
+            → HasFound self.new.reader b (take result.octets piece.now) result.found }
+        ensures earliest { (k : ℕ) → k < result.octets
+            → state_of (limit_at self.old.reader) (held_by self.old.reader ++ take k piece.now) ≡ More }
+        ensures opening { opens_by self.new.reader ≡ opens_by self.old.reader }
+        ensures message { result.found ≡ Found.Message → HasMessage self.new.reader }
+        ensures same { self.new ≡ record self.old { reader = self.new.reader } }
     {
-        let Ok(tpdu) = read_tpdu(body) else {
-            job.running.fail(BAD_PACKET);
-            return;
-        };
-        match &job.running.stage {
-            Stage::Opening => self.confirming(job, config, &tpdu),
-            Stage::Asking(_) => self.connected(job, config, granted, &tpdu),
-            Stage::Single(_) => self.connected(job, config, granted, &tpdu),
-            Stage::Leaving | Stage::Over { .. } => unreachable!(),
-        }
+        self.reader.read(piece)
     }
 
-    // The confirm of the connect request, in place of which nothing else may come.
-    fn confirming(&mut self, job: &mut UnderWay, config: &Config, tpdu: &Tpdu<'_>)
+    /// The confirm has come: asks the first questions.
+    pub(crate) fn open(&mut self, job: &mut UnderWay)
         requires opening { IsOpening job.old.running.stage }
-        requires clear { IsClear self.old.joiner }
         requires sent { self.old.outbox.unsent ≡ [] }
-        requires unput { (size : ℕ) → unput_of config.now size job.old.running ≡ [] }
-        requires writable { CanBeWrittenAgain tpdu.now }
-        requires carried { job.old.carried.room ≡ 8192 }
-        requires pdu { config.now.pdu ≤ most_pdu }
-        requires jobs { config.now.jobs ≤ 8 }
-        ensures reaches { (origin : Origin) (course : Course) → origin.config ≡ config.now
-            → IsAt origin course self.old job.old
-            → Reaches origin course (confirming (conduct_of origin) course (Ok (told_of tpdu.now))) self.new job.new }
-        ensures takes { Takes config.now self.old job.old self.new job.new }
-        ensures carried { job.new.carried.room ≡ 8192 }
-        ensures waited { job.new.waited ≡ job.old.waited }
+        ensures reaches { (origin : Origin) (course : Course) → IsAt origin course self.old job.old
+            → Reaches origin course (asking (conduct_of origin) course) self.new job.new }
+        ensures settles { (config : Config) → Settles config self.old job.old self.new job.new }
     {
-        match tpdu {
-            Tpdu::Confirm(confirm) => {
-                self.size = tpdu_size(confirm.size_code);
-                job.running.confirm();
-                self.sequence = job.running.go_on(self.sequence);
-            }
-            Tpdu::Connect(_) => job.running.fail(NOT_CONNECTED),
-            Tpdu::Fragment { .. } => job.running.fail(NOT_CONNECTED),
-            Tpdu::Disconnect { .. } => job.running.fail(NOT_CONNECTED),
-            Tpdu::Reject { .. } => job.running.fail(NOT_CONNECTED),
-        }
+        job.running.confirm();
+        self.sequence = job.running.go_on(self.sequence);
     }
 
-    // What comes after it: fragments, and an end.
-    fn connected(
-        &mut self,
-        job: &mut UnderWay,
-        config: &Config,
-        granted: Option<Grant>,
-        tpdu: &Tpdu<'_>,
-    )
+    /// Takes the message that is whole.
+    pub(crate) fn message(&mut self, job: &mut UnderWay, config: &Config, granted: Option<Grant>)
         requires asking { IsAsking job.old.running.stage }
-        requires going { is_fault self.old.joiner.state ≡ false }
+        requires whole { HasMessage self.old.reader }
+        requires most { length (message_at self.old.reader) ≤ 8192 }
         requires sent { self.old.outbox.unsent ≡ [] }
         requires unput { (size : ℕ) → unput_of config.now size job.old.running ≡ [] }
         requires carried { job.old.carried.room ≡ 8192 }
@@ -191,73 +162,11 @@ impl Talk {
         requires jobs { config.now.jobs ≤ 8 }
         ensures reaches { (origin : Origin) (course : Course) → origin.config ≡ config.now
             → origin.granted ≡ granted → IsAt origin course self.old job.old
-            → Reaches origin course (connected (conduct_of origin) course (Ok (told_of tpdu.now))) self.new job.new }
-        ensures takes { Takes config.now self.old job.old self.new job.new }
-        ensures carried { job.new.carried.room ≡ 8192 }
-        ensures waited { job.new.waited ≡ job.old.waited }
-    {
-        match tpdu {
-            Tpdu::Fragment { last, user } => self.fragment(job, config, granted, *last, user),
-            Tpdu::Disconnect { .. } => job.running.fail(LINK_ENDED),
-            Tpdu::Connect(_) => job.running.fail(BAD_PACKET),
-            Tpdu::Confirm(_) => job.running.fail(BAD_PACKET),
-            Tpdu::Reject { .. } => job.running.fail(BAD_PACKET),
-        }
-    }
-
-    // Adds a fragment, and takes the message that it ends.
-    fn fragment(
-        &mut self,
-        job: &mut UnderWay,
-        config: &Config,
-        granted: Option<Grant>,
-        last: bool,
-        user: &[u8],
-    )
-        requires asking { IsAsking job.old.running.stage }
-        requires going { is_fault self.old.joiner.state ≡ false }
-        requires sent { self.old.outbox.unsent ≡ [] }
-        requires unput { (size : ℕ) → unput_of config.now size job.old.running ≡ [] }
-        requires carried { job.old.carried.room ≡ 8192 }
-        requires pdu { config.now.pdu ≤ most_pdu }
-        requires jobs { config.now.jobs ≤ 8 }
-        ensures reaches { (origin : Origin) (course : Course) → origin.config ≡ config.now
-            → origin.granted ≡ granted → IsAt origin course self.old job.old
-            → Reaches origin course (connected (conduct_of origin) course (Ok (fragment last user.now)))
+            → Reaches origin course (with_message (conduct_of origin) course (message_at self.old.reader))
             self.new job.new }
-        ensures takes { Takes config.now self.old job.old self.new job.new }
-        ensures carried { job.new.carried.room ≡ 8192 }
-        ensures waited { job.new.waited ≡ job.old.waited }
+        ensures settles { Settles config.now self.old job.old self.new job.new }
     {
-        match self.joiner.add(user, last) {
-            Joined::More => {}
-            Joined::Whole => self.message(job, config, granted),
-            Joined::TooManyFragments => job.running.fail(TOO_MANY_FRAGMENTS),
-            Joined::TooLong => job.running.fail(TOO_LONG),
-        }
-    }
-
-    // Takes a whole message.
-    fn message(&mut self, job: &mut UnderWay, config: &Config, granted: Option<Grant>)
-        requires asking { IsAsking job.old.running.stage }
-        requires whole { self.old.joiner.state ≡ Joined.Whole }
-        requires none { self.old.joiner.count ≡ 0 }
-        requires most { length self.old.joiner.octets ≤ 8192 }
-        requires sent { self.old.outbox.unsent ≡ [] }
-        requires unput { (size : ℕ) → unput_of config.now size job.old.running ≡ [] }
-        requires carried { job.old.carried.room ≡ 8192 }
-        requires pdu { config.now.pdu ≤ most_pdu }
-        requires jobs { config.now.jobs ≤ 8 }
-        ensures reaches { (origin : Origin) (course : Course) → origin.config ≡ config.now
-            → origin.granted ≡ granted → IsAt origin course self.old job.old
-            → Reaches origin course (with_message (conduct_of origin) course self.old.joiner.octets) self.new job.new }
-        ensures settles { Settles config.now self.new job.new }
-        ensures carried { job.new.carried.room ≡ 8192 }
-        ensures waited { job.new.waited ≡ job.old.waited }
-        ensures fewer { messages_left job.new.running.stage + 1 ≤ messages_left job.old.running.stage }
-        ensures joiner { self.new.joiner ≡ self.old.joiner }
-    {
-        let message = self.joiner.message();
+        let message = self.reader.message();
         if message.len() < LEAST_MESSAGE {
             job.running.fail(SHORT_MESSAGE);
             return;

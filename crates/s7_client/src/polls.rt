@@ -2,34 +2,29 @@
 ghost use Rattle.std.specs.Prelude.{◌≡◌, ◌<◌, ◌≤◌, [], true, false, None, IsSome, IfOk, OnOk, IfErr, OnErr};
 ghost use Rattle.s7_header.specs.Negotiation.{most_pdu};
 ghost use Rattle.s7_client.specs.Polling.{IsFresh, IsStarted, IsPoll, job_of, granted_pdu, closed_of, IsNew, IsBlank};
-ghost use Rattle.s7_client.specs.Polling.{BeginsLine, Waits, Round, grant_after, closed_after};
+ghost use Rattle.s7_client.specs.Polling.{Waits, Round, grant_after, closed_after};
 ghost use Rattle.s7_client.specs.At.{LeavesLink};
 ghost use Rattle.s7_dialogue.specs.Running.{awaited_in, Begins, IsOver, IsResult};
 ghost use Rattle.s7_dialogue.specs.Dialogue.{End};
 ghost use Rattle.s7_dialogue.specs.Course.{begins_anew, for_nothing};
 ghost use Rattle.s7_client.specs.Standing.{Fits, unsent};
 
-use crate::client::Client;
+use crate::connection::Connection;
 use crate::job::{Polled, StartCause, StartFault};
 use crate::line::Line;
-use crate::steps::{Step, packet_limit};
+use crate::steps::Step;
 use crate::talk::Talk;
 use crate::under_way::UnderWay;
-use s7_cotp::Joiner;
 use s7_dialogue::codes::TIMED_OUT;
 use s7_dialogue::{Config, Grant, Job, JobResult, Leaves, MOST_MESSAGE, Running};
 use s7_outer::{Buffer, Link, Memory};
-use s7_tpkt::Cutter;
-use s7_wire::{Inbox, MESSAGE_LIMIT, Outbox};
+use s7_wire::{Inbox, MESSAGE_LIMIT, Opening, Outbox, Reader};
 use std::alloc::Global;
 
-/// The TPDU size that is asked for.
-const ASKED_SIZE: u16 = 1_024;
-
-impl Client {
+impl Connection {
     /// A client that isn't connected and has no job. The PDU is from 64 to 1,920, the jobs from 1 to
     /// 8, the polls at least 1. `Memory` comes where there is none for its buffers.
-    pub fn new(alloc: Global, config: Config) -> Result<Client, Memory>
+    pub fn new(alloc: Global, config: Config) -> Result<Connection, Memory>
         requires least_pdu { 64 ≤ config.pdu }
         requires most_pdu { config.pdu ≤ most_pdu }
         requires least_jobs { 1 ≤ config.jobs }
@@ -37,7 +32,7 @@ impl Client {
         requires polls { 1 ≤ config.polls }
         ensures { IfOk result (λ client. IsFresh client config) }
     {
-        Ok(Client {
+        Ok(Connection {
             config,
             granted: None,
             is_closed: false,
@@ -117,7 +112,7 @@ impl Client {
         requires begins { Begins job.running self.old.config self.old.granted }
         ensures { IsStarted self.old self.new job.running.job }
     {
-        self.line.begin(&mut job.running, &self.config);
+        self.line.talk.begin(&mut job.running, &self.config);
         self.job = Some(job);
     }
 
@@ -132,7 +127,7 @@ impl Client {
     {
         self.line = line;
         self.is_closed = false;
-        self.line.begin(&mut job.running, &self.config);
+        self.line.talk.begin(&mut job.running, &self.config);
         self.job = Some(job);
     }
 
@@ -271,27 +266,14 @@ impl Line {
         ensures { IfOk result IsNew }
     {
         Ok(Line {
-            cutter: Cutter::new(),
             inbox: Inbox::new(),
             talk: Talk {
-                joiner: Joiner::new(alloc, MESSAGE_LIMIT)?,
-                size: ASKED_SIZE,
+                reader: Reader::new(alloc, Opening::Confirm)?,
                 sequence: 0,
                 message: Buffer::new(alloc, MOST_MESSAGE)?,
                 outbox: Outbox::new(),
             },
         })
-    }
-
-    // Begins a job, between two messages.
-    fn begin(&mut self, running: &mut Running, config: &Config)
-        requires sent { unsent self.old ≡ [] }
-        requires held { self.old.cutter.held ≡ [] }
-        ensures { BeginsLine config.now self.old running.old self.new running.new }
-    {
-        self.talk.begin(running, config);
-        self.cutter
-            .set_limit(packet_limit(&running.stage, self.talk.size));
     }
 }
 

@@ -3,13 +3,13 @@ ghost use Rattle.std.specs.Prelude.{◌≡◌, None, Some, IfOk, OnOk, IfErr, On
 ghost use Rattle.s7_client.specs.Polling.{job_of, config_of, waited_of};
 ghost use Rattle.s7_client.specs.Runs.{between_of, JobRun, Completes};
 
-use crate::client::Client;
+use crate::connection::Connection;
 use crate::job::{Polled, StartCause, StartFault};
 use s7_dialogue::{Job, JobResult};
 use s7_outer::Link;
 use std::alloc::Global;
 
-impl Client {
+impl Connection {
     /// Starts a job and polls until it is done: in at most as many polls as the configuration has,
     /// where the link has nothing to give, or no room, each time. No job is outstanding before it.
     /// `Memory` comes where there is none for the job, which is then handed back; the client and

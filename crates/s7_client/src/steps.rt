@@ -2,16 +2,18 @@
 ghost use Rattle.std.specs.Prelude.{◌≡◌, ◌≢◌, ℕ, ◌<◌, ◌≤◌, [], length};
 ghost use Rattle.s7_header.specs.Negotiation.{most_pdu};
 ghost use Rattle.s7_dialogue.specs.Running.{unput_of};
-ghost use Rattle.s7_client.specs.At.{IsAwaiting, limit_at};
+ghost use Rattle.s7_client.specs.At.{IsAwaiting, code_at};
 ghost use Rattle.s7_client.specs.Standing.{Fits, IsStep, Consumes, unread, unsent};
 
 use crate::line::Line;
 use crate::under_way::UnderWay;
-use s7_dialogue::codes::{BAD_PACKET, LINK_ENDED, RECEIVE_FAILED, SEND_FAILED, TOO_LONG};
+use s7_dialogue::codes::{
+    BAD_PACKET, LINK_ENDED, NOT_CONNECTED, RECEIVE_FAILED, SEND_FAILED, TOO_LONG,
+    TOO_MANY_FRAGMENTS,
+};
 use s7_dialogue::{Config, Grant, Stage};
 use s7_outer::{Got, Link, Sent};
-use s7_tpkt::FedState;
-use s7_wire::{FIRST_LIMIT, HEADERS, PIECE};
+use s7_wire::{Found, PIECE, ReadFault};
 
 /// What one step comes to.
 #[derive(Clone, Copy, Debug, PartialEq, Eq)]
@@ -49,8 +51,8 @@ impl Line {
         }
     }
 
-    /// Sends what may go out, or else uses octets that were read, or else receives and uses octets,
-    /// up to the end of one packet.
+    /// Sends what may go out, or else uses octets that were received, or else receives and uses some, up to
+    /// the end of one packet.
     pub(crate) fn step<L: Link>(
         &mut self,
         job: &mut UnderWay,
@@ -125,7 +127,7 @@ impl Line {
         }
     }
 
-    // Uses octets that were read, up to the end of one packet.
+    // Uses octets that were received, up to the end of one packet.
     fn consume(&mut self, job: &mut UnderWay, config: &Config, granted: Option<Grant>)
         requires fits { Fits self.old job.old }
         requires pdu { config.now.pdu ≤ most_pdu }
@@ -136,31 +138,29 @@ impl Line {
         requires read { 0 < length (unread self.old) }
         ensures { Consumes self.old job.old self.new job.new config.now granted }
     {
-        let fed = self.cutter.feed(self.inbox.as_slice());
-        self.inbox.advance(fed.taken);
-        match fed.state {
-            FedState::More => {}
-            FedState::BadVersion | FedState::BadLength => job.running.fail(BAD_PACKET),
-            FedState::TooLong => job.running.fail(TOO_LONG),
-            FedState::Whole => {
-                self.talk.packet(job, config, granted, self.cutter.body());
-                self.cutter.clear();
-                self.cutter
-                    .set_limit(packet_limit(&job.running.stage, self.talk.size));
+        let taken = self.talk.read(self.inbox.as_slice());
+        self.inbox.advance(taken.octets);
+        match taken.found {
+            Found::More => {}
+            Found::Opened(_) => self.talk.open(job),
+            Found::Message => self.talk.message(job, config, granted),
+            Found::Disconnected => job.running.fail(LINK_ENDED),
+            Found::Fault(fault) => {
+                let code = code_of(fault, &job.running.stage);
+                job.running.fail(code);
             }
         }
     }
 }
 
-// The length that no packet passes.
-pub(crate) fn packet_limit(stage: &Stage, size: u16) -> u16
-    requires { size ≤ 8192 }
-    ensures limit { result ≡ limit_at stage.now size }
-    ensures least { 7 ≤ result }
-    ensures most { result ≤ 8199 }
+// The code of a packet at fault. Where the confirm is awaited, no other TPDU connects.
+fn code_of(fault: ReadFault, stage: &Stage) -> u32
+    ensures { result ≡ code_at stage.now fault }
 {
-    match stage {
-        Stage::Opening => FIRST_LIMIT,
-        Stage::Asking(_) | Stage::Single(_) | Stage::Leaving | Stage::Over { .. } => size + HEADERS,
+    match (fault, stage) {
+        (ReadFault::Unexpected, Stage::Opening) => NOT_CONNECTED,
+        (ReadFault::BadFrame | ReadFault::BadTpdu | ReadFault::Unexpected, _) => BAD_PACKET,
+        (ReadFault::FrameTooLong | ReadFault::TooLong, _) => TOO_LONG,
+        (ReadFault::TooManyFragments, _) => TOO_MANY_FRAGMENTS,
     }
 }

@@ -22,6 +22,24 @@ pub(crate) fn job_of(alloc: Global, text: &str) -> Result<Job, Fail> {
     }
 }
 
+/// The names of jobs in the order of their numbers, which a completion is told.
+const NAMES: &str = "\
+connect read write readmany writemany list listof info upload download delete szl clock setclock start coldstart stop \
+compress copy status password clearpassword dbget dbfill disconnect";
+
+/// The number of the job that a text names.
+pub(crate) fn number_of(text: &str) -> Result<u8, Fail> {
+    let (name, _) = parted(text, ' ');
+    let mut number = 0u8;
+    for other in NAMES.split_ascii_whitespace() {
+        number = number.saturating_add(1);
+        if other == name {
+            return Ok(number);
+        }
+    }
+    Err(Fail::from("no such job"))
+}
+
 /// The job of this name, of those that take nothing.
 fn plain(name: &str) -> Result<Job, Fail> {
     match name {

@@ -4,19 +4,22 @@
 // jobs that are tried, each asked for and granted (1); `most 1 3 8192`, how many octets the link moves at most in a
 // call, each tried too (8192); `pdu`, which PDU is asked for (480); `patience`, with how many polls without progress
 // a job is over (50); `room`, how many octets the link has room for (4096); and `fates`, what comes of its first
-// calls, `pass` or `fail`.
+// calls, `pass`, `wait` or `fail`, where `pass*3` is three of them.
 //
 // Then line by line comes what happens. `gives OCTETS` is a new link that gives these. A job stands with how it ends,
 // as in `read ITEM : CODE : OCTETS : CODES : CARRIED`: its number in hex, the octets read, the return codes and the
-// message that it carries, where the last ones may be left out. `sent OCTETS` is all that was written on the link,
-// and `count N` how many octets that is. `granted N` is the PDU, or `granted none`, and `closed` or `open` is the
-// client. What a client does over pipes stands in `pipes`.
+// message that it carries, where the last ones may be left out. It is polled once, and once more for each call of the
+// link that waits; `waited N` is how many polls of the last job were pending. `sent OCTETS` is all that was written on
+// the link, `begun N OCTETS` that these are the first of them, and `count N` how many there are. `granted N` is the
+// PDU, or `granted none`, and `closed` or `open` is the client. What a client does over pipes stands in `pipes`.
+//
+// The completion of the client is told of each job that is done, once, by its number and the number that it ends with.
 //
 // In octets `@` is the number of parallel jobs. A word in capitals is the name of what stands behind it in a text of
 // names.
-use crate::asks::job_of;
+use crate::asks::{job_of, number_of};
 use crate::words::{are, hex_number, number, octets_of, parted, small};
-use s7_client::{Client, Config, Job, JobResult, Polled};
+use s7_client::{Client, Config, Counter, Job, JobResult, Polled};
 use s7_outer::{FailingLink, Fate, MemoryLink, Octets, Pipes, Side};
 use std::alloc::Global;
 use std::test::Fail;
@@ -41,9 +44,15 @@ pub(crate) struct Exchange<'a> {
     pub(crate) alloc: Global,
     text: &'a str,
     most: usize,
-    pub(crate) client: Client,
+    pub(crate) client: Client<Counter>,
     link: FailingLink<MemoryLink>,
     pub(crate) pipes: Pipes,
+    /// How many calls of each link wait, and how many polls of the last job were pending.
+    waits: usize,
+    waited: u64,
+    /// How many jobs are done, and the number of the last one with that it ended with.
+    finished: u64,
+    last: Option<(u8, u32)>,
 }
 
 /// The exchange of each row holds: the form, in which `$1` to `$6` are the fields of the row, with `|` between them.
@@ -158,6 +167,7 @@ fn begun<'a>(alloc: Global, text: &'a str, jobs: &str, most: usize) -> Result<Ex
     let client = client_of(alloc, text, jobs)?;
     let link = link_of(alloc, text, "", most)?;
     let pipes = Pipes::new(alloc, room_of(text)?, 7)?;
+    let fates = fates_of(alloc, setting(text, "fates", ""))?;
     Ok(Exchange {
         alloc,
         text,
@@ -165,10 +175,14 @@ fn begun<'a>(alloc: Global, text: &'a str, jobs: &str, most: usize) -> Result<Ex
         client,
         link,
         pipes,
+        waits: fates.iter().filter(|fate| **fate == Fate::NotYet).count(),
+        waited: 0,
+        finished: 0,
+        last: None,
     })
 }
 
-fn client_of(alloc: Global, text: &str, jobs: &str) -> Result<Client, Fail> {
+fn client_of(alloc: Global, text: &str, jobs: &str) -> Result<Client<Counter>, Fail> {
     let pdu = setting(text, "pdu", "480");
     let patience = setting(text, "patience", "50");
     let config = Config {
@@ -177,7 +191,7 @@ fn client_of(alloc: Global, text: &str, jobs: &str) -> Result<Client, Fail> {
         polls: u32::from(small(patience)?.max(1)),
         ..Config::new(1, 0, 2)
     };
-    Ok(Client::new(alloc, config)?)
+    Ok(Client::new(alloc, config, Some(Counter::new()))?)
 }
 
 fn link_of(
@@ -202,14 +216,23 @@ fn room_of(text: &str) -> Result<usize, Fail> {
 fn fates_of(alloc: Global, text: &str) -> Result<Vec<Fate>, Fail> {
     let mut fates = Vec::new(alloc);
     for word in text.split_ascii_whitespace() {
-        fates.push(fate_of(word)?)?;
+        let (word, times) = word.split_once('*').unwrap_or((word, "1"));
+        add_fates(&mut fates, fate_of(word)?, number(times)?)?;
     }
     Ok(fates)
+}
+
+fn add_fates(fates: &mut Vec<Fate>, fate: Fate, times: u64) -> Result<(), Fail> {
+    for _ in 0..times {
+        fates.push(fate)?;
+    }
+    Ok(())
 }
 
 fn fate_of(word: &str) -> Result<Fate, Fail> {
     match word {
         "pass" => Ok(Fate::Pass),
+        "wait" => Ok(Fate::NotYet),
         "fail" => Ok(Fate::Fail),
         _ => Err(Fail::from("no such fate")),
     }
@@ -219,12 +242,27 @@ impl Exchange<'_> {
     /// What happens in each line is as it says.
     fn go_on(&mut self) -> Result<(), Fail> {
         for line in self.text.lines() {
-            if !self.line_holds(line)? {
+            if !self.line_holds(line)? || !self.is_counted() {
                 let row = setting(self.text, "row", "");
                 return Err(Fail::from((line, row)));
             }
         }
         Ok(())
+    }
+
+    /// The completion was told of the jobs that are done, and of nothing else.
+    fn is_counted(&mut self) -> bool {
+        let Some(counter) = self.client.set_completion(None) else {
+            return false;
+        };
+        let _none = self.client.set_completion(Some(counter));
+        counter.calls() == self.finished && counter.last() == self.last
+    }
+
+    /// A job of this number is done.
+    pub(crate) fn finish(&mut self, number: u8, told: &JobResult) {
+        self.finished = self.finished.saturating_add(1);
+        self.last = Some((number, told.code));
     }
 
     fn line_holds(&mut self, line: &str) -> Result<bool, Fail> {
@@ -233,7 +271,9 @@ impl Exchange<'_> {
             "row" | "jobs" | "most" | "pdu" | "patience" | "room" | "fates" => Ok(true),
             "gives" => self.give(rest),
             "sent" => are(self.alloc, rest, self.link.inner().written()),
+            "begun" => self.has_begun(rest),
             "count" => self.has_written(rest),
+            "waited" => Ok(self.waited == number(rest)?),
             "granted" => self.is_granted(rest),
             "closed" => Ok(self.client.closed()),
             "open" => Ok(!self.client.closed()),
@@ -263,6 +303,14 @@ impl Exchange<'_> {
         Ok(self.link.inner().written().len() as u64 == number(count)?)
     }
 
+    /// The first octets of so many were written, and no more.
+    fn has_begun(&self, text: &str) -> Result<bool, Fail> {
+        let (count, words) = parted(text, ' ');
+        let octets = octets_of(self.alloc, words)?;
+        let first = octets.as_slice().get(..usize::from(small(count)?));
+        Ok(first == Some(self.link.inner().written()))
+    }
+
     fn is_granted(&self, pdu: &str) -> Result<bool, Fail> {
         match self.client.granted() {
             Some(granted) => Ok(granted == small(pdu)?),
@@ -275,20 +323,28 @@ impl Exchange<'_> {
         let (ask, end) = parted(line, ':');
         let job = job_of(self.alloc, ask)?;
         match self.done(job) {
-            Some(told) => is_told(self.alloc, &told, end),
+            Some(told) => {
+                self.finish(number_of(ask)?, &told);
+                is_told(self.alloc, &told, end)
+            }
             None => Ok(false),
         }
     }
 
-    /// What one poll after its start makes of a job, which nothing may turn away.
+    /// What one poll after its start makes of a job, which nothing may turn away, or one more for each call that waits.
     fn done(&mut self, job: Job) -> Option<JobResult> {
         if self.client.start(self.alloc, job).is_err() {
             return None;
         }
-        match self.client.poll(&mut self.link) {
-            Polled::Done(told) => Some(told),
-            Polled::Pending | Polled::Idle => None,
+        self.waited = 0;
+        for _ in 0..=self.waits {
+            match self.client.poll(&mut self.link) {
+                Polled::Done(told) => return Some(told),
+                Polled::Pending => self.waited = self.waited.saturating_add(1),
+                Polled::Idle => return None,
+            }
         }
+        None
     }
 }
 

@@ -1,8 +1,5 @@
 // What ends a job without an answer, and what closes a client.
 use crate::exchange::{each_holds, holds};
-use crate::words::octets_of;
-use s7_client::{Client, Config, Job};
-use s7_outer::{MemoryLink, Octets};
 use std::test::Fail;
 
 /// A connect to which the link gives this ends with this number, sends this and closes the client.
@@ -209,23 +206,5 @@ sent 0300001611e000000001";
 fn a_link_fails(rt: HostRuntime) -> Result<(), Fail> {
     assert!(rt; each_holds(rt.alloc(), "", LINK_FAILS, FAILURES)?);
     assert!(rt; holds(rt.alloc(), "", NO_ROOM)?);
-    Ok(())
-}
-
-/// The link gives the confirm and the grant, octet by octet.
-const CONFIRM_AND_GRANT: &str = "\
-0300001611d00001000100c0010ac1020100c2020102 0300001b02f080320300000001000800000000f0000001000101e0";
-
-#[test]
-fn a_job_is_carried_out(rt: HostRuntime) -> Result<(), Fail> {
-    let alloc = rt.alloc();
-    let mut client = Client::new(alloc, Config::new(1, 0, 2))?;
-    let input = Octets::of_vec(octets_of(alloc, CONFIRM_AND_GRANT)?);
-    let mut link = MemoryLink::new(alloc, input, 1, 4_096, 7)?;
-    let Ok(told) = client.carry_out(alloc, Job::Connect, &mut link) else {
-        return Err(Fail::from("not carried out"));
-    };
-    assert_eq!(rt; told.code, 0);
-    assert_eq!(rt; client.granted(), Some(480));
     Ok(())
 }

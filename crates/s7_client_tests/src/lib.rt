@@ -9,6 +9,8 @@ mod asks;
 #[cfg(test)]
 mod blocks;
 #[cfg(test)]
+mod completions;
+#[cfg(test)]
 mod data_blocks;
 #[cfg(test)]
 mod days;
@@ -24,6 +26,8 @@ mod flights;
 mod jobs;
 #[cfg(test)]
 mod larger_pdu;
+#[cfg(test)]
+mod links;
 #[cfg(test)]
 mod pipes;
 #[cfg(test)]

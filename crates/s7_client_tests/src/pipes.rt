@@ -32,7 +32,10 @@ impl Exchange<'_> {
         match self.polled() {
             Polled::Idle => Ok(comes_to == "idle"),
             Polled::Pending => Ok(comes_to == "pending"),
-            Polled::Done(told) => is_connected(&told, comes_to),
+            Polled::Done(told) => {
+                self.finish(1, &told);
+                is_connected(&told, comes_to)
+            }
         }
     }
 

@@ -11,7 +11,7 @@ no_fault = 0
 abbrev pub not_connected : ℕ
 not_connected = 0x00010000
 
--- the server ended the link before the last outstanding answer
+-- the server ended the link before the last outstanding answer, or before a job of its own that was awaited
 abbrev pub link_ended : ℕ
 link_ended = 0x00020000
 
@@ -65,7 +65,7 @@ partly_written = 0x00600000
 abbrev pub over_pdu : ℕ
 over_pdu = 0x00700000
 
--- a message that answers no outstanding telegram
+-- a message that answers no outstanding telegram, and is no job of the server's that was awaited
 abbrev pub invalid_answer : ℕ
 invalid_answer = 0x00800000
 

@@ -28,7 +28,7 @@ use Rattle.s7_dialogue.specs.DataBlocks.{data_length, data_parts}
 use Rattle.s7_dialogue.specs.Question.{Question, negotiates, reads, writes, controls, asks, asks_further}
 use Rattle.s7_dialogue.specs.Question.{starts_upload, slices_upload, ends_upload}
 use Rattle.s7_dialogue.specs.Question.{announces, awaits_call, gives, inserts}
-use Rattle.s7_dialogue.specs.Downloads.{piece_room}
+use Rattle.s7_block.specs.Slices.{image_room}
 use Rattle.s7_dialogue.specs.Answer.{Answer, grants, tells, notes, stands, brings, uploads, slices, uploaded, announced, calls, refuses}
 use Rattle.s7_dialogue.specs.Answer.{ItemAnswer}
 use Rattle.s7_dialogue.specs.Refusals.{telegram_refusal, part_refusal, control_refusal, download_refusal}
@@ -493,7 +493,7 @@ connected_plan (job.ListOf kind) granted = at_once (asking_about BlocksOfKind (k
 connected_plan (job.Info kind number) granted = at_once (asking_about BlockHead (block_octets kind number))
 connected_plan (job.Upload kind number) granted = at_once (uploading (record { kind = kind; number = number }))
 connected_plan (job.Download image) granted =
-    if_good (check_image image) (at_once (downloading image (piece_room granted.pdu)))
+    if_good (check_image image) (at_once (downloading image (image_room granted.pdu)))
 connected_plan (job.Delete kind number) granted = at_once (controlling (control.Delete kind number))
 connected_plan (job.DbGet number) granted = at_once (getting granted.pdu (block_octets 0x41 number) number)
 connected_plan (job.DbFill number value) granted =

@@ -1,35 +1,20 @@
 -- Downloads of blocks, as a client announces, gives and closes them (after Snap7 1.4 sources, s7_types.h,
 -- `TReqFunStartUploadParams`). The layouts are this profile's own.
-use Rattle.std.specs.Prelude.{ℕ, ◌-◌, ◌==◌, ◌&&◌, Bool, if◌then◌else◌, List, [], ◌∷◌, ◌++◌, length, drop}
+use Rattle.std.specs.Prelude.{ℕ, ◌==◌, ◌&&◌, Bool, if◌then◌else◌, List, [], ◌∷◌, ◌++◌, length, drop}
 use Rattle.std.specs.Prelude.{◌%◌, slice_index}
 use Rattle.std.specs.Str.{bytes_eq}
 use Rattle.s7_block.specs.declared.block.BlockName.{BlockName}
 use Rattle.s7_block.specs.Heads.{two_at}
+use Rattle.s7_block.specs.Kinds.{kind_of_code}
 use Rattle.s7_block.specs.Names.{digits, name_octets}
 use Rattle.s7_block.specs.Slices.{Piece, first_piece}
 use Rattle.s7_block.specs.Telegrams.{announce_function, piece_function, close_function, name_front, more_octet}
 
 -- ---- the image
 
--- the kind of blocks that a head has so: OB, DB, SDB, FC, SFC, FB, SFB, and 0 where it is none
-abbrev pub kind_of_code : ℕ → ℕ
-kind_of_code code =
-    if code == 0x08 then 0x38
-    else (if code == 0x0A then 0x41
-    else (if code == 0x0B then 0x42
-    else (if code == 0x0C then 0x43
-    else (if code == 0x0D then 0x44
-    else (if code == 0x0E then 0x45
-    else (if code == 0x0F then 0x46
-    else 0))))))
-
 -- the block that the head of an image is of: its number is one of two octets
 abbrev pub name_in : List ℕ → BlockName
 name_in image = record { kind = kind_of_code (slice_index image 5); number = two_at image 6 % 65536 }
-
--- how many octets of an image go in one telegram: header, parameters and the head of the data take 18 of the PDU
-abbrev pub piece_room : ℕ → ℕ
-piece_room pdu = pdu - 18
 
 -- the octets from a place on, at most as many as there is room for
 abbrev pub piece_at : List ℕ → ℕ → ℕ → Piece

@@ -7,7 +7,7 @@ pub const GOOD: u32 = 0;
 /// The client isn't connected, or something else than a confirm answered its connect request.
 pub const NOT_CONNECTED: u32 = 0x0001_0000;
 
-/// The server ended the link before the last outstanding answer.
+/// The server ended the link before the last outstanding answer, or before a job of its own that was awaited.
 pub const LINK_ENDED: u32 = 0x0002_0000;
 
 /// A packet or a TPDU that can't be read, or that doesn't belong there.
@@ -46,7 +46,7 @@ pub const PARTLY_WRITTEN: u32 = 0x0060_0000;
 /// An item that fits no telegram, or a telegram that the server finds too long.
 pub const OVER_PDU: u32 = 0x0070_0000;
 
-/// A message that answers no outstanding telegram.
+/// A message that answers no outstanding telegram, and is no job of the server's that was awaited.
 pub const INVALID_ANSWER: u32 = 0x0080_0000;
 
 /// The item's range isn't inside the area.

@@ -5,7 +5,8 @@ ghost use Rattle.s7_header.specs.Negotiation.{most_pdu};
 ghost use Rattle.s7_block.specs.Names.{name_octets};
 ghost use Rattle.s7_block.specs.Telegrams.{name_front};
 ghost use Rattle.s7_dialogue.specs.Question.{question_octets, closing_octets, announces, awaits_call, gives};
-ghost use Rattle.s7_dialogue.specs.Downloads.{name_in, kind_of_code, piece_at, is_call};
+ghost use Rattle.s7_dialogue.specs.Downloads.{name_in, piece_at, is_call};
+ghost use Rattle.s7_block.specs.Kinds.{kind_of_code};
 ghost use Rattle.s7_dialogue.specs.Answer.{acknowledged, called};
 ghost use Rattle.s7_dialogue.specs.Singles.{ask_behind, TellsIfSome};
 ghost use Rattle.s7_dialogue.specs.declared.single.Ask.TheVariants as asked;
@@ -89,7 +90,7 @@ pub(crate) fn name_in(image: &[u8]) -> BlockName
     }
 }
 
-// The kind of blocks that a head has so.
+// The kind that a head has a code for, and 0 where the code is of none.
 fn kind_of_code(code: u8) -> u8
     ensures { result ≡ kind_of_code code }
 {

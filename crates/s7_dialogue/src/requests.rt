@@ -1,5 +1,5 @@
-// User data, controls, uploads and parts of data blocks: the questions of jobs that ask one at a time (Snap7 1.4 sources,
-// s7_types.h: TReqFunTypedParams, and the data that follow it).
+// User data, controls, uploads, downloads and parts of data blocks: the questions of jobs that ask one at a time
+// (Snap7 1.4 sources, s7_types.h: TReqFunTypedParams, and the data that follow it).
 ghost use Rattle.std.specs.Prelude.{◌≡◌, ℕ, ◌++◌, ◌<◌, ◌≤◌, true, [], List, length};
 ghost use Rattle.s7_header.specs.declared.header.Kind.TheVariants as kind;
 ghost use Rattle.s7_header.specs.UserParams.{user_spelling, HasForm};

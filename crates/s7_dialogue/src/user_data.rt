@@ -1,5 +1,5 @@
-// User data, controls, uploads and parts of data blocks: the answers to what jobs ask that ask one question at a time
-// (Snap7 1.4 sources, s7_types.h: TS7Params7, and the data that follow it).
+// User data, controls, uploads, downloads and parts of data blocks: the answers to what jobs ask that ask one question
+// at a time (Snap7 1.4 sources, s7_types.h: TS7Params7, and the data that follow it).
 ghost use Rattle.std.specs.Prelude.{◌≡◌, true, ℕ, ◌+◌, ◌<◌, ◌==◌, ◌&&◌, List, length, if◌then◌else◌};
 ghost use Rattle.std.specs.Prelude.{None, Some, IfSome, IfNone, MatchOption, [], Ok};
 ghost use Rattle.s7_header.specs.Octets.{number_at};

@@ -5,6 +5,8 @@
 #[cfg(test)]
 mod alone;
 #[cfg(test)]
+mod links;
+#[cfg(test)]
 mod octets;
 #[cfg(test)]
 mod pairs;

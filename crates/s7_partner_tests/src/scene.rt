@@ -22,6 +22,8 @@ struct Talker {
 /// What partners are polled over: a line in memory where there is one, or else their ends of the pipes.
 struct Links {
     alloc: Global,
+    /// How many octets a line that is laid moves in a call.
+    most: usize,
     line: Option<FailingLink<MemoryLink>>,
     pipes: Pipes,
 }
@@ -52,6 +54,7 @@ impl Drop for Links {
     fn drop(self) {
         let Links {
             alloc: _,
+            most: _,
             line: _,
             pipes: _,
         } = self;
@@ -105,15 +108,18 @@ fn anew(alloc: Global, args: &str) -> Result<Scene, Fail> {
         b: new_talker(alloc, Side::Server, pdu)?,
         links: Links {
             alloc,
+            most: 8_192,
             line: None,
             pipes: Pipes::new(alloc, room as usize, 7)?,
         },
     })
 }
 
-/// A line that gives these octets, and has room for what is written. Its call behind so many has this fate.
+/// A line that gives these octets, moves so many in a call, and has room for what is written. Its call behind so many
+/// has this fate.
 fn new_line(
     alloc: Global,
+    most: usize,
     passed: &str,
     fate: Fate,
     words: &str,
@@ -124,13 +130,19 @@ fn new_line(
         fates.push(Fate::Pass)?;
     }
     fates.push(fate)?;
-    let inner = MemoryLink::new(alloc, input, 8_192, 4_096, 7)?;
+    let inner = MemoryLink::new(alloc, input, most.max(1), 4_096, 7)?;
     Ok(FailingLink::new(inner, fates))
 }
 
 /// The partners are polled over such a line.
 fn lays(links: &mut Links, passed: &str, fate: Fate, words: &str) -> Result<bool, Fail> {
-    links.line = Some(new_line(links.alloc, passed, fate, words)?);
+    links.line = Some(new_line(links.alloc, links.most, passed, fate, words)?);
+    Ok(true)
+}
+
+/// The lines that are laid from now on move at most so many octets in a call.
+fn moves(links: &mut Links, args: &str) -> Result<bool, Fail> {
+    links.most = number(args)? as usize;
     Ok(true)
 }
 
@@ -250,6 +262,7 @@ fn does(me: &mut Talker, other: &Talker, links: &mut Links, text: &str) -> Resul
         "turns" => turns(me, other, links),
         "holds" => Ok(links.pipes.held(me.side) == number(args)? as usize),
         "acknowledged" => Ok(me.sent == number(args)?),
+        "outstanding" => Ok(u32::from(me.partner.is_sending()) == number(args)?),
         "took" => Ok(me.received == number(args)?),
         _ => tells(me, links, text),
     }
@@ -295,6 +308,17 @@ fn wrote(links: &Links, words: &str) -> Result<bool, Fail> {
     }
 }
 
+/// `N OCTETS`: the first N of the octets were written on the line, and no more.
+fn began(links: &Links, args: &str) -> Result<bool, Fail> {
+    let (count, words) = cut(args);
+    let octets = joined(links.alloc, words)?;
+    let first = octets.as_slice().get(..number(count)? as usize);
+    match &links.line {
+        Some(line) => Ok(first == Some(line.inner().written())),
+        None => Ok(false),
+    }
+}
+
 /// What becomes of the links.
 fn links_are(links: &mut Links, text: &str) -> Result<bool, Fail> {
     let (verb, args) = cut(text);
@@ -303,7 +327,9 @@ fn links_are(links: &mut Links, text: &str) -> Result<bool, Fail> {
         "reads" => lays(links, "0", Fate::Pass, args),
         "fails" => lays(links, passed, Fate::Fail, words),
         "waits" => lays(links, passed, Fate::NotYet, words),
+        "moves" => moves(links, args),
         "wrote" => wrote(links, args),
+        "began" => began(links, args),
         _ => Ok(false),
     }
 }
@@ -346,19 +372,52 @@ fn repeat(scene: &mut Scene, text: &str) -> Result<bool, Fail> {
     Ok(true)
 }
 
-/// All lines hold, one after another.
-fn all_hold(scene: &mut Scene, text: &str) -> Result<(), Fail> {
+/// The first line that doesn't hold, where all are done one after another.
+fn broken<'a>(alloc: Global, text: &'a str) -> Result<Option<&'a str>, Fail> {
+    let mut scene = anew(alloc, "480")?;
     for line in text.lines() {
         let line = line.trim();
-        if !line.is_empty() && !line.starts_with('#') && !repeat(scene, line)? {
-            return Err(Fail::from(line));
+        if !line.is_empty() && !line.starts_with('#') && !repeat(&mut scene, line)? {
+            return Ok(Some(line));
         }
     }
-    Ok(())
+    Ok(None)
 }
 
 /// All lines hold, one after another.
 pub(crate) fn holds(alloc: Global, text: &str) -> Result<(), Fail> {
-    let mut scene = anew(alloc, "480")?;
-    all_hold(&mut scene, text)
+    match broken(alloc, text)? {
+        None => Ok(()),
+        Some(line) => Err(Fail::from(line)),
+    }
+}
+
+/// The form with the fields of a row, which stand between `|`, in the places of `$1` to `$4`.
+fn filled(alloc: Global, form: &str, row: &str) -> Result<String, Fail> {
+    let mut text = String::from_str(alloc, form)?;
+    let mut marks = ["$1", "$2", "$3", "$4"].as_slice();
+    for field in row.split('|') {
+        let [mark, rest @ ..] = marks else {
+            return Err(Fail::from("too many fields"));
+        };
+        marks = rest;
+        text = text.as_str().replace(alloc, *mark, field.trim())?;
+    }
+    Ok(text)
+}
+
+fn row_holds(alloc: Global, form: &str, row: &str) -> Result<(), Fail> {
+    let text = filled(alloc, form, row)?;
+    match broken(alloc, text.as_str())? {
+        None => Ok(()),
+        Some(line) => Err(Fail::from((row, line))),
+    }
+}
+
+/// The lines of the form hold with each row.
+pub(crate) fn each_holds(alloc: Global, form: &str, rows: &str) -> Result<(), Fail> {
+    for row in rows.lines() {
+        row_holds(alloc, form, row)?;
+    }
+    Ok(())
 }

@@ -3,3 +3,10 @@ pub mod BlockImageLemmas
 pub mod BlockSayLemmas
 pub mod BlockCopyLemmas
 pub mod BlockReplayLemmas
+pub mod ObserverLemmas
+pub mod KeptLemmas
+pub mod BookLemmas
+pub mod SourceLemmas
+pub mod ImageLemmas
+pub mod RebuildLemmas
+pub mod KeptImageLemmas

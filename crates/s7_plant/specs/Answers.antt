@@ -1,7 +1,7 @@
 -- What a plant answers to a request, and the state that it leaves (Snap7 1.4 reference manual, `Cli_ReadMultiVars`,
 -- `Cli_WriteMultiVars`, `Cli_ReadSZL`, `Cli_GetPlcDateTime`, `Cli_SetPlcDateTime`, and the control functions from
 -- `Cli_PlcHotStart` on, and `Cli_ListBlocks`, `Cli_GetAgBlockInfo`, `Cli_FullUpload`, `Cli_Download` and `Cli_Delete`).
-use Rattle.std.specs.Prelude.{◌≡◌, ℕ, ◌+◌, ◌/◌, ◌%◌, pos, ◌-ℤ◌, Bool, true, false, not, ◌&&◌, ◌||◌, ◌==◌, nat_lt}
+use Rattle.std.specs.Prelude.{◌≡◌, ℕ, ◌+◌, pos, ◌-ℤ◌, Bool, true, false, not, ◌&&◌, ◌||◌, ◌==◌, nat_lt}
 use Rattle.std.specs.Prelude.{is_some}
 use Rattle.std.specs.Prelude.{if◌then◌else◌, List, [], ◌∷◌, ◌++◌, length, take, drop, map, Option, None, Some}
 use Rattle.std.specs.Prelude.{option_map, unwrap_or}

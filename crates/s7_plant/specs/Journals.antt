@@ -1,5 +1,5 @@
 -- Journals: entries one after another, and the state that they lead to.
-use Rattle.std.specs.Prelude.{◌≡◌, ℕ, ◌≤◌, List, All, map, take}
+use Rattle.std.specs.Prelude.{◌≡◌, ℕ, ◌%◌, ◌≤◌, List, All, map, take}
 use Rattle.s7_turn.specs.declared.view.Entry.{Entry as Call}
 use Rattle.s7_turn.specs.Histories.{entry, replay as replay_calls}
 use Rattle.s7_plant.specs.declared.journal.Entry.{Entry}
@@ -33,9 +33,13 @@ replay_entries s entries = replay s (asks_of entries)
 abbrev pub at : State → List Entry → ℕ → State
 at s entries n = replay_entries s (take n entries)
 
--- how many steps it takes to come to that state
+-- after each so many entries an image of the plant is kept
+abbrev pub image_interval : ℕ
+image_interval = 4096
+
+-- how many steps it takes to come to that state from the newest image that isn't after it
 abbrev pub steps_to : ℕ → ℕ
-steps_to n = n
+steps_to n = n % image_interval
 
 -- the entries as a history of calls, whose callers are the links
 abbrev pub calls_of : List Entry → List (Call Ask)

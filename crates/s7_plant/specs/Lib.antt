@@ -4,3 +4,8 @@ pub mod State
 pub mod Answers
 pub mod Histories
 pub mod Journals
+pub mod Images
+pub mod Observers
+pub mod Events
+pub mod Books
+pub mod BookLaws

@@ -1,6 +1,6 @@
 //! The codes of answers to controls and of refusals: functions, statuses and error words (Snap7 1.4
 //! reference manual, the control functions from `Cli_PlcHotStart` on, `Cli_ReadSZL`, and the block
-//! functions from `Cli_ListBlocks` on).
+//! functions from `Cli_ListBlocks` on); and those of events (`Srv_SetEventsMask`).
 
 /// The function that calls a service: a start, a compression or a copy.
 pub const SERVICE_FUNCTION: u8 = 0x28;
@@ -34,3 +34,27 @@ pub const NO_ROOM: u16 = 0x8F04;
 
 /// The error word of a read of a status list that isn't there.
 pub const NO_LIST: u16 = 0xD401;
+
+/// The event code of a read.
+pub const READS: u32 = 0x0002_0000;
+
+/// The event code of a write.
+pub const WRITES: u32 = 0x0004_0000;
+
+/// The event code of a read of a status list.
+pub const STATUS_LISTS: u32 = 0x0010_0000;
+
+/// The event code of what asks for the clock or sets it.
+pub const CLOCK: u32 = 0x0020_0000;
+
+/// The event code of the start of an upload.
+pub const UPLOADS: u32 = 0x0040_0000;
+
+/// The event code of a block that is stored.
+pub const DOWNLOADS: u32 = 0x0080_0000;
+
+/// The event code of what asks which blocks there are.
+pub const DIRECTORY: u32 = 0x0100_0000;
+
+/// The event code of control of the run state, of the memory, and of the deletion of a block.
+pub const CONTROL: u32 = 0x0400_0000;

@@ -1,7 +1,11 @@
 // What is asked of a plant.
-ghost use Rattle.std.specs.Prelude.{◌≡◌, ℕ, List, Some, IfOk};
+ghost use Rattle.std.specs.Prelude.{◌≡◌, ℕ, List, Some, true, IfOk, IfSome, option_map};
+ghost use Rattle.s7_block.specs.Heads.{head_agrees};
+ghost use Rattle.s7_block.specs.Kinds.{is_stored_kind};
 ghost use Rattle.s7_outer.specs.Held.{Held};
 
+use crate::codes::{CLOCK, CONTROL, DIRECTORY, DOWNLOADS, READS, STATUS_LISTS, UPLOADS, WRITES};
+use s7_block::BlockName;
 use s7_item::{DataItems, Items};
 use s7_outer::{Buffer, Memory, Octets};
 use std::alloc::Global;
@@ -93,7 +97,47 @@ pub enum Request {
 }
 
 impl Request {
-    ghost use Rattle.s7_plant.specs.Requests.{HasSpare, kept_request};
+    ghost use Rattle.s7_plant.specs.Events.{code_of};
+    ghost use Rattle.s7_plant.specs.Images.{stored_as};
+    ghost use Rattle.s7_plant.specs.Requests.{HasSpare, IsReady, kept_request};
+
+    /// What it is, as observers are told of it, one bit for each group of requests (Snap7 1.4 reference
+    /// manual, `Srv_SetEventsMask`): 00020000 a read, 00040000 a write, 00100000 a status list, 00200000
+    /// the clock, 00400000 the start of an upload, 00800000 a block that is stored, 01000000 what tells of
+    /// blocks, and 04000000 control of the run state, the memory and the deletion of a block.
+    pub fn code(&self) -> u32
+        ensures { result ≡ code_of self.now }
+    {
+        match self {
+            Request::Read { .. } => READS,
+            Request::Write { .. } => WRITES,
+            Request::Szl { .. } => STATUS_LISTS,
+            Request::ClockRead { .. } | Request::ClockSet { .. } => CLOCK,
+            Request::StartUpload { .. } => UPLOADS,
+            Request::Insert { .. } => DOWNLOADS,
+            Request::ListAll | Request::ListOf { .. } | Request::Info { .. } => DIRECTORY,
+            Request::Start { .. } | Request::Stop => CONTROL,
+            Request::Compress | Request::CopyRam | Request::Delete { .. } => CONTROL,
+        }
+    }
+
+    /// The image of the block of this name, where it is to be stored, lent.
+    pub(crate) fn image_for(&self, name: BlockName) -> Option<&[u8]>
+        requires { IsReady self.now }
+        ensures image { option_map (λ image. image.now) result ≡ stored_as name self.now }
+        ensures kind { IfSome result (λ image. is_stored_kind name.kind ≡ true) }
+        ensures head { IfSome result (λ image. head_agrees image.now name.kind name.number ≡ true) }
+    {
+        match self {
+            Request::Insert {
+                kind,
+                number,
+                image,
+                ..
+            } if *kind == name.kind && *number == name.number => Some(image.as_slice()),
+            _ => None,
+        }
+    }
 
     /// A copy of the image of a block that is to be stored, made in the room that the request brings.
     /// The request stays as a history keeps it.

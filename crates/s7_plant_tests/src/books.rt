@@ -1,13 +1,16 @@
 // Rows that a book has to meet.
-ghost use Rattle.std.specs.Prelude.{◌≡◌, [], IfOk};
+ghost use Rattle.std.specs.Prelude.{◌≡◌, [], map, IfOk};
+ghost use Rattle.std.specs.List.{AllByRecursion};
+ghost use Rattle.s7_plant.specs.Books.{seen_of};
 ghost use Rattle.s7_plant.specs.Journals.{entries_of};
+ghost use Rattle.s7_plant.specs.Observers.{IsFresh, fresh};
 ghost use Rattle.s7_plant.specs.Replies.{IsReadyReply};
 ghost use Rattle.s7_plant.specs.Requests.{CanBeDone};
 
 use crate::fields::{field, number, part};
 use crate::plants::{a_plant, says, shows};
-use crate::requests::{is_write, request_of};
-use s7_plant::{Ask, BODY_ROOM, Book, PARAMS_ROOM, Plant, Reply, Steps};
+use crate::requests::{is_write, request_of, write_of};
+use s7_plant::{Ask, BODY_ROOM, Book, Observer, PARAMS_ROOM, Plant, Reply, Steps, Tail};
 use std::alloc::Global;
 use std::marker::Brand;
 use std::sync::ledger::{Blank, Ledger};
@@ -18,28 +21,37 @@ use std::test::Fail;
 ///
 ///     LINK REQUEST | NUMBER | ANSWER     a link asks with the right: the entry's number, and the answer
 ///     LINK REQUEST | full | ANSWER       a write of one item is handed back, and the reply is still this answer
+///     writes COUNT                       link 1 writes 0, 1, 2 and so on to the first octet of data block 1, so often
 ///     links LINK ..                      the journal's entries are of these links
 ///     opening | SHOWN                    what the plant showed before the first entry
 ///     now | SHOWN                        what it shows
 ///     image NUMBER | SHOWN               what it showed after so many entries
 pub(crate) fn does(alloc: Global, given: &str, limit: u64, rows: &str) -> Result<(), Fail> {
-    let mut book = a_book(alloc, given, limit)?;
+    let mut book = a_book(alloc, given, limit, Vec::new(alloc))?;
     let mut reply = Reply::new(alloc, BODY_ROOM)?;
     walk(alloc, &mut book, &mut reply, rows)
 }
 
-/// A book whose plant was given these rows, and whose journal takes so many entries.
-pub(crate) fn a_book(alloc: Global, given: &str, limit: u64) -> Result<Book, Fail>
-    ensures { IfOk result (λ book. book.journal ≡ entries_of [] limit) }
+/// A book whose plant was given these rows, whose journal takes so many entries, and that these tails watch.
+pub(crate) fn a_book(
+    alloc: Global,
+    given: &str,
+    limit: u64,
+    tails: Vec<Tail>,
+) -> Result<Book<Tail>, Fail>
+    requires { AllByRecursion IsFresh tails.items }
+    ensures journal { IfOk result (λ book. book.journal ≡ entries_of [] limit) }
+    ensures untold { IfOk result (λ book.
+        seen_of ⟦<Tail as Observer>⟧.seen book ≡ map fresh (seen_of ⟦<Tail as Observer>⟧.seen book)) }
 {
     let plant = a_plant(alloc, given)?;
     if limit < 1 || limit > 262_144 || plant.blocks.limit() != 1_024 {
         return Err(Fail::from("no book"));
     }
-    Ok(Book::new(alloc, plant.areas, plant.blocks, limit)?)
+    Ok(Book::new(alloc, plant.areas, plant.blocks, limit, tails)?)
 }
 
-fn walk(alloc: Global, book: &mut Book, reply: &mut Reply, rows: &str) -> Result<(), Fail> {
+fn walk(alloc: Global, book: &mut Book<Tail>, reply: &mut Reply, rows: &str) -> Result<(), Fail> {
     for row in rows.lines() {
         if !does_row(alloc, book, reply, row)? {
             return Err(Fail::new(row));
@@ -48,8 +60,15 @@ fn walk(alloc: Global, book: &mut Book, reply: &mut Reply, rows: &str) -> Result
     Ok(())
 }
 
-fn does_row(alloc: Global, book: &mut Book, reply: &mut Reply, row: &str) -> Result<bool, Fail> {
+/// The book meets a row.
+pub(crate) fn does_row(
+    alloc: Global,
+    book: &mut Book<Tail>,
+    reply: &mut Reply,
+    row: &str,
+) -> Result<bool, Fail> {
     match field(row, 0) {
+        "writes" => are_entered(alloc, book, reply, number(row, 1)?),
         "links" => are_of_links(book, row),
         "opening" => shows(alloc, &book.opening, part(row, 1)),
         "now" => shows(alloc, &book.plant, part(row, 1)),
@@ -58,7 +77,30 @@ fn does_row(alloc: Global, book: &mut Book, reply: &mut Reply, row: &str) -> Res
     }
 }
 
-fn are_of_links(book: &Book, row: &str) -> Result<bool, Fail> {
+/// So many writes are entered.
+fn are_entered(
+    alloc: Global,
+    book: &mut Book<Tail>,
+    reply: &mut Reply,
+    count: u64,
+) -> Result<bool, Fail> {
+    for n in 0..count {
+        if reply.params.room() != PARAMS_ROOM || reply.body.room() != BODY_ROOM {
+            return Ok(false);
+        }
+        let request = write_of(alloc, n.to_be_bytes()[7])?;
+        let ask = Ask {
+            right: true,
+            request,
+        };
+        if step(book, 1, ask, reply).is_err() {
+            return Ok(false);
+        }
+    }
+    Ok(true)
+}
+
+fn are_of_links(book: &Book<Tail>, row: &str) -> Result<bool, Fail> {
     let mut words = row.split_whitespace();
     words.next();
     for entry in book.journal.as_slice() {
@@ -70,7 +112,12 @@ fn are_of_links(book: &Book, row: &str) -> Result<bool, Fail> {
     Ok(words.next().is_none())
 }
 
-fn enters(alloc: Global, book: &mut Book, reply: &mut Reply, row: &str) -> Result<bool, Fail> {
+fn enters(
+    alloc: Global,
+    book: &mut Book<Tail>,
+    reply: &mut Reply,
+    row: &str,
+) -> Result<bool, Fail> {
     let ask = an_ask(alloc, row)?;
     let link = u32::try_from(number(row, 0)?)?;
     if reply.params.room() != PARAMS_ROOM || reply.body.room() != BODY_ROOM {
@@ -83,7 +130,7 @@ fn enters(alloc: Global, book: &mut Book, reply: &mut Reply, row: &str) -> Resul
     Ok(is_so && says(alloc, reply, part(row, 2))?)
 }
 
-fn step(book: &mut Book, link: u32, ask: Ask, reply: &mut Reply) -> Result<u64, Ask>
+fn step(book: &mut Book<Tail>, link: u32, ask: Ask, reply: &mut Reply) -> Result<u64, Ask>
     requires request { CanBeDone ask.request }
     requires reply { IsReadyReply reply.old }
 {
@@ -105,13 +152,18 @@ fn is_asked(alloc: Global, ask: &Ask, row: &str) -> Result<bool, Fail> {
     Ok(ask.right && is_write(alloc, &ask.request, row)?)
 }
 
-fn image_shows(alloc: Global, book: &Book, row: &str) -> Result<bool, Fail> {
+fn image_shows(alloc: Global, book: &Book<Tail>, row: &str) -> Result<bool, Fail> {
     let image = image_of::<Brand>(alloc, book, number(row, 1)?, Blank::new(1))?;
     shows(alloc, &image, part(row, 1))
 }
 
 /// The plant after the first entries.
-fn image_of<S: Ledger>(alloc: Global, book: &Book, n: u64, blank: Blank) -> Result<Plant, Fail>
+fn image_of<S: Ledger>(
+    alloc: Global,
+    book: &Book<Tail>,
+    n: u64,
+    blank: Blank,
+) -> Result<Plant, Fail>
     requires name { blank.name ≡ S.name }
     requires parts { blank.parts ≡ S.parts }
     requires one { blank.parts ≡ 1 }

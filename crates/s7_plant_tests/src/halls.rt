@@ -7,7 +7,7 @@ use std::test::Fail;
 
 #[test]
 fn a_hall_serves_a_book(rt: HostRuntime) -> Result<(), Fail> {
-    let book = a_book(rt.alloc(), AREAS, 2)?;
+    let book = a_book(rt.alloc(), AREAS, 2, Vec::new(rt.alloc()))?;
     let mut reply = Reply::new(rt.alloc(), BODY_ROOM)?;
     let (hall, mut seat) = Hall::new(rt.alloc(), book).ok().ok_or("memory")?;
     let write = an_ask(

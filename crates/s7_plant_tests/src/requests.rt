@@ -93,10 +93,27 @@ fn a_read(alloc: Global, row: &str) -> Result<Request, Fail> {
 }
 
 fn a_write(alloc: Global, row: &str) -> Result<Request, Fail> {
+    write_with(alloc, field(row, 2), octets(alloc, field(row, 3))?)
+}
+
+/// A write of an octet to the first of data block 1.
+pub(crate) fn write_of(alloc: Global, octet: u8) -> Result<Request, Fail>
+    ensures { IfOk result CanBeDone }
+{
+    let mut data = octets(alloc, "00040008")?;
+    data.push(octet)?;
+    let request = write_with(alloc, "0501.120A10020001000184000000", data)?;
+    if can_be_done(&request) {
+        Ok(request)
+    } else {
+        Err(Fail::from("no write"))
+    }
+}
+
+fn write_with(alloc: Global, params: &str, data: Vec<u8>) -> Result<Request, Fail> {
     let mut items = Items::new();
     let mut places = DataItems::new();
-    let params = octets(alloc, field(row, 2))?;
-    let data = octets(alloc, field(row, 3))?;
+    let params = octets(alloc, params)?;
     read_items(params.as_slice(), &mut items)?;
     read_data_items(data.as_slice(), items.len(), &mut places)?;
     Ok(Request::Write {

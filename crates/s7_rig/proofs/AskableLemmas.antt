@@ -22,7 +22,7 @@ use Rattle.s7_dialogue.specs.declared.job.Job.TheVariants as job
 use Rattle.s7_dialogue.specs.declared.subject.Subject.{Subject}
 use Rattle.s7_dialogue.specs.declared.subject.Subject.TheVariants.{StatusList, RunState, BlockCounts, BlocksOfKind, BlockHead, Clock, ClockSetting, Password, PasswordClearing}
 use Rattle.s7_dialogue.specs.Codes.{invalid_parameters}
-use Rattle.s7_dialogue.specs.Downloads.{piece_room}
+use Rattle.s7_block.specs.Slices.{image_room}
 use Rattle.s7_dialogue.specs.UserData.{comes_in_pieces, filled_text, encoded}
 use Rattle.s7_dialogue.specs.Question.{Question, controls, asks_further}
 use Rattle.s7_dialogue.specs.Answer.{Answer, grants, tells, notes, stands, brings, uploads, slices, uploaded, announced, calls, refuses}
@@ -213,7 +213,7 @@ askable (job.Upload kind number) config granted answers q least is =
     of_upload (IsAskable granted.pdu) (λ id size so_far. tt) (λ id. tt) (record { kind = kind; number = number }) answers q
     tt is
 askable (job.Download image) config granted answers q least is =
-    let room = piece_room granted.pdu in
+    let room = image_room granted.pdu in
     let sent = good_sent (check_image image) (at_once (downloading image room)) answers q is in
     of_download (IsAskable granted.pdu) image room (λ from call less. (sent.0, refl, less)) (λ call. sent.0) answers q
     sent.0 sent.0 sent.1

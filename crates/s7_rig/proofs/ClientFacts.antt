@@ -6,7 +6,7 @@ use Rattle.std.specs.Io.KnownBytes.{prepend_known, append_known}
 use Rattle.s7_outer.specs.PipesHeld.{PipesHeld}
 use Rattle.s7_outer.specs.Pipes.{end_of}
 use Rattle.s7_outer.specs.declared.pipes.Side.TheVariants as side
-use Rattle.s7_client.specs.declared.client.Client.{Client}
+use Rattle.s7_client.specs.declared.connection.Connection.{Connection}
 use Rattle.s7_dialogue.specs.declared.job.Job.{Job}
 use Rattle.s7_dialogue.specs.Course.{Origin}
 use Rattle.s7_client.specs.Polling.{StandsFor, job_of, waited_of, WaitsOnce}
@@ -15,7 +15,7 @@ use Rattle.s7_rig.proofs.ListFacts.{tail_of}
 use Rattle.s7_rig.proofs.EndLemmas.{IsQuiet}
 
 -- a client that stands for octets has a job
-pub has_job : (c : Client) (origin : Origin) (b w : List ℕ) → StandsFor c origin b w → job_of c ≡ None → ⊥
+pub has_job : (c : Connection) (origin : Origin) (b w : List ℕ) → StandsFor c origin b w → job_of c ≡ None → ⊥
 has_job c origin b w s idle = absurd (none_job _ (sym idle ∙ ap (option_map _) s.is))
   where
     none_job : (j : Job) → None ≡ Some j → ⊥
@@ -32,7 +32,7 @@ waits_none None None polls e h = h
 waits_none (Some m) o' polls e h = absurd (cc)
 
 -- and doesn't wait
-pub waits_for_none : (c c' : Client) (polls : ℕ) → job_of c ≡ None → WaitsOnce (waited_of c) (waited_of c') polls → ⊥
+pub waits_for_none : (c c' : Connection) (polls : ℕ) → job_of c ≡ None → WaitsOnce (waited_of c) (waited_of c') polls → ⊥
 waits_for_none c c' polls idle h = waits_none (waited_of c) (waited_of c') polls (none_too _ _ _ idle) h
 
 pub some_job : (o : Option Job) → IsSome o → o ≡ None → ⊥

@@ -9,7 +9,7 @@ use Rattle.s7_outer.specs.Shown.{Shown}
 use Rattle.s7_outer.specs.declared.pipes.Side.TheVariants as side
 use Rattle.s7_area.specs.Memory.{Memory}
 use Rattle.s7_header.specs.Negotiation.{most_pdu}
-use Rattle.s7_client.specs.declared.client.Client.{Client}
+use Rattle.s7_client.specs.declared.connection.Connection.{Connection}
 use Rattle.s7_dialogue.specs.declared.config.Config.{Config}
 use Rattle.s7_dialogue.specs.declared.grant.Grant.{Grant}
 use Rattle.s7_dialogue.specs.declared.grant.Leaves.{Leaves}
@@ -22,7 +22,7 @@ use Rattle.s7_client.specs.declared.job.Polled.TheVariants as polled
 use Rattle.s7_dialogue.specs.Course.{begins_anew}
 use Rattle.s7_client.specs.Standing.{Moves, IsByOctets}
 use Rattle.s7_client.specs.Polling as client
-use Rattle.s7_plant.specs.declared.book.Book.{Book}
+use Rattle.s7_plant.specs.Books.{BookTold}
 use Rattle.s7_plant.specs.State.{begins_with}
 use Rattle.s7_session.specs.Books.{own, history_of}
 use Rattle.s7_session.specs.Entry.{answered}
@@ -84,7 +84,7 @@ not_in_time code good late = absurd (omega (arith, good, late))
 
 -- ---- starting
 
-module _ (opening : Memory) (limit : ℕ) (config : Config) (book : Book)
+module _ (opening : Memory) (limit : ℕ) (config : Config) (book : BookTold)
     (plants : (n : ℕ) → IsPlant (state_at (begins_with opening) (history_of book) n)) where
   -- the state with which the link began
   abbrev first : LinkState
@@ -96,7 +96,7 @@ module _ (opening : Memory) (limit : ℕ) (config : Config) (book : Book)
   entered_is p o j = ap entered_of j.asked ∙ j.legal
 
   -- the client alone is another, with the same octets unread
-  joint_started : (p : Post) (rest : List Job) (c : Client) (o : Octets) → Joint opening limit config book p o
+  joint_started : (p : Post) (rest : List Job) (c : Connection) (o : Octets) → Joint opening limit config book p o
       → client.unread_of c ≡ client.unread_of p.client → client.config_of c ≡ config
       → Mode opening config book (record p { rest = rest; client = c; noted = Some [] }) o
       → Joint opening limit config book (record p { rest = rest; client = c; noted = Some [] }) o
@@ -122,10 +122,10 @@ module _ (opening : Memory) (limit : ℕ) (config : Config) (book : Book)
     mode = mode;
   }
 
-  unread_kept : (p : Post) (c : Client) (j : Job) → client.IsStarted p.client c j → IsNoConnect j → client.unread_of c ≡ client.unread_of p.client
+  unread_kept : (p : Post) (c : Connection) (j : Job) → client.IsStarted p.client c j → IsNoConnect j → client.unread_of c ≡ client.unread_of p.client
   unread_kept p c j s calm = s.unread ∙ ap (λ b. if b then [] else client.unread_of p.client) (not_anew (client.grant_of p.client) j calm)
 
-  start_mode : (p : Post) (j : Job) (rest : List Job) (c : Client) (o : Octets) → Joint opening limit config book p o
+  start_mode : (p : Post) (j : Job) (rest : List Job) (c : Connection) (o : Octets) → Joint opening limit config book p o
       → client.job_of p.client ≡ None → p.rest ≡ j ∷ rest → client.IsStarted p.client c j → Mode opening config book p o
       → Joint opening limit config book (record p { rest = rest; client = c; noted = Some [] }) o
   start_mode p j rest c o joint idle left s (untouched u) =
@@ -198,10 +198,10 @@ module _ (opening : Memory) (limit : ℕ) (config : Config) (book : Book)
   abbrev after : Octets → List ℕ → List ℕ → Octets
   after o used written = record o { sent = o.sent ++ written; heard = o.heard ++ used }
 
-  abbrev polled_post : Post → Client → PipesHeld → List JobResult → List (List ℕ) → Option (List ℕ) → Post
+  abbrev polled_post : Post → Connection → PipesHeld → List JobResult → List (List ℕ) → Option (List ℕ) → Post
   polled_post p c pipes results places noted = record p { client = c; pipes = pipes; results = results; places = places; noted = noted }
 
-  joint_polled : (p : Post) (c : Client) (pipes : PipesHeld) (results : List JobResult) (places : List (List ℕ)) (noted : Option (List ℕ)) (loan : GName) (o : Octets)
+  joint_polled : (p : Post) (c : Connection) (pipes : PipesHeld) (results : List JobResult) (places : List (List ℕ)) (noted : Option (List ℕ)) (loan : GName) (o : Octets)
       → Joint opening limit config book p o
       → (m : Moves (client.unread_of p.client) (end_of loan p.pipes side.Client) (client.unread_of c) (end_of loan pipes side.Client))
       → client.config_of c ≡ client.config_of p.client
@@ -231,10 +231,10 @@ module _ (opening : Memory) (limit : ℕ) (config : Config) (book : Book)
     mode = mode;
   }
 
-  abbrev moved : Post → Client → PipesHeld → Post
+  abbrev moved : Post → Connection → PipesHeld → Post
   moved p c pipes = record p { client = c; pipes = pipes }
 
-  pending_mode : (p : Post) (c : Client) (pipes : PipesHeld) (link link' : Shown) (used written : List ℕ) (o : Octets)
+  pending_mode : (p : Post) (c : Connection) (pipes : PipesHeld) (link link' : Shown) (used written : List ℕ) (o : Octets)
       → client.Comes p.client link c link' used written polled.Pending → Mode opening config book p o → Mode opening config book (moved p c pipes) (after o used written)
   pending_mode p c pipes link link' used written o comes (untouched u) = absurd (waits_for_none p.client c (client.config_of p.client).polls u.fresh.job comes.0.waited)
   pending_mode p c pipes link link' used written o comes (connecting k) = connecting (record {
@@ -313,7 +313,7 @@ module _ (opening : Memory) (limit : ℕ) (config : Config) (book : Book)
   same_octets : (o : Octets) (written : List ℕ) → written ≡ [] → o.sent ≡ o.sent ++ written
   same_octets o written none = sym (append-nil o.sent) ∙ ap (λ x. o.sent ++ x) (sym none)
 
-  idle_step : (p : Post) (c : Client) (pipes : PipesHeld) (loan : GName) (o : Octets) (written : List ℕ) → Joint opening limit config book p o
+  idle_step : (p : Post) (c : Connection) (pipes : PipesHeld) (loan : GName) (o : Octets) (written : List ℕ) → Joint opening limit config book p o
       → pipes.to_server ≡ p.pipes.to_server ++ written
       → (client.job_of p.client ≡ None) × (c ≡ p.client) × (end_of loan pipes side.Client ≡ end_of loan p.pipes side.Client)
       → (o' : Octets) × (o'.sent ≡ o.sent ++ written) × (o'.answered ≡ o.answered) × Joint opening limit config book (moved p c pipes) o'
@@ -349,7 +349,7 @@ module _ (opening : Memory) (limit : ℕ) (config : Config) (book : Book)
 
   -- ---- a job that is done
 
-  pub record Ends (p : Post) (c : Client) (pipes : PipesHeld) (told : JobResult) (o' : Octets) : Type 0 where
+  pub record Ends (p : Post) (c : Connection) (pipes : PipesHeld) (told : JobResult) (o' : Octets) : Type 0 where
     pub stands : StandsAtPlaces (begins_with opening) (history_of book) p.link config.pdu told (unwrap_or p.noted [])
     pub comes_off : length (history_of book) < limit → AllComeOff opening config.pdu p.results → AllComeOff opening config.pdu (p.results ++ told ∷ [])
     pub mode : Mode opening config book (polled_post p c pipes (p.results ++ told ∷ []) (p.places ++ unwrap_or p.noted [] ∷ []) None) o'
@@ -361,13 +361,13 @@ module _ (opening : Memory) (limit : ℕ) (config : Config) (book : Book)
       absurd (omega (arith, room, full, j.limited))
 
   -- the session owes what the client used, and more that is on its way
-  owes : (p : Post) (c : Client) (pipes : PipesHeld) (o : Octets) (heard : List ℕ) → Joint opening limit config book p o
+  owes : (p : Post) (c : Connection) (pipes : PipesHeld) (o : Octets) (heard : List ℕ) → Joint opening limit config book p o
       → o.answered ≡ heard ++ (client.unread_of c ++ pipes.to_client)
       → owed first o.used o.verdicts ≡ heard ++ ((client.unread_of c ++ pipes.to_client) ++ unsent p.session)
   owes p c pipes o heard j given =
       j.stands.owed ∙ ap (λ x. x ++ unsent p.session) given ∙ append_assoc heard (client.unread_of c ++ pipes.to_client) (unsent p.session)
 
-  connect_done : 64 ≤ config.pdu → config.pdu ≤ most_pdu → (p : Post) (c : Client) (pipes : PipesHeld) (link link' : Shown) (used written : List ℕ) (o : Octets) (told : JobResult)
+  connect_done : 64 ≤ config.pdu → config.pdu ≤ most_pdu → (p : Post) (c : Connection) (pipes : PipesHeld) (link link' : Shown) (used written : List ℕ) (o : Octets) (told : JobResult)
       → Joint opening limit config book p o
       → o.sent ++ written ≡ o.used ++ (unread p.session ++ pipes.to_server)
       → o.answered ≡ (o.heard ++ used) ++ (client.unread_of c ++ pipes.to_client)
@@ -428,7 +428,7 @@ module _ (opening : Memory) (limit : ℕ) (config : Config) (book : Book)
             });
           }
 
-  module _ (least : 64 ≤ config.pdu) (most : config.pdu ≤ most_pdu) (p : Post) (c : Client) (pipes : PipesHeld) (link : Shown) (link' : Shown) (used : List ℕ) (written : List ℕ) (o : Octets) (told : JobResult)
+  module _ (least : 64 ≤ config.pdu) (most : config.pdu ≤ most_pdu) (p : Post) (c : Connection) (pipes : PipesHeld) (link : Shown) (link' : Shown) (used : List ℕ) (written : List ℕ) (o : Octets) (told : JobResult)
       (j : Joint opening limit config book p o)
       (taken : o.sent ++ written ≡ o.used ++ (unread p.session ++ pipes.to_server))
       (given : o.answered ≡ (o.heard ++ used) ++ (client.unread_of c ++ pipes.to_client))
@@ -589,7 +589,7 @@ module _ (opening : Memory) (limit : ℕ) (config : Config) (book : Book)
     job_done : Ends p c pipes told (after o used written)
     job_done = job_ends (working_ends w.origin link link' (client.unread_of c) d.end d.carried heard sent (client.waited_of p.client) w.grant w.granted quiet d.cause)
 
-  failed_done : (p : Post) (c : Client) (pipes : PipesHeld) (link link' : Shown) (used written : List ℕ) (o : Octets) (told : JobResult)
+  failed_done : (p : Post) (c : Connection) (pipes : PipesHeld) (link link' : Shown) (used written : List ℕ) (o : Octets) (told : JobResult)
       → client.job_of c ≡ None → (l : IsLost p) (f : IsFailing p)
       → client.IsDone f.origin link link' p.client c told (f.heard ++ used) (f.sent ++ written)
       → Ends p c pipes told (after o used written)
@@ -606,7 +606,7 @@ module _ (opening : Memory) (limit : ℕ) (config : Config) (book : Book)
     });
   }
 
-  done_by : 64 ≤ config.pdu → config.pdu ≤ most_pdu → (p : Post) (c : Client) (pipes : PipesHeld) (link link' : Shown) (used written : List ℕ) (o : Octets) (told : JobResult)
+  done_by : 64 ≤ config.pdu → config.pdu ≤ most_pdu → (p : Post) (c : Connection) (pipes : PipesHeld) (link link' : Shown) (used written : List ℕ) (o : Octets) (told : JobResult)
       → Joint opening limit config book p o
       → o.sent ++ written ≡ o.used ++ (unread p.session ++ pipes.to_server)
       → o.answered ≡ (o.heard ++ used) ++ (client.unread_of c ++ pipes.to_client)
@@ -627,7 +627,7 @@ module _ (opening : Memory) (limit : ℕ) (config : Config) (book : Book)
 
   -- ---- a poll
 
-  poll_by : 64 ≤ config.pdu → config.pdu ≤ most_pdu → (p : Post) (c : Client) (pipes : PipesHeld) (loan : GName) (o : Octets)
+  poll_by : 64 ≤ config.pdu → config.pdu ≤ most_pdu → (p : Post) (c : Connection) (pipes : PipesHeld) (loan : GName) (o : Octets)
       → Joint opening limit config book p o
       → (m : Moves (client.unread_of p.client) (end_of loan p.pipes side.Client) (client.unread_of c) (end_of loan pipes side.Client))
       → client.config_of c ≡ client.config_of p.client

@@ -21,12 +21,13 @@ use Rattle.s7_plant.specs.declared.request.Request.TheVariants as plain
 use Rattle.s7_plant.specs.Requests.{no_room}
 use Rattle.s7_dialogue.specs.Checks.{check_image}
 use Rattle.s7_dialogue.specs.Codes.{no_fault, invalid_parameters}
-use Rattle.s7_dialogue.specs.Downloads.{name_in, piece_room, announce_params, piece_params}
+use Rattle.s7_dialogue.specs.Downloads.{name_in, announce_params, piece_params}
+use Rattle.s7_block.specs.Slices.{image_room}
 use Rattle.s7_dialogue.specs.Question.{announces, gives, inserts, question_octets, params_of}
 use Rattle.s7_session.specs.Judgement.{judge, own, asks_plainly, answer_octets, control_in, function_at}
 use Rattle.s7_session.specs.Judgement.{download_started, goes_on, piece_came, server_job, pdu_limit, insert}
 use Rattle.s7_session.specs.LinkState.{LinkState}
-use Rattle.s7_session.specs.Transfers.{announced, download_announced, size_announced, piece_in, image_room}
+use Rattle.s7_session.specs.Transfers.{announced, download_announced, size_announced, piece_in}
 use Rattle.s7_session.specs.Transfers.{is_image_data, with_server_job, finished}
 use Rattle.s7_rig.specs.Exchanges.{HoldsPieces, HoldsWhole}
 use Rattle.s7_rig.proofs.DeleteLemmas.{block_named}
@@ -143,7 +144,7 @@ goes_on_by true link image place = refl
 goes_on_by false link image place = refl
 
 given_by : (more : Bool) (link : LinkState) (pdu : ℕ) (image : List ℕ) (room from call : ℕ) → link.granted ≡ Some pdu
-    → room ≡ piece_room pdu → 0 < room → length image ≤ 65536 → HoldsPieces link image from call
+    → room ≡ image_room pdu → 0 < room → length image ≤ 65536 → HoldsPieces link image from call
     → ltb room (length (drop from image)) ≡ more
     → piece_came link link.download
     (piece_in (pdu_limit link.granted) (piece_params (part more (take room (drop from image))))
@@ -161,7 +162,7 @@ given_by more link pdu image room from call granted fits some most held is =
 
 -- a piece is taken, and the server goes on
 pub judged_given : (link : LinkState) (pdu s : ℕ) (image : List ℕ) (room from call : ℕ) (more : Bool)
-    → link.granted ≡ Some pdu → room ≡ piece_room pdu → 0 < room → length image ≤ 65536
+    → link.granted ≡ Some pdu → room ≡ image_room pdu → 0 < room → length image ≤ 65536
     → HoldsPieces link image from call → ltb (from + room) (length image) ≡ more
     → judge link (question_octets s (gives image room from call))
     ≡ own (job_behind more link image ∷ []) (link_behind more link image (from + room))

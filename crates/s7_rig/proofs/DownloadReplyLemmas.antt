@@ -11,7 +11,8 @@ use Rattle.s7_plant.specs.declared.request.Ask.{Ask}
 use Rattle.s7_plant.specs.declared.request.Request.TheVariants as plain
 use Rattle.s7_plant.specs.Requests.{asked, no_room}
 use Rattle.s7_plant.specs.Replies.{Said}
-use Rattle.s7_dialogue.specs.Downloads.{name_in, piece_room}
+use Rattle.s7_dialogue.specs.Downloads.{name_in}
+use Rattle.s7_block.specs.Slices.{image_room}
 use Rattle.s7_dialogue.specs.Question.{Question, announces, awaits_call, gives, inserts, closing_octets, messages_of}
 use Rattle.s7_dialogue.specs.Question.{is_numbered, question_octets}
 use Rattle.s7_dialogue.specs.Answer.{announced, calls, refuses, stands, answer_of}
@@ -226,7 +227,7 @@ given_well all link s room from call image more stored is =
 
 given_replied : {first : LinkState} (b : List ℕ) (js vs : List Verdict) (unheard : List (List ℕ)) (pdu s : ℕ)
     (image : List ℕ) (room from call : ℕ) (more : Bool) → IsAsked first b js pdu s → IsChecked image
-    → room ≡ piece_room pdu → HoldsPieces (past first b js).link image from call → unheard ≡ []
+    → room ≡ image_room pdu → HoldsPieces (past first b js).link image from call → unheard ≡ []
     → ltb (from + room) (length image) ≡ more → Replies first b js vs unheard pdu (gives image room from call) s
 given_replied {first} b js vs unheard pdu s image room from call more on is fits held none follows =
     let link = (past first b js).link in

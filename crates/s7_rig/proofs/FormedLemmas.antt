@@ -7,7 +7,7 @@ use Rattle.s7_outer.specs.Shown.{Shown}
 use Rattle.s7_outer.specs.PipesHeld.{PipesHeld}
 use Rattle.s7_area.specs.Memory.{Memory}
 use Rattle.s7_area.specs.declared.guard.Guard.{Guard}
-use Rattle.s7_client.specs.declared.client.Client.{Client}
+use Rattle.s7_client.specs.declared.connection.Connection.{Connection}
 use Rattle.s7_dialogue.specs.Codes.{link_ended, send_failed, receive_failed, timed_out}
 use Rattle.s7_dialogue.specs.declared.config.Config.{Config}
 use Rattle.s7_dialogue.specs.declared.job.Job.{Job}
@@ -49,10 +49,10 @@ done_by_formed law origin k k' kept end carried b w waited (inr h) = fault_forme
 -- ---- polls
 
 -- no job is outstanding, or the client stands for the octets of one
-abbrev Standing : Client → Type 0
+abbrev Standing : Connection → Type 0
 Standing c = (job_of c ≡ None) ⊎ ((origin : Origin) × (b : List ℕ) × (w : List ℕ) × StandsFor c origin b w)
 
-done_formed : EndsHaveForm → (old new : Client) (k k' : Shown) (told : JobResult) (used written : List ℕ)
+done_formed : EndsHaveForm → (old new : Connection) (k k' : Shown) (told : JobResult) (used written : List ℕ)
     → Standing old → Comes old k new k' used written (polled.Done told) → IsFormed told
 done_formed law old new k k' told used written (inl none) h = absurd (some_job (job_of old) h.0 none)
 done_formed law old new k k' told used written (inr (origin, b, w, s)) h =
@@ -65,7 +65,7 @@ done_formed law old new k k' told used written (inr (origin, b, w, s)) h =
       form = done_by_formed law origin k k' _ d.end d.carried (b ++ used) (w ++ written) (waited_of old) d.cause;
     }
 
-pending_stands : (old new : Client) (k k' : Shown) (used written : List ℕ) → Standing old → Comes old k new k' used written polled.Pending → Standing new
+pending_stands : (old new : Connection) (k k' : Shown) (used written : List ℕ) → Standing old → Comes old k new k' used written polled.Pending → Standing new
 pending_stands old new k k' used written (inl none) h = absurd (waits_for_none old new _ none h.0.waited)
 pending_stands old new k k' used written (inr (origin, b, w, s)) h = inr (origin, b ++ used, w ++ written, (h.1 origin b w s).stands)
 
@@ -75,7 +75,7 @@ record IsGoing (p : Post) : Type 0 where
   standing : Standing p.client
   formed : All IsFormed p.results
 
-poll_goes : EndsHaveForm → (p : Post) (client : Client) (pipes : PipesHeld) (k k' : Shown) (result : Polled) → IsGoing p
+poll_goes : EndsHaveForm → (p : Post) (client : Connection) (pipes : PipesHeld) (k k' : Shown) (result : Polled) → IsGoing p
     → IsPoll p.client k client k' result → IsGoing (with_polled result (record p { client = client; pipes = pipes }))
 poll_goes law p client pipes k k' (polled.Done told) g h = record {
   standing = inl h.comes.1;

@@ -21,7 +21,7 @@ use Rattle.s7_dialogue.specs.declared.job.Job.TheVariants as job
 use Rattle.s7_dialogue.specs.declared.subject.Subject.{Subject}
 use Rattle.s7_dialogue.specs.declared.subject.Subject.TheVariants.{DataHead}
 use Rattle.s7_dialogue.specs.DataBlocks.{data_parts}
-use Rattle.s7_dialogue.specs.Downloads.{piece_room}
+use Rattle.s7_block.specs.Slices.{image_room}
 use Rattle.s7_block.specs.declared.block.BlockName.{BlockName}
 use Rattle.s7_dialogue.specs.Question.{Question, reads, writes, controls, asks, asks_further}
 use Rattle.s7_dialogue.specs.Question.{starts_upload, slices_upload, ends_upload, announces, awaits_call, gives, inserts}
@@ -304,7 +304,7 @@ asks_as (job.Info kind number) granted = about_asks _ _
 asks_as (job.Upload kind number) granted = in_turn (upload_in_turn (record { kind = kind; number = number }))
 asks_as (job.Download image) granted =
     checked_asks (check_image image) _
-    (λ good. in_turn (download_in_turn image (piece_room granted.pdu) (some_image image good)))
+    (λ good. in_turn (download_in_turn image (image_room granted.pdu) (some_image image good)))
 asks_as (job.Delete kind number) granted = control_asks (control.Delete kind number)
 asks_as (job.DbGet number) granted = in_turn (getting_in_turn granted.pdu number)
 asks_as (job.DbFill number value) granted = in_turn (filling_in_turn granted.pdu number value)

@@ -6,7 +6,7 @@ use Rattle.s7_dialogue.specs.declared.grant.Grant.{Grant}
 use Rattle.s7_dialogue.specs.declared.job.Job.TheVariants as job
 use Rattle.s7_dialogue.specs.Course.{Origin}
 use Rattle.s7_client.specs.Polling as client
-use Rattle.s7_plant.specs.declared.book.Book.{Book}
+use Rattle.s7_plant.specs.Books.{BookTold}
 use Rattle.s7_plant.specs.State.{begins_with, state_of}
 use Rattle.s7_session.specs.Books.{own, history_of}
 use Rattle.s7_session.specs.Doers.{Trail}
@@ -66,7 +66,7 @@ pub record IsConnected (first : LinkState) (config : Config) (p : Post) (o : Oct
   pub jobs : NoneConnects p.rest
 
 -- the client is connected and has a job under way: both stood between two messages before it
-pub record IsWorking (opening : Memory) (config : Config) (book : Book) (p : Post) (o : Octets) : Type 0 where
+pub record IsWorking (opening : Memory) (config : Config) (book : BookTold) (p : Post) (o : Octets) : Type 0 where
   pub origin : Origin
   pub heard : List ℕ
   pub sent : List ℕ
@@ -112,7 +112,7 @@ pub record IsLost (p : Post) : Type 0 where
   pub job : (client.job_of p.client ≡ None) ⊎ IsFailing p
   pub jobs : NoneConnects p.rest
 
-pub data Mode (opening : Memory) (config : Config) (book : Book) (p : Post) (o : Octets) : Type 0 where
+pub data Mode (opening : Memory) (config : Config) (book : BookTold) (p : Post) (o : Octets) : Type 0 where
   untouched : IsUntouched config p o → Mode opening config book p o
   connecting : IsConnecting config p o → Mode opening config book p o
   connected : IsConnected (first_link opening.guard) config p o → Mode opening config book p o
@@ -120,7 +120,7 @@ pub data Mode (opening : Memory) (config : Config) (book : Book) (p : Post) (o :
   lost : IsLost p → Mode opening config book p o
 
 -- WHAT HOLDS of a client and its session, whose octets are these
-pub record Joint (opening : Memory) (limit : ℕ) (config : Config) (book : Book) (p : Post) (o : Octets) : Type 0 where
+pub record Joint (opening : Memory) (limit : ℕ) (config : Config) (book : BookTold) (p : Post) (o : Octets) : Type 0 where
   pub opened : state_of book.opening ≡ begins_with opening
   pub limited : book.journal.limit ≡ limit
   -- the session stands for its octets, and the octets between the two are on their way
@@ -132,7 +132,7 @@ pub record Joint (opening : Memory) (limit : ℕ) (config : Config) (book : Book
   pub met : verdicts_of o.mets ≡ o.verdicts
   -- the history is legal for the link
   pub legal : entered_of o.mets ≡ map answered (own (begins_with opening) p.link (history_of book))
-  pub begun : Book
+  pub begun : BookTold
   pub trail : Trail is_full_in lacks_in begun o.mets book
   pub clock : clock_failures o.verdicts ≡ 0
   pub moment_is : p.pipes.moment ≡ moment

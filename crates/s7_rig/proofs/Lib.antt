@@ -34,6 +34,7 @@ pub mod UploadAsksLemmas
 pub mod DownloadAsksLemmas
 pub mod AskableLemmas
 pub mod TelegramLemmas
+pub mod TellsLemmas
 pub mod HoldTurns
 pub mod HoldPieces
 pub mod HoldSlices

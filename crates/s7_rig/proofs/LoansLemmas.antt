@@ -6,7 +6,7 @@ use Rattle.s7_outer.specs.Shown.{Shown}
 use Rattle.s7_outer.specs.Pipes.{end_of, number_of as side_number}
 use Rattle.s7_outer.specs.declared.pipes.Side.{Side}
 use Rattle.s7_outer.specs.declared.pipes.Side.TheVariants as side
-use Rattle.s7_plant.specs.declared.book.Book.{Book}
+use Rattle.s7_plant.specs.Books.{BookTold, book_told}
 use Rattle.s7_plant.specs.declared.request.Ask.{Ask}
 use Rattle.s7_session.specs.declared.book_doer.BookDoer.{BookDoer}
 use Rattle.s7_session.specs.declared.session.Session.{Session}
@@ -35,23 +35,23 @@ same_side loan loan' p p' s e = server_is s (ap (λ l. l.end) (some_same e))
 
 -- ---- the book of a doer
 
-abbrev doer_stands : BookDoer → List Entry → Type 0
-doer_stands d entries = stands_in d.link d.book.now entries
+abbrev doer_stands : {O : Type 0} → BookDoer O → List Entry → Type 0
+doer_stands d entries = stands_in d.link (book_told d.book.now) entries
 
-abbrev doer_is_full : BookDoer → Ask → Type 0
-doer_is_full d ask = is_full_in d.book.now ask
+abbrev doer_is_full : {O : Type 0} → BookDoer O → Ask → Type 0
+doer_is_full d ask = is_full_in (book_told d.book.now) ask
 
-abbrev doer_lacks : BookDoer → Ask → Type 0
-doer_lacks d ask = lacks_in d.book.now ask
+abbrev doer_lacks : {O : Type 0} → BookDoer O → Ask → Type 0
+doer_lacks d ask = lacks_in (book_told d.book.now) ask
 
-abbrev book_of : BookDoer → Book
-book_of d = d.book.now
+abbrev book_of : {O : Type 0} → BookDoer O → BookTold
+book_of d = book_told d.book.now
 
-seen : SeenAs doer_is_full doer_lacks is_full_in lacks_in book_of
+seen : {O : Type 0} → SeenAs (doer_is_full {O = O}) (doer_lacks {O = O}) is_full_in lacks_in (book_of {O = O})
 seen = record { is_full = λ d a h. h; was_full = λ d a h. h; lacks = λ d a h. h }
 
 -- what calls did with a doer of one link they did with its book
-moves_seen : (old new : Session) (k k' : Shown) (d d' : BookDoer) → d'.link ≡ d.link
+moves_seen : {O : Type 0} (old new : Session) (k k' : Shown) (d d' : BookDoer O) → d'.link ≡ d.link
     → Moves doer_stands doer_is_full doer_lacks old k d new k' d' → Moves (stands_in d.link) is_full_in lacks_in old k (book_of d) new k' (book_of d')
 moves_seen old new k k' d d' same m = record {
   received = m.received;
@@ -80,7 +80,7 @@ moves_seen old new k k' d d' same m = record {
   waits = m.waits;
 }
 
-turn_seen : (old new : Session) (k k' : Shown) (d d' : BookDoer) (result : Turn) → d'.link ≡ d.link
+turn_seen : {O : Type 0} (old new : Session) (k k' : Shown) (d d' : BookDoer O) (result : Turn) → d'.link ≡ d.link
     → IsTurn doer_stands doer_is_full doer_lacks old k d new k' d' result → IsTurn (stands_in d.link) is_full_in lacks_in old k (book_of d) new k' (book_of d') result
 unfolding moves_seen
 turn_seen old new k k' d d' result same t = record {
@@ -97,11 +97,11 @@ turn_seen old new k k' d d' result same t = record {
 }
 
 -- a turn over an end that was lent, with a doer that enters for the link
-pub taken : (loan loan' : GName) (s : Side) (session session' : Session) (p p' : PipesHeld) (d d' : BookDoer) (result : Turn)
+pub taken : {O : Type 0} (loan loan' : GName) (s : Side) (session session' : Session) (p p' : PipesHeld) (d d' : BookDoer O) (result : Turn)
     → (turn : IsTurn doer_stands doer_is_full doer_lacks session (end_of loan p side.Server) d session' (end_of loan' p' s) d' result)
     → ((o : Outcome) → closed_with session ≡ Some o → session' ≡ session)
-    → number_of session' ≡ number_of session → d'.link ≡ d.link → GoesOnBy d.link d.book.now d'.book.now
-    → TakesTurn d.link session p d.book.now session' p' d'.book.now result
+    → number_of session' ≡ number_of session → d'.link ≡ d.link → GoesOnBy d.link (book_told d.book.now) (book_told d'.book.now)
+    → TakesTurn d.link session p (book_told d.book.now) session' p' (book_told d'.book.now) result
 taken loan loan' s session session' p p' d d' result turn stays number same on =
     let seen_turn = turn_seen session session' (end_of loan p side.Server) (end_of loan' p' s) d d' result same turn in
     record {

@@ -13,7 +13,7 @@ use Rattle.s7_item.specs.declared.item.Item.{Item}
 use Rattle.s7_split.specs.Parts.{parts_of}
 use Rattle.s7_turn.specs.declared.view.Entry.{Entry as Call}
 use Rattle.s7_turn.specs.Histories.{entry, replay}
-use Rattle.s7_plant.specs.declared.book.Book.{Book}
+use Rattle.s7_plant.specs.Books.{BookTold}
 use Rattle.s7_plant.specs.declared.request.Ask.{Ask}
 use Rattle.s7_plant.specs.declared.request.Request.{Request}
 use Rattle.s7_plant.specs.declared.request.Request.TheVariants.{Read}
@@ -88,14 +88,14 @@ own_numbers number s link (e ∷ es) are =
     ∙ ap (λ ns. number ∷ ns) (own_numbers (number + 1) (after s e.request) link es are.1)
 
 -- the same of a book that goes on
-pub own_goes_on : (link : ℕ) (old new : Book) (g : GoesOnBy link old new)
+pub own_goes_on : (link : ℕ) (old new : BookTold) (g : GoesOnBy link old new)
     → own (state_of new.opening) link (history_of new) ≡ own (state_of old.opening) link (history_of old) ++ own_from (length (history_of old)) (replay after_call (state_of old.opening) (history_of old)) link g.calls
 own_goes_on link old new g =
     ap (λ o. own (state_of o) link (history_of new)) g.opening
     ∙ ap (own (state_of old.opening) link) g.history
     ∙ own_more (state_of old.opening) link (history_of old) g.calls
 
-pub own_stays : (link other : ℕ) (old new : Book) → other ≢ link → GoesOnBy other old new → own (state_of new.opening) link (history_of new) ≡ own (state_of old.opening) link (history_of old)
+pub own_stays : (link other : ℕ) (old new : BookTold) → other ≢ link → GoesOnBy other old new → own (state_of new.opening) link (history_of new) ≡ own (state_of old.opening) link (history_of old)
 own_stays link other old new apart g =
     ap (λ o. own (state_of o) link (history_of new)) g.opening
     ∙ ap (own (state_of old.opening) link) g.history
@@ -318,14 +318,14 @@ all_stand_more s history link pdu (first ∷ results) [] told numbers all last =
 all_stand_more s history link pdu (first ∷ results) (ns ∷ places) told numbers all last = (all.0, all_stand_more s history link pdu results places told numbers all.1 last)
 
 -- the same of a book that goes on, by calls of whatever link
-pub split_read_goes_on : (other : ℕ) (old new : Book) → GoesOnBy other old new → (numbers : List ℕ) (link : ℕ) (item : Item) (pdu : ℕ) (octets : List ℕ) → SplitRead (state_of old.opening) (history_of old) numbers link item pdu octets
+pub split_read_goes_on : (other : ℕ) (old new : BookTold) → GoesOnBy other old new → (numbers : List ℕ) (link : ℕ) (item : Item) (pdu : ℕ) (octets : List ℕ) → SplitRead (state_of old.opening) (history_of old) numbers link item pdu octets
     → SplitRead (state_of new.opening) (history_of new) numbers link item pdu octets
 split_read_goes_on other old new g numbers link item pdu octets is =
     subst (λ o. SplitRead (state_of o) (history_of new) numbers link item pdu octets) (sym g.opening)
     (subst (λ es. SplitRead (state_of old.opening) es numbers link item pdu octets) (sym g.history)
     (split_read_stays (state_of old.opening) (history_of old) g.calls numbers link item pdu octets is))
 
-pub all_stand_goes_on : (other : ℕ) (old new : Book) → GoesOnBy other old new → (link pdu : ℕ) (results : List JobResult) (places : List (List ℕ)) → AllStand (state_of old.opening) (history_of old) link pdu results places
+pub all_stand_goes_on : (other : ℕ) (old new : BookTold) → GoesOnBy other old new → (link pdu : ℕ) (results : List JobResult) (places : List (List ℕ)) → AllStand (state_of old.opening) (history_of old) link pdu results places
     → AllStand (state_of new.opening) (history_of new) link pdu results places
 all_stand_goes_on other old new g link pdu results places all =
     subst (λ o. AllStand (state_of o) (history_of new) link pdu results places) (sym g.opening)
@@ -352,6 +352,6 @@ no_links low high = tt
 pub all_links_more : (low high link : ℕ) (history es : History) → low ≤ link → link ≤ high → AllLinks low high history → AreOf link es → AllLinks low high (history ++ es)
 all_links_more low high link history es least most all are = are_all low high history es all (are_among low high link es least most are)
 
-pub all_links_go_on : (low high link : ℕ) (old new : Book) → low ≤ link → link ≤ high → AllLinks low high (history_of old) → GoesOnBy link old new → AllLinks low high (history_of new)
+pub all_links_go_on : (low high link : ℕ) (old new : BookTold) → low ≤ link → link ≤ high → AllLinks low high (history_of old) → GoesOnBy link old new → AllLinks low high (history_of new)
 all_links_go_on low high link old new least most all g =
     subst (AllLinks low high) (sym g.history) (all_links_more low high link (history_of old) g.calls least most all g.own)

@@ -3,7 +3,7 @@ use Rattle.std.proofs.Common.{◌≡◌, ℕ, ◌||◌, Bool, true, false, List,
 use Rattle.std.proofs.Math.Bool.{or-false}
 use Rattle.std.proofs.lemmas.Bool.{true≢false}
 use Rattle.s7_outer.specs.PipesHeld.{PipesHeld}
-use Rattle.s7_client.specs.declared.client.Client.{Client}
+use Rattle.s7_client.specs.declared.connection.Connection.{Connection}
 use Rattle.s7_dialogue.specs.declared.job.JobResult.{JobResult}
 use Rattle.s7_client.specs.declared.job.Polled.{Polled}
 use Rattle.s7_client.specs.declared.job.Polled.TheVariants as polled
@@ -23,7 +23,7 @@ kept_same p results results' places places' noted noted' a b d =
     ∙ ap (λ x. record p { results = results'; places = places'; noted = x }) d)
 
 -- a job is done, and its result and its places are kept
-pub polls_done : (p : Post) (client : Client) (pipes : PipesHeld) (told : JobResult) (results : List JobResult) (places : List (List ℕ)) (noted : Option (List ℕ))
+pub polls_done : (p : Post) (client : Connection) (pipes : PipesHeld) (told : JobResult) (results : List JobResult) (places : List (List ℕ)) (noted : Option (List ℕ))
     → PollsOver p.client p.pipes client pipes (polled.Done told) → length pipes.to_server ≤ pipes.room
     → results ≡ p.results ++ told ∷ [] → places ≡ p.places ++ unwrap_or p.noted [] ∷ [] → noted ≡ None
     → PollsOnce p (record p { client = client; pipes = pipes; results = results; places = places; noted = noted }) true
@@ -38,7 +38,7 @@ polls_done p client pipes told results places noted poll fits a b d = record {
 }
 
 -- no job is done
-pub polls_on : (p : Post) (client : Client) (pipes : PipesHeld) (r : Polled) (stirs : Bool)
+pub polls_on : (p : Post) (client : Connection) (pipes : PipesHeld) (r : Polled) (stirs : Bool)
     → (r ≡ polled.Pending) ⊎ (r ≡ polled.Idle) → PollsOver p.client p.pipes client pipes r → length pipes.to_server ≤ pipes.room
     → stirs ≡ have_moved p.pipes pipes → PollsOnce p (record p { client = client; pipes = pipes }) stirs
 polls_on p client pipes polled.Pending stirs e poll fits h = record {

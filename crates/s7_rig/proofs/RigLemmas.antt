@@ -10,7 +10,7 @@ use Rattle.s7_header.specs.Negotiation.{most_pdu}
 use Rattle.s7_dialogue.specs.declared.config.Config.{Config}
 use Rattle.s7_dialogue.specs.declared.job.Job.{Job}
 use Rattle.s7_client.specs.Polling as client
-use Rattle.s7_plant.specs.declared.book.Book.{Book}
+use Rattle.s7_plant.specs.Books.{BookTold}
 use Rattle.s7_plant.specs.Journals.{Entries, AreReady, entries_of, calls_of, after_call}
 use Rattle.s7_plant.specs.State.{begins_with, state_of}
 use Rattle.s7_turn.specs.Histories.{replay}
@@ -70,7 +70,7 @@ fresh_at guard config link (jobs ∷ scripts) (q ∷ posts) (suc k) p fresh firs
     plus_one : (n k : ℕ) → (n + 1) + k ≡ n + suc k
     plus_one n k = omega arith
 
-joint_fresh : (opening : Memory) (limit : ℕ) (config : Config) (book : Book) (p : Post) (link : ℕ) → FreshAt opening.guard config link p
+joint_fresh : (opening : Memory) (limit : ℕ) (config : Config) (book : BookTold) (p : Post) (link : ℕ) → FreshAt opening.guard config link p
     → state_of book.opening ≡ begins_with opening → book.journal ≡ entries_of [] limit → HasJoint opening limit config book p [] []
 joint_fresh opening limit config book p link f opened journal =
     let s = begins_with opening in
@@ -116,7 +116,7 @@ joint_fresh opening limit config book p link f opened journal =
 -- ---- the end
 
 module _ (opening : Memory) (limit : ℕ) (config : Config) where
-  legal_by : (book : Book) (p : Post) (sent answered : List ℕ) → HasJoint opening limit config book p sent answered → IsLegalPost opening limit (history_of book) p sent answered
+  legal_by : (book : BookTold) (p : Post) (sent answered : List ℕ) → HasJoint opening limit config book p sent answered → IsLegalPost opening limit (history_of book) p sent answered
   legal_by book p sent answered h =
       let j = h.joint in
       let o = h.octets in
@@ -143,7 +143,7 @@ module _ (opening : Memory) (limit : ℕ) (config : Config) where
       }
 
   -- what holds of each place holds of all that is told
-  all_told : (book : Book) (posts : List Post)
+  all_told : (book : BookTold) (posts : List Post)
       → ((k : ℕ) (p : Post) → slice_get posts k ≡ Some p → AllStand (begins_with opening) (history_of book) p.link config.pdu p.results p.places)
       → AllByRecursion (λ (c : ClientTold). AllStand (begins_with opening) (history_of book) c.link config.pdu c.results c.places) (map post_told posts)
   all_told book [] each = tt

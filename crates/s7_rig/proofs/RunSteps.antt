@@ -10,7 +10,7 @@ use Rattle.s7_header.specs.Negotiation.{most_pdu}
 use Rattle.s7_dialogue.specs.declared.config.Config.{Config}
 use Rattle.s7_client.specs.declared.job.Polled.{Polled}
 use Rattle.s7_client.specs.declared.job.Polled.TheVariants as polled
-use Rattle.s7_plant.specs.declared.book.Book.{Book}
+use Rattle.s7_plant.specs.Books.{BookTold}
 use Rattle.s7_plant.specs.Journals.{AreReady}
 use Rattle.s7_plant.specs.State.{begins_with, state_of}
 use Rattle.s7_session.specs.Books.{history_of}
@@ -67,14 +67,14 @@ started_link p q (inr s) = ap (λ (x : Post). x.link) s.same
 client_link : (p q : Post) (stirs : Bool) → IsClientTurn p q stirs → q.link ≡ p.link
 client_link p q stirs t = ap (λ (x : Post). x.link) t.polls.same ∙ polled_link t.polls.result _ ∙ started_link p t.ready t.starts
 
-session_link : (p q : Post) (b b' : Book) (stirs : Bool) → IsSessionTurn p q b b' stirs → q.link ≡ p.link
+session_link : (p q : Post) (b b' : BookTold) (stirs : Bool) → IsSessionTurn p q b b' stirs → q.link ≡ p.link
 session_link p q b b' stirs t = ap (λ (x : Post). x.link) t.same
 
 -- ---- all clients
 
 module _ (opening : Memory) (limit : ℕ) (config : Config) where
   -- the octets of a client and its session that transmitted these
-  pub record HasJoint (book : Book) (p : Post) (sent answered : List ℕ) : Type 0 where
+  pub record HasJoint (book : BookTold) (p : Post) (sent answered : List ℕ) : Type 0 where
     pub octets : Octets
     pub sent_are : octets.sent ≡ sent
     pub answered_are : octets.answered ≡ answered
@@ -88,7 +88,7 @@ module _ (opening : Memory) (limit : ℕ) (config : Config) where
     pub limited : s.book.journal.limit ≡ limit
     pub ready : AreReady s.book.journal.entries
 
-  pub joint_as : (book : Book) (p : Post) (s s' a a' : List ℕ) → s ≡ s' → a ≡ a' → HasJoint book p s a → HasJoint book p s' a'
+  pub joint_as : (book : BookTold) (p : Post) (s s' a a' : List ℕ) → s ≡ s' → a ≡ a' → HasJoint book p s a → HasJoint book p s' a'
   joint_as book p s s' a a' e f h = record { octets = h.octets; sent_are = h.sent_are ∙ e; answered_are = h.answered_are ∙ f; joint = h.joint }
 
   holds_as : (s : State) (x x' y y' : ℕ → List ℕ) → ((k : ℕ) → x k ≡ x' k) → ((k : ℕ) → y k ≡ y' k) → Holds s x y → Holds s x' y'
@@ -122,9 +122,9 @@ module _ (opening : Memory) (limit : ℕ) (config : Config) where
           each = λ k p at. subst (λ b. HasJoint b p (x k ++ (if i == k then wrote else [])) (y k ++ [])) (sym book) (either k p (here k p) (there k p) (get_set s.posts i t.post' k p (sym (ap (λ z. slice_get z k) posts) ∙ at)));
           links = λ k p at. link_at k p (get_set s.posts i t.post' k p (sym (ap (λ z. slice_get z k) posts) ∙ at));
           calls = subst (λ n. AllLinks 1 n (history_of s'.book)) (sym (length-set s.posts i t.post') ∙ sym (ap length posts)) (subst (λ b. AllLinks 1 (length s.posts) (history_of b)) (sym book) h.calls);
-          opened = ap (λ (b : Book). state_of b.opening) book ∙ h.opened;
-          limited = ap (λ (b : Book). b.journal.limit) book ∙ h.limited;
-          ready = subst (λ (b : Book). AreReady b.journal.entries) (sym book) h.ready;
+          opened = ap (λ (b : BookTold). state_of b.opening) book ∙ h.opened;
+          limited = ap (λ (b : BookTold). b.journal.limit) book ∙ h.limited;
+          ready = subst (λ (b : BookTold). AreReady b.journal.entries) (sym book) h.ready;
         }
       where
         either : (k : ℕ) (p : Post) {R : Type 0} → (k ≡ i → p ≡ t.post' → R) → (k ≢ i → slice_get s.posts k ≡ Some p → R) → ((k ≡ i) × (p ≡ t.post')) ⊎ ((k ≢ i) × (slice_get s.posts k ≡ Some p)) → R

@@ -8,7 +8,7 @@ use Rattle.s7_area.specs.Memory.{Memory}
 use Rattle.s7_dialogue.specs.declared.config.Config.{Config}
 use Rattle.s7_dialogue.specs.declared.job.JobResult.{JobResult}
 use Rattle.s7_client.specs.Polling as client
-use Rattle.s7_plant.specs.declared.book.Book.{Book}
+use Rattle.s7_plant.specs.Books.{BookTold}
 use Rattle.s7_plant.specs.Journals.{after_call}
 use Rattle.s7_plant.specs.State.{begins_with, state_of}
 use Rattle.s7_turn.specs.Histories.{replay}
@@ -83,13 +83,13 @@ none_met first b new js vs none live met =
     none_behind (x ∷ xs) ys is = absurd (cc)
 
 -- a book that stays full goes on for the telegrams that met it
-stays_on : (begun book book' : Book) (mets : List Met) → Trail is_full_in lacks_in begun mets book → StaysFull is_full_in book book' → Trail is_full_in lacks_in begun mets book'
+stays_on : (begun book book' : BookTold) (mets : List Met) → Trail is_full_in lacks_in begun mets book → StaysFull is_full_in book book' → Trail is_full_in lacks_in begun mets book'
 stays_on begun book book' mets trail stays =
     subst (λ ms. Trail is_full_in lacks_in begun ms book') (append-nil mets)
     (trail-append is_full_in lacks_in begun book book' mets [] trail stays)
 
 -- results that stand in a history stand in one that goes on
-stand_on : (opening : Memory) (book book' : Book) (link : ℕ) → GoesOnBy link book book' → state_of book.opening ≡ begins_with opening → (own_link pdu : ℕ) (results : List JobResult) (places : List (List ℕ))
+stand_on : (opening : Memory) (book book' : BookTold) (link : ℕ) → GoesOnBy link book book' → state_of book.opening ≡ begins_with opening → (own_link pdu : ℕ) (results : List JobResult) (places : List (List ℕ))
     → AllStand (begins_with opening) (history_of book) own_link pdu results places
     → AllStand (begins_with opening) (history_of book') own_link pdu results places
 stand_on opening book book' link goes_on opened own_link pdu results places stand =
@@ -108,7 +108,7 @@ with_turn o used mets written =
 abbrev pub with_session : Post → Session → PipesHeld → List ℕ → Post
 with_session p session pipes numbers = record p { session = session; pipes = pipes; noted = option_map (λ noted. noted ++ numbers) p.noted }
 
-module _ (opening : Memory) (limit : ℕ) (config : Config) (old : Post) (book book' : Book) (o : Octets) (session : Session) (pipes : PipesHeld) (result : Turn) (j : Joint opening limit config book old o) (takes : TakesTurn old.link old.session old.pipes book session pipes book' result) where
+module _ (opening : Memory) (limit : ℕ) (config : Config) (old : Post) (book book' : BookTold) (o : Octets) (session : Session) (pipes : PipesHeld) (result : Turn) (j : Joint opening limit config book old o) (takes : TakesTurn old.link old.session old.pipes book session pipes book' result) where
   abbrev first : LinkState
   first = first_link opening.guard
 
@@ -336,7 +336,7 @@ module _ (opening : Memory) (limit : ℕ) (config : Config) (old : Post) (book b
   }
 
 -- A session's turn keeps what holds of its client and itself.
-pub session_joint : (opening : Memory) (limit : ℕ) (config : Config) (old new : Post) (book book' : Book) (stirs : Bool) (o : Octets)
+pub session_joint : (opening : Memory) (limit : ℕ) (config : Config) (old new : Post) (book book' : BookTold) (stirs : Bool) (o : Octets)
     → Joint opening limit config book old o → (turn : IsSessionTurn old new book book' stirs)
     → Joint opening limit config book' new (with_turn o turn.takes.turn.moves.used turn.takes.turn.moves.mets turn.takes.turn.moves.written)
 session_joint opening limit config old new book book' stirs o j turn =
@@ -345,7 +345,7 @@ session_joint opening limit config old new book book' stirs o j turn =
     (joint_on opening limit config old book book' o turn.session turn.pipes turn.result j turn.takes)
 
 -- the same, with what its octets have to do with those before
-pub session_step : (opening : Memory) (limit : ℕ) (config : Config) (old new : Post) (book book' : Book) (stirs : Bool) (o : Octets)
+pub session_step : (opening : Memory) (limit : ℕ) (config : Config) (old new : Post) (book book' : BookTold) (stirs : Bool) (o : Octets)
     → Joint opening limit config book old o → (turn : IsSessionTurn old new book book' stirs)
     → (o' : Octets) × (o'.sent ≡ o.sent) × (o'.answered ≡ o.answered ++ turn.takes.turn.moves.written) × Joint opening limit config book' new o'
 session_step opening limit config old new book book' stirs o j turn =
@@ -355,11 +355,11 @@ session_step opening limit config old new book book' stirs o j turn =
 -- ---- the turn of another session
 
 -- a full book stays full, whose session's turn it is
-turn_keeps_full : (old new : Post) (book book' : Book) (stirs : Bool) → IsSessionTurn old new book book' stirs → StaysFull is_full_in book book'
+turn_keeps_full : (old new : Post) (book book' : BookTold) (stirs : Bool) → IsSessionTurn old new book book' stirs → StaysFull is_full_in book book'
 turn_keeps_full old new book book' stirs turn =
     trail_stays is_full_in lacks_in book book' turn.takes.turn.moves.mets turn.takes.turn.moves.trail
 
-working_beside : (opening : Memory) (config : Config) (p : Post) (book book' : Book) (o : Octets) → own (begins_with opening) p.link (history_of book') ≡ own (begins_with opening) p.link (history_of book)
+working_beside : (opening : Memory) (config : Config) (p : Post) (book book' : BookTold) (o : Octets) → own (begins_with opening) p.link (history_of book') ≡ own (begins_with opening) p.link (history_of book)
     → IsWorking opening config book p o
     → IsWorking opening config book' p o
 working_beside opening config p book book' o same w = record {
@@ -390,7 +390,7 @@ working_beside opening config p book book' o same w = record {
   jobs = w.jobs;
 }
 
-mode_beside : (opening : Memory) (config : Config) (p : Post) (book book' : Book) (o : Octets) → own (begins_with opening) p.link (history_of book') ≡ own (begins_with opening) p.link (history_of book)
+mode_beside : (opening : Memory) (config : Config) (p : Post) (book book' : BookTold) (o : Octets) → own (begins_with opening) p.link (history_of book') ≡ own (begins_with opening) p.link (history_of book)
     → Mode opening config book p o
     → Mode opening config book' p o
 mode_beside opening config p book book' o same (untouched u) = untouched u
@@ -400,7 +400,7 @@ mode_beside opening config p book book' o same (working w) = working (working_be
 mode_beside opening config p book book' o same (lost l) = lost l
 
 -- A book that goes on by calls of another link keeps what holds of a client and its session.
-pub other_step : (opening : Memory) (limit : ℕ) (config : Config) (p : Post) (book book' : Book) (other : ℕ) (o : Octets)
+pub other_step : (opening : Memory) (limit : ℕ) (config : Config) (p : Post) (book book' : BookTold) (other : ℕ) (o : Octets)
     → other ≢ p.link → Joint opening limit config book p o → GoesOnBy other book book' → StaysFull is_full_in book book'
     → Joint opening limit config book' p o
 other_step opening limit config p book book' other o apart j goes_on still_full =
@@ -432,7 +432,7 @@ other_step opening limit config p book book' other o apart j goes_on still_full 
     }
 
 -- A session's turn keeps what holds of the client and the session of another link.
-pub other_session_step : (opening : Memory) (limit : ℕ) (config : Config) (p old new : Post) (book book' : Book) (stirs : Bool) (o : Octets)
+pub other_session_step : (opening : Memory) (limit : ℕ) (config : Config) (p old new : Post) (book book' : BookTold) (stirs : Bool) (o : Octets)
     → old.link ≢ p.link → Joint opening limit config book p o → IsSessionTurn old new book book' stirs
     → Joint opening limit config book' p o
 other_session_step opening limit config p old new book book' stirs o apart j turn =

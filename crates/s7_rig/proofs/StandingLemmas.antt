@@ -5,7 +5,7 @@ use Rattle.std.proofs.lemmas.Bool.Decides.{nat_tests}
 use Rattle.std.proofs.Math.Logic.{∥∥₁_elim, ∥∥₁_map}
 use Rattle.std.proofs.Math.Nat.{ℕ_set}
 use Rattle.s7_outer.specs.PipesHeld.{PipesHeld}
-use Rattle.s7_plant.specs.declared.book.Book.{Book}
+use Rattle.s7_plant.specs.Books.{BookTold}
 use Rattle.s7_session.specs.declared.session.Session.{Session}
 use Rattle.s7_session.specs.declared.outcome.Outcome.TheVariants as outcome
 use Rattle.s7_session.specs.declared.outcome.Turn.{Turn}
@@ -18,7 +18,7 @@ use Rattle.s7_rig.specs.Numbers.{count_from}
 use Rattle.s7_rig.specs.State.{Post}
 use Rattle.s7_rig.specs.Turns.{TakesTurn, IsSessionTurn, have_moved, entry_count}
 
-pub still_stands : (link : ℕ) (s s' : Session) (p p' : PipesHeld) (b b' : Book) (r : Turn) → TakesTurn link s p b s' p' b' r → ∥ HasStood s ∥₁ → ∥ HasStood s' ∥₁
+pub still_stands : (link : ℕ) (s s' : Session) (p p' : PipesHeld) (b b' : BookTold) (r : Turn) → TakesTurn link s p b s' p' b' r → ∥ HasStood s ∥₁ → ∥ HasStood s' ∥₁
 still_stands link s s' p p' b b' r t h =
     ∥∥₁_map h (λ k. record {
       first = k.first;
@@ -29,7 +29,7 @@ still_stands link s s' p p' b b' r t h =
     })
 
 -- the number of used octets grows by those that the turn used
-pub used_more : (link : ℕ) (s s' : Session) (p p' : PipesHeld) (b b' : Book) (r : Turn) → (t : TakesTurn link s p b s' p' b' r) → ∥ HasStood s ∥₁ → used_of s' ≡ used_of s + length t.turn.moves.used
+pub used_more : (link : ℕ) (s s' : Session) (p p' : PipesHeld) (b b' : BookTold) (r : Turn) → (t : TakesTurn link s p b s' p' b' r) → ∥ HasStood s ∥₁ → used_of s' ≡ used_of s + length t.turn.moves.used
 used_more link s s' p p' b b' r t h =
     ∥∥₁_elim h (ℕ_set _ _) (λ k.
     sym (t.turn.moves.stood k.first k.used k.verdicts k.written k.stands).used ∙ (length-append k.used t.turn.moves.used ∙ ap (λ n. n + length t.turn.moves.used) k.stands.used))
@@ -50,11 +50,11 @@ or_rest r true more e h = absurd (false≢true (sym h ∙ e))
 or_rest r false more e h = refl
 
 -- as many calls were entered as there are entries
-pub counted : (b : Book) {n : ℕ} → n ≡ length b.journal.entries → n ≡ entry_count b
+pub counted : (b : BookTold) {n : ℕ} → n ≡ length b.journal.entries → n ≡ entry_count b
 counted b is = is ∙ sym (length-calls b.journal.entries)
 
 -- a session's turn, with the numbers that were noted, by the octets in the pipes and those that it has used
-pub session_turn_is : (p new : Post) (b b' : Book) (s : Session) (pipes : PipesHeld) (r : Turn) (first end : ℕ) (stirs : Bool)
+pub session_turn_is : (p new : Post) (b b' : BookTold) (s : Session) (pipes : PipesHeld) (r : Turn) (first end : ℕ) (stirs : Bool)
     → (t : TakesTurn p.link p.session p.pipes b s pipes b' r) → ∥ HasStood p.session ∥₁
     → first ≡ entry_count b → end ≡ entry_count b'
     → new ≡ record p { session = s; pipes = pipes; noted = option_map (λ numbers. numbers ++ count_from first (end - first)) p.noted }

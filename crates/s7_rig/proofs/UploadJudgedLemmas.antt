@@ -9,7 +9,8 @@ use Rattle.s7_dialogue.specs.Question.{starts_upload, slices_upload, ends_upload
 use Rattle.s7_session.specs.Judgement.{Judgement, own, judge, function_at, upload_started, slice_answer, upload_sliced}
 use Rattle.s7_session.specs.Judgement.{answer_octets}
 use Rattle.s7_session.specs.LinkState.{LinkState}
-use Rattle.s7_session.specs.Transfers.{end_function, image_room}
+use Rattle.s7_session.specs.Transfers.{end_function}
+use Rattle.s7_block.specs.Slices.{image_room}
 use Rattle.s7_rig.specs.Exchanges.{HoldsImage, uploaded_of}
 use Rattle.s7_rig.proofs.JudgedLemmas.{chosen}
 use Rattle.s7_rig.proofs.UserJudgedLemmas.{IsSent, judged_sent}

@@ -17,7 +17,8 @@ use Rattle.s7_dialogue.specs.Answer.{refuses, uploads, slices, uploaded, answer_
 use Rattle.s7_session.specs.LinkState.{LinkState, next_octet}
 use Rattle.s7_session.specs.Owed.{past}
 use Rattle.s7_session.specs.Judgement.{answer_octets, by_upload, refusal_octets, slice_answer, upload_reply}
-use Rattle.s7_session.specs.Transfers.{end_function, image_room, with_id, with_upload}
+use Rattle.s7_session.specs.Transfers.{end_function, with_id, with_upload}
+use Rattle.s7_block.specs.Slices.{image_room}
 use Rattle.s7_session.specs.Verdict.{Verdict}
 use Rattle.s7_rig.specs.Exchanges.{HoldsImage, GoesOn, is_started, is_no_upload, is_sliced, is_ended}
 use Rattle.s7_rig.specs.Exchanges.{uploaded_of, upload_heard}

@@ -32,7 +32,8 @@ use Rattle.s7_dialogue.specs.UserData.{group_of, subfunction_of, comes_in_pieces
 use Rattle.s7_dialogue.specs.Question.{Question, negotiates, reads, writes, controls, asks, asks_further, messages_of}
 use Rattle.s7_dialogue.specs.Question.{starts_upload, slices_upload, ends_upload}
 use Rattle.s7_dialogue.specs.Question.{announces, awaits_call, gives, inserts}
-use Rattle.s7_dialogue.specs.Downloads.{name_in, piece_room}
+use Rattle.s7_dialogue.specs.Downloads.{name_in}
+use Rattle.s7_block.specs.Slices.{image_room}
 use Rattle.s7_dialogue.specs.Checks.{check_image}
 use Rattle.s7_dialogue.specs.Codes.{no_fault}
 use Rattle.s7_dialogue.specs.Answer.{Answer, refuses, tells, notes, stands, brings, uploads, slices, uploaded, announced}
@@ -102,7 +103,7 @@ IsAskable pdu (ends_upload id) = Unit {0}
 IsAskable pdu (announces image) = check_image image ≡ no_fault
 IsAskable pdu (awaits_call image) = check_image image ≡ no_fault
 IsAskable pdu (gives image room from call) =
-    (check_image image ≡ no_fault) × (room ≡ piece_room pdu) × (from < length image)
+    (check_image image ≡ no_fault) × (room ≡ image_room pdu) × (from < length image)
 IsAskable pdu (inserts image call) = check_image image ≡ no_fault
 
 -- ---- further octets

@@ -4,6 +4,7 @@ pub mod Standing
 pub mod Turns
 pub mod Runs
 pub mod Shown
+pub mod Tells
 pub mod Rigs
 pub mod Sent
 pub mod Settled

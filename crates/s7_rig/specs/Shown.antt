@@ -1,7 +1,7 @@
 -- What contracts see of a rig.
-use Rattle.std.specs.Prelude.{ℕ, List, map}
+use Rattle.std.specs.Prelude.{ℕ, List, [], ◌∷◌, map}
 use Rattle.s7_dialogue.specs.declared.job.JobResult.{JobResult}
-use Rattle.s7_plant.specs.declared.book.Book.{Book}
+use Rattle.s7_plant.specs.Books.{BookTold, book_told}
 use Rattle.s7_rig.specs.declared.end.RigClient.{RigClient}
 use Rattle.s7_rig.specs.declared.end.RigEnd.{RigEnd}
 use Rattle.s7_rig.specs.declared.rig.Rig.{Rig}
@@ -22,7 +22,7 @@ post_of s = record {
 }
 
 abbrev pub state_of : Rig → State
-state_of r = record { book = r.book; posts = map post_of r.stations.items }
+state_of r = record { book = book_told r.book; posts = map post_of r.stations.items }
 
 -- what is told of a client in the end
 pub record ClientTold : Type 0 where
@@ -32,14 +32,22 @@ pub record ClientTold : Type 0 where
 
 -- and of the whole
 pub record EndTold : Type 0 where
-  pub book : Book
+  pub book : BookTold
   pub clients : List ClientTold
 
 abbrev pub client_told : RigClient → ClientTold
 client_told c = record { link = c.link; results = c.results.items; places = c.places.items }
 
 abbrev pub end_told : RigEnd → EndTold
-end_told e = record { book = e.book; clients = map client_told e.clients.items }
+end_told e = record { book = book_told e.book; clients = map client_told e.clients.items }
+
+-- the results of the first client, none where there is no client
+abbrev pub results_in_first : List ClientTold → List JobResult
+results_in_first [] = []
+results_in_first (c ∷ clients) = c.results
+
+abbrev pub first_results : EndTold → List JobResult
+first_results end = results_in_first end.clients
 
 -- the same of a state
 abbrev pub post_told : Post → ClientTold

@@ -2,11 +2,11 @@
 use Rattle.std.specs.Prelude.{ℕ, ◌==◌, ◌&&◌, Bool, List, Option, is_none, length}
 use Rattle.std.specs.List.{list_all}
 use Rattle.s7_outer.specs.PipesHeld.{PipesHeld}
-use Rattle.s7_client.specs.declared.client.Client.{Client}
+use Rattle.s7_client.specs.declared.connection.Connection.{Connection}
 use Rattle.s7_dialogue.specs.declared.job.Job.{Job}
 use Rattle.s7_dialogue.specs.declared.job.JobResult.{JobResult}
 use Rattle.s7_client.specs.Polling.{job_of}
-use Rattle.s7_plant.specs.declared.book.Book.{Book}
+use Rattle.s7_plant.specs.Books.{BookTold}
 use Rattle.s7_session.specs.declared.session.Session.{Session}
 
 -- a client, the session that serves it, and what stands between them
@@ -15,7 +15,7 @@ pub record Post : Type 0 where
   pub link : ℕ
   -- the jobs that are still to be started
   pub rest : List Job
-  pub client : Client
+  pub client : Connection
   pub session : Session
   -- the octets on their way in either direction
   pub pipes : PipesHeld
@@ -26,7 +26,7 @@ pub record Post : Type 0 where
   pub noted : Option (List ℕ)
 
 pub record State : Type 0 where
-  pub book : Book
+  pub book : BookTold
   pub posts : List Post
 
 -- no job is left and none is outstanding

@@ -7,12 +7,12 @@ use Rattle.std.specs.Borrow.{GName}
 use Rattle.s7_outer.specs.PipesHeld.{PipesHeld}
 use Rattle.s7_outer.specs.Pipes.{end_of}
 use Rattle.s7_outer.specs.declared.pipes.Side.TheVariants as side
-use Rattle.s7_client.specs.declared.client.Client.{Client}
+use Rattle.s7_client.specs.declared.connection.Connection.{Connection}
 use Rattle.s7_dialogue.specs.declared.job.Job.{Job}
 use Rattle.s7_client.specs.declared.job.Polled.{Polled}
 use Rattle.s7_client.specs.declared.job.Polled.TheVariants as polled
 use Rattle.s7_client.specs.Polling.{job_of, IsStarted, IsPoll}
-use Rattle.s7_plant.specs.declared.book.Book.{Book}
+use Rattle.s7_plant.specs.Books.{BookTold}
 use Rattle.s7_plant.specs.declared.request.Ask.{Ask}
 use Rattle.s7_plant.specs.Journals.{AreReady}
 use Rattle.s7_plant.specs.State.{state_of}
@@ -39,7 +39,7 @@ pub record StartsNext (old new : Post) : Type 0 where
   pub job : Job
   pub rest : List Job
   pub left : old.rest ≡ job ∷ rest
-  pub client : Client
+  pub client : Connection
   pub started : IsStarted old.client client job
   pub same : new ≡ record old { rest = rest; client = client; noted = Some [] }
 
@@ -64,14 +64,14 @@ is_done polled.Pending = false
 is_done polled.Idle = false
 
 -- a client polls over its end of the pipes, whichever loan that is
-pub record PollsOver (client : Client) (pipes : PipesHeld) (client' : Client) (pipes' : PipesHeld) (result : Polled)
+pub record PollsOver (client : Connection) (pipes : PipesHeld) (client' : Connection) (pipes' : PipesHeld) (result : Polled)
     : Type 0 where
   pub loan : GName
   pub poll : IsPoll client (end_of loan pipes side.Client) client' (end_of loan pipes' side.Client) result
 
 -- the client polls once
 pub record PollsOnce (old new : Post) (stirs : Bool) : Type 0 where
-  pub client : Client
+  pub client : Connection
   pub pipes : PipesHeld
   pub result : Polled
   pub poll : PollsOver old.client old.pipes client pipes result
@@ -89,20 +89,20 @@ pub record IsClientTurn (old new : Post) (stirs : Bool) : Type 0 where
 -- ---- a session's turn
 
 -- the link's entries in a book are these
-abbrev pub stands_in : ℕ → Book → List Entry → Type 0
+abbrev pub stands_in : ℕ → BookTold → List Entry → Type 0
 stands_in link book entries = entries ≡ own (state_of book.opening) link (history_of book)
 
 -- the book is full, whatever is asked
-abbrev pub is_full_in : Book → Ask → Type 0
+abbrev pub is_full_in : BookTold → Ask → Type 0
 is_full_in book ask = length (history_of book) ≡ book.journal.limit
 
 -- a book lacks memory for nothing
-abbrev pub lacks_in : Book → Ask → Type 0
+abbrev pub lacks_in : BookTold → Ask → Type 0
 lacks_in book ask = ⊥
 
 -- a session takes a turn over its end of the pipes, whichever loan that is, and the book goes on by calls of its link
-pub record TakesTurn (link : ℕ) (session : Session) (pipes : PipesHeld) (book : Book) (session' : Session)
-    (pipes' : PipesHeld) (book' : Book) (result : Turn) : Type 0 where
+pub record TakesTurn (link : ℕ) (session : Session) (pipes : PipesHeld) (book : BookTold) (session' : Session)
+    (pipes' : PipesHeld) (book' : BookTold) (result : Turn) : Type 0 where
   pub loan : GName
   pub turn : IsTurn (stands_in link) is_full_in lacks_in session (end_of loan pipes side.Server) book
       session' (end_of loan pipes' side.Server) book' result
@@ -111,11 +111,11 @@ pub record TakesTurn (link : ℕ) (session : Session) (pipes : PipesHeld) (book 
   pub goes_on : GoesOnBy link book book'
 
 -- how many calls were entered
-abbrev pub entry_count : Book → ℕ
+abbrev pub entry_count : BookTold → ℕ
 entry_count book = length (history_of book)
 
 -- A SESSION'S TURN on the book
-pub record IsSessionTurn (old new : Post) (book book' : Book) (stirs : Bool) : Type 0 where
+pub record IsSessionTurn (old new : Post) (book book' : BookTold) (stirs : Bool) : Type 0 where
   pub session : Session
   pub pipes : PipesHeld
   pub result : Turn

@@ -1,7 +1,7 @@
 // What a rig leaves.
 use crate::places::Places;
 use s7_client::JobResult;
-use s7_plant::Book;
+use s7_plant::{Book, Tail};
 
 /// A client of a rig: the number of its link, what came of each job that is done, in order, and for
 /// each of these the numbers of the entries that the link's session made while it was under way. A job
@@ -16,6 +16,6 @@ pub struct RigClient {
 /// The end of a run: the book, and the clients by rising number of their links.
 #[derive(Drop)]
 pub struct RigEnd {
-    pub book: Book,
+    pub book: Book<Tail>,
     pub clients: Vec<RigClient>,
 }

@@ -1,10 +1,11 @@
 // What goes over the pipes between a client and its session.
 ghost use Rattle.std.specs.Prelude.{◌≡◌, ◌≤◌, length};
+ghost use Rattle.s7_plant.specs.Books.{book_told};
 ghost use Rattle.s7_rig.specs.Turns.{PollsOver, TakesTurn};
 
-use s7_client::{Client, Polled};
+use s7_client::{Connection, Polled};
 use s7_outer::{PipeEnd, Pipes, Side};
-use s7_plant::Book;
+use s7_plant::{Book, Tail};
 use s7_session::{BookDoer, Session, Turn};
 use std::alloc::Global;
 
@@ -28,7 +29,7 @@ pub(crate) fn count_held(pipes: &Pipes) -> Held
 }
 
 /// The client polls once over its end.
-pub(crate) fn poll_over(client: &mut Client, pipes: &mut Pipes) -> Polled
+pub(crate) fn poll_over(client: &mut Connection, pipes: &mut Pipes) -> Polled
     ensures { PollsOver client.old pipes.old client.new pipes.new result }
 {
     let mut end = PipeEnd {
@@ -44,9 +45,10 @@ pub(crate) fn turn_over(
     link: u32,
     session: &mut Session,
     pipes: &mut Pipes,
-    book: &mut Book,
+    book: &mut Book<Tail>,
 ) -> Turn
-    ensures { TakesTurn link session.old pipes.old book.old session.new pipes.new book.new result }
+    ensures { TakesTurn link session.old pipes.old (book_told book.old)
+        session.new pipes.new (book_told book.new) result }
 {
     let mut end = PipeEnd {
         pipes,

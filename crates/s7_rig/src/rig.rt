@@ -1,11 +1,12 @@
 // A rig: clients and the sessions that serve them, on one book.
-ghost use Rattle.std.specs.Prelude.{◌≡◌, ◌<◌, ◌≤◌, ◌*◌, Bool, All, length, map, [], IfOk, OnOk};
+ghost use Rattle.std.specs.Prelude.{◌≡◌, ◌<◌, ◌≤◌, ◌*◌, Bool, All, length, map, [], IfOk, OnOk, is_some, option_map};
 ghost use Rattle.s7_draw.specs.Drawing.{seeded};
 ghost use Rattle.s7_header.specs.Negotiation.{most_pdu};
 ghost use Rattle.s7_plant.specs.Journals.{entries_of};
 ghost use Rattle.s7_plant.specs.State.{begins_with, state_of as plant_state};
 ghost use Rattle.s7_rig.specs.Shown.{state_of, end_told, state_told};
 ghost use Rattle.s7_rig.specs.State.{are_finished};
+ghost use Rattle.s7_rig.specs.Tells.{TellsFirst};
 ghost use Rattle.s7_rig.specs.Turns.{IsTurnOf};
 ghost use Rattle.s7_rig.specs.Runs.{Turns, actors_of, Rounds, most_rounds, AreFresh, IsRun};
 
@@ -13,10 +14,10 @@ use crate::end::{RigClient, RigEnd};
 use crate::station::Station;
 use s7_area::Areas;
 use s7_block::Blocks;
-use s7_client::{Config, Job};
+use s7_client::{Completion, Config, Job};
 use s7_draw::Draw;
 use s7_outer::Memory;
-use s7_plant::{Book, MOST_BLOCKS};
+use s7_plant::{Book, MOST_BLOCKS, Tail};
 use std::alloc::Global;
 
 /// So many rounds are made at most.
@@ -25,7 +26,7 @@ const MOST_ROUNDS: u32 = 16_777_216;
 /// Clients and the sessions that serve them, on one book. Each turn is a client's or a session's.
 #[derive(Drop)]
 pub struct Rig {
-    pub(crate) book: Book,
+    pub(crate) book: Book<Tail>,
     pub(crate) stations: Vec<Station>,
 }
 
@@ -64,7 +65,7 @@ impl Rig {
             link += 1;
         }
         Ok(Rig {
-            book: Book::new(alloc, areas, Blocks::new(alloc, MOST_BLOCKS)?, limit)?,
+            book: unwatched(alloc, areas, limit)?,
             stations,
         })
     }
@@ -72,26 +73,47 @@ impl Rig {
     /// The turns of these actors, then `steps` turns drawn from the seed, and then rounds of all actors
     /// in order. With K clients the actors below K are the clients, and those from K on their sessions.
     /// The rounds end where every client is finished, after a round in which nothing was moved, used
-    /// or done, or after 16,777,216 of them. `Memory` comes where there is none.
-    pub fn run(&mut self, alloc: Global, turns: &[u32], seed: u32, steps: u32) -> Result<(), Memory>
+    /// or done, or after 16,777,216 of them. The completion is told of each job of the first client when it is
+    /// done, once, in order, and of nothing else. `Memory` comes where there is none.
+    pub fn run<C: Completion>(
+        &mut self,
+        alloc: Global,
+        turns: &[u32],
+        seed: u32,
+        steps: u32,
+        done: &mut Option<C>,
+    ) -> Result<(), Memory>
         requires clients { 0 < length self.old.stations.items }
         requires actors { All (λ actor. actor < 2 * length self.old.stations.items) turns.now }
         ensures run { OnOk result (IsRun turns.now seed steps (state_of self.old) (state_of self.new)) }
+        ensures tells { OnOk result (TellsFirst (state_of self.old) (state_of self.new)
+            (option_map C.told done.old) (option_map C.told done.new)) }
+        ensures handed { is_some done.new ≡ is_some done.old }
         ensures count { length self.new.stations.items ≡ length self.old.stations.items }
     {
-        self.take_stated(alloc, turns)?;
-        self.take_drawn(alloc, seed, steps)?;
-        self.take_rounds(alloc)
+        self.take_stated(alloc, turns, done)?;
+        self.take_drawn(alloc, seed, steps, done)?;
+        self.take_rounds(alloc, done)
     }
 
-    // A turn of an actor.
-    fn turn(&mut self, alloc: Global, actor: usize) -> Result<bool, Memory>
+    // A turn of an actor. Only the first client's jobs are told.
+    fn turn<C: Completion>(
+        &mut self,
+        alloc: Global,
+        actor: usize,
+        done: &mut Option<C>,
+    ) -> Result<bool, Memory>
         requires { actor < 2 * length self.old.stations.items }
         ensures turn { IfOk result (λ stirs. IsTurnOf actor (state_of self.old) (state_of self.new) stirs) }
+        ensures tells { OnOk result (TellsFirst (state_of self.old) (state_of self.new)
+            (option_map C.told done.old) (option_map C.told done.new)) }
+        ensures handed { is_some done.new ≡ is_some done.old }
         ensures count { length self.new.stations.items ≡ length self.old.stations.items }
     {
         let count = self.stations.len();
-        if actor < count {
+        if actor == 0 {
+            self.stations[actor].told_turn(alloc, done)
+        } else if actor < count {
             self.stations[actor].client_turn(alloc)
         } else {
             self.stations[actor - count].session_turn(alloc, &mut self.book)
@@ -99,43 +121,67 @@ impl Rig {
     }
 
     // The turns of these actors.
-    fn take_stated(&mut self, alloc: Global, turns: &[u32]) -> Result<(), Memory>
+    fn take_stated<C: Completion>(
+        &mut self,
+        alloc: Global,
+        turns: &[u32],
+        done: &mut Option<C>,
+    ) -> Result<(), Memory>
         requires { All (λ actor. actor < 2 * length self.old.stations.items) turns.now }
         ensures turns { OnOk result ((stirs : Bool) × Turns turns.now (state_of self.old) (state_of self.new) stirs) }
+        ensures tells { OnOk result (TellsFirst (state_of self.old) (state_of self.new)
+            (option_map C.told done.old) (option_map C.told done.new)) }
+        ensures handed { is_some done.new ≡ is_some done.old }
         ensures count { length self.new.stations.items ≡ length self.old.stations.items }
     {
         for actor in turns {
-            self.turn(alloc, *actor as usize)?;
+            self.turn(alloc, *actor as usize, done)?;
         }
         Ok(())
     }
 
     // Turns that are drawn from the seed.
-    fn take_drawn(&mut self, alloc: Global, seed: u32, steps: u32) -> Result<(), Memory>
+    fn take_drawn<C: Completion>(
+        &mut self,
+        alloc: Global,
+        seed: u32,
+        steps: u32,
+        done: &mut Option<C>,
+    ) -> Result<(), Memory>
         requires { 0 < length self.old.stations.items }
         ensures turns { OnOk result ((stirs : Bool)
             × Turns (seeded seed steps (2 * length self.old.stations.items))
             (state_of self.old) (state_of self.new) stirs) }
+        ensures tells { OnOk result (TellsFirst (state_of self.old) (state_of self.new)
+            (option_map C.told done.old) (option_map C.told done.new)) }
+        ensures handed { is_some done.new ≡ is_some done.old }
         ensures count { length self.new.stations.items ≡ length self.old.stations.items }
     {
         let mut draw = Draw::new(seed);
         for _ in 0..steps {
             let actor = draw.actor(2 * self.stations.len());
-            self.turn(alloc, actor)?;
+            self.turn(alloc, actor, done)?;
         }
         Ok(())
     }
 
     // Rounds until all clients are finished, or nothing stirs.
-    fn take_rounds(&mut self, alloc: Global) -> Result<(), Memory>
+    fn take_rounds<C: Completion>(
+        &mut self,
+        alloc: Global,
+        done: &mut Option<C>,
+    ) -> Result<(), Memory>
         ensures rounds { OnOk result (Rounds most_rounds (state_of self.old) (state_of self.new)) }
+        ensures tells { OnOk result (TellsFirst (state_of self.old) (state_of self.new)
+            (option_map C.told done.old) (option_map C.told done.new)) }
+        ensures handed { is_some done.new ≡ is_some done.old }
         ensures count { length self.new.stations.items ≡ length self.old.stations.items }
     {
         for _ in 0..MOST_ROUNDS {
             if self.are_finished() {
                 return Ok(());
             }
-            if !self.round(alloc)? {
+            if !self.round(alloc, done)? {
                 return Ok(());
             }
         }
@@ -143,14 +189,17 @@ impl Rig {
     }
 
     // A turn of each actor. Says whether one of them stirred.
-    fn round(&mut self, alloc: Global) -> Result<bool, Memory>
+    fn round<C: Completion>(&mut self, alloc: Global, done: &mut Option<C>) -> Result<bool, Memory>
         ensures turns { IfOk result
             (λ stirs. Turns (actors_of (state_of self.old)) (state_of self.old) (state_of self.new) stirs) }
+        ensures tells { OnOk result (TellsFirst (state_of self.old) (state_of self.new)
+            (option_map C.told done.old) (option_map C.told done.new)) }
+        ensures handed { is_some done.new ≡ is_some done.old }
         ensures count { length self.new.stations.items ≡ length self.old.stations.items }
     {
         let mut stirred = false;
         for actor in 0..2 * self.stations.len() {
-            stirred |= self.turn(alloc, actor)?;
+            stirred |= self.turn(alloc, actor, done)?;
         }
         Ok(stirred)
     }
@@ -179,4 +228,16 @@ impl Rig {
             clients,
         })
     }
+}
+
+// A book of these areas that nobody watches, with no blocks and nothing in its journal.
+fn unwatched(alloc: Global, areas: Areas, limit: u64) -> Result<Book<Tail>, Memory>
+    requires some { 1 ≤ limit }
+    requires few { limit ≤ 262144 }
+    ensures opening { IfOk result (λ book. plant_state book.opening ≡ begins_with areas) }
+    ensures plant { IfOk result (λ book. plant_state book.plant ≡ begins_with areas) }
+    ensures journal { IfOk result (λ book. book.journal ≡ entries_of [] limit) }
+{
+    let blocks = Blocks::new(alloc, MOST_BLOCKS)?;
+    Book::new(alloc, areas, blocks, limit, Vec::new(alloc))
 }

@@ -1,15 +1,16 @@
 // A whole run of a rig.
-ghost use Rattle.std.specs.Prelude.{◌≤◌, ◌<◌, ◌*◌, All, length, map, IfOk};
+ghost use Rattle.std.specs.Prelude.{◌≡◌, ◌≤◌, ◌<◌, ◌*◌, All, length, map, IfOk, is_some, option_map};
 ghost use Rattle.std.specs.List.{AllByRecursion};
 ghost use Rattle.s7_header.specs.Negotiation.{most_pdu};
 ghost use Rattle.s7_rig.specs.Scripts.{ConnectsFirst};
-ghost use Rattle.s7_rig.specs.Shown.{end_told};
+ghost use Rattle.s7_client.specs.Completions.{told_of_results};
+ghost use Rattle.s7_rig.specs.Shown.{end_told, first_results};
 ghost use Rattle.s7_rig.specs.Rigs.{Turning, RigRan};
 
 use crate::end::RigEnd;
 use crate::rig::Rig;
 use s7_area::Areas;
-use s7_client::{Config, Job};
+use s7_client::{Completion, Config, Job};
 use s7_outer::Memory;
 use std::alloc::Global;
 
@@ -34,13 +35,16 @@ pub struct Schedule<'a> {
 /// The turns of the schedule come first, and then rounds of all actors in order. These end where every
 /// client is finished, after a round in which no octet was moved or used and no job was done, or after
 /// 16,777,216 rounds. `Memory` comes where there is none for the rig, for a job or for a session.
-pub fn run_rig(
+///
+/// The completion is told of each job of the first client when it is done, once, in order, and of nothing else.
+pub fn run_rig<C: Completion>(
     alloc: Global,
     areas: Areas,
     limit: u64,
     scripts: Vec<Vec<Job>>,
     config: Config,
     schedule: Schedule<'_>,
+    done: &mut Option<C>,
 ) -> Result<RigEnd, Memory>
     requires some { 1 ≤ limit }
     requires few { limit ≤ 262144 }
@@ -53,13 +57,16 @@ pub fn run_rig(
     requires connects { AllByRecursion ConnectsFirst (map (λ s. s.items) scripts.items) }
     requires few_clients { length scripts.items ≤ 1024 }
     requires actors { All (λ actor. actor < 2 * length scripts.items) schedule.turns.now }
-    ensures { IfOk result (λ end. RigRan areas limit config (map (λ s. s.items) scripts.items)
+    ensures ran { IfOk result (λ end. RigRan areas limit config (map (λ s. s.items) scripts.items)
         (record { turns = schedule.entry.turns.now; seed = schedule.entry.seed; steps = schedule.entry.steps })
         (end_told end)) }
+    ensures told { IfOk result (λ end. option_map C.told done.new
+        ≡ option_map (λ t. told_of_results t (first_results (end_told end))) (option_map C.told done.old)) }
+    ensures handed { is_some done.new ≡ is_some done.old }
 {
     // what is registered is within the limits of areas
     let _numbers = areas.db_numbers();
     let mut rig = Rig::new(alloc, areas, limit, scripts, config)?;
-    rig.run(alloc, schedule.turns, schedule.seed, schedule.steps)?;
+    rig.run(alloc, schedule.turns, schedule.seed, schedule.steps, done)?;
     rig.into_end(alloc)
 }

@@ -4,7 +4,7 @@ ghost use Rattle.s7_client.specs.Polling.{job_of};
 ghost use Rattle.s7_rig.specs.Standing.{HasStood, room_for};
 
 use crate::places::Places;
-use s7_client::{Client, Job, JobResult};
+use s7_client::{Connection, Job, JobResult};
 use s7_outer::Pipes;
 use s7_session::Session;
 use std::collections::VecDeque;
@@ -15,7 +15,7 @@ pub struct Station {
     pub(crate) link: u32,
     /// The jobs that are still to be started.
     pub(crate) rest: VecDeque<Job>,
-    pub(crate) client: Client,
+    pub(crate) client: Connection,
     pub(crate) session: Session,
     pub(crate) pipes: Pipes,
     pub(crate) results: Vec<JobResult>,

@@ -1,13 +1,15 @@
 // The turns of a client and of the session that serves it.
 ghost use Rattle.std.specs.Prelude.{◌≡◌, ◌≢◌, ◌<◌, ◌≤◌, ◌⊎◌, ◌-◌, ◌++◌, ◌∷◌, [], length, vec_capacity, None, Some};
-ghost use Rattle.std.specs.Prelude.{false, option_map, unwrap_or, IfOk, OnOk, IsSome};
+ghost use Rattle.std.specs.Prelude.{false, is_some, option_map, unwrap_or, IfOk, OnOk, IsSome};
 ghost use Rattle.s7_header.specs.Negotiation.{most_pdu};
 ghost use Rattle.s7_dialogue.specs.declared.config.Config.{Config};
+ghost use Rattle.s7_plant.specs.Books.{book_told};
 ghost use Rattle.s7_plant.specs.Journals.{AreReady};
 ghost use Rattle.s7_session.specs.Stands.{closed_by};
 ghost use Rattle.s7_rig.specs.Numbers.{count_from};
 ghost use Rattle.s7_rig.specs.State.{is_finished};
 ghost use Rattle.s7_rig.specs.Shown.{post_of};
+ghost use Rattle.s7_rig.specs.Tells.{Tells};
 ghost use Rattle.s7_rig.specs.Turns.{StartsNext, StartsNothing, PollsOnce, IsClientTurn, IsSessionTurn};
 ghost use Rattle.s7_rig.specs.Runs.{IsFreshPost};
 
@@ -15,9 +17,9 @@ use crate::links::{count_held, poll_over, turn_over};
 use crate::places::Places;
 use crate::station::Station;
 use s7_area::Guard;
-use s7_client::{Client, Config, Job, JobResult, Polled};
+use s7_client::{Completion, Config, Connection, Job, JobResult, Polled, tell};
 use s7_outer::{Memory, Pipes};
-use s7_plant::Book;
+use s7_plant::{Book, Tail};
 use s7_session::{Outcome, Session, Turn};
 use std::alloc::Global;
 use std::collections::VecDeque;
@@ -49,7 +51,7 @@ impl Station {
         Ok(Station {
             link,
             rest: VecDeque::from_vec(jobs),
-            client: Client::new(alloc, config)?,
+            client: Connection::new(alloc, config)?,
             session: Session::new(alloc, link, guard)?,
             pipes: Pipes::new(alloc, ROOM, MOMENT)?,
             results: Vec::with_capacity(alloc, count)?,
@@ -72,6 +74,25 @@ impl Station {
     {
         self.start_next(alloc)?;
         Ok(self.poll_once())
+    }
+
+    /// The client's turn, of which a completion is told where a job is done.
+    pub(crate) fn told_turn<C: Completion>(
+        &mut self,
+        alloc: Global,
+        done: &mut Option<C>,
+    ) -> Result<bool, Memory>
+        ensures turn { IfOk result (λ stirs. IsClientTurn (post_of self.old) (post_of self.new) stirs) }
+        ensures tells { OnOk result (Tells (post_of self.old).results (post_of self.new).results
+            (option_map C.told done.old) (option_map C.told done.new)) }
+        ensures handed { is_some done.new ≡ is_some done.old }
+    {
+        let before = self.results.len();
+        let stirs = self.client_turn(alloc)?;
+        if let Some(told) = self.results.get(before) {
+            tell(done, told);
+        }
+        Ok(stirs)
     }
 
     // Starts the next job, where none is outstanding and one is left.
@@ -109,9 +130,14 @@ impl Station {
 
     /// The session's turn. Says whether an octet was moved, or one that had been read was used.
     /// `Memory` comes where there is none for the session or for the numbers of its entries.
-    pub(crate) fn session_turn(&mut self, alloc: Global, book: &mut Book) -> Result<bool, Memory>
+    pub(crate) fn session_turn(
+        &mut self,
+        alloc: Global,
+        book: &mut Book<Tail>,
+    ) -> Result<bool, Memory>
         ensures turn { IfOk result
-            (λ stirs. IsSessionTurn (post_of self.old) (post_of self.new) book.old book.new stirs) }
+            (λ stirs. IsSessionTurn (post_of self.old) (post_of self.new)
+            (book_told book.old) (book_told book.new) stirs) }
         ensures ready { IfOk result (λ _. AreReady book.new.journal.entries) }
     {
         let before = count_held(&self.pipes);

@@ -5,7 +5,7 @@ ghost use Rattle.s7_rig.specs.Scripts.{ConnectsFirst};
 
 use s7_area::{AreaKey, Areas};
 use s7_client::codes::NOT_AVAILABLE;
-use s7_client::{Config, Job};
+use s7_client::{Config, Counter, Job};
 use s7_item::Item;
 use s7_outer::{Memory, Octets};
 use s7_rig::{RigEnd, Schedule, run_rig};
@@ -73,7 +73,11 @@ fn around(alloc: Global, job: Job) -> Result<Vec<Job>, Fail>
 }
 
 // A client that reads 300 bytes, and one that writes AA to them, with a PDU of 240 octets.
-fn a_reader_and_a_writer(alloc: Global, schedule: Schedule<'_>) -> Result<RigEnd, Fail>
+fn a_reader_and_a_writer(
+    alloc: Global,
+    schedule: Schedule<'_>,
+    done: &mut Option<Counter>,
+) -> Result<RigEnd, Fail>
     requires { All (λ actor. actor < 4) schedule.turns.now }
 {
     let read = Job::ReadArea { item: bytes(300) };
@@ -89,10 +93,26 @@ fn a_reader_and_a_writer(alloc: Global, schedule: Schedule<'_>) -> Result<RigEnd
         polls: 1_000_000,
         ..Config::new(1, 0, 2)
     };
-    match run_rig(alloc, zeros(alloc, 300)?, 65_536, scripts, config, schedule) {
+    match run_rig(
+        alloc,
+        zeros(alloc, 300)?,
+        65_536,
+        scripts,
+        config,
+        schedule,
+        done,
+    ) {
         Ok(end) => Ok(end),
         Err(_) => Err(Fail::from("no rig")),
     }
+}
+
+// The counter was told of the jobs of the first client, of which a disconnect was the last, and of no other.
+fn is_told(end: &RigEnd, done: Option<Counter>) -> bool {
+    let (Some(client), Some(counter)) = (end.clients.first(), done) else {
+        return false;
+    };
+    counter.calls() == client.results.len() as u64 && counter.last() == Some((25, 0))
 }
 
 // The results of the first client's read: code 0, octets 00 and then AA, at these places.
@@ -124,7 +144,9 @@ fn a_read_stands_at_its_places(rt: HostRuntime) -> Result<(), Fail> {
         seed: 0,
         steps: 0,
     };
-    let end = a_reader_and_a_writer(alloc, schedule)?;
+    let mut done = Some(Counter::new());
+    let end = a_reader_and_a_writer(alloc, schedule, &mut done)?;
+    assert!(rt; is_told(&end, done));
     assert!(rt; end.book.journal.len() == 4);
     assert!(rt; reads_between(&end, 222, &[0, 3]));
     Ok(())
@@ -139,7 +161,9 @@ fn rounds_finish(rt: HostRuntime) -> Result<(), Fail> {
         seed: 7,
         steps: 0,
     };
-    let end = a_reader_and_a_writer(alloc, schedule)?;
+    let mut done = Some(Counter::new());
+    let end = a_reader_and_a_writer(alloc, schedule, &mut done)?;
+    assert!(rt; is_told(&end, done));
     assert!(rt; end.book.journal.len() == 4);
     assert!(rt; end.clients.len() == 2);
     assert!(rt; end.clients.iter().all(|client| client.results.len() == 3));
@@ -219,8 +243,18 @@ fn a_client_alone(alloc: Global, jobs: Vec<Job>, pdu: u16, count: usize) -> Resu
         seed: 0,
         steps: 0,
     };
-    match run_rig(alloc, zeros(alloc, count)?, 16, scripts, config, schedule) {
-        Ok(end) => Ok(end),
+    let mut done = Some(Counter::new());
+    match run_rig(
+        alloc,
+        zeros(alloc, count)?,
+        16,
+        scripts,
+        config,
+        schedule,
+        &mut done,
+    ) {
+        Ok(end) if is_told(&end, done) => Ok(end),
+        Ok(_) => Err(Fail::from("not told")),
         Err(_) => Err(Fail::from("no rig")),
     }
 }

@@ -1,5 +1,5 @@
 -- The run of a link, by the history that its doer's entries stand in.
-use Rattle.std.proofs.Common.{◌≡◌, ◌⊎◌, inl, inr, ℕ, Bool, true, List, [], length, map, Option, None, Some, IfSome, IsTrue, option_map, refl, ap, sym, ◌∙◌, subst}
+use Rattle.std.proofs.Common.{◌≡◌, inl, inr, ℕ, Bool, true, List, [], length, map, Option, None, Some, IfSome, IsTrue, option_map, refl, ap, sym, ◌∙◌, subst}
 use Rattle.s7_outer.specs.Shown.{Shown}
 use Rattle.s7_outer.specs.Calls.{shut_down}
 use Rattle.s7_plant.specs.declared.request.Ask.{Ask}

@@ -1,17 +1,20 @@
 // What a hall keeps for links.
 ghost use Rattle.std.specs.Prelude.{◌≡◌, ℕ, List, length};
-ghost use Rattle.std.proofs.Common.{refl};
+ghost use Rattle.std.proofs.Common.{map, refl, ap, subst};
 ghost use Rattle.s7_turn.specs.Histories.{replay};
 ghost use Rattle.s7_plant.specs.declared.reply.Reply.{Reply};
 ghost use Rattle.s7_plant.specs.declared.request.Ask.{Ask};
 ghost use Rattle.s7_plant.specs.Answers.{IsReplyOf};
+ghost use Rattle.s7_plant.specs.BookLaws.{plant_of_replay};
+ghost use Rattle.s7_plant.specs.Books.{BookState, book_state, seen_of};
 ghost use Rattle.s7_plant.specs.Journals.{after_call};
+ghost use Rattle.s7_plant.specs.Observers.{fresh};
 ghost use Rattle.s7_plant.specs.Replies.{IsReadyReply};
 ghost use Rattle.s7_plant.specs.Requests.{CanBeDone, kept};
 ghost use Rattle.s7_plant.specs.State.{State, state_of};
 ghost use Rattle.s7_session.specs.Books.{History};
 
-use s7_plant::{Ask, Book, Reply};
+use s7_plant::{Ask, Book, Observer, Reply};
 use s7_turn::Machine;
 
 /// A machine that carries out what links ask of a plant. What it answers and what it becomes are told
@@ -43,14 +46,14 @@ pub trait Keeper: Machine<Request = Ask, Reply = Reply> {
         → IsReplyOf (replay after_call (opened k) history) ask reply };
 }
 
-impl Keeper for Book {
+impl<O: Observer> Keeper for Book<O> {
     ghost opened = { λ book. state_of book.opening };
 
     fn entries(&self) -> u64 {
         Machine::len(self)
     }
 
-    ghost opens = { λ a b same. same };
+    ghost opens = { λ a b same. ap (λ (s : BookState). s.plant) same };
 
     ghost keeps_asks = { λ ask. refl };
 
@@ -60,5 +63,7 @@ impl Keeper for Book {
 
     ghost leaves_replies = { λ reply is. is };
 
-    ghost answers = { λ k history caller ask reply given. given };
+    ghost answers = { λ k history caller ask reply given.
+        subst (λ s. IsReplyOf s ask reply) (plant_of_replay
+        (book_state (state_of k.opening) 0 (map fresh (seen_of O.seen k))) history) given };
 }

@@ -2,7 +2,7 @@
 use s7_area::{AreaKey, Areas};
 use s7_block::Blocks;
 use s7_outer::{HoldGate, Memory, MemoryDoor, MemoryLink, Octets, OpenGate};
-use s7_plant::{Book, MOST_BLOCKS};
+use s7_plant::{Book, MOST_BLOCKS, Tail};
 use s7_serve::{Keeper, NotHosted, Served, serve_door, serve_link};
 use s7_session::Outcome;
 use s7_turn::Hall;
@@ -92,13 +92,16 @@ fn is_answered(
 #[test]
 fn links_are_answered_by_what_others_left(rt: HostRuntime) -> Result<(), Fail> {
     let alloc = rt.alloc();
-    let book = Book::new(
+    let book: Book<Tail> = Book::new(
         alloc,
         some_areas(alloc)?,
         Blocks::new(alloc, MOST_BLOCKS)?,
         2,
+        Vec::new(alloc),
     )?;
-    let (hall, mut first) = Hall::new(alloc, book).ok().ok_or("memory")?;
+    let Ok((hall, mut first)) = Hall::new(alloc, book) else {
+        return Err(Fail::from("memory"));
+    };
     let writer = hall.split(&mut first);
     let reader = hall.split(&mut first);
     let line = a_link(alloc, &[CONNECT, SETUP, WRITE])?;
@@ -128,11 +131,12 @@ fn are_served_at_once<R: Threads + Wait + Clock + Sync>(
     held: u32,
     until: u32,
 ) -> Result<bool, Memory> {
-    let book = Book::new(
+    let book: Book<Tail> = Book::new(
         alloc,
         some_areas(alloc)?,
         Blocks::new(alloc, MOST_BLOCKS)?,
         4,
+        Vec::new(alloc),
     )?;
     let gate = HoldGate::new(held, until, 1_000_000_000);
     let door = a_door(alloc, 2, None)?;
@@ -190,11 +194,12 @@ const DOORS: [(usize, Option<usize>, u16, Option<(usize, bool)>); 7] = [
 fn doors_end_and_fail(rt: HostRuntime) -> Result<(), Fail> {
     let alloc = rt.alloc();
     for (count, fail_at, most, left) in DOORS {
-        let book = Book::new(
+        let book: Book<Tail> = Book::new(
             alloc,
             some_areas(alloc)?,
             Blocks::new(alloc, MOST_BLOCKS)?,
             2_048,
+            Vec::new(alloc),
         )?;
         let door = a_door(alloc, count, fail_at)?;
         let (hosted, _) = serve_door(&rt, alloc, book, &OpenGate, None, door, 102, most);

@@ -5,7 +5,7 @@ ghost use Rattle.s7_outer.specs.TcpDoor.{tcp_door_of};
 use s7_area::{AreaKey, Areas};
 use s7_block::Blocks;
 use s7_outer::{Arrival, Door, DoorFailed, Octets, OpenGate, RealLink, TcpDoor};
-use s7_plant::{Book, MOST_BLOCKS};
+use s7_plant::{Book, MOST_BLOCKS, Tail};
 use s7_serve::{Hosted, serve_door};
 use s7_session::Outcome;
 use std::alloc::Global;
@@ -71,11 +71,18 @@ pub(crate) fn served<R: Threads + Wait + Clock + Sync>(
     door: OpenedDoor,
     links: u16,
     room: u16,
-) -> Option<Hosted<Book, RealLink<HostRuntime>>>
+) -> Option<Hosted<Book<Tail>, RealLink<HostRuntime>>>
     requires { 0 < room }
 {
     let blocks = Blocks::new(alloc, MOST_BLOCKS).ok()?;
-    let book = Book::new(alloc, areas(alloc)?, blocks, u64::from(room)).ok()?;
+    let book = Book::new(
+        alloc,
+        areas(alloc)?,
+        blocks,
+        u64::from(room),
+        Vec::new(alloc),
+    )
+    .ok()?;
     let port = door.port;
     let (hosted, _) = serve_door(rt, alloc, book, &OpenGate, None, door, port, links);
     hosted.ok()
@@ -83,7 +90,7 @@ pub(crate) fn served<R: Threads + Wait + Clock + Sync>(
 
 /// Every link ended as links do, and its entries are the journal's under its number. Together they are all
 /// that the journal has.
-pub(crate) fn has_all<L>(hosted: &Hosted<Book, L>) -> bool {
+pub(crate) fn has_all<L>(hosted: &Hosted<Book<Tail>, L>) -> bool {
     let journal = hosted.keeper.journal.as_slice();
     let mut all = 0usize;
     for served in &hosted.links {

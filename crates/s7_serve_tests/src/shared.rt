@@ -3,7 +3,7 @@ use crate::calls::{ask, is_answered, joined, open};
 use crate::ports::{has_all, key_of, opened, served};
 use crate::walk::Walk;
 use s7_outer::{Dial, Dialled, Link, RealLink, TcpDial, TcpDoor};
-use s7_plant::Book;
+use s7_plant::{Book, Tail};
 use std::alloc::Global;
 use std::test::Fail;
 use std::thread::{join, map_vec};
@@ -96,7 +96,7 @@ fn called<D: Dial<RealLink<HostRuntime>> + Drop>(
 
 // What the clients were shown is what the entries before each read left, and the plant is what all
 // entries left.
-fn is_shown(alloc: Global, book: &Book, shown: &[Vec<Vec<u8>>]) -> Option<()> {
+fn is_shown(alloc: Global, book: &Book<Tail>, shown: &[Vec<Vec<u8>>]) -> Option<()> {
     let mut walk = Walk::new(shown);
     for entry in book.journal.as_slice() {
         walk.take(alloc, entry)?;

@@ -1,6 +1,6 @@
 -- What holds from files on that were left as they were holds from those before on.
-use Rattle.std.proofs.Common.{◌≡◌, ◌∙◌, refl, sym, ap, subst, arith, List, ℕ, Option, Some, None}
-use Rattle.std.specs.Prelude.{IsTrue}
+use Rattle.std.proofs.Common.{◌≡◌, ◌∙◌, sym, ap, subst, arith, List, ℕ, Option, Some, None}
+use Rattle.std.specs.Prelude.{IfSome, IsTrue}
 use Rattle.s7_outer.specs.FilesShown.{FilesShown}
 use Rattle.s7_outer.specs.OutShown.{OutShown}
 use Rattle.s7_outer.specs.Shown.{Shown}
@@ -11,7 +11,10 @@ use Rattle.s7_server.specs.declared.run.Ended.{Ended}
 use Rattle.s7_server.specs.declared.run.Ended.TheVariants as ended
 use Rattle.s7_server.specs.declared.run.Run.{Run}
 use Rattle.s7_server.specs.Asked.{AskedTold}
-use Rattle.s7_server.specs.End.{Ends, FileFails, Unopened}
+use Rattle.s7_server.specs.End.{Ends, FileFails}
+use Rattle.s7_server.specs.Report.{BreaksOff, report_text}
+use Rattle.s7_server.specs.Statuses.{output, status_of}
+use Rattle.s7_server.specs.Told.{run_told}
 use Rattle.s7_server.specs.Saving.{ChangesOnly, HoldsAreas, KeepsBut}
 
 pub left_by : (n : Named) (old new : FilesShown) → LeavesFiles n old new → ChangesOnly None old new
@@ -40,8 +43,8 @@ fails : (o : Option (List ℕ)) (a b c : FilesShown) (s t : OutShown) → Change
 fails None a b c s t l h = h
 fails (Some p) a b c s t l h = (omega (arith, l.counts p, h.0), h.1)
 
-module _ {L : Type 0} (shows : L → Shown) (asked : AskedTold) (failed : Type 0) where
-  saved : (run : Run L) (a b c : FilesShown) (s t : OutShown) (how : Ended) → ChangesOnly None a b
+module _ {L O : Type 0} (shows : L → Shown) (asked : AskedTold) (failed : Type 0) where
+  saved : (run : Run L O) (a b c : FilesShown) (s t : OutShown) (how : Ended) → ChangesOnly None a b
       → Ends shows asked ⊥ (Some run) b c s t how → Ends shows asked failed (Some run) a c s t how
   saved run a b c s t ended.Done l e = (holds asked.save a b c run.book.plant.areas l e.0, e.1)
   saved run a b c s t ended.Output l e = (holds asked.save a b c run.book.plant.areas l e.0, e.1)
@@ -51,16 +54,20 @@ module _ {L : Type 0} (shows : L → Shown) (asked : AskedTold) (failed : Type 0
   saved run a b c s t ended.Memory l e = e
 
   -- a run was saved and reported over the files between, and nothing was printed before
-  pub ends : (run : Run L) (a b c : FilesShown) (s s' t : OutShown) (how : Ended) → ChangesOnly None a b → s' ≡ s
+  pub ends : (run : Run L O) (a b c : FilesShown) (s s' t : OutShown) (how : Ended) → ChangesOnly None a b → s' ≡ s
       → Ends shows asked ⊥ (Some run) b c s' t how → Ends shows asked failed (Some run) a c s t how
   ends run a b c s s' t how l same e = saved run a b c s t how l (subst (λ x. Ends shows asked ⊥ (Some run) b c x t how) same e)
 
-  -- no book was opened
-  pub unopened : (a b : FilesShown) (s t : OutShown) (how : Ended) → Unopened asked a b s t how
-      → Ends shows asked failed None a b s t how
-  unopened a b s t ended.Done u = absurd u
-  unopened a b s t ended.Output u = absurd u
-  unopened a b s t ended.Areas u = (refl, u)
-  unopened a b s t ended.File u = u
-  unopened a b s t ended.Door u = absurd u
-  unopened a b s t ended.Memory u = u
+-- an output that failed broke the text off, with the areas behind as many entries as were asked for
+pub broken : {L O : Type 0} (shows : L → Shown) (asked : AskedTold) (failed : Type 0) (run : Option (Run L O)) (a b : FilesShown)
+    (s t : OutShown) (how : Ended) (entry : Option ℕ) → asked.entry ≡ entry → status_of how ≡ output
+    → Ends shows asked failed run a b s t how
+    → IfSome run (λ r. BreaksOff s t (report_text (run_told shows r) entry))
+broken shows asked failed None a b s t how entry same is e = tt
+broken shows asked failed (Some run) a b s t ended.Output entry same is e =
+    subst (λ n. BreaksOff s t (report_text (run_told shows run) n)) same e.1
+broken shows asked failed (Some run) a b s t ended.Done entry same is e = absurd (omega (arith, is))
+broken shows asked failed (Some run) a b s t ended.Areas entry same is e = absurd (omega (arith, is))
+broken shows asked failed (Some run) a b s t ended.File entry same is e = absurd (omega (arith, is))
+broken shows asked failed (Some run) a b s t ended.Door entry same is e = absurd (omega (arith, is))
+broken shows asked failed (Some run) a b s t ended.Memory entry same is e = absurd (omega (arith, is))

@@ -7,7 +7,7 @@ use Rattle.s7_outer.specs.FilesShown.{FilesShown}
 use Rattle.s7_outer.specs.OutShown.{OutShown}
 use Rattle.s7_outer.specs.Shown.{Shown}
 use Rattle.s7_area.specs.Memory.{Memory}
-use Rattle.s7_plant.specs.declared.book.Book.{Book}
+use Rattle.s7_plant.specs.Books.{BookTold}
 use Rattle.s7_plant.specs.Journals.{entries_of}
 use Rattle.s7_plant.specs.State.{begins_with, state_of}
 use Rattle.s7_serve.specs.Given.{HasFailed}
@@ -39,25 +39,25 @@ abbrev pub Serves : {L : Type 0} → (L → Shown) → Option ServerTold → Fil
 Serves shows None files link door door' run = ⊥
 Serves shows (Some (pipe areas save journal)) files link door door' run =
     ServesNamed (asked_by (pipe areas save journal)) files (λ opening limit. ServesPipe opening limit link run)
-Serves shows (Some (serve areas port links save journal)) files link door door' run =
-    ServesNamed (asked_by (serve areas port links save journal)) files
+Serves shows (Some (serve areas port links save journal entry)) files link door door' run =
+    ServesNamed (asked_by (serve areas port links save journal entry)) files
     (λ opening limit. ServesDoor shows port links opening limit door door' run)
 
 -- the link that a command hands back: `pipe` the one that it didn't serve, and `serve` the one that it never touches
-abbrev pub handed_back : {L : Type 0} → Option ServerTold → Option (Run L) → L → Option L
+abbrev pub handed_back : {L O : Type 0} → Option ServerTold → Option (Run L O) → L → Option L
 handed_back None run link = Some link
 handed_back (Some (pipe areas save journal)) run link = if is_some run then None else Some link
-handed_back (Some (serve areas port links save journal)) run link = Some link
+handed_back (Some (serve areas port links save journal entry)) run link = Some link
 
 -- no command but `serve` touches the door
 abbrev pub KeepsDoor : {L : Type 0} → Option ServerTold → DoorShown L → DoorShown L → Type 0
 KeepsDoor None door door' = door' ≡ door
 KeepsDoor (Some (pipe areas save journal)) door door' = door' ≡ door
-KeepsDoor (Some (serve areas port links save journal)) door door' = Unit {0}
+KeepsDoor (Some (serve areas port links save journal entry)) door door' = Unit {0}
 
 -- a book that was opened with the areas that are named, which are those of the file where that is told, and in which
 -- nothing was entered
-pub record Opens (asked : AskedTold) (files : FilesShown) (book : Book) : Type 0 where
+pub record Opens (asked : AskedTold) (files : FilesShown) (book : BookTold) : Type 0 where
   pub opened : IsTold (naming asked.areas) files → named_gives (naming asked.areas) files.held ≡ Ok book.opening.areas
   pub begins : state_of book.opening ≡ begins_with book.opening.areas
   pub plant : state_of book.plant ≡ begins_with book.opening.areas
@@ -88,6 +88,11 @@ abbrev pub areas_path : Option ServerTold → Option (List ℕ)
 areas_path None = None
 areas_path (Some command) = path_of (naming (asked_by command).areas)
 
+-- behind how many entries the areas are shown, where that is asked for
+abbrev pub entry_asked : Option ServerTold → Option ℕ
+entry_asked None = None
+entry_asked (Some command) = (asked_by command).entry
+
 -- the path that the areas are saved to, where that is asked for
 abbrev pub save_path : Option ServerTold → Option (List ℕ)
 save_path None = None
@@ -102,7 +107,7 @@ FileFails failed files files' out out' =
 abbrev pub DoorFails : {L : Type 0} → Option ServerTold → DoorShown L → DoorShown L → OutShown → OutShown → Type 0
 DoorFails None door door' out out' = ⊥
 DoorFails (Some (pipe areas save journal)) door door' out out' = ⊥
-DoorFails (Some (serve areas port links save journal)) door door' out out' =
+DoorFails (Some (serve areas port links save journal entry)) door door' out out' =
     HasFailed port door door' × Printed out out' door_line
 
 -- ---- how it ended
@@ -117,17 +122,17 @@ Unopened asked files files' out out' ended.Output = ⊥
 Unopened asked files files' out out' ended.Door = ⊥
 
 -- the areas that a run left lie where they are to be saved
-abbrev pub Saves : {L : Type 0} → AskedTold → Run L → FilesShown → FilesShown → Type 0
+abbrev pub Saves : {L O : Type 0} → AskedTold → Run L O → FilesShown → FilesShown → Type 0
 Saves asked run files files' = HoldsAreas asked.save files files' run.book.plant.areas
 
 -- HOW IT ENDED, by what was asked for, the run where there is one, and the files and the output before and after; where
 -- a door may fail before a link comes, by what holds then
-abbrev pub Ends : {L : Type 0} → (L → Shown) → AskedTold → Type 0 → Option (Run L)
+abbrev pub Ends : {L O : Type 0} → (L → Shown) → AskedTold → Type 0 → Option (Run L O)
     → FilesShown → FilesShown → OutShown → OutShown → Ended → Type 0
 Ends shows asked failed run files files' out out' ended.Done =
-    IsSomeAnd run (λ r. Saves asked r files files' × Gains out out' (report_text (run_told shows r)))
+    IsSomeAnd run (λ r. Saves asked r files files' × Gains out out' (report_text (run_told shows r) asked.entry))
 Ends shows asked failed run files files' out out' ended.Output =
-    IsSomeAnd run (λ r. Saves asked r files files' × BreaksOff out out' (report_text (run_told shows r)))
+    IsSomeAnd run (λ r. Saves asked r files files' × BreaksOff out out' (report_text (run_told shows r) asked.entry))
 Ends shows asked failed run files files' out out' ended.Areas =
     IsNone run × RefusesNamed (naming asked.areas) files (Printed out out')
 Ends shows asked failed run files files' out out' ended.File =

@@ -3,7 +3,7 @@ use Rattle.std.specs.Prelude.{◌≡◌, ℕ, false, List, [], ◌∷◌, map}
 use Rattle.s7_outer.specs.DoorShown.{DoorShown}
 use Rattle.s7_outer.specs.Shown.{Shown}
 use Rattle.s7_area.specs.Memory.{Memory}
-use Rattle.s7_plant.specs.declared.book.Book.{Book}
+use Rattle.s7_plant.specs.Books.{BookTold}
 use Rattle.s7_plant.specs.State.{begins_with}
 use Rattle.s7_session.specs.Books.{history_of}
 use Rattle.s7_session.specs.Legal.{IsLegalBook}
@@ -24,7 +24,7 @@ first_of opening = first_link opening.guard
 -- LINKS THAT SHOWED THIS WERE SERVED over these areas, with room for so many entries: each over the history of the one
 -- book that is left, which is legal for them
 pub record HostsOver (opening : Memory) (limit : ℕ) (pipes : List Shown)
-    (links : List ServedTold) (book : Book) : Type 0 where
+    (links : List ServedTold) (book : BookTold) : Type 0 where
   pub hosted : AreHosted (begins_with opening) limit (first_of opening) (history_of book) pipes links
   pub legal_book : IsLegalBook (begins_with opening) limit (counts_of links) book
 

@@ -1,12 +1,16 @@
 -- What is printed.
 use Rattle.std.specs.Prelude.{◌≡◌, ◌⊎◌, ℕ, List, ◌∷◌, [], ◌++◌, length, codes, Option, Some, None, IsSomeAnd}
-use Rattle.std.specs.Prelude.{Bool, true, false}
+use Rattle.std.specs.Prelude.{Bool, true, false, nat_le, if◌then◌else◌}
 use Rattle.std.specs.Fmt.{decimal}
 use Rattle.std.specs.List.{flat_map}
 use Rattle.std.specs.Io.KnownBytes.{append_known}
 use Rattle.s7_outer.specs.Count.{Rose}
 use Rattle.s7_outer.specs.Out.{AppendsPrefix}
 use Rattle.s7_outer.specs.OutShown.{OutShown}
+use Rattle.s7_plant.specs.Books.{BookTold}
+use Rattle.s7_plant.specs.Journals.{at}
+use Rattle.s7_plant.specs.State.{state_of}
+use Rattle.s7_script.specs.Spelling.{spelling}
 use Rattle.s7_script.specs.declared.load.LoadFault.{LoadFault}
 use Rattle.s7_script.specs.declared.load.LoadFault.TheVariants as fault
 use Rattle.s7_serve.specs.Served.{ServedTold}
@@ -57,8 +61,19 @@ door_text true = codes "door" ++ line_end
 abbrev pub report_of : List ServedTold → ℕ → Bool → List ℕ
 report_of links journal door_failed = flat_map line_of links ++ (journal_line journal ++ door_text door_failed)
 
-abbrev pub report_text : RunTold → List ℕ
-report_text run = report_of run.links (length run.book.journal.entries) run.door_failed
+-- THE AREAS BEHIND SO MANY ENTRIES: their number and an area file, or that there aren't so many
+abbrev pub entry_text : BookTold → Option ℕ → List ℕ
+entry_text book None = []
+entry_text book (Some n) =
+    if nat_le n (length book.journal.entries)
+    then codes "at " ++ (decimal n
+    ++ (line_end ++ spelling (at (state_of book.opening) book.journal.entries n).memory))
+    else codes "at " ++ (decimal n ++ (codes " none" ++ line_end))
+
+-- the report of a run, and behind it the areas that are asked for
+abbrev pub report_text : RunTold → Option ℕ → List ℕ
+report_text run entry =
+    report_of run.links (length run.book.journal.entries) run.door_failed ++ entry_text run.book entry
 
 abbrev pub usage_line : List ℕ
 usage_line = codes "usage: s7server pipe AREAS, s7server serve AREAS" ++ line_end

@@ -10,26 +10,28 @@ use crate::output::{print_as, print_failed, print_report};
 use crate::run::{Ended, Run};
 use s7_area::Areas;
 use s7_outer::{FileFault, Files, Link, Out};
+use s7_plant::Observer;
 use s7_script::write_areas;
 use std::alloc::Global;
 
-/// Saves the areas that are left where that is asked for, prints the report, and says how that went.
-pub(crate) fn close<F: Files, L: Link + Drop, O: Out>(
+/// Saves the areas that are left where that is asked for, prints the report with the areas behind so many
+/// entries where these are asked for, and says how that went.
+pub(crate) fn close<F: Files, L: Link + Drop, U: Out, O: Observer>(
     alloc: Global,
     asked: Asked<'_>,
-    run: &Run<L>,
+    run: &Run<L, O>,
     files: &mut F,
-    out: &mut O,
+    out: &mut U,
 ) -> Ended
     ensures changed { ChangesOnly (asked_told asked.entry).save (F.shows files.old) (F.shows files.new) }
     ensures ended { Ends L.shows (asked_told asked.entry) ⊥ (Some run.now)
-        (F.shows files.old) (F.shows files.new) (O.shows out.old) (O.shows out.new) result }
+        (F.shows files.old) (F.shows files.new) (U.shows out.old) (U.shows out.new) result }
 {
     let Some(path) = asked.save else {
-        return print_report(alloc, run, out);
+        return print_report(alloc, run, asked.at, out);
     };
     match save_areas(alloc, &run.book.plant.areas, path, files) {
-        Ok(()) => print_report(alloc, run, out),
+        Ok(()) => print_report(alloc, run, asked.at, out),
         Err(FileFault::Failed) => print_failed(alloc, path, out),
         Err(_) => print_as(Ended::Memory, b"memory\n", out),
     }

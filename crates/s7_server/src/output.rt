@@ -6,18 +6,21 @@ ghost use Rattle.s7_server.specs.Told.{run_told};
 use crate::report::{areas_line, file_line, report};
 use crate::run::{Ended, Run};
 use s7_outer::{Link, Out};
+use s7_plant::Observer;
 use s7_script::LoadFault;
 use std::alloc::Global;
 
-/// Prints the report, and says how that went.
-pub(crate) fn print_report<L: Link + Drop, O: Out>(
+/// Prints the report, with the areas behind so many entries where these are asked for, and says how that
+/// went.
+pub(crate) fn print_report<L: Link + Drop, U: Out, O: Observer>(
     alloc: Global,
-    run: &Run<L>,
-    out: &mut O,
+    run: &Run<L, O>,
+    at: Option<u64>,
+    out: &mut U,
 ) -> Ended
-    ensures { Reports (report_text (run_told L.shows run.now)) (O.shows out.old) (O.shows out.new) result }
+    ensures { Reports (report_text (run_told L.shows run.now) at) (U.shows out.old) (U.shows out.new) result }
 {
-    let Ok(text) = report(alloc, run) else {
+    let Ok(text) = report(alloc, run, at) else {
         return print_as(Ended::Memory, b"memory\n", out);
     };
     match out.put(text.as_slice()) {

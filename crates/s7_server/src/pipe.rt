@@ -1,5 +1,8 @@
 // The command that serves one link.
-ghost use Rattle.std.specs.Prelude.{◌≡◌, ◌∷◌, [], IfErr, IfOk, IfSome, None, Some, if◌then◌else◌, is_some};
+ghost use Rattle.std.specs.Prelude.{◌≡◌, ◌∷◌, [], IfErr, IfOk, IfSome, None, Some, if◌then◌else◌, is_some, map};
+ghost use Rattle.std.specs.List.{AllByRecursion};
+ghost use Rattle.s7_plant.specs.Books.{book_told, seen_of};
+ghost use Rattle.s7_plant.specs.Observers.{IsFresh as IsFreshSeen, told};
 ghost use Rattle.s7_plant.specs.State.{begins_with, state_of};
 ghost use Rattle.s7_serve.specs.Served.{IsServedLink, IsShut, served_told, told_of};
 ghost use Rattle.s7_session.specs.Books.{history_of};
@@ -10,7 +13,7 @@ ghost use Rattle.s7_server.specs.Asked.{asked_told};
 ghost use Rattle.s7_server.specs.End.{Ends, ServesNamed};
 ghost use Rattle.s7_server.specs.Hosts.{HostsOver, ServesPipe, first_of, piped_link};
 ghost use Rattle.s7_server.specs.Saving.{ChangesOnly};
-ghost use Rattle.s7_server.specs.Told.{run_told};
+ghost use Rattle.s7_server.specs.Told.{events_of, run_told};
 
 use crate::asked::Asked;
 use crate::closing::close;
@@ -18,7 +21,7 @@ use crate::opening::open_book;
 use crate::output::print_as;
 use crate::run::{CommandEnd, Ended, Run};
 use s7_outer::{Clock, Files, Link, Out};
-use s7_plant::Book;
+use s7_plant::{Book, Observer};
 use s7_serve::Served;
 use s7_session::{BookDoer, Outcome, Session};
 use std::alloc::Global;
@@ -29,23 +32,33 @@ use std::time;
 const LINK: u32 = 1;
 
 /// Serves the link over the areas that are asked for, saves those that are left, and prints the report.
-pub(crate) fn run_pipe<R: Wait + time::Clock, F: Files, L: Link + Clock + Drop, O: Out>(
+pub(crate) fn run_pipe<
+    R: Wait + time::Clock,
+    F: Files,
+    L: Link + Clock + Drop,
+    U: Out,
+    O: Observer,
+>(
     rt: &R,
     alloc: Global,
     asked: Asked<'_>,
     files: &mut F,
     pipe: L,
-    out: &mut O,
-) -> CommandEnd<L>
+    out: &mut U,
+    observers: Vec<O>,
+) -> CommandEnd<L, O>
+    requires fresh { AllByRecursion (λ o. IsFreshSeen (O.seen o)) observers.items }
     ensures served { IfSome result.run (λ run. ServesNamed (asked_told asked.entry) (F.shows files.old)
         (λ opening limit. ServesPipe opening limit (L.shows pipe) (run_told L.shows run))) }
+    ensures told { IfSome result.run (λ run. seen_of O.seen run.book
+        ≡ map (λ o. told (O.seen o) (events_of (book_told run.book))) observers.items) }
     ensures unserved { result.pipe ≡ (if is_some result.run then None else Some pipe) }
     ensures changed { ChangesOnly (if is_some result.run then (asked_told asked.entry).save else None)
         (F.shows files.old) (F.shows files.new) }
     ensures ended { Ends L.shows (asked_told asked.entry) ⊥ result.run
-        (F.shows files.old) (F.shows files.new) (O.shows out.old) (O.shows out.new) result.ended }
+        (F.shows files.old) (F.shows files.new) (U.shows out.old) (U.shows out.new) result.ended }
 {
-    let book = match open_book(alloc, asked, files, out) {
+    let book = match open_book(alloc, asked, files, out, observers) {
         Ok(book) => book,
         Err(ended) => {
             return CommandEnd {
@@ -70,17 +83,19 @@ pub(crate) fn run_pipe<R: Wait + time::Clock, F: Files, L: Link + Clock + Drop, 
 }
 
 // Serves the link over a fresh book. It comes back as it was where there is no memory for a list of it.
-fn serve_book<R: Wait + time::Clock, L: Link + Clock + Drop>(
+fn serve_book<R: Wait + time::Clock, L: Link + Clock + Drop, O: Observer>(
     rt: &R,
     alloc: Global,
-    mut book: Book,
+    mut book: Book<O>,
     pipe: L,
-) -> Result<Run<L>, L>
-    requires empty { history_of book ≡ [] }
+) -> Result<Run<L, O>, L>
+    requires empty { history_of (book_told book) ≡ [] }
     requires begins { state_of book.opening ≡ begins_with book.opening.areas }
     requires plant { state_of book.plant ≡ begins_with book.opening.areas }
     ensures served { IfOk result (λ run.
         ServesPipe book.opening.areas book.journal.limit (L.shows pipe) (run_told L.shows run)) }
+    ensures told { IfOk result (λ run. seen_of O.seen run.book
+        ≡ map (λ s. told s (events_of (book_told run.book))) (seen_of O.seen book)) }
     ensures back { IfErr result (λ back. back ≡ pipe) }
 {
     let Ok(mut links) = Vec::with_capacity(alloc, 1) else {
@@ -95,17 +110,19 @@ fn serve_book<R: Wait + time::Clock, L: Link + Clock + Drop>(
 }
 
 // Serves a link over a fresh book.
-fn serve_link<R: Wait + time::Clock, L: Link + Clock + Drop>(
+fn serve_link<R: Wait + time::Clock, L: Link + Clock + Drop, O: Observer>(
     rt: &R,
     alloc: Global,
     pipe: L,
-    book: &mut Book,
+    book: &mut Book<O>,
 ) -> Served<L>
-    requires empty { history_of book.old ≡ [] }
+    requires empty { history_of (book_told book.old) ≡ [] }
     requires begins { state_of book.old.opening ≡ begins_with book.old.opening.areas }
     requires plant { state_of book.old.plant ≡ begins_with book.old.opening.areas }
-    ensures { HostsOver book.old.opening.areas book.old.journal.limit (L.shows pipe ∷ [])
-        (told_of L.shows result ∷ []) book.new }
+    ensures hosts { HostsOver book.old.opening.areas book.old.journal.limit (L.shows pipe ∷ [])
+        (told_of L.shows result ∷ []) (book_told book.new) }
+    ensures told { seen_of O.seen book.new
+        ≡ map (λ s. told s (events_of (book_told book.new))) (seen_of O.seen book.old) }
 {
     let mut line = pipe;
     let Ok(mut session) = Session::new(alloc, LINK, book.opening.areas.guard()) else {
@@ -131,21 +148,23 @@ fn serve_link<R: Wait + time::Clock, L: Link + Clock + Drop>(
 }
 
 // Serves a link over a fresh book by a fresh session, and shuts it then.
-fn serve_session<R: Wait + time::Clock, L: Link + Clock>(
+fn serve_session<R: Wait + time::Clock, L: Link + Clock, O: Observer>(
     rt: &R,
     alloc: Global,
     session: &mut Session,
     line: &mut L,
-    book: &mut Book,
+    book: &mut Book<O>,
 ) -> Outcome
     requires fresh { IsFresh (first_of book.old.opening.areas) session.old }
-    requires empty { history_of book.old ≡ [] }
+    requires empty { history_of (book_told book.old) ≡ [] }
     requires begins { state_of book.old.opening ≡ begins_with book.old.opening.areas }
     ensures served { IsServedLink (begins_with book.old.opening.areas) book.old.journal.limit
-        (first_of book.old.opening.areas) (history_of book.new) (L.shows line.old)
+        (first_of book.old.opening.areas) (history_of (book_told book.new)) (L.shows line.old)
         (served_told piped_link (L.shows line.new) result (entry_count session.new) (newest session.new)) }
     ensures legal_book { IsLegalBook (begins_with book.old.opening.areas) book.old.journal.limit
-        ((piped_link, entry_count session.new) ∷ []) book.new }
+        ((piped_link, entry_count session.new) ∷ []) (book_told book.new) }
+    ensures told { seen_of O.seen book.new
+        ≡ map (λ s. told s (events_of (book_told book.new))) (seen_of O.seen book.old) }
     ensures shut { IsShut (L.shows line.new) }
 {
     let mut doer = BookDoer { book, link: LINK };

@@ -1,22 +1,32 @@
 // What is printed.
-ghost use Rattle.std.specs.Prelude.{◌≡◌, ◌++◌, Some, IfOk, OnOk, string_bytes};
+ghost use Rattle.std.specs.Prelude.{◌≡◌, ◌≤◌, ◌++◌, Some, IfOk, OnOk, length, string_bytes};
 ghost use Rattle.std.specs.List.{flat_map};
+ghost use Rattle.s7_plant.specs.Books.{book_told};
+ghost use Rattle.s7_plant.specs.Journals.{at};
+ghost use Rattle.s7_plant.specs.State.{state_of};
 ghost use Rattle.s7_serve.specs.Served.{told_of};
 ghost use Rattle.s7_server.specs.Report.{outcome_text, line_with, line_of, journal_line, report_text};
-ghost use Rattle.s7_server.specs.Report.{refusal_line, file_line};
+ghost use Rattle.s7_server.specs.Report.{entry_text, refusal_line, file_line};
 ghost use Rattle.s7_server.specs.Told.{all_told, run_told};
 
 use crate::run::Run;
-use s7_outer::Link;
-use s7_script::LoadFault;
+use s7_outer::{Link, Memory};
+use s7_plant::{Book, Observer, Plant, Steps};
+use s7_script::{LoadFault, write_areas};
 use s7_serve::Served;
 use s7_session::Outcome;
 use std::alloc::{AllocError, Global};
+use std::marker::Brand;
+use std::sync::ledger::{Blank, Ledger};
 
 /// The report of a run: a line for each link that was served, one for the journal, and one more where
-/// the door failed.
-pub fn report<L: Link + Drop>(alloc: Global, run: &Run<L>) -> Result<Vec<u8>, AllocError>
-    ensures { IfOk result (λ text. text.items ≡ report_text (run_told L.shows run.now)) }
+/// the door failed; and behind it the areas after the first `at` entries, where these are asked for.
+pub fn report<L: Link + Drop, O: Observer>(
+    alloc: Global,
+    run: &Run<L, O>,
+    at: Option<u64>,
+) -> Result<Vec<u8>, Memory>
+    ensures { IfOk result (λ text. text.items ≡ report_text (run_told L.shows run.now) at) }
 {
     let mut text = Vec::new(alloc);
     add_links(alloc, &mut text, run.links.as_slice())?;
@@ -25,7 +35,50 @@ pub fn report<L: Link + Drop>(alloc: Global, run: &Run<L>) -> Result<Vec<u8>, Al
     if run.door_failed {
         text.extend_from_slice(b"door\n")?;
     }
+    if let Some(n) = at {
+        add_areas(alloc, &mut text, &run.book, n)?;
+    }
     Ok(text)
+}
+
+// Adds the areas after the first `n` entries, or that there aren't so many.
+fn add_areas<O: Observer>(
+    alloc: Global,
+    text: &mut Vec<u8>,
+    book: &Book<O>,
+    n: u64,
+) -> Result<(), Memory>
+    ensures { OnOk result (text.new.items ≡ text.old.items ++ entry_text (book_told book.now) (Some n)) }
+{
+    if n > book.journal.len() {
+        let line = format!(in alloc; "at {n} none\n")?;
+        text.extend_from_slice(line.as_bytes())?;
+        return Ok(());
+    }
+    let line = format!(in alloc; "at {n}\n")?;
+    text.extend_from_slice(line.as_bytes())?;
+    let plant = plant_at::<O, Brand>(alloc, book, n, Blank::new(1))?;
+    let areas = write_areas(alloc, &plant.areas)?;
+    text.extend_from_slice(areas.as_slice())?;
+    Ok(())
+}
+
+// The plant after the first `n` entries.
+fn plant_at<O: Observer, S: Ledger>(
+    alloc: Global,
+    book: &Book<O>,
+    n: u64,
+    blank: Blank,
+) -> Result<Plant, Memory>
+    requires name { blank.name ≡ S.name }
+    requires parts { blank.parts ≡ S.parts }
+    requires one { blank.parts ≡ 1 }
+    requires within { n ≤ length book.now.journal.entries }
+    ensures { IfOk result (λ plant.
+        state_of plant ≡ at (state_of book.now.opening) book.now.journal.entries n) }
+{
+    let mut steps = Steps::<S>::new(blank);
+    book.image_at(alloc, n, &mut steps)
 }
 
 // Adds a line for each link.

@@ -3,11 +3,11 @@ use s7_outer::Link;
 use s7_plant::Book;
 use s7_serve::Served;
 
-/// What serving leaves: the book, the links that were served, by rising number, and whether the door
+/// What serving leaves: the book with its observers, the links that were served, by rising number, and whether the door
 /// failed after a first link.
 #[derive(Drop)]
-pub struct Run<L: Link + Drop> {
-    pub book: Book,
+pub struct Run<L: Link + Drop, O> {
+    pub book: Book<O>,
     pub links: Vec<Served<L>>,
     pub door_failed: bool,
 }
@@ -31,17 +31,17 @@ pub(crate) enum Ended {
 
 /// What a command leaves: how it ended, and the run or else the link that wasn't served.
 #[derive(Drop)]
-pub(crate) struct CommandEnd<L: Link + Drop> {
+pub(crate) struct CommandEnd<L: Link + Drop, O> {
     pub ended: Ended,
-    pub run: Option<Run<L>>,
+    pub run: Option<Run<L, O>>,
     pub pipe: Option<L>,
 }
 
 /// What is left in the end: the status, the run where there is one, and the link on standard input and
 /// output where it wasn't served.
 #[derive(Drop)]
-pub struct ServerEnd<L: Link + Drop> {
+pub struct ServerEnd<L: Link + Drop, O> {
     pub status: u8,
-    pub run: Option<Run<L>>,
+    pub run: Option<Run<L, O>>,
     pub pipe: Option<L>,
 }

@@ -1,5 +1,8 @@
 // The command that serves the links of a door.
-ghost use Rattle.std.specs.Prelude.{◌≡◌, ◌≢◌, [], IfOk, IfSome, IsErrOf, None, if◌then◌else◌, is_some};
+ghost use Rattle.std.specs.Prelude.{◌≡◌, ◌≢◌, [], IfOk, IfSome, IsErrOf, None, if◌then◌else◌, is_some, map};
+ghost use Rattle.std.specs.List.{AllByRecursion};
+ghost use Rattle.s7_plant.specs.Books.{book_told, seen_of};
+ghost use Rattle.s7_plant.specs.Observers.{IsFresh, fresh, told};
 ghost use Rattle.s7_plant.specs.State.{begins_with, state_of};
 ghost use Rattle.s7_serve.specs.Given.{HasFailed};
 ghost use Rattle.s7_session.specs.Books.{history_of};
@@ -7,7 +10,7 @@ ghost use Rattle.s7_server.specs.Asked.{asked_told};
 ghost use Rattle.s7_server.specs.End.{Ends, ServesNamed};
 ghost use Rattle.s7_server.specs.Hosts.{ServesDoor};
 ghost use Rattle.s7_server.specs.Saving.{ChangesOnly};
-ghost use Rattle.s7_server.specs.Told.{run_told};
+ghost use Rattle.s7_server.specs.Told.{events_of, run_told};
 
 use crate::asked::Asked;
 use crate::closing::close;
@@ -16,7 +19,7 @@ use crate::opening::open_book;
 use crate::output::print_as;
 use crate::run::{Ended, Run};
 use s7_outer::{Clock, Door, Files, Gate, Link, Out};
-use s7_plant::Book;
+use s7_plant::{Book, Observer};
 use s7_serve::{NotHosted, serve_door};
 use std::alloc::Global;
 use std::sync::Wait;
@@ -31,7 +34,8 @@ pub(crate) fn run_serve<
     L: Link + Clock + Send + Drop,
     D: Door<L>,
     G: Gate + Sync,
-    O: Out,
+    U: Out,
+    O: Observer + Send,
 >(
     rt: &R,
     alloc: Global,
@@ -41,19 +45,23 @@ pub(crate) fn run_serve<
     files: &mut F,
     door: &mut D,
     gate: &G,
-    out: &mut O,
-) -> (Ended, Option<Run<L>>)
+    out: &mut U,
+    observers: Vec<O>,
+) -> (Ended, Option<Run<L, O>>)
+    requires fresh { AllByRecursion (λ o. IsFresh (O.seen o)) observers.items }
     ensures served { IfSome result.1 (λ run. ServesNamed (asked_told asked.entry) (F.shows files.old)
         (λ opening limit. ServesDoor L.shows port links opening limit (D.shows door.old) (D.shows door.new)
         (run_told L.shows run))) }
+    ensures told { IfSome result.1 (λ run. seen_of O.seen run.book
+        ≡ map (λ o. told (O.seen o) (events_of (book_told run.book))) observers.items) }
     ensures none_came { result.1 ≡ None → (D.shows door.new).coming ≡ (D.shows door.old).coming }
     ensures untouched { result.1 ≡ None → result.0 ≢ Ended.Door → D.shows door.new ≡ D.shows door.old }
     ensures changed { ChangesOnly (if is_some result.1 then (asked_told asked.entry).save else None)
         (F.shows files.old) (F.shows files.new) }
     ensures ended { Ends L.shows (asked_told asked.entry) (HasFailed port (D.shows door.old) (D.shows door.new))
-        result.1 (F.shows files.old) (F.shows files.new) (O.shows out.old) (O.shows out.new) result.0 }
+        result.1 (F.shows files.old) (F.shows files.new) (U.shows out.old) (U.shows out.new) result.0 }
 {
-    let book = match open_book(alloc, asked, files, out) {
+    let book = match open_book(alloc, asked, files, out, observers) {
         Ok(book) => book,
         Err(ended) => return (ended, None),
     };
@@ -70,20 +78,24 @@ fn serve_book<
     L: Link + Clock + Send + Drop,
     D: Door<L>,
     G: Gate + Sync,
+    O: Observer + Send,
 >(
     rt: &R,
     alloc: Global,
-    book: Book,
+    book: Book<O>,
     port: u16,
     links: u16,
     door: &mut D,
     gate: &G,
-) -> Result<Run<L>, NotHosted>
-    requires empty { history_of book ≡ [] }
+) -> Result<Run<L, O>, NotHosted>
+    requires empty { history_of (book_told book) ≡ [] }
+    requires fresh { map fresh (seen_of O.seen book) ≡ seen_of O.seen book }
     requires begins { state_of book.opening ≡ begins_with book.opening.areas }
     requires plant { state_of book.plant ≡ begins_with book.opening.areas }
     ensures served { IfOk result (λ run. ServesDoor L.shows port links book.opening.areas book.journal.limit
         (D.shows door.old) (D.shows door.new) (run_told L.shows run)) }
+    ensures told { IfOk result (λ run. seen_of O.seen run.book
+        ≡ map (λ s. told s (events_of (book_told run.book))) (seen_of O.seen book)) }
     ensures failed { IsErrOf result NotHosted.Door → HasFailed port (D.shows door.old) (D.shows door.new) }
     ensures memory { IsErrOf result NotHosted.Memory → D.shows door.new ≡ D.shows door.old }
 {
@@ -100,21 +112,25 @@ fn host<
     L: Link + Clock + Send + Drop,
     D: Door<L> + Drop,
     G: Gate + Sync,
+    O: Observer + Send,
 >(
     rt: &R,
     alloc: Global,
-    book: Book,
+    book: Book<O>,
     port: u16,
     links: u16,
     door: D,
     gate: &G,
-    run: &mut Result<Run<L>, NotHosted>,
+    run: &mut Result<Run<L, O>, NotHosted>,
 ) -> D
-    requires empty { history_of book ≡ [] }
+    requires empty { history_of (book_told book) ≡ [] }
+    requires fresh { map fresh (seen_of O.seen book) ≡ seen_of O.seen book }
     requires begins { state_of book.opening ≡ begins_with book.opening.areas }
     requires plant { state_of book.plant ≡ begins_with book.opening.areas }
     ensures served { IfOk run.new (λ run. ServesDoor L.shows port links book.opening.areas book.journal.limit
         (D.shows door) (D.shows result) (run_told L.shows run)) }
+    ensures told { IfOk run.new (λ run. seen_of O.seen run.book
+        ≡ map (λ s. told s (events_of (book_told run.book))) (seen_of O.seen book)) }
     ensures failed { IsErrOf run.new NotHosted.Door → HasFailed port (D.shows door) (D.shows result) }
     ensures memory { IsErrOf run.new NotHosted.Memory → D.shows result ≡ D.shows door }
 {

@@ -1,15 +1,18 @@
 // The whole of what the program does, over files, links and an output that are handed in.
-ghost use Rattle.std.specs.Prelude.{◌≡◌, ◌≢◌, ◌⊎◌, IfSome, IsSome, IsNone, Some, None, is_some, if◌then◌else◌};
+ghost use Rattle.std.specs.Prelude.{◌≡◌, ◌≢◌, ◌⊎◌, IfSome, IsSome, IsNone, Some, None, is_some, if◌then◌else◌, map};
+ghost use Rattle.std.specs.List.{AllByRecursion};
 ghost use Rattle.s7_outer.specs.Count.{Rose};
 ghost use Rattle.s7_outer.specs.Files.{NonePathFell};
+ghost use Rattle.s7_plant.specs.Books.{book_told, seen_of};
+ghost use Rattle.s7_plant.specs.Observers.{IsFresh, told};
 ghost use Rattle.s7_words.specs.Shown.{HasRoom, server_told_of};
 ghost use Rattle.s7_server.specs.Asked.{asked_by, asked_told, command_of};
 ghost use Rattle.s7_server.specs.End.{DoorFails, FileFails, KeepsDoor, Refuses, Serves};
-ghost use Rattle.s7_server.specs.End.{areas_path, handed_back, save_path};
+ghost use Rattle.s7_server.specs.End.{areas_path, entry_asked, handed_back, save_path};
 ghost use Rattle.s7_server.specs.Report.{BreaksOff, Gains, Printed, memory_line, report_text, usage_line};
 ghost use Rattle.s7_server.specs.Saving.{HoldsAreas, KeepsBut};
 ghost use Rattle.s7_server.specs.Statuses as status;
-ghost use Rattle.s7_server.specs.Told.{run_told};
+ghost use Rattle.s7_server.specs.Told.{events_of, run_told};
 
 use crate::asked::Asked;
 use crate::output::print_line;
@@ -17,6 +20,7 @@ use crate::pipe::run_pipe;
 use crate::run::{CommandEnd, Ended, ServerEnd};
 use crate::serve::run_serve;
 use s7_outer::{Clock, Door, Files, Gate, Link, Out};
+use s7_plant::Observer;
 use s7_words::{ServerWords, read_server_words};
 use std::alloc::Global;
 use std::sync::Wait;
@@ -56,7 +60,10 @@ pub const MEMORY: u8 = 9;
 /// output failed at the report; and else 0. For 1, 2, 3, 4 and 9 one line is printed instead, and its
 /// failure changes nothing.
 ///
-/// A run is there where links were served. It has the book, the links by rising number, from 1 on, and
+/// Each observer, which has counted nothing yet, is told of each entry inside its turn, in order, so a slow
+/// one holds up all links.
+///
+/// A run is there where links were served. It has the book with its observers, the links by rising number, from 1 on, and
 /// whether the door failed after a first link. All memory but that of the links' sessions is taken
 /// before a link is read or the door is asked. Where no run is there the link comes back as it was, no
 /// path changes, and the door has given no link; with a status other than 4 it is as it was. `serve`
@@ -68,7 +75,8 @@ pub fn server_main<
     L: Link + Clock + Send + Drop,
     D: Door<L>,
     G: Gate + Sync,
-    O: Out,
+    U: Out,
+    O: Observer + Send,
 >(
     rt: &R,
     alloc: Global,
@@ -77,8 +85,10 @@ pub fn server_main<
     pipe: L,
     door: &mut D,
     gate: &G,
-    out: &mut O,
-) -> ServerEnd<L>
+    out: &mut U,
+    observers: Vec<O>,
+) -> ServerEnd<L, O>
+    requires fresh { AllByRecursion (λ o. IsFresh (O.seen o)) observers.items }
     // The status.
     ensures statuses { (result.status ≡ status.done) ⊎ (result.status ≡ status.usage) ⊎ (result.status ≡ status.areas)
         ⊎ (result.status ≡ status.file) ⊎ (result.status ≡ status.door) ⊎ (result.status ≡ status.output)
@@ -87,17 +97,20 @@ pub fn server_main<
     ensures usage_words { command_of words.now ≡ None
         → (result.status ≡ status.usage) ⊎ (result.status ≡ status.memory) }
     ensures refused { result.status ≡ status.areas
-        → Refuses (command_of words.now) (F.shows files.old) (Printed (O.shows out.old) (O.shows out.new)) }
+        → Refuses (command_of words.now) (F.shows files.old) (Printed (U.shows out.old) (U.shows out.new)) }
     ensures file_failed { result.status ≡ status.file
         → FileFails (if is_some result.run then save_path (command_of words.now) else areas_path (command_of words.now))
-        (F.shows files.old) (F.shows files.new) (O.shows out.old) (O.shows out.new) }
+        (F.shows files.old) (F.shows files.new) (U.shows out.old) (U.shows out.new) }
     ensures door_failed { result.status ≡ status.door → DoorFails (command_of words.now)
-        (D.shows door.old) (D.shows door.new) (O.shows out.old) (O.shows out.new) }
-    ensures output_failed { result.status ≡ status.output → Rose (O.shows out.old).faults (O.shows out.new).faults }
+        (D.shows door.old) (D.shows door.new) (U.shows out.old) (U.shows out.new) }
+    ensures output_failed { result.status ≡ status.output → Rose (U.shows out.old).faults (U.shows out.new).faults }
 
     // Links were served, over the areas that the words name, or the link is handed back as it was.
     ensures served { IfSome result.run (λ run. Serves L.shows (command_of words.now) (F.shows files.old)
         (L.shows pipe) (D.shows door.old) (D.shows door.new) (run_told L.shows run)) }
+    // Each observer was told of each entry, once and in order, and of nothing else.
+    ensures told { IfSome result.run (λ run. seen_of O.seen run.book
+        ≡ map (λ o. told (O.seen o) (events_of (book_told run.book))) observers.items) }
     ensures unserved { result.pipe ≡ handed_back (command_of words.now) result.run pipe }
     ensures door_kept { KeepsDoor (command_of words.now) (D.shows door.old) (D.shows door.new) }
     ensures none_came { IsNone result.run → (D.shows door.new).coming ≡ (D.shows door.old).coming }
@@ -115,11 +128,13 @@ pub fn server_main<
 
     // What was printed.
     ensures done { result.status ≡ status.done → IfSome result.run (λ run.
-        Gains (O.shows out.old) (O.shows out.new) (report_text (run_told L.shows run))) }
+        Gains (U.shows out.old) (U.shows out.new)
+        (report_text (run_told L.shows run) (entry_asked (command_of words.now)))) }
     ensures broken_off { result.status ≡ status.output → IfSome result.run (λ run.
-        BreaksOff (O.shows out.old) (O.shows out.new) (report_text (run_told L.shows run))) }
-    ensures usage_line { result.status ≡ status.usage → Printed (O.shows out.old) (O.shows out.new) usage_line }
-    ensures memory_line { result.status ≡ status.memory → Printed (O.shows out.old) (O.shows out.new) memory_line }
+        BreaksOff (U.shows out.old) (U.shows out.new)
+        (report_text (run_told L.shows run) (entry_asked (command_of words.now)))) }
+    ensures usage_line { result.status ≡ status.usage → Printed (U.shows out.old) (U.shows out.new) usage_line }
+    ensures memory_line { result.status ≡ status.memory → Printed (U.shows out.old) (U.shows out.new) memory_line }
 {
     match read_server_words(alloc, words) {
         Ok(Some(command)) => {
@@ -127,7 +142,7 @@ pub fn server_main<
             match command {
                 ServerWords::Pipe { .. } => {
                     let CommandEnd { ended, run, pipe } = run_pipe(
-                        rt, alloc, asked, files, pipe, out,
+                        rt, alloc, asked, files, pipe, out, observers,
                     );
                     ServerEnd {
                         status: status_of(ended),
@@ -137,7 +152,7 @@ pub fn server_main<
                 }
                 ServerWords::Serve { port, links, .. } => {
                     let (ended, run) = run_serve(
-                        rt, alloc, asked, port, links, files, door, gate, out,
+                        rt, alloc, asked, port, links, files, door, gate, out, observers,
                     );
                     ServerEnd {
                         status: status_of(ended),
@@ -167,16 +182,23 @@ fn asked_of<'a>(command: ServerWords<'a>) -> Asked<'a>
             areas,
             save,
             journal,
-        }
-        | ServerWords::Serve {
+        } => Asked {
             areas,
             save,
             journal,
+            at: None,
+        },
+        ServerWords::Serve {
+            areas,
+            save,
+            journal,
+            at,
             ..
         } => Asked {
             areas,
             save,
             journal,
+            at,
         },
     }
 }
@@ -196,11 +218,16 @@ fn status_of(ended: Ended) -> u8
 
 // The end where the words name nothing to be served: one line is printed, and its failure changes
 // nothing.
-fn unserved<L: Link + Drop, O: Out>(status: u8, line: &[u8], pipe: L, out: &mut O) -> ServerEnd<L>
+fn unserved<L: Link + Drop, U: Out, O>(
+    status: u8,
+    line: &[u8],
+    pipe: L,
+    out: &mut U,
+) -> ServerEnd<L, O>
     ensures status { result.status ≡ status }
     ensures run { result.run ≡ None }
     ensures pipe { result.pipe ≡ Some pipe }
-    ensures line { Printed (O.shows out.old) (O.shows out.new) line.now }
+    ensures line { Printed (U.shows out.old) (U.shows out.new) line.now }
 {
     print_line(line, out);
     ServerEnd {

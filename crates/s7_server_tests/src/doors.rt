@@ -1,11 +1,12 @@
 // Links that come by a door.
 ghost use Rattle.s7_outer.specs.TcpDoor.{tcp_door_of};
 
-use crate::helpers::{ANSWER, BLOCK, CONFIRM, CONNECT, READ, ROOM, call, octets};
+use crate::helpers::{ANSWER, BLOCK, CONFIRM, CONNECT, READ, ROOM, a_door, host, octets};
 use s7_outer::{
-    Arrival, Dial, Dialled, Door, DoorFailed, Gate, Got, HoldGate, Link, MemoryDoor, MemoryFiles,
-    MemoryLink, MemoryOut, Octets, OpenGate, RealLink, Sent, TcpDial, TcpDoor,
+    Arrival, Dial, Dialled, Door, DoorFailed, Gate, Got, HoldGate, Link, MemoryFiles, MemoryLink,
+    MemoryOut, OpenGate, RealLink, Sent, TcpDial, TcpDoor,
 };
+use s7_plant::Tail;
 use s7_server::{ServerEnd, server_main};
 use std::alloc::Global;
 use std::process::Abort;
@@ -13,24 +14,6 @@ use std::sync::Wait;
 use std::test::Fail;
 use std::thread::Threads;
 use std::time::Clock;
-
-// A door of so many links, each of which connects, negotiates and reads twice.
-fn a_door(
-    alloc: Global,
-    count: usize,
-    fail_at: Option<usize>,
-) -> Result<MemoryDoor<MemoryLink>, Fail> {
-    let mut input = octets(alloc, CONNECT)?;
-    for _ in 0..2 {
-        input.extend_from_slice(octets(alloc, READ)?.as_slice())?;
-    }
-    let mut links = Vec::new(alloc);
-    for _ in 0..count {
-        let octets = Octets::copy_of(alloc, input.as_slice())?;
-        links.push(MemoryLink::new(alloc, octets, ROOM, ROOM, 0)?)?;
-    }
-    Ok(MemoryDoor::new(links, fail_at))
-}
 
 // Serves at most two links of a door over the data block.
 fn hosts<R: Threads + Wait + Clock + Sync + Abort, D: Door<MemoryLink>, G: Gate + Sync>(
@@ -40,20 +23,18 @@ fn hosts<R: Threads + Wait + Clock + Sync + Abort, D: Door<MemoryLink>, G: Gate 
     gate: &G,
     status: u8,
     text: &str,
-) -> Result<ServerEnd<MemoryLink>, Fail> {
-    let link = MemoryLink::new(alloc, Octets::of_vec(Vec::new(alloc)), ROOM, ROOM, 0)?;
+) -> Result<ServerEnd<MemoryLink, Tail>, Fail> {
     let mut out = MemoryOut::new(alloc, ROOM)?;
     let words = &["serve", BLOCK, "--links", "2"];
-    let end = server_main(
+    let end = host(
         rt,
         alloc,
         words,
         &mut MemoryFiles::new(),
-        link,
         door,
         gate,
         &mut out,
-    );
+    )?;
     assert_eq!(rt; end.status, status);
     assert!(rt; out.text() == text.as_bytes(), "{text}");
     assert!(rt; end.pipe.is_some());
@@ -151,6 +132,7 @@ fn links_come_over_tcp(rt: HostRuntime) -> Result<(), Fail> {
     let mut out = MemoryOut::new(alloc, ROOM)?;
     let words = &["serve", BLOCK, "--links", "1"];
     let pipe = RealLink::standard(alloc, rt.clone()?)?;
+    let observers: Vec<Tail> = Vec::new(alloc);
     let end = server_main(
         &rt,
         alloc,
@@ -160,6 +142,7 @@ fn links_come_over_tcp(rt: HostRuntime) -> Result<(), Fail> {
         &mut door,
         &OpenGate,
         &mut out,
+        observers,
     );
     assert_eq!(&rt; end.status, 0);
     assert!(&rt; out.text() == b"link 1 ended entries 1\njournal 1\n".as_slice());

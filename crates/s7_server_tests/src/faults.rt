@@ -1,6 +1,7 @@
 // Links and outputs that fail.
-use crate::helpers::{ANSWER, BLOCK, CONFIRM, CONNECT, READ, ROOM, call, octets, report};
-use s7_outer::{FailingLink, Fate, MemoryFiles, MemoryLink, MemoryOut, Octets};
+use crate::helpers::{ANSWER, BLOCK, CONFIRM, CONNECT, READ, ROOM, a_door, call, host, octets};
+use s7_outer::{FailingLink, Fate, MemoryFiles, MemoryLink, MemoryOut, Octets, OpenGate};
+use s7_plant::Tail;
 use s7_server::ServerEnd;
 use std::alloc::Global;
 use std::process::Abort;
@@ -16,7 +17,7 @@ fn served_with<R: Threads + Wait + Clock + Sync>(
     k: usize,
     fate: Fate,
     out: &mut MemoryOut,
-) -> Result<ServerEnd<FailingLink<MemoryLink>>, Fail> {
+) -> Result<ServerEnd<FailingLink<MemoryLink>, Tail>, Fail> {
     let mut input = octets(alloc, CONNECT)?;
     input.extend_from_slice(octets(alloc, READ)?.as_slice())?;
     let mut fates = Vec::new(alloc);
@@ -117,21 +118,44 @@ fn a_link_may_wait_at_each_call(rt: HostRuntime) -> Result<(), Fail> {
     Ok(())
 }
 
+// An output takes so many octets of the report, and fails where these aren't all. The run is left either way.
+fn is_cut<R: Threads + Wait + Clock + Sync + Abort>(
+    rt: &R,
+    alloc: Global,
+    words: &[&str],
+    report: &str,
+    entries: u64,
+    room: usize,
+) -> Result<(), Fail> {
+    let mut out = MemoryOut::new(alloc, room)?;
+    let end = host(
+        rt,
+        alloc,
+        words,
+        &mut MemoryFiles::new(),
+        &mut a_door(alloc, 2, None)?,
+        &OpenGate,
+        &mut out,
+    )?;
+    assert_eq!(rt; end.status, if room < report.len() { 5 } else { 0 });
+    let printed = report.as_bytes().get(..room.min(report.len()));
+    assert!(rt; printed == Some(out.text()), "{room}");
+    assert_eq!(rt; end.run.ok_or("no run")?.book.journal.len(), entries);
+    Ok(())
+}
+
 #[test]
 fn an_output_may_fail(rt: HostRuntime) -> Result<(), Fail> {
     let alloc = rt.alloc();
-    let link = MemoryLink::new(alloc, Octets::of_vec(Vec::new(alloc)), ROOM, ROOM, 0)?;
-    let mut out = MemoryOut::new(alloc, 10)?;
-    let end = call(
-        &rt,
-        alloc,
-        &["pipe", BLOCK],
-        &mut MemoryFiles::new(),
-        link,
-        &mut out,
-    );
-    assert_eq!(&rt; end.status, 5);
-    assert!(&rt; end.run.is_some());
-    assert!(&rt; out.text() == b"link 1 end".as_slice());
+    let pipe = &["pipe", BLOCK];
+    let report = "link 1 ended entries 0\njournal 0\n";
+    for room in [0, 10, 22, 23, 32, 33] {
+        is_cut(&rt, alloc, pipe, report, 0, room)?;
+    }
+    let serve = &["serve", BLOCK, "--links", "2"];
+    let report = "link 1 ended entries 2\nlink 2 ended entries 2\njournal 4\n";
+    for room in [0, 10, 23, 45, 46, 55, 56] {
+        is_cut(&rt, alloc, serve, report, 4, room)?;
+    }
     Ok(())
 }

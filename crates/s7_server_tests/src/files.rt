@@ -1,8 +1,9 @@
 // Area files that are read and saved.
 use crate::helpers::{
-    BLOCK, CONFIRM, CONNECT, ROOM, WRITE, WRITTEN, call, files_give, holds, octets, report,
+    BLOCK, CONFIRM, CONNECT, ROOM, WRITE, WRITTEN, a_door, call, files_give, holds, host, octets,
+    report,
 };
-use s7_outer::{MemoryFiles, MemoryLink, MemoryOut, Octets};
+use s7_outer::{MemoryFiles, MemoryLink, MemoryOut, Octets, OpenGate};
 use std::alloc::Global;
 use std::process::Abort;
 use std::sync::Wait;
@@ -104,6 +105,32 @@ fn the_areas_that_are_left_are_saved(rt: HostRuntime) -> Result<(), Fail> {
     Ok(())
 }
 
+// The links of a door are served over an area file, whose areas are to be saved, and this call of the files fails. The
+// line is cut where the output has less room.
+fn hosts_and_fails<R: Threads + Wait + Clock + Sync + Abort>(
+    rt: &R,
+    alloc: Global,
+    place: u64,
+    room: usize,
+    line: &str,
+) -> Result<(), Fail> {
+    let mut files = files_with(alloc, Vec::from_slice(alloc, AREA_FILE.as_bytes())?)?;
+    files.fail_at(place);
+    let mut out = MemoryOut::new(alloc, room)?;
+    let words = &["serve", "a.txt", "--links", "2", "--save", "b.txt"];
+    let mut door = a_door(alloc, 2, None)?;
+    let end = host(rt, alloc, words, &mut files, &mut door, &OpenGate, &mut out)?;
+    assert_eq!(rt; end.status, 3);
+    assert!(rt; out.text() == line.as_bytes(), "{line}");
+    assert!(rt; files.get("b.txt").is_none());
+    // Two links read twice each, where the areas were read.
+    assert_eq!(rt;
+        end.run.map(|run| run.book.journal.len()),
+        if place == 0 { None } else { Some(4) }
+    );
+    Ok(())
+}
+
 #[test]
 fn files_may_fail(rt: HostRuntime) -> Result<(), Fail> {
     let alloc = rt.alloc();
@@ -118,7 +145,11 @@ fn files_may_fail(rt: HostRuntime) -> Result<(), Fail> {
     assert!(&rt; !ran);
     let mut files = files_with(alloc, Vec::from_slice(alloc, AREA_FILE.as_bytes())?)?;
     files.fail_at(1);
-    saves(&rt, alloc, words, &mut files, 3, "file failed b.txt\n")
+    saves(&rt, alloc, words, &mut files, 3, "file failed b.txt\n")?;
+    assert!(&rt; files.get("b.txt").is_none());
+    hosts_and_fails(&rt, alloc, 0, ROOM, "file failed a.txt\n")?;
+    hosts_and_fails(&rt, alloc, 1, ROOM, "file failed b.txt\n")?;
+    hosts_and_fails(&rt, alloc, 1, 12, "file failed ")
 }
 
 #[test]

@@ -3,9 +3,10 @@ ghost use Rattle.std.specs.Prelude.{◌<◌};
 
 use s7_area::AreaKey;
 use s7_outer::{
-    Clock as LinkClock, Link, MemoryDoor, MemoryFiles, MemoryLink, MemoryOut, Octets, OpenGate,
+    Clock as LinkClock, Door, Gate, Link, MemoryDoor, MemoryFiles, MemoryLink, MemoryOut, Octets,
+    OpenGate,
 };
-use s7_plant::Book;
+use s7_plant::{Book, Tail};
 use s7_server::{ServerEnd, server_main};
 use std::alloc::Global;
 use std::process::Abort;
@@ -46,7 +47,7 @@ pub fn octets(alloc: Global, text: &str) -> Result<Vec<u8>, Fail> {
 }
 
 // Data block 1 of the book's plant holds these octets.
-pub fn holds(book: &Book, octets: &[u8]) -> bool {
+pub fn holds(book: &Book<Tail>, octets: &[u8]) -> bool {
     let key = AreaKey {
         area: 0x84,
         number: 1,
@@ -59,7 +60,7 @@ pub fn report(alloc: Global, outcome: &str, entries: &str) -> Result<String, Fai
     Ok(format!(in alloc; "link 1 {outcome} entries {entries}\njournal {entries}\n")?)
 }
 
-// Calls the server with a link, at a door without links and a gate that is open.
+// Calls the server with a link, at a door without links and a gate that is open. Nobody watches.
 pub fn call<R: Threads + Wait + Clock + Sync, L: Link + LinkClock + Send + Drop>(
     rt: &R,
     alloc: Global,
@@ -67,9 +68,61 @@ pub fn call<R: Threads + Wait + Clock + Sync, L: Link + LinkClock + Send + Drop>
     files: &mut MemoryFiles,
     link: L,
     out: &mut MemoryOut,
-) -> ServerEnd<L> {
+) -> ServerEnd<L, Tail> {
     let mut door = MemoryDoor::new(Vec::new(alloc), None);
-    server_main(rt, alloc, words, files, link, &mut door, &OpenGate, out)
+    server_main(
+        rt,
+        alloc,
+        words,
+        files,
+        link,
+        &mut door,
+        &OpenGate,
+        out,
+        Vec::new(alloc),
+    )
+}
+
+// Calls the server with a door and a gate, and a link that has ended. Nobody watches.
+pub fn host<R: Threads + Wait + Clock + Sync, D: Door<MemoryLink>, G: Gate + Sync>(
+    rt: &R,
+    alloc: Global,
+    words: &[&str],
+    files: &mut MemoryFiles,
+    door: &mut D,
+    gate: &G,
+    out: &mut MemoryOut,
+) -> Result<ServerEnd<MemoryLink, Tail>, Fail> {
+    let link = MemoryLink::new(alloc, Octets::of_vec(Vec::new(alloc)), ROOM, ROOM, 0)?;
+    Ok(server_main(
+        rt,
+        alloc,
+        words,
+        files,
+        link,
+        door,
+        gate,
+        out,
+        Vec::new(alloc),
+    ))
+}
+
+// A door of so many links, each of which connects, negotiates and reads twice.
+pub fn a_door(
+    alloc: Global,
+    count: usize,
+    fail_at: Option<usize>,
+) -> Result<MemoryDoor<MemoryLink>, Fail> {
+    let mut input = octets(alloc, CONNECT)?;
+    for _ in 0..2 {
+        input.extend_from_slice(octets(alloc, READ)?.as_slice())?;
+    }
+    let mut links = Vec::new(alloc);
+    for _ in 0..count {
+        let octets = Octets::copy_of(alloc, input.as_slice())?;
+        links.push(MemoryLink::new(alloc, octets, ROOM, ROOM, 0)?)?;
+    }
+    Ok(MemoryDoor::new(links, fail_at))
 }
 
 // Serves a link over the data block of a word with this input, which moves so many octets a call,
@@ -82,7 +135,7 @@ pub fn serves<R: Threads + Wait + Clock + Sync + Abort>(
     most: usize,
     written: &[u8],
     report: &str,
-) -> Result<Book, Fail>
+) -> Result<Book<Tail>, Fail>
     requires { 0 < most }
 {
     let link = MemoryLink::new(alloc, Octets::of_vec(input), most, ROOM, 0)?;
@@ -110,7 +163,7 @@ pub fn serves_line<R: Threads + Wait + Clock + Sync + Abort>(
     word: &str,
     line: &str,
     most: usize,
-) -> Result<Book, Fail>
+) -> Result<Book<Tail>, Fail>
     requires { 0 < most }
 {
     let mut fields = line.split('|');

@@ -9,6 +9,8 @@ mod faults;
 #[cfg(test)]
 mod files;
 #[cfg(test)]
+mod full;
+#[cfg(test)]
 mod helpers;
 #[cfg(test)]
 mod journal;
@@ -16,5 +18,7 @@ mod journal;
 mod links;
 #[cfg(test)]
 mod panel;
+#[cfg(test)]
+mod watched;
 #[cfg(test)]
 mod words;

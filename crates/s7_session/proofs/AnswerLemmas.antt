@@ -5,11 +5,7 @@ use Rattle.std.specs.Prelude.{Option, None, Some}
 use Rattle.s7_outer.specs.Count.{Rose}
 use Rattle.s7_outer.specs.Shown.{Shown}
 use Rattle.s7_plant.specs.declared.request.Ask.{Ask}
-use Rattle.s7_plant.specs.declared.request.Request.{Request}
-use Rattle.s7_plant.specs.declared.request.Request.TheVariants.{Read, Write, Szl, ClockRead, ClockSet, Start, Stop}
-use Rattle.s7_plant.specs.declared.request.Request.TheVariants.{Compress, CopyRam}
 use Rattle.s7_plant.specs.Replies.{Said}
-use Rattle.s7_plant.specs.Requests.{kept, kept_request, asked}
 use Rattle.s7_wire.specs.Sent.{sent_message, sent_messages}
 use Rattle.s7_session.specs.Answers.{Answers}
 use Rattle.s7_session.specs.declared.handled.Handled.{Handled}

@@ -1,35 +1,28 @@
 -- Laws of a link's own calls in a history.
-use Rattle.std.proofs.Common.{◌≡◌, ℕ, suc, ◌+◌, Bool, true, false, List, [], ◌∷◌, ◌++◌, length, refl, ap, sym, ◌∙◌}
+use Rattle.std.proofs.Common.{◌≡◌, ℕ, ◌+◌, Bool, true, false, List, [], ◌∷◌, ◌++◌, length, map, refl, ap, sym, ◌∙◌}
 use Rattle.std.proofs.Common.{arith}
 use Rattle.std.specs.Prelude.{◌==◌, if◌then◌else◌}
 use Rattle.std.proofs.lemmas.Bool.Decides.{nat_tests}
+use Rattle.std.proofs.lemmas.List.{append-nil}
 use Rattle.s7_turn.specs.Histories.{entry, replay}
-use Rattle.s7_plant.specs.declared.book.Book.{Book}
-use Rattle.s7_plant.specs.declared.journal.Entry.{Entry as JournalEntry}
 use Rattle.s7_plant.specs.declared.request.Ask.{Ask}
 use Rattle.s7_plant.specs.Answers.{answer_of, after}
+pub use Rattle.s7_plant.specs.BookLaws.{calls_more as calls-append, length_calls as length-calls}
+pub use Rattle.s7_plant.specs.BookLaws.{calls_lead as replay-calls}
+use Rattle.s7_plant.specs.BookLaws.{watch_none}
+use Rattle.s7_plant.specs.Books.{BookTold}
+use Rattle.s7_plant.specs.Events.{event_at}
 use Rattle.s7_plant.specs.Journals.{entries_of, entered, replay_entries, calls_of, after_call}
+use Rattle.s7_plant.specs.Observers.{Watch, watch_one}
 use Rattle.s7_plant.specs.Replies.{Said}
+use Rattle.s7_plant.specs.Requests.{kept}
 use Rattle.s7_plant.specs.State.{State, state_of}
+use Rattle.s7_plant.proofs.BookLemmas.{event_kept}
 use Rattle.s7_session.specs.Entry.{Entry}
-use Rattle.s7_session.specs.Books.{History, history_of, entry_at, own_from, own, GoesOnBy}
+use Rattle.s7_session.specs.Books.{History, history_of, entry_at, own_from, own, GoesOnBy, AreToldOn}
 
 is_same : (a b : ℕ) → a ≡ b → (a == b) ≡ true
 is_same a b e = grind (arith, nat_tests)
-
--- ---- journals as histories
-
-pub calls-append : (xs ys : List JournalEntry) → calls_of (xs ++ ys) ≡ calls_of xs ++ calls_of ys
-calls-append [] ys = refl
-calls-append (x ∷ xs) ys = ap (λ cs. entry x.link x.ask ∷ cs) (calls-append xs ys)
-
-pub length-calls : (xs : List JournalEntry) → length (calls_of xs) ≡ length xs
-length-calls [] = refl
-length-calls (x ∷ xs) = ap suc (length-calls xs)
-
-pub replay-calls : (s : State) (xs : List JournalEntry) → replay after_call s (calls_of xs) ≡ replay_entries s xs
-replay-calls s [] = refl
-replay-calls s (x ∷ xs) = replay-calls (after s x.ask) xs
 
 -- ---- one more call
 
@@ -52,7 +45,7 @@ own-append number s link (call ∷ history) ask =
     ∙ ap (λ k. own_from (number + 1) (after s call.request) link history ++ entry_at k (replay after_call (after s call.request) history) ask ∷ []) (omega arith))
 
 -- with the number and the reply that the book gave
-pub own_grows : (number : ℕ) (old new : Book) (link : ℕ) (ask : Ask) (said : Said)
+pub own_grows : (number : ℕ) (old new : BookTold) (link : ℕ) (ask : Ask) (said : Said)
     → number ≡ length old.journal.entries
     → new.journal ≡ entries_of (old.journal.entries ++ entered link ask ∷ []) old.journal.limit
     → said ≡ answer_of (replay_entries (state_of old.opening) old.journal.entries) ask
@@ -76,7 +69,7 @@ own_grows number old new link ask said n is reply same entries h =
     zero_plus n = omega arith
 
 -- a book goes on by one call of the link
-pub goes_on_by_one : (old new : Book) (link : ℕ) (ask : Ask) → new.opening ≡ old.opening
+pub goes_on_by_one : (old new : BookTold) (link : ℕ) (ask : Ask) → new.opening ≡ old.opening
     → new.journal ≡ entries_of (old.journal.entries ++ entered link ask ∷ []) old.journal.limit → GoesOnBy link old new
 goes_on_by_one old new link ask opening is = record {
   opening = opening;
@@ -86,16 +79,35 @@ goes_on_by_one old new link ask opening is = record {
   own = (refl, tt);
 }
 
+-- who watches it is told of the call
+pub told_on_by_one : (old new : BookTold) (link : ℕ) (ask : Ask) (ws ws' : List Watch)
+    → new.journal ≡ entries_of (old.journal.entries ++ entered link (kept ask) ∷ []) old.journal.limit
+    → ws' ≡ map (watch_one (event_at (state_of old.plant) (length old.journal.entries) (entry link ask))) ws
+    → AreToldOn old new ws ws'
+told_on_by_one old new link ask ws ws' is told =
+    let es = old.journal.entries in
+    let left : replay after_call (state_of old.opening) (calls_of es) ≡ state_of old.plant = replay-calls (state_of old.opening) es ∙ sym old.replayed in
+    record {
+      calls = entry link (kept ask) ∷ [];
+      history = ap (λ j. calls_of j.entries) is ∙ calls-append es (entered link (kept ask) ∷ []);
+      told = told
+          ∙ ap (λ e. map (watch_one e) ws) (sym (event_kept (state_of old.plant) (length es) link ask))
+          ∙ sym (λ i. map (watch_one (event_at (left i) (length-calls es i) (entry link (kept ask)))) ws);
+    }
+
 -- a book that is as it was
-pub goes_on_by_none : (old new : Book) (link : ℕ) → new ≡ old → GoesOnBy link old new
+pub goes_on_by_none : (old new : BookTold) (link : ℕ) → new ≡ old → GoesOnBy link old new
 goes_on_by_none old new link same = record {
   opening = ap (λ b. b.opening) same;
   limit = ap (λ b. b.journal.limit) same;
   calls = [];
-  history = ap history_of same ∙ sym_append (history_of old);
+  history = ap history_of same ∙ sym (append-nil (history_of old));
   own = tt;
 }
-  where
-    sym_append : (h : History) → h ≡ h ++ []
-    sym_append [] = refl
-    sym_append (c ∷ h) = ap (λ x. c ∷ x) (sym_append h)
+
+pub told_on_by_none : (old new : BookTold) (ws ws' : List Watch) → new ≡ old → ws' ≡ ws → AreToldOn old new ws ws'
+told_on_by_none old new ws ws' same told = record {
+  calls = [];
+  history = ap history_of same ∙ sym (append-nil (history_of old));
+  told = told ∙ sym (watch_none ws);
+}

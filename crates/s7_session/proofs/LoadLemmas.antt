@@ -10,7 +10,8 @@ use Rattle.s7_session.specs.Conversing.{held_as}
 use Rattle.s7_session.specs.Events.{settled, by_judgement}
 use Rattle.s7_session.specs.Judgement.{asked_next, piece_came, upload_sliced, slice_answer}
 use Rattle.s7_session.specs.LinkState.{LinkState, ServerJob}
-use Rattle.s7_session.specs.Transfers.{server_job_octets, piece_left, with_next_piece, image_room, finished}
+use Rattle.s7_session.specs.Transfers.{server_job_octets, piece_left, with_next_piece, finished}
+use Rattle.s7_block.specs.Slices.{image_room}
 use Rattle.s7_session.specs.Verdict.{Verdict}
 
 -- two messages go out, where nothing was to be sent before

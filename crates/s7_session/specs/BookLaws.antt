@@ -1,10 +1,18 @@
 -- Books go on by calls of one link, one after another.
-use Rattle.std.proofs.Common.{◌≡◌, ℕ, [], ◌∷◌, ◌++◌, refl, ap, sym, ◌∙◌, subst}
+use Rattle.std.proofs.Common.{◌≡◌, ℕ, List, [], ◌∷◌, ◌++◌, length, map, refl, ap, sym, ◌∙◌, subst, length-append}
 use Rattle.std.proofs.lemmas.List.{append-nil, append_assoc}
-use Rattle.s7_plant.specs.declared.book.Book.{Book}
-use Rattle.s7_session.specs.Books.{History, history_of, AreOf, GoesOnBy}
+use Rattle.std.proofs.lemmas.List.Sums.{fold-append}
+use Rattle.s7_turn.specs.Histories.{replay}
+use Rattle.s7_plant.specs.declared.event.Event.{Event}
+use Rattle.s7_plant.specs.BookLaws.{events_more, watch_more, watch_none}
+use Rattle.s7_plant.specs.Books.{BookTold}
+use Rattle.s7_plant.specs.Events.{events_from}
+use Rattle.s7_plant.specs.Journals.{after_call}
+use Rattle.s7_plant.specs.Observers.{Watch, watch_all}
+use Rattle.s7_plant.specs.State.{State, state_of}
+use Rattle.s7_session.specs.Books.{History, history_of, AreOf, GoesOnBy, AreToldOn}
 
-pub goes_on_same : (link : ℕ) (b : Book) → GoesOnBy link b b
+pub goes_on_same : (link : ℕ) (b : BookTold) → GoesOnBy link b b
 goes_on_same link b =
     record { opening = refl; limit = refl; calls = []; history = sym (append-nil (history_of b)); own = tt }
 
@@ -12,7 +20,7 @@ are_both : (link : ℕ) (xs ys : History) → AreOf link xs → AreOf link ys �
 are_both link [] ys xs_are ys_are = ys_are
 are_both link (x ∷ xs) ys xs_are ys_are = (xs_are.0, are_both link xs ys xs_are.1 ys_are)
 
-pub goes_on_both : (link other : ℕ) (a b c : Book) → other ≡ link → GoesOnBy link a b → GoesOnBy other b c
+pub goes_on_both : (link other : ℕ) (a b c : BookTold) → other ≡ link → GoesOnBy link a b → GoesOnBy other b c
     → GoesOnBy link a c
 goes_on_both link other a b c same p q = record {
   opening = q.opening ∙ p.opening;
@@ -21,3 +29,36 @@ goes_on_both link other a b c same p q = record {
   history = q.history ∙ ap (λ es. es ++ q.calls) p.history ∙ append_assoc (history_of a) p.calls q.calls;
   own = are_both link p.calls q.calls p.own (subst (λ n. AreOf n q.calls) same q.own);
 }
+
+-- ---- who watches
+
+-- the events of calls that come to a history that began at a state
+abbrev events_on : State → History → History → List Event
+events_on s history calls = events_from (replay after_call s history) (length history) calls
+
+pub told_on_same : (b : BookTold) (ws : List Watch) → AreToldOn b b ws ws
+told_on_same b ws = record { calls = []; history = sym (append-nil (history_of b)); told = sym (watch_none ws) }
+
+-- those of more calls are those of the first, and those of the others
+events_on_more : (s : State) (history xs ys : History)
+    → events_on s history xs ++ events_on s (history ++ xs) ys ≡ events_on s history (xs ++ ys)
+events_on_more s history xs ys =
+    let left = replay after_call s history in
+    (λ i. events_on s history xs
+    ++ events_from (fold-append after_call s history xs i) (length-append history xs i) ys)
+    ∙ sym (events_more left (length history) xs ys)
+
+pub told_on_both : (a b c : BookTold) (ws ws' ws'' : List Watch) → b.opening ≡ a.opening → AreToldOn a b ws ws'
+    → AreToldOn b c ws' ws'' → AreToldOn a c ws ws''
+told_on_both a b c ws ws' ws'' opening p q =
+    let s = state_of a.opening in
+    let first = events_on s (history_of a) p.calls in
+    let then_on = events_on s (history_of a ++ p.calls) q.calls in
+    record {
+      calls = p.calls ++ q.calls;
+      history = q.history ∙ ap (λ es. es ++ q.calls) p.history ∙ append_assoc (history_of a) p.calls q.calls;
+      told = q.told
+          ∙ (λ i. map (watch_all (events_on (state_of (opening i)) (p.history i) q.calls)) (p.told i))
+          ∙ watch_more first then_on ws
+          ∙ ap (λ es. map (watch_all es) ws) (events_on_more s (history_of a) p.calls q.calls);
+    }

@@ -1,12 +1,15 @@
 -- What a link has of a history: its own calls among those of all links.
-use Rattle.std.specs.Prelude.{◌≡◌, ℕ, ◌+◌, ◌==◌, List, [], ◌∷◌, ◌++◌, if◌then◌else◌}
+use Rattle.std.specs.Prelude.{◌≡◌, ℕ, ◌+◌, ◌==◌, List, [], ◌∷◌, ◌++◌, length, map, if◌then◌else◌}
 use Rattle.std.specs.List.{AllByRecursion}
 use Rattle.s7_turn.specs.declared.view.Entry.{Entry as Call}
-use Rattle.s7_plant.specs.declared.book.Book.{Book}
+use Rattle.s7_turn.specs.Histories.{replay}
 use Rattle.s7_plant.specs.declared.request.Ask.{Ask}
 use Rattle.s7_plant.specs.Answers.{answer_of, after}
-use Rattle.s7_plant.specs.Journals.{calls_of}
-use Rattle.s7_plant.specs.State.{State}
+use Rattle.s7_plant.specs.Books.{BookTold}
+use Rattle.s7_plant.specs.Events.{events_from}
+use Rattle.s7_plant.specs.Journals.{after_call, calls_of}
+use Rattle.s7_plant.specs.Observers.{Watch, watch_all}
+use Rattle.s7_plant.specs.State.{State, state_of}
 use Rattle.s7_session.specs.Entry.{Entry}
 
 -- what links asked one after another, in the order in which it was carried out; a caller is the number of a link
@@ -14,7 +17,7 @@ abbrev pub History : Type 0
 History = List (Call Ask)
 
 -- that of a book
-abbrev pub history_of : Book → History
+abbrev pub history_of : BookTold → History
 history_of book = calls_of book.journal.entries
 
 -- an entry of this number, with the answer that this state gives
@@ -40,9 +43,17 @@ AreOf link history = AllByRecursion (λ (call : Call Ask). call.caller ≡ link)
 
 -- A book goes on by calls of one link: it begins where it began, has the room that it had, and nothing that was entered
 -- is lost.
-pub record GoesOnBy (link : ℕ) (old new : Book) : Type 0 where
+pub record GoesOnBy (link : ℕ) (old new : BookTold) : Type 0 where
   pub opening : new.opening ≡ old.opening
   pub limit : new.journal.limit ≡ old.journal.limit
   pub calls : History
   pub history : history_of new ≡ history_of old ++ calls
   pub own : AreOf link calls
+
+-- While the book went on, each of its observers was told of the events of the calls that were entered, in order and
+-- each once, and of nothing else.
+pub record AreToldOn (old new : BookTold) (ws ws' : List Watch) : Type 0 where
+  pub calls : History
+  pub history : history_of new ≡ history_of old ++ calls
+  pub told : ws' ≡ map (watch_all (events_from (replay after_call (state_of old.opening) (history_of old))
+      (length (history_of old)) calls)) ws

@@ -47,7 +47,8 @@ use Rattle.s7_session.specs.LinkState.{LinkState, Sliced, ServerJob, Download, n
 use Rattle.s7_session.specs.Passwords.{decoded, is_password, no_data, set_error, clear_error}
 use Rattle.s7_session.specs.Transfers.{Announced, announce_function, piece_function, close_function, start_function}
 use Rattle.s7_session.specs.Transfers.{slice_function, end_function, upload_asked, download_announced, id_in}
-use Rattle.s7_session.specs.Transfers.{image_data, image_room, more_octet, piece_in, with_upload, with_id}
+use Rattle.s7_session.specs.Transfers.{image_data, more_octet, piece_in, with_upload, with_id}
+use Rattle.s7_block.specs.Slices.{image_room}
 use Rattle.s7_session.specs.Transfers.{server_job_octets, with_server_job, without_download, piece_left, finished}
 use Rattle.s7_session.specs.declared.judge.Refusal.{Refusal}
 use Rattle.s7_session.specs.declared.judge.Refusal.TheVariants.{UnknownFunction, NotNegotiated, Unreadable, OverPdu}

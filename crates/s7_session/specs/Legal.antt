@@ -3,8 +3,8 @@ use Rattle.std.specs.Prelude.{◌≡◌, ◌⊎◌, ℕ, ◌+◌, List, [], ◌�
 use Rattle.std.specs.List.{AllByRecursion}
 use Rattle.s7_turn.specs.declared.view.Entry.{Entry as Call}
 use Rattle.s7_turn.specs.Histories.{replay}
-use Rattle.s7_plant.specs.declared.book.Book.{Book}
 use Rattle.s7_plant.specs.declared.request.Ask.{Ask}
+use Rattle.s7_plant.specs.Books.{BookTold}
 use Rattle.s7_plant.specs.Journals.{after_call}
 use Rattle.s7_plant.specs.State.{State, state_of}
 use Rattle.s7_session.specs.Books.{History, history_of, own}
@@ -56,7 +56,7 @@ sum_of (link ∷ links) = link.1 + sum_of links
 
 -- The book opened with this state and this room. Each call is of a link that was served, whose numbers are different,
 -- the counts of these add up to the whole history, and what is left is what the history leads to.
-pub record IsLegalBook (opening : State) (limit : ℕ) (links : Links) (book : Book) : Type 0 where
+pub record IsLegalBook (opening : State) (limit : ℕ) (links : Links) (book : BookTold) : Type 0 where
   pub opened : state_of book.opening ≡ opening
   pub limited : book.journal.limit ≡ limit
   pub only : AllByRecursion (λ (call : Call Ask). IsServedBy links call.caller) (history_of book)

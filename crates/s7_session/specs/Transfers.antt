@@ -1,15 +1,14 @@
 -- What the telegrams of uploads and downloads say (after Snap7 1.4 sources, s7_types.h, `TReqFunStartUploadParams`),
 -- and what they leave of a link. The layouts are this profile's own.
-use Rattle.std.specs.Prelude.{ℕ, ◌-◌, ◌==◌, ◌&&◌, nat_le, is_some, Bool, if◌then◌else◌, Option, None, Some}
+use Rattle.std.specs.Prelude.{ℕ, ◌-◌, ◌==◌, ◌&&◌, nat_le, is_some, if◌then◌else◌, Option, None, Some}
 use Rattle.std.specs.Prelude.{List, [], ◌∷◌, ◌++◌, length, take, drop, slice_index}
 use Rattle.std.specs.Str.{bytes_eq}
-use Rattle.s7_outer.specs.Numbers.{two_octets}
 use Rattle.s7_header.specs.declared.header.Kind.TheVariants.{Job}
 use Rattle.s7_header.specs.Header.{spelling_of}
 use Rattle.s7_block.specs.declared.block.BlockName.{BlockName}
 use Rattle.s7_block.specs.Assembly.{Progress, idle, awaiting, whole, whole_image, with_piece}
 use Rattle.s7_block.specs.Names.{name_octets, named, number_in}
-use Rattle.s7_block.specs.Slices.{Piece}
+use Rattle.s7_block.specs.Slices.{image_room, Piece}
 use Rattle.s7_block.specs.Sides.{is_named}
 pub use Rattle.s7_block.specs.Telegrams.{announce_function, piece_function, close_function, start_function}
 pub use Rattle.s7_block.specs.Telegrams.{slice_function, end_function, name_front, id_front, more_octet}
@@ -56,10 +55,6 @@ id_in function params =
     if length params == 8
     && bytes_eq (take 7 params) (id_front function)
     then Some (slice_index params 7) else None
-
--- how many octets of an image go in one telegram: header, parameters and the head of the data take 18 of the PDU
-abbrev pub image_room : ℕ → ℕ
-image_room pdu = pdu - 18
 
 -- The piece of an image that the client sends: its parameters say whether others follow.
 abbrev pub piece_in : ℕ → List ℕ → List ℕ → Option Piece

@@ -10,7 +10,8 @@ ghost use Rattle.s7_plant.specs.Replies.{said_of};
 ghost use Rattle.s7_session.specs.Judgement.{answer_octets, refusal_octets, reply_octets};
 ghost use Rattle.s7_session.specs.Judgement.{user_octets, user_data, slice_octets, slice_answer};
 ghost use Rattle.s7_session.specs.ServerJobs.{function_of};
-ghost use Rattle.s7_session.specs.Transfers.{server_job_octets, image_room};
+ghost use Rattle.s7_session.specs.Transfers.{server_job_octets};
+ghost use Rattle.s7_block.specs.Slices.{image_room};
 ghost use Rattle.s7_wire.specs.Bounds.{most_packets, most_waiting};
 ghost use Rattle.s7_wire.specs.Sent.{sent_message};
 

@@ -4,7 +4,7 @@ use crate::talks::{
 };
 use s7_block::Blocks;
 use s7_outer::{FailingLink, MemoryLink};
-use s7_plant::Book;
+use s7_plant::{Book, Tail};
 use s7_session::{BookDoer, Outcome, Session, Turn};
 use std::alloc::Global;
 use std::sync::Wait;
@@ -286,9 +286,9 @@ const BOOKED: Talk<'static> = Talk {
 };
 
 /// A book of the talk's data block with room for one entry.
-fn a_book(alloc: Global, talk: &Talk<'_>) -> Result<Book, Fail> {
+fn a_book(alloc: Global, talk: &Talk<'_>) -> Result<Book<Tail>, Fail> {
     let areas = block(alloc, octets(alloc, talk, "block")?)?;
-    Ok(Book::new(alloc, areas, Blocks::new(alloc, 1_024)?, 1)?)
+    Ok(Book::new(alloc, areas, Blocks::new(alloc, 1_024)?, 1, Vec::new(alloc))?)
 }
 
 /// Serves a link to its end on the book, under the number 7.
@@ -297,14 +297,14 @@ fn serve_book<R: Wait + Clock>(
     alloc: Global,
     session: &mut Session,
     line: &mut FailingLink<MemoryLink>,
-    book: &mut Book,
+    book: &mut Book<Tail>,
 ) -> Outcome {
     let mut doer = BookDoer { book, link: 7 };
     serve(rt, alloc, session, line, &mut doer)
 }
 
 /// The book has one entry, of link 7.
-fn has_one_entry(book: &Book) -> bool {
+fn has_one_entry(book: &Book<Tail>) -> bool {
     for entry in book.journal.as_slice() {
         if entry.link != 7 {
             return false;

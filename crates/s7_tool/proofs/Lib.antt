@@ -7,3 +7,4 @@ pub mod RanLemmas
 pub mod PartnerLemmas
 pub mod RunLemmas
 pub mod TextLemmas
+pub mod ToldLemmas

@@ -1,5 +1,5 @@
 -- How partners ended, by what ran.
-use Rattle.std.proofs.Common.{◌≡◌, ◌∙◌, inl, inr, ℕ, ◌≤◌, Bool, List, [], refl, sym, ap, subst, map, length, None, Some, Option}
+use Rattle.std.proofs.Common.{◌≡◌, ◌∙◌, inr, ℕ, Bool, List, [], refl, sym, ap, subst, None, Some, Option}
 use Rattle.s7_outer.specs.Count.{Rose}
 use Rattle.s7_outer.specs.Dial.{GivesTold}
 use Rattle.s7_outer.specs.DialShown.{DialShown}
@@ -23,7 +23,7 @@ use Rattle.s7_tool.specs.declared.ended.RunEnd.{RunEnd}
 use Rattle.s7_tool.specs.Loading.{KeepsPaths, PathFails, ReadsSends, RefusesSends}
 use Rattle.s7_tool.specs.Partners.{AloneEnds, BothEnd, ComesTo, EndsBy, FailsOne, PairTells, PartnerEnds, PartnersLack}
 use Rattle.s7_tool.specs.Partners.{RanPair, RanPartners, RefusesOne, TalkedOver, TalksAs, TalksDialled, partner_config}
-use Rattle.s7_tool.specs.Report.{Printed, PrintsText, memory_line}
+use Rattle.s7_tool.specs.Report.{Printed, PrintsText}
 use Rattle.s7_tool.proofs.FileLemmas.{reads_before, refused_text_before, fails_before}
 
 -- ---- two partners

@@ -4,12 +4,13 @@ use Rattle.std.proofs.Common.{[], ◌∷◌, ◌++◌, map, Option, Some, None, 
 use Rattle.std.specs.Io.KnownBytes.{append_known}
 use Rattle.s7_outer.specs.OutShown.{OutShown}
 use Rattle.s7_outer.specs.Shown.{Shown}
-use Rattle.s7_outer.specs.Out.{AppendsPrefix}
 use Rattle.s7_dialogue.specs.declared.config.Config.{Config}
 use Rattle.s7_dialogue.specs.declared.job.Job.{Job}
 use Rattle.s7_dialogue.specs.declared.job.Job.TheVariants as job
 use Rattle.s7_dialogue.specs.declared.job.JobResult.{JobResult}
-use Rattle.s7_client.specs.Runs.{Between, JobRun, fresh}
+use Rattle.s7_client.specs.declared.connection.Connection.{Connection}
+use Rattle.s7_client.specs.Polling.{config_of}
+use Rattle.s7_client.specs.Runs.{Between, JobRun, between_of, fresh}
 use Rattle.s7_script.specs.Printing.{print}
 use Rattle.s7_script.specs.declared.script_list.ScriptLine.{ScriptLine}
 use Rattle.s7_tool.specs.declared.ended.Ended.{Ended}
@@ -105,15 +106,18 @@ does_both c ls ms p q r h k = record {
 
 -- ---- runs that ended early
 
+abbrev Prints : Type 1
+Prints = OutShown → OutShown → List ℕ → Type 0
+
 -- before a job
-pub early_before : (c : Config) (ls : List ScriptLine) (p q : Place) → q ≡ p → EndsEarly c ls p q
-early_before c ls p q same =
+pub early_before : (w : Prints) (c : Config) (ls : List ScriptLine) (p q : Place) → q ≡ p → EndsEarly w c ls p q
+early_before w c ls p q same =
     record { front = []; rest = ls; broken = p; split = refl; done = does_none c p; stop = inl same }
 
 -- after it
-pub early_at : (c : Config) (next : ScriptLine) (p q : Place) (d : DoesJob c next.job p q)
-    → AppendsPrefix p.out.text q.out.text (print next.line d.told) → EndsEarly c (next ∷ []) p q
-early_at c next p q d t = record {
+pub early_at : (w : Prints) (c : Config) (next : ScriptLine) (p q : Place) (d : DoesJob c next.job p q)
+    → w p.out q.out (print next.line d.told) → EndsEarly w c (next ∷ []) p q
+early_at w c next p q d t = record {
   front = [];
   rest = next ∷ [];
   broken = p;
@@ -122,9 +126,10 @@ early_at c next p q d t = record {
   stop = inr (record { does = d; text = t });
 }
 
-pub early_after : (c : Config) (ls ms : List ScriptLine) (p q r : Place) → DoesLines c ls p q → EndsEarly c ms q r
-    → EndsEarly c (ls ++ ms) p r
-early_after c ls ms p q r h k = record {
+pub early_after : (w : Prints) (c : Config) (ls ms : List ScriptLine) (p q r : Place) → DoesLines c ls p q
+    → EndsEarly w c ms q r
+    → EndsEarly w c (ls ++ ms) p r
+early_after w c ls ms p q r h k = record {
   front = ls ++ k.front;
   rest = k.rest;
   broken = k.broken;
@@ -133,30 +138,31 @@ early_after c ls ms p q r h k = record {
   stop = k.stop;
 }
 
-first_of : (c : Config) (ls ms : List ScriptLine) (p q : Place) → DoesFirst c ls p q → DoesFirst c (ls ++ ms) p q
-first_of c [] ms p q h = absurd h
-first_of c (x ∷ ls) ms p q h = h
+first_of : (w : Prints) (c : Config) (ls ms : List ScriptLine) (p q : Place) → DoesFirst w c ls p q
+    → DoesFirst w c (ls ++ ms) p q
+first_of w c [] ms p q h = absurd h
+first_of w c (x ∷ ls) ms p q h = h
 
-stop_of : (c : Config) (ls ms : List ScriptLine) (p q : Place) → (q ≡ p) ⊎ DoesFirst c ls p q
-    → (q ≡ p) ⊎ DoesFirst c (ls ++ ms) p q
-stop_of c ls ms p q (inl same) = inl same
-stop_of c ls ms p q (inr does) = inr (first_of c ls ms p q does)
+stop_of : (w : Prints) (c : Config) (ls ms : List ScriptLine) (p q : Place) → (q ≡ p) ⊎ DoesFirst w c ls p q
+    → (q ≡ p) ⊎ DoesFirst w c (ls ++ ms) p q
+stop_of w c ls ms p q (inl same) = inl same
+stop_of w c ls ms p q (inr does) = inr (first_of w c ls ms p q does)
 
-pub early_within : (c : Config) (ls ms : List ScriptLine) (p q : Place) → EndsEarly c ls p q
-    → EndsEarly c (ls ++ ms) p q
-early_within c ls ms p q h = record {
+pub early_within : (w : Prints) (c : Config) (ls ms : List ScriptLine) (p q : Place) → EndsEarly w c ls p q
+    → EndsEarly w c (ls ++ ms) p q
+early_within w c ls ms p q h = record {
   front = h.front;
   rest = h.rest ++ ms;
   broken = h.broken;
   split = ap (λ x. x ++ ms) h.split ∙ append_assoc h.front h.rest ms;
   done = h.done;
-  stop = stop_of c h.rest ms h.broken q h.stop;
+  stop = stop_of w c h.rest ms h.broken q h.stop;
 }
 
 -- all lines were done, and nothing more
-pub early_behind : (c : Config) (ls : List ScriptLine) (p q r : Place) → DoesLines c ls p q → r ≡ q
-    → EndsEarly c ls p r
-early_behind c ls p q r h same =
+pub early_behind : (w : Prints) (c : Config) (ls : List ScriptLine) (p q r : Place) → DoesLines c ls p q → r ≡ q
+    → EndsEarly w c ls p r
+early_behind w c ls p q r h same =
     record { front = ls; rest = []; broken = q; split = sym (append-nil ls); done = h; stop = inl same }
 
 -- ---- whole runs
@@ -180,13 +186,8 @@ pub on_ok : {A E P Q : Type 0} (r : Result A E) → OnOk r P → (P → Q) → O
 on_ok (Ok x) p f = f p
 on_ok (Err e) p f = tt
 
-pub on_err : {A E P Q : Type 0} (r : Result A E) → OnErr r P → (P → Q) → OnErr r Q
-on_err (Ok x) p f = tt
-on_err (Err e) p f = f p
-
-pub any_err : {A E P : Type 0} (r : Result A E) → P → OnErr r P
-any_err (Ok x) p = tt
-any_err (Err e) p = p
+pub this_err : {A E : Type 0} (P : Type 0) (r : Result A E) (e : E) → r ≡ Err e → OnErr r P → P
+this_err P r e is p = subst (λ x. OnErr x P) is p
 
 abbrev at : Shown → Between → List JobResult → OutShown → Place
 at l b rs o = record { link = l; between = b; results = rs; out = o }
@@ -200,16 +201,18 @@ pub does_next : (c c1 : Config) (ys : List ScriptLine) (x : ScriptLine) (p q r :
     → DoesLines c1 (x ∷ []) q r → DoesLines c (ys ++ x ∷ []) p r
 does_next c c1 ys x p q r e h k = does_both c ys (x ∷ []) p q r h (subst (λ d. DoesLines d (x ∷ []) q r) e k)
 
-pub early_inside : (c c1 : Config) (ys rest all : List ScriptLine) (x : ScriptLine) (p q r : Place) → c1 ≡ c
-    → ys ++ x ∷ rest ≡ all → DoesLines c ys p q → EndsEarly c1 (x ∷ []) q r → EndsEarly c all p r
-early_inside c c1 ys rest all x p q r e is h k =
-    subst (λ ls. EndsEarly c ls p r) is
-    (early_after c ys (x ∷ rest) p q r h (early_within c (x ∷ []) rest q r (subst (λ d. EndsEarly d (x ∷ []) q r) e k)))
+pub early_inside : (w : Prints) (c c1 : Config) (ys rest all : List ScriptLine) (x : ScriptLine) (p q r : Place)
+    → c1 ≡ c
+    → ys ++ x ∷ rest ≡ all → DoesLines c ys p q → EndsEarly w c1 (x ∷ []) q r → EndsEarly w c all p r
+early_inside w c c1 ys rest all x p q r e is h k =
+    subst (λ ls. EndsEarly w c ls p r) is
+    (early_after w c ys (x ∷ rest) p q r h
+    (early_within w c (x ∷ []) rest q r (subst (λ d. EndsEarly w d (x ∷ []) q r) e k)))
 
-pub early_in_lines : (c c1 : Config) (ls : List ScriptLine) (p q r : Place) → c1 ≡ c
-    → DoesLines c (connect_line ∷ []) p q → EndsEarly c1 ls q r → EndsEarly c (connect_line ∷ ls) p r
-early_in_lines c c1 ls p q r e h k =
-    early_after c (connect_line ∷ []) ls p q r h (subst (λ d. EndsEarly d ls q r) e k)
+pub early_in_lines : (w : Prints) (c c1 : Config) (ls : List ScriptLine) (p q r : Place) → c1 ≡ c
+    → DoesLines c (connect_line ∷ []) p q → EndsEarly w c1 ls q r → EndsEarly w c (connect_line ∷ ls) p r
+early_in_lines w c c1 ls p q r e h k =
+    early_after w c (connect_line ∷ []) ls p q r h (subst (λ d. EndsEarly w d ls q r) e k)
 
 lines_done : (c c1 : Config) (ls : List ScriptLine) (p q r : Place) → c1 ≡ c → DoesLines c (connect_line ∷ []) p q
     → DoesLines c1 ls q r → DoesLines c (connect_line ∷ ls) p r
@@ -217,9 +220,10 @@ lines_done c c1 ls p q r e h k =
     does_both c (connect_line ∷ []) ls p q r h (subst (λ d. DoesLines d ls q r) e k)
 
 -- there was no disconnect
-pub left_open : (c c1 : Config) (ls : List ScriptLine) (p q r s : Place) → c1 ≡ c
-    → DoesLines c (connect_line ∷ []) p q → DoesLines c1 ls q r → s ≡ r → EndsEarly c (connect_line ∷ ls) p s
-left_open c c1 ls p q r s e h k same = early_behind c (connect_line ∷ ls) p r s (lines_done c c1 ls p q r e h k) same
+pub left_open : (w : Prints) (c c1 : Config) (ls : List ScriptLine) (p q r s : Place) → c1 ≡ c
+    → DoesLines c (connect_line ∷ []) p q → DoesLines c1 ls q r → s ≡ r → EndsEarly w c (connect_line ∷ ls) p s
+left_open w c c1 ls p q r s e h k same =
+    early_behind w c (connect_line ∷ ls) p r s (lines_done c c1 ls p q r e h k) same
 
 pub all_done : (c c1 c2 : Config) (ls : List ScriptLine) (p q r s : Place) → c1 ≡ c → c2 ≡ c
     → DoesLines c (connect_line ∷ []) p q → DoesLines c1 ls q r → DoesJob c2 job.Disconnect r s → s.out ≡ r.out
@@ -234,3 +238,11 @@ pub from_first : (c : Config) (ls : List ScriptLine) (q : Place) (how : Ended) (
     → Goes c ls (first_place l o) q how
 from_first c ls q how l b rs o e f h =
     subst (λ x. Goes c ls (at l fresh x o) q how) f (subst (λ x. Goes c ls (at l x rs o) q how) e h)
+
+-- the same where the client was given a completion first
+pub from_lent : (k k' : Connection) (ls : List ScriptLine) (q : Place) (how : Ended) (l : Shown) (rs : List JobResult)
+    (o : OutShown) → k' ≡ k → between_of k ≡ fresh → rs ≡ [] → Goes (config_of k') ls (at l (between_of k') rs o) q how
+    → Goes (config_of k) ls (first_place l o) q how
+from_lent k k' ls q how l rs o same e f h =
+    from_first (config_of k) ls q how l (between_of k) rs o e f
+    (subst (λ x. Goes (config_of x) ls (at l (between_of x) rs o) q how) same h)

@@ -1,12 +1,15 @@
 -- How it ended, by the command that the words name, and what was left.
-use Rattle.std.specs.Prelude.{ℕ, List, Option, Some, None, IsNone, IsSomeAnd}
+use Rattle.std.specs.Prelude.{ℕ, List, [], Option, Some, None, IsNone, IsSomeAnd}
 use Rattle.s7_outer.specs.DialShown.{DialShown}
 use Rattle.s7_outer.specs.FilesShown.{FilesShown}
 use Rattle.s7_outer.specs.OutShown.{OutShown}
 use Rattle.s7_outer.specs.Shown.{Shown}
-use Rattle.s7_rig.specs.Shown.{end_told}
+use Rattle.s7_dialogue.specs.declared.job.JobResult.{JobResult}
+use Rattle.s7_rig.specs.declared.end.RigEnd.{RigEnd}
+use Rattle.s7_rig.specs.Shown.{end_told, first_results}
 use Rattle.s7_words.specs.Tool.{ToolTold, gen, partner, rig, run}
 use Rattle.s7_tool.specs.declared.ended.Ended.{Ended}
+use Rattle.s7_tool.specs.declared.ended.RunEnd.{RunEnd}
 use Rattle.s7_tool.specs.declared.ended.ToolEnd.{ToolEnd}
 use Rattle.s7_tool.specs.Gen.{RanGen}
 use Rattle.s7_tool.specs.Loading.{PathFails, RefusesScript}
@@ -19,8 +22,8 @@ use Rattle.s7_tool.specs.Rigging.{FailsOneFile, RanRig, RefusesFile}
 
 -- A COMMAND WAS CARRIED OUT, as far as it says how it ended: `run` ran its script, `rig` and `gen` their rig, and
 -- `partner` its partners
-abbrev pub CarriesOut : {L : Type 0} → (L → Shown) → Option ToolTold → FilesShown → DialShown L → OutShown → OutShown
-    → ToolEnd L → Ended → Type 0
+abbrev pub CarriesOut : {L C : Type 0} → (L → Shown) → Option ToolTold → FilesShown → DialShown L → OutShown → OutShown
+    → ToolEnd L C → Ended → Type 0
 CarriesOut shows None files dial out out' end how = ⊥
 CarriesOut shows (Some (run told)) files dial out out' end how =
     IsSomeAnd end.run (λ r. RanScript shows told files dial out out' r how)
@@ -32,8 +35,8 @@ CarriesOut shows (Some (partner told)) files dial out out' end how =
     RanPartners shows told told.other files dial out out' end.run how
 
 -- MEMORY WAS WANTING, and the line for this was printed, behind what `run` printed of a run that ended early
-abbrev pub LacksMemory : {L : Type 0} → (L → Shown) → Option ToolTold → FilesShown → DialShown L → OutShown → OutShown
-    → ToolEnd L → Type 0
+abbrev pub LacksMemory : {L C : Type 0} → (L → Shown) → Option ToolTold → FilesShown → DialShown L → OutShown → OutShown
+    → ToolEnd L C → Type 0
 LacksMemory shows None files dial out out' end = Printed out out' memory_line
 LacksMemory shows (Some (run told)) files dial out out' end = RunLacksMemory shows told files dial out out' end.run
 LacksMemory shows (Some (rig told)) files dial out out' end = IsNone end.rig × Printed out out' memory_line
@@ -71,14 +74,34 @@ DialFails (Some (partner told)) files dial dial' printed = CallFailsFor told tol
 -- ---- what is left
 
 -- nothing was run
-pub record IsUnrun {L : Type 0} (end : ToolEnd L) : Type 0 where
+pub record IsUnrun {L C : Type 0} (end : ToolEnd L C) : Type 0 where
   pub run : IsNone end.run
   pub rig : IsNone end.rig
 
 -- what a command may leave: `run` and `partner` a run, and `rig` and `gen` a rig
-abbrev pub LeavesOnly : {L : Type 0} → Option ToolTold → ToolEnd L → Type 0
+abbrev pub LeavesOnly : {L C : Type 0} → Option ToolTold → ToolEnd L C → Type 0
 LeavesOnly None end = IsUnrun end
 LeavesOnly (Some (run told)) end = IsNone end.rig
 LeavesOnly (Some (rig told)) end = IsNone end.run
 LeavesOnly (Some (gen seed)) end = IsNone end.run
 LeavesOnly (Some (partner told)) end = IsNone end.rig
+
+-- ---- what a completion was told
+
+-- the results of a run, none where there is none
+abbrev pub results_in : {L : Type 0} → Option (RunEnd L) → List JobResult
+results_in None = []
+results_in (Some r) = r.results.items
+
+-- the results of a rig's first client, none where there is no rig
+abbrev pub results_in_rig : Option RigEnd → List JobResult
+results_in_rig None = []
+results_in_rig (Some r) = first_results (end_told r)
+
+abbrev pub heard_in : {L : Type 0} → Option (RunEnd L) → Option RigEnd → List JobResult
+heard_in None left = results_in_rig left
+heard_in (Some r) left = r.results.items
+
+-- WHAT A COMPLETION HEARD: the results of the run where there is one, and else those of the rig's first client
+abbrev pub heard : {L C : Type 0} → ToolEnd L C → List JobResult
+heard end = heard_in end.run end.rig

@@ -1,5 +1,5 @@
 -- What running the jobs of a script does.
-use Rattle.std.specs.Prelude.{◌≡◌, ◌≤◌, ◌⊎◌, ◌==◌, Bool, true, false, List, [], ◌∷◌, ◌++◌, map}
+use Rattle.std.specs.Prelude.{◌≡◌, ℕ, ◌≤◌, ◌⊎◌, ◌==◌, Bool, true, false, List, [], ◌∷◌, ◌++◌, map}
 use Rattle.std.specs.List.{list_all}
 use Rattle.s7_outer.specs.Count.{Rose}
 use Rattle.s7_outer.specs.Out.{AppendsPrefix}
@@ -10,6 +10,7 @@ use Rattle.s7_dialogue.specs.declared.job.Job.{Job}
 use Rattle.s7_dialogue.specs.declared.job.Job.TheVariants as job
 use Rattle.s7_dialogue.specs.declared.job.JobResult.{JobResult}
 use Rattle.s7_dialogue.specs.Codes.{no_fault}
+use Rattle.s7_client.specs.Completions.{connection_of}
 use Rattle.s7_client.specs.Runs.{Between, JobRun, between_of, fresh}
 use Rattle.s7_script.specs.Printing.{print}
 use Rattle.s7_script.specs.declared.script_list.ScriptLine.{ScriptLine}
@@ -58,9 +59,14 @@ abbrev pub first_place : Shown → OutShown → Place
 first_place link out = record { link = link; between = fresh; results = []; out = out }
 
 -- where a run under way stands
-abbrev pub place : {L : Type 0} → (L → Shown) → ScriptRun L → OutShown → Place
+abbrev pub place : {L C : Type 0} → (L → Shown) → ScriptRun L C → OutShown → Place
 place shows run out =
-    record { link = shows run.line; between = between_of run.client; results = run.results.items; out = out }
+    record {
+      link = shows run.line;
+      between = between_of (connection_of run.client);
+      results = run.results.items;
+      out = out;
+    }
 
 -- ---- from place to place
 
@@ -77,28 +83,43 @@ pub record DoesLines (config : Config) (lines : List ScriptLine) (old new : Plac
   pub results : new.results ≡ old.results ++ told
   pub text : Gains old.out new.out (report lines told)
 
--- the job of the first line was done, and a front of what came of it was printed
-pub record DoesUnprinted (config : Config) (next : ScriptLine) (old new : Place) : Type 0 where
-  pub does : DoesJob config next.job old new
-  pub text : AppendsPrefix old.out.text new.out.text (print next.line does.told)
+-- a front of a line was printed, and no more where the output failed
+abbrev pub PrintsFront : OutShown → OutShown → List ℕ → Type 0
+PrintsFront old new line = AppendsPrefix old.text new.text line
 
-abbrev pub DoesFirst : Config → List ScriptLine → Place → Place → Type 0
-DoesFirst config [] old new = ⊥
-DoesFirst config (next ∷ lines) old new = DoesUnprinted config next old new
+-- nothing of a line was printed, and the output didn't fail
+abbrev pub PrintsNothing : OutShown → OutShown → List ℕ → Type 0
+PrintsNothing old new line = new ≡ old
+
+-- the job of the first line was done, and what came of it was printed so far
+pub record DoesUnprinted (prints : OutShown → OutShown → List ℕ → Type 0) (config : Config) (next : ScriptLine)
+    (old new : Place) : Type 0 where
+  pub does : DoesJob config next.job old new
+  pub text : prints old.out new.out (print next.line does.told)
+
+abbrev pub DoesFirst : (OutShown → OutShown → List ℕ → Type 0) → Config → List ScriptLine → Place → Place → Type 0
+DoesFirst prints config [] old new = ⊥
+DoesFirst prints config (next ∷ lines) old new = DoesUnprinted prints config next old new
 
 -- A RUN THAT ENDED EARLY: a front of these lines was done, and then nothing or one job more, whose result was kept
-pub record EndsEarly (config : Config) (lines : List ScriptLine) (old new : Place) : Type 0 where
+pub record EndsEarly (prints : OutShown → OutShown → List ℕ → Type 0) (config : Config) (lines : List ScriptLine)
+    (old new : Place) : Type 0 where
   pub front : List ScriptLine
   pub rest : List ScriptLine
   pub broken : Place
   pub split : lines ≡ front ++ rest
   pub done : DoesLines config front old broken
-  pub stop : (new ≡ broken) ⊎ DoesFirst config rest broken new
+  pub stop : (new ≡ broken) ⊎ DoesFirst prints config rest broken new
 
--- a run that ended early for want of memory, which was printed then
+-- a run that ended early where the output failed, while what came of a job was printed
+pub record FailsOutput (config : Config) (lines : List ScriptLine) (old new : Place) : Type 0 where
+  pub early : EndsEarly PrintsFront config lines old new
+  pub rose : Rose old.out.faults new.out.faults
+
+-- a run that ended early for want of memory: all that was to be printed until then was, and then the line for this
 pub record WantsMemory (config : Config) (lines : List ScriptLine) (old new : Place) : Type 0 where
   pub middle : OutShown
-  pub early : EndsEarly config lines old (record new { out = middle })
+  pub early : EndsEarly PrintsNothing config lines old (record new { out = middle })
   pub count : old.out.faults ≤ middle.faults
   pub line : Printed middle new.out memory_line
 
@@ -114,8 +135,7 @@ pub record DoesAll (config : Config) (lines : List ScriptLine) (old new : Place)
 abbrev pub Goes : Config → List ScriptLine → Place → Place → Ended → Type 0
 Goes config lines old new ended.Done = DoesAll config lines old new × (list_all is_good new.results ≡ true)
 Goes config lines old new ended.Jobs = DoesAll config lines old new × (list_all is_good new.results ≡ false)
-Goes config lines old new ended.Output =
-    EndsEarly config (connect_line ∷ lines) old new × Rose old.out.faults new.out.faults
+Goes config lines old new ended.Output = FailsOutput config (connect_line ∷ lines) old new
 Goes config lines old new ended.Memory = WantsMemory config (connect_line ∷ lines) old new
 Goes config lines old new ended.Refused = ⊥
 Goes config lines old new ended.File = ⊥

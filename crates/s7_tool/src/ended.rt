@@ -29,10 +29,12 @@ pub struct RunEnd<L: Link + Drop> {
     pub results: Vec<JobResult>,
 }
 
-/// What is left in the end: the status, the rig where one ran, and the run where a link was dialled.
+/// What is left in the end: the status, the rig where one ran, the run where a link was dialled, and the
+/// completion that was handed in.
 #[derive(Drop)]
-pub struct ToolEnd<L: Link + Drop> {
+pub struct ToolEnd<L: Link + Drop, C> {
     pub status: u8,
     pub rig: Option<RigEnd>,
     pub run: Option<RunEnd<L>>,
+    pub done: Option<C>,
 }

@@ -1,19 +1,20 @@
 // The jobs of a run.
 ghost use Rattle.std.specs.Prelude.{◌≡◌, ◌≢◌, ◌+◌, ◌<◌, ◌≤◌, ◌==◌, [], ◌∷◌, ◌++◌, None};
-ghost use Rattle.std.specs.Prelude.{OnOk, OnErr, IfOk, IsErrOf, Err, vec_len};
+ghost use Rattle.std.specs.Prelude.{OnOk, OnErr, IfOk, IsErrOf, Err, option_map, vec_len};
 ghost use Rattle.std.specs.Vec.{vec_capacity};
 ghost use Rattle.std.specs.List.{list_all};
 ghost use Rattle.s7_outer.specs.Count.{Rose};
-ghost use Rattle.s7_outer.specs.Out.{AppendsPrefix};
 ghost use Rattle.s7_outer.specs.OutShown.{OutShown};
 ghost use Rattle.s7_dialogue.specs.declared.job.Job.TheVariants as job;
+ghost use Rattle.s7_client.specs.Completions.{completion_of, connection_of, told_of_result};
 ghost use Rattle.s7_client.specs.Polling.{job_of, config_of};
 ghost use Rattle.s7_client.specs.Runs.{JobRun, between_of};
+ghost use Rattle.s7_rig.specs.Tells.{Tells};
 ghost use Rattle.s7_script.specs.Printing.{IsPrintable, print};
 ghost use Rattle.s7_tool.specs.Report.{Gains};
-ghost use Rattle.s7_tool.specs.Run.{connect_line, is_good};
+ghost use Rattle.s7_tool.specs.Run.{PrintsFront, connect_line, is_good};
 
-use s7_client::{Client, Job, JobResult};
+use s7_client::{Client, Completion, Job, JobResult};
 use s7_outer::{Link, Out};
 use s7_script::{ScriptLine, ends_print, print_result};
 use std::alloc::Global;
@@ -29,14 +30,14 @@ pub(crate) enum Stop {
 
 /// A run under way: the client, the link that it works over, and the results so far.
 #[derive(Drop)]
-pub(crate) struct ScriptRun<L: Link + Drop> {
-    pub client: Client,
+pub(crate) struct ScriptRun<L: Link + Drop, C> {
+    pub client: Client<C>,
     pub line: L,
     pub results: Vec<JobResult>,
 }
 
-impl<L: Link + Drop> ScriptRun<L> {
-    ghost use Rattle.s7_tool.specs.Run.{DoesAll, DoesJob, DoesLines, EndsEarly, place};
+impl<L: Link + Drop, C: Completion + Drop> ScriptRun<L, C> {
+    ghost use Rattle.s7_tool.specs.Run.{DoesAll, DoesJob, DoesLines, EndsEarly, FailsOutput, PrintsNothing, place};
 
     /// A connect, the jobs of these lines, and a disconnect. Each result is kept, and all but the
     /// disconnect's are printed.
@@ -46,14 +47,19 @@ impl<L: Link + Drop> ScriptRun<L> {
         lines: Vec<ScriptLine>,
         out: &mut O,
     ) -> Result<(), Stop>
-        requires idle { job_of self.old.client ≡ None }
+        requires idle { job_of (connection_of self.old.client) ≡ None }
         requires room { vec_len self.old.results + vec_len lines + 2 ≤ vec_capacity self.old.results }
-        ensures ok { OnOk result (DoesAll (config_of self.old.client) lines.items
+        ensures ok { OnOk result (DoesAll (config_of (connection_of self.old.client)) lines.items
             (place L.shows self.old (O.shows out.old)) (place L.shows self.new (O.shows out.new))) }
-        ensures err { OnErr result (EndsEarly (config_of self.old.client) (connect_line ∷ lines.items)
-            (place L.shows self.old (O.shows out.old)) (place L.shows self.new (O.shows out.new))) }
-        ensures output { IsErrOf result Stop.Output → Rose (O.shows out.old).faults (O.shows out.new).faults }
+        ensures output { IsErrOf result Stop.Output → FailsOutput
+            (config_of (connection_of self.old.client)) (connect_line ∷ lines.items)
+            (place L.shows self.old (O.shows out.old)) (place L.shows self.new (O.shows out.new)) }
+        ensures memory { IsErrOf result Stop.Memory → EndsEarly PrintsNothing
+            (config_of (connection_of self.old.client)) (connect_line ∷ lines.items)
+            (place L.shows self.old (O.shows out.old)) (place L.shows self.new (O.shows out.new)) }
         ensures faults { (O.shows out.old).faults ≤ (O.shows out.new).faults }
+        ensures tells { Tells self.old.results.items self.new.results.items
+            (option_map C.told (completion_of self.old.client)) (option_map C.told (completion_of self.new.client)) }
     {
         let connect = ScriptLine {
             line: 0,
@@ -71,16 +77,21 @@ impl<L: Link + Drop> ScriptRun<L> {
         lines: Vec<ScriptLine>,
         out: &mut O,
     ) -> Result<(), Stop>
-        requires idle { job_of self.old.client ≡ None }
+        requires idle { job_of (connection_of self.old.client) ≡ None }
         requires room { vec_len self.old.results + vec_len lines ≤ vec_capacity self.old.results }
-        ensures ok { OnOk result (DoesLines (config_of self.old.client) lines.items
+        ensures ok { OnOk result (DoesLines (config_of (connection_of self.old.client)) lines.items
             (place L.shows self.old (O.shows out.old)) (place L.shows self.new (O.shows out.new))) }
-        ensures err { OnErr result (EndsEarly (config_of self.old.client) lines.items
-            (place L.shows self.old (O.shows out.old)) (place L.shows self.new (O.shows out.new))) }
-        ensures output { IsErrOf result Stop.Output → Rose (O.shows out.old).faults (O.shows out.new).faults }
+        ensures output { IsErrOf result Stop.Output → FailsOutput
+            (config_of (connection_of self.old.client)) lines.items
+            (place L.shows self.old (O.shows out.old)) (place L.shows self.new (O.shows out.new)) }
+        ensures memory { IsErrOf result Stop.Memory → EndsEarly PrintsNothing
+            (config_of (connection_of self.old.client)) lines.items
+            (place L.shows self.old (O.shows out.old)) (place L.shows self.new (O.shows out.new)) }
         ensures faults { (O.shows out.old).faults ≤ (O.shows out.new).faults }
-        ensures idle { job_of self.new.client ≡ None }
-        ensures config { config_of self.new.client ≡ config_of self.old.client }
+        ensures tells { Tells self.old.results.items self.new.results.items
+            (option_map C.told (completion_of self.old.client)) (option_map C.told (completion_of self.new.client)) }
+        ensures idle { job_of (connection_of self.new.client) ≡ None }
+        ensures config { config_of (connection_of self.new.client) ≡ config_of (connection_of self.old.client) }
         ensures len { OnOk result (vec_len self.new.results ≡ vec_len self.old.results + vec_len lines) }
         ensures capacity { vec_capacity self.old.results ≤ vec_capacity self.new.results }
     {
@@ -92,16 +103,21 @@ impl<L: Link + Drop> ScriptRun<L> {
 
     // The job of a line.
     fn do_job<O: Out>(&mut self, alloc: Global, next: ScriptLine, out: &mut O) -> Result<(), Stop>
-        requires idle { job_of self.old.client ≡ None }
+        requires idle { job_of (connection_of self.old.client) ≡ None }
         requires room { vec_len self.old.results < vec_capacity self.old.results }
-        ensures ok { OnOk result (DoesLines (config_of self.old.client) (next ∷ [])
+        ensures ok { OnOk result (DoesLines (config_of (connection_of self.old.client)) (next ∷ [])
             (place L.shows self.old (O.shows out.old)) (place L.shows self.new (O.shows out.new))) }
-        ensures err { OnErr result (EndsEarly (config_of self.old.client) (next ∷ [])
-            (place L.shows self.old (O.shows out.old)) (place L.shows self.new (O.shows out.new))) }
-        ensures output { IsErrOf result Stop.Output → Rose (O.shows out.old).faults (O.shows out.new).faults }
+        ensures output { IsErrOf result Stop.Output → FailsOutput
+            (config_of (connection_of self.old.client)) (next ∷ [])
+            (place L.shows self.old (O.shows out.old)) (place L.shows self.new (O.shows out.new)) }
+        ensures memory { IsErrOf result Stop.Memory → EndsEarly PrintsNothing
+            (config_of (connection_of self.old.client)) (next ∷ [])
+            (place L.shows self.old (O.shows out.old)) (place L.shows self.new (O.shows out.new)) }
         ensures faults { (O.shows out.old).faults ≤ (O.shows out.new).faults }
-        ensures idle { job_of self.new.client ≡ None }
-        ensures config { config_of self.new.client ≡ config_of self.old.client }
+        ensures tells { Tells self.old.results.items self.new.results.items
+            (option_map C.told (completion_of self.old.client)) (option_map C.told (completion_of self.new.client)) }
+        ensures idle { job_of (connection_of self.new.client) ≡ None }
+        ensures config { config_of (connection_of self.new.client) ≡ config_of (connection_of self.old.client) }
         ensures len { OnOk result (vec_len self.new.results ≡ vec_len self.old.results + 1) }
         ensures capacity { vec_capacity self.old.results ≤ vec_capacity self.new.results }
     {
@@ -114,12 +130,14 @@ impl<L: Link + Drop> ScriptRun<L> {
 
     // The disconnect, of which nothing is printed, whatever the output shows.
     fn disconnect(&mut self, alloc: Global) -> Result<(), Stop>
-        requires idle { job_of self.old.client ≡ None }
+        requires idle { job_of (connection_of self.old.client) ≡ None }
         requires room { vec_len self.old.results < vec_capacity self.old.results }
-        ensures ok { OnOk result ((out : OutShown) → DoesJob (config_of self.old.client) job.Disconnect
+        ensures ok { OnOk result ((out : OutShown) → DoesJob (config_of (connection_of self.old.client)) job.Disconnect
             (place L.shows self.old out) (place L.shows self.new out)) }
         ensures err { OnErr result ((out : OutShown) → place L.shows self.new out ≡ place L.shows self.old out) }
         ensures memory { result ≢ Err Stop.Output }
+        ensures tells { Tells self.old.results.items self.new.results.items
+            (option_map C.told (completion_of self.old.client)) (option_map C.told (completion_of self.new.client)) }
     {
         let told = carry_out(alloc, Job::Disconnect, &mut self.client, &mut self.line)?;
         keep(&mut self.results, told);
@@ -127,21 +145,25 @@ impl<L: Link + Drop> ScriptRun<L> {
     }
 }
 
-// Carries a job out.
-fn carry_out<L: Link>(
+// Carries a job out, of which the completion is told.
+fn carry_out<L: Link, C: Completion>(
     alloc: Global,
     job: Job,
-    client: &mut Client,
+    client: &mut Client<C>,
     link: &mut L,
 ) -> Result<JobResult, Stop>
-    requires { job_of client.old ≡ None }
-    ensures run { IfOk result (λ told. JobRun (config_of client.old) (between_of client.old) job
-        (L.shows link.old) (L.shows link.new) told (between_of client.new)) }
+    requires { job_of (connection_of client.old) ≡ None }
+    ensures run { IfOk result (λ told. JobRun (config_of (connection_of client.old))
+        (between_of (connection_of client.old)) job (L.shows link.old) (L.shows link.new) told
+        (between_of (connection_of client.new))) }
     ensures printable { IfOk result (λ told. IsPrintable told) }
-    ensures idle { job_of client.new ≡ None }
-    ensures config { config_of client.new ≡ config_of client.old }
+    ensures told { IfOk result (λ told. option_map C.told (completion_of client.new)
+        ≡ option_map (λ t. told_of_result t told) (option_map C.told (completion_of client.old))) }
+    ensures idle { job_of (connection_of client.new) ≡ None }
+    ensures config { config_of (connection_of client.new) ≡ config_of (connection_of client.old) }
     ensures refused { OnErr result (L.shows link.new ≡ L.shows link.old) }
-    ensures unchanged { OnErr result (between_of client.new ≡ between_of client.old) }
+    ensures unchanged { OnErr result (between_of (connection_of client.new) ≡ between_of (connection_of client.old)) }
+    ensures untold { OnErr result (completion_of client.new ≡ completion_of client.old) }
     ensures memory { OnErr result (result ≡ Err Stop.Memory) }
 {
     ends_print();
@@ -168,8 +190,10 @@ fn keep(results: &mut Vec<JobResult>, told: JobResult)
 fn print<O: Out>(alloc: Global, line: u32, told: &JobResult, out: &mut O) -> Result<(), Stop>
     requires { IsPrintable told.now }
     ensures ok { OnOk result (Gains (O.shows out.old) (O.shows out.new) (print line told.now)) }
-    ensures err { OnErr result (AppendsPrefix (O.shows out.old).text (O.shows out.new).text (print line told.now)) }
-    ensures output { IsErrOf result Stop.Output → Rose (O.shows out.old).faults (O.shows out.new).faults }
+    ensures front { IsErrOf result Stop.Output → PrintsFront (O.shows out.old) (O.shows out.new)
+        (print line told.now) }
+    ensures rose { IsErrOf result Stop.Output → Rose (O.shows out.old).faults (O.shows out.new).faults }
+    ensures memory { IsErrOf result Stop.Memory → out.new ≡ out.old }
     ensures faults { (O.shows out.old).faults ≤ (O.shows out.new).faults }
 {
     let Ok(text) = print_result(alloc, line, told) else {

@@ -1,9 +1,10 @@
 // The command of partners.
-ghost use Rattle.std.specs.Prelude.{◌≡◌, ◌≢◌, All, IfOk, None};
+ghost use Rattle.std.specs.Prelude.{◌≡◌, ◌≢◌, [], All, IfOk, None};
 ghost use Rattle.s7_outer.specs.Dial.{NoHostFell};
 ghost use Rattle.s7_script.specs.Sends.{IsSized};
 ghost use Rattle.s7_pair.specs.Talking.{post_of};
 ghost use Rattle.s7_words.specs.Shown.{partner_told_of};
+ghost use Rattle.s7_tool.specs.End.{results_in};
 ghost use Rattle.s7_tool.specs.Loading.{KeepsPaths};
 ghost use Rattle.s7_tool.specs.Partners.{AloneEnds, BothEnd, EndsBy, PairTells, PartnerEnds, TalkedOver, partner_config};
 
@@ -39,6 +40,7 @@ pub(crate) fn run_partner<F: Files, L: Link + Drop, K: Dial<L>, O: Out>(
     ensures paths { KeepsPaths (F.shows files.old) (F.shows files.new) }
     ensures dial_faults { NoHostFell (K.shows dial.old).faults (K.shows dial.new).faults }
     ensures undialled { result.1 ≡ None → result.0 ≢ Ended.Dial → dial.new ≡ dial.old }
+    ensures unheard { results_in result.1 ≡ [] }
 {
     let one = match load_sends(alloc, files, words.one) {
         Ok(sends) => sends,
@@ -101,6 +103,7 @@ fn run_alone<L: Link + Drop, K: Dial<L>, O: Out>(
         (O.shows out.old) (O.shows out.new) result.1 result.0 }
     ensures dial_faults { NoHostFell (K.shows dial.old).faults (K.shows dial.new).faults }
     ensures undialled { result.1 ≡ None → result.0 ≢ Ended.Dial → dial.new ≡ dial.old }
+    ensures unheard { results_in result.1 ≡ [] }
 {
     let Ok(talker) = Talker::new(alloc, Role::Active, partner_config(), one) else {
         return (print_as(Ended::Memory, b"memory\n", out), None);

@@ -1,10 +1,13 @@
 // The command that runs scripts together.
-ghost use Rattle.std.specs.Prelude.{◌≡◌, ◌≤◌, ◌<◌, ◌*◌, ◌+◌, ◌∷◌, ◌++◌, [], All, IfOk, map, vec_len};
+ghost use Rattle.std.specs.Prelude.{◌≡◌, ◌≢◌, ◌≤◌, ◌<◌, ◌*◌, ◌+◌, ◌∷◌, ◌++◌, [], All, IfOk, map, vec_len};
+ghost use Rattle.std.specs.Prelude.{is_some, option_map};
 ghost use Rattle.std.specs.List.{AllByRecursion};
 ghost use Rattle.s7_rig.specs.Scripts.{ConnectsFirst};
-ghost use Rattle.s7_rig.specs.Shown.{end_told};
+ghost use Rattle.s7_client.specs.Completions.{told_of_results};
+ghost use Rattle.s7_rig.specs.Shown.{end_told, first_results};
 ghost use Rattle.s7_words.specs.Shown.{rig_told_of};
 ghost use Rattle.s7_tool.specs.Asked.{rig_config};
+ghost use Rattle.s7_tool.specs.End.{results_in_rig};
 ghost use Rattle.s7_tool.specs.Loading.{KeepsPaths};
 ghost use Rattle.s7_tool.specs.RigText.{ArePrintable, are_clients_good, numbers_of, rig_text};
 ghost use Rattle.s7_tool.specs.Rigging.{RanJobs, RigEnds};
@@ -15,7 +18,7 @@ use crate::load::load_scripts;
 use crate::output::{print_areas_refusal, print_as, print_refusal, print_text};
 use crate::rig_report::{are_good, rig_text};
 use s7_area::Areas;
-use s7_client::{Config, Job};
+use s7_client::{Completion, Config, Job};
 use s7_outer::{Files, Memory, Out};
 use s7_rig::{RigEnd, Schedule, rigs_are_formed, run_rig};
 use s7_script::{Script, ends_print, load_areas, scripts_keep_links};
@@ -31,16 +34,20 @@ pub(crate) struct Rigged {
 }
 
 /// Loads the areas and the scripts that the words name, runs a client for each script, and prints what
-/// came of it.
-pub(crate) fn run_rigging<F: Files, O: Out>(
+/// came of it. The completion is told of the first client's jobs.
+pub(crate) fn run_rigging<F: Files, O: Out, C: Completion>(
     alloc: Global,
     words: RigWords<'_>,
     files: &mut F,
     out: &mut O,
+    done: &mut Option<C>,
 ) -> (Ended, Option<RigEnd>)
     ensures ended { RigEnds (rig_told_of words.entry) (F.shows files.old) (F.shows files.new)
         (O.shows out.old) (O.shows out.new) result.1 result.0 }
     ensures paths { KeepsPaths (F.shows files.old) (F.shows files.new) }
+    ensures told { result.0 ≢ Ended.Memory → option_map C.told done.new
+        ≡ option_map (λ t. told_of_results t (results_in_rig result.1)) (option_map C.told done.old) }
+    ensures handed { is_some done.new ≡ is_some done.old }
 {
     let areas = match load_areas(alloc, files, words.areas) {
         Ok(areas) => areas,
@@ -51,7 +58,7 @@ pub(crate) fn run_rigging<F: Files, O: Out>(
         Ok(scripts) => scripts,
         Err(refused) => return (print_refusal(alloc, refused.fault, refused.path, out), None),
     };
-    match run_scripts(alloc, &words, areas, scripts) {
+    match run_scripts(alloc, &words, areas, scripts, done) {
         Ok(rigged) => {
             let ended = print_text(rigged.text.as_slice(), rigged.is_good, out);
             (ended, Some(rigged.end))
@@ -61,11 +68,12 @@ pub(crate) fn run_rigging<F: Files, O: Out>(
 }
 
 // Runs these scripts on these areas, and makes the text of what came of it.
-fn run_scripts(
+fn run_scripts<C: Completion>(
     alloc: Global,
     words: &RigWords<'_>,
     areas: Areas,
     scripts: Vec<Script>,
+    done: &mut Option<C>,
 ) -> Result<Rigged, Memory>
     requires len { vec_len scripts ≡ vec_len words.now.scripts }
     requires connects { AllByRecursion ConnectsFirst (map jobs_of scripts.items) }
@@ -73,27 +81,34 @@ fn run_scripts(
         RanJobs (rig_told_of words.now) areas (map jobs_of scripts.items) (end_told r.end)) }
     ensures text { IfOk result (λ r. r.text.items ≡ rig_text scripts.items (end_told r.end)) }
     ensures good { IfOk result (λ r. r.is_good ≡ are_clients_good scripts.items (end_told r.end).clients) }
+    ensures told { IfOk result (λ r. option_map C.told done.new
+        ≡ option_map (λ t. told_of_results t (first_results (end_told r.end))) (option_map C.told done.old)) }
+    ensures handed { is_some done.new ≡ is_some done.old }
 {
     let numbers = all_numbers(alloc, scripts.as_slice())?;
     let jobs = all_jobs(alloc, scripts)?;
-    let end = run_jobs(alloc, words, areas, jobs)?;
+    let end = run_jobs(alloc, words, areas, jobs, done)?;
     let text = rig_text(alloc, numbers.as_slice(), &end)?;
     let is_good = are_good(numbers.as_slice(), end.clients.as_slice());
     Ok(Rigged { end, text, is_good })
 }
 
 // Runs these jobs on these areas.
-fn run_jobs(
+fn run_jobs<C: Completion>(
     alloc: Global,
     words: &RigWords<'_>,
     areas: Areas,
     jobs: Vec<Vec<Job>>,
+    done: &mut Option<C>,
 ) -> Result<RigEnd, Memory>
     requires len { vec_len jobs ≡ vec_len words.now.scripts }
     requires connects { AllByRecursion ConnectsFirst (map (λ s. s.items) jobs.items) }
     ensures ran { IfOk result (λ end.
         RanJobs (rig_told_of words.now) areas (map (λ s. s.items) jobs.items) (end_told end)) }
     ensures printable { IfOk result (λ end. All ArePrintable (end_told end).clients) }
+    ensures told { IfOk result (λ end. option_map C.told done.new
+        ≡ option_map (λ t. told_of_results t (first_results (end_told end))) (option_map C.told done.old)) }
+    ensures handed { is_some done.new ≡ is_some done.old }
 {
     ends_print();
     rigs_are_formed();
@@ -103,7 +118,7 @@ fn run_jobs(
         steps: words.steps,
     };
     let config = rig_config(words.pdu, words.jobs);
-    run_rig(alloc, areas, words.journal, jobs, config, schedule)
+    run_rig(alloc, areas, words.journal, jobs, config, schedule, done)
 }
 
 /// How the clients connect.

@@ -1,9 +1,10 @@
 // The whole of what the program does, over files, a dial and an output that are handed in.
-ghost use Rattle.std.specs.Prelude.{◌≡◌, ◌≢◌, ◌⊎◌, IsNone, None};
+ghost use Rattle.std.specs.Prelude.{◌≡◌, ◌≢◌, ◌⊎◌, IsNone, IsSome, None, is_some, option_map};
+ghost use Rattle.s7_client.specs.Completions.{told_of_results};
 ghost use Rattle.s7_outer.specs.Count.{Rose};
 ghost use Rattle.s7_outer.specs.Dial.{NoHostFell};
 ghost use Rattle.s7_tool.specs.Asked.{command_of};
-ghost use Rattle.s7_tool.specs.End.{CarriesOut, DialFails, FileFails, IsUnrun, LacksMemory, LeavesOnly, Refuses};
+ghost use Rattle.s7_tool.specs.End.{CarriesOut, DialFails, FileFails, IsUnrun, LacksMemory, LeavesOnly, Refuses, heard};
 ghost use Rattle.s7_tool.specs.Loading.{KeepsPaths};
 ghost use Rattle.s7_tool.specs.Report.{Printed, usage_line};
 ghost use Rattle.s7_tool.specs.Statuses as status;
@@ -15,6 +16,7 @@ use crate::output::print_line;
 use crate::partner_run::run_partner;
 use crate::rigging::run_rigging;
 use crate::script_run::run_script;
+use s7_client::Completion;
 use s7_outer::{Dial, Files, Link, Out};
 use s7_words::{ToolWords, read_tool_words};
 use std::alloc::Global;
@@ -68,13 +70,17 @@ pub const MEMORY: u8 = 9;
 /// result of each job, and with 5 or 9 those of the jobs that were done. Where none is there the dial is
 /// as it was, but for status 4. A rig is there exactly for `rig` and `gen` with status 0, 5 or 6; these
 /// dial nothing, `gen` reads no file, and a run of `partner` has no results.
-pub fn tool_main<F: Files, L: Link + Drop, K: Dial<L>, O: Out>(
+///
+/// The completion is handed back. It was told of each job of `run`, or of the first client of `rig` or `gen`, when
+/// the job was done, once, in order, and of nothing else.
+pub fn tool_main<F: Files, L: Link + Drop, K: Dial<L>, O: Out, C: Completion + Drop>(
     alloc: Global,
     words: &[&str],
     files: &mut F,
     dial: &mut K,
     out: &mut O,
-) -> ToolEnd<L>
+    done: Option<C>,
+) -> ToolEnd<L, C>
     // The status.
     ensures statuses { (result.status ≡ status.done) ⊎ (result.status ≡ status.usage)
         ⊎ (result.status ≡ status.script) ⊎ (result.status ≡ status.file) ⊎ (result.status ≡ status.dial)
@@ -112,30 +118,39 @@ pub fn tool_main<F: Files, L: Link + Drop, K: Dial<L>, O: Out>(
     ensures paths { KeepsPaths (F.shows files.old) (F.shows files.new) }
     ensures dial_faults { NoHostFell (K.shows dial.old).faults (K.shows dial.new).faults }
     ensures undialled { IsNone result.run → result.status ≢ status.dial → dial.new ≡ dial.old }
+
+    // The completion comes back, told of the results that are left; a rig that was broken off leaves none.
+    ensures handed_back { is_some result.done ≡ is_some done }
+    ensures told { (result.status ≢ status.memory) ⊎ IsSome result.run → option_map C.told result.done
+        ≡ option_map (λ t. told_of_results t (heard result)) (option_map C.told done) }
 {
+    let mut done = done;
     match read_tool_words(alloc, words) {
         Ok(Some(ToolWords::Run(words))) => {
-            let (ended, run) = run_script(alloc, words, files, dial, out);
+            let (ended, run) = run_script(alloc, words, files, dial, out, &mut done);
             ToolEnd {
                 status: status_of(ended),
                 rig: None,
                 run,
+                done,
             }
         }
         Ok(Some(ToolWords::Rig(words))) => {
-            let (ended, rig) = run_rigging(alloc, words, files, out);
+            let (ended, rig) = run_rigging(alloc, words, files, out, &mut done);
             ToolEnd {
                 status: status_of(ended),
                 rig,
                 run: None,
+                done,
             }
         }
         Ok(Some(ToolWords::Gen(seed))) => {
-            let (ended, rig) = run_gen(alloc, seed, out);
+            let (ended, rig) = run_gen(alloc, seed, out, &mut done);
             ToolEnd {
                 status: status_of(ended),
                 rig,
                 run: None,
+                done,
             }
         }
         Ok(Some(ToolWords::Partner(words))) => {
@@ -144,14 +159,16 @@ pub fn tool_main<F: Files, L: Link + Drop, K: Dial<L>, O: Out>(
                 status: status_of(ended),
                 rig: None,
                 run,
+                done,
             }
         }
         Ok(None) => unrun(
             USAGE,
             b"usage: s7tool run SCRIPT, rig AREAS SCRIPT..., gen N, partner A [B]\n",
             out,
+            done,
         ),
-        Err(_) => unrun(MEMORY, b"memory\n", out),
+        Err(_) => unrun(MEMORY, b"memory\n", out, done),
     }
 }
 
@@ -170,9 +187,15 @@ fn status_of(ended: Ended) -> u8
 }
 
 // The end where the words name nothing to be run: one line is printed, and its failure changes nothing.
-fn unrun<L: Link + Drop, O: Out>(status: u8, line: &[u8], out: &mut O) -> ToolEnd<L>
+fn unrun<L: Link + Drop, O: Out, C>(
+    status: u8,
+    line: &[u8],
+    out: &mut O,
+    done: Option<C>,
+) -> ToolEnd<L, C>
     ensures status { result.status ≡ status }
     ensures unrun { IsUnrun result }
+    ensures done { result.done ≡ done }
     ensures line { Printed (O.shows out.old) (O.shows out.new) line.now }
 {
     print_line(line, out);
@@ -180,5 +203,6 @@ fn unrun<L: Link + Drop, O: Out>(status: u8, line: &[u8], out: &mut O) -> ToolEn
         status,
         rig: None,
         run: None,
+        done,
     }
 }

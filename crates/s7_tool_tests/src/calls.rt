@@ -16,6 +16,11 @@
 //   clients          how many clients a rig has, where one is left
 //   wrote WORDS      what is written on the link, where there was one
 //   results          how many results the run has then
+//   told WORDS       what the completion was told: how often, and the number of the last job with its code in hex
+//
+// The completion comes back after each call, and was told as often as there are results of the run or of a rig's first
+// client.
+use s7_client::Counter;
 use s7_outer::{FailingLink, Fate, MemoryDial, MemoryFiles, MemoryLink, MemoryOut, Octets};
 use s7_tool::{RunEnd, ToolEnd, tool_main};
 use std::alloc::{AllocError, Global};
@@ -179,7 +184,7 @@ fn dial_of(alloc: Global, call: &Call<'_>, most: usize) -> Result<MemoryDial<Lin
 /// What is left of a call: its end and its output.
 #[derive(Drop)]
 struct Left {
-    end: ToolEnd<Line>,
+    end: ToolEnd<Line, Counter>,
     out: MemoryOut,
 }
 
@@ -189,8 +194,8 @@ fn called(
     files: &mut MemoryFiles,
     dial: &mut MemoryDial<Line>,
     out: &mut MemoryOut,
-) -> ToolEnd<Line> {
-    tool_main(alloc, words, files, dial, out)
+) -> ToolEnd<Line, Counter> {
+    tool_main(alloc, words, files, dial, out, Some(Counter::new()))
 }
 
 fn left_over(
@@ -262,15 +267,45 @@ fn is_run(alloc: Global, call: &Call<'_>, run: &Option<RunEnd<Line>>) -> Result<
 }
 
 // The rig is there where its clients are told, and is so.
-fn is_rig(call: &Call<'_>, end: &ToolEnd<Line>) -> Result<bool, Fail> {
+fn is_rig(call: &Call<'_>, end: &ToolEnd<Line, Counter>) -> Result<bool, Fail> {
     match &end.rig {
         Some(rig) => Ok(rig.clients.len() == call.number("clients")?),
         None => Ok(call.value("clients").is_none()),
     }
 }
 
+// How many results the run has, or a rig's first client.
+fn result_count(end: &ToolEnd<Line, Counter>) -> usize {
+    match (&end.run, &end.rig) {
+        (Some(run), _) => run.results.len(),
+        (None, Some(rig)) => rig.clients.first().map_or(0, |client| client.results.len()),
+        (None, None) => 0,
+    }
+}
+
+// The completion came back, and was told of each result, and as the call says.
+fn is_told(alloc: Global, call: &Call<'_>, end: &ToolEnd<Line, Counter>) -> Result<bool, Fail> {
+    let Some(counter) = end.done else {
+        return Ok(false);
+    };
+    if counter.calls() != result_count(end) as u64 {
+        return Ok(false);
+    }
+    let Some(words) = call.value("told") else {
+        return Ok(true);
+    };
+    let last = match counter.last() {
+        Some((number, code)) => format!(in alloc; "{} {number} {code:08X}", counter.calls())?,
+        None => format!(in alloc; "{}", counter.calls())?,
+    };
+    Ok(last.as_str() == words)
+}
+
 fn is_left(alloc: Global, call: &Call<'_>, left: &Left) -> Result<bool, Fail> {
     if left.end.status as usize != call.number("status")? || !is_rig(call, &left.end)? {
+        return Ok(false);
+    }
+    if !is_told(alloc, call, &left.end)? {
         return Ok(false);
     }
     Ok(is_printed(alloc, call, left.out.text())? && is_run(alloc, call, &left.end.run)?)

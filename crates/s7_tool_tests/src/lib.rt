@@ -18,3 +18,5 @@ mod partners;
 mod rigs;
 #[cfg(test)]
 mod scripts;
+#[cfg(test)]
+mod told;

@@ -9,7 +9,7 @@ use std::test::Fail;
 /// A rig of four clients.
 const MADE: &str = "clients 4";
 
-/// Seeds, and the lines of all clients and of the journal.
+/// Seeds, the lines of all clients and of the journal, and what the completion was told.
 const SEEDS: &str = "\
 call gen 7
 begins client 1 results 201 errors 0 octets 48159
@@ -18,6 +18,7 @@ begins client 3 results 201 errors 0 octets 55072
 begins client 4 results 201 errors 0 octets 61145
 begins journal 1957
 begins sum ^
+told 202 25 00000000
 
 call gen 4294967295
 begins client 1 results 201 errors 0 octets 53919
@@ -25,7 +26,8 @@ begins client 2 results 201 errors 0 octets 55124
 begins client 3 results 201 errors 0 octets 50712
 begins client 4 results 201 errors 0 octets 48711
 begins journal 1892
-begins sum ^";
+begins sum ^
+told 202 25 00000000";
 
 #[test]
 fn all_jobs_come_off(rt: HostRuntime) -> Result<(), Fail> {

@@ -2,7 +2,7 @@
 use crate::calls::{Call, ROOM, files_of, octets, words_of};
 use crate::partners::FILES;
 use crate::scripts::{NAMES, RUN};
-use s7_client::Config;
+use s7_client::{Config, Counter};
 use s7_outer::{
     Arrival, Dial, Door, Got, Link, MemoryFiles, MemoryOut, Octets, Sent, TcpDial, TcpDoor,
 };
@@ -94,7 +94,15 @@ fn tells<L: Link + Drop, K: Dial<L> + Drop>(
 ) -> Option<Told> {
     let words = words_of(alloc, words.as_str()).ok()?;
     let mut out = MemoryOut::new(alloc, ROOM).ok()?;
-    let end = tool_main(alloc, words.as_slice(), &mut files, &mut dial, &mut out);
+    let done = Some(Counter::new());
+    let end = tool_main(
+        alloc,
+        words.as_slice(),
+        &mut files,
+        &mut dial,
+        &mut out,
+        done,
+    );
     Some(Told {
         status: end.status,
         out,

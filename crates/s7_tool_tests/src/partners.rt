@@ -13,7 +13,7 @@ faulty.txt send 00000001 aa
 faulty.txt send 1 aa";
 
 /// A partner that hands out nothing, and whose block is sent; packets in hex, by their names.
-const ONE_FILE: &str = "\
+pub(crate) const ONE_FILE: &str = "\
 call partner a.txt
 came CONFIRM GRANTED TAKEN
 prints a sent

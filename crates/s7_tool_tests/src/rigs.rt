@@ -131,7 +131,7 @@ fn the_first_fault_decides(rt: HostRuntime) -> Result<(), Fail> {
 fn a_client_may_be_unfinished(rt: HostRuntime) -> Result<(), Fail> {
     let alloc = rt.alloc();
     let blocks = Blocks::new(alloc, MOST_BLOCKS)?;
-    let Ok(book) = Book::new(alloc, Areas::new(), blocks, 1) else {
+    let Ok(book) = Book::new(alloc, Areas::new(), blocks, 1, Vec::new(alloc)) else {
         return Err(Fail::from("no book"));
     };
     let mut clients = Vec::new(alloc);

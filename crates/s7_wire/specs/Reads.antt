@@ -80,6 +80,10 @@ ended_with r = r.transport.ended
 abbrev pub held_by : Reader → List ℕ
 held_by r = r.cutter.held
 
+-- the length that the packet doesn't pass
+abbrev pub limit_at : Reader → ℕ
+limit_at r = r.cutter.limit
+
 -- the TPDU size, and none before the opening
 abbrev pub size_at : Reader → Option ℕ
 size_at r = r.transport.size

@@ -23,7 +23,7 @@ pub struct Reader {
 }
 
 impl Reader {
-    ghost use Rattle.std.specs.Prelude.{◌≡◌, ◌≢◌, ℕ, ◌<◌, ◌≤◌, List, [], length, take, IfOk, None, Some};
+    ghost use Rattle.std.specs.Prelude.{◌≡◌, ◌≢◌, ℕ, ◌<◌, ◌≤◌, List, [], ◌++◌, length, take, IfOk, None, Some};
     ghost use Rattle.std.specs.Option.{ForSome};
     ghost use Rattle.s7_wire.specs.declared.found.Ended.{Ended};
     ghost use Rattle.s7_tpkt.specs.Packets.{rest_of};
@@ -31,7 +31,7 @@ impl Reader {
     ghost use Rattle.s7_cotp.specs.Told.{CanBeWritten};
     ghost use Rattle.s7_wire.specs.Reading.{torn_of, reading, limits, open_packet};
     ghost use Rattle.s7_wire.specs.Reads.{HasRead, HasFound, HasMessage, message_at, opens_by};
-    ghost use Rattle.s7_wire.specs.Reads.{ended_with, size_at, place_at, held_by, found_by};
+    ghost use Rattle.s7_wire.specs.Reads.{ended_with, size_at, place_at, held_by, limit_at, found_by};
 
     /// A reader that has read nothing. `Memory` comes where there is none for its buffers.
     pub fn new(alloc: Global, opening: Opening) -> Result<Reader, Memory>
@@ -73,6 +73,10 @@ impl Reader {
         ensures some { ended_with self.old ≡ None → 0 < length piece.now → 0 < result.octets }
         ensures left_over { result.found ≡ Found.More → result.octets < length piece.now
             → held_by self.new ≡ [] }
+
+        // Only the last octet that is taken ends a packet or shows a fault.
+        ensures earliest { (k : ℕ) → k < result.octets
+            → state_of (limit_at self.old) (held_by self.old ++ take k piece.now) ≡ FedState.More }
         ensures ended { (end : Ended) → ended_with self.old ≡ Some end
             → (result ≡ record { octets = 0; found = found_by end }) × (self.new ≡ self.old) }
     {

@@ -14,7 +14,7 @@ use Rattle.clap.specs.declared.error.kind.ErrorKind.TheVariants.{OutOfMemory}
 use Rattle.clap.specs.declared.parser.matches.ArgMatches.{ArgMatches}
 use Rattle.clap.proofs.WalkLemmas.{first_value-rows, one_text-rows, raw_values-rows}
 use Rattle.s7_words.specs.Line.{Text, Field, Line, Given, given_by, has_required, number_of, read, start, value_of, values_of, is_between, is_number_between, range_takes, option_of}
-use Rattle.s7_words.specs.Fields.{number_or}
+use Rattle.s7_words.specs.Fields.{number_given, number_or}
 use Rattle.s7_words.specs.Built.{app_by}
 use Rattle.s7_words.proofs.ClapLine.{AreKnown, ArePlaced, Fails, Gives, IsKnown, is_bounded, is_built_by, places, reads_line, rule, rule_at, shape}
 use Rattle.s7_words.proofs.Rows.{all_of-rows, first_of-rows, one_of-rows, rows_by}
@@ -145,6 +145,23 @@ module _ (name : Text) (line : Line) (is : IsCommand name line) where
   one_is : (words : List Text) (m : ArgMatches) (read : IsRead words m) (id : Text) → one_text (found_of m) id ≡ value_of read.given id
   one_is words m read id = one_text-rows (found_of m) id ∙ ap (one_of id) read.rows ∙ one_of-rows read.given id
 
+  -- what `get_one` reads of a number of k bits that may be left out
+  abbrev pub ReadsOption : (f : Field) (k : ℕ) → Type 0
+  ReadsOption f k = (words : List Text) (m : ArgMatches) (read : IsRead words m) (r : Option ℕ)
+      → (one_text (found_of m) f.name ≡ None → r ≡ None) → ((t : Text) → one_text (found_of m) f.name ≡ Some t → ReadsOne (GivesUnsigned k) t r)
+      → r ≡ number_given read.given f
+
+  pub number_is : (f : Field) (k low high : ℕ) → f.range ≡ Some (low, high) → option_of (line.operands ++ line.options) f.name ≡ Some f
+      → nat_lt high (2 ^ k) ≡ true → ReadsOption f k
+  number_is f k low high range known fits words m read r at_none at_some = go (value_of read.given f.name) refl
+    where
+      taken : (t : Text) → value_of read.given f.name ≡ Some t → is_number_between low high t ≡ true
+      taken t is_some = subst (λ o. range_takes o t ≡ true) range (value_taken (line.operands ++ line.options) read.given f.name f t read.fine known is_some)
+
+      go : (o : Option Text) → value_of read.given f.name ≡ o → r ≡ option_map number_of o
+      go None is_none = at_none (one_is words m read f.name ∙ is_none)
+      go (Some t) is_some = number_read k low high t (GivesUnsigned k) r (ltb-true _ _ fits) (λ t x h. h.0) (taken t is_some) (at_some t (one_is words m read f.name ∙ is_some))
+
   -- what `get_one` reads of a number of k bits, or the default
   abbrev pub ReadsNumber : (f : Field) (k low high default : ℕ) → Type 0
   ReadsNumber f k low high default = (words : List Text) (m : ArgMatches) (read : IsRead words m) (r : Option ℕ) (n : ℕ) → n ≡ unwrap_or r default
@@ -154,16 +171,12 @@ module _ (name : Text) (line : Line) (is : IsCommand name line) where
   pub number_or_is : (f : Field) (k low high default : ℕ) → f.range ≡ Some (low, high) → option_of (line.operands ++ line.options) f.name ≡ Some f
       → nat_lt high (2 ^ k) ≡ true → is_between low high default ≡ true → ReadsNumber f k low high default
   number_or_is f k low high default range known fits between words m read r n is at_none at_some =
-      let given_is : n ≡ number_or read.given f default = is ∙ ap (λ o. unwrap_or o default) (go (value_of read.given f.name) refl) in
+      let given_is : n ≡ number_or read.given f default = is ∙ ap (λ o. unwrap_or o default) (number_is f k low high range known fits words m read r at_none at_some) in
       let bounds = both_true _ _ (in_range low high default n (value_of read.given f.name) given_is between taken) in
       record { same = given_is; least = leb-true _ _ bounds.0; most = leb-true _ _ bounds.1 }
     where
       taken : (t : Text) → value_of read.given f.name ≡ Some t → is_number_between low high t ≡ true
       taken t is_some = subst (λ o. range_takes o t ≡ true) range (value_taken (line.operands ++ line.options) read.given f.name f t read.fine known is_some)
-
-      go : (o : Option Text) → value_of read.given f.name ≡ o → r ≡ option_map number_of o
-      go None is_none = at_none (one_is words m read f.name ∙ is_none)
-      go (Some t) is_some = number_read k low high t (GivesUnsigned k) r (ltb-true _ _ fits) (λ t x h. h.0) (taken t is_some) (at_some t (one_is words m read f.name ∙ is_some))
 
 -- a text that was given, or the default
 pub text_or_is : (o : Option (Bor Text)) (default r : Bor Text) (v : Option Text) (t : Text) → r ≡ unwrap_or o default → option_map (λ s. s.now) o ≡ v → default.now ≡ t

@@ -1,7 +1,7 @@
 -- The commands of both programs are built by their lines.
 use Rattle.std.proofs.Common.{refl, codes, None, Some}
 use Rattle.s7_words.specs.Fields.{port, journal}
-use Rattle.s7_words.specs.Server.{pipe_line, save, serve_line, links}
+use Rattle.s7_words.specs.Server.{pipe_line, save, serve_line, links, at_entry}
 use Rattle.s7_words.specs.Tool.{run_line, host, kind, rack, slot, pdu, polls, jobs, rig_line, turns, seed, steps, gen_line, partner_line}
 use Rattle.s7_words.proofs.Commands.{IsCommand, long_known}
 
@@ -25,10 +25,10 @@ serve_is = record {
   is_simple_too = refl;
   has_name = refl;
   fields = refl;
-  known = (long_known _ port refl refl, (long_known _ links refl refl, (long_known _ journal refl refl, (long_known _ save refl refl, tt))));
+  known = (long_known _ port refl refl, (long_known _ links refl refl, (long_known _ journal refl refl, (long_known _ save refl refl, (long_known _ at_entry refl refl, tt)))));
   placed = (refl, record { long = None; index = Some 1; found = refl; small = refl }, refl);
   operands = (refl, tt);
-  options = (refl, (refl, (refl, (refl, tt))));
+  options = (refl, (refl, (refl, (refl, (refl, tt)))));
 }
 
 pub run_is : IsCommand (codes "run") run_line

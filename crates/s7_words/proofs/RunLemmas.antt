@@ -1,9 +1,9 @@
 -- The numbers of both programs' commands, each in its range.
 use Rattle.std.proofs.Common.{refl, codes}
 use Rattle.s7_words.specs.Fields.{port, journal}
-use Rattle.s7_words.specs.Server.{pipe_line, serve_line, links}
+use Rattle.s7_words.specs.Server.{pipe_line, serve_line, links, at_entry}
 use Rattle.s7_words.specs.Tool.{run_line, kind, rack, slot, pdu, polls, jobs, rig_line, seed, steps, gen_line, made_from, partner_line}
-use Rattle.s7_words.proofs.Commands.{ReadsNumber, number_or_is}
+use Rattle.s7_words.proofs.Commands.{ReadsNumber, ReadsOption, number_is, number_or_is}
 use Rattle.s7_words.proofs.Lines.{pipe_is, serve_is, run_is, rig_is, gen_is, partner_is}
 
 pub port_is : ReadsNumber (codes "run") run_line run_is port 16 1 65535 102
@@ -38,6 +38,9 @@ links_is = number_or_is (codes "serve") serve_line serve_is links 16 1 1024 16 r
 
 pub serve_journal_is : ReadsNumber (codes "serve") serve_line serve_is journal 64 1 262144 65536
 serve_journal_is = number_or_is (codes "serve") serve_line serve_is journal 64 1 262144 65536 refl refl refl refl
+
+pub at_entry_is : ReadsOption (codes "serve") serve_line serve_is at_entry 64
+at_entry_is = number_is (codes "serve") serve_line serve_is at_entry 64 0 262144 refl refl refl
 
 pub seed_is : ReadsNumber (codes "rig") rig_line rig_is seed 32 0 4294967295 0
 seed_is = number_or_is (codes "rig") rig_line rig_is seed 32 0 4294967295 0 refl refl refl refl

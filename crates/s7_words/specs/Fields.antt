@@ -1,5 +1,5 @@
 -- Fields of commands, and the numbers and texts that were given for them.
-use Rattle.std.specs.Prelude.{ℕ, true, false, codes, Some, None, option_map, unwrap_or}
+use Rattle.std.specs.Prelude.{ℕ, true, false, codes, Option, Some, None, option_map, unwrap_or}
 use Rattle.s7_words.specs.Line.{Text, Field, Given, number_of, value_of}
 
 -- an operand that has to be there
@@ -41,8 +41,11 @@ journal = number (codes "journal") 1 262144
 
 -- ---- what was given, or the default
 
+abbrev pub number_given : Given → Field → Option ℕ
+number_given given f = option_map number_of (value_of given f.name)
+
 abbrev pub number_or : Given → Field → ℕ → ℕ
-number_or given f default = unwrap_or (option_map number_of (value_of given f.name)) default
+number_or given f default = unwrap_or (number_given given f) default
 
 abbrev pub text_or : Given → Field → Text → Text
 text_or given f default = unwrap_or (value_of given f.name) default

@@ -2,12 +2,12 @@
 use Rattle.std.specs.Prelude.{ℕ, codes, List, [], ◌∷◌, Option, None, option_map, if◌then◌else◌}
 use Rattle.std.specs.Str.{bytes_eq}
 use Rattle.s7_words.specs.Line.{Text, Field, Line, Given, given_by, value_of}
-use Rattle.s7_words.specs.Fields.{text, number, areas, port, journal, text_or, number_or}
+use Rattle.s7_words.specs.Fields.{text, number, areas, port, journal, text_or, number_given, number_or}
 
 -- a command with its operands and options
 pub data ServerTold : Type 0 where
   pipe : (areas : Text) (save : Option Text) (journal : ℕ) → ServerTold
-  serve : (areas : Text) (port : ℕ) (links : ℕ) (save : Option Text) (journal : ℕ) → ServerTold
+  serve : (areas : Text) (port : ℕ) (links : ℕ) (save : Option Text) (journal : ℕ) (entry : Option ℕ) → ServerTold
 
 -- ---- pipe AREAS [--save PATH] [--journal N]
 
@@ -20,18 +20,22 @@ pipe_line = record { operands = areas ∷ []; options = save ∷ journal ∷ [] 
 abbrev pub pipe_of : Given → ServerTold
 pipe_of given = pipe (text_or given areas []) (value_of given save.name) (number_or given journal 65536)
 
--- ---- serve AREAS [--port N] [--links N] [--journal N] [--save PATH]
+-- ---- serve AREAS [--port N] [--links N] [--journal N] [--save PATH] [--at N]
 
 -- how many links it takes
 abbrev pub links : Field
 links = number (codes "links") 1 1024
 
+-- behind how many entries the areas are shown
+abbrev pub at_entry : Field
+at_entry = number (codes "at") 0 262144
+
 abbrev pub serve_line : Line
-serve_line = record { operands = areas ∷ []; options = port ∷ links ∷ journal ∷ save ∷ [] }
+serve_line = record { operands = areas ∷ []; options = port ∷ links ∷ journal ∷ save ∷ at_entry ∷ [] }
 
 abbrev pub serve_of : Given → ServerTold
 serve_of given = serve (text_or given areas []) (number_or given port 102) (number_or given links 16)
-    (value_of given save.name) (number_or given journal 65536)
+    (value_of given save.name) (number_or given journal 65536) (number_given given at_entry)
 
 -- ---- all commands
 

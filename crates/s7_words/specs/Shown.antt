@@ -12,22 +12,23 @@ use Rattle.s7_words.specs.declared.tool.ToolWords.TheVariants.{Run, Rig, Gen, Pa
 
 abbrev pub server_told_of : ServerWords → ServerTold
 server_told_of (Pipe areas save journal) = pipe areas.now (option_map (λ s. s.now) save) journal
-server_told_of (Serve areas port links save journal) = serve areas.now port links (option_map (λ s. s.now) save) journal
+server_told_of (Serve areas port links save journal entry) =
+    serve areas.now port links (option_map (λ s. s.now) save) journal entry
 
 -- a journal takes from 1 to 262,144 entries
 abbrev pub HasRoom : ServerWords → Type 0
 HasRoom (Pipe areas save journal) = (1 ≤ journal) × (journal ≤ 262144)
-HasRoom (Serve areas port links save journal) = (1 ≤ journal) × (journal ≤ 262144)
+HasRoom (Serve areas port links save journal entry) = (1 ≤ journal) × (journal ≤ 262144)
 
 -- a service has a port from 1 to 65,535
 abbrev pub HasPort : ServerWords → Type 0
 HasPort (Pipe areas save journal) = Unit {0}
-HasPort (Serve areas port links save journal) = (1 ≤ port) × (port ≤ 65535)
+HasPort (Serve areas port links save journal entry) = (1 ≤ port) × (port ≤ 65535)
 
 -- a service takes from 1 to 1,024 links
 abbrev pub HasLinks : ServerWords → Type 0
 HasLinks (Pipe areas save journal) = Unit {0}
-HasLinks (Serve areas port links save journal) = (1 ≤ links) × (links ≤ 1024)
+HasLinks (Serve areas port links save journal entry) = (1 ≤ links) × (links ≤ 1024)
 
 abbrev pub run_told_of : RunWords → RunTold
 run_told_of r = record {

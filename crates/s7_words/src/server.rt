@@ -23,15 +23,17 @@ pub enum ServerWords<'a> {
         save: Option<&'a str>,
         journal: u64,
     },
-    /// `serve AREAS [--port N] [--links N] [--journal N] [--save PATH]`: links over TCP. `port` is the
-    /// TCP port, 1 to 65,535: 102 where it isn't given. `links` is how many links it takes in all, 1 to 1,024:
-    /// 16 where it isn't given. `areas`, `save` and `journal` are as for `Pipe`.
+    /// `serve AREAS [--port N] [--links N] [--journal N] [--save PATH] [--at N]`: links over TCP. `port` is
+    /// the TCP port, 1 to 65,535: 102 where it isn't given. `links` is how many links it takes in all, 1 to
+    /// 1,024: 16 where it isn't given. `at` is the number of entries, 0 to 262,144, behind which the areas
+    /// are printed in the end, where it is given. `areas`, `save` and `journal` are as for `Pipe`.
     Serve {
         areas: &'a str,
         port: u16,
         links: u16,
         save: Option<&'a str>,
         journal: u64,
+        at: Option<u64>,
     },
 }
 
@@ -110,6 +112,7 @@ fn read_serve<'a>(alloc: Global, words: &'a [&'a str]) -> Result<Option<ServerWo
         links,
         save,
         journal,
+        at: matches.get_one::<u64>("at"),
     }))
 }
 
@@ -121,5 +124,6 @@ fn serve_command<'a>(alloc: Global) -> Result<Command<'a>, AllocError>
         .arg(number(alloc, "port", 1, 65_535))?
         .arg(number(alloc, "links", 1, 1024))?
         .arg(number(alloc, "journal", 1, 262_144))?
-        .arg(text(alloc, "save"))
+        .arg(text(alloc, "save"))?
+        .arg(number(alloc, "at", 0, 262_144))
 }

@@ -16,7 +16,32 @@ fn serve<'a>(port: u16, links: u16, save: Option<&'a str>, journal: u64) -> Serv
         links,
         save,
         journal,
+        at: None,
     }
+}
+
+#[test]
+fn areas_are_shown_at_an_entry(rt: HostRuntime) -> Result<(), Fail> {
+    let lines: &[(&[&str], u64)] = &[
+        (&["serve", "a", "--at", "0"], 0),
+        (&["serve", "--at=262144", "a"], 262_144),
+        (&["serve", "a", "--at", "+007"], 7),
+    ];
+    for (words, at) in lines {
+        let expected = ServerWords::Serve {
+            areas: "a",
+            port: 102,
+            links: 16,
+            save: None,
+            journal: 65_536,
+            at: Some(*at),
+        };
+        assert!(rt;
+            read_server_words(rt.alloc(), words)? == Some(expected),
+            "{words:?}"
+        );
+    }
+    Ok(())
 }
 
 #[test]
@@ -182,6 +207,12 @@ fn server_usage(rt: HostRuntime) -> Result<(), Fail> {
         &["serve", "a", "--port", "102", "--port", "102"],
         &["serve", "a", "--save"],
         &["serve", "a", "--at", "127.0.0.1"],
+        &["serve", "a", "--at", "262145"],
+        &["serve", "a", "--at=-1"],
+        &["serve", "a", "--at="],
+        &["serve", "a", "--at"],
+        &["serve", "a", "--at", "1", "--at", "1"],
+        &["pipe", "a", "--at", "0"],
     ];
     for words in lines {
         assert!(rt;

@@ -2,6 +2,7 @@
 #![tactic(auto)]
 
 use s7_outer::{OpenGate, Out, RealLink, StdFiles, StdOut, TcpDoor};
+use s7_plant::Tail;
 use s7_server::{MEMORY, server_main};
 use std::alloc::{AllocError, Global};
 use std::process::ExitCode;
@@ -29,6 +30,7 @@ fn main(rt: HostRuntime) -> io::Result<ExitCode> {
     };
     let mut files = StdFiles::new(files);
     let mut door = TcpDoor::new(door);
+    let observers: Vec<Tail> = Vec::new(alloc);
     let status = if words.first() == Some(&"pipe") {
         server_main(
             &rt,
@@ -39,6 +41,7 @@ fn main(rt: HostRuntime) -> io::Result<ExitCode> {
             &mut door,
             &OpenGate,
             &mut StdOut::new(rt.stderr()),
+            observers,
         )
         .status
     } else {
@@ -51,6 +54,7 @@ fn main(rt: HostRuntime) -> io::Result<ExitCode> {
             &mut door,
             &OpenGate,
             &mut StdOut::new(rt.stdout()),
+            observers,
         )
         .status
     };

@@ -1,6 +1,7 @@
 //! Runs scripts against controllers, and in rigs.
 #![tactic(auto)]
 
+use s7_client::Counter;
 use s7_outer::{Out, StdFiles, StdOut, TcpDial};
 use s7_tool::{MEMORY, print_line, tool_main};
 use std::alloc::{AllocError, Global};
@@ -20,7 +21,16 @@ fn main(rt: HostRuntime) -> io::Result<ExitCode> {
     };
     let mut files = StdFiles::new(files);
     let mut dial = TcpDial::new(nets);
-    let end = tool_main(alloc, words.as_slice(), &mut files, &mut dial, &mut out);
+    // nobody is told of jobs but by what is printed
+    let done: Option<Counter> = None;
+    let end = tool_main(
+        alloc,
+        words.as_slice(),
+        &mut files,
+        &mut dial,
+        &mut out,
+        done,
+    );
     Ok(ExitCode::from(end.status))
 }
 

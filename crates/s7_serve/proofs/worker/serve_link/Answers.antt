@@ -1,4 +1,4 @@
-use Rattle.std.proofs.Common.{refl, ap, length}
+use Rattle.std.proofs.Common.{ap, length}
 use Rattle.s7_turn.specs.Seats.{made, seen, caller}
 use Rattle.s7_session.specs.LinkState.{first_link}
 use Rattle.s7_serve.proofs.OwnLemmas.{own_of_none}

@@ -5,8 +5,8 @@ use Rattle.s7_tool.specs.Report.{PrintsText}
 use Rattle.s7_tool.proofs.RanLemmas.{seed_rigged}
 use Rattle.s7_tool.proofs.gen_run.run_gen.Goals as goal
 
-pub returns-in-Ok : goal.returns-in-Ok
-returns-in-Ok g c =
+pub returns-in-Ok-clause-ended : goal.returns-in-Ok-clause-ended
+returns-in-Ok-clause-ended g c =
     let rig = c.in-Ok.rigged in
     let from = g.O.Out.shows c.args.out.now in
     let to = g.O.Out.shows c.print_text-ended.new.out in
@@ -16,3 +16,6 @@ returns-in-Ok g c =
     subst (λ b. PrintsText (made_text (end_told rig.end)) b from to how) c.in-Ok.ensures.good
     (subst (λ t. PrintsText t rig.is_good from to how) text c.print_text-ended.ensures) in
     seed_rigged c.args.seed from to rig.end how c.in-Ok.ensures.ran printed
+
+pub returns-in-Ok-clause-told : goal.returns-in-Ok-clause-told
+returns-in-Ok-clause-told g c = λ other. c.in-Ok.ensures.told

@@ -13,3 +13,6 @@ returns-in-Link-clause-ended g c =
     (g.O.Out.shows c.args.out.now) _ _ c.talk_over-ended.result.0
     (subst (λ (x : Config). IsFresh Active x c.args.one (post_of c.in-Ok.talker)) c.partner_config.ensures c.in-Ok.ensures)
     (given_is g.L.Link.shows _ c.in-Link.line c.in-Link.ensures.gives) c.talk_over-ended.ensures
+
+pub returns-in-Link-clause-unheard : goal.returns-in-Link-clause-unheard
+returns-in-Link-clause-unheard g c = c.talk_over-ended.ensures.none

@@ -8,6 +8,7 @@ use Rattle.s7_tool.specs.Scripts.{ReadsScripts, StopsAt}
 use Rattle.s7_tool.proofs.ConnectsLemmas.{connect_first}
 use Rattle.s7_tool.proofs.RanLemmas.{rigged, script_unloaded}
 use Rattle.s7_tool.proofs.FileLemmas.{keeps_by_areas, scripts_before, stops_before}
+use Rattle.s7_tool.proofs.ToldLemmas.{told_nothing}
 use Rattle.s7_tool.proofs.rigging.run_rigging.Goals as goal
 
 pub returns-in-Err-load_scripts-clause-ended : goal.returns-in-Err-load_scripts-clause-ended
@@ -54,3 +55,12 @@ returns-in-Ok-run_scripts-clause-ended g c =
     (subst (λ t. PrintsText t rig.is_good from to how) text c.print_text-ended.ensures) in
     rigged told (files c.args.files.now) (files c.load_scripts.new.files) from to c.in-Ok.areas scripts rig.end how
     c.in-Ok.ensures.answers (scripts_before told.scripts scripts _ _ left read) c.in-Ok-run_scripts.ensures.ran printed
+
+pub returns-in-Err-clause-told : goal.returns-in-Err-clause-told
+returns-in-Err-clause-told g c = λ other. told_nothing _
+
+pub returns-in-Err-load_scripts-clause-told : goal.returns-in-Err-load_scripts-clause-told
+returns-in-Err-load_scripts-clause-told g c = λ other. told_nothing _
+
+pub returns-in-Ok-run_scripts-clause-told : goal.returns-in-Ok-run_scripts-clause-told
+returns-in-Ok-run_scripts-clause-told g c = λ other. c.in-Ok-run_scripts.ensures.told

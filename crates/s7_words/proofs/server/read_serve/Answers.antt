@@ -4,7 +4,7 @@ use Rattle.s7_words.specs.Fields.{areas}
 use Rattle.s7_words.specs.Server.{ServerTold, save, serve, serve_line, serve_of}
 use Rattle.s7_words.proofs.Commands.{accepted, refused, text_or_is, text_read}
 use Rattle.s7_words.proofs.Lines.{serve_is}
-use Rattle.s7_words.proofs.RunLemmas.{serve_port_is, links_is, serve_journal_is}
+use Rattle.s7_words.proofs.RunLemmas.{serve_port_is, links_is, serve_journal_is, at_entry_is}
 use Rattle.s7_words.proofs.server.read_serve.Goals as goal
 
 pub returns-in_default : goal.returns-in_default
@@ -27,7 +27,8 @@ returns c =
     let links_read = links_is _ m read c.get_one-2.result _ c.unwrap_or-links.ensures c.get_one-2.ensures.none c.get_one-2.ensures.value in
     let save_is = text_read (codes "serve") serve_line serve_is _ m read save.name c.get_str-save.result c.get_str-save.ensures in
     let journal_read = serve_journal_is _ m read c.get_one-3.result _ c.unwrap_or-journal.ensures c.get_one-3.ensures.none c.get_one-3.ensures.value in
-    let told : ◌≡◌ {A = ServerTold} _ (serve_of read.given) = λ i. serve (areas_is i) (port_read.same i) (links_read.same i) (save_is i) (journal_read.same i) in
+    let entry_is = at_entry_is _ m read c.get_one-4.result c.get_one-4.ensures.none c.get_one-4.ensures.value in
+    let told : ◌≡◌ {A = ServerTold} _ (serve_of read.given) = λ i. serve (areas_is i) (port_read.same i) (links_read.same i) (save_is i) (journal_read.same i) (entry_is i) in
     record {
       told = ap Some told ∙ sym (ap (option_map serve_of) read.by_line);
       journal = (journal_read.least, journal_read.most);

@@ -1,62 +1,87 @@
-use Rattle.std.proofs.Common.{◌≡◌, ◌<◌, ◌++◌, length, take, refl, sym, ap, ◌∙◌, arith}
-use Rattle.std.proofs.lemmas.Grind.{common_steps}
-use Rattle.std.proofs.lemmas.List.{take-append-drop}
-use Rattle.s7_dialogue.specs.Codes.{bad_packet, message_too_long}
-use Rattle.s7_dialogue.specs.Course.{by_state}
-use Rattle.s7_client.proofs.FrontLemmas.{earliest_of}
-use Rattle.s7_client.proofs.StepLemmas.{consumes_more, consumes_fault, consumes_whole, more_not_whole, bad_not_whole, too_long_not_whole, bad_faults}
+use Rattle.std.proofs.Common.{refl}
+use Rattle.s7_client.specs.declared.line.Line.{Line}
+use Rattle.s7_client.proofs.StepLemmas.{uses_front, opens_at, asks_at, message_short}
+use Rattle.s7_client.proofs.StepLemmas.{consumes_more, consumes_open, consumes_message}
+use Rattle.s7_client.proofs.StepLemmas.{consumes_disconnect, consumes_fault}
 use Rattle.s7_client.proofs.line.Line.consume.Goals as goal
+
+pub open-requires-clause-opening : goal.open-requires-clause-opening
+open-requires-clause-opening c =
+    let t = c.read-taken in
+    let front = uses_front c.args.self.now t.new.self c.args.job.now c.as_slice.result.now c.advance.new.self
+    t.result.octets t.result.found c.requires.fits c.requires.awaiting c.as_slice.ensures.octets c.advance.ensures
+    t.ensures.taken t.ensures.some t.ensures.opening t.ensures.earliest t.ensures.found in
+    opens_at c.args.self.now t.new.self c.args.job.now c.advance.new.self _ t.result.found _ c.requires.fits
+    c.requires.awaiting front c.in-Opened.is
+
+pub message-requires-clause-asking : goal.message-requires-clause-asking
+message-requires-clause-asking c =
+    let t = c.read-taken in
+    let front = uses_front c.args.self.now t.new.self c.args.job.now c.as_slice.result.now c.advance.new.self
+    t.result.octets t.result.found c.requires.fits c.requires.awaiting c.as_slice.ensures.octets c.advance.ensures
+    t.ensures.taken t.ensures.some t.ensures.opening t.ensures.earliest t.ensures.found in
+    asks_at c.args.self.now t.new.self c.args.job.now c.advance.new.self _ t.result.found c.requires.fits
+    c.requires.awaiting front c.in-Message.is
+
+pub message-requires-clause-most : goal.message-requires-clause-most
+message-requires-clause-most c =
+    let t = c.read-taken in
+    let front = uses_front c.args.self.now t.new.self c.args.job.now c.as_slice.result.now c.advance.new.self
+    t.result.octets t.result.found c.requires.fits c.requires.awaiting c.as_slice.ensures.octets c.advance.ensures
+    t.ensures.taken t.ensures.some t.ensures.opening t.ensures.earliest t.ensures.found in
+    message_short c.args.self.now t.new.self c.advance.new.self _ t.result.found front c.in-Message.is
 
 pub returns-in-More : goal.returns-in-More
 returns-in-More c =
-    let used = take c.feed-fed.result.taken c.as_slice.result.now in
-    let some : 0 < length used = grind (arith, common_steps) in
-    let inbox : c.args.self.now.inbox ≡ used ++ c.advance.new.self = grind (arith, common_steps, take-append-drop) in
-    consumes_more c.args.self.now _ c.args.job.now used c.args.config.now c.args.granted c.requires.fits
-    c.requires.awaiting c.requires.sent c.requires.unput some inbox refl
-    c.feed-fed.ensures.held c.feed-fed.ensures.limit (sym c.feed-fed.ensures.state ∙ c.in-More.is)
-    (λ limits b h. c.feed-fed.ensures.goes_on limits b h (more_not_whole _ c.in-More.is))
-    (earliest_of c.args.self.now.cutter.limit c.args.self.now.cutter.held c.as_slice.result.now c.feed-fed.result.taken
-    c.feed-fed.ensures.taken c.feed-fed.ensures.earliest)
+    let t = c.read-taken in
+    let l' : Line = record { inbox = c.advance.new.self; talk = t.new.self } in
+    let front = uses_front c.args.self.now t.new.self c.args.job.now c.as_slice.result.now c.advance.new.self
+    t.result.octets t.result.found c.requires.fits c.requires.awaiting c.as_slice.ensures.octets c.advance.ensures
+    t.ensures.taken t.ensures.some t.ensures.opening t.ensures.earliest t.ensures.found in
+    consumes_more c.args.self.now l' c.args.job.now _ t.result.found c.args.config.now c.args.granted
+    c.in-More.is c.requires.fits c.requires.awaiting c.requires.sent c.requires.unput front t.ensures.same
 
-pub returns-in-BadVersion : goal.returns-in-BadVersion
-returns-in-BadVersion c =
-    let used = take c.feed-fed.result.taken c.as_slice.result.now in
-    let some : 0 < length used = grind (arith, common_steps) in
-    let inbox : c.args.self.now.inbox ≡ used ++ c.advance.new.self = grind (arith, common_steps, take-append-drop) in
-    consumes_fault c.args.self.now _ c.args.job.now _ used c.args.config.now c.args.granted bad_packet c.requires.fits
-    c.requires.awaiting c.requires.sent c.requires.unput some inbox refl
-    c.feed-fed.ensures.held c.feed-fed.ensures.limit (λ x. ap (by_state x) (sym c.feed-fed.ensures.state)
-    ∙ bad_faults x c.feed-fed.result.state c.in-BadVersion.is)
-    (λ limits b h. c.feed-fed.ensures.goes_on limits b h (bad_not_whole _ c.in-BadVersion.is))
-    (earliest_of c.args.self.now.cutter.limit c.args.self.now.cutter.held c.as_slice.result.now c.feed-fed.result.taken
-    c.feed-fed.ensures.taken c.feed-fed.ensures.earliest)
-    c.fail.ensures.fails c.fail.ensures.over c.fail.ensures.job refl refl
+pub returns-in-Opened : goal.returns-in-Opened
+returns-in-Opened c =
+    let t = c.read-taken in
+    let l' : Line = record { inbox = c.advance.new.self; talk = c.open.new.self } in
+    let front = uses_front c.args.self.now t.new.self c.args.job.now c.as_slice.result.now c.advance.new.self
+    t.result.octets t.result.found c.requires.fits c.requires.awaiting c.as_slice.ensures.octets c.advance.ensures
+    t.ensures.taken t.ensures.some t.ensures.opening t.ensures.earliest t.ensures.found in
+    consumes_open c.args.self.now t.new.self l' c.args.job.now c.open.new.job _ t.result.found _
+    c.args.config.now c.args.granted c.in-Opened.is c.requires.fits c.requires.awaiting c.requires.sent
+    c.requires.unput front t.ensures.same (c.open.ensures.settles c.args.config.now) c.open.ensures.reaches
 
-pub returns-in-TooLong : goal.returns-in-TooLong
-returns-in-TooLong c =
-    let used = take c.feed-fed.result.taken c.as_slice.result.now in
-    let some : 0 < length used = grind (arith, common_steps) in
-    let inbox : c.args.self.now.inbox ≡ used ++ c.advance.new.self = grind (arith, common_steps, take-append-drop) in
-    consumes_fault c.args.self.now _ c.args.job.now _ used c.args.config.now c.args.granted message_too_long
-    c.requires.fits c.requires.awaiting c.requires.sent c.requires.unput some inbox refl
-    c.feed-fed.ensures.held c.feed-fed.ensures.limit
-    (λ x. ap (by_state x) (sym c.feed-fed.ensures.state ∙ c.in-TooLong.is))
-    (λ limits b h. c.feed-fed.ensures.goes_on limits b h (too_long_not_whole _ c.in-TooLong.is))
-    (earliest_of c.args.self.now.cutter.limit c.args.self.now.cutter.held c.as_slice.result.now c.feed-fed.result.taken
-    c.feed-fed.ensures.taken c.feed-fed.ensures.earliest)
-    c.fail-in-TooLong.ensures.fails c.fail-in-TooLong.ensures.over c.fail-in-TooLong.ensures.job refl refl
+pub returns-in-Message : goal.returns-in-Message
+returns-in-Message c =
+    let t = c.read-taken in
+    let l' : Line = record { inbox = c.advance.new.self; talk = c.message.new.self } in
+    let front = uses_front c.args.self.now t.new.self c.args.job.now c.as_slice.result.now c.advance.new.self
+    t.result.octets t.result.found c.requires.fits c.requires.awaiting c.as_slice.ensures.octets c.advance.ensures
+    t.ensures.taken t.ensures.some t.ensures.opening t.ensures.earliest t.ensures.found in
+    consumes_message c.args.self.now t.new.self l' c.args.job.now c.message.new.job _ t.result.found
+    c.args.config.now c.args.granted c.in-Message.is c.requires.fits c.requires.awaiting c.requires.sent
+    c.requires.unput front t.ensures.same c.message.ensures.settles c.message.ensures.reaches
 
-pub returns-in-Whole : goal.returns-in-Whole
-returns-in-Whole c =
-    let used = take c.feed-fed.result.taken c.as_slice.result.now in
-    let some : 0 < length used = grind (arith, common_steps) in
-    let inbox : c.args.self.now.inbox ≡ used ++ c.advance.new.self = grind (arith, common_steps, take-append-drop) in
-    consumes_whole c.args.self.now _ c.args.job.now _ used c.body.result.now c.args.config.now c.args.granted
-    c.requires.fits c.requires.awaiting c.requires.sent c.requires.unput some inbox
-    c.set_limit.ensures.held (c.set_limit.ensures.limit ∙ c.packet_limit.ensures.limit)
-    (omega (arith, c.set_limit.ensures.limit, c.packet_limit.ensures.most))
-    (λ limits b h. rw c.body.ensures.body (c.feed-fed.ensures.ends_packet limits b h c.in-Whole.is))
-    (earliest_of c.args.self.now.cutter.limit c.args.self.now.cutter.held c.as_slice.result.now c.feed-fed.result.taken
-    c.feed-fed.ensures.taken c.feed-fed.ensures.earliest)
-    c.packet.ensures.reaches c.packet.ensures.takes c.packet.ensures.carried c.packet.ensures.waited
+pub returns-in-Disconnected : goal.returns-in-Disconnected
+returns-in-Disconnected c =
+    let t = c.read-taken in
+    let l' : Line = record { inbox = c.advance.new.self; talk = t.new.self } in
+    let front = uses_front c.args.self.now t.new.self c.args.job.now c.as_slice.result.now c.advance.new.self
+    t.result.octets t.result.found c.requires.fits c.requires.awaiting c.as_slice.ensures.octets c.advance.ensures
+    t.ensures.taken t.ensures.some t.ensures.opening t.ensures.earliest t.ensures.found in
+    consumes_disconnect c.args.self.now l' c.args.job.now _ _ t.result.found c.args.config.now c.args.granted
+    c.in-Disconnected.is c.requires.fits c.requires.awaiting c.requires.sent c.requires.unput front
+    t.ensures.same c.fail.ensures.fails c.fail.ensures.over c.fail.ensures.job refl refl
+
+pub returns-in-Fault : goal.returns-in-Fault
+returns-in-Fault c =
+    let t = c.read-taken in
+    let l' : Line = record { inbox = c.advance.new.self; talk = t.new.self } in
+    let front = uses_front c.args.self.now t.new.self c.args.job.now c.as_slice.result.now c.advance.new.self
+    t.result.octets t.result.found c.requires.fits c.requires.awaiting c.as_slice.ensures.octets c.advance.ensures
+    t.ensures.taken t.ensures.some t.ensures.opening t.ensures.earliest t.ensures.found in
+    consumes_fault c.args.self.now l' c.args.job.now _ _ t.result.found c.in-Fault.fault c.code_of-code.result
+    c.args.config.now c.args.granted c.in-Fault.is c.requires.fits c.requires.awaiting c.requires.sent
+    c.requires.unput front t.ensures.same c.code_of-code.ensures c.fail-in-Fault.ensures.fails
+    c.fail-in-Fault.ensures.over c.fail-in-Fault.ensures.job refl refl

@@ -21,10 +21,8 @@ returns-in-Bytes g c =
     c.requires.fits)
     (some_of t.outbox.unsent c.is_empty.result c.is_empty.ensures c.if-not-is_empty.true)
     (record {
-      cutter = refl;
+      reader = refl;
       inbox = refl;
-      joiner = refl;
-      size = refl;
       sequence = refl;
       out = c.in-Bytes.ensures.sent;
     }) (c.in-Bytes.ensures.some c.in-Bytes.field-0 refl).1
@@ -42,10 +40,8 @@ returns-in-NotYet g c =
     c.requires.fits)
     (some_of t.outbox.unsent c.is_empty.result c.is_empty.ensures c.if-not-is_empty.true)
     (record {
-      cutter = refl;
+      reader = refl;
       inbox = refl;
-      joiner = refl;
-      size = refl;
       sequence = refl;
       out = c.in-NotYet.ensures.sent;
     })
@@ -66,10 +62,8 @@ returns-in-Failed g c =
     c.requires.fits)
     (some_of t.outbox.unsent c.is_empty.result c.is_empty.ensures c.if-not-is_empty.true)
     (record {
-      cutter = refl;
+      reader = refl;
       inbox = refl;
-      joiner = refl;
-      size = refl;
       sequence = refl;
       out = c.in-Failed.ensures.sent;
     })
@@ -122,3 +116,18 @@ returns-in-Single g c =
     c.put_next.new.running (g.L.Link.shows c.args.link.now)
     (g.L.Link.shows c.go_on-in-Single.new.link) c.args.config.now c.args.granted c.go_on-in-Single.result
     c.put_next.ensures c.go_on-in-Single.ensures
+
+pub go_on-requires-clause-fits : goal.go_on-requires-clause-fits
+go_on-requires-clause-fits g c =
+    fits_put c.args.config.now c.args.self.now c.put_next.new.self c.args.job.now c.put_next.new.running
+    c.put_next.ensures c.requires.fits
+
+pub go_on-requires-in-Asking-clause-fits : goal.go_on-requires-in-Asking-clause-fits
+go_on-requires-in-Asking-clause-fits g c =
+    fits_put c.args.config.now c.args.self.now c.put_next.new.self c.args.job.now c.put_next.new.running
+    c.put_next.ensures c.requires.fits
+
+pub go_on-requires-in-Single-clause-fits : goal.go_on-requires-in-Single-clause-fits
+go_on-requires-in-Single-clause-fits g c =
+    fits_put c.args.config.now c.args.self.now c.put_next.new.self c.args.job.now c.put_next.new.running
+    c.put_next.ensures c.requires.fits

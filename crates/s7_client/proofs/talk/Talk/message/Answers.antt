@@ -1,4 +1,5 @@
 use Rattle.std.proofs.Common.{◌++◌, refl, sym, ap, ◌∙◌}
+use Rattle.s7_wire.specs.Reads.{message_at}
 use Rattle.s7_client.proofs.PacketLemmas.{reached_answer, reached_nothing, follows_here, none_over}
 use Rattle.s7_client.proofs.talk.Talk.message.Goals as goal
 
@@ -9,7 +10,7 @@ returns-in-Some-clause-reaches c = λ origin course ec eg at.
     c.args.config.now c.args.granted ec eg asks at)
     (sym at.sequence) (c.requires.unput course.size) in
     reached_answer origin course c.args.self.now _ c.args.job.now _ c.args.config.now c.args.granted
-    c.message-message.result.now c.args.self.now.joiner.octets taken.0 _ ec eg
+    c.message-message.result.now (message_at c.args.self.now.reader) taken.0 _ ec eg
     c.message-message.ensures c.if-message-lt-LEAST_MESSAGE.false asks at taken.1 taken.2 c.take.ensures.job refl refl
     refl refl c.requires.sent
 
@@ -19,7 +20,7 @@ returns-in-None-clause-reaches c = λ origin course ec eg at.
     let none = c.in-None.ensures.none c.args.granted course.rows
     (follows_here origin course c.args.self.now c.args.job.now c.args.config.now c.args.granted ec eg asks at) in
     reached_nothing origin course c.args.self.now c.args.job.now _ c.message-message.result.now
-    c.args.self.now.joiner.octets c.message-message.ensures
+    (message_at c.args.self.now.reader) c.message-message.ensures
     c.if-message-lt-LEAST_MESSAGE.false at none c.fail-in-None.ensures.fails c.fail-in-None.ensures.over
     (c.fail-in-None.ensures.job ∙ c.take.ensures.job)
     (c.add.ensures.octets ∙ ap (λ x. x ++ c.message-message.result.now) c.clear.ensures.octets)

@@ -10,7 +10,7 @@ use Rattle.s7_plant.proofs.book.Book.image_at.Given as goal
 -- the entries so far were applied, at one step each, and those to come have their copies
 abbrev pub invariant-loop-entry : goal.invariant-loop-entry
 invariant-loop-entry g l = record {
-  state : state_of l.image ≡ at (state_of l.self.opening) l.self.journal.entries l.entry-index;
+  state : state_of l.image ≡ at (state_of l.self.opening) l.self.journal.entries (l.first + l.entry-index);
   steps : l.steps ≡ l.fn.steps + l.entry-index;
   copies : AllZip IsCopyFor (drop l.entry-index l.entries) (into_iter_items l.copies);
   reply : IsReadyReply l.reply;

@@ -1,3 +1,4 @@
+use Rattle.s7_plant.specs.Books.{book_told}
 use Rattle.std.proofs.Common.{◌≡◌, map, refl, sym, ap, ◌∙◌, arith}
 use Rattle.std.proofs.lemmas.Simd.{map-map}
 use Rattle.std.specs.Vec.Iter.{into_iter_items}
@@ -31,5 +32,5 @@ returns c =
     let none = c.in-None.ensures.steps in
     let xs = c.args.self.stations.items in
     let all : at.yielded ≡ xs = walk_end at.yielded _ _ at.invariant.all (sym at.invariant.left ∙ none.0) in
-    ap (λ cs. record { book = c.args.self.book; clients = cs })
+    ap (λ cs. record { book = book_told c.args.self.book; clients = cs })
     (at.invariant.told ∙ (ap (map (λ s. post_told (post_of s))) all ∙ sym (map-map post_told post_of xs)))

@@ -1,28 +1,34 @@
 use Rattle.std.proofs.Common.{◌≡◌, ◌*◌, length, map, refl, ◌∙◌, subst, arith}
+use Rattle.std.specs.Prelude.{option_map}
 use Rattle.std.proofs.lemmas.List.{length-map}
 use Rattle.s7_rig.specs.Numbers.{count_from}
-use Rattle.s7_rig.specs.Shown.{post_of, state_of}
+use Rattle.s7_rig.specs.Shown.{first_results, state_told, post_of, state_of}
 use Rattle.s7_rig.specs.Runs.{Turns}
 use Rattle.s7_rig.proofs.TurnsLemmas.{Turns-none, Turns-count}
+use Rattle.s7_rig.proofs.TellsLemmas.{tells_none, tells_then}
 use Rattle.s7_rig.proofs.rig.Rig.round.Goals as goal
 
 pub loop-actor-init : goal.loop-actor-init
 unfolding count_from
-loop-actor-init c = record {
+loop-actor-init g c = record {
   end = omega arith;
   count = refl;
+  tells = tells_none (first_results (state_told (state_of c.args.self.now))) (option_map g.C.Completion.told c.args.done.now);
+  handed = refl;
   turns = Turns-none (state_of c.args.self.now);
 }
 
 pub loop-actor-preserved : goal.loop-actor-preserved
-loop-actor-preserved c = record {
+loop-actor-preserved g c = record {
   end = omega arith;
   count = c.turn.ensures.count ∙ c.loop-actor.invariant.count;
+  tells = tells_then _ _ _ _ _ _ c.loop-actor.invariant.tells c.in_ok-stirred.ensures.tells;
+  handed = c.turn.ensures.handed ∙ c.loop-actor.invariant.handed;
   turns = Turns-count c.loop-actor.actor _ (state_of c.loop-actor.self) _ _ _ c.loop-actor.invariant.turns c.in_ok-stirred.ensures.turn;
 }
 
 pub returns-clause-turns : goal.returns-clause-turns
-returns-clause-turns c =
+returns-clause-turns g c =
     let n : c.loop-actor.actor ≡ 2 * length (map post_of c.args.self.now.stations.items) =
     omega (arith, length-map c.args.self.now.stations.items post_of) in
     subst (λ k. Turns (count_from 0 k) (state_of c.args.self.now) (state_of c.loop-actor.self) c.loop-actor.stirred) n c.loop-actor.invariant.turns

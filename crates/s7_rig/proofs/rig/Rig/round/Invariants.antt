@@ -1,13 +1,18 @@
 use Rattle.std.proofs.Common.{◌≡◌, ◌*◌, length}
+use Rattle.std.specs.Prelude.{is_some, option_map}
 use Rattle.s7_rig.specs.Numbers.{count_from}
 use Rattle.s7_rig.specs.Shown.{state_of}
 use Rattle.s7_rig.specs.Runs.{Turns}
+use Rattle.s7_rig.specs.Tells.{TellsFirst}
 use Rattle.s7_rig.proofs.rig.Rig.round.Given as goal
 
 -- the actors below this one had their turns
 abbrev pub invariant-loop-actor : goal.invariant-loop-actor
-invariant-loop-actor l = record {
+invariant-loop-actor g l = record {
   end : l.actor-end ≡ 2 * length l.fn.self.stations.items;
   count : length l.self.stations.items ≡ length l.fn.self.stations.items;
+  tells : TellsFirst (state_of l.fn.self) (state_of l.self) (option_map g.C.Completion.told l.fn.done)
+      (option_map g.C.Completion.told l.done);
+  handed : is_some l.done ≡ is_some l.fn.done;
   turns : Turns (count_from 0 l.actor) (state_of l.fn.self) (state_of l.self) l.stirred;
 }

@@ -5,10 +5,11 @@ use Rattle.s7_rig.specs.Shown.{post_of, state_of}
 use Rattle.s7_draw.specs.Drawing.{seeded}
 use Rattle.s7_rig.specs.Runs.{Turns}
 use Rattle.s7_rig.proofs.TurnsLemmas.{Turns-append}
+use Rattle.s7_rig.proofs.TellsLemmas.{tells_then}
 use Rattle.s7_rig.proofs.rig.Rig.run.Goals as goal
 
 pub returns-clause-run : goal.returns-clause-run
-returns-clause-run c =
+returns-clause-run g c =
     let xs = c.args.self.now.stations.items in
     let stated = c.in_ok-take_stated.ensures.turns in
     let drawn = c.in_ok-take_drawn.ensures.turns in
@@ -21,3 +22,9 @@ returns-clause-run c =
       turned = Turns-append c.args.turns.now (seeded c.args.seed c.args.steps (2 * length (map post_of xs))) _ middle end stated.0 drawn.0 stated.1 turns;
       rounds = rounds;
     }) c.take_rounds.ensures.rounds
+
+pub returns-clause-tells : goal.returns-clause-tells
+returns-clause-tells g c =
+    on_ok_weaker c.take_rounds.result (λ rounds. tells_then _ _ _ _ _ _
+    (tells_then _ _ _ _ _ _ c.in_ok-take_stated.ensures.tells c.in_ok-take_drawn.ensures.tells) rounds)
+    c.take_rounds.ensures.tells

@@ -1,33 +1,37 @@
 use Rattle.std.proofs.Common.{refl, sym, ◌∙◌, subst}
-use Rattle.s7_rig.specs.Shown.{state_of}
+use Rattle.std.specs.Prelude.{option_map}
+use Rattle.s7_rig.specs.Shown.{first_results, state_told, state_of}
 use Rattle.s7_rig.specs.Runs.{Turns, actors_of, most_rounds}
 use Rattle.s7_rig.proofs.RoundsLemmas.{CountsOn-begin, CountsOn-more, CountsOn-ends, CountsOn-all, Rounds-finished, Rounds-still}
+use Rattle.s7_rig.proofs.TellsLemmas.{tells_none, tells_then}
 use Rattle.s7_rig.proofs.rig.Rig.take_rounds.Goals as goal
 
 pub loop-init : goal.loop-init
-loop-init c = record { count = refl; rounds = CountsOn-begin (state_of c.args.self.now) }
+loop-init g c = record { count = refl; tells = tells_none (first_results (state_told (state_of c.args.self.now))) (option_map g.C.Completion.told c.args.done.now); handed = refl; rounds = CountsOn-begin (state_of c.args.self.now) }
 
 pub returns-then-are_finished-clause-rounds : goal.returns-then-are_finished-clause-rounds
-returns-then-are_finished-clause-rounds c =
+returns-then-are_finished-clause-rounds g c =
     let now = state_of c.loop.self in
     CountsOn-ends c.loop.counter most_rounds _ now _ c.loop-test.true c.loop.invariant.rounds (λ more. Rounds-finished more now (sym c.if-are_finished.ensures))
 
 pub returns-then-not-branch-clause-rounds : goal.returns-then-not-branch-clause-rounds
-returns-then-not-branch-clause-rounds c =
+returns-then-not-branch-clause-rounds g c =
     let now = state_of c.loop.self in
     let next = state_of c.round.new.self in
     let round = subst (λ b. Turns (actors_of now) now next b) c.if-not-branch.true c.in_ok-round.ensures.turns in
     CountsOn-ends c.loop.counter most_rounds _ now _ c.loop-test.true c.loop.invariant.rounds (λ more. Rounds-still more now next (sym c.if-are_finished.ensures) round)
 
 pub loop-preserved : goal.loop-preserved
-loop-preserved c =
+loop-preserved g c =
     let now = state_of c.loop.self in
     let next = state_of c.round.new.self in
     let round = subst (λ b. Turns (actors_of now) now next b) c.if-not-branch.false c.in_ok-round.ensures.turns in
     record {
       count = c.round.ensures.count ∙ c.loop.invariant.count;
+      tells = tells_then _ _ _ _ _ _ c.loop.invariant.tells c.in_ok-round.ensures.tells;
+      handed = c.round.ensures.handed ∙ c.loop.invariant.handed;
       rounds = CountsOn-more c.loop.counter _ now next (sym c.if-are_finished.ensures) round c.loop.invariant.rounds;
     }
 
 pub returns-clause-rounds : goal.returns-clause-rounds
-returns-clause-rounds c = CountsOn-all c.loop.counter most_rounds _ (state_of c.loop.self) c.loop.auto.counter-end c.loop-test.false c.loop.invariant.rounds
+returns-clause-rounds g c = CountsOn-all c.loop.counter most_rounds _ (state_of c.loop.self) c.loop.auto.counter-end c.loop-test.false c.loop.invariant.rounds

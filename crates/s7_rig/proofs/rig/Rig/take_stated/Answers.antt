@@ -1,15 +1,19 @@
 use Rattle.std.proofs.Common.{◌||◌, refl, ◌∙◌, false}
-use Rattle.s7_rig.specs.Shown.{state_of}
+use Rattle.std.specs.Prelude.{option_map}
+use Rattle.s7_rig.specs.Shown.{first_results, state_told, state_of}
 use Rattle.s7_rig.proofs.TurnsLemmas.{Turns-none, Turns-take}
+use Rattle.s7_rig.proofs.TellsLemmas.{tells_none, tells_then}
 use Rattle.s7_rig.proofs.rig.Rig.take_stated.Goals as goal
 
 pub loop-actor-init : goal.loop-actor-init
-loop-actor-init c = record { count = refl; turns = (false, Turns-none (state_of c.args.self.now)) }
+loop-actor-init g c = record { count = refl; tells = tells_none (first_results (state_told (state_of c.args.self.now))) (option_map g.C.Completion.told c.args.done.now); handed = refl; turns = (false, Turns-none (state_of c.args.self.now)) }
 
 pub loop-actor-preserved : goal.loop-actor-preserved
-loop-actor-preserved c =
+loop-actor-preserved g c =
     let before = c.loop-actor.invariant.turns in record {
       count = c.turn.ensures.count ∙ c.loop-actor.invariant.count;
+      tells = tells_then _ _ _ _ _ _ c.loop-actor.invariant.tells c.in_ok-turn.ensures.tells;
+      handed = c.turn.ensures.handed ∙ c.loop-actor.invariant.handed;
       turns = (
         before.0 || c.in_ok-turn.field-0,
         Turns-take c.args.turns.now c.loop-actor.actor-index _ (state_of c.loop-actor.self) _ before.0 c.in_ok-turn.field-0 c.loop-actor-test.true before.1 c.in_ok-turn.ensures.turn,

@@ -5,7 +5,7 @@ use Rattle.s7_plant.specs.declared.request.Request.TheVariants.{Write}
 use Rattle.s7_wire.specs.Sent.{sent_messages}
 use Rattle.s7_session.specs.Answers.{Answers}
 use Rattle.s7_session.specs.Conversing.{link_of, size_of, sends}
-use Rattle.s7_session.specs.Events.{settled, asks, by_judgement, refusal_sent}
+use Rattle.s7_session.specs.Events.{settled, asks, by_judgement}
 use Rattle.s7_session.specs.Judged.{judgement_of, IsWithin}
 use Rattle.s7_session.specs.Judgement.{answer_octets, plainly, user_octets, user_answer, secured}
 use Rattle.s7_session.specs.Judgement.{slice_octets, slices_left}

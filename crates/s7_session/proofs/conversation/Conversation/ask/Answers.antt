@@ -6,7 +6,6 @@ use Rattle.s7_session.specs.Conversing.{link_of}
 use Rattle.s7_session.specs.Errors.{FULL}
 use Rattle.s7_session.specs.Events.{refusal_sent}
 use Rattle.s7_session.specs.Judgement.{plainly, reply_octets}
-use Rattle.s7_session.specs.Telegrams.{moment_of}
 use Rattle.s7_session.proofs.KeptLemmas.{moment_kept}
 use Rattle.s7_session.proofs.AnswerLemmas.{answers_entered, answers_full, answers_memory, looked_not, untimed_at}
 use Rattle.s7_session.proofs.AnswerLemmas.{one_message, after_nothing, false_not_true}

@@ -1,5 +1,5 @@
-use Rattle.std.proofs.Common.{inl, refl, sym, ap, ◌∙◌, Bool, true, false, cond, List, [], ℕ, Some}
-use Rattle.std.specs.Prelude.{Option, option_map}
+use Rattle.std.proofs.Common.{inl, refl, sym, ap, ◌∙◌, Bool, cond, List, [], ℕ, Some}
+use Rattle.std.specs.Prelude.{option_map}
 use Rattle.s7_plant.specs.declared.request.Request.{Request}
 use Rattle.s7_plant.specs.declared.request.Request.TheVariants.{Insert}
 use Rattle.s7_plant.specs.Requests.{no_room}

@@ -6,7 +6,7 @@ use Rattle.s7_wire.specs.Sent.{sent_message}
 use Rattle.s7_session.specs.Conversing.{link_of}
 use Rattle.s7_session.specs.Judgement.{slice_answer}
 use Rattle.s7_session.specs.LinkState.{LinkState}
-use Rattle.s7_session.specs.Transfers.{image_room}
+use Rattle.s7_block.specs.Slices.{image_room}
 use Rattle.s7_session.proofs.LoadLemmas.{slice_settled}
 use Rattle.s7_session.proofs.conversation.Conversation.put_upload_slice.Goals as goal
 

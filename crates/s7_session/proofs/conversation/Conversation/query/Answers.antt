@@ -1,5 +1,4 @@
 use Rattle.std.proofs.Common.{inr, refl, sym, ap, ◌∙◌, subst, Err}
-use Rattle.s7_plant.specs.declared.request.Ask.{Ask}
 use Rattle.s7_plant.specs.Replies.{said_of}
 use Rattle.std.specs.Prelude.{◌≡◌, ℕ, Bool}
 use Rattle.s7_plant.specs.declared.request.Request.{Request}
@@ -11,7 +10,7 @@ use Rattle.s7_session.specs.Events.{refusal_sent}
 use Rattle.s7_session.specs.Judged.{queries}
 use Rattle.s7_session.specs.Judgement.{user_reply}
 use Rattle.s7_session.specs.Queries.{group_of, subfunction_of, request_at}
-use Rattle.s7_session.specs.Telegrams.{IsAt, moment_of}
+use Rattle.s7_session.specs.Telegrams.{IsAt}
 use Rattle.s7_session.proofs.KeptLemmas.{kept_query, moment_kept}
 use Rattle.s7_session.proofs.AnswerLemmas.{answers_entered, answers_full, answers_memory, answers_clock_failed}
 use Rattle.s7_session.proofs.AnswerLemmas.{one_message, after_nothing, false_not_true}

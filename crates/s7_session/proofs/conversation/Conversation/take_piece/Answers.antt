@@ -1,5 +1,5 @@
 use Rattle.std.proofs.Common.{ℕ, List, [], ◌++◌, Some, ap, sym, ◌∙◌}
-use Rattle.std.specs.Prelude.{Option, option_map}
+use Rattle.std.specs.Prelude.{option_map}
 use Rattle.s7_block.specs.declared.block.BlockName.{BlockName}
 use Rattle.s7_wire.specs.Sent.{sent_message}
 use Rattle.s7_session.specs.Conversing.{link_of}

@@ -1,4 +1,4 @@
-use Rattle.std.proofs.Common.{ℕ, List, [], ◌∷◌, ◌++◌, ap, ◌∙◌}
+use Rattle.std.proofs.Common.{ℕ, List, ◌++◌, ap, ◌∙◌}
 use Rattle.s7_header.specs.declared.header.Kind.TheVariants.{Job}
 use Rattle.s7_header.specs.Header.{spelling_of}
 use Rattle.s7_wire.specs.Sent.{sent_message}

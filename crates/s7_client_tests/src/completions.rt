@@ -1,0 +1,58 @@
+// Jobs that are carried out, and who is told of them.
+ghost use Rattle.std.specs.Prelude.{◌≡◌, None};
+ghost use Rattle.s7_client.specs.Completions.{connection_of};
+ghost use Rattle.s7_client.specs.Polling.{job_of};
+
+use crate::words::octets_of;
+use s7_client::{Client, Config, Counter, Job};
+use s7_outer::{MemoryLink, Octets};
+use std::alloc::Global;
+use std::test::Fail;
+
+/// The link gives the confirm and the grant, octet by octet.
+const CONFIRM_AND_GRANT: &str = "\
+0300001611d00001000100c0010ac1020100c2020102 0300001b02f080320300000001000800000000f0000001000101e0";
+
+/// The job is carried out, and ends with this number.
+fn ends_with(
+    alloc: Global,
+    client: &mut Client<Counter>,
+    job: Job,
+    link: &mut MemoryLink,
+    code: u32,
+) -> bool
+    requires { job_of (connection_of client.old) ≡ None }
+    ensures { job_of (connection_of client.new) ≡ None }
+{
+    match client.carry_out(alloc, job, link) {
+        Ok(told) => told.code == code,
+        Err(_) => false,
+    }
+}
+
+/// The counter was told of one job, of this number, which came off.
+fn is_told_once(counter: Option<Counter>, number: u8) -> bool {
+    match counter {
+        Some(counter) => counter.calls() == 1 && counter.last() == Some((number, 0)),
+        None => false,
+    }
+}
+
+#[test]
+fn each_completion_is_told_of_its_jobs(rt: HostRuntime) -> Result<(), Fail> {
+    let alloc = rt.alloc();
+    let mut client = Client::new(alloc, Config::new(1, 0, 2), Some(Counter::new()))?;
+    let input = Octets::of_vec(octets_of(alloc, CONFIRM_AND_GRANT)?);
+    let mut link = MemoryLink::new(alloc, input, 1, 4_096, 7)?;
+    assert!(rt; ends_with(alloc, &mut client, Job::Connect, &mut link, 0));
+    assert_eq!(rt; client.granted(), Some(480));
+    let first = client.set_completion(Some(Counter::new()));
+    assert!(rt; ends_with(alloc, &mut client, Job::Disconnect, &mut link, 0));
+    let second = client.set_completion(None);
+    assert!(rt; ends_with(alloc, &mut client, Job::List, &mut link, 0x0001_0000));
+    let none = client.set_completion(Some(Counter::new()));
+    assert!(rt; is_told_once(first, 1));
+    assert!(rt; is_told_once(second, 25));
+    assert!(rt; none.is_none());
+    Ok(())
+}

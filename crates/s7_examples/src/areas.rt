@@ -1,0 +1,32 @@
+// Areas that are registered, written, read and taken back.
+use s7_area::{AreaKey, Areas};
+use s7_item::Item;
+use s7_item::codes::{BYTE, DATA_BLOCKS, GOOD};
+use s7_outer::Octets;
+use std::test::Fail;
+
+const DB1: AreaKey = AreaKey {
+    area: DATA_BLOCKS,
+    number: 1,
+};
+
+/// Two bytes of data block 1. The address counts bits: eight times the octet.
+const MIDDLE: Item = Item {
+    area: DATA_BLOCKS,
+    db: 1,
+    word: BYTE,
+    count: 2,
+    address: 8,
+};
+
+#[test]
+fn two_bytes_are_written(rt: HostRuntime) -> Result<(), Fail> {
+    let mut areas = Areas::new();
+    let octets = Octets::copy_of(rt.alloc(), &[0x11, 0x22, 0x33, 0x44])?;
+    areas.register(rt.alloc(), DB1, octets)?;
+    assert_eq!(rt; areas.write(true, &MIDDLE, &[0xCA, 0xFE]), GOOD);
+    assert_eq!(rt; areas.look_up(true, &MIDDLE), Ok([0xCA, 0xFE].as_slice()));
+    let octets = areas.unregister(DB1)?;
+    assert_eq!(rt; octets.as_slice(), [0x11, 0xCA, 0xFE, 0x44].as_slice());
+    Ok(())
+}

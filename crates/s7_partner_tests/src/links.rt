@@ -1,0 +1,113 @@
+// A block of three fragments over a line that fails, or has nothing to give or no room, at each of its calls in turn.
+// The end of each receive lies somewhere in a packet, and the longer packets go in several transmits. A call is known
+// by how many calls there are before it. The octets that are written by then show whether it receives or transmits: it
+// transmits where the call behind it finds more of them.
+use crate::scene::{each_holds, holds};
+use std::test::Fail;
+
+/// A call of the partner that sends fails: it closes with this number, the block isn't acknowledged, so many octets
+/// are written, and it takes no other block.
+const SENDING_FAILS: &str = "
+    anew 64, moves 33, a gives 1 #60, fails $1 confirm granted_64 taken_1 taken_2 taken_3
+    a closed $2, a closed $2, a outstanding 1, a gives 2 #1 closed
+    began $3 request asked_64 piece_1 piece_2 piece_3
+";
+
+/// It waits: the octets are the same, and what is read behind the last acknowledgement is the end of the link.
+const SENDING_WAITS: &str = "
+    anew 64, moves 33, a gives 1 #60, waits $1 confirm granted_64 taken_1 taken_2 taken_3
+    a pending, a outstanding 1, a sent, a outstanding 0, a closed 00020000
+    wrote request asked_64 piece_1 piece_2 piece_3
+";
+
+const SENDING: &str = "\
+0 | 00090000 | 0
+1 | 000a0000 | 22
+2 | 00090000 | 22
+3 | 000a0000 | 47
+4 | 00090000 | 47
+5 | 00090000 | 80
+6 | 00090000 | 113
+7 | 000a0000 | 118
+8 | 00090000 | 118
+9 | 00090000 | 151
+10 | 00090000 | 184
+11 | 000a0000 | 187
+12 | 00090000 | 187
+13 | 00090000 | 220
+14 | 000a0000 | 232";
+
+/// The call behind the last acknowledgement waits, and fails; there is none behind the end of the link.
+const SENT: &str = "
+    anew 64, moves 33, a gives 1 #60, waits 15 confirm granted_64 taken_1 taken_2 taken_3
+    a sent, a outstanding 0, a idle, a closed 00020000, wrote request asked_64 piece_1 piece_2 piece_3
+    anew 64, moves 33, a gives 1 #60, fails 15 confirm granted_64 taken_1 taken_2 taken_3
+    a sent, a outstanding 0, a closed 000a0000, wrote request asked_64 piece_1 piece_2 piece_3
+    anew 64, moves 33, a gives 1 #60, fails 16 confirm granted_64 taken_1 taken_2 taken_3
+    a sent, a outstanding 0, a closed 00020000, wrote request asked_64 piece_1 piece_2 piece_3
+";
+
+#[test]
+fn a_block_is_sent(rt: HostRuntime) -> Result<(), Fail> {
+    each_holds(rt.alloc(), SENDING_FAILS, SENDING)?;
+    each_holds(rt.alloc(), SENDING_WAITS, SENDING)?;
+    holds(rt.alloc(), SENT)
+}
+
+/// A call of the partner that receives fails: it closes with this number and hands nothing out, and so many octets are
+/// written.
+const RECEIVING_FAILS: &str = "
+    anew 64, moves 30, fails $1 request asked_64 piece_1 piece_2 piece_3
+    b closed $2, b closed $2, b gives 1 #1 closed, began $3 confirm granted_64 taken_1 taken_2 taken_3
+";
+
+/// It waits: a poll tells this, and the next one hands the block out. The octets are the same.
+const RECEIVING_WAITS: &str = "
+    anew 64, moves 30, waits $1 request asked_64 piece_1 piece_2 piece_3
+    b $4, b received 1 #60, b closed 00020000, wrote confirm granted_64 taken_1 taken_2 taken_3
+";
+
+/// While the link is opened that is pending. Behind it the partner has nothing of its own outstanding.
+const RECEIVING: &str = "\
+0 | 000a0000 | 0 | pending
+1 | 00090000 | 0 | pending
+2 | 000a0000 | 22 | pending
+3 | 00090000 | 22 | idle
+4 | 000a0000 | 49 | idle
+5 | 000a0000 | 49 | idle
+6 | 00090000 | 49 | idle
+7 | 00090000 | 79 | idle
+8 | 000a0000 | 82 | idle
+9 | 000a0000 | 82 | idle
+10 | 000a0000 | 82 | idle
+11 | 00090000 | 82 | idle
+12 | 00090000 | 112 | idle
+13 | 000a0000 | 115 | idle";
+
+/// The block was handed out when a call fails, or waits.
+const RECEIVED: &str = "
+    anew 64, moves 30, fails $1 request asked_64 piece_1 piece_2 piece_3
+    b received 1 #60, b closed $2, b closed $2, began $3 confirm granted_64 taken_1 taken_2 taken_3
+    anew 64, moves 30, waits $1 request asked_64 piece_1 piece_2 piece_3
+    b received 1 #60, b idle, b closed 00020000, wrote confirm granted_64 taken_1 taken_2 taken_3
+";
+
+/// Its last fragment is acknowledged in two transmits, and what is read then is the end of the link.
+const ACKNOWLEDGING: &str = "\
+14 | 00090000 | 115
+15 | 00090000 | 145
+16 | 000a0000 | 148";
+
+/// There is no call behind the end of the link.
+const ACKNOWLEDGED: &str = "
+    anew 64, moves 30, fails 17 request asked_64 piece_1 piece_2 piece_3
+    b received 1 #60, b closed 00020000, wrote confirm granted_64 taken_1 taken_2 taken_3
+";
+
+#[test]
+fn a_block_is_received(rt: HostRuntime) -> Result<(), Fail> {
+    each_holds(rt.alloc(), RECEIVING_FAILS, RECEIVING)?;
+    each_holds(rt.alloc(), RECEIVING_WAITS, RECEIVING)?;
+    each_holds(rt.alloc(), RECEIVED, ACKNOWLEDGING)?;
+    holds(rt.alloc(), ACKNOWLEDGED)
+}

@@ -1,0 +1,35 @@
+use Rattle.std.proofs.Common.{ap, sym, ◌∙◌, option_map}
+use Rattle.s7_serve.specs.Given.{HasFailed}
+use Rattle.s7_server.specs.Asked.{AskedTold, asked_told}
+use Rattle.s7_server.specs.End.{entry_asked}
+use Rattle.s7_words.specs.Shown.{server_told_of}
+use Rattle.s7_server.proofs.FileLemmas.{broken}
+use Rattle.s7_server.proofs.server.server_main.Goals as goal
+
+pub returns-in-Pipe-clause-broken_off : goal.returns-in-Pipe-clause-broken_off
+returns-in-Pipe-clause-broken_off g c =
+    let asked = asked_told c.asked_of-asked.result in
+    let out = g.U.Out.shows in
+    let files = g.F.Files.shows in
+    λ is.
+    broken g.L.Link.shows asked ⊥ c.run_pipe-ended.result.run (files c.args.files.now) (files c.run_pipe-ended.new.files)
+    (out c.args.out.now) (out c.run_pipe-ended.new.out) c.run_pipe-ended.result.ended _
+    (ap (λ (a : AskedTold). a.entry) c.asked_of-asked.ensures
+    ∙ ap (λ o. entry_asked (option_map server_told_of o)) (sym c.in-Ok-Some.field-0-is)
+    ∙ ap entry_asked c.in-Ok-Some.ensures.told)
+    (sym c.status_of.ensures ∙ is) c.run_pipe-ended.ensures.ended
+
+pub returns-in-Serve-clause-broken_off : goal.returns-in-Serve-clause-broken_off
+returns-in-Serve-clause-broken_off g c =
+    let asked = asked_told c.asked_of-asked.result in
+    let out = g.U.Out.shows in
+    let files = g.F.Files.shows in
+    let door = g.D.Door.shows in
+    λ is.
+    broken g.L.Link.shows asked (HasFailed c.in-Serve.port (door c.args.door.now) (door c.run_serve-ended.new.door))
+    c.run_serve-ended.result.1 (files c.args.files.now) (files c.run_serve-ended.new.files)
+    (out c.args.out.now) (out c.run_serve-ended.new.out) c.run_serve-ended.result.0 _
+    (ap (λ (a : AskedTold). a.entry) c.asked_of-asked.ensures
+    ∙ ap (λ o. entry_asked (option_map server_told_of o)) (sym c.in-Ok-Some.field-0-is)
+    ∙ ap entry_asked c.in-Ok-Some.ensures.told)
+    (sym c.status_of-in-Serve.ensures ∙ is) c.run_serve-ended.ensures.ended
