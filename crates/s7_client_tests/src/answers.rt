@@ -12,6 +12,7 @@ COUNTER 1c.0.1c.1.1";
 /// A connected client that does this gets a packet, in its head and its message, that is no answer: it ends, and
 /// carries the message.
 const NO_ANSWER: &str = "\
+jobs 1 2 8
 gives CONFIRM GRANTED $2 $3
 connect : 0
 $1 : 00800000 : : : $3";
@@ -70,6 +71,7 @@ fn other_messages_are_no_answers(rt: HostRuntime) -> Result<(), Fail> {
 
 /// A connected client that does this gets this packet, and ends so.
 const ANSWERED: &str = "\
+jobs 1 2 8
 gives CONFIRM GRANTED $2
 connect : 0
 $1 : $3";
@@ -94,6 +96,7 @@ writemany THREE = aabbcc | 0300001302f080 320200000002000000008104 | 01400000";
 
 /// A connect that gets this answer to its negotiation ends so, and leaves this granted.
 const NEGOTIATED: &str = "\
+jobs 1 2 8
 gives CONFIRM $1
 connect : $2
 granted $3";
@@ -109,6 +112,7 @@ const NEGOTIATIONS: &str = "\
 
 /// A connected client that does this writes this request.
 const ASKED: &str = "\
+jobs 1 2 8
 gives CONFIRM GRANTED
 connect : 0
 $1 : 00020000

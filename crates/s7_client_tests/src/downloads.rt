@@ -178,6 +178,7 @@ download 70700101050c000500000026 00*22 0003aabb | 00200000";
 /// The client asks this and gets a packet, in its head and its message, that is no answer: the job carries it, and the
 /// client is closed. The fields are the image, what is sent, what comes, and the message.
 const NO_ANSWER: &str = "\
+jobs 1 2 8
 gives CONFIRM GRANTED_64 $3 $4
 connect : 0
 download $1 : 00800000 : : : $4

@@ -95,6 +95,7 @@ const FRAGMENTS: &str = "\
 /// A read is answered by a message that is no answer, which is carried and closes the client: what comes after it is
 /// of no more use. The client connects on a new link, which begins anew.
 const CARRIED: &str = "\
+jobs 1 2 8
 most 1 3 8192
 gives CONFIRM GRANTED $1 $2 READ_AGAIN_ANSWER
 connect : 0
@@ -181,6 +182,7 @@ fn long_items_go_in_parts(rt: HostRuntime) -> Result<(), Fail> {
 
 /// A connect over a link that gives the confirm and fails so ends with this number, and this was sent.
 const LINK_FAILS: &str = "\
+jobs 1 2 8
 fates $1
 gives CONFIRM
 connect : $2
@@ -197,6 +199,7 @@ pass pass pass fail | 000a0000 | CONNECT SETUP";
 
 /// The first ten octets of the connect request.
 const NO_ROOM: &str = "\
+jobs 1 2 8
 room 10
 gives CONFIRM
 connect : 00090000

@@ -92,7 +92,7 @@ const CONNECT_CALLS: &str = "\
 
 /// A read behind such a connect, whose request goes in two transmits.
 const READ: &str = "\
-JOBS 1
+JOBS 1 2 8
 MOST 20
 CALLS pass*10
 GIVES GRANTED READ_ANSWER
@@ -109,7 +109,7 @@ const READ_CALLS: &str = "\
 
 /// A disconnect.
 const DISCONNECT: &str = "\
-JOBS 1
+JOBS 1 2 8
 MOST 20
 CALLS pass*8
 GIVES GRANTED
@@ -124,7 +124,7 @@ const DISCONNECT_CALLS: &str = "\
 
 /// Data block 1 is uploaded, whose image of 56 octets comes in slices of 46 and 10.
 const UPLOAD: &str = "\
-JOBS 1
+JOBS 1 2 8
 MOST 40
 CALLS pass*12
 GIVES GRANTED_64 STARTED SLICE_1 SLICE_2 ENDED
@@ -155,7 +155,7 @@ const UPLOAD_CALLS: &str = "\
 
 /// Function 5 is downloaded in pieces of 46 octets and one, for which the server asks, and inserted.
 const DOWNLOAD: &str = "\
-JOBS 1
+JOBS 1 2 8
 MOST 35
 CALLS pass*17
 GIVES GRANTED_64 ANNOUNCED ASKS_1 ASKS_2 CLOSES INSERTED
@@ -193,7 +193,7 @@ const DOWNLOAD_CALLS: &str = "\
 
 /// The data blocks are listed, in slices of 38, 38 and 4 octets.
 const LIST: &str = "\
-JOBS 1
+JOBS 1 2 8
 MOST 40
 CALLS pass*11
 GIVES GRANTED_64 SLICE_1 SLICE_2 SLICE_3

@@ -84,6 +84,7 @@ fn is_connected(told: &JobResult, code: &str) -> Result<bool, Fail> {
 
 /// A client waits so often, and turns away a second job meanwhile.
 const PATIENCE: &str = "\
+jobs 1 2 8
 patience 2
 room 64
 polls idle
@@ -98,6 +99,7 @@ waiting 22";
 
 /// The pipes have room for less than a request and an answer have.
 const NARROW: &str = "\
+jobs 1 2 8
 room 16
 starts connect
 polls pending
@@ -108,9 +110,9 @@ takes 0100c2020102
 puts 0100c2020102 0300001b02f080320300
 polls pending
 takes 0300001902f080320100000001000800
-puts 000001000800000000f0000001000101
+puts 000001000800000000f000000@000@01
 polls pending
-takes 00f0000001000101e0
+takes 00f000000@000@01e0
 puts e0
 polls 0
 granted 480";

@@ -89,6 +89,7 @@ fn each_job_has_its_answer(rt: HostRuntime) -> Result<(), Fail> {
 /// A connected client asks this and gets a packet, in its head and its message, that is no answer: it ends, carries the
 /// message, and is closed. The fields are a job, what it asks, and the head and the message.
 pub(crate) const NO_ANSWER: &str = "\
+jobs 1 2 8
 gives CONFIRM GRANTED $3 $4
 connect : 0
 $1 : 00800000 : : : $4
@@ -223,6 +224,7 @@ const PIECE_REFUSALS: &str = "\
 
 /// What comes for the second piece, in its head and its message, is no answer.
 const NO_PIECE: &str = "\
+jobs 1 2 8
 gives CONFIRM GRANTED FIRST_PIECE $1 $2
 connect : 0
 szl 001c 0000 : 00800000 : : : $2
@@ -258,7 +260,7 @@ fn pieces_are_joined(rt: HostRuntime) -> Result<(), Fail> {
 
 /// A connected client ends a job with this number and sends nothing, and the next read goes on.
 pub(crate) const TURNED_DOWN: &str = "\
-jobs 8
+jobs 1 2 8
 gives CONFIRM GRANTED READ_ANSWER
 connect : 0
 $1 : $2

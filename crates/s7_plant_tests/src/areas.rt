@@ -55,6 +55,19 @@ fn steps_are_entered_and_replayed(rt: HostRuntime) -> Result<(), Fail> {
     books::does(rt.alloc(), AREAS, 262_144, STEPS)
 }
 
+/// The same write as the one entry of a book.
+const WRITTEN: &str = "\
+    7 write 0503.120A10020001000184000000.120A10020001000184000020.120A10020001000184000018 \
+        00040008AA00.00040008BB00.00040008CC | 0 | 0 0503 FF05FF\n\
+    links 7\n\
+    image 0 | holds 84 1 11223344\n\
+    image 1 | holds 84 1 AA2233CC";
+
+#[test]
+fn a_write_stands_between_two_images(rt: HostRuntime) -> Result<(), Fail> {
+    books::does(rt.alloc(), AREAS, 1, WRITTEN)
+}
+
 /// The link, its request, the entry's number and the answer: a read, and a write that is handed back.
 const FULL: &str = "\
     7 read 0401.120A10020004000184000000 | 0 | 0 0401 FF04002011223344\n\

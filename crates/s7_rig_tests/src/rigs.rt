@@ -8,6 +8,7 @@ use s7_client::codes::NOT_AVAILABLE;
 use s7_client::{Config, Counter, Job};
 use s7_item::Item;
 use s7_outer::{Memory, Octets};
+use s7_plant::Request;
 use s7_rig::{RigEnd, Schedule, run_rig};
 use std::alloc::Global;
 use std::test::Fail;
@@ -131,6 +132,32 @@ fn reads_between(end: &RigEnd, zeros: usize, places: &[u64]) -> bool {
         && numbers.as_slice() == places
 }
 
+// The job of the second client has these places.
+fn is_placed(end: &RigEnd, places: &[u64]) -> bool {
+    let Some(client) = end.clients.get(1) else {
+        return false;
+    };
+    let Some(numbers) = client.places.get(1) else {
+        return false;
+    };
+    numbers.as_slice() == places
+}
+
+// The entry of this number is the second client's write of so many bytes of data block 1 at an address.
+fn is_written(end: &RigEnd, number: usize, count: u16, address: u32) -> bool {
+    let Some(entry) = end.book.journal.as_slice().get(number) else {
+        return false;
+    };
+    let item = Item {
+        address,
+        ..bytes(count)
+    };
+    match &entry.ask.request {
+        Request::Write { items, .. } => entry.link == 2 && items.as_slice() == [item].as_slice(),
+        _ => false,
+    }
+}
+
 // A read of two parts is told what stood at the places of each: the first part before a write, the
 // second after it.
 #[test]
@@ -149,6 +176,9 @@ fn a_read_stands_at_its_places(rt: HostRuntime) -> Result<(), Fail> {
     assert!(rt; is_told(&end, done));
     assert!(rt; end.book.journal.len() == 4);
     assert!(rt; reads_between(&end, 222, &[0, 3]));
+    assert!(rt; is_placed(&end, &[1, 2]));
+    assert!(rt; is_written(&end, 1, 205, 0));
+    assert!(rt; is_written(&end, 2, 95, 1_640));
     Ok(())
 }
 

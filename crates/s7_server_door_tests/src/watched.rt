@@ -13,11 +13,12 @@ use std::test::Fail;
 use std::thread::Threads;
 use std::time::Clock;
 
-// A link that connects, negotiates, reads and writes.
-fn a_link(alloc: Global) -> Result<MemoryLink, Fail> {
+// A link that connects, negotiates, and sends these packets.
+fn a_link(alloc: Global, packets: &[&str]) -> Result<MemoryLink, Fail> {
     let mut input = octets(alloc, CONNECT)?;
-    input.extend_from_slice(octets(alloc, READ)?.as_slice())?;
-    input.extend_from_slice(octets(alloc, WRITE)?.as_slice())?;
+    for packet in packets {
+        input.extend_from_slice(octets(alloc, packet)?.as_slice())?;
+    }
     Ok(MemoryLink::new(alloc, Octets::of_vec(input), ROOM, ROOM, 0)?)
 }
 
@@ -31,19 +32,20 @@ fn a_tail(alloc: Global, mask: u32) -> Result<Vec<Tail>, Fail>
     Ok(tails)
 }
 
-// Serves the link, on standard input and output or by a door, watched by a tail of this mask.
+// Serves a link with these packets, on standard input and output or by a door, watched by a tail of this mask.
 fn watched<R: Threads + Wait + Clock + Sync>(
     rt: &R,
     alloc: Global,
     words: &[&str],
+    packets: &[&str],
     mask: u32,
     out: &mut MemoryOut,
 ) -> Result<ServerEnd<MemoryLink, Tail>, Fail> {
     let mut links = Vec::new(alloc);
-    links.push(a_link(alloc)?)?;
+    links.push(a_link(alloc, packets)?)?;
     let mut door = MemoryDoor::new(links, None);
     let tails = a_tail(alloc, mask)?;
-    let pipe = a_link(alloc)?;
+    let pipe = a_link(alloc, packets)?;
     let mut files = MemoryFiles::new();
     Ok(server_main(
         rt, alloc, words, &mut files, pipe, &mut door, &OpenGate, out, tails,
@@ -72,7 +74,7 @@ fn observers_are_told_of_each_entry(rt: HostRuntime) -> Result<(), Fail> {
     ];
     for (words, mask, count, newest) in rows {
         let mut out = MemoryOut::new(alloc, ROOM)?;
-        let end = watched(&rt, alloc, words, *mask, &mut out)?;
+        let end = watched(&rt, alloc, words, &[READ, WRITE], *mask, &mut out)?;
         let run = end.run.ok_or("no run")?;
         let watcher = run.book.observers.first().ok_or("nobody watches")?;
         assert_eq!(&rt; watcher.observer.count(), *count);
@@ -105,18 +107,22 @@ fn written(number: u64) -> Event {
 #[test]
 fn areas_are_printed_behind_an_entry(rt: HostRuntime) -> Result<(), Fail> {
     let alloc = rt.alloc();
-    let rows: &[(&str, &str)] = &[
-        ("0", "at 0\ns7 areas 2\nDB 1 4\n11223344\n"),
-        ("1", "at 1\ns7 areas 2\nDB 1 4\n11223344\n"),
-        ("2", "at 2\ns7 areas 2\nDB 1 4\naa2233cc\n"),
-        ("3", "at 3 none\n"),
+    let rows: &[(&[&str], &str, &str)] = &[
+        (&[WRITE], "0", "at 0\ns7 areas 2\nDB 1 4\n11223344\n"),
+        (&[READ, WRITE], "0", "at 0\ns7 areas 2\nDB 1 4\n11223344\n"),
+        (&[READ, WRITE], "1", "at 1\ns7 areas 2\nDB 1 4\n11223344\n"),
+        (&[READ, WRITE], "2", "at 2\ns7 areas 2\nDB 1 4\naa2233cc\n"),
+        (&[READ, WRITE], "3", "at 3 none\n"),
     ];
-    for (at, text) in rows {
+    for (packets, at, text) in rows {
         let mut out = MemoryOut::new(alloc, ROOM)?;
         let words = &["serve", BLOCK, "--links", "1", "--at", *at];
-        let end = watched(&rt, alloc, words, 0, &mut out)?;
+        let end = watched(&rt, alloc, words, packets, 0, &mut out)?;
         assert_eq!(&rt; end.status, 0);
-        let report = format!(in alloc; "link 1 ended entries 2\njournal 2\n{text}")?;
+        let entries = packets.len();
+        let report = format!(in alloc;
+            "link 1 ended entries {entries}\njournal {entries}\n{text}"
+        )?;
         assert!(&rt; out.text() == report.as_bytes(), "{report}");
     }
     Ok(())

@@ -17,7 +17,8 @@ prints client 1 line 1 upload 00000000 70700101050a00010000040c00000000000000000
 prints client 2 line 0 connect 00000000 -
 prints client 2 line 1 write 00000000 -
 prints journal 2
-clients 2";
+clients 2
+block 1122334400";
 
 #[test]
 fn an_upload_has_the_octets_of_its_start(rt: HostRuntime) -> Result<(), Fail> {

@@ -14,14 +14,17 @@
 //   prints TEXT      what is printed; or what this begins or ends with, by `begins` and `ends`; or all its lines, in
 //                    some order, by `mixed`
 //   clients          how many clients a rig has, where one is left
+//   block            with which octets its data block 1 begins in the end
 //   wrote WORDS      what is written on the link, where there was one
 //   results          how many results the run has then
 //   told WORDS       what the completion was told: how often, and the number of the last job with its code in hex
 //
 // The completion comes back after each call, and was told as often as there are results of the run or of a rig's first
 // client.
+use s7_area::AreaKey;
 use s7_client::Counter;
 use s7_outer::{FailingLink, Fate, MemoryDial, MemoryFiles, MemoryLink, MemoryOut, Octets};
+use s7_rig::RigEnd;
 use s7_tool::{RunEnd, ToolEnd, tool_main};
 use std::alloc::{AllocError, Global};
 use std::test::Fail;
@@ -266,10 +269,25 @@ fn is_run(alloc: Global, call: &Call<'_>, run: &Option<RunEnd<Line>>) -> Result<
     )
 }
 
+// Its data block 1 begins so, where that is told.
+fn begins_block(alloc: Global, call: &Call<'_>, rig: &RigEnd) -> Result<bool, Fail> {
+    let key = AreaKey {
+        area: 0x84,
+        number: 1,
+    };
+    let front = octets(alloc, call, "block")?;
+    match rig.book.plant.areas.octets_of(key) {
+        Some(octets) => Ok(octets.starts_with(front.as_slice())),
+        None => Ok(front.as_slice().is_empty()),
+    }
+}
+
 // The rig is there where its clients are told, and is so.
-fn is_rig(call: &Call<'_>, end: &ToolEnd<Line, Counter>) -> Result<bool, Fail> {
+fn is_rig(alloc: Global, call: &Call<'_>, end: &ToolEnd<Line, Counter>) -> Result<bool, Fail> {
     match &end.rig {
-        Some(rig) => Ok(rig.clients.len() == call.number("clients")?),
+        Some(rig) => Ok(
+            rig.clients.len() == call.number("clients")? && begins_block(alloc, call, rig)?,
+        ),
         None => Ok(call.value("clients").is_none()),
     }
 }
@@ -302,7 +320,7 @@ fn is_told(alloc: Global, call: &Call<'_>, end: &ToolEnd<Line, Counter>) -> Resu
 }
 
 fn is_left(alloc: Global, call: &Call<'_>, left: &Left) -> Result<bool, Fail> {
-    if left.end.status as usize != call.number("status")? || !is_rig(call, &left.end)? {
+    if left.end.status as usize != call.number("status")? || !is_rig(alloc, call, &left.end)? {
         return Ok(false);
     }
     if !is_told(alloc, call, &left.end)? {

@@ -4,8 +4,9 @@ use std::test::Fail;
 
 /// Sends files: one block, another, none, and a faulty one.
 pub(crate) const FILES: &str = "\
-files a.txt b.txt none.txt faulty.txt
+files a.txt b.txt short.txt none.txt faulty.txt
 a.txt send 00000001 aabbcc
+short.txt send 00000001 aabb
 b.txt # one block
 b.txt send 00000002 CC^
 none.txt # no blocks
@@ -119,8 +120,18 @@ call partner a.txt b.txt --seed 7 --steps 100
 
 call partner a.txt b.txt --seed 4294967295 --steps 3";
 
+/// The same with a block of two octets.
+const SHORT: &str = "\
+mixed a sent
+mixed b sent
+mixed a received 00000002 cc
+mixed b received 00000001 aabb
+call partner short.txt b.txt --seed 7 --steps 100";
+
 #[test]
 fn two_partners_talk(rt: HostRuntime) -> Result<(), Fail> {
     all_hold(rt.alloc(), FILES, BOTH, PAIRS, ROOM)?;
-    all_agree(rt.alloc(), FILES, BOTH, PAIRS)
+    all_agree(rt.alloc(), FILES, BOTH, PAIRS)?;
+    all_hold(rt.alloc(), FILES, "", SHORT, ROOM)?;
+    all_agree(rt.alloc(), FILES, "", SHORT)
 }

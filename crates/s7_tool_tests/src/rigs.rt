@@ -1,10 +1,11 @@
 // Rigs: scripts that run together on one book.
-use crate::calls::{ROOM, all_agree, all_hold};
+use crate::calls::{Call, ROOM, agree, all_agree, all_hold};
 use s7_area::Areas;
 use s7_block::Blocks;
 use s7_plant::{Book, MOST_BLOCKS};
 use s7_rig::{RigClient, RigEnd};
 use s7_tool::{are_good, rig_text};
+use std::alloc::Global;
 use std::test::Fail;
 
 /// Two scripts that read four octets and write them, and a faulty one.
@@ -95,10 +96,36 @@ call rig DB1=11223344 r.txt w.txt r.txt --seed 7 --steps 40
 begins client 1 line 0 connect 00000000 -
 clients 3";
 
+/// The same call with other seeds.
+const OTHERS: [&str; 4] = [
+    "call rig DB1=11223344 r.txt w.txt r.txt --seed 1 --steps 40",
+    "call rig DB1=11223344 r.txt w.txt r.txt --seed 2 --steps 40",
+    "call rig DB1=11223344 r.txt w.txt r.txt --seed 3 --steps 40",
+    "call rig DB1=11223344 r.txt w.txt r.txt --seed 4 --steps 40",
+];
+
+// One of the other seeds gives another text.
+fn one_differs(alloc: Global) -> Result<bool, Fail> {
+    let seeded = Call {
+        lines: SEEDED,
+        frame: SHORT,
+        names: "",
+    };
+    for lines in OTHERS {
+        let other = Call { lines, ..seeded };
+        if !agree(alloc, &seeded, &other)? {
+            return Ok(true);
+        }
+    }
+    Ok(false)
+}
+
 #[test]
 fn the_same_seed_gives_the_same_text(rt: HostRuntime) -> Result<(), Fail> {
     all_hold(rt.alloc(), "", SHORT, SEEDED, ROOM)?;
-    all_agree(rt.alloc(), "", SHORT, SEEDED)
+    all_agree(rt.alloc(), "", SHORT, SEEDED)?;
+    assert!(rt; one_differs(rt.alloc())?);
+    Ok(())
 }
 
 const FAULTS: &str = "\
