@@ -1,5 +1,5 @@
 -- Guards of a memory: levels and passwords (Snap7 1.4 reference manual, `Cli_GetProtection` and
--- `Cli_SetSessionPassword`).
+-- `Cli_SetSessionPassword`). What each level guards, and which octets a password may have, is this profile's own.
 use Rattle.std.specs.Prelude.{◌≡◌, ℕ, ◌-◌, ◌≤◌, ◌==◌, ◌&&◌, ◌||◌, ◌++◌, Bool, not, IsTrue, List, length, replicate, Option, None, Some}
 use Rattle.std.specs.List.{AllByRecursion}
 use Rattle.s7_area.specs.declared.guard.Guard.{Guard}

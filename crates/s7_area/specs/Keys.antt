@@ -1,4 +1,4 @@
--- Names of areas (Snap7 1.4 reference manual, areas of `Cli_ReadArea` and `Srv_RegisterArea`).
+-- Names of areas (Snap7 1.4 reference manual, `Cli_ReadArea` and `Srv_RegisterArea`).
 use Rattle.std.specs.Prelude.{ℕ, Bool, ◌==◌, ◌&&◌, ◌||◌, not, if◌then◌else◌}
 use Rattle.s7_item.specs.Codes.{inputs, outputs, flags, data_blocks, counters, timers}
 use Rattle.s7_area.specs.declared.key.AreaKey.{AreaKey}
@@ -11,6 +11,6 @@ is_numbered area = area == counters || area == timers
 abbrev pub is_single : ℕ → Bool
 is_single area = area == inputs || area == outputs || area == flags || is_numbered area
 
--- data blocks have numbers from 1 on, and no other area has one
+-- data blocks have numbers from 1 on, and no other area has one: this profile's own
 abbrev pub is_key : AreaKey → Bool
 is_key key = if key.area == data_blocks then not (key.number == 0) else is_single key.area && key.number == 0

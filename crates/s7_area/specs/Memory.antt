@@ -1,4 +1,5 @@
--- A memory: its areas in the order of their names, its guard, and what items read and write there.
+-- A memory: its areas in the order of their names, its guard, and what items read and write there. The codes are those
+-- of items (Snap7 1.4 sources, s7_types.h: TResFunReadItem, TResFunWrite); which comes first is this profile's own.
 use Rattle.std.specs.Prelude.{ℕ, ◌==◌, ◌&&◌, Bool, not, if◌then◌else◌, Option, None, Some, unwrap_or, List, [], length, map}
 use Rattle.std.specs.declared.cmp.Ordering.{Ordering}
 use Rattle.std.specs.Ordering.{nat_cmp, ordering_then}

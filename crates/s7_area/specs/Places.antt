@@ -23,6 +23,7 @@ abbrev pub key_of : Item → AreaKey
 key_of item = record { area = item.area; number = if item.area == data_blocks then item.db else 0 }
 
 -- counters and timers have two octets each, and other addresses count bits
+-- (Snap7 1.4 sources, s7_types.h: TReqFunReadItem)
 abbrev pub start_of : Item → ℕ
 start_of item = if is_numbered item.area then item.address * 2 else item.address / 8
 

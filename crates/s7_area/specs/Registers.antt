@@ -1,4 +1,5 @@
--- What a memory is, and which areas may join it (Snap7 1.4 reference manual, `Srv_RegisterArea`).
+-- What a memory is, and which areas may join it (Snap7 1.4 reference manual, `Srv_RegisterArea`). The limits are this
+-- profile's own.
 use Rattle.std.specs.Prelude.{◌≡◌, ℕ, ◌+◌, ◌%◌, ◌<◌, ◌≤◌, ◌==◌, ◌&&◌, ◌||◌, not, nat_lt, nat_le, if◌then◌else◌, Option, None, Some, is_some, IfSome, List, [], length, Bool, true, map, filter, sum_by}
 use Rattle.std.specs.List.{AllByRecursion}
 use Rattle.std.specs.List.Sorted.{IsStrictlySortedBy}
@@ -74,7 +75,8 @@ fault_of m key len =
     else (if is_db_too_many m key then Some fault.TooManyDbs
     else None)))
 
--- the numbers of Snap7 for these faults; want of memory has none
+-- the numbers of these faults (Snap7 1.4 sources, s7_server.h: errSrvInvalidParams, errSrvAreaAlreadyExists,
+-- errSrvTooManyDB); want of memory has none
 abbrev pub fault_code : RegisterFault → ℕ
 fault_code fault.Key = 0x0050_0000
 fault_code fault.Size = 0x0050_0000

@@ -1,4 +1,5 @@
--- An image that comes in pieces (Snap7 1.4 reference manual, block upload and download).
+-- An image that comes in pieces (Snap7 1.4 reference manual, `Cli_FullUpload` and `Cli_Download`). Which pieces are
+-- wrong is this profile's own.
 use Rattle.std.specs.Prelude.{ℕ, ◌+◌, ◌==◌, ◌&&◌, ◌||◌, not, nat_lt, Bool, true, false, if◌then◌else◌, Option, None, Some, List, [], ◌++◌, length}
 use Rattle.s7_block.specs.declared.assembly.Added.{Added}
 use Rattle.s7_block.specs.declared.assembly.Added.TheVariants.{More, Last, Dropped}

@@ -1,4 +1,6 @@
--- Heads of blocks: 36 octets in front of each image (Snap7 1.4 reference manual, `TS7BlockInfo`).
+-- Heads of blocks: 36 octets in front of each image, in a layout of this profile's own, after
+-- Snap7 1.4 sources, s7_types.h: TS7CompactBlockInfo, and Snap7 1.4 reference manual, `Cli_GetAgBlockInfo`:
+-- `TS7BlockInfo`.
 use Rattle.std.specs.Prelude.{ℕ, ◌+◌, ◌-◌, ◌*◌, ◌/◌, ◌%◌, ◌==◌, ◌&&◌, min, nat_le, nat_eq, Bool, Some, List, [], ◌∷◌, ◌++◌, length, slice_index}
 use Rattle.std.specs.Option.{option_eq}
 use Rattle.s7_outer.specs.Numbers.{number_of_two, two_octets}
@@ -80,13 +82,13 @@ abbrev pub is_of_block : ℕ → ℕ → ℕ → Head → Bool
 is_of_block len kind number h =
     option_eq nat_eq (head_code kind) (Some h.code) && h.number == number && h.load_length == len && nat_le h.body_length (len - 36)
 
--- an image of 36 to 65,536 octets whose head is of this block
+-- an image of 36 to 65,536 octets whose head is of this block: this profile's own limits
 unfoldable pub head_agrees : List ℕ → ℕ → ℕ → Bool
 head_agrees image kind number =
     nat_le 36 (length image) && nat_le (length image) 65536 && begins_head image
     && is_of_block (length image) kind number (head_of image)
 
--- the head of a data block of so many octets that is an area
+-- the head of a data block of so many octets that is an area: its contents are this profile's own
 abbrev pub db_head : ℕ → ℕ → Head
 db_head number len = record {
   version = 0x01;

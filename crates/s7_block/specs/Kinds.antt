@@ -1,12 +1,14 @@
--- Kinds of blocks (Snap7 1.4 reference manual, block types of `Cli_ListBlocksOfType`; the types in heads are
--- those of `TS7BlockInfo`).
+-- Kinds of blocks (Snap7 1.4 reference manual, `Cli_ListBlocksOfType`: block types; the types in heads are those of
+-- `Cli_GetAgBlockInfo`: `TS7BlockInfo`).
 use Rattle.std.specs.Prelude.{ℕ, ◌==◌, ◌||◌, Bool, if◌then◌else◌, Option, None, Some}
 
--- organization blocks, functions and function blocks: the kinds that a store of blocks has
+-- organization blocks, functions and function blocks: the kinds that a store of blocks has, a choice of this profile's
+-- own
 abbrev pub is_stored_kind : ℕ → Bool
 is_stored_kind kind = kind == 0x38 || kind == 0x43 || kind == 0x45
 
--- what a head has for the kind: OB, DB, SDB, FC, SFC, FB, SFB
+-- what a head has for the kind: OB, DB, SDB, FC, SFC, FB, SFB (Snap7 1.4 reference manual, `Cli_GetAgBlockInfo`:
+-- `TS7BlockInfo`)
 abbrev pub head_code : ℕ → Option ℕ
 head_code kind =
     if kind == 0x38 then Some 0x08

@@ -1,5 +1,5 @@
--- How telegrams name blocks (Snap7 1.4 sources, s7_types.h, `TReqFunStartUploadParams` and `TReqFunGetBlockInfo`): by
--- the kind, the number in decimal digits, and where the block is.
+-- How telegrams name blocks (Snap7 1.4 sources, s7_types.h: TReqFunStartUploadParams, TReqFunGetBlockInfo): by the
+-- kind, the number in decimal digits, and where the block is.
 use Rattle.std.specs.Prelude.{◌≡◌, ◌<◌, ◌^◌, true, ℕ, zero, suc, ◌+◌, ◌/◌, ◌%◌, ◌==◌, ◌&&◌, nat_lt, is_some, Bool}
 use Rattle.std.specs.Prelude.{if◌then◌else◌, Option, None, Some, List, [], ◌∷◌, ◌++◌, length, take, drop, slice_index}
 use Rattle.std.specs.List.{list_all}

@@ -1,4 +1,4 @@
--- What the sides of an upload and of a download hold.
+-- What the sides of an upload and of a download hold: this profile's own.
 use Rattle.std.specs.Prelude.{ℕ, ◌==◌, ◌&&◌, Bool, false, if◌then◌else◌, Option, None, Some, List, option_map}
 use Rattle.s7_block.specs.declared.block.BlockName.{BlockName}
 use Rattle.s7_block.specs.Assembly.{Progress, whole_image}

@@ -1,4 +1,4 @@
--- An image cut into slices (Snap7 1.4 reference manual, block upload and download).
+-- An image cut into slices (Snap7 1.4 reference manual, `Cli_FullUpload` and `Cli_Download`).
 use Rattle.std.specs.Prelude.{◌≡◌, ℕ, ◌+◌, ◌-◌, Bool, true, nat_lt, if◌then◌else◌, Option, None, Some, List, [], ◌∷◌, length, take, drop, flat_map, ⊤}
 
 -- octets that come together, and whether others follow them
@@ -7,6 +7,7 @@ pub record Piece : Type 0 where
   pub octets : List ℕ
 
 -- how many octets of an image go in one telegram: header, parameters and the head of the data take 18 of the PDU
+-- (Snap7 1.4 sources, s7_types.h: TS7ResHeader23, TResDownloadDataHeader)
 abbrev pub image_room : ℕ → ℕ
 image_room pdu = pdu - 18
 

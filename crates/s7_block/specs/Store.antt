@@ -1,5 +1,5 @@
 -- A store of blocks: their images in the order of their names (Snap7 1.4 reference manual, `Cli_Download` and
--- `Cli_Delete`).
+-- `Cli_Delete`). Which blocks join, and how many there may be, is this profile's own.
 use Rattle.std.specs.Prelude.{◌≡◌, ℕ, ◌≤◌, ◌==◌, ◌&&◌, not, nat_le, if◌then◌else◌, Option, None, Some, is_none, option_map, List, length, Bool, true, map, filter}
 use Rattle.std.specs.declared.cmp.Ordering.{Ordering}
 use Rattle.std.specs.Ordering.{nat_cmp, ordering_then}

@@ -28,9 +28,10 @@ impl DownloadSide {
     ghost use Rattle.s7_block.specs.Sides.{finished_image};
 
     /// A side that holds no download, with room for images of at most `room` octets, which is taken
-    /// here. `Memory` comes where there is none for it.
+    /// here, and the name 0 of kind 0. `Memory` comes where there is none for it.
     pub fn new(alloc: Global, room: usize) -> Result<DownloadSide, Memory>
         ensures progress { IfOk result (λ side. side.progress ≡ idle) }
+        ensures name { IfOk result (λ side. side.name ≡ record { kind = 0; number = 0 }) }
         ensures room { IfOk result (λ side. side.room ≡ room) }
     {
         Ok(DownloadSide {
@@ -94,6 +95,7 @@ impl DownloadSide {
     /// Drops the download that is held.
     pub fn clear(&mut self)
         ensures progress { self.new.progress ≡ idle }
+        ensures name { self.new.name ≡ self.old.name }
         ensures room { self.new.room ≡ self.old.room }
     {
         self.assembly.clear();

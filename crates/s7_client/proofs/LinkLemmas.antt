@@ -65,7 +65,9 @@ moves_received l l' link link' received used inbox took same faults waits = reco
   faults = faults;
   waits = waits;
   moment = ap (λ x. x.moment) same;
+  clock_faults = ap (λ x. x.clock_faults) same;
   lent = ap (λ x. x.lent) same;
+  shut = ap (λ x. x.is_shut) same;
   space = ap (λ x. x.space) same ∙ space_none link.space;
 }
 
@@ -85,7 +87,9 @@ moves_sent l l' link link' written inbox wrote space same faults waits = record 
   faults = faults;
   waits = waits;
   moment = ap (λ x. x.moment) same;
+  clock_faults = ap (λ x. x.clock_faults) same;
   lent = ap (λ x. x.lent) same;
+  shut = ap (λ x. x.is_shut) same;
   space = space;
 }
 
@@ -126,7 +130,9 @@ moves_both l l1 l2 k k1 k2 m n = record {
   faults = omega (arith, m.faults, n.faults);
   waits = omega (arith, m.waits, n.waits);
   moment = n.moment ∙ m.moment;
+  clock_faults = n.clock_faults ∙ m.clock_faults;
   lent = n.lent ∙ m.lent;
+  shut = n.shut ∙ m.shut;
   space = n.space ∙ (ap (option_map (λ space. space - length n.written)) m.space
       ∙ space_both k.space m.written n.written);
 }

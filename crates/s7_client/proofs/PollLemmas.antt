@@ -104,7 +104,9 @@ poll_done old new u u' line link link' leaves told is none config granted closed
         faults = r.moves.faults;
         waits = r.moves.waits;
         moment = r.moves.moment;
+        clock_faults = r.moves.clock_faults;
         lent = r.moves.lent;
+        shut = r.moves.shut;
         space = r.moves.space;
       };
       orderly = λ origin b w s.

@@ -18,12 +18,14 @@ use Rattle.s7_dialogue.specs.Dialogue.{End, fault_end}
 use Rattle.s7_client.specs.Form.{HasForm, IsWhole}
 use Rattle.s7_dialogue.specs.Running.{IsGrant}
 use Rattle.s7_dialogue.specs.Course.{Origin, conduct_of}
+use Rattle.s7_client.specs.Order.{AreInOrder}
 use Rattle.s7_client.specs.Standing.{HasCause}
 use Rattle.s7_client.specs.Polling.{IsDoneBy, StandsFor, IsStarted, IsPoll, IsDone, WaitsOnce, job_of, waited_of, config_of, grant_of, closed_of, unread_of, grant_after, closed_after, origin_at}
 use Rattle.s7_client.specs.Runs.{IsTired, between_of, JobRun, StillWaits, IsOverNow, Completes}
 use Rattle.s7_client.proofs.FormLemmas.{octets_have_form, octets_are_whole, departure_has_form, fault_has_form}
 use Rattle.s7_client.proofs.LinkLemmas.{moves_received, moves_none, moves_both}
 use Rattle.s7_client.proofs.RoundLemmas.{cause_earlier}
+use Rattle.s7_client.proofs.OrderLemmas.{orderly_none, orderly_both}
 
 -- ---- the job that is outstanding
 
@@ -56,6 +58,7 @@ pub awaits_none : (c : Connection) (link : Shown) → waited_of c ≡ Some 0 →
 unfolding moves_none moves_received
 awaits_none c link e = record {
   moves = moves_none c.line link;
+  orderly = λ origin b w s. orderly_none origin (unread_of c) b w _ refl refl refl;
   config = refl;
   granted = refl;
   closed = refl;
@@ -78,6 +81,9 @@ awaits_on old c c2 k k1 k2 m p =
     let more = waits_more (waited_of c) (waited_of c2) m.polls (config_of c).polls m.waited pends.waited in
     record {
       moves = moves_both old.line c.line c2.line k k1 k2 m.moves p.moves;
+      orderly = λ origin b w s.
+          orderly_both origin (unread_of old) b w m.moves p.moves _ refl refl refl (m.orderly origin b w s)
+          (p.orderly origin (b ++ m.moves.used) (w ++ m.moves.written) (m.stood origin b w s));
       config = p.config ∙ m.config;
       granted = pends.granted ∙ m.granted;
       closed = pends.closed ∙ m.closed;
@@ -132,6 +138,9 @@ pub completes_now : (old c c2 : Connection) (k k1 k2 : Shown) (told : JobResult)
 unfolding moves_both
 completes_now old c c2 k k1 k2 told m p = record {
   moves = moves_both old.line c.line c2.line k k1 k2 m.moves p.moves;
+  orderly = λ origin b w s.
+      orderly_both origin (unread_of old) b w m.moves p.moves _ refl refl refl (m.orderly origin b w s)
+      (p.orderly origin (b ++ m.moves.used) (w ++ m.moves.written) (m.stood origin b w s));
   config = p.config ∙ m.config;
   idle = p.comes.1;
   over = λ origin b w s.
@@ -195,6 +204,7 @@ runs_whole old mid new link link' asked told s k =
     let h = k.over (origin_at old asked) [] [] s.stands in
     let formed = end_formed (origin_at old asked) link link' (unread_of new) h.end h.carried k.moves.used
     k.moves.written (granted_enough old.granted old.grants) h.cause in
+    let ordered = k.orderly (origin_at old asked) [] [] s.stands in
     record {
       moves = record {
         received = k.moves.received;
@@ -206,8 +216,17 @@ runs_whole old mid new link link' asked told s k =
         faults = k.moves.faults;
         waits = k.moves.waits;
         moment = k.moves.moment;
+        clock_faults = k.moves.clock_faults;
         lent = k.moves.lent;
+        shut = k.moves.shut;
         space = k.moves.space;
+      };
+      orderly = record {
+        deeds = ordered.deeds;
+        written = ordered.written;
+        used = ordered.used;
+        received = ordered.received;
+        order = subst (λ kept. AreInOrder (origin_at old asked) kept [] [] ordered.deeds) s.unread ordered.order;
       };
       end = h.end;
       carried = h.carried;

@@ -13,7 +13,7 @@ use Rattle.s7_dialogue.specs.Dialogue.{End}
 use Rattle.s7_dialogue.specs.Running.{IsResult}
 use Rattle.s7_client.specs.Form.{HasForm, IsWhole}
 use Rattle.s7_dialogue.specs.Course.{Origin, begins_anew, asked_size_code, course}
-use Rattle.s7_client.specs.Standing.{Moves, HasCause, HasMetNotYet, IsUnderWay, IsFault}
+use Rattle.s7_client.specs.Standing.{Moves, IsOrderly, HasCause, HasMetNotYet, IsUnderWay, IsFault}
 use Rattle.s7_client.specs.Polling.{StandsFor, grant_of, closed_of, size_of, sequence_of, unread_of, config_of, waited_of, job_of, grant_after, closed_after}
 
 -- what a client has between two jobs
@@ -66,6 +66,9 @@ pub record IsTired (origin : Origin) (link link' : Shown) (kept : List ℕ) (end
 pub record JobRun (config : Config) (before : Between) (asked : Job) (link link' : Shown) (told : JobResult)
     (after : Between) : Type 0 where
   pub moves : Moves (unread_at before asked) link after.unread link'
+  -- what it moved falls into deeds in order: octets were used only where all was sent, and received only where none was
+  -- unused
+  pub orderly : IsOrderly (origin_from config before asked) (unread_at before asked) [] [] moves
   pub end : End
   pub carried : List ℕ
   pub result : IsResult told asked end carried
@@ -85,6 +88,8 @@ pub record JobRun (config : Config) (before : Between) (asked : Job) (link link'
 -- polls that left the job outstanding
 pub record StillWaits (old : Connection) (link : Shown) (c : Connection) (link' : Shown) : Type 0 where
   pub moves : Moves (unread_of old) link (unread_of c) link'
+  pub orderly : (origin : Origin) (b w : List ℕ) → StandsFor old origin b w
+      → IsOrderly origin (unread_of old) b w moves
   pub config : config_of c ≡ config_of old
   pub granted : grant_of c ≡ grant_of old
   pub closed : closed_of c ≡ closed_of old
@@ -111,6 +116,8 @@ pub record IsOverNow (origin : Origin) (link link' : Shown) (old new : Connectio
 -- polls up to the one that was done
 pub record Completes (old : Connection) (link : Shown) (new : Connection) (link' : Shown) (told : JobResult) : Type 0 where
   pub moves : Moves (unread_of old) link (unread_of new) link'
+  pub orderly : (origin : Origin) (b w : List ℕ) → StandsFor old origin b w
+      → IsOrderly origin (unread_of old) b w moves
   pub config : config_of new ≡ config_of old
   pub idle : job_of new ≡ None
   pub over : (origin : Origin) (b w : List ℕ) → StandsFor old origin b w

@@ -1,5 +1,5 @@
 // Downloads of blocks: the server asks for the image by jobs of its own.
-use crate::exchange::{each_holds, holds};
+use crate::exchange::{all_rows_hold, each_holds, holds};
 use crate::user_data::TURNED_DOWN;
 use std::test::Fail;
 
@@ -274,11 +274,19 @@ IMAGE | ANNOUNCES PIECE CLOSED INSERTS | ANNOUNCED ASKS CLOSES 0300002302f080 | 
 
 #[test]
 fn other_octets_are_no_download(rt: HostRuntime) -> Result<(), Fail> {
-    assert!(rt; each_holds(rt.alloc(), NAMES, TURNED_DOWN, OTHER_HEADS)?);
-    assert!(rt; each_holds(rt.alloc(), NAMES, NO_ANSWER, NOT_ANNOUNCED)?);
-    assert!(rt; each_holds(rt.alloc(), NAMES, NO_ANSWER, NOT_ASKED)?);
-    assert!(rt; each_holds(rt.alloc(), NAMES, NO_ANSWER, NOT_GONE_ON)?);
-    assert!(rt; each_holds(rt.alloc(), NAMES, NO_ANSWER, NOT_INSERTED)?);
+    assert!(rt;
+        all_rows_hold(
+            rt.alloc(),
+            NAMES,
+            &[
+                (TURNED_DOWN, OTHER_HEADS),
+                (NO_ANSWER, NOT_ANNOUNCED),
+                (NO_ANSWER, NOT_ASKED),
+                (NO_ANSWER, NOT_GONE_ON),
+                (NO_ANSWER, NOT_INSERTED)
+            ]
+        )?
+    );
     Ok(())
 }
 

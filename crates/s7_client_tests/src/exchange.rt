@@ -55,6 +55,28 @@ pub(crate) struct Exchange<'a> {
     last: Option<(u8, u32)>,
 }
 
+/// The exchange of each text holds.
+pub(crate) fn all_hold(alloc: Global, names: &str, texts: &[&str]) -> Result<bool, Fail> {
+    let mut all = true;
+    for text in texts {
+        all = holds(alloc, names, text)? && all;
+    }
+    Ok(all)
+}
+
+/// Each form holds with each of its rows.
+pub(crate) fn all_rows_hold(
+    alloc: Global,
+    names: &str,
+    forms: &[(&str, &str)],
+) -> Result<bool, Fail> {
+    let mut all = true;
+    for (form, rows) in forms {
+        all = each_holds(alloc, names, form, rows)? && all;
+    }
+    Ok(all)
+}
+
 /// The exchange of each row holds: the form, in which `$1` to `$6` are the fields of the row, with `|` between them.
 /// A line of the rows that begins with `#` says what the next row is.
 pub(crate) fn each_holds(alloc: Global, names: &str, form: &str, rows: &str) -> Result<bool, Fail> {

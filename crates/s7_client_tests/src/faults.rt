@@ -1,5 +1,5 @@
 // What ends a job without an answer, and what closes a client.
-use crate::exchange::{each_holds, holds};
+use crate::exchange::{all_rows_hold, each_holds, holds};
 use std::test::Fail;
 
 /// A connect to which the link gives this ends with this number, sends this and closes the client.
@@ -122,10 +122,18 @@ const NO_ANSWERS: &str = "\
 
 #[test]
 fn connects_and_reads_fail(rt: HostRuntime) -> Result<(), Fail> {
-    assert!(rt; each_holds(rt.alloc(), "", CONNECT_FAILS, CONNECTS)?);
-    assert!(rt; each_holds(rt.alloc(), "", READ_FAILS, READS)?);
-    assert!(rt; each_holds(rt.alloc(), "", READ_FAILS, FRAGMENTS)?);
-    assert!(rt; each_holds(rt.alloc(), "", CARRIED, NO_ANSWERS)?);
+    assert!(rt;
+        all_rows_hold(
+            rt.alloc(),
+            "",
+            &[
+                (CONNECT_FAILS, CONNECTS),
+                (READ_FAILS, READS),
+                (READ_FAILS, FRAGMENTS),
+                (CARRIED, NO_ANSWERS)
+            ]
+        )?
+    );
     Ok(())
 }
 

@@ -1,5 +1,5 @@
 // Jobs with several telegrams unanswered.
-use crate::exchange::{each_holds, holds};
+use crate::exchange::{all_hold, all_rows_hold, holds};
 use std::test::Fail;
 
 /// A read in three parts, of 46, 46 and 10 octets, with its requests, its answers and refusals of its second part.
@@ -106,9 +106,17 @@ open";
 
 #[test]
 fn answers_come_in_any_order(rt: HostRuntime) -> Result<(), Fail> {
-    assert!(rt; each_holds(rt.alloc(), NAMES, IN_ANY_ORDER, ORDERS)?);
-    assert!(rt; each_holds(rt.alloc(), NAMES, AWAITED, ANSWERS)?);
-    assert!(rt; each_holds(rt.alloc(), NAMES, IN_THEIR_ORDER, ITEMS)?);
+    assert!(rt;
+        all_rows_hold(
+            rt.alloc(),
+            NAMES,
+            &[
+                (IN_ANY_ORDER, ORDERS),
+                (AWAITED, ANSWERS),
+                (IN_THEIR_ORDER, ITEMS)
+            ]
+        )?
+    );
     assert!(rt; holds(rt.alloc(), NAMES, TWO_AT_A_TIME)?);
     Ok(())
 }
@@ -192,11 +200,19 @@ const SAME_ANSWERS: &str = "\
 
 #[test]
 fn a_flight_ends_behind_a_refusal(rt: HostRuntime) -> Result<(), Fail> {
-    assert!(rt; each_holds(rt.alloc(), NAMES, LINK_ENDS, ENDS)?);
-    assert!(rt; holds(rt.alloc(), NAMES, GROUP_REFUSED)?);
-    assert!(rt; holds(rt.alloc(), NAMES, CODES)?);
-    assert!(rt; holds(rt.alloc(), NAMES, NO_ROOM)?);
-    assert!(rt; holds(rt.alloc(), NAMES, EIGHT_WRITES)?);
-    assert!(rt; each_holds(rt.alloc(), NAMES, TWICE, SAME_ANSWERS)?);
+    assert!(rt;
+        all_rows_hold(
+            rt.alloc(),
+            NAMES,
+            &[(LINK_ENDS, ENDS), (TWICE, SAME_ANSWERS)]
+        )?
+    );
+    assert!(rt;
+        all_hold(
+            rt.alloc(),
+            NAMES,
+            &[GROUP_REFUSED, CODES, NO_ROOM, EIGHT_WRITES]
+        )?
+    );
     Ok(())
 }

@@ -1,5 +1,5 @@
 // Whole jobs, one after the other.
-use crate::exchange::{each_holds, holds};
+use crate::exchange::{all_hold, all_rows_hold};
 use crate::user_data::TURNED_DOWN;
 use std::test::Fail;
 
@@ -96,14 +96,22 @@ open";
 
 #[test]
 fn jobs_come_off(rt: HostRuntime) -> Result<(), Fail> {
-    assert!(rt; holds(rt.alloc(), "", READ_AND_DISCONNECT)?);
-    assert!(rt; holds(rt.alloc(), "", TWO_READS)?);
-    assert!(rt; holds(rt.alloc(), "", TWO_CONNECTS)?);
-    assert!(rt; holds(rt.alloc(), "", FRAGMENTS)?);
-    assert!(rt; holds(rt.alloc(), "", WORD)?);
-    assert!(rt; holds(rt.alloc(), "", READ_MANY)?);
-    assert!(rt; holds(rt.alloc(), "", WRITE_MANY)?);
-    assert!(rt; holds(rt.alloc(), "", LEAST_PDU)?);
+    assert!(rt;
+        all_hold(
+            rt.alloc(),
+            "",
+            &[
+                READ_AND_DISCONNECT,
+                TWO_READS,
+                TWO_CONNECTS,
+                FRAGMENTS,
+                WORD,
+                READ_MANY,
+                WRITE_MANY,
+                LEAST_PDU
+            ]
+        )?
+    );
     Ok(())
 }
 
@@ -209,11 +217,24 @@ open";
 
 #[test]
 fn refusals_leave_the_client_as_it_was(rt: HostRuntime) -> Result<(), Fail> {
-    assert!(rt; each_holds(rt.alloc(), "", REFUSED, REFUSALS)?);
-    assert!(rt; each_holds(rt.alloc(), "", TURNED_DOWN, BAD_JOBS)?);
-    assert!(rt; holds(rt.alloc(), "", TWENTY_ONE_ITEMS)?);
-    assert!(rt; holds(rt.alloc(), "", NO_ITEMS)?);
-    assert!(rt; holds(rt.alloc(), "", UNCONNECTED)?);
-    assert!(rt; holds(rt.alloc(), "", READ_AFTER_DISCONNECT)?);
+    assert!(rt;
+        all_rows_hold(
+            rt.alloc(),
+            "",
+            &[(REFUSED, REFUSALS), (TURNED_DOWN, BAD_JOBS)]
+        )?
+    );
+    assert!(rt;
+        all_hold(
+            rt.alloc(),
+            "",
+            &[
+                TWENTY_ONE_ITEMS,
+                NO_ITEMS,
+                UNCONNECTED,
+                READ_AFTER_DISCONNECT
+            ]
+        )?
+    );
     Ok(())
 }

@@ -270,11 +270,15 @@ fn goes(alloc: Global, exchange: &str, calls: &str) -> Result<bool, Fail> {
 #[test]
 fn links_fail_and_wait_at_each_call(rt: HostRuntime) -> Result<(), Fail> {
     assert!(rt; each_holds(rt.alloc(), "", CONNECT_WAITS, CONNECT_CALLS)?);
-    assert!(rt; goes(rt.alloc(), READ, READ_CALLS)?);
-    assert!(rt; goes(rt.alloc(), DISCONNECT, DISCONNECT_CALLS)?);
-    assert!(rt; goes(rt.alloc(), UPLOAD, UPLOAD_CALLS)?);
-    assert!(rt; goes(rt.alloc(), DOWNLOAD, DOWNLOAD_CALLS)?);
-    assert!(rt; goes(rt.alloc(), LIST, LIST_CALLS)?);
-    assert!(rt; goes(rt.alloc(), FLIGHT, FLIGHT_CALLS)?);
+    for (job, calls) in [
+        (READ, READ_CALLS),
+        (DISCONNECT, DISCONNECT_CALLS),
+        (UPLOAD, UPLOAD_CALLS),
+        (DOWNLOAD, DOWNLOAD_CALLS),
+        (LIST, LIST_CALLS),
+        (FLIGHT, FLIGHT_CALLS),
+    ] {
+        assert!(rt; goes(rt.alloc(), job, calls)?);
+    }
     Ok(())
 }

@@ -4,7 +4,7 @@
 // OCTETS` out of the client's, which are all that wait there. `waiting N` and `unread N` is how many octets wait for
 // the server and for the client.
 use crate::asks::job_of;
-use crate::exchange::{Exchange, each_holds, holds};
+use crate::exchange::{Exchange, all_hold, each_holds};
 use crate::words::{are, hex_number, item_of, number, octets_of};
 use s7_client::{Job, JobResult, Polled, StartCause};
 use s7_outer::{Got, Link, PipeEnd, Sent, Side};
@@ -155,9 +155,7 @@ const GRANTS: &str = "\
 
 #[test]
 fn a_job_goes_on_by_polls(rt: HostRuntime) -> Result<(), Fail> {
-    assert!(rt; holds(rt.alloc(), "", PATIENCE)?);
-    assert!(rt; holds(rt.alloc(), "", NARROW)?);
-    assert!(rt; holds(rt.alloc(), "", ALL_SENT)?);
+    assert!(rt; all_hold(rt.alloc(), "", &[PATIENCE, NARROW, ALL_SENT])?);
     assert!(rt; each_holds(rt.alloc(), "", UNANSWERED, GRANTS)?);
     Ok(())
 }

@@ -1,5 +1,5 @@
 // Uploads of blocks, and their deletion.
-use crate::exchange::{each_holds, holds};
+use crate::exchange::{all_rows_hold, each_holds, holds};
 use crate::user_data::{ANSWERED, NO_ANSWER};
 use std::test::Fail;
 
@@ -175,10 +175,18 @@ upload 41 1 | STARTS ASKS_FIRST ENDS_AFTER_ONE | STARTED_FOUR WHOLE 0300001402f0
 
 #[test]
 fn other_octets_are_no_upload(rt: HostRuntime) -> Result<(), Fail> {
-    assert!(rt; each_holds(rt.alloc(), NAMES, NO_ANSWER, OTHER_STARTS)?);
-    assert!(rt; each_holds(rt.alloc(), NAMES, NO_ANSWER, OTHER_SLICES)?);
-    assert!(rt; each_holds(rt.alloc(), NAMES, NO_ANSWER, OTHER_FURTHER)?);
-    assert!(rt; each_holds(rt.alloc(), NAMES, NO_ANSWER, OTHER_ENDS)?);
+    assert!(rt;
+        all_rows_hold(
+            rt.alloc(),
+            NAMES,
+            &[
+                (NO_ANSWER, OTHER_STARTS),
+                (NO_ANSWER, OTHER_SLICES),
+                (NO_ANSWER, OTHER_FURTHER),
+                (NO_ANSWER, OTHER_ENDS)
+            ]
+        )?
+    );
     Ok(())
 }
 
@@ -204,9 +212,17 @@ STARTED_FOUR WHOLE | STARTS ASKS_FIRST ENDS_AFTER_ONE";
 #[test]
 fn uploads_come_in_slices(rt: HostRuntime) -> Result<(), Fail> {
     assert!(rt; holds(rt.alloc(), NAMES, IN_THREE_SLICES)?);
-    assert!(rt; each_holds(rt.alloc(), NAMES, UPLOADED, UPLOADS)?);
-    assert!(rt; each_holds(rt.alloc(), NAMES, UPLOADED, REFUSALS)?);
-    assert!(rt; each_holds(rt.alloc(), NAMES, LINK_ENDS, ENDS_OF_LINKS)?);
+    assert!(rt;
+        all_rows_hold(
+            rt.alloc(),
+            NAMES,
+            &[
+                (UPLOADED, UPLOADS),
+                (UPLOADED, REFUSALS),
+                (LINK_ENDS, ENDS_OF_LINKS)
+            ]
+        )?
+    );
     Ok(())
 }
 

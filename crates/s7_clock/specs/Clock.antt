@@ -1,6 +1,6 @@
--- The ten octets of a clock, as in the Snap7 1.4 sources (s7_types.h, TResDataGetTime): `00 19`, the
--- year, month, day, hour, minute and second in BCD, two BCD digits of milliseconds, and an octet with
--- the last of them and the weekday. Days are counted by jiff's calendar.
+-- The ten octets of a clock (Snap7 1.4 sources, s7_types.h: TResDataGetTime, TReqDataSetTime): `00 19`, the year,
+-- month, day, hour, minute and second in BCD, two BCD digits of milliseconds, and an octet with the last of them and
+-- the weekday. Days are counted by jiff's calendar.
 use Rattle.std.specs.Prelude.{ℕ, ℤ, pos, ◌+◌, ◌*◌, ◌/◌, ◌%◌, ◌<◌, ◌≤◌, nat_le, unsigned_abs, List, [], ◌∷◌, Option, Some, None, option_and_then, Result, Ok, Err, if◌then◌else◌}
 use Rattle.jiff.specs.Types.{DateTime}
 use Rattle.jiff.specs.Words.{IsDate, IsTime, IsYmd, IsHms, IsBetween, weekday_of}

@@ -1,6 +1,6 @@
--- Parameters that control a PLC, as in the Snap7 1.4 sources (s7_types.h, TReqFunPlcHotStart,
--- TReqFunPlcColdStart, TReqFunPlcStop, TReqFunCompress, TReqFunCopyRamToRom): the call of a service by
--- function 28, or function 29 for a stop.
+-- Parameters that control a PLC (Snap7 1.4 sources, s7_types.h: TReqFunPlcHotStart, TReqFunPlcColdStart,
+-- TReqFunPlcStop, TReqFunCompress, TReqFunCopyRamToRom, TReqControlBlockParams): the call of a service by function 28,
+-- or function 29 for a stop.
 use Rattle.std.specs.Prelude.{◌≡◌, ℕ, ◌+◌, ◌*◌, ◌-◌, ◌/◌, ◌%◌, Bool, true, nat_lt, ◌==◌, ◌&&◌, ◌||◌, if◌then◌else◌, List, [], ◌∷◌, ◌++◌, length, slice_index, Result, Ok, Err}
 use Rattle.std.specs.Str.{bytes_eq}
 use Rattle.s7_outer.specs.Numbers.{two_octets}
@@ -41,6 +41,7 @@ abbrev pub five_digits : ℕ → List ℕ
 five_digits n = (0x30 + n / 10000) ∷ (0x30 + n / 1000 % 10) ∷ (0x30 + n / 100 % 10) ∷ (0x30 + n / 10 % 10) ∷ (0x30 + n % 10) ∷ []
 
 -- the argument that names one block: `01 00 30`, its kind, its number and where it is
+-- (Snap7 1.4 sources, s7_types.h: TReqControlBlockParams)
 abbrev pub block_argument : ℕ → ℕ → ℕ → List ℕ
 block_argument kind number place = 0x01 ∷ 0x00 ∷ 0x30 ∷ kind ∷ (five_digits number ++ (place ∷ []))
 
@@ -57,7 +58,7 @@ control_spelling (Delete kind number) = service (block_argument kind number 0x42
 
 -- ---- which controls there are
 
--- a kind of block: OB, DB, SDB, FC, SFC, FB or SFB
+-- a kind of block: OB, DB, SDB, FC, SFC, FB or SFB (Snap7 1.4 reference manual, `Cli_ListBlocksOfType`)
 abbrev pub is_kind : ℕ → Bool
 is_kind kind =
     (kind == 0x38) || (kind == 0x41) || (kind == 0x42) || (kind == 0x43) || (kind == 0x44) || (kind == 0x45) || (kind == 0x46)
@@ -96,7 +97,7 @@ number_named params =
 abbrev pub if_spelled : List ℕ → Control → Result Control BadParams → Result Control BadParams
 if_spelled params c other = if is_control c && bytes_eq params (control_spelling c) then Ok c else other
 
--- the control that names a block and has these parameters
+-- the control that names a block and has these parameters (Snap7 1.4 sources, s7_types.h: TReqControlBlockParams)
 unfoldable pub block_control_of : List ℕ → Result Control BadParams
 block_control_of params =
     if_spelled params (Insert (slice_index params 13) (number_named params))

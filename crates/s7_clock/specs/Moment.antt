@@ -1,4 +1,4 @@
--- Moments: milliseconds since 1970-01-01T00:00:00, UTC.
+-- Moments: milliseconds since 1970-01-01T00:00:00, UTC. This count is this profile's own.
 use Rattle.std.specs.Prelude.{◌≡◌, ◌≤◌, ◌+◌, ◌-◌, ◌*◌, ◌/◌, ◌%◌, ℕ, zero, suc, ℤ, pos, negsuc, max, min, unsigned_abs, int_div, Bool, nat_le, ◌&&◌, if◌then◌else◌, List, [], ◌∷◌, Option, Some, None, option_and_then, Result, Ok, Err}
 use Rattle.jiff.specs.Types.{DateTime}
 use Rattle.jiff.specs.Words.{civil_nanos, days_in_month}
@@ -41,7 +41,7 @@ pub record IsCutTo (t u : DateTime) : Type 0 where
   pub second : u.time.second ≡ t.time.second
   pub fraction : u.time.subsec_nanosecond ≡ milliseconds t * 1000000
 
--- ---- octets and moments
+-- ---- octets and moments (Snap7 1.4 sources, s7_types.h: TResDataGetTime)
 
 -- the number of the first day of a month, from 1970-01-01
 abbrev pub first_day : ℕ → ℕ → ℕ

@@ -21,7 +21,7 @@ IsGroup (f ∷ []) = f.last ≡ true
 IsGroup (f ∷ g ∷ fs) = (f.last ≡ false) × IsGroup (g ∷ fs)
 
 -- A message: at most 64 fragments up to the end bit, whose octets are within the limit. Both limits are of the
--- receiver.
+-- receiver, this profile's own.
 pub record IsMessage (limit : ℕ) (fs : List Fragment) (message : List ℕ) : Type 0 where
   pub group : IsGroup fs
   pub fragments : length fs ≤ 64
@@ -31,7 +31,8 @@ pub record IsMessage (limit : ℕ) (fs : List Fragment) (message : List ℕ) : T
 -- the fragments are those of these messages, in order, and then the rest
 abbrev pub AreJoined : ℕ → List Fragment → List (List ℕ) → List Fragment → Type 0
 AreJoined limit fs [] rest = fs ≡ rest
-AreJoined limit fs (m ∷ ms) rest = (group : List Fragment) × (more : List Fragment) × IsMessage limit group m × (fs ≡ group ++ more) × AreJoined limit more ms rest
+AreJoined limit fs (m ∷ ms) rest = (group : List Fragment) × (more : List Fragment) × IsMessage limit group m ×
+    (fs ≡ group ++ more) × AreJoined limit more ms rest
 
 -- no message stands at the front
 abbrev pub NoMessageAhead : ℕ → List Fragment → Type 0
@@ -115,7 +116,8 @@ pub record EndsMessage (limit : ℕ) (fs : List Fragment) (f : Fragment) (messag
 
 -- what a step says of the fragments before and the one that came
 abbrev pub StepSays : ℕ → List Fragment → Fragment → Step → Type 0
-StepSays limit fs f (more octets count) = GoesOn limit fs (f ∷ []) × (octets ≡ octets_of (rest_of limit fs ++ f ∷ [])) × (count ≡ length (rest_of limit fs ++ f ∷ []))
+StepSays limit fs f (more octets count) = GoesOn limit fs (f ∷ []) ×
+    (octets ≡ octets_of (rest_of limit fs ++ f ∷ [])) × (count ≡ length (rest_of limit fs ++ f ∷ []))
 StepSays limit fs f (whole octets) = EndsMessage limit fs f octets
 StepSays limit fs f too_many_fragments = (behind : List Fragment) → GoesOn limit fs (f ∷ behind)
 StepSays limit fs f too_long = (behind : List Fragment) → GoesOn limit fs (f ∷ behind)

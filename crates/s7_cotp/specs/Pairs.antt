@@ -1,4 +1,4 @@
--- How a message is cut into fragments: where each begins and ends.
+-- How a message is cut into fragments (ISO 8073, 6.3 and 13.7): where each begins and ends.
 use Rattle.std.specs.Prelude.{◌≡◌, ℕ, zero, suc, ◌+◌, ◌-◌, ◌/◌, ◌<◌, ◌≤◌, ◌==◌, min, max, List, [], ◌∷◌, length, map}
 use Rattle.std.specs.List.{between}
 use Rattle.s7_cotp.specs.Messages.{Fragment}

@@ -1,7 +1,7 @@
--- What answers a client's telegrams (Snap7 1.4 reference manual, and its public sources). An answer
--- has the sequence of its telegram. A job is answered by an acknowledgement with data and no error,
--- user data by user data, and either by a refusal, an acknowledgement with an error word alone. In a download the server
--- goes on with jobs of its own, which have sequences of its own.
+-- What answers a client's telegrams (Snap7 1.4 sources, s7_types.h: TS7ResHeader23, TS7ResHeader17). An answer has the
+-- sequence of its telegram. A job is answered by an acknowledgement with data and no error, user data by user data, and
+-- either by a refusal, an acknowledgement with an error word alone. In a download the server goes on with jobs of its
+-- own, which have sequences of its own.
 use Rattle.std.specs.Prelude.{ℕ, ◌+◌, Bool, true, false, not, ◌==◌, ◌&&◌, nat_le, List, [], ◌∷◌, length, drop, take, slice_index, Option, None, Some, option_map, Result, Ok, Err, if◌then◌else◌}
 use Rattle.s7_header.specs.Octets.{number_at}
 use Rattle.s7_header.specs.declared.header.Header.{Header}
@@ -59,7 +59,7 @@ pub data Answer : Type 0 where
   -- the error word of a refusal
   refuses : (error : ℕ) → Answer
 
--- ---- the data items of a read's answer
+-- ---- the data items of a read's answer (Snap7 1.4 sources, s7_types.h: TResFunReadItem)
 
 -- the octets begin with a data item that was read: its transport size and length are the item's own,
 -- and its octets and the padding are there
@@ -91,16 +91,19 @@ item_answers (item ∷ items) octets =
 
 -- ---- the answers of each question
 
--- the parameters are the function and the number of items
+-- the parameters are the function and the number of items (Snap7 1.4 sources, s7_types.h: TResFunReadParams,
+-- TResFunWrite)
 abbrev pub counts_items : ℕ → List Item → List ℕ → Bool
 counts_items function items params =
     length params == 2 && (slice_index params 0 == function && slice_index params 1 == length items)
 
+-- what was granted (Snap7 1.4 sources, s7_types.h: TReqFunNegotiateParams)
 abbrev pub grant_in : Result Negotiation BadParams → Option Answer
 grant_in (Ok granted) = Some (grants granted)
 grant_in (Err bad) = None
 
--- the function of a control: 29 of a stop, and else 28
+-- the function of a control: 29 of a stop, and else 28 (Snap7 1.4 sources, s7_types.h: TReqFunPlcStop,
+-- TReqFunPlcHotStart)
 abbrev pub function_of : Control → ℕ
 function_of control.Start = 0x28
 function_of control.ColdStart = 0x28
@@ -110,14 +113,14 @@ function_of control.CopyRam = 0x28
 function_of (control.Insert kind number) = 0x28
 function_of (control.Delete kind number) = 0x28
 
--- the parameters are the function of a control and a status
+-- the parameters are the function of a control and a status; these octets are this profile's own
 abbrev pub tells_status : Control → List ℕ → Bool
 tells_status control params = length params == 2 && slice_index params 0 == function_of control
 
 abbrev pub sliced : Piece → Answer
 sliced piece = slices piece.more piece.octets
 
--- what an acknowledgement with these parameters and data answers
+-- what an acknowledgement with these parameters and data answers (Snap7 1.4 sources, s7_types.h: TS7ResHeader23)
 abbrev pub acknowledged : Question → List ℕ → List ℕ → Option Answer
 acknowledged (negotiates asked) params body =
     if length body == 0 then grant_in (negotiation_of params) else None
@@ -142,7 +145,7 @@ acknowledged (inserts image call) params body =
     if tells_status (control.Insert (name_in image).kind (name_in image).number) params && length body == 0
     then Some (stands (slice_index params 1)) else None
 
--- ---- user data
+-- ---- user data (Snap7 1.4 sources, s7_types.h: TS7Params7)
 
 -- Octets of user data with these parameters, behind those that came: an error word comes without octets, and else they
 -- go on with what came.
@@ -185,6 +188,7 @@ answered_by_user (asks subject octets) params body = by_params subject None [] b
 answered_by_user (asks_further subject octet so_far) params body =
     by_params subject (Some octet) so_far body (user_params_of params)
 
+-- what a message of this type answers (Snap7 1.4 sources, s7_types.h: TS7ResHeader23, TS7ResHeader17)
 abbrev pub by_kind : Kind → Question → Header → List ℕ → Option Answer
 by_kind Job question h message = None
 by_kind Ack question h message =
@@ -193,7 +197,7 @@ by_kind AckData question h message =
     if h.error == 0 then acknowledged question (params_of message h) (body_of message h) else None
 by_kind User question h message = answered_by_user question (params_of message h) (body_of message h)
 
--- ---- jobs of the server's
+-- ---- jobs of the server's (after Snap7 1.4 sources, s7_types.h: TReqDownloadParams)
 
 -- a job of the server's is awaited
 abbrev pub awaits_server : Question → Bool

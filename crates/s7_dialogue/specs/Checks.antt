@@ -1,4 +1,4 @@
--- What is checked of a job before anything is sent: the first that applies.
+-- What is checked of a job before anything is sent: the first that applies. The checks are this profile's own.
 use Rattle.std.specs.Prelude.{ℕ, ◌+◌, ◌^◌, Bool, not, ◌==◌, ◌||◌, ◌&&◌, nat_lt, nat_le, is_some, List, [], ◌∷◌, length, Result, Ok, Err, if◌then◌else◌}
 use Rattle.std.specs.List.{list_all}
 use Rattle.s7_item.specs.declared.item.Item.{Item}
@@ -16,6 +16,7 @@ abbrev pub is_known : Item → Bool
 is_known item = is_some (size_of item.word)
 
 -- there are elements, exactly one if they are bits, and the range ends inside the address field
+-- (Snap7 1.4 sources, s7_types.h: TReqFunReadItem)
 abbrev pub is_placed : Item → Bool
 is_placed item =
     (not (item.count == 0) && (not (item.word == 0x01) || item.count == 1)) && nat_le (range_end item) (2 ^ 24)
@@ -41,7 +42,7 @@ abbrev pub check_moment : ℕ → ℕ
 check_moment moment =
     if nat_le first_moment moment && nat_le moment last_moment then no_fault else invalid_parameters
 
--- of a password: one to eight octets
+-- of a password: one to eight octets (Snap7 1.4 reference manual, `Cli_SetSessionPassword`)
 abbrev pub check_password : List ℕ → ℕ
 check_password text =
     if nat_lt 0 (length text) && nat_le (length text) 8 then no_fault else invalid_parameters
@@ -51,7 +52,8 @@ abbrev pub check_image : List ℕ → ℕ
 check_image image =
     if head_agrees image (name_in image).kind (name_in image).number then no_fault else invalid_parameters
 
--- of a read or write of several
+-- of a read or write of several, at most twenty (Snap7 1.4 reference manual, `Cli_ReadMultiVars` and
+-- `Cli_WriteMultiVars`)
 abbrev pub check_items : List Item → Bool → ℕ → Bool → ℕ
 check_items items has_octets pdu write =
     if nat_lt 20 (length items) then too_many_items

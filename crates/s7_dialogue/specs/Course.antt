@@ -1,5 +1,5 @@
--- The course of a job on its link: what the octets that were used make of it, and what may be sent.
--- The octets are packets of RFC 1006 with TPDUs of ISO 8073, class 0, as a server's link has them.
+-- The course of a job on its link: what the octets that were used make of it, and what may be sent. The octets are
+-- packets (RFC 1006, section 6) with TPDUs of class 0 (ISO 8073, 13.3 to 13.7), as a server's link has them.
 use Rattle.std.specs.Prelude.{ℕ, ◌+◌, zero, suc, Bool, false, ◌==◌, ◌&&◌, nat_lt, List, [], ◌∷◌, ◌++◌, length, is_none, Option, None, Some, Result, Ok, Err, if◌then◌else◌}
 use Rattle.s7_outer.specs.Numbers.{two_octets}
 use Rattle.s7_tpkt.specs.Packets.{packet_of, packets_of, rest_of, state_of}
@@ -41,7 +41,7 @@ pub data Awaits : Type 0 where
   -- nothing: the job is over, with a message that was no answer or none
   for_nothing : (end : End) → (carried : List ℕ) → Awaits
 
--- the fragments of a message that isn't whole: their octets, and how many they are
+-- the fragments of a message that isn't whole (ISO 8073, 13.7): their octets, and how many they are
 pub record Unfinished : Type 0 where
   pub octets : List ℕ
   pub count : ℕ
@@ -61,15 +61,15 @@ pub record Course : Type 0 where
 
 -- ---- what is sent
 
--- sequences are 1, 2 and so on, and after FFFF comes 1
+-- sequences are 1, 2 and so on, and after FFFF comes 1: this profile's own
 abbrev pub next_sequence : ℕ → ℕ
 next_sequence sequence = if sequence == 0xFFFF then 1 else sequence + 1
 
--- the TPDU size that is asked for, by its code and in octets
+-- the TPDU size that is asked for, by its code and in octets (ISO 8073, 13.3.4); the choice is this profile's own
 abbrev pub asked_size_code : ℕ
 asked_size_code = 0x0A
 
--- the client's reference is 0001, the class 00
+-- the connect request (ISO 8073, 13.3): the client's reference is 0001, the class 00
 abbrev pub request_of : Config → ConnectionTold
 request_of config = record {
   dst_ref = 0;
@@ -83,7 +83,7 @@ request_of config = record {
 abbrev pub connect_octets : Config → List ℕ
 connect_octets config = packet_of (spelling_of_connect (request_of config))
 
--- a disconnect request by the user of the link
+-- a disconnect request by the user of the link (ISO 8073, 13.5)
 abbrev pub disconnect_octets : List ℕ
 disconnect_octets = packet_of (spelling_of_disconnect 1 1 0x80)
 
@@ -143,7 +143,7 @@ abbrev pub by_rows : Conduct → Course → List ℕ → Option (List Row) → C
 by_rows c course message None = record course { awaits = for_nothing (fault_end invalid_answer) message }
 by_rows c course message (Some rows) = asking c (record course { rows = rows })
 
--- a whole message
+-- a whole message: a header has ten octets at least (Snap7 1.4 sources, s7_types.h: TS7ReqHeader)
 abbrev pub with_message : Conduct → Course → List ℕ → Course
 with_message c course message =
     if nat_lt (length message) 10 then with_fault course short_message
@@ -156,7 +156,7 @@ by_joining c course (whole message) = with_message c (record course { unfinished
 by_joining c course too_many_fragments = with_fault course message_too_fragmented
 by_joining c course too_long = with_fault course message_too_long
 
--- a TPDU where answers are awaited: fragments, and a disconnect request ends the link
+-- a TPDU where answers are awaited: fragments (ISO 8073, 13.7), and a disconnect request (ISO 8073, 13.5) ends the link
 abbrev pub connected : Conduct → Course → Result Told CotpFault → Course
 connected c course (Ok (fragment last user)) =
     by_joining c course
@@ -167,7 +167,7 @@ connected c course (Ok (confirm told)) = with_fault course bad_packet
 connected c course (Ok (reject cause)) = with_fault course bad_packet
 connected c course (Err fault) = with_fault course bad_packet
 
--- a TPDU where the confirm is awaited
+-- a TPDU where the confirm is awaited (ISO 8073, 13.4)
 abbrev pub confirming : Conduct → Course → Result Told CotpFault → Course
 confirming c course (Ok (confirm told)) = asking c (record course { size = size_of_code told.size_code })
 confirming c course (Ok (connect told)) = with_fault course not_connected
@@ -225,7 +225,7 @@ abbrev pub run : Origin → Course → List (List ℕ) → Course
 run origin course [] = course
 run origin course (body ∷ bodies) = run origin (with_packet origin course body) bodies
 
--- the length that no packet passes: that of the TPDU size, once the confirm isn't awaited
+-- the length that no packet passes: that of the TPDU size (ISO 8073, 13.3.4), once the confirm isn't awaited
 abbrev pub limit_where : Awaits → ℕ → ℕ
 limit_where for_confirm size = first_limit
 limit_where for_answers size = limit_of_size size
@@ -239,7 +239,7 @@ limit_in course = limit_where course.awaits course.size
 abbrev pub limits : Origin → List (List ℕ) → ℕ
 limits origin bodies = limit_in (run origin (begun origin) bodies)
 
--- a packet that can't be one ends a job that isn't over
+-- a packet that can't be one (RFC 1006, section 6) ends a job that isn't over
 abbrev pub by_state : Course → FedState → Course
 by_state course fed.BadVersion = with_fault course bad_packet
 by_state course fed.BadLength = with_fault course bad_packet

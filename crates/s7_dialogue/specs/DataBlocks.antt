@@ -6,8 +6,9 @@ use Rattle.s7_item.specs.declared.item.Item.{Item}
 use Rattle.s7_block.specs.Heads.{four_at}
 use Rattle.s7_split.specs.Parts.{parts_of}
 
--- The answer tells the head of a data block of 1 to 2,097,152 octets: `30`, the kind and `00 22` stand before the head, whose
--- load length counts its own 36 octets too.
+-- The answer tells the head of a data block of 1 to 2,097,152 octets: `30`, the kind and `00 22` stand before the head,
+-- whose load length counts its own 36 octets too. The layout is this profile's own, after
+-- Snap7 1.4 sources, s7_types.h: TResDataBlockInfo.
 abbrev pub tells_data : List ℕ → Bool
 tells_data octets = length octets == 40 && (nat_le 37 (four_at octets 12) && nat_le (four_at octets 12) 2097188)
 
@@ -15,7 +16,7 @@ tells_data octets = length octets == 40 && (nat_le 37 (four_at octets 12) && nat
 abbrev pub data_length : List ℕ → ℕ
 data_length octets = four_at octets 12 - 36
 
--- so many bytes of a data block from an octet on
+-- so many bytes of a data block from an octet on (Snap7 1.4 sources, s7_types.h: TReqFunReadItem)
 abbrev pub data_item : ℕ → ℕ → ℕ → Item
 data_item number from count = record { area = 0x84; db = number; word = 0x02; count = count; address = 8 * from }
 

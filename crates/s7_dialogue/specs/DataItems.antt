@@ -1,4 +1,4 @@
--- The data items of a read's answer, taken one after another.
+-- The data items of a read's answer (Snap7 1.4 sources, s7_types.h: TResFunReadItem), taken one after another.
 use Rattle.std.specs.Prelude.{ℕ, ◌+◌, Bool, List, [], take, drop, slice_index, Option, None, Some, if◌then◌else◌}
 use Rattle.s7_item.specs.declared.item.Item.{Item}
 use Rattle.s7_item.specs.Item.{octet_count}

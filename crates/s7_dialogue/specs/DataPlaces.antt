@@ -14,7 +14,7 @@ use Rattle.s7_dialogue.specs.Answer.{Answer}
 use Rattle.s7_dialogue.specs.Refusals.{part_refusal}
 use Rattle.s7_dialogue.specs.Dialogue.{Conduct, read_questions, write_questions, alone, first_refusal, by_refusal, plain_number, fill_number, octets_told, good_end, next_of_data, block_octets}
 
--- the most octets of a data block
+-- the most octets of a data block: this profile's own
 abbrev pub most_data : ℕ
 most_data = 2097152
 
@@ -40,7 +40,8 @@ octets_behind (Some place) = place.here + place.later
 
 -- ---- parts
 
--- how many octets a part has room for: a read's answer has 18 besides them, and a write keeps 35 for what else it carries
+-- how many octets a part has room for: a read's answer has 18 besides them
+-- (Snap7 1.4 sources, s7_types.h: TS7ResHeader23, TResFunReadItem), and a write keeps 35 for what else it carries
 abbrev pub part_room : DataBlock → ℕ
 part_room block = if is_some block.value then block.pdu - 35 else block.pdu - 18
 

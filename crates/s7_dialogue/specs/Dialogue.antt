@@ -54,7 +54,7 @@ pub record Conduct : Type 0 where
   -- the end, once no question is unanswered and none comes next
   pub ended : List (Option Answer) → End
 
--- what goes out before any question
+-- what goes out before any question: a CR, a DR (ISO 8073, 13.3 and 13.5), or nothing
 pub data First : Type 0 where
   nothing : First
   -- a connect request, and its confirm is awaited
@@ -84,9 +84,10 @@ silent end = record { width = 0; question_at = λ answers. None; refusal = λ an
 abbrev pub over : End → Plan
 over end = record { first = nothing; conduct = silent end }
 
--- ---- connect and disconnect
+-- ---- connect and disconnect (Snap7 1.4 reference manual, `Cli_ConnectTo`, `Cli_Disconnect`)
 
--- the grant that is taken: a PDU from 64 to the one asked for, and from one job to those asked for
+-- the grant that is taken: a PDU from 64 to the one asked for, and from one job to those asked for; these limits are
+-- this profile's own
 abbrev pub taken_grant : Config → Negotiation → Option Grant
 taken_grant config n =
     if nat_lt n.pdu least_pdu || nat_lt config.pdu n.pdu then None
@@ -115,10 +116,11 @@ negotiated config [] = number_end negotiation_failed Closed
 negotiated config (None ∷ answers) = number_end negotiation_failed Closed
 negotiated config (Some answer ∷ answers) = negotiated_by config answer
 
+-- what is asked for (Snap7 1.4 sources, s7_types.h: TReqFunNegotiateParams)
 abbrev pub asked_by : Config → Negotiation
 asked_by config = record { calling = config.jobs; called = config.jobs; pdu = config.pdu }
 
--- one question: a PDU and parallel jobs
+-- one question: a PDU and parallel jobs (Snap7 1.4 sources, s7_types.h: TReqFunNegotiateParams)
 abbrev pub negotiating : Config → Conduct
 negotiating config = record {
   width = 1;
@@ -133,11 +135,12 @@ departed_end = number_end no_fault Disconnected
 
 -- ---- questions in order
 
--- the questions of a read of lists of items
+-- the questions of a read of lists of items (Snap7 1.4 reference manual, `Cli_ReadArea`, `Cli_ReadMultiVars`)
 abbrev pub read_questions : List (List Item) → List Question
 read_questions groups = map reads groups
 
 -- the questions of a write, each with as many of the octets as its items have
+-- (Snap7 1.4 reference manual, `Cli_WriteArea`, `Cli_WriteMultiVars`)
 abbrev pub write_questions : List (List Item) → List ℕ → List Question
 write_questions [] octets = []
 write_questions (group ∷ groups) octets =
@@ -236,7 +239,8 @@ listed granted questions refusal number finished = record {
 
 -- ---- one question at a time
 
--- one question, the call of a control
+-- one question, the call of a control (Snap7 1.4 reference manual, `Cli_PlcHotStart`, `Cli_PlcColdStart`,
+-- `Cli_PlcStop`, `Cli_Compress`, `Cli_CopyRamToRom`, `Cli_Delete`)
 abbrev pub controlling : Control → Conduct
 controlling control = record {
   width = 1;
@@ -284,7 +288,8 @@ abbrev pub last_answer : Option Answer → List (Option Answer) → Option Answe
 last_answer answer [] = answer
 last_answer answer (next ∷ answers) = last_answer next answers
 
--- User data about something, with these octets, and then the further octets of its answer, piece by piece.
+-- User data about something, with these octets, and then the further octets of its answer, piece by piece
+-- (Snap7 1.4 sources, s7_types.h: TReqFunReadSZLFirst, TReqFunReadSZLNext).
 abbrev pub next_piece : Subject → List ℕ → List (Option Answer) → Option Question
 next_piece subject octets [] = Some (asks subject octets)
 next_piece subject octets (answer ∷ answers) =
@@ -340,7 +345,8 @@ behind_first (Some (calls sequence)) answers = None
 behind_first (Some (refuses error)) answers = None
 behind_first None answers = None
 
--- The start of the upload of a block, then its slices while others follow, and its end.
+-- The start of the upload of a block, then its slices while others follow, and its end
+-- (Snap7 1.4 reference manual, `Cli_FullUpload`).
 abbrev pub next_slice : BlockName → List (Option Answer) → Option Question
 next_slice name [] = Some (starts_upload name)
 next_slice name (answer ∷ answers) = behind_first answer answers
@@ -354,8 +360,8 @@ uploading name = record {
       by_refusal plain_number (first_refusal telegram_refusal 0 answers) (good_end (octets_brought answers) []);
 }
 
--- what goes out behind the server's job of this sequence, once the image was given up to a place: the next octets, at most
--- so many, and behind the last of them that the block is inserted
+-- what goes out behind the server's job of this sequence, once the image was given up to a place: the next octets, at
+-- most so many, and behind the last of them that the block is inserted (Snap7 1.4 reference manual, `Cli_Download`)
 abbrev pub behind_call : List ℕ → ℕ → ℕ → ℕ → Question
 behind_call image room from call =
     if nat_lt from (length image) then gives image room from call else inserts image call
@@ -374,8 +380,8 @@ behind_server image room from (Some announced) = None
 behind_server image room from (Some (refuses error)) = None
 behind_server image room from None = None
 
--- The download of an image is announced, then the server asks for it piece by piece, each of so many octets but the last,
--- and closes the download, and then the block is inserted.
+-- The download of an image is announced, then the server asks for it piece by piece, each of so many octets but the
+-- last, and closes the download, and then the block is inserted (Snap7 1.4 reference manual, `Cli_Download`).
 abbrev pub next_given : List ℕ → ℕ → List (Option Answer) → Option Question
 next_given image room [] = Some (announces image)
 next_given image room (answer ∷ []) = Some (awaits_call image)
@@ -391,7 +397,7 @@ downloading image room = record {
       by_refusal plain_number (first_refusal download_refusal 0 answers) (good_end [] []);
 }
 
--- ---- whole data blocks
+-- ---- whole data blocks (Snap7 1.4 reference manual, `Cli_DBGet`, `Cli_DBFill`)
 
 -- how many of the answers are none of user data, which tells the head
 abbrev pub is_of_data : Option Answer → Bool
@@ -452,15 +458,15 @@ filling pdu octets number value = record {
 abbrev pub at_once : Conduct → Plan
 at_once conduct = record { first = nothing; conduct = conduct }
 
--- the id and the index of a status list
+-- the id and the index of a status list (Snap7 1.4 reference manual, `Cli_ReadSZL`)
 abbrev pub list_octets : ℕ → ℕ → List ℕ
 list_octets id index = two_octets id ++ two_octets index
 
--- a kind of blocks
+-- a kind of blocks (Snap7 1.4 reference manual, `Cli_ListBlocksOfType`)
 abbrev pub kind_octets : ℕ → List ℕ
 kind_octets kind = 0x30 ∷ kind ∷ []
 
--- a block, which is in the controller's memory
+-- a block, which is in the controller's memory (Snap7 1.4 reference manual, `Cli_GetAgBlockInfo`)
 abbrev pub block_octets : ℕ → ℕ → List ℕ
 block_octets kind number = name_octets (record { kind = kind; number = number }) 0x41
 
@@ -470,6 +476,11 @@ abbrev pub if_good : ℕ → Plan → Plan
 if_good check plan = if check == no_fault then plan else over (number_end check AsItWas)
 
 -- the plan of a job on a connected client: what is checked before anything is sent, and then its questions
+-- (Snap7 1.4 reference manual, `Cli_ReadArea`, `Cli_WriteArea`, `Cli_ReadMultiVars`, `Cli_WriteMultiVars`,
+-- `Cli_ListBlocks`, `Cli_ListBlocksOfType`, `Cli_GetAgBlockInfo`, `Cli_FullUpload`, `Cli_Download`, `Cli_Delete`,
+-- `Cli_DBGet`, `Cli_DBFill`, `Cli_ReadSZL`, `Cli_GetPlcDateTime`, `Cli_SetPlcDateTime`, `Cli_PlcHotStart`,
+-- `Cli_PlcColdStart`, `Cli_PlcStop`, `Cli_Compress`, `Cli_CopyRamToRom`, `Cli_GetPlcStatus`, `Cli_SetSessionPassword`,
+-- `Cli_ClearSessionPassword`, `Cli_Disconnect`)
 abbrev pub connected_plan : Job → Grant → Plan
 connected_plan job.Connect granted = over (number_end no_fault AsItWas)
 connected_plan (job.ReadArea item) granted =
@@ -513,7 +524,7 @@ connected_plan (job.PasswordSet text) granted =
 connected_plan job.PasswordClear granted = at_once (asking_about PasswordClearing [])
 connected_plan job.Disconnect granted = record { first = disconnect_request; conduct = silent departed_end }
 
--- a connect request, then the negotiation
+-- a connect request, then the negotiation (Snap7 1.4 reference manual, `Cli_ConnectTo`)
 abbrev pub connecting_plan : Config → Plan
 connecting_plan config = record { first = connect_request; conduct = negotiating config }
 

@@ -1,5 +1,5 @@
--- Downloads of blocks, as a client announces, gives and closes them (after Snap7 1.4 sources, s7_types.h,
--- `TReqFunStartUploadParams`). The layouts are this profile's own.
+-- Downloads of blocks, as a client announces, gives and closes them (after
+-- Snap7 1.4 sources, s7_types.h: TReqStartDownloadParams, TReqDownloadParams). The layouts are this profile's own.
 use Rattle.std.specs.Prelude.{ℕ, ◌==◌, ◌&&◌, Bool, if◌then◌else◌, List, [], ◌∷◌, ◌++◌, length, drop}
 use Rattle.std.specs.Prelude.{◌%◌, slice_index}
 use Rattle.std.specs.Str.{bytes_eq}
@@ -12,7 +12,8 @@ use Rattle.s7_block.specs.Telegrams.{announce_function, piece_function, close_fu
 
 -- ---- the image
 
--- the block that the head of an image is of: its number is one of two octets
+-- the block that the head of an image is of: its number is one of two octets (after
+-- Snap7 1.4 sources, s7_types.h: TS7CompactBlockInfo)
 abbrev pub name_in : List ℕ → BlockName
 name_in image = record { kind = kind_of_code (slice_index image 5); number = two_at image 6 % 65536 }
 
@@ -22,14 +23,15 @@ piece_at image room from = first_piece room (drop from image)
 
 -- ---- what is sent
 
--- The parameters that announce a download: the block is at `P`, and behind `0D 31` stand six digits of the image's length
--- and six of the body's length, which the head tells.
+-- The parameters that announce a download (after Snap7 1.4 sources, s7_types.h: TReqStartDownloadParams): the block is
+-- at `P`, and behind `0D 31` stand six digits of the image's length and six of the body's length, which the head tells.
 abbrev pub announce_params : List ℕ → List ℕ
 announce_params image =
     name_front announce_function ++ name_octets (name_in image) 0x50
     ++ 0x0D ∷ 0x31 ∷ digits 6 (length image) ++ digits 6 (two_at image 34)
 
--- those of the answer to a job of the server's that asks for a piece, and to the one that closes the download
+-- those of the answer to a job of the server's that asks for a piece, and to the one that closes the download (after
+-- Snap7 1.4 sources, s7_types.h: TReqDownloadParams)
 abbrev pub piece_params : Piece → List ℕ
 piece_params piece = piece_function ∷ more_octet piece.more ∷ []
 
@@ -38,7 +40,8 @@ close_params = close_function ∷ []
 
 -- ---- what comes
 
--- Parameters and data are the job of the server's with this function for the block at `P`, which has no data.
+-- Parameters and data are the job of the server's with this function for the block at `P`, which has no data (after
+-- Snap7 1.4 sources, s7_types.h: TReqDownloadParams).
 abbrev pub is_call : ℕ → BlockName → List ℕ → List ℕ → Bool
 is_call function name params body =
     bytes_eq params (name_front function ++ name_octets name 0x50) && length body == 0

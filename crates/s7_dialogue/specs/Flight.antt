@@ -1,6 +1,6 @@
 -- The telegrams that went out for a job, with their answers. Several may be unanswered: an answer is known by the
--- sequence of its telegram (the PDU reference), in whatever order the answers come. A job of the server's has a
--- sequence of the server's own.
+-- sequence of its telegram (Snap7 1.4 sources, s7_types.h: TS7ReqHeader), in whatever order the answers come. A job of
+-- the server's has a sequence of the server's own.
 use Rattle.std.specs.Prelude.{ℕ, ◌+◌, List, [], ◌∷◌, map, is_none, Option, None, Some, option_map, if◌then◌else◌}
 use Rattle.s7_dialogue.specs.Question.{Question}
 use Rattle.s7_dialogue.specs.Answer.{Answer, answer_of}

@@ -146,7 +146,8 @@ brings_codes _ = false
 
 -- ---- answers that fit their questions
 
--- an item that was read has all its octets, and one that was refused has none
+-- an item that was read, with code FF (Snap7 1.4 sources, s7_types.h: TResFunReadItem), has all its octets, and one
+-- that was refused has none
 abbrev pub TellsItem : Item → ItemAnswer → Type 0
 TellsItem item answer =
     MatchBool (answer.code == 0xFF) (length answer.octets ≡ octet_count item) (answer.octets ≡ [])

@@ -40,8 +40,8 @@ items_left left = length (joined (groups_left left))
 abbrev pub octets_left : Left → ℕ
 octets_left left = octet_count_of (joined (groups_left left))
 
--- An item has at most FFFF elements of four octets, and no more parts than octets, and a job has at most twenty
--- items.
+-- An item has at most FFFF elements of four octets (Snap7 1.4 sources, s7_types.h: TReqFunReadItem), and no more parts
+-- than octets, and a job has at most twenty items (Snap7 1.4 reference manual, `Cli_ReadMultiVars`).
 abbrev pub most_parts : ℕ
 most_parts = 262140
 

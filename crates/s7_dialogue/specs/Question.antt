@@ -1,5 +1,5 @@
--- What a client asks, and the telegrams that go out for it (Snap7 1.4 reference manual, and its public sources): a header
--- with the sequence, then parameters and data.
+-- What a client asks, and the telegrams that go out for it (Snap7 1.4 sources, s7_types.h: TS7ReqHeader): a header with
+-- the sequence, then parameters and data.
 use Rattle.std.specs.Prelude.{ℕ, Bool, true, false, List, [], ◌∷◌, ◌++◌, length, take, drop}
 use Rattle.s7_header.specs.declared.header.Kind.{Kind}
 use Rattle.s7_header.specs.declared.header.Kind.TheVariants.{Job, AckData, User}
@@ -50,13 +50,15 @@ pub data Question : Type 0 where
   -- that the block is inserted, once the job of this sequence is answered, by which the server closes the download
   inserts : (image : List ℕ) → (call : ℕ) → Question
 
--- the data items of a write: each item has as many of the octets as its elements have
+-- the data items of a write (Snap7 1.4 sources, s7_types.h: TReqFunWriteDataItem): each item has as many of the octets
+-- as its elements have
 abbrev pub written : List Item → List ℕ → List DataItem
 written [] octets = []
 written (item ∷ items) octets =
     record { code = 0x00; word = item.word; octets = take (octet_count item) octets }
     ∷ written items (drop (octet_count item) octets)
 
+-- its parameters: those of reads and writes have function 04 and 05 (Snap7 1.4 sources, s7_types.h: TReqFunReadParams)
 abbrev pub params_of : Question → List ℕ
 params_of (negotiates asked) = negotiation_spelling asked
 params_of (reads items) = items_params 0x04 items
@@ -72,6 +74,8 @@ params_of (awaits_call image) = []
 params_of (gives image room from call) = piece_params (piece_at image room from)
 params_of (inserts image call) = control_spelling (Insert (name_in image).kind (name_in image).number)
 
+-- its data: the data items of a write, those of user data, a piece of an image, or none
+-- (Snap7 1.4 sources, s7_types.h: TReqFunWriteDataItem, TReqDataSecurity, TResDownloadDataHeader)
 abbrev pub body_of : Question → List ℕ
 body_of (negotiates asked) = []
 body_of (reads items) = []
@@ -87,6 +91,7 @@ body_of (awaits_call image) = []
 body_of (gives image room from call) = image_data (piece_at image room from).octets
 body_of (inserts image call) = []
 
+-- the type of its header (Snap7 1.4 sources, s7_types.h: TS7ReqHeader, TS7ResHeader23)
 abbrev pub kind_of : Question → Kind
 kind_of (negotiates asked) = Job
 kind_of (reads items) = Job
@@ -113,7 +118,8 @@ abbrev pub sequence_in : ℕ → Question → ℕ
 sequence_in sequence (gives image room from call) = call
 sequence_in sequence _ = sequence
 
--- a message of this kind and sequence with these parameters and data
+-- a message of this kind and sequence with these parameters and data (Snap7 1.4 sources, s7_types.h: TS7ReqHeader,
+-- TS7ResHeader23)
 abbrev pub message_octets : Kind → ℕ → List ℕ → List ℕ → List ℕ
 message_octets kind sequence params body =
     spelling_of (record { kind = kind; sequence = sequence; param_len = length params; body_len = length body; error = 0 })
@@ -128,7 +134,8 @@ abbrev pub question_octets : ℕ → Question → List ℕ
 question_octets sequence question =
     message_octets (kind_of question) (sequence_in sequence question) (params_of question) (body_of question)
 
--- the answer to the job of the server's by which it closes a download
+-- the answer to the job of the server's by which it closes a download (after
+-- Snap7 1.4 sources, s7_types.h: TReqDownloadParams)
 abbrev pub closing_octets : ℕ → List ℕ
 closing_octets call = message_octets AckData call close_params []
 

@@ -1,4 +1,5 @@
--- The numbers of errors that refusals end a job with (Snap7 1.4 sources, `CpuError`).
+-- The numbers of errors that refusals end a job with
+-- (Snap7 1.4 sources, s7_micro_client.cpp: TSnap7MicroClient::CpuError).
 use Rattle.std.specs.Prelude.{ℕ, ◌==◌, ◌||◌, [], ◌∷◌, Option, None, Some, if◌then◌else◌}
 use Rattle.s7_dialogue.specs.Codes.{over_pdu, address_out_of_range, invalid_transport, size_mismatch, not_available, invalid_value, no_such_function, already_runs, already_stopped, password_needed, wrong_password, no_password, refused_otherwise}
 use Rattle.s7_clock.specs.declared.control.Control.{Control}
@@ -30,7 +31,7 @@ number_of_code code =
 abbrev pub code_refusal : ℕ → Option ℕ
 code_refusal code = if code == 0xFF then None else Some (number_of_code code)
 
--- by the status that answers a control, which isn't 00
+-- by the status that answers a control, which isn't 00; the statuses are this profile's own
 abbrev pub number_of_status : Control → ℕ → ℕ
 number_of_status control.Start status = if status == 0x02 then already_runs else refused_otherwise
 number_of_status control.ColdStart status = if status == 0x02 then already_runs else refused_otherwise

@@ -141,7 +141,8 @@ TellsOfHead block octets next (brings octet more piece) =
     (octets ≡ piece) × (next ≡ Some (ask.HeadFurther block octet)) × (more ≡ true) × (0 < length piece)
 TellsOfHead block octets next _ = ⊥
 
--- A part was read or written, and the next one is asked for, if there is one.
+-- A part was read or written, with code FF (Snap7 1.4 sources, s7_types.h: TResFunReadItem, TResFunWrite), and the next
+-- one is asked for, if there is one.
 abbrev pub TellsPart : DataBlock → Place → List ℕ → Option Ask → Answer → Type 0
 TellsPart block place octets next (tells (item ∷ [])) =
     (block.value ≡ None) × (item.code ≡ 0xFF) × (octets ≡ item.octets)
@@ -184,7 +185,7 @@ TellsSingle asked so_far (told.Brought octets next) answer =
     BringsOn asked octets.now next answer × (length octets.now ≤ most_brought asked (length so_far))
 TellsSingle asked so_far (told.Anew next) answer = BeginsAnew asked so_far next answer
 
--- what is told of a part's return code and octets
+-- what is told of a part's return code and octets (Snap7 1.4 sources, s7_types.h: TResFunReadItem, TResFunWrite)
 abbrev pub IsToldOf : DataBlock → Place → ℕ → List ℕ → Told → Type 0
 IsToldOf block place code octets (told.Refused number) =
     option_map (refused_number block place) (code_refusal code) ≡ Some number

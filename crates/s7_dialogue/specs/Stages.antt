@@ -64,7 +64,8 @@ message_of config job flight = question_octets flight.sequence (question_of conf
 
 -- ---- one question at a time
 
--- the octets that a job sends in user data
+-- the octets that a job sends in user data (Snap7 1.4 reference manual, `Cli_ListBlocksOfType`, `Cli_GetAgBlockInfo`,
+-- `Cli_ReadSZL`, `Cli_SetPlcDateTime`, `Cli_GetPlcStatus`, `Cli_SetSessionPassword`)
 abbrev pub data_of_job : Job → List ℕ
 data_of_job (job.ListOf kind) = kind_octets kind
 data_of_job (job.Info kind number) = block_octets kind number
@@ -121,12 +122,14 @@ abbrev pub single_messages : Job → Single → List (List ℕ)
 single_messages job s = messages_of (unwrap_or s.out 0) (question_of_single job s.ask [])
 
 -- a clock is set to a moment that it can show, and a password has from one to eight octets
+-- (Snap7 1.4 reference manual, `Cli_SetPlcDateTime`, `Cli_SetSessionPassword`)
 abbrev pub is_sent_well : Job → Bool
 is_sent_well (job.ClockSet moment) = check_moment moment == no_fault
 is_sent_well (job.PasswordSet text) = check_password text == no_fault
 is_sent_well _ = true
 
--- an image with a head that is its own is given, and a piece of it fits a PDU of 64 to 1,920 octets
+-- an image with a head that is its own is given, and a piece of it fits a PDU of 64 to 1,920 octets, this profile's own
+-- limits
 abbrev pub has_image : Job → Pieces → Bool
 has_image job pieces =
     (check_image (image_of job) == no_fault && pieces.len == length (image_of job))
@@ -172,7 +175,7 @@ awaited_by found codes carried (stage.Over code leaves) =
 
 -- ---- what can be sent
 
--- the address fits its field
+-- the address fits its field (Snap7 1.4 sources, s7_types.h: TReqFunReadItem)
 abbrev pub is_addressed : Item → Bool
 is_addressed item = nat_lt item.address (2 ^ 24)
 
@@ -264,7 +267,7 @@ answers_left (stage.Single s) = asks_left s.ask s.len
 answers_left stage.Leaving = 0
 answers_left (stage.Over code leaves) = 0
 
--- a grant that can be gone on with: a PDU from 64 to 1,920, and from 1 to 8 jobs
+-- a grant that can be gone on with: a PDU from 64 to 1,920, and from 1 to 8 jobs, this profile's own limits
 pub record IsGrant (g : Grant) : Type 0 where
   pub least : 64 ≤ g.pdu
   pub most : g.pdu ≤ most_pdu

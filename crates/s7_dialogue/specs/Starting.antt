@@ -30,7 +30,8 @@ BeginsWith job config granted found codes stage.Leaving = (plan_of job config gr
 BeginsWith job config granted found codes (stage.Over code leaves) =
     plan_of job config granted ≡ over (record { code = code; octets = found; codes = codes; leaves = leaves })
 
--- The job begins so with 00 for each octet and each code that it brings, and what it asks can be asked.
+-- The job begins so with 00 for each octet and each code that it brings, at most twenty
+-- (Snap7 1.4 reference manual, `Cli_ReadMultiVars`), and what it asks can be asked.
 pub record Starts (job : Job) (granted : Option Grant) (at : Stage) (octets codes : ℕ) : Type 0 where
   pub ready : is_ready job octets at ≡ true
   pub begins : (config : Config) → BeginsWith job config granted (replicate octets 0) (replicate codes 0) at

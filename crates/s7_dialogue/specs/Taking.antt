@@ -71,7 +71,7 @@ Keeps items flight (told.Items body) found codes found' codes' =
 Keeps items flight (told.Codes noted) found codes found' codes' =
     (found' ≡ found) × (codes' ≡ with_codes flight.item noted.now codes)
 
--- of the octets of items those whose code is FF
+-- of the octets of items those whose code is FF (Snap7 1.4 sources, s7_types.h: TResFunReadItem)
 abbrev pub without_gaps : List Item → List ℕ → List ℕ → List ℕ
 without_gaps [] codes found = []
 without_gaps (item ∷ items) codes found =

@@ -99,14 +99,14 @@ impl Running {
     }
 
     /// Writes the message of the next telegram that is to be put, as the one that the buffer holds.
-    /// Says whether there is one.
+    /// Says whether there is one; the buffer is left as it is where there is none.
     pub fn write_next(&mut self, config: &Config, message: &mut Buffer) -> bool
         requires room { message.old.room ≡ most_pdu }
         ensures some { result ≡ true → (size : ℕ) → unput_of config.now size self.old
             ≡ sent_message size message.new.octets ++ unput_of config.now size self.new }
         ensures fits { result ≡ true → (10 ≤ length message.new.octets) × (length message.new.octets ≤ most_pdu) }
         ensures asking { result ≡ true → IsAsking self.old.stage }
-        ensures none { result ≡ false → (self.new ≡ self.old)
+        ensures none { result ≡ false → (self.new ≡ self.old) × (message.new ≡ message.old)
             × ((size : ℕ) → unput_of config.now size self.old ≡ []) }
         ensures follows { (granted : Option Grant) (rows : List Row) → Follows self.old config.now granted rows
             → Follows self.new config.now granted rows }

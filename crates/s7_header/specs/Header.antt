@@ -1,6 +1,6 @@
--- The header at the front of an S7 message, as in the Snap7 1.4 sources (s7_types.h, TS7ReqHeader,
--- TS7ResHeader17 and TS7ResHeader23): 32, the type octet, two octets, the sequence, the lengths of
--- parameters and data, and for an acknowledgement an error word. All numbers are big-endian.
+-- The header at the front of an S7 message (Snap7 1.4 sources, s7_types.h: TS7ReqHeader, TS7ResHeader17,
+-- TS7ResHeader23): 32, the type octet, two octets, the sequence, the lengths of parameters and data, and for an
+-- acknowledgement an error word. All numbers are big-endian. The refusals are this profile's own.
 use Rattle.std.specs.Prelude.{◌≡◌, ℕ, ◌+◌, ◌^◌, ◌<◌, Bool, true, false, ◌==◌, nat_lt, if◌then◌else◌, List, [], ◌∷◌, ◌++◌, length, take, drop, slice_index, Option, None, Some, Result, Ok, Err}
 use Rattle.std.specs.Bool.{OnFalse}
 use Rattle.s7_outer.specs.Numbers.{two_octets}
@@ -103,5 +103,6 @@ abbrev pub body_of : List ℕ → Header → List ℕ
 body_of message h = drop h.param_len (drop (header_len h.kind) message)
 
 -- the header of a refusal: an acknowledgement of this sequence, with an error word and nothing else
+-- (Snap7 1.4 sources, s7_types.h: TS7ResHeader23)
 abbrev pub refusal_of : ℕ → ℕ → Header
 refusal_of sequence error = record { kind = Ack; sequence = sequence; param_len = 0; body_len = 0; error = error }

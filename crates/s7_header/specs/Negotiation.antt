@@ -1,5 +1,5 @@
--- The parameters that negotiate a link's PDU and parallel jobs, as in the Snap7 1.4 sources
--- (s7_types.h, TReqFunNegotiateParams): F0, an octet, jobs calling, jobs called, PDU length.
+-- The parameters that negotiate a link's PDU and parallel jobs (Snap7 1.4 sources, s7_types.h: TReqFunNegotiateParams):
+-- F0, an octet, jobs calling, jobs called, PDU length.
 use Rattle.std.specs.Prelude.{◌≡◌, ℕ, ◌^◌, ◌<◌, ◌≤◌, Bool, ◌==◌, ◌&&◌, nat_lt, if◌then◌else◌, min, max, List, ◌∷◌, ◌++◌, length, slice_index, Result, Ok, Err}
 use Rattle.s7_outer.specs.Numbers.{two_octets}
 use Rattle.s7_header.specs.Octets.{number_at}
@@ -50,11 +50,11 @@ most_pdu = 1920
 abbrev pub most_jobs : ℕ
 most_jobs = 8
 
--- how many jobs are granted
+-- how many jobs are granted: this profile's own
 abbrev pub jobs_granted : ℕ → ℕ
 jobs_granted asked = max 1 (min asked most_jobs)
 
--- what every grant keeps to
+-- what every grant keeps to: this profile's own limits
 pub record IsGrant (n : Negotiation) : Type 0 where
   pub pdu_least : least_pdu ≤ n.pdu
   pub pdu_most : n.pdu ≤ most_pdu
@@ -63,7 +63,7 @@ pub record IsGrant (n : Negotiation) : Type 0 where
   pub called_least : 1 ≤ n.called
   pub called_most : n.called ≤ most_jobs
 
--- what is granted
+-- what is granted, by this profile's own limits
 abbrev pub granted : Negotiation → Result Negotiation TooSmall
 granted asked =
     if nat_lt asked.pdu least_pdu then Err (record {}) else Ok (record { calling = jobs_granted asked.calling; called = jobs_granted asked.called; pdu = min asked.pdu most_pdu })

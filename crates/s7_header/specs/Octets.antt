@@ -1,4 +1,5 @@
--- Octets in their places, and the numbers that stand in two of them.
+-- Octets in their places, and the numbers that stand in two of them, as in a header
+-- (Snap7 1.4 sources, s7_types.h: TS7ReqHeader).
 use Rattle.std.specs.Prelude.{ℕ, ◌+◌, List, slice_index}
 use Rattle.s7_outer.specs.Numbers.{number_of_two}
 

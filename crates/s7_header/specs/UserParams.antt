@@ -1,6 +1,5 @@
--- The parameters of user data, as in the Snap7 1.4 sources (s7_types.h, TReqFunTypedParams and
--- TS7Params7): a head, the group, the subfunction, the sequence octet, and in the long form a unit,
--- the last-unit octet and an error word.
+-- The parameters of user data (Snap7 1.4 sources, s7_types.h: TReqFunTypedParams, TS7Params7): a head, the group, the
+-- subfunction, the sequence octet, and in the long form a unit, the last-unit octet and an error word.
 use Rattle.std.specs.Prelude.{◌≡◌, ℕ, ◌^◌, ◌<◌, Bool, true, false, ◌==◌, ◌&&◌, nat_eq, if◌then◌else◌, List, [], ◌∷◌, ◌++◌, length, slice_index, Result, Ok, Err}
 use Rattle.std.specs.List.{starts_with}
 use Rattle.std.specs.Bool.{OnFalse}

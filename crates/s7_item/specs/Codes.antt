@@ -1,8 +1,9 @@
--- The codes of read and write telegrams (Snap7 1.4 sources, s7_types.h: functions, return codes, areas, word lengths
--- and transport sizes).
+-- The codes of read and write telegrams (Snap7 1.4 sources, s7_types.h: TReqFunReadParams, TReqFunReadItem,
+-- TReqFunWriteDataItem, TResFunReadItem, TResFunWrite): functions, return codes, areas, word lengths and transport
+-- sizes.
 use Rattle.std.specs.Prelude.{ℕ}
 
--- ---- functions of a job
+-- ---- functions of a job (Snap7 1.4 sources, s7_types.h: pduFuncRead, pduFuncWrite)
 
 abbrev pub read_function : ℕ
 read_function = 0x04
@@ -10,37 +11,37 @@ read_function = 0x04
 abbrev pub write_function : ℕ
 write_function = 0x05
 
--- ---- return codes of an item
+-- ---- return codes of an item (Snap7 1.4 sources, s7_types.h: TResFunReadItem, TResFunWrite)
 
 -- the item was read or written
 abbrev pub good : ℕ
 good = 0xFF
 
--- what stands in a code's place in a write request
+-- what stands in a code's place in a write request (Snap7 1.4 sources, s7_types.h: TReqFunWriteDataItem)
 abbrev pub requested : ℕ
 requested = 0x00
 
--- there is no right to do it
+-- there is no right to do it (Wireshark 4.0, dissector of S7 communication: s7comm.data.returncode)
 abbrev pub not_allowed : ℕ
 not_allowed = 0x03
 
--- the place isn't inside the area
+-- the place isn't inside the area (Snap7 1.4 sources, s7_types.h: Code7AddressOutOfRange)
 abbrev pub out_of_range : ℕ
 out_of_range = 0x05
 
--- word, area and count don't go together
+-- word, area and count don't go together (Snap7 1.4 sources, s7_types.h: Code7InvalidTransportSize)
 abbrev pub wrong_word : ℕ
 wrong_word = 0x06
 
--- the octets aren't as many as the item has
+-- the octets aren't as many as the item has (Snap7 1.4 sources, s7_types.h: Code7WriteDataSizeMismatch)
 abbrev pub wrong_size : ℕ
 wrong_size = 0x07
 
--- there is no such area
+-- there is no such area (Snap7 1.4 sources, s7_types.h: Code7ResItemNotAvailable)
 abbrev pub no_area : ℕ
 no_area = 0x0A
 
--- ---- areas
+-- ---- areas (Snap7 1.4 reference manual, `Cli_ReadArea`)
 
 abbrev pub inputs : ℕ
 inputs = 0x81
@@ -61,7 +62,7 @@ counters = 0x1C
 abbrev pub timers : ℕ
 timers = 0x1D
 
--- ---- word lengths
+-- ---- word lengths (Snap7 1.4 sources, s7_types.h: S7WLBit to S7WLReal)
 
 abbrev pub bits : ℕ
 bits = 0x01
@@ -87,7 +88,7 @@ double_integers = 0x07
 abbrev pub reals : ℕ
 reals = 0x08
 
--- ---- transport sizes of data items
+-- ---- transport sizes of data items (Snap7 1.4 sources, s7_types.h: TS_ResBit to TS_ResOctet)
 
 -- one bit, whose stated length is 1
 abbrev pub bit_transport : ℕ

@@ -1,5 +1,6 @@
--- Data items: code, transport size, stated length, octets, and a padding octet where another data
--- item follows an odd number of octets (Snap7 1.4 reference manual, and its public sources).
+-- Data items (Snap7 1.4 sources, s7_types.h: TReqFunWriteDataItem, TResFunReadItem): code, transport size, stated
+-- length, octets, and a padding octet where another data item follows an odd number of octets
+-- (Snap7 1.4 sources, s7_micro_client.cpp: TSnap7MicroClient::opReadMultiVars, TSnap7MicroClient::opWriteMultiVars).
 use Rattle.std.specs.Prelude.{ℕ, zero, suc, ◌+◌, ◌*◌, ◌/◌, ◌%◌, ◌==◌, ◌||◌, ◌&&◌, Bool, not, nat_lt, if◌then◌else◌, Result, Ok, Err, List, [], ◌∷◌, ◌++◌, length, take, drop, slice_index}
 use Rattle.s7_outer.specs.Numbers.{number_of_two, two_octets}
 use Rattle.s7_item.specs.Codes.{good, requested, bit_transport}
@@ -12,8 +13,8 @@ use Rattle.s7_item.specs.declared.read_data.DataFault.TheVariants.{Transport, Sh
 abbrev pub octets_meant : ℕ → ℕ → ℕ
 octets_meant transport stated = if counts_bits transport then (stated + 7) / 8 else stated
 
--- the length that is stated of so many octets: one octet of bits is one bit, and octets are 8 bits
--- each where bits are counted
+-- the length that is stated of so many octets: one octet of bits is one bit, and octets are 8 bits each where bits are
+-- counted (Snap7 1.4 sources, s7_micro_client.cpp: TSnap7MicroClient::opWriteArea)
 abbrev pub stated_length : ℕ → ℕ → ℕ
 stated_length transport n =
     if transport == bit_transport && n == 1 then 1
@@ -28,6 +29,7 @@ abbrev pub carries : ℕ → Bool
 carries code = is_good code || code == requested
 
 -- how many octets pad so many octets, the last ones or not
+-- (Snap7 1.4 sources, s7_micro_client.cpp: TSnap7MicroClient::opReadMultiVars, TSnap7MicroClient::opWriteMultiVars)
 abbrev pub padding_of : ℕ → Bool → ℕ
 padding_of n last = if last then 0 else n % 2
 
@@ -36,6 +38,7 @@ abbrev pub padding : ℕ → Bool → List ℕ
 padding n last = if padding_of n last == 1 then 0x00 ∷ [] else []
 
 -- the octets before the n octets of a data item: code, transport size, stated length
+-- (Snap7 1.4 sources, s7_types.h: TReqFunWriteDataItem, TResFunReadItem)
 abbrev pub head_octets : ℕ → ℕ → ℕ → List ℕ
 head_octets code word n = code ∷ transport_of word ∷ two_octets (stated_length (transport_of word) n)
 

@@ -1,4 +1,5 @@
--- Data items that are written are read back, and octets are read as data items exactly where they spell some.
+-- Data items (Snap7 1.4 sources, s7_types.h: TReqFunWriteDataItem, TResFunReadItem) that are written are read back, and
+-- octets are read as data items exactly where they spell some.
 use Rattle.std.specs.Prelude.{◌≡◌, ℕ, ◌+◌, ◌<◌, ◌==◌, Bool, true, IsTrue, IsSome, Ok, List, [], ◌∷◌, ◌++◌, length, map, ◌↔◌}
 use Rattle.std.specs.List.{AllByRecursion}
 use Rattle.s7_outer.specs.Numbers.{number_of_two}

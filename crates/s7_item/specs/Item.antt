@@ -1,4 +1,4 @@
--- Items and their octets (Snap7 1.4 reference manual, variables of a read or write telegram).
+-- Items and their octets (Snap7 1.4 sources, s7_types.h: TReqFunReadItem).
 use Rattle.std.specs.Prelude.{ℕ, ◌*◌, ◌==◌, ◌&&◌, if◌then◌else◌, Option, Some, None, unwrap_or, List, ◌∷◌, ◌++◌, slice_index}
 use Rattle.s7_outer.specs.Numbers.{number_of_two, number_of_three, two_octets, three_octets}
 use Rattle.s7_item.specs.Word.{size_of}

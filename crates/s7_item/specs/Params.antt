@@ -1,5 +1,5 @@
--- The parameters of read and write telegrams: function, number of items, items (Snap7 1.4 reference
--- manual, and its public sources).
+-- The parameters of read and write telegrams: function, number of items, items
+-- (Snap7 1.4 sources, s7_types.h: TReqFunReadParams).
 use Rattle.std.specs.Prelude.{◌≡◌, ℕ, zero, suc, ◌+◌, ◌*◌, ◌<◌, ◌≤◌, ◌==◌, ◌||◌, nat_lt, if◌then◌else◌, Option, Some, Result, Ok, Err, List, [], ◌∷◌, length, take, drop, slice_index, ◌↔◌}
 use Rattle.std.specs.Option.{option_map, option_and_then, ok_or}
 use Rattle.std.specs.List.{flat_map}
@@ -19,7 +19,8 @@ items_in zero octets = Some []
 items_in (suc n) octets =
     option_and_then (λ item. option_map (λ items. item ∷ items) (items_in n (drop 12 octets))) (item_in (take 12 octets))
 
--- how many items the parameters state, or the first thing that is wrong with number and length
+-- how many items the parameters state, at most twenty (Snap7 1.4 reference manual, `Cli_ReadMultiVars`), or the first
+-- thing that is wrong with number and length
 abbrev pub count_of : List ℕ → Result ℕ ItemFault
 count_of params =
     let count = slice_index params 1 in

@@ -1,5 +1,5 @@
--- The sizes of read and write telegrams and their answers (Snap7 1.4 reference manual, and its
--- public sources).
+-- The sizes of read and write telegrams and their answers (Snap7 1.4 sources, s7_types.h: TS7ReqHeader, TS7ResHeader23,
+-- TReqFunReadParams, TReqFunWriteDataItem, TResFunReadItem).
 use Rattle.std.specs.Prelude.{◌≡◌, ℕ, ◌+◌, ◌*◌, ◌≤◌, ◌==◌, Bool, true, false, if◌then◌else◌, List, [], ◌∷◌, length, map}
 use Rattle.s7_item.specs.Item.{octet_count}
 use Rattle.s7_item.specs.Params.{items_params}

@@ -1,5 +1,5 @@
--- The table of words: how many octets an element has, and the transport size with which it is sent
--- (Snap7 1.4 reference manual, word lengths of `Cli_ReadArea`, and its public sources).
+-- The table of words: how many octets an element has (Snap7 1.4 reference manual, `Cli_ReadArea`: word lengths), and
+-- the transport size with which it is sent (Snap7 1.4 sources, s7_micro_client.cpp: TSnap7MicroClient::opWriteArea).
 use Rattle.std.specs.Prelude.{ℕ, Bool, ◌==◌, ◌||◌, if◌then◌else◌, Option, Some, None, unwrap_or}
 use Rattle.std.specs.Option.{option_map}
 use Rattle.s7_item.specs.Codes.{bits, bytes, characters, words, integers, double_words, double_integers, reals, counters, timers, bit_transport, byte_transport, integer_transport, real_transport, octet_transport}
@@ -37,10 +37,11 @@ unfoldable pub transport_of : ℕ → ℕ
 transport_of word = unwrap_or (option_map (λ (r : Row). r.transport) (row_of word)) 0x00
 
 -- a stated length counts bits for these, and else octets
+-- (Snap7 1.4 sources, s7_micro_client.cpp: TSnap7MicroClient::opWriteArea)
 unfoldable pub counts_bits : ℕ → Bool
 counts_bits transport = transport == bit_transport || transport == byte_transport || transport == integer_transport
 
--- the transport sizes that data items have
+-- the transport sizes that data items have (Snap7 1.4 sources, s7_types.h: TS_ResBit to TS_ResOctet)
 unfoldable pub is_transport : ℕ → Bool
 is_transport transport =
     transport == bit_transport || transport == byte_transport || transport == integer_transport

@@ -1,5 +1,6 @@
 -- What one call of a link and of its clock does to what the link shows: the clauses of the traits.
-use Rattle.std.specs.Prelude.{◌≡◌, ℕ, ◌-◌, ◌≤◌, ◌↔◌, List, [], length, IsTrue, IsSome, IfSome, Some, option_map, true}
+use Rattle.std.specs.Prelude.{◌≡◌, ◌≢◌, ℕ, ◌+◌, ◌-◌, ◌≤◌, ◌↔◌, List, [], length, IsTrue, IsSome, IfSome, Some}
+use Rattle.std.specs.Prelude.{option_map, true}
 use Rattle.std.specs.Io.KnownBytes.{prepend_known, append_known, IsAtEnd}
 use Rattle.s7_outer.specs.Count.{Rose}
 use Rattle.s7_outer.specs.Link.{octets_got, octets_sent, GotWithin, SentWithin, TellsMoment}
@@ -18,11 +19,17 @@ pub record IsReceive (old new : Shown) (before after : List ℕ) (result : Got) 
   pub wrote : new.written ≡ old.written
   pub end : result ≡ got.End → IsAtEnd old.left × IsTrue new.has_ended
   pub ended : IsTrue old.has_ended → IsTrue new.has_ended × (octets_got result after ≡ [])
+  pub waits_open : result ≡ got.NotYet → new.has_ended ≡ old.has_ended
+  pub fails_open : result ≡ got.Failed → new.has_ended ≡ old.has_ended
   pub failed : result ≡ got.Failed → Rose old.faults new.faults
   pub not_yet : result ≡ got.NotYet → Rose old.waits new.waits
   pub nothing_left : IsSome old.space → (result ≡ got.NotYet) ↔ (old.left ≡ Some [])
   pub faults : old.faults ≤ new.faults
   pub waits : old.waits ≤ new.waits
+  pub faults_once : new.faults ≤ old.faults + 1
+  pub waits_once : new.waits ≤ old.waits + 1
+  pub failed_no_other : result ≢ got.Failed → new.faults ≡ old.faults
+  pub waited_no_other : result ≢ got.NotYet → new.waits ≡ old.waits
   pub moment : new.moment ≡ old.moment
   pub clock_faults : new.clock_faults ≡ old.clock_faults
   pub space : new.space ≡ old.space
@@ -40,6 +47,10 @@ pub record IsTransmit (old new : Shown) (piece : List ℕ) (result : Sent) : Typ
   pub no_space : IfSome old.space (λ space. (result ≡ sent.NotYet) ↔ (space ≡ 0))
   pub faults : old.faults ≤ new.faults
   pub waits : old.waits ≤ new.waits
+  pub faults_once : new.faults ≤ old.faults + 1
+  pub waits_once : new.waits ≤ old.waits + 1
+  pub failed_no_other : result ≢ sent.Failed → new.faults ≡ old.faults
+  pub waited_no_other : result ≢ sent.NotYet → new.waits ≡ old.waits
   pub moment : new.moment ≡ old.moment
   pub clock_faults : new.clock_faults ≡ old.clock_faults
   pub fits : IfSome old.space (λ space. length (octets_sent result piece) ≤ space)
@@ -56,4 +67,6 @@ pub record IsLook (old new : Shown) (result : Tick) : Type 0 where
   pub at : TellsMoment old.moment result
   pub failed : result ≡ tick.Failed → Rose old.clock_faults new.clock_faults
   pub clock_faults : old.clock_faults ≤ new.clock_faults
+  pub faults_once : new.clock_faults ≤ old.clock_faults + 1
+  pub failed_no_other : result ≢ tick.Failed → new.clock_faults ≡ old.clock_faults
   pub same : new ≡ record old { clock_faults = new.clock_faults }

@@ -12,3 +12,7 @@ Rose before now = min (before + 1) (2 ^ 64 - 1) ≤ now
 -- the count rose by so much at least, or stands at its end
 abbrev pub RoseBy : ℕ → ℕ → ℕ → Type 0
 RoseBy n before now = min (before + n) (2 ^ 64 - 1) ≤ now
+
+-- the count rose by so much and no more, or stands at its end
+abbrev pub RoseExactly : ℕ → ℕ → ℕ → Type 0
+RoseExactly n before now = RoseBy n before now × (now ≤ before + n)

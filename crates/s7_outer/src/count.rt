@@ -1,5 +1,5 @@
 // Counts of faults and waits.
-ghost use Rattle.std.specs.Prelude.{◌≡◌, ◌≤◌};
+ghost use Rattle.std.specs.Prelude.{◌≡◌, ◌+◌, ◌≤◌};
 ghost use Rattle.s7_outer.specs.Count.{Rose, raised};
 
 /// One more, up to the last value.
@@ -7,6 +7,7 @@ pub(crate) fn raise(count: &mut u64)
     ensures raised { count.new ≡ raised count.old }
     ensures rose { Rose count.old count.new }
     ensures kept { count.old ≤ count.new }
+    ensures once { count.new ≤ count.old + 1 }
 {
     *count = count.saturating_add(1);
 }

@@ -40,7 +40,8 @@ pub trait Files {
 
         // where the files tell what lies under the paths
         ensures told { OnOk result (IsTrue (shows self.old).tells → (shows self.old).held path.now ≡ Some into.new.items) }
-        ensures cut { IsErrOf result FileFault.TooLong → IsTrue (shows self.old).tells → IsCutFrom ((shows self.old).held path.now) into.new.items }
+        ensures cut { IsErrOf result FileFault.TooLong → IsTrue (shows self.old).tells →
+            IsCutFrom ((shows self.old).held path.now) into.new.items }
         ensures missing { IsTrue (shows self.old).tells → (shows self.old).held path.now ≡ None → result ≡ Err FileFault.Failed }
 
         ensures failed { IsErrOf result FileFault.Failed → Rose ((shows self.old).faults path.now) ((shows self.new).faults path.now) }

@@ -1,5 +1,5 @@
 // A link: octets come in and go out, in whatever pieces. Its clock tells the time of day.
-ghost use Rattle.std.specs.Prelude.{◌≡◌, ◌-◌, ◌<◌, ◌≤◌, ◌↔◌, [], length, IsTrue, IsSome, IfSome, Some, option_map};
+ghost use Rattle.std.specs.Prelude.{◌≡◌, ◌≢◌, ◌+◌, ◌-◌, ◌<◌, ◌≤◌, ◌↔◌, [], length, IsTrue, IsSome, IfSome, Some, option_map};
 ghost use Rattle.std.specs.Io.KnownBytes.{prepend_known, append_known, IsAtEnd};
 ghost use Rattle.s7_outer.specs.Shown.{Shown};
 ghost use Rattle.s7_outer.specs.Count.{Rose};
@@ -46,11 +46,12 @@ pub trait Link {
     /// What the link shows to contracts. No count in it ever falls.
     ghost shows: { Self → Shown };
 
-    /// Takes the next octets, at least one and as many as there is room for.
+    /// Takes the next octets, at least one and at most as many as there is room for.
     ///
     /// `End` comes only where nothing is left, and no octet comes after it. `NotYet` comes only
     /// where `waits` rose in this call, `Failed` only where `faults` did; none of the three moves
-    /// an octet. A link that tells its space answers `NotYet` exactly where nothing is left.
+    /// an octet, and neither of these two ends the stream. A link that tells its space answers `NotYet`
+    /// exactly where nothing is left. What lies in `into` behind the octets that came is undefined.
     fn receive(&mut self, into: &mut [u8]) -> Got
         requires { 0 < length into.old }
 
@@ -60,12 +61,20 @@ pub trait Link {
 
         ensures end { result ≡ Got.End → IsAtEnd (shows self.old).left × IsTrue (shows self.new).has_ended }
         ensures ended { IsTrue (shows self.old).has_ended → IsTrue (shows self.new).has_ended × (octets_got result into.new ≡ []) }
+        ensures waits_open { result ≡ Got.NotYet → (shows self.new).has_ended ≡ (shows self.old).has_ended }
+        ensures fails_open { result ≡ Got.Failed → (shows self.new).has_ended ≡ (shows self.old).has_ended }
 
         ensures failed { result ≡ Got.Failed → Rose (shows self.old).faults (shows self.new).faults }
         ensures not_yet { result ≡ Got.NotYet → Rose (shows self.old).waits (shows self.new).waits }
         ensures nothing_left { IsSome (shows self.old).space → (result ≡ Got.NotYet) ↔ ((shows self.old).left ≡ Some []) }
         ensures faults { (shows self.old).faults ≤ (shows self.new).faults }
         ensures waits { (shows self.old).waits ≤ (shows self.new).waits }
+
+        // A call counts once, and only as it answers.
+        ensures faults_once { (shows self.new).faults ≤ (shows self.old).faults + 1 }
+        ensures waits_once { (shows self.new).waits ≤ (shows self.old).waits + 1 }
+        ensures failed_no_other { result ≢ Got.Failed → (shows self.new).faults ≡ (shows self.old).faults }
+        ensures waited_no_other { result ≢ Got.NotYet → (shows self.new).waits ≡ (shows self.old).waits }
 
         ensures moment { (shows self.new).moment ≡ (shows self.old).moment }
         ensures clock_faults { (shows self.new).clock_faults ≡ (shows self.old).clock_faults }
@@ -91,6 +100,12 @@ pub trait Link {
         ensures faults { (shows self.old).faults ≤ (shows self.new).faults }
         ensures waits { (shows self.old).waits ≤ (shows self.new).waits }
 
+        // A call counts once, and only as it answers.
+        ensures faults_once { (shows self.new).faults ≤ (shows self.old).faults + 1 }
+        ensures waits_once { (shows self.new).waits ≤ (shows self.old).waits + 1 }
+        ensures failed_no_other { result ≢ Sent.Failed → (shows self.new).faults ≡ (shows self.old).faults }
+        ensures waited_no_other { result ≢ Sent.NotYet → (shows self.new).waits ≡ (shows self.old).waits }
+
         ensures moment { (shows self.new).moment ≡ (shows self.old).moment }
         ensures clock_faults { (shows self.new).clock_faults ≡ (shows self.old).clock_faults }
         ensures fits { IfSome (shows self.old).space (λ space. length (octets_sent result piece.now) ≤ space) }
@@ -113,5 +128,8 @@ pub trait Clock: Link {
         ensures at { TellsMoment (Self.shows self.old).moment result }
         ensures failed { result ≡ Tick.Failed → Rose (Self.shows self.old).clock_faults (Self.shows self.new).clock_faults }
         ensures clock_faults { (Self.shows self.old).clock_faults ≤ (Self.shows self.new).clock_faults }
+        ensures faults_once { (Self.shows self.new).clock_faults ≤ (Self.shows self.old).clock_faults + 1 }
+        ensures failed_no_other { result ≢ Tick.Failed
+            → (Self.shows self.new).clock_faults ≡ (Self.shows self.old).clock_faults }
         ensures same { Self.shows self.new ≡ record (Self.shows self.old) { clock_faults = (Self.shows self.new).clock_faults } };
 }

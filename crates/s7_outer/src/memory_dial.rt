@@ -34,6 +34,7 @@ impl<L: Drop> Dial<L> for MemoryDial<L> {
     fn call(&mut self, host: &str, port: u16) -> Dialled<L>
         ensures gives { result ≡ called (link_of self.old) }
         ensures given { link_of self.new ≡ None }
+        ensures kept { result ≡ Dialled.Failed → (dial_of self.new).next ≡ (dial_of self.old).next }
         ensures counted { result ≡ Dialled.Failed → fault_count self.new ≡ raised (fault_count self.old) }
         ensures counted_no_other { result ≢ Dialled.Failed → fault_count self.new ≡ fault_count self.old }
         ensures faults { NoHostFell (dial_of self.old).faults (dial_of self.new).faults }

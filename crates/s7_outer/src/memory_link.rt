@@ -1,5 +1,5 @@
 // A link over octets in memory.
-ghost use Rattle.std.specs.Prelude.{◌≡◌, ◌≢◌, ◌<◌, ◌≤◌, [], IsTrue, Some, length, IfOk, option_map};
+ghost use Rattle.std.specs.Prelude.{◌≡◌, ◌≢◌, ◌+◌, ◌<◌, ◌≤◌, [], IsTrue, Some, length, IfOk, option_map};
 ghost use Rattle.std.specs.Io.KnownBytes.{prepend_known, append_known, IsAtEnd};
 ghost use Rattle.s7_outer.specs.Calls.{shut_down};
 ghost use Rattle.s7_outer.specs.Count.{raised};
@@ -116,6 +116,7 @@ impl Link for MemoryLink {
         ensures counted { result ≡ Sent.Failed → (shown_of self.new).faults ≡ raised (shown_of self.old).faults }
         ensures counted_no_other { result ≢ Sent.Failed → (shown_of self.new).faults ≡ (shown_of self.old).faults }
         ensures faults { (shown_of self.old).faults ≤ (shown_of self.new).faults }
+        ensures faults_once { (shown_of self.new).faults ≤ (shown_of self.old).faults + 1 }
         ensures same { shown_of self.new
             ≡ record (shown_of self.old) {
               written = (shown_of self.new).written;

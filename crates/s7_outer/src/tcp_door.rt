@@ -1,5 +1,6 @@
 // A door over TCP.
-ghost use Rattle.std.specs.Prelude.{◌≡◌};
+ghost use Rattle.std.specs.Prelude.{◌≡◌, ◌≢◌, ◌≤◌};
+ghost use Rattle.s7_outer.specs.Count.{raised};
 
 use crate::count::raise;
 use crate::{Arrival, Door, DoorFailed, RealLink};
@@ -45,7 +46,7 @@ impl<R> Door<RealLink<R>> for TcpDoor<R>
 where
     R: Net<Listener = TcpListener, Stream = TcpStream> + Input + Print + SystemClock + Clone + Drop,
 {
-    ghost use Rattle.s7_outer.specs.TcpDoor.{tcp_door_of};
+    ghost use Rattle.s7_outer.specs.TcpDoor.{tcp_door_of, port_of, fault_count};
 
     ghost shows = { tcp_door_of };
 
@@ -64,7 +65,14 @@ where
         }
     }
 
-    fn next(&mut self) -> Arrival<RealLink<R>> {
+    /// The next link, which comes or the door fails: it has no end.
+    fn next(&mut self) -> Arrival<RealLink<R>>
+        ensures never_ends { result ≢ Arrival.End }
+        ensures heard { port_of self.new ≡ port_of self.old }
+        ensures counted { result ≡ Arrival.Failed → fault_count self.new ≡ raised (fault_count self.old) }
+        ensures counted_no_other { result ≢ Arrival.Failed → fault_count self.new ≡ fault_count self.old }
+        ensures faults { fault_count self.old ≤ fault_count self.new }
+    {
         match accept(&self.listener, &self.rt) {
             Some(link) => Arrival::Link(link),
             None => {

@@ -109,7 +109,7 @@ tells_then made old now new link link' link'' out out' out'' ends result below g
   middle = now;
   link'' = link';
   out'' = out';
-  few = omega (arith, below);
+  few = below;
   tells = tells_made made old now link link' out out' h;
   going = going;
   result = result;

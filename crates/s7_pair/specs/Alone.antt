@@ -1,5 +1,5 @@
 -- An active partner over one link, whose news is printed.
-use Rattle.std.specs.Prelude.{◌≡◌, ◌⊎◌, ℕ, ◌≤◌, ◌&&◌, not, Bool, true, false, List, [], ◌∷◌, ◌++◌, Option, Some, Result, Ok, Err, if◌then◌else◌}
+use Rattle.std.specs.Prelude.{◌≡◌, ◌⊎◌, ℕ, ◌<◌, ◌&&◌, not, Bool, true, false, List, [], ◌∷◌, ◌++◌, Option, Some, Result, Ok, Err, if◌then◌else◌}
 use Rattle.std.specs.Io.KnownBytes.{prepend_known, append_known}
 use Rattle.s7_outer.specs.Count.{Rose}
 use Rattle.s7_outer.specs.Out.{AppendsPrefix}
@@ -45,7 +45,7 @@ pub record TellsThen (old : Post) (link : Shown) (out : OutShown) (new : Post) (
   pub middle : Post
   pub link'' : Shown
   pub out'' : OutShown
-  pub few : made ≤ most_turns
+  pub few : made < most_turns
   pub tells : Tells made old link out middle link'' out''
   pub going : is_over middle ≡ false
   pub result : Result (Option News) Memory

@@ -34,7 +34,9 @@ moves_received kept kept' link link' received used inbox took same faults waits 
   faults = faults;
   waits = waits;
   moment = ap (λ (x : Shown). x.moment) same;
+  clock_faults = ap (λ (x : Shown). x.clock_faults) same;
   lent = ap (λ (x : Shown). x.lent) same;
+  shut = ap (λ (x : Shown). x.is_shut) same;
   space = ap (λ (x : Shown). x.space) same ∙ space_none link.space;
 }
 
@@ -54,7 +56,9 @@ moves_sent kept kept' link link' written inbox wrote space same faults waits = r
   faults = faults;
   waits = waits;
   moment = ap (λ (x : Shown). x.moment) same;
+  clock_faults = ap (λ (x : Shown). x.clock_faults) same;
   lent = ap (λ (x : Shown). x.lent) same;
+  shut = ap (λ (x : Shown). x.is_shut) same;
   space = space;
 }
 
@@ -71,7 +75,9 @@ moves_used kept kept' link used inbox = record {
   faults = omega arith;
   waits = omega arith;
   moment = refl;
+  clock_faults = refl;
   lent = refl;
+  shut = refl;
   space = space_none link.space;
 }
 
@@ -109,7 +115,9 @@ moves_both l l1 l2 k k1 k2 m n = record {
   faults = omega (arith, m.faults, n.faults);
   waits = omega (arith, m.waits, n.waits);
   moment = n.moment ∙ m.moment;
+  clock_faults = n.clock_faults ∙ m.clock_faults;
   lent = n.lent ∙ m.lent;
+  shut = n.shut ∙ m.shut;
   space = n.space ∙ (ap (option_map (λ space. space - length n.written)) m.space
       ∙ space_both k.space m.written n.written);
 }

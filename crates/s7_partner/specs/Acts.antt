@@ -11,8 +11,8 @@ IsOpen negotiating = Unit {0}
 IsOpen (going pdu) = Unit {0}
 IsOpen (closed code) = ⊥
 
--- One send at a time, of 1 to 65,535 octets. What was read whole is handed out, and what was handed out is
--- acknowledged, before anything more is read. A partner that was closed does nothing.
+-- One send at a time, of 1 to 65,535 octets, this profile's own limits. What was read whole is handed out, and what was
+-- handed out is acknowledged, before anything more is read. A partner that was closed does nothing.
 pub record Gives (s : State) (rid : ℕ) (body : List ℕ) : Type 0 where
   pub idle : s.sending ≡ None
   pub numbered : rid < 4294967296

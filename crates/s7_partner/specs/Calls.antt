@@ -24,7 +24,7 @@ pub record IsNew (p : Partner) (role : Role) (config : Config) : Type 0 where
 
 -- ---- giving a block
 
--- a block has from 1 to 65,535 octets
+-- a block has from 1 to 65,535 octets: this profile's own limits
 abbrev pub HasSize : List ℕ → Type 0
 HasSize body = (0 < length body) × (length body ≤ 65535)
 

@@ -1,4 +1,4 @@
--- What holds of each partner, whatever it stands for.
+-- What holds of each partner, whatever it stands for. The limits are this profile's own.
 use Rattle.std.specs.Prelude.{ℕ, ◌+◌, Bool, true, false, ◌&&◌, not, nat_le, if◌then◌else◌, is_none, Option, None, Some}
 use Rattle.s7_wire.specs.Bounds.{most_packets}
 use Rattle.s7_partner.specs.declared.partner.Stage.{Stage}

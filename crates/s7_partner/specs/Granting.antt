@@ -1,4 +1,5 @@
--- What a message is where the negotiation, or its answer, is awaited.
+-- What a message is where the negotiation (Snap7 1.4 sources, s7_types.h: TReqFunNegotiateParams), or its answer, is
+-- awaited.
 use Rattle.std.specs.Prelude.{ℕ, nat_lt, if◌then◌else◌, List, [], ◌++◌, Option, None, Some, Result, Ok, Err}
 use Rattle.s7_header.specs.declared.header.Header.{Header}
 use Rattle.s7_header.specs.declared.header.Kind.{Kind}

@@ -9,7 +9,7 @@ use Rattle.s7_partner.specs.declared.role.Role.TheVariants.{Active, Passive}
 use Rattle.s7_partner.specs.States.{State, Act, Parcel, start, with_act, given_in, handed_in, is_sending}
 use Rattle.s7_partner.specs.Partners.{IsPrefixOf, Course}
 
--- a configuration that a partner is made with
+-- a configuration that a partner is made with, within this profile's own limits
 pub record IsConfig (config : Config) : Type 0 where
   pub least_pdu : 64 ≤ config.pdu
   pub most_pdu : config.pdu ≤ 1920

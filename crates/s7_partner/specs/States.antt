@@ -1,4 +1,5 @@
--- How a partner goes on: what it is given to send, what it reads, hands out and acknowledges, and what it may send.
+-- How a partner goes on: what it is given to send, what it reads, hands out and acknowledges, and what it may send
+-- (Snap7 1.4 reference manual, `Par_BSend` and `Par_BRecv`).
 use Rattle.std.specs.Prelude.{ℕ, ◌+◌, Bool, false, ◌==◌, ◌&&◌, not, nat_le, nat_lt, min, if◌then◌else◌, List, [], ◌∷◌}
 use Rattle.std.specs.Prelude.{◌++◌, length, is_none, Option, None, Some, Result, Ok, Err}
 use Rattle.s7_cotp.specs.Told.{ConnectionTold}
@@ -112,7 +113,7 @@ pub data Act : Type 0 where
 
 -- ---- fragments that go out
 
--- sends are numbered 1, 2 and so on, and after 255 comes 1
+-- sends are numbered 1, 2 and so on, and after 255 comes 1: this profile's own
 abbrev pub next_number : ℕ → ℕ
 next_number number = if number == 0xFF then 1 else number + 1
 
@@ -152,7 +153,8 @@ given s rid body =
 
 -- ---- the opening
 
--- the confirm of a connect request: its source is the destination, this side's reference is 0001, the class 00
+-- the confirm of a connect request (ISO 8073, 13.4): its source is the destination, this side's reference is 0001, the
+-- class 00
 abbrev pub confirmed : ConnectionTold → ConnectionTold
 confirmed c = record {
   dst_ref = c.src_ref;
@@ -163,7 +165,8 @@ confirmed c = record {
   called = c.called;
 }
 
--- with the confirm the negotiation is asked, and the request is confirmed
+-- with the confirm the negotiation is asked (Snap7 1.4 sources, s7_types.h: TReqFunNegotiateParams), and the request is
+-- confirmed
 abbrev pub opened_by : Role → Config → State → ConnectionTold → State
 opened_by Active config s c = record s {
   stage = negotiating;
@@ -203,7 +206,8 @@ by_answer config s (Some uploaded) = with_code s negotiation_failed
 by_answer config s (Some announced) = with_code s negotiation_failed
 by_answer config s (Some (calls sequence)) = with_code s negotiation_failed
 
--- what a passive partner grants: at most the PDU of its configuration, and from one to eight jobs each way
+-- what a passive partner grants: at most the PDU of its configuration, and from one to eight jobs each way, this
+-- profile's own limits
 abbrev pub granted_by : Config → Negotiation → Negotiation
 granted_by config asked = record {
   calling = jobs_granted asked.calling;
@@ -241,7 +245,7 @@ abbrev pub negotiated : Role → Config → State → List ℕ → State
 negotiated Active config s octets = by_answer config s (answer_of (negotiates (asked_by config)) 1 octets)
 negotiated Passive config s octets = by_header config s octets (header_of octets)
 
--- ---- fragments and their acknowledgements
+-- ---- fragments and their acknowledgements (Snap7 1.4 reference manual, `Par_BSend` and `Par_BRecv`)
 
 -- a message acknowledges the fragment that is out
 abbrev pub is_awaited : Option ℕ → ℕ → List ℕ → Bool
@@ -320,7 +324,7 @@ by_stage role config s octets negotiating = negotiated role config s octets
 by_stage role config s octets (going pdu) = exchanged s pdu octets
 by_stage role config s octets (closed code) = s
 
--- a message has ten octets at least
+-- a message has ten octets at least (Snap7 1.4 sources, s7_types.h: TS7ReqHeader)
 abbrev pub with_message : Role → Config → State → List ℕ → State
 with_message role config s octets =
     if nat_lt (length octets) 10 then with_code s short_message else by_stage role config s octets s.stage

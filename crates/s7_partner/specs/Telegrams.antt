@@ -1,4 +1,4 @@
--- What partners send each other (Snap7 1.4 reference manual, block send and receive), which in its octets is this
+-- What partners send each other (Snap7 1.4 reference manual, `Par_BSend` and `Par_BRecv`), which in its octets is this
 -- profile's own: the fragments of a block, and the acknowledgement of each. Both are user data of group 46 and 86.
 use Rattle.std.specs.Prelude.{ℕ, ◌+◌, ◌-◌, ◌*◌, ◌/◌, ◌%◌, Bool, true, false, ◌==◌, ◌&&◌, nat_le, nat_lt}
 use Rattle.std.specs.Prelude.{if◌then◌else◌, List, [], ◌∷◌, ◌++◌, length, take, drop, slice_index, Option, None, Some}

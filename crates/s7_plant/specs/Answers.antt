@@ -1,6 +1,7 @@
 -- What a plant answers to a request, and the state that it leaves (Snap7 1.4 reference manual, `Cli_ReadMultiVars`,
--- `Cli_WriteMultiVars`, `Cli_ReadSZL`, `Cli_GetPlcDateTime`, `Cli_SetPlcDateTime`, and the control functions from
--- `Cli_PlcHotStart` on, and `Cli_ListBlocks`, `Cli_GetAgBlockInfo`, `Cli_FullUpload`, `Cli_Download` and `Cli_Delete`).
+-- `Cli_WriteMultiVars`, `Cli_ReadSZL`, `Cli_GetPlcDateTime`, `Cli_SetPlcDateTime`, `Cli_PlcHotStart`,
+-- `Cli_PlcColdStart`, `Cli_PlcStop`, `Cli_Compress`, `Cli_CopyRamToRom`, `Cli_ListBlocks`, `Cli_ListBlocksOfType`,
+-- `Cli_GetAgBlockInfo`, `Cli_FullUpload`, `Cli_Download` and `Cli_Delete`).
 use Rattle.std.specs.Prelude.{◌≡◌, ℕ, ◌+◌, pos, ◌-ℤ◌, Bool, true, false, not, ◌&&◌, ◌||◌, ◌==◌, nat_lt}
 use Rattle.std.specs.Prelude.{is_some}
 use Rattle.std.specs.Prelude.{if◌then◌else◌, List, [], ◌∷◌, ◌++◌, length, take, drop, map, Option, None, Some}
@@ -31,7 +32,7 @@ use Rattle.s7_plant.specs.Requests.{Fits}
 use Rattle.s7_plant.specs.Replies.{Said, said, said_of}
 use Rattle.s7_plant.specs.State.{State, clock_at}
 
--- ---- items
+-- ---- items (Snap7 1.4 sources, s7_types.h: TResFunReadItem, TResFunWrite)
 
 -- the data item that answers the read of an item
 abbrev pub read_item : Memory → Bool → Item → DataItem
@@ -64,11 +65,11 @@ abbrev pub refused : ℕ → Said
 refused error = said error [] []
 
 -- a guard lets nobody change the clock or the run state, have the memory tidied, or insert or delete blocks, without
--- its right
+-- its right: this profile's own
 abbrev pub is_barred : State → Bool → Bool
 is_barred s right = not right && is_some s.memory.guard
 
--- the error word of what a right is wanted for
+-- the error word of what a right is wanted for (Snap7 1.4 sources, s7_types.h: Code7NeedPassword)
 abbrev pub guarded : State → Bool → Said → Said
 guarded s right reply = if is_barred s right then refused 0xD241 else reply
 
@@ -80,7 +81,8 @@ abbrev pub listed : Option (List ℕ) → Said
 listed None = refused 0xD401
 listed (Some image) = said 0 [] image
 
--- the functions of the two controls, and what they answer: the function and a status, 00 where it was done
+-- the functions of the two controls (Snap7 1.4 sources, s7_types.h: TReqFunPlcHotStart, TReqFunPlcStop), and what they
+-- answer: the function and a status, 00 where it was done, which is this profile's own
 abbrev pub service_function : ℕ
 service_function = 0x28
 
@@ -90,20 +92,20 @@ stop_function = 0x29
 abbrev pub controlled : ℕ → ℕ → Said
 controlled function status = said 0 (function ∷ status ∷ []) []
 
--- a start of what runs already, and a stop of what is stopped already
+-- a start of what runs already, and a stop of what is stopped already: statuses of this profile's own
 abbrev pub start_status : Bool → ℕ
 start_status running = if running then 0x02 else 0x00
 
 abbrev pub stop_status : Bool → ℕ
 stop_status running = if running then 0x00 else 0x07
 
--- ---- blocks
+-- ---- blocks (Snap7 1.4 reference manual, `Cli_ListBlocks`, `Cli_ListBlocksOfType`, `Cli_GetAgBlockInfo`)
 
 -- the kinds of blocks in the order in which they are counted: OB, DB, SDB, FC, SFC, FB, SFB
 abbrev pub kinds : List ℕ
 kinds = 0x38 ∷ 0x41 ∷ 0x42 ∷ 0x43 ∷ 0x44 ∷ 0x45 ∷ 0x46 ∷ []
 
--- data blocks, which are areas
+-- data blocks, which are areas (Snap7 1.4 reference manual, `Cli_ListBlocksOfType`)
 abbrev pub db_kind : ℕ
 db_kind = 0x41
 
@@ -115,7 +117,7 @@ numbers_in s kind = if kind == db_kind then db_numbers (keys_of s.memory.areas) 
 abbrev pub db_octets : State → ℕ → Option (List ℕ)
 db_octets s number = area_octets s.memory (record { area = data_blocks; number = number })
 
--- a data block's image: its head and its octets
+-- a data block's image: its head and its octets, in a layout of this profile's own
 abbrev pub db_image : ℕ → List ℕ → List ℕ
 db_image number octets = spelling_of_head (db_head number (length octets)) ++ octets
 
@@ -125,42 +127,47 @@ image_in s kind number =
     if kind == db_kind then option_map (db_image number) (db_octets s number)
     else image_of_block s.blocks.images (record { kind = kind; number = number })
 
--- a kind with its count: `30`, the kind, and two octets
+-- a kind with its count: `30`, the kind, and two octets (Snap7 1.4 reference manual, `Cli_ListBlocks`)
 abbrev pub kind_count : State → ℕ → List ℕ
 kind_count s kind = 0x30 ∷ kind ∷ two_octets (length (numbers_in s kind))
 
 -- a block in the list of its kind: its number, and the flags and the language of its head
+-- (Snap7 1.4 reference manual, `Cli_ListBlocksOfType`)
 abbrev pub list_entry : State → ℕ → ℕ → List ℕ
 list_entry s kind number =
     two_octets number ++ take 2 (drop 3 (unwrap_or (image_in s kind number) []))
 
--- an error word where there is none
+-- an error word where there is none (Snap7 1.4 sources, s7_types.h: Code7ResItemNotAvailable1)
 abbrev pub entries_told : List ℕ → Said
 entries_told [] = refused 0xD209
 entries_told (x ∷ xs) = said 0 [] (x ∷ xs)
 
--- `30`, the kind, the length of what follows less two, and the head
+-- `30`, the kind, the length of what follows less two, and the head, in a layout of this profile's own, after
+-- Snap7 1.4 sources, s7_types.h: TResDataBlockInfo
 abbrev pub info_told : ℕ → Option (List ℕ) → Said
 info_told kind None = refused 0xD209
 info_told kind (Some image) = said 0 [] (0x30 ∷ kind ∷ 0x00 ∷ 0x22 ∷ take 36 image)
 
 -- the function of an upload's start, six octets and the place of the upload's id, which its link writes there, and the
--- length of the image in seven digits behind their count
+-- length of the image in seven digits behind their count (after
+-- Snap7 1.4 sources, s7_types.h: TResFunStartUploadParams)
 abbrev pub upload_params : ℕ → List ℕ
 upload_params len =
     0x1D ∷ 0x00 ∷ 0x00 ∷ 0x00 ∷ 0x00 ∷ 0x00 ∷ 0x00 ∷ 0x00 ∷ 0x07 ∷ digits 7 len
 
--- an image that is uploaded: none longer than a reply has room for
+-- an image that is uploaded (Snap7 1.4 reference manual, `Cli_FullUpload`): none longer than a reply has room for,
+-- whose error word is this profile's own
 abbrev pub upload_told : Option (List ℕ) → Said
 upload_told None = refused 0xD209
 upload_told (Some image) =
     if nat_lt 65572 (length image) then refused 0x8F04 else said 0 (upload_params (length image)) image
 
--- without a right a guard of level 3 lets nobody upload
+-- without a right a guard of level 3 lets nobody upload: this profile's own
 abbrev pub uploaded : State → Bool → Said → Said
 uploaded s right reply = if is_read_barred s.memory.guard right then refused 0xD241 else reply
 
 -- there is room for a block, or another one of its name that it takes the place of
+-- (Snap7 1.4 reference manual, `Cli_Download`)
 abbrev pub takes_block : State → ℕ → ℕ → Bool
 takes_block s kind number =
     nat_lt (length s.blocks.images) s.blocks.limit
@@ -175,7 +182,7 @@ with_inserted s kind number image =
     then record s { blocks = with_block s.blocks (record { kind = kind; number = number; image = image }) }
     else s
 
--- a block of the store is deleted; a data block is an area, which stays
+-- a block of the store is deleted (Snap7 1.4 reference manual, `Cli_Delete`); a data block is an area, which stays
 abbrev pub deleted : State → ℕ → ℕ → Said
 deleted s kind number =
     if is_some (image_of_block s.blocks.images (record { kind = kind; number = number }))

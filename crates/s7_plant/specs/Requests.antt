@@ -46,9 +46,9 @@ kept ask = asked ask.right (kept_request ask.request)
 
 -- ---- what can be carried out
 
--- A read's answer has at most 8,192 octets. A write has one place for each item, inside its octets. A clock is set to a
--- moment that clock octets have. A block that is inserted is of a kind that is stored, with a head that is its own. All
--- else can be carried out.
+-- A read's answer has at most 8,192 octets, this profile's own limit. A write has one place for each item, inside its
+-- octets. A clock is set to a moment that clock octets have. A block that is inserted is of a kind that is stored, with
+-- a head that is its own. All else can be carried out.
 abbrev pub IsReady : Request → Type 0
 IsReady (Read items) = answer_size items ≤ 8192
 IsReady (Write items places octets) =
@@ -101,7 +101,8 @@ HasAtMost most reply = reply.error ≡ 0 → 12 + length reply.params + length r
 abbrev pub HasBody : ℕ → Said → Type 0
 HasBody most reply = reply.error ≡ 0 → length reply.body ≤ most
 
--- where the reply has no error, it has the 16 octets of an upload's start and an image that an upload has room for
+-- where the reply has no error, it has the 16 octets of an upload's start (after
+-- Snap7 1.4 sources, s7_types.h: TResFunStartUploadParams) and an image that an upload has room for
 abbrev pub HasImage : Said → Type 0
 HasImage reply = reply.error ≡ 0 → (length reply.params ≡ 16) × (length reply.body ≤ 65572)
 

@@ -13,7 +13,7 @@ pub record State : Type 0 where
   pub offset : ℤ
   pub running : Bool
 
--- no block, and room for 1,024
+-- no block, and room for 1,024: this profile's own limit
 abbrev pub no_blocks : Store
 no_blocks = record { images = []; limit = 1024 }
 

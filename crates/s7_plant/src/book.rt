@@ -71,6 +71,7 @@ impl<O: Observer> Book<O> {
         ensures journal { IfOk result (λ book. book.journal ≡ entries_of [] limit) }
         ensures observers { IfOk result (λ book.
             watches_of O.seen book ≡ map (λ o. watch (O.seen o) 0) observers.items) }
+        ensures same { IfOk result (λ book. map (λ w. w.observer) book.observers.items ≡ observers.items) }
         ensures untold { IfOk result (λ book. seen_of O.seen book ≡ map fresh (seen_of O.seen book)) }
         ensures told { IfOk result (λ book. AreTold (state_of book.opening)
             (calls_of book.journal.entries) (watches_of O.seen book)) }
@@ -97,6 +98,8 @@ impl<O: Observer> Book<O> {
         ensures out { slice_get (map (λ w. w.observer) self.old.observers.items) place ≡ Some result }
         ensures observers { watches_of O.seen self.new ≡ slice_set (watches_of O.seen self.old) place
             (watch (O.seen new) (length self.old.journal.entries)) }
+        ensures others { map (λ w. w.observer) self.new.observers.items
+            ≡ slice_set (map (λ w. w.observer) self.old.observers.items) place new }
         ensures told { AreTold (state_of self.old.opening) (calls_of self.old.journal.entries)
             (watches_of O.seen self.old)
             → AreTold (state_of self.new.opening) (calls_of self.new.journal.entries) (watches_of O.seen self.new) }
@@ -118,6 +121,8 @@ impl<O: Observer> Book<O> {
         requires place { place < length self.old.observers.items }
         ensures out { slice_get (map (λ w. w.observer) self.old.observers.items) place ≡ Some result }
         ensures observers { watches_of O.seen self.new ≡ remove (watches_of O.seen self.old) place }
+        ensures others { map (λ w. w.observer) self.new.observers.items
+            ≡ remove (map (λ w. w.observer) self.old.observers.items) place }
         ensures told { AreTold (state_of self.old.opening) (calls_of self.old.journal.entries)
             (watches_of O.seen self.old)
             → AreTold (state_of self.new.opening) (calls_of self.new.journal.entries) (watches_of O.seen self.new) }

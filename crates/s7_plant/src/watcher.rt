@@ -37,8 +37,9 @@ pub(crate) fn watch_all<O: Observer>(
     alloc: Global,
     observers: Vec<O>,
 ) -> Result<Vec<Watcher<O>>, Memory>
-    ensures { IfOk result (λ ws. map (λ w. watch (O.seen w.observer) w.since) ws.items
+    ensures watches { IfOk result (λ ws. map (λ w. watch (O.seen w.observer) w.since) ws.items
         ≡ map (λ o. watch (O.seen o) 0) observers.items) }
+    ensures same { IfOk result (λ ws. map (λ w. w.observer) ws.items ≡ observers.items) }
 {
     let mut watchers = Vec::with_capacity(alloc, observers.len())?;
     for observer in observers {

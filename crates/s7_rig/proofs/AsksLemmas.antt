@@ -30,7 +30,6 @@ use Rattle.s7_session.proofs.SpelledLemmas.{writes_are_asked}
 use Rattle.s7_rig.specs.Heard.{told_of}
 use Rattle.s7_rig.specs.Written.{AreKnown, own_data, own_places, own_write, own_codes}
 use Rattle.s7_rig.proofs.AnsweredLemmas.{write_is_heard}
-use Rattle.s7_rig.proofs.PlacedLemmas.{write_freed}
 use Rattle.s7_rig.proofs.ShapeLemmas.{SameShape, read_code_same, write_code_same, write_code_placed}
 
 -- ---- the data items of a write
@@ -187,19 +186,19 @@ codes_told m n right [] same = refl
 codes_told m n right (item ∷ items) same =
     ap₂ (λ c cs. c ∷ cs) (read_code_same m n right item same) (codes_told m n right items same)
 
--- and those of a write are good where nothing bars it without a right
+-- and those of a write are good where nothing bars it
 pub codes_noted : (m n : Memory) (right : Bool) (items : List Item) (octets : List ℕ) → SameShape m n
-    → is_write_barred n.guard false ≡ false → length octets ≡ octet_count_of items
+    → is_write_barred n.guard right ≡ false → length octets ≡ octet_count_of items
     → AllByRecursion (λ (item : Item). place_code n item ≡ 0xFF) items
     → own_codes m right items octets ≡ map (λ (item : Item). 0xFF) items
 codes_noted m n right items octets same free whole placed =
     codes_same m n right items octets same
-    ∙ (codes_placed n right items octets (write_freed n.guard right free) whole ∙ all_good (place_code n) items placed)
+    ∙ (codes_placed n right items octets free whole ∙ all_good (place_code n) items placed)
 
 pub placed_write_is_noted :
     (state : State) (n : Memory) (right : Bool) (items : List Item) (octets : List ℕ) (number : ℕ)
     → number < 2 ^ 16 → length items ≤ 20 → AreKnown items → IsShort number items octets
-    → SameShape state.memory n → is_write_barred n.guard false ≡ false → length octets ≡ octet_count_of items
+    → SameShape state.memory n → is_write_barred n.guard right ≡ false → length octets ≡ octet_count_of items
     → AllByRecursion (λ (item : Item). place_code n item ≡ 0xFF) items
     → answer_of (writes items octets) number
     (reply_octets number (plant.answer_of state (asked right (own_write items octets))))

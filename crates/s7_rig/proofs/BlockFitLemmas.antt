@@ -114,10 +114,10 @@ area_sized test (e ∷ areas) octets all is =
     (area_sized test areas octets all.1)
 
 -- what is told of the head
-abbrev data_told : ℕ → List ℕ → List ℕ
+abbrev pub data_told : ℕ → List ℕ → List ℕ
 data_told number octets = 0x30 ∷ 0x41 ∷ 0x00 ∷ 0x22 ∷ take 36 (db_image number octets)
 
-load_told : (number : ℕ) (octets : List ℕ) → four_at (data_told number octets) 12 ≡ 36 + length octets
+pub load_told : (number : ℕ) (octets : List ℕ) → four_at (data_told number octets) 12 ≡ 36 + length octets
 load_told number octets = ap (λ (h : Head). h.load_length) (heads_read (db_head number (length octets)) octets)
 
 data_whole : (number : ℕ) (octets : List ℕ) → IsSized octets → tells_data (data_told number octets) ≡ true

@@ -1,6 +1,6 @@
 -- A client's turn keeps what holds of it and its session.
-use Rattle.std.proofs.Common.{◌≡◌, ◌⊎◌, inl, inr, ℕ, ◌<◌, ◌≤◌, false, List, [], ◌∷◌, ◌++◌, length, refl, ap, sym, ◌∙◌, subst, append_assoc, arith}
-use Rattle.std.specs.Prelude.{Option, None, Some, unwrap_or, map, if◌then◌else◌}
+use Rattle.std.proofs.Common.{◌≡◌, ◌⊎◌, inl, inr, ℕ, ◌<◌, ◌≤◌, false, List, [], ◌∷◌, ◌++◌, length, take, refl, ap, sym, ◌∙◌, subst, append_assoc, arith}
+use Rattle.std.specs.Prelude.{Bool, true, Option, None, Some, unwrap_or, map, if◌then◌else◌}
 use Rattle.std.specs.Borrow.{GName}
 use Rattle.std.proofs.lemmas.List.{append-nil, append_cancel_left, map-append}
 use Rattle.s7_outer.specs.PipesHeld.{PipesHeld}
@@ -23,13 +23,14 @@ use Rattle.s7_dialogue.specs.Course.{begins_anew}
 use Rattle.s7_client.specs.Standing.{Moves, IsByOctets}
 use Rattle.s7_client.specs.Polling as client
 use Rattle.s7_plant.specs.Books.{BookTold}
+use Rattle.s7_plant.specs.declared.request.Ask.{Ask}
+use Rattle.s7_plant.specs.Replies.{Said}
 use Rattle.s7_plant.specs.State.{begins_with}
 use Rattle.s7_session.specs.Books.{own, history_of}
 use Rattle.s7_session.specs.Entry.{answered}
 use Rattle.s7_session.specs.LinkState.{LinkState, first_link}
 use Rattle.s7_session.specs.Telegrams.{entered_of}
 use Rattle.s7_session.specs.Stands.{unread}
-use Rattle.s7_split.specs.Parts.{parts_of}
 use Rattle.s7_rig.specs.State.{Post}
 use Rattle.s7_rig.specs.Turns.{StartsNext, StartsNothing, with_polled, IsClientTurn}
 use Rattle.s7_rig.specs.Scripts.{IsNoConnect, NoneConnects, ConnectsFirst}
@@ -38,7 +39,7 @@ use Rattle.s7_rig.proofs.Joint.{Octets, IsConnecting, IsWorking, IsFailing, IsLo
 use Rattle.s7_session.specs.Verdict.{Verdict}
 use Rattle.s7_session.specs.Owed.{past, owed, entered}
 use Rattle.s7_session.specs.Stands.{unsent}
-use Rattle.s7_rig.specs.Dialogues.{AreReplies, ReadsParts, IsConnectOver, IsJobOver, IsJobSettled}
+use Rattle.s7_rig.specs.Dialogues.{AreReplies, ReadsAs, IsConnectOver, IsJobOver, IsJobSettled}
 use Rattle.s7_rig.specs.Settled.{Settled}
 use Rattle.s7_rig.specs.Split.{StandsAtPlaces}
 use Rattle.s7_rig.proofs.OpeningLemmas.{connect_is_settled}
@@ -46,17 +47,17 @@ use Rattle.s7_rig.proofs.OverLemmas.{job_is_settled, job_went}
 use Rattle.s7_rig.proofs.EndLemmas.{IsQuiet, connect_ends, no_connect_leaves, unconnected_fails, working_ends, stays_or_leaves}
 use Rattle.s7_rig.proofs.ResultLemmas.{IsGone, ComesOff, come_off_more, come_off_behind, gone_stays, gone_now}
 use Rattle.s7_rig.proofs.ComeOffLemmas.{comes_off}
-use Rattle.s7_rig.proofs.ShapeLemmas.{AreShaped}
-use Rattle.s7_rig.specs.Complete.{CanComeOff, AllComeOff}
+use Rattle.s7_rig.proofs.RightLemmas.{own_allowed}
+use Rattle.s7_rig.proofs.ShapeLemmas.{AreAllowed}
+use Rattle.s7_rig.specs.Complete.{CanComeOff, AreWithRight, AllComeOff}
 use Rattle.s7_rig.specs.Exchanges.{AnyUndone, entries_of, rows_of, Converses, WentBy}
-use Rattle.s7_rig.specs.Turns.{is_full_in, lacks_in}
 use Rattle.s7_session.specs.Telegrams.{AnyFull, clock_failures}
-use Rattle.s7_session.proofs.DoerLemmas.{full_end}
 use Rattle.s7_dialogue.specs.Answer.{Answer}
 use Rattle.s7_dialogue.specs.Codes.{timed_out}
 use Rattle.s7_dialogue.specs.Dialogue.{End, fault_end, departed_end, connected_plan, plan_of}
 use Rattle.s7_dialogue.specs.Flight.{answers_of}
-use Rattle.s7_rig.proofs.OwnLemmas.{own_replies, own_shaped, reads_own, stands_at, all_stand_more}
+use Rattle.s7_rig.proofs.OwnLemmas.{own_replies, own_shaped, own_are_same}
+use Rattle.s7_rig.proofs.PlaceLemmas.{stands_at, reads_nothing, all_stand_more}
 use Rattle.s7_rig.specs.Plants.{IsPlant}
 use Rattle.s7_rig.proofs.ClientFacts.{pipes_quiet, has_job, waits_for_none, some_job, took, wrote, same_moment, given_on, taken_on, wrote_nothing}
 
@@ -71,12 +72,15 @@ not_anew (Some g) j h = refl
 not_anew None job.Connect h = absurd h
 not_anew None _ h = refl
 
--- a job is of one kind
-not_connect : (j : Job) (item : _) → j ≡ job.ReadArea item → j ≡ job.Connect → ⊥
-not_connect j item is connects = absurd (cc)
-
-not_disconnect : (j : Job) (item : _) → j ≡ job.ReadArea item → j ≡ job.Disconnect → ⊥
-not_disconnect j item is disconnects = absurd (cc)
+-- what a job read is that of its result
+reads_told : (done done' : Job) (pdu : ℕ) (entries entries' : List (Ask × Said)) (octets octets' codes codes' : List ℕ)
+    → done ≡ done' → entries ≡ entries' → octets ≡ octets' → codes ≡ codes' → ReadsAs done pdu entries octets codes
+    → ReadsAs done' pdu entries' octets' codes'
+reads_told done done' pdu entries entries' octets octets' codes codes' job_is entries_are octets_are codes_are reads =
+    subst (λ j. ReadsAs j pdu entries' octets' codes') job_is
+    (subst (λ es. ReadsAs done pdu es octets' codes') entries_are
+    (subst (λ xs. ReadsAs done pdu entries xs codes') octets_are
+    (subst (λ xs. ReadsAs done pdu entries octets xs) codes_are reads)))
 
 -- and a code is one
 not_in_time : (code : ℕ) → code ≡ 0 → code ≡ timed_out → ⊥
@@ -111,6 +115,7 @@ module _ (opening : Memory) (limit : ℕ) (config : Config) (book : BookTold)
     legal = j.legal;
     begun = j.begun;
     trail = j.trail;
+    sound = j.sound;
     clock = j.clock;
     moment_is = j.moment_is;
     moments = j.moments;
@@ -206,7 +211,7 @@ module _ (opening : Memory) (limit : ℕ) (config : Config) (book : BookTold)
       → (m : Moves (client.unread_of p.client) (end_of loan p.pipes side.Client) (client.unread_of c) (end_of loan pipes side.Client))
       → client.config_of c ≡ client.config_of p.client
       → AllStand (begins_with opening) (history_of book) p.link config.pdu results places
-      → (length (history_of book) < limit → AllComeOff opening config.pdu results)
+      → ((AnyFull o.verdicts → ⊥) → AllComeOff opening (history_of book) config.pdu results places)
       → Mode opening config book (polled_post p c pipes results places noted) (after o m.used m.written)
       → Joint opening limit config book (polled_post p c pipes results places noted) (after o m.used m.written)
   joint_polled p c pipes results places noted loan o j m same done comes_off mode = record {
@@ -220,6 +225,7 @@ module _ (opening : Memory) (limit : ℕ) (config : Config) (book : BookTold)
     legal = j.legal;
     begun = j.begun;
     trail = j.trail;
+    sound = j.sound;
     clock = j.clock;
     moment_is = same_moment loan p.pipes pipes m.moment ∙ j.moment_is;
     moments = j.moments;
@@ -331,6 +337,7 @@ module _ (opening : Memory) (limit : ℕ) (config : Config) (book : BookTold)
         legal = j.legal;
         begun = j.begun;
         trail = j.trail;
+        sound = j.sound;
         clock = j.clock;
         moment_is = ap (λ (k : Shown). unwrap_or k.moment 0) comes.2 ∙ j.moment_is;
         moments = j.moments;
@@ -351,14 +358,10 @@ module _ (opening : Memory) (limit : ℕ) (config : Config) (book : BookTold)
 
   pub record Ends (p : Post) (c : Connection) (pipes : PipesHeld) (told : JobResult) (o' : Octets) : Type 0 where
     pub stands : StandsAtPlaces (begins_with opening) (history_of book) p.link config.pdu told (unwrap_or p.noted [])
-    pub comes_off : length (history_of book) < limit → AllComeOff opening config.pdu p.results → AllComeOff opening config.pdu (p.results ++ told ∷ [])
+    pub comes_off : (AnyFull o'.verdicts → ⊥) → AllComeOff opening (history_of book) config.pdu p.results p.places
+        → AllComeOff opening (history_of book) config.pdu (p.results ++ told ∷ [])
+        (p.places ++ unwrap_or p.noted [] ∷ [])
     pub mode : Mode opening config book (polled_post p c pipes (p.results ++ told ∷ []) (p.places ++ unwrap_or p.noted [] ∷ []) None) o'
-
-  -- where the history has room, it was full for no telegram
-  never_full : (p : Post) (o : Octets) → Joint opening limit config book p o → length (history_of book) < limit → AnyFull o.verdicts → ⊥
-  never_full p o j room any =
-      let full = (full_end is_full_in lacks_in j.begun book o.mets j.trail (subst AnyFull (sym j.met) any)).1 in
-      absurd (omega (arith, room, full, j.limited))
 
   -- the session owes what the client used, and more that is on its way
   owes : (p : Post) (c : Connection) (pipes : PipesHeld) (o : Octets) (heard : List ℕ) → Joint opening limit config book p o
@@ -378,7 +381,9 @@ module _ (opening : Memory) (limit : ℕ) (config : Config) (book : BookTold)
       by (connect_ends k.origin link link' (client.unread_of c) d.end d.carried (o.heard ++ used) (o.sent ++ written) (client.waited_of p.client) k.granted k.job quiet d.cause)
     where
       nothing : StandsAtPlaces (begins_with opening) (history_of book) p.link config.pdu told (unwrap_or p.noted [])
-      nothing = λ item is good. absurd (not_connect told.job item is (d.result.job ∙ k.job))
+      nothing = λ good.
+          reads_nothing (begins_with opening) (history_of book) p.link config.pdu told.job (unwrap_or p.noted [])
+          told.octets (take told.count told.codes) (inl (d.result.job ∙ k.job))
 
       ungranted : client.grant_of p.client ≡ None
       ungranted = sym k.stands.granted ∙ k.granted
@@ -388,7 +393,8 @@ module _ (opening : Memory) (limit : ℕ) (config : Config) (book : BookTold)
           let code : told.code ≡ timed_out = d.result.code ∙ ap (λ (e : End). e.code) late in
           record {
             stands = nothing;
-            comes_off = λ room all. come_off_more opening config.pdu p.results told all (λ in_time can. absurd (in_time code));
+            comes_off = λ none all. come_off_more opening (history_of book) config.pdu p.results p.places told
+                (unwrap_or p.noted []) all (λ in_time right has can. absurd (in_time code));
             mode = lost (record {
               ungranted = d.granted ∙ ap (λ (e : End). client.grant_after e.leaves (client.grant_of p.client)) late;
               gone = gone_now p.results told (inl code);
@@ -413,7 +419,8 @@ module _ (opening : Memory) (limit : ℕ) (config : Config) (book : BookTold)
           let pdu : s.grant.pdu ≡ config.pdu = s.granted ∙ ap (λ (x : Config). x.pdu) k.config_is in
           record {
             stands = nothing;
-            comes_off = λ room all. come_off_more opening config.pdu p.results told all (λ in_time can. d.result.code ∙ ap (λ (e : End). e.code) s.is);
+            comes_off = λ none all. come_off_more opening (history_of book) config.pdu p.results p.places told
+                (unwrap_or p.noted []) all (λ in_time right has can. d.result.code ∙ ap (λ (e : End). e.code) s.is);
             mode = connected (record {
               idle = idle;
               grant = s.grant;
@@ -488,13 +495,19 @@ module _ (opening : Memory) (limit : ℕ) (config : Config) (book : BookTold)
     })
 
     -- it came off, or met too many polls
-    come_off : ComesOff opening config.pdu told → length (history_of book) < limit → AllComeOff opening config.pdu p.results → AllComeOff opening config.pdu (p.results ++ told ∷ [])
-    come_off well room all = come_off_more opening config.pdu p.results told all well
+    come_off : ComesOff opening (history_of book) config.pdu told (unwrap_or p.noted [])
+        → (AnyFull o.verdicts → ⊥) → AllComeOff opening (history_of book) config.pdu p.results p.places
+        → AllComeOff opening (history_of book) config.pdu (p.results ++ told ∷ [])
+        (p.places ++ unwrap_or p.noted [] ∷ [])
+    come_off well none all =
+        come_off_more opening (history_of book) config.pdu p.results p.places told (unwrap_or p.noted []) all well
 
     job_left : d.end ≡ departed_end → w.origin.job ≡ job.Disconnect → Ends p c pipes told (after o used written)
     job_left is leaves = record {
-      stands = λ item reads good. absurd (not_disconnect told.job item reads (d.result.job ∙ leaves));
-      comes_off = come_off (λ in_time can. d.result.code ∙ ap (λ (e : End). e.code) is);
+      stands = λ good.
+          reads_nothing (begins_with opening) (history_of book) p.link config.pdu told.job (unwrap_or p.noted [])
+          told.octets (take told.count told.codes) (inr (d.result.job ∙ leaves));
+      comes_off = come_off (λ in_time right has can. d.result.code ∙ ap (λ (e : End). e.code) is);
       mode = lost_by Disconnected (ap (λ (e : End). e.leaves) is) refl (inr (d.result.job ∙ leaves));
     }
 
@@ -502,8 +515,8 @@ module _ (opening : Memory) (limit : ℕ) (config : Config) (book : BookTold)
     job_late is =
         let code : told.code ≡ timed_out = d.result.code ∙ ap (λ (e : End). e.code) is in
         record {
-          stands = λ item reads good. absurd (not_in_time told.code good code);
-          comes_off = come_off (λ in_time can. absurd (in_time code));
+          stands = λ good. absurd (not_in_time told.code good code);
+          comes_off = come_off (λ in_time right has can. absurd (in_time code));
           mode = lost_by Closed (ap (λ (e : End). e.leaves) is) refl (inl code);
         }
 
@@ -531,35 +544,42 @@ module _ (opening : Memory) (limit : ℕ) (config : Config) (book : BookTold)
           ∙ map-append answered w.earlier w.mine
           ∙ ap (λ x. x ++ map answered w.mine) (sym w.earlier_are)
 
-      shaped : AreShaped opening (entries_of went.exchanges)
-      shaped =
-          subst (AreShaped opening)
+      -- the numbers that were noted are those of the job's entries
+      allowed : (right : Bool) → (right ≡ true → AreWithRight (history_of book) (unwrap_or p.noted []))
+          → AreAllowed opening right (entries_of went.exchanges)
+      allowed right has =
+          subst (AreAllowed opening right)
           (append_cancel_left (entered first w.before w.judged) (map answered w.mine) (entries_of went.exchanges) (sym entered_mine ∙ went.entered_is))
-          (own_shaped (begins_with opening) p.link (history_of book) w.earlier w.mine w.entries_are)
+          (own_allowed (begins_with opening) p.link (history_of book) right w.earlier w.mine w.entries_are
+          (subst (λ ns. right ≡ true → AreWithRight (history_of book) ns) (ap (λ n. unwrap_or n []) w.noted) has))
 
       -- no telegram met a full history, or a clock that failed
-      all_done : length (history_of book) < limit → AnyUndone (w.judged ++ w.verdicts) → ⊥
-      all_done room (inl any) = never_full p o j room (subst AnyFull (sym w.verdicts_are) any)
-      all_done room (inr failed) = absurd (omega (arith, failed, j.clock, ap clock_failures w.verdicts_are))
+      all_done : (AnyFull o.verdicts → ⊥) → AnyUndone (w.judged ++ w.verdicts) → ⊥
+      all_done none (inl any) = none (subst AnyFull (sym w.verdicts_are) any)
+      all_done none (inr failed) = absurd (omega (arith, failed, j.clock, ap clock_failures w.verdicts_are))
 
-      well_done : length (history_of book) < limit → ComesOff opening config.pdu told
-      well_done room in_time can =
+      well_done : (AnyFull o.verdicts → ⊥) → ComesOff opening (history_of book) config.pdu told (unwrap_or p.noted [])
+      well_done none in_time right has can =
           d.result.code
-          ∙ comes_off opening (w.judged ++ w.verdicts) (all_done room) w.origin.job w.grant d.end went.exchanges w.job
-          (subst (λ n. 64 ≤ n) (sym w.pdu) least) shaped converses
-          (subst (λ n. CanComeOff opening n w.origin.job) (sym w.pdu)
-          (subst (CanComeOff opening config.pdu) d.result.job can))
+          ∙ comes_off opening right (w.judged ++ w.verdicts) (all_done none) w.origin.job w.grant d.end went.exchanges
+          w.job (subst (λ n. 64 ≤ n) (sym w.pdu) least) (allowed right has) converses
+          (subst (λ n. CanComeOff opening right n w.origin.job) (sym w.pdu)
+          (subst (CanComeOff opening right config.pdu) d.result.job can))
 
       stays_connected : d.end.leaves ≡ AsItWas → Ends p c pipes told (after o used written)
       stays_connected stays =
           let s = settles in
           record {
             stands = stands_at (begins_with opening) (history_of book) p.link config.pdu told w.earlier w.mine (unwrap_or p.noted []) w.entries_are (ap (λ n. unwrap_or n []) (sym w.noted))
-                (λ item is good.
-                let read = s.read item (sym d.result.job ∙ is) (sym d.result.code ∙ good) in
-                subst (λ x. ReadsParts (parts_of item config.pdu false) (map answered w.mine) x) (sym d.result.octets)
-                (reads_own (entered first (w.before ++ sent) (w.judged ++ w.verdicts)) (entered first w.before w.judged) read.0 w.mine (parts_of item config.pdu false) d.end.octets entered_mine read.1 read.2));
-            comes_off = λ room all. come_off (well_done room) room all;
+                (λ good.
+                let read = s.read (sym d.result.code ∙ good) in
+                let same =
+                own_are_same (entered first (w.before ++ sent) (w.judged ++ w.verdicts)) (entered first w.before w.judged)
+                read.0 w.mine entered_mine read.1 in
+                reads_told w.origin.job told.job config.pdu read.0 (map answered w.mine) d.end.octets told.octets
+                d.end.codes (take told.count told.codes) (sym d.result.job) same (sym d.result.octets)
+                (sym d.result.codes) read.2);
+            comes_off = λ none all. come_off (well_done none) none all;
             mode = connected (record {
               idle = idle;
               grant = w.grant;
@@ -594,9 +614,10 @@ module _ (opening : Memory) (limit : ℕ) (config : Config) (book : BookTold)
       → client.IsDone f.origin link link' p.client c told (f.heard ++ used) (f.sent ++ written)
       → Ends p c pipes told (after o used written)
   failed_done p c pipes link link' used written o told idle l f d = record {
-    stands = λ item is good. absurd (unconnected_fails f.origin link link' (client.unread_of c) d.end d.carried (f.heard ++ used) (f.sent ++ written) (client.waited_of p.client) f.granted f.job d.cause
+    stands = λ good. absurd (unconnected_fails f.origin link link' (client.unread_of c) d.end d.carried (f.heard ++ used) (f.sent ++ written) (client.waited_of p.client) f.granted f.job d.cause
         (sym d.result.code ∙ good));
-    comes_off = λ room all. come_off_behind opening config.pdu p.results told all l.gone;
+    comes_off = λ none all. come_off_behind opening (history_of book) config.pdu p.results p.places told
+        (unwrap_or p.noted []) all l.gone;
     mode = lost (record {
       gone = gone_stays p.results told l.gone;
       ungranted = d.granted ∙ ap (client.grant_after d.end.leaves) l.ungranted
@@ -652,7 +673,7 @@ module _ (opening : Memory) (limit : ℕ) (config : Config) (book : BookTold)
         refl,
         joint_polled p c pipes (p.results ++ told ∷ []) (p.places ++ unwrap_or p.noted [] ∷ []) None loan o j m same
             (all_stand_more (begins_with opening) (history_of book) p.link config.pdu p.results p.places told (unwrap_or p.noted []) j.done ends.stands)
-            (λ room. ends.comes_off room (j.comes_off room))
+            (λ none. ends.comes_off none (j.comes_off none))
             ends.mode,
       )
 

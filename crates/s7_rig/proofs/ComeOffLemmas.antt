@@ -1,5 +1,5 @@
 -- A job that can come off does, where no history was full and no clock failed.
-use Rattle.std.proofs.Common.{◌≡◌, ℕ, ◌+◌, ◌≤◌, true, false, cond, eqb, Option, None, Some, List, [], ◌∷◌, ◌++◌}
+use Rattle.std.proofs.Common.{◌≡◌, ℕ, ◌+◌, ◌≤◌, Bool, true, false, cond, eqb, Option, None, Some, List, [], ◌∷◌, ◌++◌}
 use Rattle.std.proofs.Common.{length, refl, ap, sym, ◌∙◌, subst}
 use Rattle.std.specs.List.{AllByRecursion}
 use Rattle.std.proofs.lemmas.Bool.{eq-eqb, lt-ltb}
@@ -52,8 +52,8 @@ use Rattle.s7_rig.proofs.UnrefusedLemmas.{IsFree, FindsAll, IsControl, NamesNoBl
 use Rattle.s7_rig.proofs.UnrefusedLemmas.{part_unrefused, items_unrefused, control_unrefused, about_unrefused}
 use Rattle.s7_rig.proofs.UnrefusedLemmas.{upload_unrefused}
 use Rattle.s7_rig.proofs.AskedItems.{AsksFor, part_reads_for, part_writes_for}
-use Rattle.s7_rig.proofs.PlacedLemmas.{parts_placed}
-use Rattle.s7_rig.proofs.ShapeLemmas.{AreShaped}
+use Rattle.s7_rig.proofs.PlacedLemmas.{parts_placed, read_freed}
+use Rattle.s7_rig.proofs.ShapeLemmas.{AreAllowed}
 
 -- ---- questions of a list
 
@@ -80,21 +80,21 @@ piece_about subject octets (first ∷ answers) question is =
 
 -- ---- jobs
 
-module _ (n : Memory) (verdicts : List Verdict) (all_done : AnyUndone verdicts → ⊥) where
-  shaped_front : (xs ys : List (Ask × Said)) → AreShaped n (xs ++ ys) → AreShaped n xs
+module _ (n : Memory) (right : Bool) (verdicts : List Verdict) (all_done : AnyUndone verdicts → ⊥) where
+  shaped_front : (xs ys : List (Ask × Said)) → AreAllowed n right (xs ++ ys) → AreAllowed n right xs
   shaped_front [] ys all = tt
   shaped_front (x ∷ xs) ys all = (all.0, shaped_front xs ys all.1)
 
-  shaped_behind : (xs ys : List (Ask × Said)) → AreShaped n (xs ++ ys) → AreShaped n ys
+  shaped_behind : (xs ys : List (Ask × Said)) → AreAllowed n right (xs ++ ys) → AreAllowed n right ys
   shaped_behind [] ys all = all
   shaped_behind (x ∷ xs) ys all = shaped_behind xs ys all.1
 
   -- then none of the answers refuses
   unrefused : (refusal : Answer → Option ℕ) (P : Question → Type 0)
       → ((question : Question) (answer : Answer) (new : List (Ask × Said)) → HasTold verdicts question answer new
-      → AreShaped n new → P question → refusal answer ≡ None)
+      → AreAllowed n right new → P question → refusal answer ≡ None)
       → (place : ℕ) (xs : List Exchange) → AllByRecursion (λ (x : Exchange). P x.question) xs → AreTold verdicts xs
-      → AreShaped n (entries_of xs) → first_refusal refusal place (answers_of (rows_of xs)) ≡ None
+      → AreAllowed n right (entries_of xs) → first_refusal refusal place (answers_of (rows_of xs)) ≡ None
   unrefused refusal P each place [] asked told shaped = refl
   unrefused refusal P each place (x ∷ xs) asked told shaped =
       let good = each x.question x.answer x.entries told.0 (shaped_front x.entries (entries_of xs) shaped) asked.0 in
@@ -105,12 +105,12 @@ module _ (n : Memory) (verdicts : List Verdict) (all_done : AnyUndone verdicts �
   off_by : (c : Conduct) (refusal : Answer → Option ℕ) (number : ℕ → ℕ → ℕ) (finished : List (Option Answer) → End)
       (P : Question → Type 0) (end : End) (xs : List Exchange)
       → ((question : Question) (answer : Answer) (new : List (Ask × Said)) → HasTold verdicts question answer new
-      → AreShaped n new → P question → refusal answer ≡ None)
+      → AreAllowed n right new → P question → refusal answer ≡ None)
       → ((answers : List (Option Answer)) (question : Question) → c.question_at answers ≡ Some question → P question)
       → ((answers : List (Option Answer))
       → c.ended answers ≡ by_refusal number (first_refusal refusal 0 answers) (finished answers))
       → ((answers : List (Option Answer)) → (finished answers).code ≡ 0) → Converses verdicts c end xs
-      → AreShaped n (entries_of xs) → end.code ≡ 0
+      → AreAllowed n right (entries_of xs) → end.code ≡ 0
   off_by c refusal number finished P end xs each questions ends good went shaped =
       let answers = answers_of (rows_of xs) in
       ap (λ (e : End). e.code) (went.is ∙ ends answers)
@@ -122,55 +122,56 @@ module _ (n : Memory) (verdicts : List Verdict) (all_done : AnyUndone verdicts �
   listed_off : (grant : Grant) (questions : List Question) (refusal : Answer → Option ℕ) (number : ℕ → ℕ → ℕ)
       (finished : List (Option Answer) → End) (P : Question → Type 0) (end : End) (xs : List Exchange)
       → ((question : Question) (answer : Answer) (new : List (Ask × Said)) → HasTold verdicts question answer new
-      → AreShaped n new → P question → refusal answer ≡ None)
+      → AreAllowed n right new → P question → refusal answer ≡ None)
       → AllByRecursion P questions → ((answers : List (Option Answer)) → (finished answers).code ≡ 0)
-      → Converses verdicts (listed grant questions refusal number finished).conduct end xs → AreShaped n (entries_of xs)
-      → end.code ≡ 0
+      → Converses verdicts (listed grant questions refusal number finished).conduct end xs
+      → AreAllowed n right (entries_of xs) → end.code ≡ 0
   listed_off grant questions refusal number finished P end xs each all good went shaped =
       off_by (listed grant questions refusal number finished).conduct refusal number finished P end xs each
       (λ answers question at. one_of_all P questions (length answers) question all at) (λ answers. refl) good went
       shaped
 
   -- one that calls a control
-  control_off : (c : Control) (function : ℕ) (end : End) (xs : List Exchange) → NamesNoBlock c → IsDoneAs n c function
-      → Converses verdicts (controlling c) end xs → AreShaped n (entries_of xs) → end.code ≡ 0
+  control_off : (c : Control) (function : ℕ) (end : End) (xs : List Exchange) → NamesNoBlock c
+      → IsDoneAs n right c function → Converses verdicts (controlling c) end xs → AreAllowed n right (entries_of xs)
+      → end.code ≡ 0
   control_off c function end xs named done went shaped =
       off_by (controlling c) (control_refusal c) plain_number (λ answers. good_end [] []) (IsControl c) end xs
-      (control_unrefused n verdicts all_done c function named done)
+      (control_unrefused n right verdicts all_done c function named done)
       (λ answers question at. one_of_all (IsControl c) (controls c ∷ []) (length answers) question (refl, tt) at)
       (λ answers. refl) (λ answers. refl) went shaped
 
   -- and one that asks for user data
   about_off : (subject : Subject) (octets : List ℕ) (end : End) (xs : List Exchange) → (IsSecurity subject → ⊥)
-      → (NamesNone subject octets → ⊥) → IsGood n subject octets
-      → Converses verdicts (asking_about subject octets) end xs → AreShaped n (entries_of xs) → end.code ≡ 0
+      → (NamesNone subject octets → ⊥) → IsGood n right subject octets
+      → Converses verdicts (asking_about subject octets) end xs → AreAllowed n right (entries_of xs) → end.code ≡ 0
   about_off subject octets end xs plain named good went shaped =
       off_by (asking_about subject octets) telegram_refusal plain_number
       (brought_end subject) (IsAbout subject octets) end xs
-      (about_unrefused n verdicts all_done subject octets plain named good) (piece_about subject octets)
+      (about_unrefused n right verdicts all_done subject octets plain named good) (piece_about subject octets)
       (λ answers. refl) (λ answers. refl) went shaped
 
   -- one that uploads a data block
-  upload_off : (number : ℕ) (end : End) (xs : List Exchange) → HasBlock n number → is_read_barred n.guard false ≡ false
-      → Converses verdicts (uploading (record { kind = 0x41; number = number })) end xs → AreShaped n (entries_of xs)
-      → end.code ≡ 0
+  upload_off : (number : ℕ) (end : End) (xs : List Exchange) → HasBlock n number → is_read_barred n.guard right ≡ false
+      → Converses verdicts (uploading (record { kind = 0x41; number = number })) end xs
+      → AreAllowed n right (entries_of xs) → end.code ≡ 0
   upload_off number end xs has free went shaped =
       let name : BlockName = record { kind = 0x41; number = number } in
       off_by (uploading name) telegram_refusal plain_number (λ answers. good_end (octets_brought answers) [])
       (IsUploadOf name) end xs
-      (upload_unrefused n verdicts all_done name (names_read.names name 0x41 (lt-ltb number 65536 has.0))
-      (λ right s same. upload_good s right n number same free has))
+      (upload_unrefused n right verdicts all_done name (names_read.names name 0x41 (lt-ltb number 65536 has.0))
+      (λ own s same is. upload_good s own n number same (read_freed n.guard right own is free) has))
       (λ answers question at. of_upload (IsUploadOf name) (λ id size so_far. tt) (λ id. tt) name answers question refl
       at)
       (λ answers. refl) (λ answers. refl) went shaped
 
-  reads_free : (groups : List (List Item)) → is_read_barred n.guard false ≡ false
-      → AllByRecursion (IsFree n) (read_questions groups)
+  reads_free : (groups : List (List Item)) → is_read_barred n.guard right ≡ false
+      → AllByRecursion (IsFree n right) (read_questions groups)
   reads_free [] free = tt
   reads_free (group ∷ groups) free = (free, reads_free groups free)
 
-  writes_free : (groups : List (List Item)) (octets : List ℕ) → is_write_barred n.guard false ≡ false
-      → AllByRecursion (IsFree n) (write_questions groups octets)
+  writes_free : (groups : List (List Item)) (octets : List ℕ) → is_write_barred n.guard right ≡ false
+      → AllByRecursion (IsFree n right) (write_questions groups octets)
   writes_free [] octets free = tt
   writes_free (group ∷ groups) octets free = (free, writes_free groups _ free)
 
@@ -182,16 +183,16 @@ module _ (n : Memory) (verdicts : List Verdict) (all_done : AnyUndone verdicts �
 
   -- A job on a connected client that went by exchanges comes off, where it can.
   pub comes_off : (done : Job) (grant : Grant) (end : End) (xs : List Exchange) → IsNoConnect done → 64 ≤ grant.pdu
-      → AreShaped n (entries_of xs) → Converses verdicts (connected_plan done grant).conduct end xs
-      → CanComeOff n grant.pdu done → end.code ≡ 0
+      → AreAllowed n right (entries_of xs) → Converses verdicts (connected_plan done grant).conduct end xs
+      → CanComeOff n right grant.pdu done → end.code ≡ 0
   comes_off job.Connect grant end xs none least shaped c can = absurd none
   comes_off (job.ReadArea item) grant end xs none least shaped c can =
       let parts = parts_of item grant.pdu false in
       let questions = read_questions (alone parts) in
       let there = parts_placed n item true grant.pdu false can.0 least can.1 in
-      listed_off grant questions part_refusal plain_number (λ answers. good_end (octets_told answers) []) (FindsAll n)
-      end xs (part_unrefused n verdicts all_done)
-      (both (AsksFor (IsThere n)) (IsFree n) questions (part_reads_for (IsThere n) item grant.pdu there)
+      listed_off grant questions part_refusal plain_number (λ answers. good_end (octets_told answers) [])
+      (FindsAll n right) end xs (part_unrefused n right verdicts all_done)
+      (both (AsksFor (IsThere n)) (IsFree n right) questions (part_reads_for (IsThere n) item grant.pdu there)
       (reads_free (alone parts) can.2))
       (λ answers. refl) (checked (check_item item true) _ end xs can.0 c) shaped
   comes_off (job.WriteArea item octets) grant end xs none least shaped c can =
@@ -199,9 +200,9 @@ module _ (n : Memory) (verdicts : List Verdict) (all_done : AnyUndone verdicts �
       let parts = parts_of item grant.pdu true in
       let questions = write_questions (alone parts) octets in
       let there = parts_placed n item has grant.pdu true can.0 least can.1 in
-      listed_off grant questions part_refusal write_number (λ answers. good_end [] []) (FindsAll n) end xs
-      (part_unrefused n verdicts all_done)
-      (both (AsksFor (IsThere n)) (IsFree n) questions
+      listed_off grant questions part_refusal write_number (λ answers. good_end [] []) (FindsAll n right) end xs
+      (part_unrefused n right verdicts all_done)
+      (both (AsksFor (IsThere n)) (IsFree n right) questions
       (part_writes_for (IsThere n) item octets grant.pdu least can.0 there)
       (writes_free (alone parts) octets can.2))
       (λ answers. refl) (checked (check_item item has) _ end xs can.0 c) shaped
@@ -209,33 +210,34 @@ module _ (n : Memory) (verdicts : List Verdict) (all_done : AnyUndone verdicts �
       let questions = read_questions (groups_of grant.pdu false items) in
       listed_off grant questions telegram_refusal plain_number
       (λ answers. good_end (octets_told answers) (codes_told answers)) IsOfItems end xs
-      (items_unrefused n verdicts all_done) (reads_items (groups_of grant.pdu false items)) (λ answers. refl)
+      (items_unrefused n right verdicts all_done) (reads_items (groups_of grant.pdu false items)) (λ answers. refl)
       (checked (check_items items true grant.pdu false) _ end xs can c) shaped
   comes_off (job.WriteMany items octets) grant end xs none least shaped c can =
       let has = eqb (length octets) (octet_count_of items) in
       let questions = write_questions (groups_of grant.pdu true items) octets in
       listed_off grant questions telegram_refusal plain_number (λ answers. good_end [] (codes_told answers))
-      IsOfItems end xs (items_unrefused n verdicts all_done) (writes_items (groups_of grant.pdu true items) octets)
-      (λ answers. refl)
+      IsOfItems end xs (items_unrefused n right verdicts all_done)
+      (writes_items (groups_of grant.pdu true items) octets) (λ answers. refl)
       (checked (check_items items has grant.pdu true) _ end xs can c) shaped
   comes_off job.List grant end xs none least shaped c can =
-      about_off BlockCounts [] end xs (λ secures. secures) (λ names. names) (counts_good n) c shaped
+      about_off BlockCounts [] end xs (λ secures. secures) (λ names. names) (counts_good n right) c shaped
   comes_off (job.Upload kind number) grant end xs none least shaped c can =
       upload_off number end xs can.1 can.2
       (subst (λ k. Converses verdicts (uploading (record { kind = k; number = number })) end xs) can.0 c) shaped
   comes_off (job.Szl id index) grant end xs none least shaped c can =
       about_off StatusList (list_octets id index) end xs (λ secures. secures) (λ names. names)
-      (lists_good n id index can) c shaped
+      (lists_good n right id index can) c shaped
   comes_off job.ClockRead grant end xs none least shaped c can =
-      about_off Clock [] end xs (λ secures. secures) (λ names. names) (clock_good n) c shaped
+      about_off Clock [] end xs (λ secures. secures) (λ names. names) (clock_good n right) c shaped
   comes_off (job.ClockSet moment) grant end xs none least shaped c can =
       about_off ClockSetting (octets_at moment) end xs (λ secures. secures) (λ names. names)
-      (setting_good n (octets_at moment) can.1) (checked (check_moment moment) _ end xs can.0 c) shaped
+      (setting_good n right (octets_at moment) can.1) (checked (check_moment moment) _ end xs can.0 c) shaped
   comes_off job.Compress grant end xs none least shaped c can =
-      control_off control.Compress service_function end xs tt (compress_done n can) c shaped
+      control_off control.Compress service_function end xs tt (compress_done n right can) c shaped
   comes_off job.CopyRam grant end xs none least shaped c can =
-      control_off control.CopyRam service_function end xs tt (copy_done n can) c shaped
+      control_off control.CopyRam service_function end xs tt (copy_done n right can) c shaped
   comes_off job.Status grant end xs none least shaped c can =
-      about_off RunState (list_octets 0x0424 0) end xs (λ secures. secures) (λ names. names) (mode_good n) c shaped
+      about_off RunState (list_octets 0x0424 0) end xs (λ secures. secures) (λ names. names) (mode_good n right) c
+      shaped
   comes_off job.Disconnect grant end xs none least shaped c can = ap (λ (e : End). e.code) c.is
   comes_off _ grant end xs none least shaped c can = absurd can

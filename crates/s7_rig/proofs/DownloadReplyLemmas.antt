@@ -341,7 +341,7 @@ inserted_replied {first} b js vs unheard pdu s call image link low none closes (
     (subst (λ out. Serves first (b ++ x) js (sent_message 1024 m) met (Some pdu) out [])
     (refusal_is_sent m s FULL FULL (question_sequence s q refl) refl) serves)
     (λ after given. refused_well (js ++ vs) after q s FULL refl low (omega arith)
-    (is_refused FULL (inl (any_full js vs rest is)) refl) tt refl)
+    (is_refused FULL (inl (any_full js vs rest is, refl)) refl refl) tt refl)
 inserted_replied b js vs unheard pdu s call image link low none closes (is_failed rest is timed serves) = absurd (cc)
 
 insertion_replied : {first : LinkState} (b : List ℕ) (js vs : List Verdict) (unheard : List (List ℕ)) (pdu s call : ℕ)

@@ -32,12 +32,12 @@ not_refused error answer is good =
 -- an announcement that isn't refused has begun the download
 begun_by : (vs : List Verdict) (q : Question) (answer : Answer) (new : List (Ask × Said)) (image : List ℕ)
     → q ≡ announces image → HasTold vs q answer new → download_refusal answer ≡ None → answer ≡ announced
-begun_by vs q answer new image e (is_refused error undone is) good = absurd (not_refused error answer is good)
+begun_by vs q answer new image e (is_refused error undone none is) good = absurd (not_refused error answer is good)
 begun_by vs q answer new image e (is_read items right reply asks entered is) good = absurd (cc)
 begun_by vs q answer new image e (is_written items octets right reply asks entered is) good = absurd (cc)
 begun_by vs q answer new image e (is_controlled control right request reply asks of entered is) good = absurd (cc)
-begun_by vs q answer new image e (is_brought subject octets moment right request reply pdu octet asks of entered is) good =
-    absurd (cc)
+begun_by vs q answer new image e
+    (is_brought subject octets moment right request reply pdu octet asks of entered is least) good = absurd (cc)
 begun_by vs q answer new image e (is_secured subject octets octet error asks of entered is) good = absurd (cc)
 begun_by vs q answer new image e (is_unnamed subject octets asks of entered is) good = absurd (cc)
 begun_by vs q answer new image e (is_barred kind number asks of entered is) good = absurd (cc)

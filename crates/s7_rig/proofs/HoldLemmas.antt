@@ -38,7 +38,7 @@ use Rattle.s7_dialogue.proofs.FlightLemmas.{same_some, nothing_left}
 use Rattle.s7_client.proofs.FitLemmas.{one_of_all}
 use Rattle.s7_session.specs.LinkState.{LinkState}
 use Rattle.s7_session.specs.Verdict.{Verdict}
-use Rattle.s7_rig.specs.Awaiting.{AreAsked}
+use Rattle.s7_rig.specs.Awaiting.{AreAsked, IsDue, AreInTurn}
 use Rattle.s7_rig.specs.Exchanges.{IsReadyFor, IsAwaited, IsUnheard, GoesOn, HasTold, Exchange, rows_of}
 use Rattle.s7_rig.proofs.DownloadJudgedLemmas.{checked}
 use Rattle.s7_rig.proofs.UploadAsksLemmas.{of_upload}
@@ -47,7 +47,7 @@ use Rattle.s7_rig.proofs.HoldPieces.{behind_is, piece_ready}
 use Rattle.s7_rig.proofs.HoldSlices.{slice_ready}
 use Rattle.s7_rig.proofs.HoldData.{IsOfItems, reads_items, writes_items, data_ready}
 use Rattle.s7_rig.proofs.HoldDownload.{IsNext, given_next, given_last}
-use Rattle.s7_rig.proofs.HoldTurns.{IsDue, AreInTurn, course_in_turn, turn_at, none_refused, last_unrefused}
+use Rattle.s7_rig.proofs.HoldTurns.{course_in_turn, turn_at, none_refused, last_unrefused}
 use Rattle.s7_rig.proofs.TelegramLemmas.{AreOut, open_none, asked_at}
 
 -- the link is ready for each of these questions

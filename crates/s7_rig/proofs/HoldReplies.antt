@@ -1,6 +1,6 @@
 -- Replies of a plant to user data, to controls and to the start of an upload that refuse nothing.
-use Rattle.std.proofs.Common.{◌≡◌, ℕ, ◌&&◌, Bool, true, false, not, cond, eqb, Option, None, Some, List, [], refl, ap}
-use Rattle.std.proofs.Common.{sym, ◌∙◌}
+use Rattle.std.proofs.Common.{◌≡◌, inl, inr, ℕ, ◌&&◌, Bool, true, false, not, cond, eqb, Option, None, Some, List, []}
+use Rattle.std.proofs.Common.{refl, ap, sym, ◌∙◌}
 use Rattle.std.specs.Prelude.{IsSome, is_some, option_map}
 use Rattle.std.proofs.lemmas.Bool.{eq-eqb}
 use Rattle.s7_header.specs.Octets.{number_at}
@@ -22,6 +22,7 @@ use Rattle.s7_dialogue.specs.Answer.{brings, uploads, refuses}
 use Rattle.s7_dialogue.specs.Refusals.{control_refusal, telegram_refusal}
 use Rattle.s7_dialogue.specs.Dialogue.{list_octets}
 use Rattle.s7_dialogue.proofs.FlightLemmas.{same_some}
+use Rattle.s7_rig.specs.Complete.{IsAllowed}
 use Rattle.s7_rig.specs.Exchanges.{AsksFor, control_heard, user_heard, upload_heard, request_of}
 use Rattle.s7_rig.proofs.ShapeLemmas.{SameShape}
 
@@ -75,22 +76,30 @@ pub mode_there : IsSome (table_of 0x0424 0 true)
 unfolding table_of
 mode_there = refl
 
--- ---- where no guard is
+-- ---- where no guard is, or a right
 
 unguarded : (right : Bool) (guard : Option Guard) → guard ≡ None → (not right && is_some guard) ≡ false
 unguarded true guard none = refl
 unguarded false guard none = ap is_some none
 
 -- nothing is barred
-allowed : (s : State) (right : Bool) (n : Memory) (reply : Said) → SameShape s.memory n → n.guard ≡ None
-    → guarded s right reply ≡ reply
-allowed s right n reply same none =
-    ap (λ b. cond b (said 0xD241 [] []) reply) (unguarded right s.memory.guard (same.guard ∙ none))
+abbrev IsUnbarred : Memory → Bool → Type 0
+IsUnbarred n right = (not right && is_some n.guard) ≡ false
 
-pub set_good : (s : State) (right : Bool) (n : Memory) (moment value : ℕ) → SameShape s.memory n → n.guard ≡ None
+-- what is allowed with one right is so with another that is there where that one is
+unbarred : (n : Memory) (right other : Bool) → IsAllowed n right → (right ≡ true → other ≡ true) → IsUnbarred n other
+unbarred n right other (inl none) has = unguarded other n.guard none
+unbarred n right other (inr is) has = ap (λ r. not r && is_some n.guard) (has is)
+
+allowed : (s : State) (right : Bool) (n : Memory) (reply : Said) → SameShape s.memory n → IsUnbarred n right
+    → guarded s right reply ≡ reply
+allowed s right n reply same free =
+    ap (λ b. cond b (said 0xD241 [] []) reply) (ap (λ g. not right && is_some g) same.guard ∙ free)
+
+set_good : (s : State) (right : Bool) (n : Memory) (moment value : ℕ) → SameShape s.memory n → IsUnbarred n right
     → (answer s right (plain.ClockSet moment value)).error ≡ 0
-set_good s right n moment value same none =
-    ap (λ (reply : Said). reply.error) (allowed s right n (said 0 [] []) same none)
+set_good s right n moment value same free =
+    ap (λ (reply : Said). reply.error) (allowed s right n (said 0 [] []) same free)
 
 -- ---- what is heard of a good reply
 
@@ -120,50 +129,56 @@ control_good c function reply done = ap (λ r. control_refusal c (control_heard 
 
 -- ---- what a job asks for
 
--- Whatever this asks for, a state of the memory's shape replies without an error.
-abbrev pub IsGood : Memory → Subject → List ℕ → Type 0
-IsGood n subject octets =
-    (moment : ℕ) (right : Bool) (request : Request) (s : State) → AsksFor subject octets moment request
-    → SameShape s.memory n → (answer s right request).error ≡ 0
+-- Whatever this asks for, with a right where there is one, a state of the memory's shape replies without an error.
+abbrev pub IsGood : Memory → Bool → Subject → List ℕ → Type 0
+IsGood n right subject octets =
+    (moment : ℕ) (own : Bool) (request : Request) (s : State) → AsksFor subject octets moment request
+    → SameShape s.memory n → (right ≡ true → own ≡ true) → (answer s own request).error ≡ 0
 
 good_as : (s : State) (right : Bool) (asked request : Request) → asked ≡ request → (answer s right request).error ≡ 0
     → (answer s right asked).error ≡ 0
 good_as s right asked request is good = ap (λ r. (answer s right r).error) is ∙ good
 
-pub lists_good : (n : Memory) (id index : ℕ) → IsSome (table_of id index true)
-    → IsGood n StatusList (list_octets id index)
-lists_good n id index there = λ moment right request s asked same.
-    good_as s right request (plain.Szl id index) (asked ∙ list_asked id index) (list_good id index s right there)
+pub lists_good : (n : Memory) (right : Bool) (id index : ℕ) → IsSome (table_of id index true)
+    → IsGood n right StatusList (list_octets id index)
+lists_good n right id index there = λ moment own request s asked same has.
+    good_as s own request (plain.Szl id index) (asked ∙ list_asked id index) (list_good id index s own there)
 
-pub mode_good : (n : Memory) → IsGood n RunState (list_octets 0x0424 0)
-mode_good n = λ moment right request s asked same.
-    good_as s right request (plain.Szl 0x0424 0) (asked ∙ list_asked 0x0424 0) (list_good 0x0424 0 s right mode_there)
+pub mode_good : (n : Memory) (right : Bool) → IsGood n right RunState (list_octets 0x0424 0)
+mode_good n right = λ moment own request s asked same has.
+    good_as s own request (plain.Szl 0x0424 0) (asked ∙ list_asked 0x0424 0) (list_good 0x0424 0 s own mode_there)
 
-pub counts_good : (n : Memory) → IsGood n BlockCounts []
-counts_good n = λ moment right request s asked same. good_as s right request plain.ListAll asked refl
+pub counts_good : (n : Memory) (right : Bool) → IsGood n right BlockCounts []
+counts_good n right = λ moment own request s asked same has. good_as s own request plain.ListAll asked refl
 
-pub clock_good : (n : Memory) → IsGood n Clock []
-clock_good n = λ moment right request s asked same. good_as s right request (plain.ClockRead moment) asked refl
+pub clock_good : (n : Memory) (right : Bool) → IsGood n right Clock []
+clock_good n right = λ moment own request s asked same has. good_as s own request (plain.ClockRead moment) asked refl
 
-pub setting_good : (n : Memory) (octets : List ℕ) → n.guard ≡ None → IsGood n ClockSetting octets
-setting_good n octets none = λ moment right request s asked same.
-    good_as s right request (plain.ClockSet moment asked.0) asked.2 (set_good s right n moment asked.0 same none)
+pub setting_good : (n : Memory) (right : Bool) (octets : List ℕ) → IsAllowed n right
+    → IsGood n right ClockSetting octets
+setting_good n right octets can = λ moment own request s asked same has.
+    good_as s own request (plain.ClockSet moment asked.0) asked.2
+    (set_good s own n moment asked.0 same (unbarred n right own can has))
 
--- Whatever the control asks for, a state of the memory's shape replies that it was done.
-abbrev pub IsDoneAs : Memory → Control → ℕ → Type 0
-IsDoneAs n c function =
-    (right : Bool) (request : Request) (s : State) → request_of c ≡ Some request → SameShape s.memory n
-    → answer s right request ≡ controlled function 0
+-- Whatever the control asks for, with a right where there is one, a state of the memory's shape replies that it was
+-- done.
+abbrev pub IsDoneAs : Memory → Bool → Control → ℕ → Type 0
+IsDoneAs n right c function =
+    (own : Bool) (request : Request) (s : State) → request_of c ≡ Some request → SameShape s.memory n
+    → (right ≡ true → own ≡ true) → answer s own request ≡ controlled function 0
 
 done_as : (s : State) (right : Bool) (n : Memory) (request asked : Request) → Some asked ≡ Some request
-    → answer s right asked ≡ guarded s right (controlled service_function 0) → SameShape s.memory n → n.guard ≡ None
-    → answer s right request ≡ controlled service_function 0
-done_as s right n request asked is guards same none =
+    → answer s right asked ≡ guarded s right (controlled service_function 0) → SameShape s.memory n
+    → IsUnbarred n right → answer s right request ≡ controlled service_function 0
+done_as s right n request asked is guards same free =
     ap (answer s right) (sym (same_some asked request is))
-    ∙ (guards ∙ allowed s right n (controlled service_function 0) same none)
+    ∙ (guards ∙ allowed s right n (controlled service_function 0) same free)
 
-pub compress_done : (n : Memory) → n.guard ≡ None → IsDoneAs n control.Compress service_function
-compress_done n none = λ right request s is same. done_as s right n request plain.Compress is refl same none
+pub compress_done : (n : Memory) (right : Bool) → IsAllowed n right
+    → IsDoneAs n right control.Compress service_function
+compress_done n right can = λ own request s is same has.
+    done_as s own n request plain.Compress is refl same (unbarred n right own can has)
 
-pub copy_done : (n : Memory) → n.guard ≡ None → IsDoneAs n control.CopyRam service_function
-copy_done n none = λ right request s is same. done_as s right n request plain.CopyRam is refl same none
+pub copy_done : (n : Memory) (right : Bool) → IsAllowed n right → IsDoneAs n right control.CopyRam service_function
+copy_done n right can = λ own request s is same has.
+    done_as s own n request plain.CopyRam is refl same (unbarred n right own can has)

@@ -7,17 +7,7 @@ use Rattle.s7_dialogue.specs.Dialogue.{Conduct, first_or, refusal_in, first_refu
 use Rattle.s7_dialogue.specs.Course.{Origin, conduct_of, course}
 use Rattle.s7_dialogue.proofs.FlightLemmas.{IsAnswered, all_answered, with_answer}
 use Rattle.s7_dialogue.proofs.RowLemmas.{RowsKept, course_rows}
-
--- it was asked behind these answers, of which none refuses
-pub record IsDue (c : Conduct) (answers : List (Option Answer)) (row : Row) : Type 0 where
-  pub is : c.question_at answers ≡ Some row.question
-  pub unrefused : first_refusal c.refusal 0 answers ≡ None
-
--- each of these was asked behind the answers to those before it, and none behind one that is unanswered
-abbrev pub AreInTurn : Conduct → List Row → List Row → Type 0
-AreInTurn c before [] = Unit {0}
-AreInTurn c before (row ∷ rows) =
-    IsDue c (answers_of before) row × (row.answer ≡ None → rows ≡ []) × AreInTurn c (before ++ row ∷ []) rows
+use Rattle.s7_rig.specs.Awaiting.{IsDue, AreInTurn}
 
 not_none : (row : Row) → IsAnswered row → row.answer ≡ None → ⊥
 not_none row known none = let answered = known.1 in absurd (cc)

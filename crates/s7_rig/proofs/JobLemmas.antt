@@ -14,7 +14,7 @@ use Rattle.s7_session.specs.Verdict.{Verdict}
 use Rattle.s7_session.specs.Owed.{Past, past, owed, entered}
 use Rattle.s7_session.proofs.PastLemmas.{with_more}
 use Rattle.s7_rig.specs.Settled.{Settled}
-use Rattle.s7_rig.specs.Awaiting.{telegrams_of, AreAsked}
+use Rattle.s7_rig.specs.Awaiting.{telegrams_of, AreAsked, AreInTurn}
 use Rattle.s7_rig.specs.Exchanges.{HasTold, Exchange, entries_of, rows_of}
 use Rattle.s7_rig.proofs.PartedLemmas.{some_sent}
 use Rattle.s7_rig.proofs.HeardLemmas.{HearsOn, heard_answer}
@@ -22,6 +22,7 @@ use Rattle.s7_rig.proofs.TelegramLemmas.{IsOut, AreOut, open_behind, awaits_none
 use Rattle.s7_rig.proofs.PastFacts.{past_with}
 use Rattle.s7_rig.proofs.ListFacts.{none_of}
 use Rattle.s7_rig.proofs.HoldLemmas.{AreNext, next_holds}
+use Rattle.s7_rig.proofs.HoldTurns.{course_in_turn}
 use Rattle.s7_rig.proofs.DialogueLemmas.{Whole, IsWhole, Place, IsAt, IsDone, IsReplied, packet_with, telegrams_first}
 use Rattle.s7_rig.proofs.DialogueLemmas.{owes_more, owes_then, used_past, awaits_answers, is_replied}
 
@@ -237,6 +238,8 @@ module _ (w : Whole) (p : Place) (i : IsWhole w) (h : IsAt w p) (none : p.rows �
     entered_is = ap₂ (entered w.first) used_last verdicts_last ∙ h.entered_is;
     converses = record {
       asked = subst (AreAsked (conduct_of w.origin) 0) (sym h.rows_are ∙ rows_last) h.asked;
+      in_turn = λ narrow.
+          subst (AreInTurn (conduct_of w.origin) []) rows_last (course_in_turn w.origin p.heard narrow);
       told = h.told;
       none_more = ap (next_question (conduct_of w.origin)) (sym rows_last) ∙ h.awaiting.none_more;
       is = same_end (course w.origin w.heard).awaits w.end _ w.carried [] i.over.over

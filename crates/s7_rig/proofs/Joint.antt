@@ -12,9 +12,9 @@ use Rattle.s7_session.specs.Books.{own, history_of}
 use Rattle.s7_session.specs.Doers.{Trail}
 use Rattle.s7_session.specs.Entry.{Entry, answered}
 use Rattle.s7_session.specs.LinkState.{LinkState, first_link}
-use Rattle.s7_session.specs.Owed.{owed, entered, telegrams}
+use Rattle.s7_session.specs.Owed.{past, owed, entered, telegrams}
 use Rattle.s7_session.specs.Stands.{Stands, unread, entry_count, newest}
-use Rattle.s7_session.specs.Telegrams.{Met, verdicts_of, entered_of, AllAt, clock_failures, last_number}
+use Rattle.s7_session.specs.Telegrams.{Met, verdicts_of, entered_of, AnyFull, AllAt, clock_failures, last_number}
 use Rattle.s7_session.specs.Verdict.{Verdict}
 use Rattle.s7_rig.specs.State.{Post}
 use Rattle.s7_rig.specs.Runs.{moment}
@@ -24,6 +24,7 @@ use Rattle.s7_rig.specs.Split.{AllStand}
 use Rattle.s7_rig.specs.Complete.{AllComeOff}
 use Rattle.s7_rig.specs.Turns.{is_full_in, lacks_in}
 use Rattle.s7_rig.proofs.ResultLemmas.{HaveGone}
+use Rattle.s7_rig.proofs.SoundLemmas.{IsSound}
 
 -- the octets of a link: those that the client transmitted and its session used, those that the session transmitted and
 -- the client used, and the verdicts, with the telegrams that met them
@@ -134,6 +135,8 @@ pub record Joint (opening : Memory) (limit : ℕ) (config : Config) (book : Book
   pub legal : entered_of o.mets ≡ map answered (own (begins_with opening) p.link (history_of book))
   pub begun : BookTold
   pub trail : Trail is_full_in lacks_in begun o.mets book
+  -- no telegram stopped the link for want of memory, and none waits for its verdict
+  pub sound : IsSound (past (first_link opening.guard) o.used o.verdicts).standing
   pub clock : clock_failures o.verdicts ≡ 0
   pub moment_is : p.pipes.moment ≡ moment
   pub moments : AllAt (Some moment) (own (begins_with opening) p.link (history_of book))
@@ -142,5 +145,5 @@ pub record Joint (opening : Memory) (limit : ℕ) (config : Config) (book : Book
   -- the client
   pub config_is : client.config_of p.client ≡ config
   pub done : AllStand (begins_with opening) (history_of book) p.link config.pdu p.results p.places
-  pub comes_off : length (history_of book) < limit → AllComeOff opening config.pdu p.results
+  pub comes_off : (AnyFull o.verdicts → ⊥) → AllComeOff opening (history_of book) config.pdu p.results p.places
   pub mode : Mode opening config book p o

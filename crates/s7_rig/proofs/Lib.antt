@@ -11,6 +11,7 @@ pub mod WalksLemmas
 pub mod OneFragment
 pub mod PartedLemmas
 pub mod PastFacts
+pub mod SoundLemmas
 pub mod FrontLemmas
 pub mod ServedLemmas
 pub mod OpenedLemmas
@@ -49,6 +50,8 @@ pub mod DialogueLemmas
 pub mod JobLemmas
 pub mod SettledLemmas
 pub mod PartLemmas
+pub mod GroupLemmas
+pub mod GroupPlaces
 pub mod OverLemmas
 pub mod Joint
 pub mod ClientFacts
@@ -60,9 +63,12 @@ pub mod RigLemmas
 pub mod FormedLemmas
 pub mod ShapeLemmas
 pub mod PlacedLemmas
+pub mod PlaceLemmas
+pub mod JobReads
 pub mod AsksLemmas
 pub mod AskedItems
 pub mod ResultLemmas
+pub mod RightLemmas
 pub mod UploadOffLemmas
 pub mod UnrefusedLemmas
 pub mod ComeOffLemmas
@@ -86,3 +92,5 @@ pub mod ControlReplyLemmas
 pub mod UserFitLemmas
 pub mod BlockFitLemmas
 pub mod UserReplyLemmas
+pub mod BlockHeadLemmas
+pub mod BlockReadLemmas

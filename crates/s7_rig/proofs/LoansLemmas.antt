@@ -64,6 +64,7 @@ moves_seen old new k k' d d' same m = record {
   fits = m.fits;
   space = m.space;
   lent = m.lent;
+  shut = m.shut;
   inbox = m.inbox;
   stood = m.stood;
   asked = m.asked;

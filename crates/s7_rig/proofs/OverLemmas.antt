@@ -1,7 +1,6 @@
 -- The law of a whole job over one link.
-use Rattle.std.proofs.Common.{◌≡◌, ℕ, false, List, [], ◌∷◌, ◌++◌, ap, sym, ◌∙◌, subst, append-nil}
+use Rattle.std.proofs.Common.{◌≡◌, ℕ, List, [], ◌∷◌, ◌++◌, ap, sym, ◌∙◌, subst, append-nil}
 use Rattle.std.specs.Prelude.{Some}
-use Rattle.s7_split.specs.Parts.{parts_of}
 use Rattle.s7_plant.specs.declared.request.Ask.{Ask}
 use Rattle.s7_plant.specs.Replies.{Said}
 use Rattle.s7_dialogue.specs.Dialogue.{End}
@@ -10,16 +9,16 @@ use Rattle.s7_session.specs.LinkState.{LinkState}
 use Rattle.s7_session.specs.Verdict.{Verdict}
 use Rattle.s7_session.specs.Owed.{owed, entered}
 use Rattle.s7_rig.specs.Settled.{Settled}
-use Rattle.s7_rig.specs.Dialogues.{AreReplies, ReadsParts, IsJobOver, IsJobSettled}
+use Rattle.s7_rig.specs.Dialogues.{AreReplies, ReadsAs, IsJobOver, IsJobSettled}
 use Rattle.s7_rig.specs.Exchanges.{entries_of, WentBy}
 use Rattle.s7_rig.proofs.SettledLemmas.{over_is_done}
-use Rattle.s7_rig.proofs.PartLemmas.{item_read}
+use Rattle.s7_rig.proofs.JobReads.{job_read}
 
 replies_behind : (xs ys : List (Ask × Said)) → AreReplies (xs ++ ys) → AreReplies ys
 replies_behind [] ys h = h
 replies_behind (x ∷ xs) ys h = replies_behind xs ys h.1
 
--- A job that is over left both ends between two messages, and a read of one item that came off is what its entries read.
+-- A job that is over left both ends between two messages, and a read that came off is what its entries read.
 pub job_is_settled : (first : LinkState) (origin : Origin) (pdu : ℕ) (heard sent : List ℕ) (end : End) (carried b used : List ℕ) (js verdicts : List Verdict) (behind : List ℕ)
     → IsJobOver first origin pdu heard sent end carried b used js verdicts behind
     → IsJobSettled first origin pdu heard sent end b used js verdicts behind
@@ -35,11 +34,11 @@ job_is_settled first origin pdu heard sent end carried b used js verdicts behind
           ∙ (o.owed_is ∙ (ap (λ x. (owed first b js ++ heard) ++ x) d.nothing_behind ∙ append-nil (owed first b js ++ heard)));
       size = d.size;
       sequence = d.sequence;
-      read = λ item job_is good. (
+      read = λ good. (
         entries_of d.exchanges,
         ap (λ x. entered first (b ++ x) (js ++ verdicts)) all ∙ d.entered_is,
-        subst (λ n. ReadsParts (parts_of item n false) (entries_of d.exchanges) end.octets) o.pdu_is
-            (item_read origin o.grant item end d.exchanges o.granted job_is good d.converses
+        subst (λ n. ReadsAs origin.job n (entries_of d.exchanges) end.octets end.codes) o.pdu_is
+            (job_read origin o.grant end d.exchanges o.granted good d.converses
             (replies_behind (entered first b js) (entries_of d.exchanges) (subst AreReplies d.entered_is o.replies))),
       );
     }

@@ -7,8 +7,6 @@ use Rattle.std.proofs.Math.Seq.{take-append_seam}
 use Rattle.std.proofs.lemmas.List.{take-append-le, append_cancel_left}
 use Rattle.std.proofs.lemmas.Option.{slice_get_within}
 use Rattle.s7_area.specs.Memory.{read_code, read_octets}
-use Rattle.s7_dialogue.specs.declared.job.Job.TheVariants as job
-use Rattle.s7_dialogue.specs.declared.job.JobResult.{JobResult}
 use Rattle.s7_item.specs.declared.item.Item.{Item}
 use Rattle.s7_split.specs.Parts.{parts_of}
 use Rattle.s7_turn.specs.declared.view.Entry.{Entry as Call}
@@ -28,7 +26,7 @@ use Rattle.s7_session.specs.Books.{History, history_of, entry_at, own_from, own,
 use Rattle.s7_rig.specs.Numbers.{count_from}
 use Rattle.s7_rig.specs.Dialogues.{AreReplies, ReadsParts}
 use Rattle.s7_rig.specs.Plants.{IsPlant, IsStateFor}
-use Rattle.s7_rig.specs.Split.{state_at, IsReadAt, Rise, AreReadAt, SplitRead, StandsAtPlaces, AllStand}
+use Rattle.s7_rig.specs.Split.{state_at, IsReadAt, Rise, AreReadAt, SplitRead}
 use Rattle.s7_rig.proofs.ShapeLemmas.{AreShaped, state_same}
 
 is_same : (a b : ℕ) → a ≡ b → (a == b) ≡ true
@@ -218,7 +216,7 @@ rise_back (e ∷ before) mine up = rise_back before mine (rise_rest e.number (nu
 
 -- ---- a read that its entries tell
 
-reads_at : (s : State) (history : History) (link : ℕ) (parts : List Item) (mine : List Entry) (octets : List ℕ) → AreOwnAt s history link mine → ReadsParts parts (map answered mine) octets
+pub reads_at : (s : State) (history : History) (link : ℕ) (parts : List Item) (mine : List Entry) (octets : List ℕ) → AreOwnAt s history link mine → ReadsParts parts (map answered mine) octets
     → AreReadAt s history link parts (numbers_of mine) octets
 unfolding AreReadAt ReadsParts
 reads_at s history link [] [] octets all reads = reads
@@ -244,28 +242,20 @@ reads_stand s history link item pdu before mine octets split reads = record {
       (own_back_at s history link before mine (subst (AreOwnAt s history link) split (own_at s link history))) reads;
 }
 
--- where what was entered is known in both ways, the own entries read them
-pub reads_own : (all front entries : List (Ask × Said)) (mine : List Entry) (parts : List Item) (octets : List ℕ) → all ≡ front ++ map answered mine → all ≡ front ++ entries → ReadsParts parts entries octets
-    → ReadsParts parts (map answered mine) octets
-reads_own all front entries mine parts octets own_are are reads =
-    subst (λ es. ReadsParts parts es octets) (append_cancel_left front entries (map answered mine) (sym are ∙ own_are)) reads
-
--- a result stands at the numbers of its job's entries
-pub stands_at : (s : State) (history : History) (link pdu : ℕ) (told : JobResult) (before mine : List Entry) (places : List ℕ) → own s link history ≡ before ++ mine → numbers_of mine ≡ places
-    → ((item : Item) → told.job ≡ job.ReadArea item → told.code ≡ 0 → ReadsParts (parts_of item pdu false) (map answered mine) told.octets)
-    → StandsAtPlaces s history link pdu told places
-stands_at s history link pdu told before mine places split numbered reads = λ item is good.
-    subst (λ ns. SplitRead s history ns link item pdu told.octets) numbered
-    (reads_stand s history link item pdu before mine told.octets split (reads item is good))
+-- what was entered is known in both ways
+pub own_are_same : (all front entries : List (Ask × Said)) (mine : List Entry) → all ≡ front ++ map answered mine
+    → all ≡ front ++ entries → entries ≡ map answered mine
+own_are_same all front entries mine own_are are =
+    append_cancel_left front entries (map answered mine) (sym are ∙ own_are)
 
 -- ---- a history that grows
 
-slice_get-grows : (history more : History) (k : ℕ) (e : Call Ask) → k < length history → slice_get history k ≡ Some e → slice_get (history ++ more) k ≡ Some e
+pub slice_get-grows : (history more : History) (k : ℕ) (e : Call Ask) → k < length history → slice_get history k ≡ Some e → slice_get (history ++ more) k ≡ Some e
 slice_get-grows [] more k e less is = absurd (omega (arith, less))
 slice_get-grows (x ∷ history) more zero e less is = is
 slice_get-grows (x ∷ history) more (suc k) e less is = slice_get-grows history more k e (omega (arith, less)) is
 
-at_grows : (s : State) (history more : History) (k : ℕ) → k < length history → state_at s history k ≡ state_at s (history ++ more) k
+pub at_grows : (s : State) (history more : History) (k : ℕ) → k < length history → state_at s history k ≡ state_at s (history ++ more) k
 at_grows s history more k less = ap (replay after_call s) (sym (take-append-le k history more (omega (arith, less))))
 
 read_at_stays : (s : State) (history more : History) (link : ℕ) (part : Item) (number : ℕ) (octets : List ℕ) → IsReadAt s history link part number octets → IsReadAt s (history ++ more) link part number octets
@@ -280,57 +270,13 @@ read_at_stays s history more link part number octets is =
       octets_are = subst (λ x. octets ≡ read_octets x.memory is.right part) same is.octets_are;
     }
 
-reads_at_stay : (s : State) (history more : History) (link : ℕ) (parts : List Item) (numbers octets : List ℕ) → AreReadAt s history link parts numbers octets → AreReadAt s (history ++ more) link parts numbers octets
+pub reads_at_stay : (s : State) (history more : History) (link : ℕ) (parts : List Item) (numbers octets : List ℕ) → AreReadAt s history link parts numbers octets → AreReadAt s (history ++ more) link parts numbers octets
 unfolding AreReadAt
 reads_at_stay s history more link [] [] octets are = are
 reads_at_stay s history more link [] (n ∷ numbers) octets are = are
 reads_at_stay s history more link (part ∷ parts) [] octets are = are
 reads_at_stay s history more link (part ∷ parts) (n ∷ numbers) octets (front, rest, split, first, others) =
     (front, rest, split, read_at_stays s history more link part n front first, reads_at_stay s history more link parts numbers rest others)
-
-pub split_read_stays : (s : State) (history more : History) (numbers : List ℕ) (link : ℕ) (item : Item) (pdu : ℕ) (octets : List ℕ) → SplitRead s history numbers link item pdu octets
-    → SplitRead s (history ++ more) numbers link item pdu octets
-split_read_stays s history more numbers link item pdu octets is =
-    record { rise = is.rise; read = reads_at_stay s history more link (parts_of item pdu false) numbers octets is.read }
-
-pub none_stand : (s : State) (history : History) (link pdu : ℕ) → AllStand s history link pdu [] []
-unfolding AllStand
-none_stand s history link pdu = tt
-
-pub all_stand_stays : (s : State) (history more : History) (link pdu : ℕ) (results : List JobResult) (places : List (List ℕ)) → AllStand s history link pdu results places → AllStand s (history ++ more) link pdu results places
-unfolding AllStand
-all_stand_stays s history more link pdu [] [] all = tt
-all_stand_stays s history more link pdu [] (numbers ∷ places) all = all
-all_stand_stays s history more link pdu (told ∷ results) [] all = all
-all_stand_stays s history more link pdu (told ∷ results) (numbers ∷ places) all = (
-  λ item reads good. split_read_stays s history more numbers link item pdu told.octets (all.0 item reads good),
-  all_stand_stays s history more link pdu results places all.1,
-)
-
--- one more result with its places
-pub all_stand_more : (s : State) (history : History) (link pdu : ℕ) (results : List JobResult) (places : List (List ℕ)) (told : JobResult) (numbers : List ℕ) → AllStand s history link pdu results places
-    → StandsAtPlaces s history link pdu told numbers
-    → AllStand s history link pdu (results ++ told ∷ []) (places ++ numbers ∷ [])
-unfolding AllStand
-all_stand_more s history link pdu [] [] told numbers all last = (last, tt)
-all_stand_more s history link pdu [] (ns ∷ places) told numbers all last = absurd all
-all_stand_more s history link pdu (first ∷ results) [] told numbers all last = absurd all
-all_stand_more s history link pdu (first ∷ results) (ns ∷ places) told numbers all last = (all.0, all_stand_more s history link pdu results places told numbers all.1 last)
-
--- the same of a book that goes on, by calls of whatever link
-pub split_read_goes_on : (other : ℕ) (old new : BookTold) → GoesOnBy other old new → (numbers : List ℕ) (link : ℕ) (item : Item) (pdu : ℕ) (octets : List ℕ) → SplitRead (state_of old.opening) (history_of old) numbers link item pdu octets
-    → SplitRead (state_of new.opening) (history_of new) numbers link item pdu octets
-split_read_goes_on other old new g numbers link item pdu octets is =
-    subst (λ o. SplitRead (state_of o) (history_of new) numbers link item pdu octets) (sym g.opening)
-    (subst (λ es. SplitRead (state_of old.opening) es numbers link item pdu octets) (sym g.history)
-    (split_read_stays (state_of old.opening) (history_of old) g.calls numbers link item pdu octets is))
-
-pub all_stand_goes_on : (other : ℕ) (old new : BookTold) → GoesOnBy other old new → (link pdu : ℕ) (results : List JobResult) (places : List (List ℕ)) → AllStand (state_of old.opening) (history_of old) link pdu results places
-    → AllStand (state_of new.opening) (history_of new) link pdu results places
-all_stand_goes_on other old new g link pdu results places all =
-    subst (λ o. AllStand (state_of o) (history_of new) link pdu results places) (sym g.opening)
-    (subst (λ es. AllStand (state_of old.opening) es link pdu results places) (sym g.history)
-    (all_stand_stays (state_of old.opening) (history_of old) g.calls link pdu results places all))
 
 -- ---- calls of several links
 

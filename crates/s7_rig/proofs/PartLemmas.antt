@@ -35,12 +35,12 @@ use Rattle.s7_rig.proofs.TelegramLemmas.{open_none}
 -- ---- a read that came off
 
 -- how these parts are read
-abbrev reading : Grant → List Item → Plan
+abbrev pub reading : Grant → List Item → Plan
 reading grant parts =
     listed grant (read_questions (alone parts)) part_refusal plain_number (λ answers. good_end (octets_told answers) [])
 
 -- what is read was checked
-good_by : {vs : List Verdict} (check : ℕ) (plan : Plan) (end : End) (xs : List Exchange) (good : Bool)
+pub good_by : {vs : List Verdict} (check : ℕ) (plan : Plan) (end : End) (xs : List Exchange) (good : Bool)
     → eqb check 0 ≡ good → end.code ≡ 0
     → Converses vs (cond good plan (over (number_end check AsItWas))).conduct end xs → Converses vs plan.conduct end xs
 good_by check plan end xs true good none c = c
@@ -65,12 +65,19 @@ record CameOff (parts : List Item) (end : End) (answers : List (Option Answer)) 
   all_asked : slice_get (read_questions (alone parts)) (length answers) ≡ None
   octets : end.octets ≡ octets_told answers
 
-ended_by : (refused : Option (ℕ × ℕ)) (octets : List ℕ) (end : End) → ((r : ℕ × ℕ) → refused ≡ Some r → 0 < r.1)
+-- an end with code 0 is that of a job of which nothing was refused
+pub finished_by : (refused : Option (ℕ × ℕ)) (finished end : End) → ((r : ℕ × ℕ) → refused ≡ Some r → 0 < r.1)
+    → end ≡ by_refusal plain_number refused finished → end.code ≡ 0 → (refused ≡ None) × (end ≡ finished)
+finished_by (Some r) finished end positive is good =
+    absurd (omega (arith, positive r refl, ap (λ (e : End). e.code) is, good))
+finished_by None finished end positive is good = (refl, is)
+
+pub ended_by : (refused : Option (ℕ × ℕ)) (octets : List ℕ) (end : End) → ((r : ℕ × ℕ) → refused ≡ Some r → 0 < r.1)
     → end ≡ by_refusal plain_number refused (good_end octets []) → end.code ≡ 0
     → (refused ≡ None) × (end.octets ≡ octets)
-ended_by (Some r) octets end positive is good =
-    absurd (omega (arith, positive r refl, ap (λ (e : End). e.code) is, good))
-ended_by None octets end positive is good = (refl, ap (λ (e : End). e.octets) is)
+ended_by refused octets end positive is good =
+    let both = finished_by refused (good_end octets []) end positive is good in
+    (both.0, ap (λ (e : End). e.octets) both.1)
 
 came_off : {vs : List Verdict} (grant : Grant) (parts : List Item) (end : End) (xs : List Exchange)
     → Converses vs (reading grant parts).conduct end xs → end.code ≡ 0 → CameOff parts end (answers_of (rows_of xs))
@@ -112,12 +119,16 @@ first_part (part ∷ rest) q e = (part, rest, refl, same_question (reads (part �
     same_question : (p q : Question) → Some p ≡ Some q → q ≡ p
     same_question p q e = cc
 
--- what the question for one part was answered
-data PartTold (part : Item) (answer : Answer) (new : List (Ask × Said)) : Type 0 where
-  part_refused : (error : ℕ) → answer ≡ refuses error → PartTold part answer new
-  part_told : (right : Bool) (reply : Said) → new ≡ (asked right (Read (part ∷ [])), reply) ∷ []
-      → ((s : State) → reply ≡ plant.answer_of s (asked right (Read (part ∷ [])))
-      → answer ≡ tells (told_of s.memory right part ∷ [])) → PartTold part answer new
+-- what the question for these items was answered
+pub data ItemsTold (group : List Item) (answer : Answer) (new : List (Ask × Said)) : Type 0 where
+  group_refused : (error : ℕ) → answer ≡ refuses error → ItemsTold group answer new
+  group_told : (right : Bool) (reply : Said) → new ≡ (asked right (Read group), reply) ∷ []
+      → ((s : State) → reply ≡ plant.answer_of s (asked right (Read group))
+      → answer ≡ tells (map (told_of s.memory right) group)) → ItemsTold group answer new
+
+-- and that for one part
+abbrev pub PartTold : Item → Answer → List (Ask × Said) → Type 0
+PartTold part answer new = ItemsTold (part ∷ []) answer new
 
 same_items : (xs ys : List Item) → reads xs ≡ reads ys → ys ≡ xs
 same_items xs ys e = cc
@@ -127,35 +138,39 @@ abbrev Reads : Question → Type 0
 Reads (reads items) = Unit {0}
 Reads _ = ⊥
 
-part_answered : {vs : List Verdict} (part : Item) (a : Answer) (new : List (Ask × Said))
-    → HasTold vs (reads (part ∷ [])) a new → PartTold part a new
-part_answered part a new (is_refused error full is) = part_refused error is
-part_answered part a new (is_written items octets right reply is new_is told) =
+pub items_answered : {vs : List Verdict} (group : List Item) (a : Answer) (new : List (Ask × Said))
+    → HasTold vs (reads group) a new → ItemsTold group a new
+items_answered group a new (is_refused error full none is) = group_refused error is
+items_answered group a new (is_written items octets right reply is new_is told) =
     absurd (subst Reads is tt)
-part_answered part a new (is_read items right reply is new_is told) =
-    let same : items ≡ part ∷ [] = same_items (part ∷ []) items is in
-    part_told right reply (new_is ∙ ap (λ xs. (asked right (Read xs), reply) ∷ []) same)
+items_answered group a new (is_read items right reply is new_is told) =
+    let same : items ≡ group = same_items group items is in
+    group_told right reply (new_is ∙ ap (λ xs. (asked right (Read xs), reply) ∷ []) same)
     (λ s gives. told s (gives ∙ ap (λ xs. plant.answer_of s (asked right (Read xs))) (sym same))
     ∙ ap (λ xs. tells (map (told_of s.memory right) xs)) same)
-part_answered part a new (is_controlled control right request reply is wants new_is told) =
+items_answered group a new (is_controlled control right request reply is wants new_is told) =
     absurd (subst Reads is tt)
-part_answered part a new (is_brought subject octets moment right request reply pdu octet is wants new_is told) =
+items_answered group a new (is_brought subject octets moment right request reply pdu octet is wants new_is told least) =
     absurd (subst Reads is tt)
-part_answered part a new (is_secured subject octets octet error is secures new_is told) =
+items_answered group a new (is_secured subject octets octet error is secures new_is told) =
     absurd (subst Reads is tt)
-part_answered part a new (is_unnamed subject octets is names new_is told) = absurd (subst Reads is tt)
-part_answered part a new (is_barred kind number is barred new_is told) = absurd (subst Reads is tt)
-part_answered part a new (is_started name block right reply id is names new_is told) = absurd (subst Reads is tt)
-part_answered part a new (is_no_upload name is none new_is told) = absurd (subst Reads is tt)
-part_answered part a new (is_sliced id size so_far octets more is new_is told) = absurd (subst Reads is tt)
-part_answered part a new (is_ended id is new_is told) = absurd (subst Reads is tt)
-part_answered part a new (is_announced image is new_is told) = absurd (subst Reads is tt)
-part_answered part a new (is_unstored image is unstored new_is told) = absurd (subst Reads is tt)
-part_answered part a new (is_called image call is new_is told) = absurd (subst Reads is tt)
-part_answered part a new (is_given image room from call next is new_is told) = absurd (subst Reads is tt)
-part_answered part a new (is_inserted image call right reply is new_is told) = absurd (subst Reads is tt)
-part_answered part a new (is_further subject octet so_far piece more is new_is told) =
+items_answered group a new (is_unnamed subject octets is names new_is told) = absurd (subst Reads is tt)
+items_answered group a new (is_barred kind number is barred new_is told) = absurd (subst Reads is tt)
+items_answered group a new (is_started name block right reply id is names new_is told) = absurd (subst Reads is tt)
+items_answered group a new (is_no_upload name is none new_is told) = absurd (subst Reads is tt)
+items_answered group a new (is_sliced id size so_far octets more is new_is told) = absurd (subst Reads is tt)
+items_answered group a new (is_ended id is new_is told) = absurd (subst Reads is tt)
+items_answered group a new (is_announced image is new_is told) = absurd (subst Reads is tt)
+items_answered group a new (is_unstored image is unstored new_is told) = absurd (subst Reads is tt)
+items_answered group a new (is_called image call is new_is told) = absurd (subst Reads is tt)
+items_answered group a new (is_given image room from call next is new_is told) = absurd (subst Reads is tt)
+items_answered group a new (is_inserted image call right reply is new_is told) = absurd (subst Reads is tt)
+items_answered group a new (is_further subject octet so_far piece more is new_is told) =
     absurd (subst Reads is tt)
+
+pub part_answered : {vs : List Verdict} (part : Item) (a : Answer) (new : List (Ask × Said))
+    → HasTold vs (reads (part ∷ [])) a new → PartTold part a new
+part_answered part a new told = items_answered (part ∷ []) a new told
 
 -- ---- part by part
 
@@ -200,12 +215,12 @@ part_by : (part : Item) (left : List Item) (new entries : List (Ask × Said)) (a
     (answers : List (Option Answer)) → PartTold part a new → part_refusal a ≡ None → AreReplies (new ++ entries)
     → (AreReplies entries → ReadsParts left entries (octets_told answers))
     → ReadsParts (part ∷ left) (new ++ entries) (octets_told (Some a ∷ answers))
-part_by part left new entries a answers (part_refused error is) none replies rest =
+part_by part left new entries a answers (group_refused error is) none replies rest =
     absurd (refused error (ap part_refusal (sym is) ∙ none))
   where
     refused : (error : ℕ) → part_refusal (refuses error) ≡ None → ⊥
     refused error e = cc
-part_by part left new entries a answers (part_told right reply is told) none replies rest =
+part_by part left new entries a answers (group_told right reply is told) none replies rest =
     let given : AreReplies ((asked right (Read (part ∷ [])), reply) ∷ entries) =
     subst (λ xs. AreReplies (xs ++ entries)) is replies in
     subst (λ xs. ReadsParts (part ∷ left) (xs ++ entries) (octets_told (Some a ∷ answers))) (sym is)
@@ -217,7 +232,7 @@ none_read [] none = refl
 none_read (part ∷ left) none = absurd (cc)
 
 -- the exchanges from a part on read the parts that are left
-parts_read : (vs : List Verdict) (grant : Grant) (parts done left : List Item) (xs : List Exchange)
+pub parts_read : (vs : List Verdict) (grant : Grant) (parts done left : List Item) (xs : List Exchange)
     → parts ≡ done ++ left
     → AreAsked (reading grant parts).conduct (length done) (rows_of xs)
     → slice_get (read_questions (alone parts)) (length done + length xs) ≡ None

@@ -309,34 +309,36 @@ write_open m right item octets good =
     open_by m item (is_write_barred m.guard right) (put_code m item octets)
     (put_good (place_code m item) _ (eqb (length octets) (octet_count item)) refl) good
 
--- what isn't barred without a right isn't barred with one
-freed : (right b : Bool) → b ≡ false → (not right && b) ≡ false
-freed true b free = refl
-freed false b free = free
+-- what isn't barred with one right isn't barred with another that is there where that one is
+freed : (right other b : Bool) → (right ≡ true → other ≡ true) → (not right && b) ≡ false → (not other && b) ≡ false
+freed true other b has free = ap (λ r. not r && b) (has refl)
+freed false true b has free = refl
+freed false false b has free = free
 
-pub read_freed : (guard : Option Guard) (right : Bool) → is_read_barred guard false ≡ false
-    → is_read_barred guard right ≡ false
-read_freed guard right free = freed right (eqb (level_of guard) 3) free
+pub read_freed : (guard : Option Guard) (right other : Bool) → (right ≡ true → other ≡ true)
+    → is_read_barred guard right ≡ false → is_read_barred guard other ≡ false
+read_freed guard right other has free = freed right other (eqb (level_of guard) 3) has free
 
-pub write_freed : (guard : Option Guard) (right : Bool) → is_write_barred guard false ≡ false
-    → is_write_barred guard right ≡ false
-write_freed guard right free = freed right (eqb (level_of guard) 2 || eqb (level_of guard) 3) free
+pub write_freed : (guard : Option Guard) (right other : Bool) → (right ≡ true → other ≡ true)
+    → is_write_barred guard right ≡ false → is_write_barred guard other ≡ false
+write_freed guard right other has free =
+    freed right other (eqb (level_of guard) 2 || eqb (level_of guard) 3) has free
 
 -- ---- items that stand in the first of some memories
 
--- such an item is read in each memory, where nothing bars it without a right
-pub placed_is_read : (m n : Memory) (right : Bool) (item : Item) → SameShape m n → is_read_barred n.guard false ≡ false
+-- such an item is read in each memory, where nothing bars it
+pub placed_is_read : (m n : Memory) (right : Bool) (item : Item) → SameShape m n → is_read_barred n.guard right ≡ false
     → place_code n item ≡ 0xFF → read_code m right item ≡ 0xFF
 placed_is_read m n right item same free placed =
-    read_code_same m n right item same ∙ (read_code_placed n right item (read_freed n.guard right free) ∙ placed)
+    read_code_same m n right item same ∙ (read_code_placed n right item free ∙ placed)
 
 -- and written with as many octets as it has
 pub placed_is_written : (m n : Memory) (right : Bool) (item : Item) (octets : List ℕ) → SameShape m n
-    → is_write_barred n.guard false ≡ false → place_code n item ≡ 0xFF → length octets ≡ octet_count item
+    → is_write_barred n.guard right ≡ false → place_code n item ≡ 0xFF → length octets ≡ octet_count item
     → write_code m right item octets ≡ 0xFF
 placed_is_written m n right item octets same free placed whole =
     write_code_same m n right item octets same
-    ∙ (write_code_placed n right item octets (write_freed n.guard right free) whole ∙ placed)
+    ∙ (write_code_placed n right item octets free whole ∙ placed)
 
 -- ---- the codes of the parts of an item
 

@@ -28,7 +28,7 @@ use Rattle.s7_rig.specs.Asked.{IsAnswered, is_entered, is_full, is_failed}
 use Rattle.s7_rig.specs.Heard.{told_of}
 use Rattle.s7_rig.specs.Written.{AreKnown, own_data, own_places, own_write, own_codes}
 use Rattle.s7_rig.specs.Plants.{IsStateFor}
-use Rattle.s7_rig.specs.Exchanges.{AnyUndone, GoesOn, HasTold, is_refused, is_read, is_written}
+use Rattle.s7_rig.specs.Exchanges.{IsUndone, GoesOn, HasTold, is_refused, is_read, is_written}
 use Rattle.s7_rig.specs.Dialogues.{AreReplies}
 use Rattle.s7_rig.proofs.ServedLemmas.{ServesTo, served_message}
 use Rattle.s7_rig.proofs.JudgedLemmas.{question_sequence}
@@ -141,18 +141,18 @@ refused_as all link q s error new told numbered low small = record {
   goes_on = refusal_ends link q error;
 }
 
-refused : (all : List Verdict) (link : LinkState) (q : Question) (s error : ℕ) (new : List (Ask × Said))
-    → AnyUndone all → is_numbered q ≡ true → s < 65536 → error < 65536
-    → IsHeardOnce all link q s (refusal_octets (sequence_of (question_octets s q)) error) new
-refused all link q s error new undone numbered low small =
-    refused_as all link q s error new (is_refused error undone refl) numbered low small
+refused : (all : List Verdict) (link : LinkState) (q : Question) (s error : ℕ)
+    → IsUndone all error → is_numbered q ≡ true → s < 65536 → error < 65536
+    → IsHeardOnce all link q s (refusal_octets (sequence_of (question_octets s q)) error) []
+refused all link q s error undone numbered low small =
+    refused_as all link q s error [] (is_refused error undone refl refl) numbered low small
 
 pub met_split : (js vs rest : List Verdict) (v : Verdict) → vs ≡ v ∷ rest → js ++ vs ≡ (js ++ v ∷ []) ++ rest
 met_split js vs rest v is = ap (λ x. js ++ x) is ∙ sym (append_assoc js (v ∷ []) rest)
 
 -- a question that wasn't done is refused
 undone_replies : {first : LinkState} (b : List ℕ) (js vs rest : List Verdict) (v : Verdict) (pdu s error : ℕ)
-    (q : Question) → vs ≡ v ∷ rest → AnyUndone (js ++ vs) → is_numbered q ≡ true → s < 65536 → error < 65536
+    (q : Question) → vs ≡ v ∷ rest → IsUndone (js ++ vs) error → is_numbered q ≡ true → s < 65536 → error < 65536
     → Serves first b js (sent_message 1024 (question_octets s q)) (js ++ v ∷ []) (Some pdu)
     (refusal_sent 1024 (sequence_of (question_octets s q)) error) []
     → RepliesOnce first b js vs pdu q s
@@ -165,7 +165,7 @@ undone_replies {first} b js vs rest v pdu s error q is undone numbered low small
   serves = serves;
   least = λ h. omega arith;
   most = λ h. omega arith;
-  heard = λ h. refused (js ++ vs) (link_once first b s q (js ++ v ∷ [])) q s error [] undone numbered low small;
+  heard = λ h. refused (js ++ vs) (link_once first b s q (js ++ v ∷ [])) q s error undone numbered low small;
 }
 
 -- ---- replies
@@ -206,9 +206,10 @@ asked_replies {first} b js vs pdu s q asking numbered low well (is_entered reply
           (well.good moment reply h.0.0 h.0.1 h.0.2).heard;
     }
 asked_replies b js vs pdu s q asking numbered low well (is_full rest is serves) =
-    undone_replies b js vs rest Full pdu s FULL q is (inl (any_full js vs rest is)) numbered low (omega arith) serves
+    undone_replies b js vs rest Full pdu s FULL q is (inl (any_full js vs rest is, refl)) numbered low (omega arith)
+    serves
 asked_replies b js vs pdu s q asking numbered low well (is_failed rest is timed serves) =
-    undone_replies b js vs rest ClockFailed pdu s CLOCK_FAILED q is (inr (any_failed js vs rest is)) numbered low
+    undone_replies b js vs rest ClockFailed pdu s CLOCK_FAILED q is (inr (any_failed js vs rest is, refl)) numbered low
     (omega arith) serves
 
 -- and one that the link itself answers has its answer

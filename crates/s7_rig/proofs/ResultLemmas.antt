@@ -1,10 +1,14 @@
 -- Results that one more comes behind: whether they come off, and once one of them leaves the client unconnected.
-use Rattle.std.proofs.Common.{◌≡◌, ◌≢◌, ◌⊎◌, inl, inr, ℕ, List, [], ◌∷◌, ◌++◌, subst}
+use Rattle.std.proofs.Common.{◌≡◌, ◌≢◌, ◌⊎◌, inl, inr, ℕ, zero, suc, Bool, true, Some, List, [], ◌∷◌, ◌++◌, slice_get}
+use Rattle.std.proofs.Common.{subst}
 use Rattle.s7_area.specs.Memory.{Memory}
 use Rattle.s7_dialogue.specs.declared.job.Job.TheVariants as job
 use Rattle.s7_dialogue.specs.declared.job.JobResult.{JobResult}
 use Rattle.s7_dialogue.specs.Codes.{timed_out}
-use Rattle.s7_rig.specs.Complete.{CanComeOff, IsNoDisconnect, AllComeOff}
+use Rattle.s7_turn.specs.declared.view.Entry.{Entry as Call}
+use Rattle.s7_plant.specs.declared.request.Ask.{Ask}
+use Rattle.s7_session.specs.Books.{History}
+use Rattle.s7_rig.specs.Complete.{CanComeOff, IsNoDisconnect, AreWithRight, AllComeOff}
 
 -- a job met its last poll, or disconnected
 abbrev pub IsGone : JobResult → Type 0
@@ -15,36 +19,46 @@ abbrev pub HaveGone : List JobResult → Type 0
 HaveGone [] = ⊥
 HaveGone (told ∷ results) = IsGone told ⊎ HaveGone results
 
--- the job comes off where it can
-abbrev pub ComesOff : Memory → ℕ → JobResult → Type 0
-ComesOff m pdu told = told.code ≢ timed_out → CanComeOff m pdu told.job → told.code ≡ 0
+-- the job, whose calls have these numbers, comes off where it can
+abbrev pub ComesOff : Memory → History → ℕ → JobResult → List ℕ → Type 0
+ComesOff m history pdu told numbers =
+    told.code ≢ timed_out
+    → (right : Bool) → (right ≡ true → AreWithRight history numbers) → CanComeOff m right pdu told.job → told.code ≡ 0
 
 -- ---- one more
 
-pub none_come_off : (m : Memory) (pdu : ℕ) → AllComeOff m pdu []
+pub none_come_off : (m : Memory) (history : History) (pdu : ℕ) → AllComeOff m history pdu [] []
 unfolding AllComeOff
-none_come_off m pdu = tt
+none_come_off m history pdu = tt
 
-pub come_off_more : (m : Memory) (pdu : ℕ) (results : List JobResult) (told : JobResult) → AllComeOff m pdu results
-    → ComesOff m pdu told → AllComeOff m pdu (results ++ told ∷ [])
+pub come_off_more : (m : Memory) (history : History) (pdu : ℕ) (results : List JobResult) (places : List (List ℕ))
+    (told : JobResult) (numbers : List ℕ) → AllComeOff m history pdu results places
+    → ComesOff m history pdu told numbers
+    → AllComeOff m history pdu (results ++ told ∷ []) (places ++ numbers ∷ [])
 unfolding AllComeOff
-come_off_more m pdu [] told all last = λ in_time. (λ can. last in_time can, λ stays. tt)
-come_off_more m pdu (first ∷ results) told all last = λ in_time.
-    let held = all in_time in (held.0, λ stays. come_off_more m pdu results told (held.1 stays) last)
+come_off_more m history pdu [] [] told numbers all last = λ in_time. (last in_time, λ stays. tt)
+come_off_more m history pdu [] (first ∷ places) told numbers all last = absurd all
+come_off_more m history pdu (first ∷ results) [] told numbers all last = absurd all
+come_off_more m history pdu (first ∷ results) (those ∷ places) told numbers all last = λ in_time.
+    let held = all in_time in
+    (held.0, λ stays. come_off_more m history pdu results places told numbers (held.1 stays) last)
 
 no_more : (told : JobResult) → IsGone told → told.code ≢ timed_out → IsNoDisconnect told.job → ⊥
 no_more told (inl late) in_time stays = in_time late
 no_more told (inr leaves) in_time stays = subst IsNoDisconnect leaves stays
 
 -- nothing is said of one behind them
-pub come_off_behind : (m : Memory) (pdu : ℕ) (results : List JobResult) (told : JobResult) → AllComeOff m pdu results
-    → HaveGone results → AllComeOff m pdu (results ++ told ∷ [])
+pub come_off_behind : (m : Memory) (history : History) (pdu : ℕ) (results : List JobResult) (places : List (List ℕ))
+    (told : JobResult) (numbers : List ℕ) → AllComeOff m history pdu results places → HaveGone results
+    → AllComeOff m history pdu (results ++ told ∷ []) (places ++ numbers ∷ [])
 unfolding AllComeOff
-come_off_behind m pdu [] told all gone = absurd gone
-come_off_behind m pdu (first ∷ results) told all (inl gone) = λ in_time.
+come_off_behind m history pdu [] places told numbers all gone = absurd gone
+come_off_behind m history pdu (first ∷ results) [] told numbers all gone = absurd all
+come_off_behind m history pdu (first ∷ results) (those ∷ places) told numbers all (inl gone) = λ in_time.
     ((all in_time).0, λ stays. absurd (no_more first gone in_time stays))
-come_off_behind m pdu (first ∷ results) told all (inr gone) = λ in_time.
-    let held = all in_time in (held.0, λ stays. come_off_behind m pdu results told (held.1 stays) gone)
+come_off_behind m history pdu (first ∷ results) (those ∷ places) told numbers all (inr gone) = λ in_time.
+    let held = all in_time in
+    (held.0, λ stays. come_off_behind m history pdu results places told numbers (held.1 stays) gone)
 
 pub gone_stays : (results : List JobResult) (told : JobResult) → HaveGone results → HaveGone (results ++ told ∷ [])
 gone_stays [] told gone = absurd gone
@@ -54,3 +68,33 @@ gone_stays (first ∷ results) told (inr gone) = inr (gone_stays results told go
 pub gone_now : (results : List JobResult) (told : JobResult) → IsGone told → HaveGone (results ++ told ∷ [])
 gone_now [] told gone = inl gone
 gone_now (first ∷ results) told gone = inr (gone_now results told gone)
+
+-- ---- a history that grows
+
+call_stays : (history more : History) (k : ℕ) (call : Call Ask) → slice_get history k ≡ Some call
+    → slice_get (history ++ more) k ≡ Some call
+call_stays [] more k call is = absurd (cc)
+call_stays (x ∷ history) more zero call is = is
+call_stays (x ∷ history) more (suc k) call is = call_stays history more k call is
+
+right_before : (history more : History) (numbers : List ℕ) → AreWithRight (history ++ more) numbers
+    → AreWithRight history numbers
+right_before history more [] all = tt
+right_before history more (number ∷ numbers) all = (
+  λ caller ask is. all.0 caller ask (call_stays history more number _ is),
+  right_before history more numbers all.1,
+)
+
+-- what came off has come off for good
+pub come_off_stays : (m : Memory) (history more : History) (pdu : ℕ) (results : List JobResult)
+    (places : List (List ℕ)) → AllComeOff m history pdu results places
+    → AllComeOff m (history ++ more) pdu results places
+unfolding AllComeOff
+come_off_stays m history more pdu [] [] all = tt
+come_off_stays m history more pdu [] (numbers ∷ places) all = all
+come_off_stays m history more pdu (told ∷ results) [] all = all
+come_off_stays m history more pdu (told ∷ results) (numbers ∷ places) all = λ in_time.
+    let held = all in_time in (
+      λ right has can. held.0 right (λ is. right_before history more numbers (has is)) can,
+      λ stays. come_off_stays m history more pdu results places (held.1 stays),
+    )

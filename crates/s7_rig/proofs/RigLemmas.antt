@@ -18,9 +18,9 @@ use Rattle.s7_session.specs.Books.{history_of, own}
 use Rattle.s7_session.specs.Entry.{answered}
 use Rattle.s7_session.specs.Legal.{IsLegalBook}
 use Rattle.s7_session.specs.LinkState.{first_link}
-use Rattle.s7_session.specs.Owed.{Past, owed, telegrams}
+use Rattle.s7_session.specs.Owed.{Past, past, owed, telegrams}
 use Rattle.s7_session.specs.Stands.{unread, unsent}
-use Rattle.s7_session.specs.Telegrams.{verdicts_of, MemoryIsLast, AllAt, clock_failures, last_number}
+use Rattle.s7_session.specs.Telegrams.{verdicts_of, AnyFull, MemoryIsLast, AllAt, clock_failures, last_number}
 use Rattle.s7_session.proofs.BookLemmas.{replay-calls}
 use Rattle.s7_session.proofs.DoerLemmas.{full_end, full_stays}
 use Rattle.s7_session.proofs.PastLemmas.{past_nothing, memory_is_last}
@@ -34,9 +34,11 @@ use Rattle.s7_rig.specs.Shown.{EndTold, state_told, post_told, ClientTold}
 use Rattle.s7_rig.specs.Split.{AllStand}
 use Rattle.s7_rig.specs.Complete.{AllComeOff}
 use Rattle.s7_rig.specs.Turns.{is_full_in, lacks_in}
-use Rattle.s7_rig.proofs.Joint.{untouched}
+use Rattle.s7_rig.proofs.Joint.{Octets, untouched, Joint}
 use Rattle.s7_rig.proofs.ResultLemmas.{none_come_off}
-use Rattle.s7_rig.proofs.OwnLemmas.{AllLinks, no_links, none_stand}
+use Rattle.s7_rig.proofs.SoundLemmas.{IsSound, AreRemembered, past_remembers}
+use Rattle.s7_rig.proofs.OwnLemmas.{AllLinks, no_links}
+use Rattle.s7_rig.proofs.PlaceLemmas.{none_stand}
 use Rattle.s7_rig.proofs.RunSteps.{Holds, HasJoint, run_holds}
 use Rattle.s7_rig.proofs.SumLemmas.{posts_numbered, posts_counted, calls_within}
 
@@ -94,6 +96,7 @@ joint_fresh opening limit config book p link f opened journal =
         legal = ap (map answered) (sym none);
         begun = book;
         trail = λ ask full. full;
+        sound = subst (λ (x : Past). IsSound x.standing) (sym (past_nothing (first_link opening.guard) [])) tt;
         clock = refl;
         moment_is = ap (λ (x : PipesHeld). x.moment) f.fresh.pipes;
         moments = subst (λ es. AllAt (Some moment) es) (sym none) tt;
@@ -102,7 +105,9 @@ joint_fresh opening limit config book p link f opened journal =
         config_is = f.fresh.client.config;
         done = subst (λ rs. AllStand s history p.link config.pdu rs p.places) (sym f.fresh.results)
             (subst (λ ps. AllStand s history p.link config.pdu [] ps) (sym f.fresh.places) (none_stand s history p.link config.pdu));
-        comes_off = λ room. subst (AllComeOff opening config.pdu) (sym f.fresh.results) (none_come_off opening config.pdu);
+        comes_off = λ none. subst (λ rs. AllComeOff opening history config.pdu rs p.places) (sym f.fresh.results)
+            (subst (λ ps. AllComeOff opening history config.pdu [] ps) (sym f.fresh.places)
+            (none_come_off opening history config.pdu));
         mode = untouched (record {
           fresh = f.fresh.client;
           jobs = subst ConnectsFirst (sym f.fresh.rest) f.connects;
@@ -116,7 +121,7 @@ joint_fresh opening limit config book p link f opened journal =
 -- ---- the end
 
 module _ (opening : Memory) (limit : ℕ) (config : Config) where
-  legal_by : (book : BookTold) (p : Post) (sent answered : List ℕ) → HasJoint opening limit config book p sent answered → IsLegalPost opening limit (history_of book) p sent answered
+  legal_by : (book : BookTold) (p : Post) (sent answered : List ℕ) → HasJoint opening limit config book p sent answered → IsLegalPost opening limit config.pdu (history_of book) p sent answered
   legal_by book p sent answered h =
       let j = h.joint in
       let o = h.octets in
@@ -139,8 +144,19 @@ module _ (opening : Memory) (limit : ℕ) (config : Config) where
           count = j.count;
           last = j.last;
         };
+        lives = λ still. ap (λ vs. (past first o.used vs).standing) j.met ∙ j.stands.lives still;
         clock = ap clock_failures j.met ∙ j.clock;
+        remembers = subst (λ ms. AreRemembered (verdicts_of ms)) j.asked
+            (past_remembers first o.used o.verdicts j.sound);
+        complete = λ none. j.comes_off (λ any. none (subst AnyFull (sym j.met) any));
       }
+
+  -- where the history has room, it was full for no telegram
+  never_full : (book : BookTold) (p : Post) (o : Octets) → Joint opening limit config book p o
+      → length (history_of book) < limit → AnyFull o.verdicts → ⊥
+  never_full book p o j room any =
+      let full = (full_end is_full_in lacks_in j.begun book o.mets j.trail (subst AnyFull (sym j.met) any)).1 in
+      absurd (omega (arith, room, full, j.limited))
 
   -- what holds of each place holds of all that is told
   all_told : (book : BookTold) (posts : List Post)
@@ -149,10 +165,13 @@ module _ (opening : Memory) (limit : ℕ) (config : Config) where
   all_told book [] each = tt
   all_told book (p ∷ posts) each = (each 0 p refl, all_told book posts (λ k q at. each (suc k) q at))
 
-  all_come : (posts : List Post) → ((k : ℕ) (p : Post) → slice_get posts k ≡ Some p → AllComeOff opening config.pdu p.results)
-      → AllByRecursion (λ (c : ClientTold). AllComeOff opening config.pdu c.results) (map post_told posts)
-  all_come [] each = tt
-  all_come (p ∷ posts) each = (each 0 p refl, all_come posts (λ k q at. each (suc k) q at))
+  all_come : (book : BookTold) (posts : List Post)
+      → ((k : ℕ) (p : Post) → slice_get posts k ≡ Some p
+      → AllComeOff opening (history_of book) config.pdu p.results p.places)
+      → AllByRecursion (λ (c : ClientTold). AllComeOff opening (history_of book) config.pdu c.results c.places)
+      (map post_told posts)
+  all_come book [] each = tt
+  all_come book (p ∷ posts) each = (each 0 p refl, all_come book posts (λ k q at. each (suc k) q at))
 
   legal_book : (last : State) (sent answered : ℕ → List ℕ) → Holds opening limit config last sent answered → IsLegalBook (begins_with opening) limit (links_of last.posts) last.book
   legal_book last sent answered holds =
@@ -200,8 +219,11 @@ module _ (opening : Memory) (limit : ℕ) (config : Config) where
         legal = λ k p at. legal_by last.book p _ _ (holds.each k p at);
         reads = subst (λ (e : EndTold). AllByRecursion (λ (c : ClientTold). AllStand (begins_with opening) (history_of e.book) c.link config.pdu c.results c.places) e.clients) (sym ends)
             (all_told last.book last.posts (λ k p at. (holds.each k p at).joint.done));
-        complete = subst (λ (e : EndTold). length (history_of e.book) < limit → AllByRecursion (λ (c : ClientTold). AllComeOff opening config.pdu c.results) e.clients) (sym ends)
-            (λ room. all_come last.posts (λ k p at. (holds.each k p at).joint.comes_off room));
+        complete = subst (λ (e : EndTold). length (history_of e.book) < limit
+            → AllByRecursion (λ (c : ClientTold). AllComeOff opening (history_of e.book) config.pdu c.results c.places)
+            e.clients) (sym ends)
+            (λ room. all_come last.book last.posts (λ k p at.
+            let h = holds.each k p at in h.joint.comes_off (never_full last.book p h.octets h.joint room)));
       }
 
 pub if_ok : {A E : Type 0} (P Q : A → Type 0) (r : Result A E) → IfOk r P → ((x : A) → P x → Q x) → IfOk r Q

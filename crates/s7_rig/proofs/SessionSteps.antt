@@ -1,9 +1,11 @@
 -- What a session's turn keeps of its client and itself, and of every other client and its session.
 use Rattle.std.proofs.Common.{◌≡◌, ◌≢◌, inl, inr, ℕ, ◌+◌, ◌-◌, List, [], ◌∷◌, ◌++◌, length, map, refl, ap, sym, ◌∙◌, subst, arith, append_assoc, append-nil, length-append}
 use Rattle.std.proofs.lemmas.List.{append_cancel_left}
-use Rattle.std.specs.Prelude.{Bool, None, Some, option_map, unwrap_or}
-use Rattle.s7_outer.specs.Count.{RoseBy}
+use Rattle.std.specs.Prelude.{Bool, Option, None, Some, option_map, unwrap_or}
+use Rattle.s7_outer.specs.Count.{RoseExactly}
 use Rattle.s7_outer.specs.PipesHeld.{PipesHeld}
+use Rattle.s7_outer.specs.Pipes.{end_of}
+use Rattle.s7_outer.specs.declared.pipes.Side.TheVariants as side
 use Rattle.s7_area.specs.Memory.{Memory}
 use Rattle.s7_dialogue.specs.declared.config.Config.{Config}
 use Rattle.s7_dialogue.specs.declared.job.JobResult.{JobResult}
@@ -13,16 +15,19 @@ use Rattle.s7_plant.specs.Journals.{after_call}
 use Rattle.s7_plant.specs.State.{begins_with, state_of}
 use Rattle.s7_turn.specs.Histories.{replay}
 use Rattle.s7_session.specs.declared.session.Session.{Session}
+use Rattle.s7_session.specs.declared.outcome.Outcome.{Outcome}
+use Rattle.s7_session.specs.declared.outcome.Outcome.TheVariants as outcome
 use Rattle.s7_session.specs.declared.outcome.Turn.{Turn}
+use Rattle.s7_session.specs.declared.outcome.Turn.TheVariants.{Went, NotYet, Closed}
 use Rattle.s7_session.specs.Books.{History, history_of, own, own_from, GoesOnBy}
 use Rattle.s7_session.specs.Doers.{StaysFull, Trail}
 use Rattle.s7_session.specs.Entry.{Entry, answered}
 use Rattle.s7_session.specs.Events.{lives}
 use Rattle.s7_session.specs.LinkState.{LinkState, first_link}
 use Rattle.s7_session.specs.Owed.{Past, past, owed, telegrams}
-use Rattle.s7_session.specs.Stands.{Stands, unread, entry_count as count_of, newest}
-use Rattle.s7_session.specs.Telegrams.{Met, verdicts_of, entered_of, AllAt, clock_failures, last_number}
-use Rattle.s7_session.specs.Verdict.{Verdict}
+use Rattle.s7_session.specs.Stands.{Stands, unread, used_of, closed_with, closed_by, entry_count as count_of, newest}
+use Rattle.s7_session.specs.Telegrams.{Met, verdicts_of, entered_of, AnyFull, AllAt, clock_failures, last_number}
+use Rattle.s7_session.specs.Verdict.{Verdict, Entered, Full, ClockFailed, NoMemory}
 use Rattle.s7_session.proofs.ConsumeLemmas.{entered-append}
 use Rattle.s7_session.proofs.DoerLemmas.{trail-append, trail_stays}
 use Rattle.s7_session.proofs.TurnLemmas.{AllAt-append, clock_failures-append, last_number-append, map-append, verdicts-append}
@@ -30,11 +35,15 @@ use Rattle.s7_rig.specs.Numbers.{count_from}
 use Rattle.s7_rig.specs.Runs.{moment}
 use Rattle.s7_rig.specs.Settled.{Settled}
 use Rattle.s7_rig.specs.Split.{AllStand}
+use Rattle.s7_rig.specs.Complete.{AllComeOff}
 use Rattle.s7_rig.specs.State.{Post}
 use Rattle.s7_rig.specs.Turns.{is_full_in, lacks_in, entry_count, TakesTurn, IsSessionTurn}
 use Rattle.s7_rig.proofs.PastFacts.{past_with}
 use Rattle.s7_rig.proofs.Joint.{Octets, IsUntouched, IsConnecting, IsConnected, IsWorking, IsFailing, IsLost, Mode, untouched, connecting, connected, working, lost, Joint}
-use Rattle.s7_rig.proofs.OwnLemmas.{own_goes_on, own_numbers, own_stays, all_stand_goes_on, numbers_of}
+use Rattle.s7_rig.proofs.OwnLemmas.{own_goes_on, own_numbers, own_stays, numbers_of}
+use Rattle.s7_rig.proofs.PlaceLemmas.{all_stand_goes_on}
+use Rattle.s7_rig.proofs.ResultLemmas.{come_off_stays}
+use Rattle.s7_rig.proofs.SoundLemmas.{IsSound, live_sound, past_waits, cause_sound}
 
 -- ---- lists
 
@@ -69,8 +78,8 @@ nothing_used sent used unread waiting received left new unread' all taken took i
     (nothing_behind used (new ++ (unread' ++ left))
     (sym (append_assoc used new (unread' ++ left)) ∙ sym (moved_along used unread waiting received left new unread' took inbox) ∙ sym taken ∙ sym all))
 
-no_failure : (m n : ℕ) → m ≡ 0 → RoseBy n 0 0 → m + n ≡ 0
-no_failure m n none rose = omega (arith, none, rose)
+no_failure : (m n : ℕ) → m ≡ 0 → RoseExactly n 0 0 → m + n ≡ 0
+no_failure m n none rose = omega (arith, none, rose.0)
 
 -- a session that uses nothing meets no verdict
 none_met : (first : LinkState) (b new : List ℕ) (js vs : List Verdict) → new ≡ [] → (past first b js).standing ≡ lives → (past first (b ++ new) (js ++ vs)).verdicts ≡ [] → vs ≡ []
@@ -97,6 +106,34 @@ stand_on opening book book' link goes_on opened own_link pdu results places stan
     (all_stand_goes_on link book book' goes_on own_link pdu results places
     (subst (λ s. AllStand s (history_of book) own_link pdu results places) (sym opened) stand))
 
+-- results that came off have done so in a history that goes on
+come_off_on : (opening : Memory) (book book' : BookTold) (link pdu : ℕ) → GoesOnBy link book book'
+    → (results : List JobResult) (places : List (List ℕ)) → AllComeOff opening (history_of book) pdu results places
+    → AllComeOff opening (history_of book') pdu results places
+come_off_on opening book book' link pdu goes_on results places all =
+    subst (λ h. AllComeOff opening h pdu results places) (sym goes_on.history)
+    (come_off_stays opening (history_of book) goes_on.calls pdu results places all)
+
+-- a telegram that met a full history did so among more of them
+full_within : (xs ys : List Verdict) → AnyFull xs → AnyFull (xs ++ ys)
+full_within [] ys any = absurd any
+full_within (Full ∷ xs) ys any = any
+full_within (Entered reply at ∷ xs) ys any = full_within xs ys any
+full_within (ClockFailed ∷ xs) ys any = full_within xs ys any
+full_within (NoMemory ∷ xs) ys any = full_within xs ys any
+
+-- octets that leave their count as it was are none
+none_used : (b used : List ℕ) (count : ℕ) → length b ≡ count → length (b ++ used) ≡ count → used ≡ []
+none_used b [] count before after = refl
+none_used b (x ∷ used) count before after = absurd (omega (arith, before, after, length-append b (x ∷ used)))
+
+-- verdicts that a sound link doesn't wait for leave it sound
+sound_still : (first : LinkState) (b used : List ℕ) (js vs : List Verdict) → used ≡ []
+    → IsSound (past first b js).standing → IsSound (past first (b ++ used) (js ++ vs)).standing
+sound_still first b used js vs none sound =
+    subst (λ x. IsSound (past first x (js ++ vs)).standing) (sym (ap (λ x. b ++ x) none ∙ append-nil b))
+    (subst (λ (q : Past). IsSound q.standing) (sym (past_waits first b js vs sound)) sound)
+
 -- ---- the session's turn
 
 -- the octets and the telegrams with those of a turn
@@ -108,7 +145,8 @@ with_turn o used mets written =
 abbrev pub with_session : Post → Session → PipesHeld → List ℕ → Post
 with_session p session pipes numbers = record p { session = session; pipes = pipes; noted = option_map (λ noted. noted ++ numbers) p.noted }
 
-module _ (opening : Memory) (limit : ℕ) (config : Config) (old : Post) (book book' : BookTold) (o : Octets) (session : Session) (pipes : PipesHeld) (result : Turn) (j : Joint opening limit config book old o) (takes : TakesTurn old.link old.session old.pipes book session pipes book' result) where
+module _ (opening : Memory) (limit : ℕ) (config : Config) (old : Post) (book book' : BookTold) (o : Octets) (session : Session) (pipes : PipesHeld) (result : Turn) (j : Joint opening limit config book old o) (takes : TakesTurn old.link old.session old.pipes book session pipes book' result)
+    (remembers : closed_with session ≢ Some outcome.Memory) where
   abbrev first : LinkState
   first = first_link opening.guard
 
@@ -205,6 +243,25 @@ module _ (opening : Memory) (limit : ℕ) (config : Config) (old : Post) (book b
 
   trail : Trail is_full_in lacks_in j.begun o'.mets book'
   trail = trail-append is_full_in lacks_in j.begun book book' o.mets new_mets j.trail takes.turn.moves.trail
+
+  -- A session that goes on lives, one that closes doesn't do so for want of memory, and one that was closed stays as it
+  -- was.
+  sound_turned : closed_with old.session ≡ None → (r : Turn) → result ≡ r
+      → IsSound (past first o'.used o'.verdicts).standing
+  sound_turned still (Closed why) is =
+      cause_sound (end_of takes.loan old.pipes side.Server) (end_of takes.loan pipes side.Server) first session o'.used
+      o'.verdicts why
+      (λ lacked. remembers (takes.turn.closed ∙ ap closed_by is ∙ ap Some lacked))
+      (takes.turn.cause why is still first o.used o.verdicts o.answered j.stands)
+  sound_turned still Went is = live_sound _ (stands.lives (takes.turn.closed ∙ ap closed_by is))
+  sound_turned still NotYet is = live_sound _ (stands.lives (takes.turn.closed ∙ ap closed_by is))
+
+  sound_by : (why : Option Outcome) → closed_with old.session ≡ why → IsSound (past first o'.used o'.verdicts).standing
+  sound_by None still = sound_turned still result refl
+  sound_by (Some why) shut =
+      let count = stands.used ∙ ap used_of (takes.stays why shut) in
+      sound_still first o.used used o.verdicts verdicts
+      (none_used o.used used (used_of old.session) j.stands.used count) j.sound
 
   clock : clock_failures o'.verdicts ≡ 0
   clock = clock_failures-append o.verdicts verdicts ∙ no_failure (clock_failures o.verdicts) (clock_failures verdicts) j.clock takes.turn.moves.clock
@@ -324,6 +381,7 @@ module _ (opening : Memory) (limit : ℕ) (config : Config) (old : Post) (book b
     legal = legal;
     begun = j.begun;
     trail = trail;
+    sound = sound_by (closed_with old.session) refl;
     clock = clock;
     moment_is = the_same _ _ takes.turn.moves.moment ∙ j.moment_is;
     moments = moments;
@@ -331,7 +389,8 @@ module _ (opening : Memory) (limit : ℕ) (config : Config) (old : Post) (book b
     last = last_is;
     config_is = j.config_is;
     done = stand_on opening book book' old.link takes.goes_on j.opened old.link config.pdu old.results old.places j.done;
-    comes_off = λ room. j.comes_off (omega (arith, room, ap length takes.goes_on.history, length-append (history_of book) takes.goes_on.calls));
+    comes_off = λ none. come_off_on opening book book' old.link config.pdu takes.goes_on old.results old.places
+        (j.comes_off (λ any. none (full_within o.verdicts verdicts any)));
     mode = mode_on j.mode;
   }
 
@@ -342,7 +401,7 @@ pub session_joint : (opening : Memory) (limit : ℕ) (config : Config) (old new 
 session_joint opening limit config old new book book' stirs o j turn =
     let moves = turn.takes.turn.moves in
     subst (λ p. Joint opening limit config book' p (with_turn o moves.used moves.mets moves.written)) (sym turn.same)
-    (joint_on opening limit config old book book' o turn.session turn.pipes turn.result j turn.takes)
+    (joint_on opening limit config old book book' o turn.session turn.pipes turn.result j turn.takes turn.remembers)
 
 -- the same, with what its octets have to do with those before
 pub session_step : (opening : Memory) (limit : ℕ) (config : Config) (old new : Post) (book book' : BookTold) (stirs : Bool) (o : Octets)
@@ -420,6 +479,7 @@ other_step opening limit config p book book' other o apart j goes_on still_full 
       legal = j.legal ∙ ap (map answered) (sym same);
       begun = j.begun;
       trail = stays_on j.begun book book' o.mets j.trail still_full;
+      sound = j.sound;
       clock = j.clock;
       moment_is = j.moment_is;
       moments = subst (AllAt (Some moment)) (sym same) j.moments;
@@ -427,7 +487,7 @@ other_step opening limit config p book book' other o apart j goes_on still_full 
       last = j.last ∙ ap (last_number None) (sym same);
       config_is = j.config_is;
       done = stand_on opening book book' other goes_on j.opened p.link config.pdu p.results p.places j.done;
-      comes_off = λ room. j.comes_off (omega (arith, room, ap length goes_on.history, length-append (history_of book) goes_on.calls));
+      comes_off = λ none. come_off_on opening book book' other config.pdu goes_on p.results p.places (j.comes_off none);
       mode = mode_beside opening config p book book' o same j.mode;
     }
 

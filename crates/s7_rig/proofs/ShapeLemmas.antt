@@ -39,6 +39,12 @@ abbrev pub AreShaped : Memory → List (Ask × Said) → Type 0
 AreShaped m entries =
     AllByRecursion (λ (e : Ask × Said). (s : State) × SameShape s.memory m × (e.1 ≡ answer_of s e.0)) entries
 
+-- and where there is a right, it was asked with one
+abbrev pub AreAllowed : Memory → Bool → List (Ask × Said) → Type 0
+AreAllowed m right entries =
+    AllByRecursion (λ (e : Ask × Said). (s : State) × SameShape s.memory m × (e.1 ≡ answer_of s e.0)
+    × (right ≡ true → e.0.right ≡ true)) entries
+
 itself : (m : Memory) → SameShape m m
 itself m = record { guard = refl; places = λ item. refl }
 

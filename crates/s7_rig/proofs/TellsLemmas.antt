@@ -1,8 +1,8 @@
 -- What a completion is told of the results that a client gains.
-use Rattle.std.proofs.Common.{◌≡◌, ℕ, ◌<◌, ◌≤◌, ◌⊎◌, inl, inr, zero, suc, List, [], ◌∷◌, ◌++◌, length, map, get_or, Option, None, Some, option_map, Bool, refl, ap, sym, ◌∙◌, subst, arith}
+use Rattle.std.proofs.Common.{◌≡◌, ℕ, ◌<◌, ◌≤◌, ◌⊎◌, inl, inr, zero, suc, List, [], ◌∷◌, ◌++◌, length, map, get_or, Option, None, Some, option_map, Bool, false, ◌||◌, refl, ap, sym, ◌∙◌, subst, arith}
 use Rattle.std.proofs.Common.{Result, Ok, Err, append_assoc, append-nil}
 use Rattle.std.specs.Prelude.{IfOk, is_some, slice_set}
-use Rattle.std.specs.Result.{OnOk}
+use Rattle.std.specs.Result.{OnOk, OnErr}
 use Rattle.std.proofs.lemmas.Iterator.Adapters.{option_map_id}
 use Rattle.std.proofs.lemmas.List.{length-append}
 use Rattle.std.proofs.lemmas.List.Sums.{fold-append}
@@ -17,9 +17,14 @@ use Rattle.s7_plant.specs.Books.{BookTold}
 use Rattle.s7_rig.specs.declared.station.Station.{Station}
 use Rattle.s7_rig.specs.State.{Post, State}
 use Rattle.s7_rig.specs.Shown.{EndTold, first_results, post_of, post_told, results_in_first, state_told}
-use Rattle.s7_rig.specs.Runs.{AreFresh}
-use Rattle.s7_rig.specs.Tells.{Tells, TellsFirst}
-use Rattle.s7_rig.specs.Turns.{IsClientTurn, IsSessionTurn, StartsNext, StartsNothing, with_polled}
+use Rattle.s7_area.specs.Memory.{Memory}
+use Rattle.s7_plant.specs.Journals.{entries_of}
+use Rattle.s7_plant.specs.State as plant
+use Rattle.s7_rig.specs.Rigs.{RigRan, ToldWanting, Turning}
+use Rattle.s7_rig.specs.Runs.{AreFresh, IsRun, Rounds, Turns, actors_of, most_rounds}
+use Rattle.s7_rig.specs.Tells.{Reaches, Tells, TellsFirst, TellsWanting}
+use Rattle.s7_rig.specs.Turns.{IsClientTurn, IsSessionTurn, IsTurnOf, StartsNext, StartsNothing, with_polled}
+use Rattle.s7_rig.proofs.TurnsLemmas.{Turns-append, Turns-none, Turns-one}
 
 -- ---- one after another
 
@@ -159,3 +164,103 @@ on_ok_from P (Err e) h f = tt
 pub any_ok : {T E P : Type 0} (r : Result T E) → P → OnOk r P
 any_ok (Ok x) h = h
 any_ok (Err e) h = tt
+
+pub any_err : {T E P : Type 0} (r : Result T E) → P → OnErr r P
+any_err (Ok x) h = tt
+any_err (Err e) h = h
+
+pub err_weaker : {T E P Q : Type 0} (r : Result T E) → (P → Q) → OnErr r P → OnErr r Q
+err_weaker (Ok x) f h = tt
+err_weaker (Err e) f h = f h
+
+-- ---- where memory was wanting
+
+pub reaches_none : (s : State) → Reaches s s
+reaches_none s = record { actors = []; stirred = false; turned = Turns-none s }
+
+pub reaches_by : (actors : List ℕ) (old new : State) (stirs : Bool) → Turns actors old new stirs → Reaches old new
+reaches_by actors old new stirs t = record { actors = actors; stirred = stirs; turned = t }
+
+pub reaches_then : (old middle new : State) → Reaches old middle → Reaches middle new → Reaches old new
+reaches_then old middle new r q = record {
+  actors = r.actors ++ q.actors;
+  stirred = r.stirred || q.stirred;
+  turned = Turns-append r.actors q.actors old middle new r.stirred q.stirred r.turned q.turned;
+}
+
+pub reaches_turn : (actor : ℕ) (old middle new : State) (stirs : Bool) → Reaches old middle
+    → IsTurnOf actor middle new stirs → Reaches old new
+reaches_turn actor old middle new stirs r t =
+    reaches_then old middle new r (reaches_by (actor ∷ []) middle new stirs (Turns-one actor middle new stirs t))
+
+pub reaches_rounds : (n : ℕ) (old new : State) → Rounds n old new → Reaches old new
+unfolding Rounds
+reaches_rounds zero old new same = subst (λ s. Reaches old s) (sym same) (reaches_none old)
+reaches_rounds (suc n) old new (inl (over, same)) = subst (λ s. Reaches old s) (sym same) (reaches_none old)
+reaches_rounds (suc n) old new (inr (going, middle, stirs, turned, inl (still, same))) =
+    subst (λ s. Reaches old s) (sym same) (reaches_by (actors_of old) old middle stirs turned)
+reaches_rounds (suc n) old new (inr (going, middle, stirs, turned, inr (stirred, more))) =
+    reaches_then old middle new (reaches_by (actors_of old) old middle stirs turned)
+    (reaches_rounds n middle new more)
+
+-- it was wanting at this turn
+pub wanting_here : (old last : State) (x y z : Option Told) → Reaches old last → TellsFirst old last x y → z ≡ y
+    → TellsWanting old x z
+wanting_here old last x y z reached tells same = record {
+  last = last;
+  reached = reached;
+  tells = subst (λ t. TellsFirst old last x t) (sym same) tells;
+}
+
+-- it was wanting behind these turns
+pub wanting_then : (old middle : State) (x y z : Option Told) → Reaches old middle → TellsFirst old middle x y
+    → TellsWanting middle y z → TellsWanting old x z
+wanting_then old middle x y z reached tells w = record {
+  last = w.last;
+  reached = reaches_then old middle w.last reached w.reached;
+  tells = tells_then _ _ _ _ _ _ tells w.tells;
+}
+
+-- a rig that began so
+module _ (opening : Memory) (limit : ℕ) (config : Config) (scripts : List (List Job)) (start : State)
+    (opened : plant.state_of start.book.opening ≡ plant.begins_with opening)
+    (unchanged : plant.state_of start.book.plant ≡ plant.begins_with opening)
+    (journal : start.book.journal ≡ entries_of [] limit)
+    (fresh : AreFresh opening.guard config 1 scripts start.posts) (x y : Option Told) where
+  pub rig_wanting : (last : State) → Reaches start last → TellsFirst start last x y
+      → ToldWanting opening limit config scripts x y
+  rig_wanting last reached tells = inr (
+    last,
+    record {
+      start = start;
+      opened = opened;
+      unchanged = unchanged;
+      journal = journal;
+      fresh = fresh;
+      reached = reached;
+    },
+    rig_tells opening.guard config scripts start last (state_told last) x y fresh tells refl,
+  )
+
+-- a whole run is one of turns
+pub run_reaches : (turns : List ℕ) (seed steps : ℕ) (old new : State) → IsRun turns seed steps old new → Reaches old new
+run_reaches turns seed steps old new run =
+    reaches_then old run.middle new (reaches_by _ old run.middle run.stirred run.turned)
+    (reaches_rounds most_rounds run.middle new run.rounds)
+
+-- memory was wanting behind a whole run
+pub ran_wanting : (opening : Memory) (limit : ℕ) (config : Config) (scripts : List (List Job)) (turning : Turning)
+    (end : EndTold) (x y : Option Told) → RigRan opening limit config scripts turning end
+    → y ≡ option_map (λ t. told_of_results t (first_results end)) x → ToldWanting opening limit config scripts x y
+ran_wanting opening limit config scripts turning end x y ran told = inr (
+  ran.last,
+  record {
+    start = ran.start;
+    opened = ran.opened;
+    unchanged = ran.unchanged;
+    journal = ran.journal;
+    fresh = ran.fresh;
+    reached = run_reaches turning.turns turning.seed turning.steps ran.start ran.last ran.run;
+  },
+  told ∙ ap (λ e. option_map (λ t. told_of_results t (first_results e)) x) ran.ends,
+)

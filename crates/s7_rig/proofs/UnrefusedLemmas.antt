@@ -1,6 +1,6 @@
 -- Answers that refuse nothing, where no history was full and no clock failed.
-use Rattle.std.proofs.Common.{◌≡◌, ℕ, Bool, false, Option, None, Some, List, [], ◌∷◌}
-use Rattle.std.proofs.Common.{map, refl, ap, sym, ◌∙◌, subst}
+use Rattle.std.proofs.Common.{◌≡◌, ℕ, Bool, true, false, Option, None, Some, List, [], ◌∷◌}
+use Rattle.std.proofs.Common.{inl, inr, map, refl, ap, sym, ◌∙◌, subst}
 use Rattle.std.specs.List.{AllByRecursion}
 use Rattle.s7_item.specs.declared.item.Item.{Item}
 use Rattle.s7_area.specs.Guards.{is_read_barred, is_write_barred}
@@ -23,7 +23,7 @@ use Rattle.s7_dialogue.proofs.FlightLemmas.{same_some}
 use Rattle.s7_session.specs.Verdict.{Verdict}
 use Rattle.s7_rig.specs.Heard.{told_of}
 use Rattle.s7_rig.specs.Complete.{IsThere}
-use Rattle.s7_rig.specs.Exchanges.{IsSecurity, AnyUndone, HasTold, is_refused, is_read, is_written, is_controlled}
+use Rattle.s7_rig.specs.Exchanges.{IsSecurity, AnyUndone, IsUndone, HasTold, is_refused, is_read, is_written, is_controlled}
 use Rattle.s7_rig.specs.Exchanges.{is_brought, is_secured, is_unnamed, is_further, NamesNone, request_of}
 use Rattle.s7_rig.specs.Exchanges.{is_barred, is_started, is_no_upload, is_sliced, is_ended, uploaded_of}
 use Rattle.s7_rig.specs.Exchanges.{is_announced, is_unstored, is_called, is_given, is_inserted}
@@ -34,8 +34,8 @@ use Rattle.s7_rig.proofs.HoldReplies.{IsGood, user_good}
 use Rattle.s7_rig.proofs.HoldReplies.{IsDoneAs, control_good, start_good}
 use Rattle.s7_rig.proofs.AskedItems.{AsksFor}
 use Rattle.s7_rig.proofs.AsksLemmas.{codes_noted}
-use Rattle.s7_rig.proofs.PlacedLemmas.{placed_is_read}
-use Rattle.s7_rig.proofs.ShapeLemmas.{SameShape, AreShaped}
+use Rattle.s7_rig.proofs.PlacedLemmas.{placed_is_read, read_freed, write_freed}
+use Rattle.s7_rig.proofs.ShapeLemmas.{SameShape, AreAllowed}
 
 -- ---- answers that don't refuse
 
@@ -51,17 +51,17 @@ all_codes_good [] = refl
 all_codes_good (item ∷ []) = refl
 all_codes_good (item ∷ next ∷ items) = refl
 
--- the question reads or writes what nothing bars without a password
-abbrev pub IsFree : Memory → Question → Type 0
-IsFree m (reads items) = is_read_barred m.guard false ≡ false
-IsFree m (writes items octets) = is_write_barred m.guard false ≡ false
-IsFree m _ = ⊥
+-- the question reads or writes what nothing bars, with a right or without
+abbrev pub IsFree : Memory → Bool → Question → Type 0
+IsFree m right (reads items) = is_read_barred m.guard right ≡ false
+IsFree m right (writes items octets) = is_write_barred m.guard right ≡ false
+IsFree m right _ = ⊥
 
 -- and items that stand there
-abbrev pub FindsAll : Memory → Question → Type 0
-FindsAll m question = AsksFor (IsThere m) question × IsFree m question
+abbrev pub FindsAll : Memory → Bool → Question → Type 0
+FindsAll m right question = AsksFor (IsThere m) question × IsFree m right question
 
-all_read : (m n : Memory) (right : Bool) (items : List Item) → SameShape m n → is_read_barred n.guard false ≡ false
+all_read : (m n : Memory) (right : Bool) (items : List Item) → SameShape m n → is_read_barred n.guard right ≡ false
     → AllByRecursion (IsThere n) items → AllByRecursion (λ (item : Item). read_code m right item ≡ 0xFF) items
 all_read m n right [] same free there = tt
 all_read m n right (item ∷ items) same free there =
@@ -96,68 +96,80 @@ IsUploadOf name _ = ⊥
 
 -- ---- what was told
 
-module _ (n : Memory) (verdicts : List Verdict) (all_done : AnyUndone verdicts → ⊥) where
+any_undone : (verdicts : List Verdict) (error : ℕ) → IsUndone verdicts error → AnyUndone verdicts
+any_undone verdicts error (inl h) = inl h.0
+any_undone verdicts error (inr h) = inr h.0
+
+module _ (n : Memory) (with_right : Bool) (verdicts : List Verdict) (all_done : AnyUndone verdicts → ⊥) where
   -- the answer to a question for these doesn't refuse
   pub part_unrefused : (question : Question) (answer : Answer) (new : List (Ask × Said))
-      → HasTold verdicts question answer new → AreShaped n new → FindsAll n question → part_refusal answer ≡ None
-  part_unrefused question answer new (is_refused error undone is) shaped finds = absurd (all_done undone)
+      → HasTold verdicts question answer new → AreAllowed n with_right new → FindsAll n with_right question
+      → part_refusal answer ≡ None
+  part_unrefused question answer new (is_refused error undone none is) shaped finds =
+      absurd (all_done (any_undone verdicts error undone))
   part_unrefused question answer new (is_read items right reply is entered told) shaped finds =
-      let state = (subst (AreShaped n) entered shaped).0 in
-      let can : FindsAll n (reads items) = subst (FindsAll n) is finds in
+      let state = (subst (AreAllowed n with_right) entered shaped).0 in
+      let can : FindsAll n with_right (reads items) = subst (FindsAll n with_right) is finds in
       ap part_refusal (told state.0 state.2)
-      ∙ tells_good state.0.memory right items (all_read state.0.memory n right items state.1 can.1 can.0)
+      ∙ tells_good state.0.memory right items
+      (all_read state.0.memory n right items state.1 (read_freed n.guard with_right right state.3 can.1) can.0)
   part_unrefused question answer new (is_written items octets right reply is entered told) shaped finds =
-      let state = (subst (AreShaped n) entered shaped).0 in
-      let can : FindsAll n (writes items octets) = subst (FindsAll n) is finds in
+      let state = (subst (AreAllowed n with_right) entered shaped).0 in
+      let can : FindsAll n with_right (writes items octets) = subst (FindsAll n with_right) is finds in
       ap part_refusal (told state.0 state.2)
       ∙ (ap (λ codes. part_refusal (notes codes))
-      (codes_noted state.0.memory n right items octets state.1 can.1 can.0.1 can.0.0)
+      (codes_noted state.0.memory n right items octets state.1 (write_freed n.guard with_right right state.3 can.1)
+      can.0.1 can.0.0)
       ∙ all_codes_good items)
   part_unrefused question answer new (is_controlled c right request reply is wants entered told) shaped finds =
-      absurd (subst (FindsAll n) is finds).1
-  part_unrefused question answer new (is_brought subject os moment right request reply pdu octet is wants entered told)
-      shaped finds = absurd (subst (FindsAll n) is finds).1
+      absurd (subst (FindsAll n with_right) is finds).1
+  part_unrefused question answer new
+      (is_brought subject os moment right request reply pdu octet is wants entered told least) shaped finds =
+      absurd (subst (FindsAll n with_right) is finds).1
   part_unrefused question answer new (is_secured subject os octet error is secures entered told) shaped finds =
-      absurd (subst (FindsAll n) is finds).1
+      absurd (subst (FindsAll n with_right) is finds).1
   part_unrefused question answer new (is_unnamed subject os is names entered told) shaped finds =
-      absurd (subst (FindsAll n) is finds).1
+      absurd (subst (FindsAll n with_right) is finds).1
   part_unrefused question answer new (is_barred kind number is barred entered told) shaped finds =
-      absurd (subst (FindsAll n) is finds).1
+      absurd (subst (FindsAll n with_right) is finds).1
   part_unrefused question answer new (is_started name block right reply id is names entered told) shaped finds =
-      absurd (subst (FindsAll n) is finds).1
+      absurd (subst (FindsAll n with_right) is finds).1
   part_unrefused question answer new (is_no_upload name is none entered told) shaped finds =
-      absurd (subst (FindsAll n) is finds).1
+      absurd (subst (FindsAll n with_right) is finds).1
   part_unrefused question answer new (is_sliced id size so_far os more is entered told) shaped finds =
-      absurd (subst (FindsAll n) is finds).1
+      absurd (subst (FindsAll n with_right) is finds).1
   part_unrefused question answer new (is_ended id is entered told) shaped finds =
-      absurd (subst (FindsAll n) is finds).1
+      absurd (subst (FindsAll n with_right) is finds).1
   part_unrefused question answer new (is_further subject octet so_far piece more is entered told) shaped finds =
-      absurd (subst (FindsAll n) is finds).1
+      absurd (subst (FindsAll n with_right) is finds).1
   part_unrefused question answer new (is_announced image is entered told) shaped finds =
-      absurd (subst (FindsAll n) is finds).1
+      absurd (subst (FindsAll n with_right) is finds).1
   part_unrefused question answer new (is_unstored image is unstored entered told) shaped finds =
-      absurd (subst (FindsAll n) is finds).1
+      absurd (subst (FindsAll n with_right) is finds).1
   part_unrefused question answer new (is_called image call is entered told) shaped finds =
-      absurd (subst (FindsAll n) is finds).1
+      absurd (subst (FindsAll n with_right) is finds).1
   part_unrefused question answer new (is_given image room from call next is entered told) shaped finds =
-      absurd (subst (FindsAll n) is finds).1
+      absurd (subst (FindsAll n with_right) is finds).1
   part_unrefused question answer new (is_inserted image call right reply is entered told) shaped finds =
-      absurd (subst (FindsAll n) is finds).1
+      absurd (subst (FindsAll n with_right) is finds).1
 
   -- and no telegram for items is refused
   pub items_unrefused : (question : Question) (answer : Answer) (new : List (Ask × Said))
-      → HasTold verdicts question answer new → AreShaped n new → IsOfItems question → telegram_refusal answer ≡ None
-  items_unrefused question answer new (is_refused error undone is) shaped of = absurd (all_done undone)
+      → HasTold verdicts question answer new → AreAllowed n with_right new → IsOfItems question
+      → telegram_refusal answer ≡ None
+  items_unrefused question answer new (is_refused error undone none is) shaped of =
+      absurd (all_done (any_undone verdicts error undone))
   items_unrefused question answer new (is_read items right reply is entered told) shaped of =
-      let state = (subst (AreShaped n) entered shaped).0 in
+      let state = (subst (AreAllowed n with_right) entered shaped).0 in
       ap telegram_refusal (told state.0 state.2)
   items_unrefused question answer new (is_written items octets right reply is entered told) shaped of =
-      let state = (subst (AreShaped n) entered shaped).0 in
+      let state = (subst (AreAllowed n with_right) entered shaped).0 in
       ap telegram_refusal (told state.0 state.2)
   items_unrefused question answer new (is_controlled c right request reply is wants entered told) shaped of =
       absurd (subst IsOfItems is of)
-  items_unrefused question answer new (is_brought subject os moment right request reply pdu octet is wants entered told)
-      shaped of = absurd (subst IsOfItems is of)
+  items_unrefused question answer new
+      (is_brought subject os moment right request reply pdu octet is wants entered told least) shaped of =
+      absurd (subst IsOfItems is of)
   items_unrefused question answer new (is_secured subject os octet error is secures entered told) shaped of =
       absurd (subst IsOfItems is of)
   items_unrefused question answer new (is_unnamed subject os is names entered told) shaped of =
@@ -186,25 +198,25 @@ module _ (n : Memory) (verdicts : List Verdict) (all_done : AnyUndone verdicts �
       absurd (subst IsOfItems is of)
 
   -- a control that is done isn't refused
-  pub control_unrefused : (c : Control) (function : ℕ) → NamesNoBlock c → IsDoneAs n c function
+  pub control_unrefused : (c : Control) (function : ℕ) → NamesNoBlock c → IsDoneAs n with_right c function
       → (question : Question) (answer : Answer) (new : List (Ask × Said)) → HasTold verdicts question answer new
-      → AreShaped n new → IsControl c question → control_refusal c answer ≡ None
-  control_unrefused c function named done question answer new (is_refused error undone is) shaped of =
-      absurd (all_done undone)
+      → AreAllowed n with_right new → IsControl c question → control_refusal c answer ≡ None
+  control_unrefused c function named done question answer new (is_refused error undone none is) shaped of =
+      absurd (all_done (any_undone verdicts error undone))
   control_unrefused c function named done question answer new
       (is_controlled d right request reply is wants entered told)
       shaped of =
-      let state = (subst (AreShaped n) entered shaped).0 in
+      let state = (subst (AreAllowed n with_right) entered shaped).0 in
       let wanted = ap request_of (sym (subst (IsControl c) is of)) ∙ wants in
       ap (control_refusal c) told
-      ∙ control_good c function reply (state.2 ∙ done right request state.0 wanted state.1)
+      ∙ control_good c function reply (state.2 ∙ done right request state.0 wanted state.1 state.3)
   control_unrefused c function named done question answer new (is_read items right reply is entered told) shaped of =
       absurd (subst (IsControl c) is of)
   control_unrefused c function named done question answer new
       (is_written items os right reply is entered told) shaped of =
       absurd (subst (IsControl c) is of)
   control_unrefused c function named done question answer new
-      (is_brought subject os moment right request reply pdu octet is wants entered told) shaped of =
+      (is_brought subject os moment right request reply pdu octet is wants entered told least) shaped of =
       absurd (subst (IsControl c) is of)
   control_unrefused c function named done question answer new
       (is_secured subject os octet error is secures entered told)
@@ -239,21 +251,21 @@ module _ (n : Memory) (verdicts : List Verdict) (all_done : AnyUndone verdicts �
   -- nor is user data that is replied to without an error
   pub about_unrefused : (subject : Subject) (octets : List ℕ) → (IsSecurity subject → ⊥)
       → (NamesNone subject octets → ⊥)
-      → IsGood n subject octets
+      → IsGood n with_right subject octets
       → (question : Question) (answer : Answer) (new : List (Ask × Said)) → HasTold verdicts question answer new
-      → AreShaped n new → IsAbout subject octets question → telegram_refusal answer ≡ None
-  about_unrefused subject octets plain named good question answer new (is_refused error undone is) shaped of =
-      absurd (all_done undone)
+      → AreAllowed n with_right new → IsAbout subject octets question → telegram_refusal answer ≡ None
+  about_unrefused subject octets plain named good question answer new (is_refused error undone none is) shaped of =
+      absurd (all_done (any_undone verdicts error undone))
   about_unrefused subject octets plain named good question answer new
-      (is_brought other os moment right request reply pdu octet is wants entered told) shaped of =
-      let state = (subst (AreShaped n) entered shaped).0 in
+      (is_brought other os moment right request reply pdu octet is wants entered told least) shaped of =
+      let state = (subst (AreAllowed n with_right) entered shaped).0 in
       let same = subst (IsAbout subject octets) is of in
       let asked : exchange.AsksFor subject octets moment request =
       subst (λ xs. exchange.AsksFor subject xs moment request) same.1
       (subst (λ s. exchange.AsksFor s os moment request) same.0 wants) in
       ap telegram_refusal told
       ∙ user_good pdu octet reply
-      (ap (λ (r : Said). r.error) state.2 ∙ good moment right request state.0 asked state.1)
+      (ap (λ (r : Said). r.error) state.2 ∙ good moment right request state.0 asked state.1 state.3)
   about_unrefused subject octets plain named good question answer new
       (is_secured other os octet error is secures entered told) shaped of =
       absurd (plain (subst IsSecurity (subst (IsAbout subject octets) is of).0 secures))
@@ -298,22 +310,22 @@ module _ (n : Memory) (verdicts : List Verdict) (all_done : AnyUndone verdicts �
 
   -- nor is anything of the upload of a block whose start is replied to without an error
   pub upload_unrefused : (name : BlockName) → uploaded_of name ≡ Some name
-      → ((right : Bool) (s : State) → SameShape s.memory n
+      → ((right : Bool) (s : State) → SameShape s.memory n → (with_right ≡ true → right ≡ true)
       → (plant.answer s right (plain.StartUpload name.kind name.number)).error ≡ 0)
       → (question : Question) (answer : Answer) (new : List (Ask × Said)) → HasTold verdicts question answer new
-      → AreShaped n new → IsUploadOf name question → telegram_refusal answer ≡ None
-  upload_unrefused name named good question answer new (is_refused error undone is) shaped of =
-      absurd (all_done undone)
+      → AreAllowed n with_right new → IsUploadOf name question → telegram_refusal answer ≡ None
+  upload_unrefused name named good question answer new (is_refused error undone none is) shaped of =
+      absurd (all_done (any_undone verdicts error undone))
   upload_unrefused name named good question answer new (is_started other block right reply id is names entered told)
       shaped of =
-      let state = (subst (AreShaped n) entered shaped).0 in
+      let state = (subst (AreAllowed n with_right) entered shaped).0 in
       let same : other ≡ name = subst (IsUploadOf name) is of in
       let block_is : block ≡ name = same_some block name (sym names ∙ (ap uploaded_of same ∙ named)) in
       ap telegram_refusal told
       ∙ start_good id reply
       (ap (λ (r : Said). r.error) state.2
       ∙ (ap (λ (b : BlockName). (plant.answer state.0 right (plain.StartUpload b.kind b.number)).error) block_is
-      ∙ good right state.0 state.1))
+      ∙ good right state.0 state.1 state.3))
   upload_unrefused name named good question answer new (is_no_upload other is none entered told) shaped of =
       let same : other ≡ name = subst (IsUploadOf name) is of in
       absurd (not_both (uploaded_of name) name (ap uploaded_of (sym same) ∙ none) named)
@@ -328,7 +340,7 @@ module _ (n : Memory) (verdicts : List Verdict) (all_done : AnyUndone verdicts �
   upload_unrefused name named good question answer new (is_controlled c right request reply is wants entered told)
       shaped of = absurd (subst (IsUploadOf name) is of)
   upload_unrefused name named good question answer new
-      (is_brought subject os moment right request reply pdu octet is wants entered told) shaped of =
+      (is_brought subject os moment right request reply pdu octet is wants entered told least) shaped of =
       absurd (subst (IsUploadOf name) is of)
   upload_unrefused name named good question answer new (is_secured subject os octet error is secures entered told)
       shaped of = absurd (subst (IsUploadOf name) is of)

@@ -13,7 +13,6 @@ use Rattle.s7_plant.specs.declared.request.Request.TheVariants as plain
 use Rattle.s7_plant.specs.Replies.{said}
 use Rattle.s7_plant.specs.State.{State}
 use Rattle.s7_rig.specs.Complete.{data_block, HasBlock}
-use Rattle.s7_rig.proofs.PlacedLemmas.{read_freed}
 use Rattle.s7_rig.proofs.ShapeLemmas.{SameShape}
 
 -- ---- a data block that is there stays there
@@ -67,10 +66,10 @@ told_good number (Some octets) few =
 
 -- the reply to the start of its upload has no error, in every state of the shape
 pub upload_good : (s : State) (right : Bool) (n : Memory) (number : ℕ) → SameShape s.memory n
-    → is_read_barred n.guard false ≡ false → HasBlock n number
+    → is_read_barred n.guard right ≡ false → HasBlock n number
     → (answer s right (plain.StartUpload 0x41 number)).error ≡ 0
 upload_good s right n number same free has =
     let told = upload_told (option_map (db_image number) (data_block s.memory number)) in
     ap (λ g. (cond (is_read_barred g right) (refused 0xD241) told).error) same.guard
-    ∙ (ap (λ (barred : Bool). (cond barred (refused 0xD241) told).error) (read_freed n.guard right free)
+    ∙ (ap (λ (barred : Bool). (cond barred (refused 0xD241) told).error) free
     ∙ told_good number (data_block s.memory number) (has_block s.memory n number same has.1))

@@ -89,7 +89,7 @@ user_well all link pdu s subject octets timed request low least most told fits =
               answer = user_heard pdu octet reply;
               is = is_heard_by (eqb reply.error 0) s octet pdu subject octets reply low least most fit refl;
               told = is_brought subject octets moment link.right (request moment) reply pdu octet refl (told moment)
-                  refl refl;
+                  refl refl least;
               goes_on = goes_on_by (eqb reply.error 0) left octet pdu subject octets reply fit refl refl;
             };
           };

@@ -6,7 +6,7 @@ use Rattle.s7_wire.specs.Sent.{sent_message, sent_messages}
 use Rattle.s7_dialogue.specs.Question.{Question, negotiates, question_octets, messages_of}
 use Rattle.s7_dialogue.specs.Answer.{Answer}
 use Rattle.s7_dialogue.specs.Flight.{Row, answers_of, open_count}
-use Rattle.s7_dialogue.specs.Dialogue.{End, Conduct, asked_by}
+use Rattle.s7_dialogue.specs.Dialogue.{End, Conduct, first_refusal, asked_by}
 use Rattle.s7_dialogue.specs.Course.{Origin, Awaits, for_confirm, for_answers, for_nothing, nothing_unfinished}
 use Rattle.s7_dialogue.specs.Course.{connect_octets, conduct_of, next_question, course, limits}
 
@@ -26,6 +26,17 @@ pub record IsAsked (c : Conduct) (place : ℕ) (question : Question) : Type 0 wh
 abbrev pub AreAsked : Conduct → ℕ → List Row → Type 0
 AreAsked c place [] = Unit {0}
 AreAsked c place (row ∷ rows) = IsAsked c place row.question × AreAsked c (place + 1) rows
+
+-- it was asked behind these answers, of which none refuses
+pub record IsDue (c : Conduct) (answers : List (Option Answer)) (row : Row) : Type 0 where
+  pub is : c.question_at answers ≡ Some row.question
+  pub unrefused : first_refusal c.refusal 0 answers ≡ None
+
+-- each of these was asked behind the answers to those before it, and none behind one that is unanswered
+abbrev pub AreInTurn : Conduct → List Row → List Row → Type 0
+AreInTurn c before [] = Unit {0}
+AreInTurn c before (row ∷ rows) =
+    IsDue c (answers_of before) row × (row.answer ≡ None → rows ≡ []) × AreInTurn c (before ++ row ∷ []) rows
 
 -- what is awaited with these rows, where nothing more may be asked
 abbrev pub awaits_with : Conduct → List Row → Awaits

@@ -1,6 +1,7 @@
 -- Which jobs of a rig come off.
-use Rattle.std.specs.Prelude.{◌≡◌, ◌≢◌, ℕ, ◌<◌, ◌≤◌, true, false, ◌==◌, List, [], ◌∷◌, length, IsSome, MatchOption}
-use Rattle.std.specs.Prelude.{Option, None}
+use Rattle.std.specs.Prelude.{◌≡◌, ◌≢◌, ◌⊎◌, ℕ, ◌<◌, ◌≤◌, Bool, true, false, ◌==◌, List, [], ◌∷◌, length, slice_get}
+use Rattle.std.specs.Prelude.{Option, None, Some, IsSome, MatchOption}
+use Rattle.std.specs.List.{AllByRecursion}
 use Rattle.s7_item.specs.declared.item.Item.{Item}
 use Rattle.s7_item.specs.Item.{octet_count}
 use Rattle.s7_area.specs.Guards.{is_read_barred, is_write_barred}
@@ -12,6 +13,9 @@ use Rattle.s7_dialogue.specs.declared.job.Job.TheVariants as job
 use Rattle.s7_dialogue.specs.declared.job.JobResult.{JobResult}
 use Rattle.s7_dialogue.specs.Checks.{check_item, check_items, check_moment, octet_count_of}
 use Rattle.s7_dialogue.specs.Codes.{no_fault, timed_out}
+use Rattle.s7_turn.specs.Histories.{entry}
+use Rattle.s7_plant.specs.declared.request.Ask.{Ask}
+use Rattle.s7_session.specs.Books.{History}
 
 -- the item stands in the areas
 abbrev pub IsThere : Memory → Item → Type 0
@@ -25,43 +29,57 @@ data_block m number = octets_at m (record { area = data_blocks; number = number 
 abbrev pub HasBlock : Memory → ℕ → Type 0
 HasBlock m number = (number < 65536) × MatchOption (data_block m number) ⊥ (λ octets. length octets ≤ 65536)
 
--- The job can be asked with telegrams of this PDU, and where it reads or writes one item, that stands in the areas and
--- wants no password. Of several items each has a code of its own, and the job comes off whatever these are. A status
--- list comes off that there is, and blocks are counted, and the clock and the run state tell, always; the clock is set,
--- and the memory is tidied and copied, where no guard is. A data block that stands in the areas is uploaded, where
--- reads want no password. Of the other jobs nothing is said here: they hang on what was done before, or on which blocks
--- there are.
-abbrev pub CanComeOff : Memory → ℕ → Job → Type 0
-CanComeOff m pdu job.Connect = Unit {0}
-CanComeOff m pdu (job.ReadArea item) =
-    (check_item item true ≡ no_fault) × IsThere m item × (is_read_barred m.guard false ≡ false)
-CanComeOff m pdu (job.WriteArea item octets) =
+-- nothing is guarded, or there is a right
+abbrev pub IsAllowed : Memory → Bool → Type 0
+IsAllowed m right = (m.guard ≡ None) ⊎ (right ≡ true)
+
+-- The job, whose telegrams have a right or not, can be asked with telegrams of this PDU, and where it reads or writes one
+-- item, that stands in the areas and wants no right that it hasn't. Of several items each has a code of its own, and the
+-- job comes off whatever these are. A status list comes off that there is, and blocks are counted, and the clock and the
+-- run state tell, always; the clock is set, and the memory is tidied and copied, where no guard is, or with the right. A
+-- data block that stands in the areas is uploaded, where it may be read. Of the other jobs nothing is said here: they
+-- hang on what was done before, or on which blocks there are.
+abbrev pub CanComeOff : Memory → Bool → ℕ → Job → Type 0
+CanComeOff m right pdu job.Connect = Unit {0}
+CanComeOff m right pdu (job.ReadArea item) =
+    (check_item item true ≡ no_fault) × IsThere m item × (is_read_barred m.guard right ≡ false)
+CanComeOff m right pdu (job.WriteArea item octets) =
     (check_item item (length octets == octet_count item) ≡ no_fault) × IsThere m item
-    × (is_write_barred m.guard false ≡ false)
-CanComeOff m pdu (job.ReadMany items) = check_items items true pdu false ≡ no_fault
-CanComeOff m pdu (job.WriteMany items octets) =
+    × (is_write_barred m.guard right ≡ false)
+CanComeOff m right pdu (job.ReadMany items) = check_items items true pdu false ≡ no_fault
+CanComeOff m right pdu (job.WriteMany items octets) =
     check_items items (length octets == octet_count_of items) pdu true ≡ no_fault
-CanComeOff m pdu job.List = Unit {0}
-CanComeOff m pdu (job.Upload kind number) =
-    (kind ≡ 0x41) × HasBlock m number × (is_read_barred m.guard false ≡ false)
-CanComeOff m pdu (job.Szl id index) = IsSome (table_of id index true)
-CanComeOff m pdu job.ClockRead = Unit {0}
-CanComeOff m pdu (job.ClockSet moment) = (check_moment moment ≡ no_fault) × (m.guard ≡ None)
-CanComeOff m pdu job.Compress = m.guard ≡ None
-CanComeOff m pdu job.CopyRam = m.guard ≡ None
-CanComeOff m pdu job.Status = Unit {0}
-CanComeOff m pdu job.Disconnect = Unit {0}
-CanComeOff m pdu _ = ⊥
+CanComeOff m right pdu job.List = Unit {0}
+CanComeOff m right pdu (job.Upload kind number) =
+    (kind ≡ 0x41) × HasBlock m number × (is_read_barred m.guard right ≡ false)
+CanComeOff m right pdu (job.Szl id index) = IsSome (table_of id index true)
+CanComeOff m right pdu job.ClockRead = Unit {0}
+CanComeOff m right pdu (job.ClockSet moment) = (check_moment moment ≡ no_fault) × IsAllowed m right
+CanComeOff m right pdu job.Compress = IsAllowed m right
+CanComeOff m right pdu job.CopyRam = IsAllowed m right
+CanComeOff m right pdu job.Status = Unit {0}
+CanComeOff m right pdu job.Disconnect = Unit {0}
+CanComeOff m right pdu _ = ⊥
 
 abbrev pub IsNoDisconnect : Job → Type 0
 IsNoDisconnect job.Disconnect = ⊥
 IsNoDisconnect _ = Unit {0}
 
--- The results of a client, in order: up to the first that met its last poll, and up to a disconnect, each job that can
--- come off has code 0.
-unfoldable pub AllComeOff : Memory → ℕ → List JobResult → Type 0
-AllComeOff m pdu [] = Unit {0}
-AllComeOff m pdu (told ∷ results) =
+-- the calls of a history at these numbers have the right
+abbrev pub AreWithRight : History → List ℕ → Type 0
+AreWithRight history numbers =
+    AllByRecursion (λ (number : ℕ). (caller : ℕ) (ask : Ask) → slice_get history number ≡ Some (entry caller ask)
+    → ask.right ≡ true) numbers
+
+-- The results of a client, in order, with the numbers of their calls in a history: up to the first that met its last
+-- poll, and up to a disconnect, each job that can come off has code 0. A job whose calls all have the right comes off
+-- where it can with the right.
+unfoldable pub AllComeOff : Memory → History → ℕ → List JobResult → List (List ℕ) → Type 0
+AllComeOff m history pdu [] [] = Unit {0}
+AllComeOff m history pdu [] (numbers ∷ places) = ⊥
+AllComeOff m history pdu (told ∷ results) [] = ⊥
+AllComeOff m history pdu (told ∷ results) (numbers ∷ places) =
     told.code ≢ timed_out
-    → (CanComeOff m pdu told.job → told.code ≡ no_fault)
-    × (IsNoDisconnect told.job → AllComeOff m pdu results)
+    → ((right : Bool) → (right ≡ true → AreWithRight history numbers) → CanComeOff m right pdu told.job
+    → told.code ≡ no_fault)
+    × (IsNoDisconnect told.job → AllComeOff m history pdu results places)

@@ -1,26 +1,30 @@
 -- A job that is over, as both ends of its link have it.
-use Rattle.std.specs.Prelude.{◌≡◌, ℕ, ◌<◌, ◌≤◌, Bool, false, List, [], ◌∷◌, ◌++◌, Option, None, Some}
-use Rattle.std.specs.List.{AllByRecursion}
+use Rattle.std.specs.Prelude.{◌≡◌, ℕ, ◌<◌, ◌≤◌, Bool, false, List, [], ◌∷◌, ◌++◌, length, map, Option, None, Some}
+use Rattle.std.specs.List.{AllByRecursion, flat_map}
 use Rattle.s7_area.specs.Memory.{read_code, read_octets}
 use Rattle.s7_area.specs.declared.guard.Guard.{Guard}
 use Rattle.s7_dialogue.specs.declared.grant.Grant.{Grant}
+use Rattle.s7_dialogue.specs.declared.job.Job.{Job}
 use Rattle.s7_dialogue.specs.declared.job.Job.TheVariants as job
 use Rattle.s7_dialogue.specs.Codes.{no_fault}
 use Rattle.s7_dialogue.specs.Course.{Origin, course}
+use Rattle.s7_dialogue.specs.DataBlocks.{data_parts}
 use Rattle.s7_dialogue.specs.Dialogue.{End}
 use Rattle.s7_client.specs.Standing.{IsByOctets}
 use Rattle.s7_header.specs.Negotiation.{most_pdu}
 use Rattle.s7_item.specs.declared.item.Item.{Item}
 use Rattle.s7_plant.specs.Answers as plant
 use Rattle.s7_plant.specs.declared.request.Ask.{Ask}
-use Rattle.s7_plant.specs.declared.request.Request.TheVariants.{Read}
+use Rattle.s7_plant.specs.declared.request.Request.TheVariants.{Read, Info}
 use Rattle.s7_plant.specs.Requests.{asked}
 use Rattle.s7_plant.specs.Replies.{Said}
 use Rattle.s7_plant.specs.State.{State}
 use Rattle.s7_session.specs.LinkState.{LinkState, first_link}
 use Rattle.s7_session.specs.Owed.{past, owed, entered}
 use Rattle.s7_session.specs.Verdict.{Verdict}
+use Rattle.s7_split.specs.Groups.{groups_of}
 use Rattle.s7_split.specs.Parts.{parts_of}
+use Rattle.s7_rig.specs.Complete.{data_block}
 use Rattle.s7_rig.specs.Heard.{connected_end}
 use Rattle.s7_rig.specs.Plants.{IsStateFor}
 use Rattle.s7_rig.specs.Settled.{Settled}
@@ -43,6 +47,38 @@ ReadsParts (part ∷ parts) (e ∷ entries) octets =
     → (read_code s.memory right part ≡ 0xFF) × (front ≡ read_octets s.memory right part))
     × ReadsParts parts entries rest
 
+-- The entries read these groups of items in order, each alone and with a right or without: whatever state gave the
+-- reply of one, the codes and octets are those of its items in that state's memory, joined.
+unfoldable pub ReadsGroups : List (List Item) → List (Ask × Said) → List ℕ → List ℕ → Type 0
+ReadsGroups [] [] octets codes = (octets ≡ []) × (codes ≡ [])
+ReadsGroups [] (e ∷ entries) octets codes = ⊥
+ReadsGroups (group ∷ groups) [] octets codes = ⊥
+ReadsGroups (group ∷ groups) (e ∷ entries) octets codes =
+    (front : List ℕ) × (rest : List ℕ) × (first : List ℕ) × (others : List ℕ) × (right : Bool)
+    × (octets ≡ front ++ rest) × (codes ≡ first ++ others)
+    × (e.0 ≡ asked right (Read group))
+    × ((s : State) → e.1 ≡ plant.answer_of s (asked right (Read group))
+    → (first ≡ map (read_code s.memory right) group) × (front ≡ flat_map (read_octets s.memory right) group))
+    × ReadsGroups groups entries rest others
+
+-- The first entry asks for the head of the data block, with a right or without: whatever state gave the reply, the block
+-- stood in its memory with so many octets. The others read its parts.
+abbrev pub ReadsBlock : ℕ → ℕ → List (Ask × Said) → List ℕ → Type 0
+ReadsBlock number pdu [] octets = ⊥
+ReadsBlock number pdu (e ∷ entries) octets =
+    (right : Bool) × (size : ℕ)
+    × (e.0 ≡ asked right (Info 0x41 number))
+    × ((s : State) → e.1 ≡ plant.answer_of s (asked right (Info 0x41 number))
+    → (stood : List ℕ) × (data_block s.memory number ≡ Some stood) × (length stood ≡ size))
+    × ReadsParts (data_parts number size pdu false) entries octets
+
+-- what a job read that came off is what its entries read; the number of a data block has two octets
+abbrev pub ReadsAs : Job → ℕ → List (Ask × Said) → List ℕ → List ℕ → Type 0
+ReadsAs (job.ReadArea item) pdu entries octets codes = ReadsParts (parts_of item pdu false) entries octets
+ReadsAs (job.ReadMany items) pdu entries octets codes = ReadsGroups (groups_of pdu false items) entries octets codes
+ReadsAs (job.DbGet number) pdu entries octets codes = number < 65536 → ReadsBlock number pdu entries octets
+ReadsAs _ pdu entries octets codes = Unit {0}
+
 -- A job on a connected client is over by octets: the client used and transmitted these for it. The session stood
 -- between two messages before the job, and has used octets of those that the client transmitted since; it owes what
 -- the client used, with octets behind it.
@@ -63,7 +99,7 @@ pub record IsJobOver (first : LinkState) (origin : Origin) (pdu : ℕ) (heard se
   pub replies : AreReplies (entered first (b ++ used) (js ++ verdicts))
   pub owed_is : owed first (b ++ used) (js ++ verdicts) ≡ (owed first b js ++ heard) ++ behind
 
--- Then both stand between two messages again, and a read of one item that came off is what its entries read.
+-- Then both stand between two messages again, and a read that came off is what its entries read.
 pub record IsJobSettled (first : LinkState) (origin : Origin) (pdu : ℕ) (heard sent : List ℕ) (end : End)
     (b used : List ℕ) (js verdicts : List Verdict) (behind : List ℕ) : Type 0 where
   pub all_used : used ≡ sent
@@ -72,9 +108,9 @@ pub record IsJobSettled (first : LinkState) (origin : Origin) (pdu : ℕ) (heard
   pub owed_is : owed first (b ++ sent) (js ++ verdicts) ≡ owed first b js ++ heard
   pub size : (course origin heard).size ≡ 1024
   pub sequence : (course origin heard).sequence < 65536
-  pub read : (item : Item) → origin.job ≡ job.ReadArea item → end.code ≡ no_fault
+  pub read : end.code ≡ no_fault
       → (entries : List (Ask × Said)) × (entered first (b ++ sent) (js ++ verdicts) ≡ entered first b js ++ entries)
-      × ReadsParts (parts_of item pdu false) entries end.octets
+      × ReadsAs origin.job pdu entries end.octets end.codes
 
 -- The first connect of a client is over by octets, on a link to areas with this guard of which the session has used
 -- these octets.

@@ -47,7 +47,7 @@ use Rattle.s7_session.specs.Judgement.{slice_room}
 use Rattle.s7_session.specs.Owed.{past, entered}
 use Rattle.s7_session.specs.Telegrams.{AnyFull, clock_failures}
 use Rattle.s7_session.specs.Verdict.{Verdict}
-use Rattle.s7_rig.specs.Awaiting.{AreAsked}
+use Rattle.s7_rig.specs.Awaiting.{AreAsked, AreInTurn}
 use Rattle.s7_rig.specs.Heard.{told_of}
 use Rattle.s7_rig.specs.Settled.{Serves}
 use Rattle.s7_rig.specs.Dialogues.{AreReplies}
@@ -255,8 +255,13 @@ security_heard octet error = if error == 0 then brings octet false [] else refus
 abbrev pub AnyUndone : List Verdict → Type 0
 AnyUndone verdicts = AnyFull verdicts ⊎ (0 < clock_failures verdicts)
 
--- What a question was answered, and what was entered for it. It is refused where one of the verdicts is that the
--- history was full or the clock failed. Otherwise a request was entered with a right or without: a read tells what the
+-- and with which error that refuses a telegram
+abbrev pub IsUndone : List Verdict → ℕ → Type 0
+IsUndone verdicts error =
+    (AnyFull verdicts × (error ≡ 0x8F01)) ⊎ ((0 < clock_failures verdicts) × (error ≡ 0x8F02))
+
+-- What a question was answered, and what was entered for it. It is refused, and nothing entered, where one of the
+-- verdicts is that the history was full or the clock failed. Otherwise a request was entered with a right or without: a read tells what the
 -- memory has of the state that gave the reply, a write notes the codes that this memory gives, and of control, of user
 -- data, of the start of an upload and of the insertion of the very image that was given the reply is told. Passwords,
 -- further octets, slices and the end of an upload enter nothing, and neither do a download up to its insertion, a name of
@@ -264,7 +269,8 @@ AnyUndone verdicts = AnyFull verdicts ⊎ (0 < clock_failures verdicts)
 -- that isn't downloaded, since its kind isn't stored.
 pub data HasTold (verdicts : List Verdict) (question : Question) (answer : Answer) (new : List (Ask × Said))
     : Type 0 where
-  is_refused : (error : ℕ) → AnyUndone verdicts → answer ≡ refuses error → HasTold verdicts question answer new
+  is_refused : (error : ℕ) → IsUndone verdicts error → new ≡ [] → answer ≡ refuses error
+      → HasTold verdicts question answer new
   is_read : (items : List Item) (right : Bool) (reply : Said) → question ≡ reads items
       → new ≡ (asked right (Read items), reply) ∷ []
       → ((s : State) → reply ≡ plant.answer_of s (asked right (Read items))
@@ -278,7 +284,7 @@ pub data HasTold (verdicts : List Verdict) (question : Question) (answer : Answe
       → answer ≡ control_heard reply → HasTold verdicts question answer new
   is_brought : (subject : Subject) (octets : List ℕ) (moment : ℕ) (right : Bool) (request : Request) (reply : Said)
       (pdu octet : ℕ) → question ≡ asks subject octets → AsksFor subject octets moment request
-      → new ≡ (asked right request, reply) ∷ [] → answer ≡ user_heard pdu octet reply
+      → new ≡ (asked right request, reply) ∷ [] → answer ≡ user_heard pdu octet reply → 64 ≤ pdu
       → HasTold verdicts question answer new
   is_secured : (subject : Subject) (octets : List ℕ) (octet error : ℕ) → question ≡ asks subject octets
       → IsSecurity subject → new ≡ [] → answer ≡ security_heard octet error → HasTold verdicts question answer new
@@ -368,11 +374,13 @@ abbrev pub AreTold : List Verdict → List Exchange → Type 0
 AreTold verdicts exchanges =
     AllByRecursion (λ (x : Exchange). HasTold verdicts x.question x.answer x.entries) exchanges
 
--- A job of this conduct went by these exchanges, with the verdicts of its link: its questions were asked in order, each
--- was answered, nothing more may be asked, and it ends as the conduct says.
+-- A job of this conduct went by these exchanges, with the verdicts of its link: its questions were asked in order, and
+-- where one is out at a time each behind the answers to those before it; each was answered, nothing more may be asked,
+-- and it ends as the conduct says.
 pub record Converses (verdicts : List Verdict) (conduct : Conduct) (end : End) (exchanges : List Exchange)
     : Type 0 where
   pub asked : AreAsked conduct 0 (rows_of exchanges)
+  pub in_turn : conduct.width ≤ 1 → AreInTurn conduct [] (rows_of exchanges)
   pub told : AreTold verdicts exchanges
   pub none_more : next_question conduct (rows_of exchanges) ≡ None
   pub is : end ≡ conduct.ended (answers_of (rows_of exchanges))

@@ -1,19 +1,23 @@
 -- A history that is legal for the links of a rig.
-use Rattle.std.specs.Prelude.{◌≡◌, ℕ, List, ◌++◌, map, Some}
+use Rattle.std.specs.Prelude.{◌≡◌, ◌≢◌, ℕ, List, ◌++◌, map, None, Some}
+use Rattle.std.specs.List.{AllByRecursion}
 use Rattle.s7_area.specs.Memory.{Memory}
 use Rattle.s7_client.specs.Polling as client
 use Rattle.s7_plant.specs.State.{begins_with}
 use Rattle.s7_session.specs.Books.{History}
 use Rattle.s7_session.specs.Legal.{IsLegalFor, Links}
 use Rattle.s7_session.specs.LinkState.{first_link}
-use Rattle.s7_session.specs.Owed.{owed, telegrams}
-use Rattle.s7_session.specs.Stands.{unread, unsent, entry_count, newest}
-use Rattle.s7_session.specs.Telegrams.{Met, verdicts_of, clock_failures}
+use Rattle.s7_session.specs.Events.{lives}
+use Rattle.s7_session.specs.Owed.{past, owed, telegrams}
+use Rattle.s7_session.specs.Stands.{unread, unsent, entry_count, newest, closed_with}
+use Rattle.s7_session.specs.Telegrams.{Met, verdicts_of, clock_failures, AnyFull}
+use Rattle.s7_session.specs.Verdict.{Verdict, NoMemory}
+use Rattle.s7_rig.specs.Complete.{AllComeOff}
 use Rattle.s7_rig.specs.State.{Post}
 use Rattle.s7_rig.specs.Runs.{moment}
 
 -- THE HISTORY IS LEGAL FOR A LINK whose client transmitted these octets and whose session transmitted these
-pub record IsLegalPost (opening : Memory) (limit : ℕ) (history : History) (p : Post) (sent answered : List ℕ)
+pub record IsLegalPost (opening : Memory) (limit pdu : ℕ) (history : History) (p : Post) (sent answered : List ℕ)
     : Type 0 where
   -- the octets that the session used, in order; the others that the client transmitted wait
   pub used : List ℕ
@@ -29,8 +33,13 @@ pub record IsLegalPost (opening : Memory) (limit : ℕ) (history : History) (p :
   -- the history has it, and nothing else of this link
   pub legal : IsLegalFor (begins_with opening) limit history p.link mets (Some moment)
       (entry_count p.session) (newest p.session)
-  -- the clock never failed
+  -- a session that isn't closed still lives, the clock never failed, and memory was wanting for no telegram
+  pub lives : closed_with p.session ≡ None
+      → (past (first_link opening.guard) used (verdicts_of mets)).standing ≡ lives
   pub clock : clock_failures (verdicts_of mets) ≡ 0
+  pub remembers : AllByRecursion (λ (verdict : Verdict). verdict ≢ NoMemory) (verdicts_of mets)
+  -- where none met a full history, each job that can come off does, unless it met its last poll
+  pub complete : (AnyFull (verdicts_of mets) → ⊥) → AllComeOff opening history pdu p.results p.places
 
 -- the numbers of the links, and how many telegrams of each were entered
 abbrev pub links_of : List Post → Links

@@ -1,20 +1,22 @@
 -- What a whole rig comes to.
-use Rattle.std.specs.Prelude.{◌≡◌, ℕ, ◌<◌, List, [], length, slice_get, Some}
+use Rattle.std.specs.Prelude.{◌≡◌, ◌⊎◌, ℕ, ◌<◌, List, [], length, slice_get, Option, Some, option_map}
 use Rattle.std.specs.List.{AllByRecursion}
 use Rattle.s7_area.specs.Memory.{Memory}
 use Rattle.s7_dialogue.specs.declared.config.Config.{Config}
 use Rattle.s7_dialogue.specs.declared.job.Job.{Job}
+use Rattle.s7_client.specs.Completions.{Told, told_of_results}
 use Rattle.s7_plant.specs.Journals.{entries_of}
 use Rattle.s7_plant.specs.State as plant
 use Rattle.s7_session.specs.Books.{history_of}
 use Rattle.s7_session.specs.Legal.{IsLegalBook}
 use Rattle.s7_rig.specs.State.{Post, State}
-use Rattle.s7_rig.specs.Shown.{ClientTold, EndTold, state_told}
+use Rattle.s7_rig.specs.Shown.{ClientTold, EndTold, first_results, state_told}
 use Rattle.s7_rig.specs.Legal.{IsLegalPost, links_of}
 use Rattle.s7_rig.specs.Sent.{sent_by, answered_by}
 use Rattle.s7_rig.specs.Split.{AllStand}
 use Rattle.s7_rig.specs.Complete.{AllComeOff}
 use Rattle.s7_rig.specs.Runs.{AreFresh, IsRun}
+use Rattle.s7_rig.specs.Tells.{Reaches}
 
 -- which turns are made: the stated ones, and so many drawn from a seed
 pub record Turning : Type 0 where
@@ -39,7 +41,7 @@ pub record RigRan (opening : Memory) (limit : ℕ) (config : Config) (scripts : 
   pub book : IsLegalBook (plant.begins_with opening) limit (links_of last.posts) last.book
   -- its history is legal for all links, by what their clients and sessions transmitted
   pub legal : (k : ℕ) (p : Post) → slice_get last.posts k ≡ Some p
-      → IsLegalPost opening limit (history_of last.book) p
+      → IsLegalPost opening limit config.pdu (history_of last.book) p
       (sent_by k turning.turns turning.seed turning.steps start last run)
       (answered_by k turning.turns turning.seed turning.steps start last run)
   -- each read with code 0 is the split read at its places
@@ -47,4 +49,25 @@ pub record RigRan (opening : Memory) (limit : ℕ) (config : Config) (scripts : 
       config.pdu c.results c.places) end.clients
   -- and where the journal has room left, each job that can come off does, unless it met its last poll
   pub complete : length (history_of end.book) < limit
-      → AllByRecursion (λ (c : ClientTold). AllComeOff opening config.pdu c.results) end.clients
+      → AllByRecursion (λ (c : ClientTold). AllComeOff opening (history_of end.book) config.pdu c.results c.places)
+      end.clients
+
+-- ---- a rig that memory was wanting for
+
+-- such a rig came to a state by turns of its actors
+pub record CameTo (opening : Memory) (limit : ℕ) (config : Config) (scripts : List (List Job)) (last : State)
+    : Type 0 where
+  pub start : State
+  pub opened : plant.state_of start.book.opening ≡ plant.begins_with opening
+  pub unchanged : plant.state_of start.book.plant ≡ plant.begins_with opening
+  pub journal : start.book.journal ≡ entries_of [] limit
+  pub fresh : AreFresh opening.guard config 1 scripts start.posts
+  pub reached : Reaches start last
+
+-- MEMORY WAS WANTING: a completion was told of nothing, or of each result that the first client of such a rig had then,
+-- once and in order
+abbrev pub ToldWanting : Memory → ℕ → Config → List (List Job) → Option Told → Option Told → Type 0
+ToldWanting opening limit config scripts before after =
+    (after ≡ before)
+    ⊎ ((last : State) × CameTo opening limit config scripts last
+    × (after ≡ option_map (λ t. told_of_results t (first_results (state_told last))) before))

@@ -1,12 +1,12 @@
 // A rig: clients and the sessions that serve them, on one book.
-ghost use Rattle.std.specs.Prelude.{◌≡◌, ◌<◌, ◌≤◌, ◌*◌, Bool, All, length, map, [], IfOk, OnOk, is_some, option_map};
+ghost use Rattle.std.specs.Prelude.{◌≡◌, ◌<◌, ◌≤◌, ◌*◌, Bool, All, length, map, [], IfOk, OnOk, OnErr, is_some, option_map};
 ghost use Rattle.s7_draw.specs.Drawing.{seeded};
 ghost use Rattle.s7_header.specs.Negotiation.{most_pdu};
 ghost use Rattle.s7_plant.specs.Journals.{entries_of};
 ghost use Rattle.s7_plant.specs.State.{begins_with, state_of as plant_state};
 ghost use Rattle.s7_rig.specs.Shown.{state_of, end_told, state_told};
 ghost use Rattle.s7_rig.specs.State.{are_finished};
-ghost use Rattle.s7_rig.specs.Tells.{TellsFirst};
+ghost use Rattle.s7_rig.specs.Tells.{TellsFirst, TellsWanting};
 ghost use Rattle.s7_rig.specs.Turns.{IsTurnOf};
 ghost use Rattle.s7_rig.specs.Runs.{Turns, actors_of, Rounds, most_rounds, AreFresh, IsRun};
 
@@ -88,6 +88,8 @@ impl Rig {
         ensures run { OnOk result (IsRun turns.now seed steps (state_of self.old) (state_of self.new)) }
         ensures tells { OnOk result (TellsFirst (state_of self.old) (state_of self.new)
             (option_map C.told done.old) (option_map C.told done.new)) }
+        ensures tells_wanting { OnErr result (TellsWanting (state_of self.old)
+            (option_map C.told done.old) (option_map C.told done.new)) }
         ensures handed { is_some done.new ≡ is_some done.old }
         ensures count { length self.new.stations.items ≡ length self.old.stations.items }
     {
@@ -107,6 +109,7 @@ impl Rig {
         ensures turn { IfOk result (λ stirs. IsTurnOf actor (state_of self.old) (state_of self.new) stirs) }
         ensures tells { OnOk result (TellsFirst (state_of self.old) (state_of self.new)
             (option_map C.told done.old) (option_map C.told done.new)) }
+        ensures untold { OnErr result (option_map C.told done.new ≡ option_map C.told done.old) }
         ensures handed { is_some done.new ≡ is_some done.old }
         ensures count { length self.new.stations.items ≡ length self.old.stations.items }
     {
@@ -131,6 +134,8 @@ impl Rig {
         ensures turns { OnOk result ((stirs : Bool) × Turns turns.now (state_of self.old) (state_of self.new) stirs) }
         ensures tells { OnOk result (TellsFirst (state_of self.old) (state_of self.new)
             (option_map C.told done.old) (option_map C.told done.new)) }
+        ensures tells_wanting { OnErr result (TellsWanting (state_of self.old)
+            (option_map C.told done.old) (option_map C.told done.new)) }
         ensures handed { is_some done.new ≡ is_some done.old }
         ensures count { length self.new.stations.items ≡ length self.old.stations.items }
     {
@@ -154,6 +159,8 @@ impl Rig {
             (state_of self.old) (state_of self.new) stirs) }
         ensures tells { OnOk result (TellsFirst (state_of self.old) (state_of self.new)
             (option_map C.told done.old) (option_map C.told done.new)) }
+        ensures tells_wanting { OnErr result (TellsWanting (state_of self.old)
+            (option_map C.told done.old) (option_map C.told done.new)) }
         ensures handed { is_some done.new ≡ is_some done.old }
         ensures count { length self.new.stations.items ≡ length self.old.stations.items }
     {
@@ -174,6 +181,8 @@ impl Rig {
         ensures rounds { OnOk result (Rounds most_rounds (state_of self.old) (state_of self.new)) }
         ensures tells { OnOk result (TellsFirst (state_of self.old) (state_of self.new)
             (option_map C.told done.old) (option_map C.told done.new)) }
+        ensures tells_wanting { OnErr result (TellsWanting (state_of self.old)
+            (option_map C.told done.old) (option_map C.told done.new)) }
         ensures handed { is_some done.new ≡ is_some done.old }
         ensures count { length self.new.stations.items ≡ length self.old.stations.items }
     {
@@ -193,6 +202,8 @@ impl Rig {
         ensures turns { IfOk result
             (λ stirs. Turns (actors_of (state_of self.old)) (state_of self.old) (state_of self.new) stirs) }
         ensures tells { OnOk result (TellsFirst (state_of self.old) (state_of self.new)
+            (option_map C.told done.old) (option_map C.told done.new)) }
+        ensures tells_wanting { OnErr result (TellsWanting (state_of self.old)
             (option_map C.told done.old) (option_map C.told done.new)) }
         ensures handed { is_some done.new ≡ is_some done.old }
         ensures count { length self.new.stations.items ≡ length self.old.stations.items }

@@ -1,11 +1,11 @@
 // A whole run of a rig.
-ghost use Rattle.std.specs.Prelude.{◌≡◌, ◌≤◌, ◌<◌, ◌*◌, All, length, map, IfOk, is_some, option_map};
+ghost use Rattle.std.specs.Prelude.{◌≡◌, ◌≤◌, ◌<◌, ◌*◌, All, length, map, IfOk, OnErr, is_some, option_map};
 ghost use Rattle.std.specs.List.{AllByRecursion};
 ghost use Rattle.s7_header.specs.Negotiation.{most_pdu};
 ghost use Rattle.s7_rig.specs.Scripts.{ConnectsFirst};
 ghost use Rattle.s7_client.specs.Completions.{told_of_results};
 ghost use Rattle.s7_rig.specs.Shown.{end_told, first_results};
-ghost use Rattle.s7_rig.specs.Rigs.{Turning, RigRan};
+ghost use Rattle.s7_rig.specs.Rigs.{Turning, RigRan, ToldWanting};
 
 use crate::end::RigEnd;
 use crate::rig::Rig;
@@ -36,7 +36,8 @@ pub struct Schedule<'a> {
 /// client is finished, after a round in which no octet was moved or used and no job was done, or after
 /// 16,777,216 rounds. `Memory` comes where there is none for the rig, for a job or for a session.
 ///
-/// The completion is told of each job of the first client when it is done, once, in order, and of nothing else.
+/// The completion is told of each job of the first client when it is done, once, in order, and of nothing else: with
+/// `Memory` of those that were done till then.
 pub fn run_rig<C: Completion>(
     alloc: Global,
     areas: Areas,
@@ -62,6 +63,8 @@ pub fn run_rig<C: Completion>(
         (end_told end)) }
     ensures told { IfOk result (λ end. option_map C.told done.new
         ≡ option_map (λ t. told_of_results t (first_results (end_told end))) (option_map C.told done.old)) }
+    ensures told_wanting { OnErr result (ToldWanting areas limit config (map (λ s. s.items) scripts.items)
+        (option_map C.told done.old) (option_map C.told done.new)) }
     ensures handed { is_some done.new ≡ is_some done.old }
 {
     // what is registered is within the limits of areas

@@ -1,6 +1,6 @@
 // The turns of a client and of the session that serves it.
 ghost use Rattle.std.specs.Prelude.{◌≡◌, ◌≢◌, ◌<◌, ◌≤◌, ◌⊎◌, ◌-◌, ◌++◌, ◌∷◌, [], length, vec_capacity, None, Some};
-ghost use Rattle.std.specs.Prelude.{false, is_some, option_map, unwrap_or, IfOk, OnOk, IsSome};
+ghost use Rattle.std.specs.Prelude.{false, is_some, option_map, unwrap_or, IfOk, OnOk, OnErr, IsSome};
 ghost use Rattle.s7_header.specs.Negotiation.{most_pdu};
 ghost use Rattle.s7_dialogue.specs.declared.config.Config.{Config};
 ghost use Rattle.s7_plant.specs.Books.{book_told};
@@ -85,6 +85,7 @@ impl Station {
         ensures turn { IfOk result (λ stirs. IsClientTurn (post_of self.old) (post_of self.new) stirs) }
         ensures tells { OnOk result (Tells (post_of self.old).results (post_of self.new).results
             (option_map C.told done.old) (option_map C.told done.new)) }
+        ensures untold { OnErr result (option_map C.told done.new ≡ option_map C.told done.old) }
         ensures handed { is_some done.new ≡ is_some done.old }
     {
         let before = self.results.len();

@@ -1,35 +1,16 @@
+// Area files: the areas of lines, or the first wrong line and what is wrong with it; and what is written of areas.
 use s7_area::{AreaKey, Areas, Guard, RegisterFault};
 use s7_outer::{Memory, MemoryFiles, Octets};
 use s7_script::{AreasFault, AreasKind, load_areas, read_areas, write_areas};
 use std::alloc::Global;
-use std::process::Abort;
 use std::test::Fail;
-
-fn key(area: u8, number: u16) -> AreaKey {
-    AreaKey { area, number }
-}
 
 /// The areas of a text. Nothing is promised of it, so that what calls this is soon proved.
 fn areas_of(alloc: Global, text: &str) -> Result<Areas, AreasFault> {
     read_areas(alloc, text.as_bytes())
 }
 
-fn fault_of(alloc: Global, text: &str) -> Option<AreasFault> {
-    areas_of(alloc, text).err()
-}
-
-/// The first wrong line of each text, and what is wrong with it.
-fn fails<R: Abort>(rt: &R, alloc: Global, rows: &[(&str, u32, AreasKind)]) -> Result<(), Fail> {
-    for (text, line, kind) in rows {
-        let fault = AreasFault {
-            line: *line,
-            kind: *kind,
-        };
-        assert!(rt; fault_of(alloc, text) == Some(fault), "{text:?}");
-    }
-    Ok(())
-}
-
+/// Texts, their first wrong line, and what is wrong with it.
 const WRONG_LINES: &[(&str, u32, AreasKind)] = &[
     ("", 1, AreasKind::Head),
     ("s7 areas 3\n", 1, AreasKind::Head),
@@ -78,14 +59,7 @@ const WRONG_LINES: &[(&str, u32, AreasKind)] = &[
         5,
         AreasKind::Register(RegisterFault::Exists),
     ),
-];
-
-#[test]
-fn first_wrong_line(rt: HostRuntime) -> Result<(), Fail> {
-    fails(&rt, rt.alloc(), WRONG_LINES)
-}
-
-const WRONG_GUARDS: &[(&str, u32, AreasKind)] = &[
+    // Guards.
     ("s7 areas 1\nprotect\n", 2, AreasKind::Line),
     ("s7 areas 2\nprotect \n", 2, AreasKind::Number),
     ("s7 areas 1\nprotect 2\n", 2, AreasKind::Line),
@@ -112,14 +86,7 @@ const WRONG_GUARDS: &[(&str, u32, AreasKind)] = &[
     ("s7 areas 1\nDB 1 1\n11\nprotect 2 AB\n", 4, AreasKind::Line),
     ("s7 areas 2\nDB 1 1\n11\nprotect x\n", 4, AreasKind::Line),
     ("s7 areas 2\nDB 1 2\n11\nprotect 2 AB\n", 4, AreasKind::Line),
-];
-
-#[test]
-fn first_wrong_guard(rt: HostRuntime) -> Result<(), Fail> {
-    fails(&rt, rt.alloc(), WRONG_GUARDS)
-}
-
-const WRONG_RUNS: &[(&str, u32, AreasKind)] = &[
+    // Runs.
     ("s7 areas 1\nDB 1 5\n5*00\n", 3, AreasKind::Digits),
     ("s7 areas 1\nDB 1 5\n0*00\n", 3, AreasKind::Digits),
     ("s7 areas 2\nDB 1 5\n0*00\n", 3, AreasKind::Number),
@@ -145,37 +112,78 @@ const WRONG_RUNS: &[(&str, u32, AreasKind)] = &[
 ];
 
 #[test]
-fn first_wrong_run(rt: HostRuntime) -> Result<(), Fail> {
-    fails(&rt, rt.alloc(), WRONG_RUNS)
-}
-
-const TWO_AREAS: &[&str] = &[
-    "s7 areas 1\nDB 1 4\n11223344\nMK 2\nAAbb",
-    "s7 areas 2\r\nDB 1 4\r\n11\r\n223344\r\n\r\nMK 2\r\nAAbb\r\n",
-    "s7 areas 1\n# blocks\n\nDB 0000000001 4\n1122\n# more\n\n3344\nMK 02\naa\nBB\n",
-];
-
-/// Data block 1 and the flags, no inputs, and no guard.
-fn are_two(areas: &Areas) -> bool {
-    holds(areas, key(0x84, 1), &[0x11, 0x22, 0x33, 0x44])
-        && holds(areas, key(0x83, 0), &[0xAA, 0xBB])
-        && areas.octets_of(key(0x81, 0)).is_none()
-        && areas.guard().is_none()
-}
-
-fn reads_two(alloc: Global, text: &str) -> bool {
-    match areas_of(alloc, text) {
-        Ok(areas) => are_two(&areas),
-        Err(_) => false,
-    }
-}
-
-#[test]
-fn areas_that_are_read(rt: HostRuntime) -> Result<(), Fail> {
-    for text in TWO_AREAS {
-        assert!(rt; reads_two(rt.alloc(), text), "{text:?}");
+fn first_wrong_line(rt: HostRuntime) -> Result<(), Fail> {
+    for (text, line, kind) in WRONG_LINES {
+        let fault = AreasFault {
+            line: *line,
+            kind: *kind,
+        };
+        assert!(rt; areas_of(rt.alloc(), text).err() == Some(fault), "{text:?}");
     }
     Ok(())
+}
+
+/// An area's code, number and octets.
+type Entry = (u8, u16, &'static [u8]);
+
+/// The level and the password of a guard.
+type Lock = (u8, &'static [u8; 8]);
+
+const TWO: &[Entry] = &[
+    (0x83, 0, &[0xAA, 0xBB]),
+    (0x84, 1, &[0x11, 0x22, 0x33, 0x44]),
+];
+
+const GUARDED: &[Entry] = &[(0x84, 1, &[0x11])];
+
+const RUN: &[Entry] = &[(0x84, 1, &[0x11, 0x2A, 0x2A, 0x2A, 0x2A, 0x33])];
+
+/// Texts, and the guard and the areas that they give.
+const AREAS: &[(&str, Option<Lock>, &[Entry])] = &[
+    ("s7 areas 1\nDB 1 4\n11223344\nMK 2\nAAbb", None, TWO),
+    (
+        "s7 areas 2\r\nDB 1 4\r\n11\r\n223344\r\n\r\nMK 2\r\nAAbb\r\n",
+        None,
+        TWO,
+    ),
+    (
+        "s7 areas 1\n# blocks\n\nDB 0000000001 4\n1122\n# more\n\n3344\nMK 02\naa\nBB\n",
+        None,
+        TWO,
+    ),
+    // Guards.
+    (
+        "s7 areas 1\nprotect 2 AB\nDB 1 1\n11\n",
+        Some((2, b"AB      ")),
+        GUARDED,
+    ),
+    (
+        "s7 areas 2\nprotect 3 AB\nDB 1 1\n11\n",
+        Some((3, b"AB      ")),
+        GUARDED,
+    ),
+    (
+        "s7 areas 1\r\n\r\n# x\r\nprotect 02 !\r\nDB 1 1\r\n11\r\n",
+        Some((2, b"!       ")),
+        GUARDED,
+    ),
+    (
+        "s7 areas 2\n# x\nprotect 3 12*4567~\n\nDB 1 1\n11",
+        Some((3, b"12*4567~")),
+        GUARDED,
+    ),
+    // Runs.
+    ("s7 areas 2\nDB 1 6\n11\n4*2A\n33\n", None, RUN),
+    (
+        "s7 areas 2\r\nDB 1 6\r\n112a\r\n# x\r\n\r\n0000000003*2a\r\n1*33\r\n",
+        None,
+        RUN,
+    ),
+    ("s7 areas 2\nDB 1 6\n1*11\n3*2a\n2a\n1*33", None, RUN),
+];
+
+fn key(area: u8, number: u16) -> AreaKey {
+    AreaKey { area, number }
 }
 
 fn holds(areas: &Areas, key: AreaKey, expected: &[u8]) -> bool {
@@ -185,57 +193,43 @@ fn holds(areas: &Areas, key: AreaKey, expected: &[u8]) -> bool {
     }
 }
 
-const GUARDS: &[(&str, u8, &[u8; 8])] = &[
-    ("s7 areas 1\nprotect 2 AB\nDB 1 1\n11\n", 2, b"AB      "),
-    ("s7 areas 2\nprotect 3 AB\nDB 1 1\n11\n", 3, b"AB      "),
-    (
-        "s7 areas 1\r\n\r\n# x\r\nprotect 02 !\r\nDB 1 1\r\n11\r\n",
-        2,
-        b"!       ",
-    ),
-    (
-        "s7 areas 2\n# x\nprotect 3 12*4567~\n\nDB 1 1\n11",
-        3,
-        b"12*4567~",
-    ),
-];
+/// The areas that have no number.
+const WITHOUT_NUMBER: &[u8] = &[0x81, 0x82, 0x83, 0x1C, 0x1D];
 
-fn reads_guard(alloc: Global, text: &str, level: u8, password: &[u8; 8]) -> bool {
-    let guard = Guard {
+fn count_of(areas: &Areas) -> usize {
+    let others = WITHOUT_NUMBER
+        .iter()
+        .filter(|area| areas.octets_of(key(**area, 0)).is_some())
+        .count();
+    areas.db_numbers().count().saturating_add(others)
+}
+
+/// These are the areas.
+fn are(areas: &Areas, entries: &[Entry]) -> bool {
+    count_of(areas) == entries.len()
+        && entries.iter().all(|(area, number, octets)| holds(areas, key(*area, *number), octets))
+}
+
+/// The guard is this.
+fn is_guarded(areas: &Areas, lock: Option<Lock>) -> bool {
+    let guard = lock.map(|(level, password)| Guard {
         level,
         password: *password,
-    };
+    });
+    areas.guard() == guard
+}
+
+fn reads(alloc: Global, text: &str, lock: Option<Lock>, entries: &[Entry]) -> bool {
     match areas_of(alloc, text) {
-        Ok(areas) => areas.guard() == Some(guard) && holds(&areas, key(0x84, 1), &[0x11]),
+        Ok(areas) => is_guarded(&areas, lock) && are(&areas, entries),
         Err(_) => false,
     }
 }
 
 #[test]
-fn guards_that_are_read(rt: HostRuntime) -> Result<(), Fail> {
-    for (text, level, password) in GUARDS {
-        assert!(rt; reads_guard(rt.alloc(), text, *level, password), "{text:?}");
-    }
-    Ok(())
-}
-
-const RUNS: &[&str] = &[
-    "s7 areas 2\nDB 1 6\n11\n4*2A\n33\n",
-    "s7 areas 2\r\nDB 1 6\r\n112a\r\n# x\r\n\r\n0000000003*2a\r\n1*33\r\n",
-    "s7 areas 2\nDB 1 6\n1*11\n3*2a\n2a\n1*33",
-];
-
-fn reads_run(alloc: Global, text: &str) -> bool {
-    match areas_of(alloc, text) {
-        Ok(areas) => holds(&areas, key(0x84, 1), &[0x11, 0x2A, 0x2A, 0x2A, 0x2A, 0x33]),
-        Err(_) => false,
-    }
-}
-
-#[test]
-fn runs_that_are_read(rt: HostRuntime) -> Result<(), Fail> {
-    for text in RUNS {
-        assert!(rt; reads_run(rt.alloc(), text), "{text:?}");
+fn areas_that_are_read(rt: HostRuntime) -> Result<(), Fail> {
+    for (text, lock, entries) in AREAS {
+        assert!(rt; reads(rt.alloc(), text, *lock, entries), "{text:?}");
     }
     Ok(())
 }
@@ -257,19 +251,25 @@ fn the_longest_run_is_read(rt: HostRuntime) -> Result<(), Fail> {
     Ok(())
 }
 
-/// An area's code, number and octets.
-type Entry = (u8, u16, &'static [u8]);
-
-const ONE: &[Entry] = &[(0x84, 1, &[0xAA, 0x22, 0x33, 0xCC])];
-
-const SEVEN: &[Entry] = &[
-    (0x84, 20, &[1]),
-    (0x84, 3, &[0xFF; 33]),
-    (0x1D, 0, &[2, 3]),
-    (0x1C, 0, &[4, 5]),
-    (0x83, 0, &[6]),
-    (0x82, 0, &[7]),
-    (0x81, 0, &[8]),
+/// Areas, and what is written for them.
+const REGISTERED: &[(&[Entry], &str)] = &[
+    (
+        &[(0x84, 1, &[0xAA, 0x22, 0x33, 0xCC])],
+        "s7 areas 2\nDB 1 4\naa2233cc\n",
+    ),
+    (
+        &[
+            (0x84, 20, &[1]),
+            (0x84, 3, &[0xFF; 33]),
+            (0x1D, 0, &[2, 3]),
+            (0x1C, 0, &[4, 5]),
+            (0x83, 0, &[6]),
+            (0x82, 0, &[7]),
+            (0x81, 0, &[8]),
+        ],
+        "s7 areas 2\nPE 1\n08\nPA 1\n07\nMK 1\n06\nCT 2\n0405\nTM 2\n0203\n\
+         DB 3 33\n33*ff\nDB 20 1\n01\n",
+    ),
 ];
 
 fn registered(alloc: Global, entries: &[Entry]) -> Result<Areas, Memory> {
@@ -291,23 +291,14 @@ fn is_written(alloc: Global, areas: &Areas, text: &str) -> Result<bool, Memory> 
 
 #[test]
 fn areas_that_are_written(rt: HostRuntime) -> Result<(), Fail> {
-    let areas = registered(rt.alloc(), ONE)?;
-    assert!(rt; is_written(rt.alloc(), &areas, "s7 areas 2\nDB 1 4\naa2233cc\n")?);
-    let areas = registered(rt.alloc(), SEVEN)?;
-    let text = "s7 areas 2\nPE 1\n08\nPA 1\n07\nMK 1\n06\nCT 2\n0405\nTM 2\n0203\n\
-                DB 3 33\n33*ff\nDB 20 1\n01\n";
-    assert!(rt; is_written(rt.alloc(), &areas, text)?);
+    for (entries, expected) in REGISTERED {
+        let areas = registered(rt.alloc(), entries)?;
+        assert!(rt; is_written(rt.alloc(), &areas, expected)?, "{expected:?}");
+    }
     Ok(())
 }
 
-/// This is written for the areas of a text.
-fn writes(alloc: Global, text: &str, expected: &str) -> Result<bool, Memory> {
-    match areas_of(alloc, text) {
-        Ok(areas) => is_written(alloc, &areas, expected),
-        Err(_) => Ok(false),
-    }
-}
-
+/// Texts, and what is written for the areas that they give.
 const WRITTEN: &[(&str, &str)] = &[
     ("s7 areas 1\n", "s7 areas 2\n"),
     ("s7 areas 1\nprotect 02 A~\n", "s7 areas 2\nprotect 2 A~\n"),
@@ -357,6 +348,14 @@ const WRITTEN: &[(&str, &str)] = &[
     ),
 ];
 
+/// This is written for the areas of a text.
+fn writes(alloc: Global, text: &str, expected: &str) -> Result<bool, Memory> {
+    match areas_of(alloc, text) {
+        Ok(areas) => is_written(alloc, &areas, expected),
+        Err(_) => Ok(false),
+    }
+}
+
 #[test]
 fn lines_that_are_written(rt: HostRuntime) -> Result<(), Fail> {
     for (text, expected) in WRITTEN {
@@ -366,10 +365,11 @@ fn lines_that_are_written(rt: HostRuntime) -> Result<(), Fail> {
     Ok(())
 }
 
-/// The word loads data block 1.
+const LOADED: &[Entry] = &[(0x84, 1, &[0x11, 0x22, 0x33, 0x44])];
+
 fn loads(alloc: Global, files: &mut MemoryFiles, word: &str) -> bool {
     match load_areas(alloc, files, word) {
-        Ok(areas) => holds(&areas, key(0x84, 1), &[0x11, 0x22, 0x33, 0x44]),
+        Ok(areas) => are(&areas, LOADED),
         Err(_) => false,
     }
 }
@@ -379,7 +379,8 @@ fn areas_that_are_loaded(rt: HostRuntime) -> Result<(), Fail> {
     let text = Octets::copy_of(rt.alloc(), b"s7 areas 1\nDB 1 4\n11223344\n")?;
     let mut files = MemoryFiles::new();
     files.insert(rt.alloc(), "plant.txt", text)?;
-    assert!(rt; loads(rt.alloc(), &mut files, "DB1=11223344"));
-    assert!(rt; loads(rt.alloc(), &mut files, "plant.txt"));
+    for word in ["DB1=11223344", "plant.txt"] {
+        assert!(rt; loads(rt.alloc(), &mut files, word), "{word}");
+    }
     Ok(())
 }

@@ -5,7 +5,9 @@
 #[cfg(test)]
 mod areas;
 #[cfg(test)]
-mod blocks;
+mod asked;
+#[cfg(test)]
+mod long;
 #[cfg(test)]
 mod printing;
 #[cfg(test)]

@@ -1,6 +1,9 @@
-ghost use Rattle.std.specs.Prelude.{◌≡◌, IfOk, ◌∷◌, replicate};
+// What is printed for what came of jobs.
+ghost use Rattle.std.specs.Prelude.{◌≡◌, IfOk, ◌∷◌, replicate, true};
 ghost use Rattle.s7_script.specs.Printing.{IsPrintable};
 
+use crate::asked::Asked::{self, *};
+use crate::asked::item;
 use s7_client::{ItemList, Job, JobResult};
 use s7_clock::from_octets;
 use s7_item::Item;
@@ -9,6 +12,273 @@ use s7_script::print_result;
 use s7_szl::read_mode;
 use std::alloc::Global;
 use std::test::Fail;
+
+/// The line, the code, the job, its octets, and what is printed.
+type Row = (u32, u32, Asked<'static>, &'static [u8], &'static str);
+
+const PRINTED: &[Row] = &[
+    // Reads and writes.
+    (
+        4_294_967_295,
+        0,
+        READ,
+        &[0x11, 0x22, 0x3A, 0xFF],
+        "4294967295 read 00000000 11223aff\n",
+    ),
+    (1, 0x0080_0000, READ, &[], "1 read 00800000 -\n"),
+    (12, 0, READ, &[], "12 read 00000000 -\n"),
+    (3, 0, WRITE, &[], "3 write 00000000 -\n"),
+    (10, 0x0000_000A, WRITE, &[], "10 write 0000000A -\n"),
+    // Connections.
+    (0, 0, Connect, &[], "0 connect 00000000 -\n"),
+    (4, 0xFEDC_BA98, Disconnect, &[], "4 disconnect FEDCBA98 -\n"),
+    // Status lists.
+    (
+        5,
+        0,
+        Szl(0x0011, 0),
+        &[0x00, 0x11, 0x00, 0x00, 0x00, 0x02, 0x00, 0x01, 0xAB, 0xC0],
+        "5 szl 00000000 0011000000020001abc0\n",
+    ),
+    (5, 0, Szl(0x0011, 0), &[], "5 szl 00000000 -\n"),
+    // Clocks.
+    (
+        7,
+        0,
+        ClockRead,
+        &[0x00, 0x19, 0x24, 0x02, 0x29, 0x13, 0x45, 0x30, 0x12, 0x35],
+        "7 clock 00000000 2024-02-29T13:45:30.123\n",
+    ),
+    (
+        7,
+        0,
+        ClockRead,
+        &[0x00, 0x19, 0x90, 0x01, 0x01, 0x00, 0x00, 0x00, 0x00, 0x02],
+        "7 clock 00000000 1990-01-01T00:00:00.000\n",
+    ),
+    (
+        7,
+        0,
+        ClockRead,
+        &[0x00, 0x19, 0x89, 0x12, 0x31, 0x23, 0x59, 0x59, 0x99, 0x97],
+        "7 clock 00000000 2089-12-31T23:59:59.999\n",
+    ),
+    (9, 1, ClockRead, &[], "9 clock 00000001 -\n"),
+    // Run states: an image of list 0424 of one record, whose fourth octet is the mode.
+    (
+        8,
+        0,
+        Status,
+        &[
+            0x04, 0x24, 0, 0, 0, 20, 0, 1, 0, 0, 0, 0x08, 0, 0, 0, 0, 0, 0, 0, 0, 0, 0, 0, 0, 0, 0,
+            0, 0,
+        ],
+        "8 status 00000000 run\n",
+    ),
+    (
+        8,
+        0,
+        Status,
+        &[
+            0x04, 0x24, 0, 0, 0, 20, 0, 1, 0, 0, 0, 0x04, 0, 0, 0, 0, 0, 0, 0, 0, 0, 0, 0, 0, 0, 0,
+            0, 0,
+        ],
+        "8 status 00000000 stop\n",
+    ),
+    (9, 1, Status, &[], "9 status 00000001 -\n"),
+    // Controls.
+    (9, 0, Start, &[], "9 start 00000000 -\n"),
+    (9, 0x00F0_0000, Start, &[], "9 start 00F00000 -\n"),
+    (9, 0, ColdStart, &[], "9 coldstart 00000000 -\n"),
+    (10, 0, Stop, &[], "10 stop 00000000 -\n"),
+    (10, 0, Compress, &[], "10 compress 00000000 -\n"),
+    (10, 0, CopyRam, &[], "10 copy 00000000 -\n"),
+    // Settings.
+    (11, 0, ClockSet(0), &[], "11 setclock 00000000 -\n"),
+    (
+        11,
+        0,
+        PasswordSet(b"secret"),
+        &[],
+        "11 password 00000000 -\n",
+    ),
+    (11, 0, PasswordClear, &[], "11 clearpassword 00000000 -\n"),
+    // Blocks: how many there are, their numbers, and heads.
+    (
+        1,
+        0,
+        List,
+        &[
+            0x30, 0x38, 0x00, 0x02, 0x30, 0x41, 0x08, 0x00, 0x30, 0x42, 0x00, 0x00, 0x30, 0x43,
+            0x00, 0x0A, 0x30, 0x44, 0x00, 0x00, 0x30, 0x45, 0x01, 0x00, 0x30, 0x46, 0xFF, 0xFF,
+        ],
+        "1 list 00000000 2 2048 0 10 0 256 65535\n",
+    ),
+    (
+        2,
+        0,
+        ListOf(0x41),
+        &[0x00, 0x01, 0x01, 0x05, 0xFF, 0x34, 0x01, 0x05],
+        "2 listof 00000000 1 65332\n",
+    ),
+    (2, 0, ListOf(0x41), &[], "2 listof 00000000 -\n"),
+    (3, 0x00C0_0000, ListOf(0x42), &[], "3 listof 00C00000 -\n"),
+    (
+        4,
+        0,
+        Info(0x41, 1),
+        &[
+            0x70, 0x70, 0x01, 0x01, 0x05, 0x0A, 0x00, 0x01, 0x00, 0x00, 0x00, 0x28, 0x00, 0x00,
+            0x00, 0x00, 0x00, 0x00, 0x00, 0x00, 0x00, 0x00, 0x00, 0x00, 0x00, 0x00, 0x00, 0x00,
+            0x00, 0x00, 0x00, 0x00, 0x00, 0x00, 0x00, 0x04,
+        ],
+        "4 info 00000000 70700101050a000100000028000000000000000000000000000000000000000000000004\n",
+    ),
+    // Blocks: transfers, and whole data blocks.
+    (
+        3,
+        0,
+        Upload(0x43, 5),
+        &[0x70, 0x70, 0xAA],
+        "3 upload 00000000 7070aa\n",
+    ),
+    (
+        7,
+        0,
+        Download(&[0x70, 0x70]),
+        &[],
+        "7 download 00000000 -\n",
+    ),
+    (
+        7,
+        0x0230_0000,
+        Download(&[0x70, 0x70]),
+        &[],
+        "7 download 02300000 -\n",
+    ),
+    (4, 0, Delete(0x43, 5), &[], "4 delete 00000000 -\n"),
+    (
+        4,
+        0x00C0_0000,
+        Delete(0x43, 5),
+        &[],
+        "4 delete 00C00000 -\n",
+    ),
+    (5, 0, DbGet(1), &[0x11, 0x22], "5 dbget 00000000 1122\n"),
+    (6, 0, DbFill(1, 0xFF), &[], "6 dbfill 00000000 -\n"),
+];
+
+const READ: Asked<'_> = ReadArea(item!(0x84, 1, 0x02, 4, 0));
+
+const WRITE: Asked<'_> = WriteArea(item!(0x84, 1, 0x02, 1, 0), &[9]);
+
+/// The job of a row, which is of one item at most.
+fn job_of(alloc: Global, asked: Asked<'_>) -> Result<Job, Fail> {
+    Ok(match asked {
+        Asked::Connect => Job::Connect,
+        Asked::ReadArea(item) => Job::ReadArea { item },
+        Asked::WriteArea(item, octets) => Job::WriteArea {
+            item,
+            octets: Octets::copy_of(alloc, octets)?,
+        },
+        Asked::ReadMany(_) | Asked::WriteMany(_, _) => return Err(Fail::from("several items")),
+        Asked::List => Job::List,
+        Asked::ListOf(kind) => Job::ListOf { kind },
+        Asked::Info(kind, number) => Job::Info { kind, number },
+        Asked::Upload(kind, number) => Job::Upload { kind, number },
+        Asked::Download(image) => Job::Download {
+            image: Octets::copy_of(alloc, image)?,
+        },
+        Asked::Delete(kind, number) => Job::Delete { kind, number },
+        Asked::DbGet(number) => Job::DbGet { number },
+        Asked::DbFill(number, value) => Job::DbFill { number, value },
+        Asked::Szl(id, index) => Job::Szl { id, index },
+        Asked::ClockRead => Job::ClockRead,
+        Asked::ClockSet(moment) => Job::ClockSet { moment },
+        Asked::Start => Job::Start,
+        Asked::ColdStart => Job::ColdStart,
+        Asked::Stop => Job::Stop,
+        Asked::Compress => Job::Compress,
+        Asked::CopyRam => Job::CopyRam,
+        Asked::Status => Job::Status,
+        Asked::PasswordSet(text) => Job::PasswordSet {
+            text: Octets::copy_of(alloc, text)?,
+        },
+        Asked::PasswordClear => Job::PasswordClear,
+        Asked::Disconnect => Job::Disconnect,
+    })
+}
+
+/// What came of a job without return codes.
+fn done(alloc: Global, job: Job, code: u32, octets: &[u8]) -> Result<JobResult, Memory> {
+    Ok(JobResult {
+        job,
+        code,
+        octets: Octets::copy_of(alloc, octets)?,
+        codes: [0; 20],
+        count: 0,
+        carried: Octets::copy_of(alloc, &[])?,
+    })
+}
+
+/// There are no return codes, and the octets of a clock or a run state that came off tell it.
+fn is_printable(done: &JobResult) -> bool
+    ensures { result ≡ true → IsPrintable done.now }
+{
+    if done.count != 0 {
+        return false;
+    }
+    if done.code != 0 {
+        return true;
+    }
+    match &done.job {
+        Job::ReadMany { .. } | Job::WriteMany { .. } => false,
+        Job::ClockRead => from_octets(done.octets.as_slice()).is_ok(),
+        Job::Status => read_mode(done.octets.as_slice()).is_some(),
+        Job::Connect
+        | Job::ReadArea { .. }
+        | Job::WriteArea { .. }
+        | Job::List
+        | Job::ListOf { .. }
+        | Job::Info { .. }
+        | Job::Upload { .. }
+        | Job::Download { .. }
+        | Job::Delete { .. }
+        | Job::DbGet { .. }
+        | Job::DbFill { .. }
+        | Job::Szl { .. }
+        | Job::ClockSet { .. }
+        | Job::Start
+        | Job::ColdStart
+        | Job::Stop
+        | Job::Compress
+        | Job::CopyRam
+        | Job::PasswordSet { .. }
+        | Job::PasswordClear
+        | Job::Disconnect => true,
+    }
+}
+
+fn prints(alloc: Global, line: u32, done: &JobResult, expected: &str) -> Result<bool, Memory>
+    requires { IsPrintable done.now }
+{
+    let text = print_result(alloc, line, done)?;
+    Ok(text.as_slice() == expected.as_bytes())
+}
+
+fn prints_row(alloc: Global, row: &Row) -> Result<bool, Fail> {
+    let (line, code, asked, octets, expected) = *row;
+    let done = done(alloc, job_of(alloc, asked)?, code, octets)?;
+    Ok(is_printable(&done) && prints(alloc, line, &done, expected)?)
+}
+
+#[test]
+fn results_are_printed(rt: HostRuntime) -> Result<(), Fail> {
+    for row in PRINTED {
+        assert!(rt; prints_row(rt.alloc(), row)?, "{:?}", row.4);
+    }
+    Ok(())
+}
 
 fn bytes(count: u16) -> Item
     ensures { result ≡ record { area = 0x84; db = 1; word = 0x02; count = count; address = 0 } }
@@ -22,257 +292,6 @@ fn bytes(count: u16) -> Item
     }
 }
 
-fn octets(alloc: Global, octets: &[u8]) -> Result<Octets, Memory>
-    ensures { IfOk result (λ o. o ≡ octets.now) }
-{
-    Octets::copy_of(alloc, octets)
-}
-
-pub(crate) fn of_one(alloc: Global, job: Job, code: u32, octets: &[u8]) -> Result<JobResult, Memory>
-    ensures { IfOk result (λ r. (r.job ≡ job) × (r.code ≡ code) × (r.count ≡ 0) × (r.octets ≡ octets.now)) }
-{
-    Ok(JobResult {
-        job,
-        code,
-        octets: Octets::copy_of(alloc, octets)?,
-        codes: [0; 20],
-        count: 0,
-        carried: Octets::copy_of(alloc, &[])?,
-    })
-}
-
-pub(crate) fn prints(
-    alloc: Global,
-    line: u32,
-    done: &JobResult,
-    expected: &str,
-) -> Result<bool, Memory>
-    requires { IsPrintable done.now }
-{
-    let text = print_result(alloc, line, done)?;
-    Ok(text.as_slice() == expected.as_bytes())
-}
-
-fn prints_read(
-    alloc: Global,
-    line: u32,
-    code: u32,
-    octets: &[u8],
-    expected: &str,
-) -> Result<bool, Memory> {
-    let done = of_one(alloc, Job::ReadArea { item: bytes(4) }, code, octets)?;
-    prints(alloc, line, &done, expected)
-}
-
-#[test]
-fn reads(rt: HostRuntime) -> Result<(), Fail> {
-    let alloc = rt.alloc();
-    let four = [0x11, 0x22, 0x3A, 0xFF];
-    let expected = "4294967295 read 00000000 11223aff\n";
-    assert!(rt; prints_read(alloc, 4_294_967_295, 0, &four, expected)?);
-    assert!(rt; prints_read(alloc, 1, 0x0080_0000, &[], "1 read 00800000 -\n")?);
-    assert!(rt; prints_read(alloc, 12, 0, &[], "12 read 00000000 -\n")?);
-    Ok(())
-}
-
-fn prints_write(alloc: Global, line: u32, code: u32, expected: &str) -> Result<bool, Memory> {
-    let octets = octets(alloc, &[9])?;
-    let item = bytes(1);
-    let done = of_one(alloc, Job::WriteArea { item, octets }, code, &[])?;
-    prints(alloc, line, &done, expected)
-}
-
-#[test]
-fn writes(rt: HostRuntime) -> Result<(), Fail> {
-    let alloc = rt.alloc();
-    assert!(rt; prints_write(alloc, 3, 0, "3 write 00000000 -\n")?);
-    assert!(rt; prints_write(alloc, 10, 0x0000_000A, "10 write 0000000A -\n")?);
-    Ok(())
-}
-
-fn prints_connect(alloc: Global, line: u32, code: u32, expected: &str) -> Result<bool, Memory> {
-    let done = of_one(alloc, Job::Connect, code, &[])?;
-    prints(alloc, line, &done, expected)
-}
-
-fn prints_disconnect(alloc: Global, line: u32, code: u32, expected: &str) -> Result<bool, Memory> {
-    let done = of_one(alloc, Job::Disconnect, code, &[])?;
-    prints(alloc, line, &done, expected)
-}
-
-#[test]
-fn connections(rt: HostRuntime) -> Result<(), Fail> {
-    let alloc = rt.alloc();
-    assert!(rt; prints_connect(alloc, 0, 0, "0 connect 00000000 -\n")?);
-    assert!(rt; prints_disconnect(alloc, 4, 0xFEDC_BA98, "4 disconnect FEDCBA98 -\n")?);
-    Ok(())
-}
-
-fn prints_list(alloc: Global, octets: &[u8], expected: &str) -> Result<bool, Memory> {
-    let job = Job::Szl {
-        id: 0x0011,
-        index: 0,
-    };
-    let done = of_one(alloc, job, 0, octets)?;
-    prints(alloc, 5, &done, expected)
-}
-
-#[test]
-fn status_lists(rt: HostRuntime) -> Result<(), Fail> {
-    let image = [0x00, 0x11, 0x00, 0x00, 0x00, 0x02, 0x00, 0x01, 0xAB, 0xC0];
-    let expected = "5 szl 00000000 0011000000020001abc0\n";
-    assert!(rt; prints_list(rt.alloc(), &image, expected)?);
-    assert!(rt; prints_list(rt.alloc(), &[], "5 szl 00000000 -\n")?);
-    Ok(())
-}
-
-const CLOCKS: &[([u8; 10], &str)] = &[
-    (
-        [0x00, 0x19, 0x24, 0x02, 0x29, 0x13, 0x45, 0x30, 0x12, 0x35],
-        "7 clock 00000000 2024-02-29T13:45:30.123\n",
-    ),
-    (
-        [0x00, 0x19, 0x90, 0x01, 0x01, 0x00, 0x00, 0x00, 0x00, 0x02],
-        "7 clock 00000000 1990-01-01T00:00:00.000\n",
-    ),
-    (
-        [0x00, 0x19, 0x89, 0x12, 0x31, 0x23, 0x59, 0x59, 0x99, 0x97],
-        "7 clock 00000000 2089-12-31T23:59:59.999\n",
-    ),
-];
-
-fn prints_clock(alloc: Global, octets: &[u8], expected: &str) -> Result<bool, Memory> {
-    if from_octets(octets).is_err() {
-        return Ok(false);
-    }
-    let done = of_one(alloc, Job::ClockRead, 0, octets)?;
-    prints(alloc, 7, &done, expected)
-}
-
-#[test]
-fn clocks(rt: HostRuntime) -> Result<(), Fail> {
-    for (octets, expected) in CLOCKS {
-        assert!(rt;
-            prints_clock(rt.alloc(), octets.as_slice(), expected)?,
-            "{expected:?}"
-        );
-    }
-    Ok(())
-}
-
-/// An image of list 0424 of one record, which tells this mode.
-fn run_state(mode: u8) -> [u8; 28] {
-    let mut image = [0; 28];
-    image[0] = 0x04;
-    image[1] = 0x24;
-    image[5] = 20;
-    image[7] = 1;
-    image[11] = mode;
-    image
-}
-
-fn prints_mode(alloc: Global, mode: u8, expected: &str) -> Result<bool, Memory> {
-    let image = run_state(mode);
-    if read_mode(image.as_slice()).is_none() {
-        return Ok(false);
-    }
-    let done = of_one(alloc, Job::Status, 0, image.as_slice())?;
-    prints(alloc, 8, &done, expected)
-}
-
-#[test]
-fn run_states(rt: HostRuntime) -> Result<(), Fail> {
-    assert!(rt; prints_mode(rt.alloc(), 0x08, "8 status 00000000 run\n")?);
-    assert!(rt; prints_mode(rt.alloc(), 0x04, "8 status 00000000 stop\n")?);
-    Ok(())
-}
-
-fn prints_start(alloc: Global, line: u32, code: u32, expected: &str) -> Result<bool, Memory> {
-    let done = of_one(alloc, Job::Start, code, &[])?;
-    prints(alloc, line, &done, expected)
-}
-
-fn prints_cold_start(alloc: Global, line: u32, code: u32, expected: &str) -> Result<bool, Memory> {
-    let done = of_one(alloc, Job::ColdStart, code, &[])?;
-    prints(alloc, line, &done, expected)
-}
-
-#[test]
-fn starts(rt: HostRuntime) -> Result<(), Fail> {
-    let alloc = rt.alloc();
-    assert!(rt; prints_start(alloc, 9, 0, "9 start 00000000 -\n")?);
-    assert!(rt; prints_start(alloc, 9, 0x00F0_0000, "9 start 00F00000 -\n")?);
-    assert!(rt; prints_cold_start(alloc, 9, 0, "9 coldstart 00000000 -\n")?);
-    Ok(())
-}
-
-fn prints_stop(alloc: Global, line: u32, code: u32, expected: &str) -> Result<bool, Memory> {
-    let done = of_one(alloc, Job::Stop, code, &[])?;
-    prints(alloc, line, &done, expected)
-}
-
-fn prints_compress(alloc: Global, line: u32, code: u32, expected: &str) -> Result<bool, Memory> {
-    let done = of_one(alloc, Job::Compress, code, &[])?;
-    prints(alloc, line, &done, expected)
-}
-
-fn prints_copy(alloc: Global, line: u32, code: u32, expected: &str) -> Result<bool, Memory> {
-    let done = of_one(alloc, Job::CopyRam, code, &[])?;
-    prints(alloc, line, &done, expected)
-}
-
-#[test]
-fn other_controls(rt: HostRuntime) -> Result<(), Fail> {
-    let alloc = rt.alloc();
-    assert!(rt; prints_stop(alloc, 10, 0, "10 stop 00000000 -\n")?);
-    assert!(rt; prints_compress(alloc, 10, 0, "10 compress 00000000 -\n")?);
-    assert!(rt; prints_copy(alloc, 10, 0, "10 copy 00000000 -\n")?);
-    Ok(())
-}
-
-fn prints_password(
-    alloc: Global,
-    line: u32,
-    password: &[u8],
-    expected: &str,
-) -> Result<bool, Memory> {
-    let text = octets(alloc, password)?;
-    let done = of_one(alloc, Job::PasswordSet { text }, 0, &[])?;
-    prints(alloc, line, &done, expected)
-}
-
-fn prints_setting(alloc: Global, line: u32, code: u32, expected: &str) -> Result<bool, Memory> {
-    let done = of_one(alloc, Job::ClockSet { moment: 0 }, code, &[])?;
-    prints(alloc, line, &done, expected)
-}
-
-fn prints_clear(alloc: Global, line: u32, code: u32, expected: &str) -> Result<bool, Memory> {
-    let done = of_one(alloc, Job::PasswordClear, code, &[])?;
-    prints(alloc, line, &done, expected)
-}
-
-#[test]
-fn settings(rt: HostRuntime) -> Result<(), Fail> {
-    let alloc = rt.alloc();
-    assert!(rt; prints_setting(alloc, 11, 0, "11 setclock 00000000 -\n")?);
-    assert!(rt; prints_password(alloc, 11, b"secret", "11 password 00000000 -\n")?);
-    assert!(rt; prints_clear(alloc, 11, 0, "11 clearpassword 00000000 -\n")?);
-    Ok(())
-}
-
-fn prints_refused(alloc: Global, job: Job, expected: &str) -> Result<bool, Memory> {
-    let done = of_one(alloc, job, 1, &[])?;
-    prints(alloc, 9, &done, expected)
-}
-
-#[test]
-fn refused_questions(rt: HostRuntime) -> Result<(), Fail> {
-    let alloc = rt.alloc();
-    assert!(rt; prints_refused(alloc, Job::ClockRead, "9 clock 00000001 -\n")?);
-    assert!(rt; prints_refused(alloc, Job::Status, "9 status 00000001 -\n")?);
-    Ok(())
-}
-
 /// Two items, of which the first was read.
 #[tactic(auto, unfolding(s7_client::specs::Form::octets_read, s7_item::specs::Word::size_of))]
 fn two_read(alloc: Global) -> Result<JobResult, Memory>
@@ -284,10 +303,10 @@ fn two_read(alloc: Global) -> Result<JobResult, Memory>
             items: ItemList::of_vec(items),
         },
         code: 0,
-        octets: octets(alloc, &[0x11])?,
+        octets: Octets::copy_of(alloc, &[0x11])?,
         codes: codes(0xFF, 0x0A, 0),
         count: 2,
-        carried: octets(alloc, &[])?,
+        carried: Octets::copy_of(alloc, &[])?,
     })
 }
 
@@ -298,13 +317,13 @@ fn three_written(alloc: Global) -> Result<JobResult, Memory>
     Ok(JobResult {
         job: Job::WriteMany {
             items: ItemList::of_vec(items),
-            octets: octets(alloc, &[1, 2, 3])?,
+            octets: Octets::copy_of(alloc, &[1, 2, 3])?,
         },
         code: 0,
-        octets: octets(alloc, &[])?,
+        octets: Octets::copy_of(alloc, &[])?,
         codes: codes(0xFF, 0x05, 0xFF),
         count: 3,
-        carried: octets(alloc, &[])?,
+        carried: Octets::copy_of(alloc, &[])?,
     })
 }
 

@@ -1,4 +1,7 @@
-use s7_client::Job;
+// Scripts: the jobs of lines, or the first wrong line and what is wrong with it.
+use crate::asked::Asked::{self, *};
+use crate::asked::{asked_of, item};
+use crate::long::{long_octets, long_text};
 use s7_item::Item;
 use s7_outer::Memory;
 use s7_script::{Script, ScriptFault, ScriptKind, ScriptLine, read_script};
@@ -6,14 +9,11 @@ use std::alloc::Global;
 use std::test::Fail;
 
 /// The jobs of a text. Nothing is promised of it, so that what calls this is soon proved.
-fn script_of(alloc: Global, text: &str) -> Result<Script, ScriptFault> {
-    read_script(alloc, text.as_bytes())
+fn script_of(alloc: Global, text: &[u8]) -> Result<Script, ScriptFault> {
+    read_script(alloc, text)
 }
 
-fn fault_of(alloc: Global, text: &str) -> Option<ScriptFault> {
-    script_of(alloc, text).err()
-}
-
+/// Texts, their first wrong line, and what is wrong with it.
 const WRONG_LINES: &[(&str, u32, ScriptKind)] = &[
     ("raed DB1 byte 0 1", 1, ScriptKind::Word),
     (" read DB1 byte 0 1", 1, ScriptKind::Word),
@@ -80,6 +80,70 @@ const WRONG_LINES: &[(&str, u32, ScriptKind)] = &[
         2,
         ScriptKind::Digits,
     ),
+    // Lines without items.
+    ("szl", 1, ScriptKind::Fields),
+    ("szl 0011", 1, ScriptKind::Fields),
+    ("szl 0011 0000 1", 1, ScriptKind::Fields),
+    ("szl 011 0000", 1, ScriptKind::Digits),
+    ("szl 00g1 0000", 1, ScriptKind::Digits),
+    ("szl 001100 0000", 1, ScriptKind::Digits),
+    ("szl 0011 00", 1, ScriptKind::Digits),
+    ("szl 0011 ", 1, ScriptKind::Digits),
+    ("clock 1", 1, ScriptKind::Fields),
+    ("start x", 1, ScriptKind::Fields),
+    ("status ", 1, ScriptKind::Fields),
+    ("Stop", 1, ScriptKind::Word),
+    ("setclock", 1, ScriptKind::Fields),
+    ("setclock 2024-02-29T13:45:30.123 x", 1, ScriptKind::Fields),
+    ("setclock 2024-02-29", 1, ScriptKind::Number),
+    ("setclock 2024-02-30T00:00:00.000", 1, ScriptKind::Number),
+    ("setclock 1989-12-31T23:59:59.999", 1, ScriptKind::Number),
+    ("setclock 2090-01-01T00:00:00.000", 1, ScriptKind::Number),
+    ("setclock 2024-02-29T24:00:00.000", 1, ScriptKind::Number),
+    ("setclock 2024-02-29 13:45:30.123", 1, ScriptKind::Number),
+    ("setclock 2024-02-29T13:45:30.12a", 1, ScriptKind::Number),
+    ("password", 1, ScriptKind::Fields),
+    ("password a b", 1, ScriptKind::Fields),
+    ("password a\x07", 1, ScriptKind::Word),
+    ("password \x7F", 1, ScriptKind::Word),
+    ("passwort x", 1, ScriptKind::Word),
+    // Lines about blocks.
+    ("list ", 1, ScriptKind::Fields),
+    ("list DB", 1, ScriptKind::Fields),
+    ("listof", 1, ScriptKind::Fields),
+    ("listof ", 1, ScriptKind::Word),
+    ("listof db", 1, ScriptKind::Word),
+    ("listof DB1", 1, ScriptKind::Word),
+    ("listof PE", 1, ScriptKind::Word),
+    ("listof DB 1", 1, ScriptKind::Fields),
+    ("info", 1, ScriptKind::Fields),
+    ("info XB", 1, ScriptKind::Word),
+    ("info DB", 1, ScriptKind::Fields),
+    ("info DB ", 1, ScriptKind::Number),
+    ("info DB x 1", 1, ScriptKind::Number),
+    ("info DB 65536", 1, ScriptKind::Number),
+    ("info DB 00000000001", 1, ScriptKind::Number),
+    ("info DB 1 2", 1, ScriptKind::Fields),
+    ("upload", 1, ScriptKind::Fields),
+    ("upload XB 1", 1, ScriptKind::Word),
+    ("upload DB 65536", 1, ScriptKind::Number),
+    ("download", 1, ScriptKind::Fields),
+    ("download ", 1, ScriptKind::Digits),
+    ("download 707", 1, ScriptKind::Digits),
+    ("download 70x0", 1, ScriptKind::Digits),
+    ("download 7070 70", 1, ScriptKind::Fields),
+    ("delete FC", 1, ScriptKind::Fields),
+    ("delete FC -1", 1, ScriptKind::Number),
+    ("delete FC 5 5", 1, ScriptKind::Fields),
+    ("dbget", 1, ScriptKind::Fields),
+    ("dbget 0", 1, ScriptKind::Number),
+    ("dbget 65536", 1, ScriptKind::Number),
+    ("dbget 1 00", 1, ScriptKind::Fields),
+    ("dbfill 1", 1, ScriptKind::Fields),
+    ("dbfill x 1", 1, ScriptKind::Number),
+    ("dbfill 1 1", 1, ScriptKind::Digits),
+    ("dbfill 1 0011", 1, ScriptKind::Digits),
+    ("dbfill 1 00 11", 1, ScriptKind::Fields),
 ];
 
 #[test]
@@ -89,377 +153,220 @@ fn first_wrong_line(rt: HostRuntime) -> Result<(), Fail> {
             line: *line,
             kind: *kind,
         };
-        assert!(rt; fault_of(rt.alloc(), text) == Some(fault), "{text:?}");
+        let told = script_of(rt.alloc(), text.as_bytes()).err();
+        assert!(rt; told == Some(fault), "{text:?}");
     }
     Ok(())
 }
 
-const WITHOUT_ITEMS: &[(&str, ScriptKind)] = &[
-    ("szl", ScriptKind::Fields),
-    ("szl 0011", ScriptKind::Fields),
-    ("szl 0011 0000 1", ScriptKind::Fields),
-    ("szl 011 0000", ScriptKind::Digits),
-    ("szl 00g1 0000", ScriptKind::Digits),
-    ("szl 001100 0000", ScriptKind::Digits),
-    ("szl 0011 00", ScriptKind::Digits),
-    ("szl 0011 ", ScriptKind::Digits),
-    ("clock 1", ScriptKind::Fields),
-    ("start x", ScriptKind::Fields),
-    ("status ", ScriptKind::Fields),
-    ("Stop", ScriptKind::Word),
-    ("setclock", ScriptKind::Fields),
-    ("setclock 2024-02-29T13:45:30.123 x", ScriptKind::Fields),
-    ("setclock 2024-02-29", ScriptKind::Number),
-    ("setclock 2024-02-30T00:00:00.000", ScriptKind::Number),
-    ("setclock 1989-12-31T23:59:59.999", ScriptKind::Number),
-    ("setclock 2090-01-01T00:00:00.000", ScriptKind::Number),
-    ("setclock 2024-02-29T24:00:00.000", ScriptKind::Number),
-    ("setclock 2024-02-29 13:45:30.123", ScriptKind::Number),
-    ("setclock 2024-02-29T13:45:30.12a", ScriptKind::Number),
-    ("password", ScriptKind::Fields),
-    ("password a b", ScriptKind::Fields),
-    ("password a\x07", ScriptKind::Word),
-    ("password \x7F", ScriptKind::Word),
-    ("passwort x", ScriptKind::Word),
-];
+/// The number of a line, and its job.
+type Row<'a> = (u32, Asked<'a>);
 
-#[test]
-fn wrong_lines_without_items(rt: HostRuntime) -> Result<(), Fail> {
-    for (text, kind) in WITHOUT_ITEMS {
-        let fault = ScriptFault {
-            line: 1,
-            kind: *kind,
-        };
-        assert!(rt; fault_of(rt.alloc(), text) == Some(fault), "{text:?}");
-    }
-    Ok(())
-}
-
-/// The area, block, word, count and address of an item.
-type Fields = (u8, u16, u8, u16, u32);
-
-fn item(fields: Fields) -> Item {
-    let (area, db, word, count, address) = fields;
-    Item {
-        area,
-        db,
-        word,
-        count,
-        address,
-    }
-}
-
-const ITEMS: &[(&str, Fields)] = &[
-    ("read DB1 byte 0 4", (0x84, 1, 0x02, 4, 0)),
+/// Lines that stand alone.
+const JOBS: &[(&str, Asked<'_>)] = &[
+    // An item that is read.
+    ("read DB1 byte 0 4", ReadArea(item!(0x84, 1, 0x02, 4, 0))),
     (
         "read DB65535 bit 2097151.7 0",
-        (0x84, 65_535, 0x01, 0, 16_777_215),
+        ReadArea(item!(0x84, 65_535, 0x01, 0, 16_777_215)),
     ),
-    ("read PE char 1 65535", (0x81, 0, 0x03, 65_535, 8)),
-    ("read PA word 2 1\n", (0x82, 0, 0x04, 1, 16)),
-    ("read MK int 3 1\r\n", (0x83, 0, 0x05, 1, 24)),
-    ("\n# x\nread DB0000000001 dword 4 1", (0x84, 1, 0x06, 1, 32)),
-    ("read DB1 dint 5 01", (0x84, 1, 0x07, 1, 40)),
-    ("read DB1 real 2097151 1", (0x84, 1, 0x08, 1, 16_777_208)),
-    ("read CT counter 16777215 2", (0x1C, 0, 0x1C, 2, 16_777_215)),
-    ("read TM timer 9 2", (0x1D, 0, 0x1D, 2, 9)),
-    ("read TM bit 9 2", (0x1D, 0, 0x01, 2, 9)),
-    ("read DB1 counter 9 2", (0x84, 1, 0x1C, 2, 72)),
-    ("read DB1 bit 1.2 3", (0x84, 1, 0x01, 3, 10)),
-];
-
-fn reads_item(alloc: Global, text: &str, expected: Fields) -> bool {
-    match script_of(alloc, text) {
-        Ok(script) => reads(script.as_slice(), item(expected)),
-        Err(_) => false,
-    }
-}
-
-#[test]
-fn one_item(rt: HostRuntime) -> Result<(), Fail> {
-    for (text, expected) in ITEMS {
-        assert!(rt; reads_item(rt.alloc(), text, *expected), "{text:?}");
-    }
-    Ok(())
-}
-
-fn reads(lines: &[ScriptLine], expected: Item) -> bool {
-    match lines {
-        [line] => match &line.job {
-            Job::ReadArea { item } => *item == expected,
-            _ => false,
-        },
-        _ => false,
-    }
-}
-
-const WRITES: &[(&str, Fields, &[u8])] = &[
+    (
+        "read PE char 1 65535",
+        ReadArea(item!(0x81, 0, 0x03, 65_535, 8)),
+    ),
+    ("read PA word 2 1\n", ReadArea(item!(0x82, 0, 0x04, 1, 16))),
+    ("read MK int 3 1\r\n", ReadArea(item!(0x83, 0, 0x05, 1, 24))),
+    ("read DB1 dint 5 01", ReadArea(item!(0x84, 1, 0x07, 1, 40))),
+    (
+        "read DB1 real 2097151 1",
+        ReadArea(item!(0x84, 1, 0x08, 1, 16_777_208)),
+    ),
+    (
+        "read CT counter 16777215 2",
+        ReadArea(item!(0x1C, 0, 0x1C, 2, 16_777_215)),
+    ),
+    ("read TM timer 9 2", ReadArea(item!(0x1D, 0, 0x1D, 2, 9))),
+    ("read TM bit 9 2", ReadArea(item!(0x1D, 0, 0x01, 2, 9))),
+    (
+        "read DB1 counter 9 2",
+        ReadArea(item!(0x84, 1, 0x1C, 2, 72)),
+    ),
+    ("read DB1 bit 1.2 3", ReadArea(item!(0x84, 1, 0x01, 3, 10))),
+    // An item that is written.
     (
         "write DB1 byte 1 2aFB\n",
-        (0x84, 1, 0x02, 2, 8),
-        &[0x2A, 0xFB],
+        WriteArea(item!(0x84, 1, 0x02, 2, 8), &[0x2A, 0xFB]),
     ),
-    ("write DB1 word 1 0102\n", (0x84, 1, 0x04, 1, 8), &[1, 2]),
-    ("write CT counter 5 0102", (0x1C, 0, 0x1C, 1, 5), &[1, 2]),
-    ("write MK bit 5.1 0100", (0x83, 0, 0x01, 2, 41), &[1, 0]),
+    (
+        "write DB1 word 1 0102\n",
+        WriteArea(item!(0x84, 1, 0x04, 1, 8), &[1, 2]),
+    ),
+    (
+        "write CT counter 5 0102",
+        WriteArea(item!(0x1C, 0, 0x1C, 1, 5), &[1, 2]),
+    ),
+    (
+        "write MK bit 5.1 0100",
+        WriteArea(item!(0x83, 0, 0x01, 2, 41), &[1, 0]),
+    ),
+    // Status lists.
+    ("szl 0011 0000", Szl(0x0011, 0)),
+    ("szl 0424 0001\r\n", Szl(0x0424, 1)),
+    ("szl aBcD FFfe", Szl(0xABCD, 0xFFFE)),
+    // Moments.
+    (
+        "setclock 2024-02-29T13:45:30.123",
+        ClockSet(1_709_214_330_123),
+    ),
+    (
+        "setclock 1990-01-01T00:00:00.000",
+        ClockSet(631_152_000_000),
+    ),
+    (
+        "setclock 2089-12-31T23:59:59.999\n",
+        ClockSet(3_786_911_999_999),
+    ),
+    // Passwords.
+    ("password ", PasswordSet(b"")),
+    ("password secret", PasswordSet(b"secret")),
+    ("password !~123456789", PasswordSet(b"!~123456789")),
+    // Jobs without fields.
+    ("list", List),
+    ("clock", ClockRead),
+    ("start", Start),
+    ("coldstart", ColdStart),
+    ("stop", Stop),
+    ("compress", Compress),
+    ("copy", CopyRam),
+    ("status", Status),
+    ("clearpassword", PasswordClear),
+    // Kinds of blocks.
+    ("listof OB", ListOf(0x38)),
+    ("listof DB", ListOf(0x41)),
+    ("listof SDB", ListOf(0x42)),
+    ("listof FC", ListOf(0x43)),
+    ("listof SFC", ListOf(0x44)),
+    ("listof FB\r\n", ListOf(0x45)),
+    ("listof SFB\n", ListOf(0x46)),
+    // Blocks.
+    ("info DB 1", Info(0x41, 1)),
+    ("info OB 0", Info(0x38, 0)),
+    ("info SFB 65535", Info(0x46, 65_535)),
+    ("info FC 0000000007", Info(0x43, 7)),
+    ("upload DB 1", Upload(0x41, 1)),
+    ("upload FC 5", Upload(0x43, 5)),
+    ("delete FC 5\r\n", Delete(0x43, 5)),
+    ("delete OB 65535", Delete(0x38, 65_535)),
+    // Images.
+    ("download 70Ab", Download(&[0x70, 0xAB])),
+    ("download 70aB\r\n", Download(&[0x70, 0xAB])),
+    ("download 00\n", Download(&[0x00])),
+    // Whole data blocks.
+    ("dbget 1", DbGet(1)),
+    ("dbget 65535\n", DbGet(65_535)),
+    ("dbfill 1 00", DbFill(1, 0x00)),
+    ("dbfill 7 fE\r\n", DbFill(7, 0xFE)),
 ];
 
-fn writes_item(alloc: Global, text: &str, expected: Fields, octets: &[u8]) -> bool {
+/// These are the lines.
+fn are(lines: &[ScriptLine], rows: &[Row<'_>]) -> bool {
+    lines.len() == rows.len()
+        && lines
+            .iter()
+            .zip(rows)
+            .all(|(line, row)| (line.line, asked_of(&line.job)) == *row)
+}
+
+fn reads(alloc: Global, text: &[u8], rows: &[Row<'_>]) -> bool {
     match script_of(alloc, text) {
-        Ok(script) => writes(script.as_slice(), item(expected), octets),
+        Ok(script) => are(script.as_slice(), rows),
         Err(_) => false,
     }
 }
 
 #[test]
-fn written_item(rt: HostRuntime) -> Result<(), Fail> {
-    for (text, expected, octets) in WRITES {
+fn single_lines(rt: HostRuntime) -> Result<(), Fail> {
+    for (text, asked) in JOBS {
         assert!(rt;
-            writes_item(rt.alloc(), text, *expected, octets),
+            reads(rt.alloc(), text.as_bytes(), &[(1, *asked)]),
             "{text:?}"
         );
     }
     Ok(())
 }
 
-fn writes(lines: &[ScriptLine], expected: Item, written: &[u8]) -> bool {
-    match lines {
-        [line] => match &line.job {
-            Job::WriteArea { item, octets } => *item == expected && octets.as_slice() == written,
-            _ => false,
-        },
-        _ => false,
-    }
-}
-
-const SEVERAL: &str = "readmany DB1 byte 0 2 ; PE bit 0.1 1 ; CT counter 3 1\r\n\
-                       # x\n\
-                       writemany DB1 byte 0 0102 ; MK dword 4 0a0B0c0D\n\
-                       readmany PA byte 0 1";
-
-/// The first line of that.
-fn is_first(line: &ScriptLine) -> bool {
-    let items = [
-        item((0x84, 1, 0x02, 2, 0)),
-        item((0x81, 0, 0x01, 1, 1)),
-        item((0x1C, 0, 0x1C, 1, 3)),
-    ];
-    line.line == 1 && reads_many(&line.job, items.as_slice())
-}
-
-fn is_second(line: &ScriptLine) -> bool {
-    let items = [item((0x84, 1, 0x02, 2, 0)), item((0x83, 0, 0x06, 1, 32))];
-    line.line == 3 && writes_many(&line.job, items.as_slice(), &[1, 2, 10, 11, 12, 13])
-}
-
-fn is_third(line: &ScriptLine) -> bool {
-    let items = [item((0x82, 0, 0x02, 1, 0))];
-    line.line == 4 && reads_many(&line.job, items.as_slice())
-}
-
-fn are_three(lines: &[ScriptLine]) -> bool {
-    match lines {
-        [a, b, c] => is_first(a) && is_second(b) && is_third(c),
-        _ => false,
-    }
-}
-
-#[test]
-fn several_items(rt: HostRuntime) -> Result<(), Fail> {
-    let Ok(script) = script_of(rt.alloc(), SEVERAL) else {
-        return Err(Fail::from("not read"));
-    };
-    assert!(rt; are_three(script.as_slice()));
-    Ok(())
-}
-
-fn reads_many(job: &Job, expected: &[Item]) -> bool {
-    match job {
-        Job::ReadMany { items } => items.as_slice() == expected,
-        _ => false,
-    }
-}
-
-fn writes_many(job: &Job, expected: &[Item], written: &[u8]) -> bool {
-    match job {
-        Job::WriteMany { items, octets } => {
-            items.as_slice() == expected && octets.as_slice() == written
-        }
-        _ => false,
-    }
-}
-
-const LISTS: &[(&str, u16, u16)] = &[
-    ("szl 0011 0000", 0x0011, 0),
-    ("szl 0424 0001\r\n", 0x0424, 1),
-    ("szl aBcD FFfe", 0xABCD, 0xFFFE),
+/// Texts of no lines or of several.
+const SCRIPTS: &[(&str, &[Row<'_>])] = &[
+    ("", &[]),
+    ("\n", &[]),
+    ("\r\n\r\n", &[]),
+    ("# read\n#", &[]),
+    (
+        "\n# x\nread DB0000000001 dword 4 1",
+        &[(3, ReadArea(item!(0x84, 1, 0x06, 1, 32)))],
+    ),
+    (
+        "readmany DB1 byte 0 2 ; PE bit 0.1 1 ; CT counter 3 1\r\n\
+         # x\n\
+         writemany DB1 byte 0 0102 ; MK dword 4 0a0B0c0D\n\
+         readmany PA byte 0 1",
+        &[
+            (
+                1,
+                ReadMany(&[
+                    item!(0x84, 1, 0x02, 2, 0),
+                    item!(0x81, 0, 0x01, 1, 1),
+                    item!(0x1C, 0, 0x1C, 1, 3),
+                ]),
+            ),
+            (
+                3,
+                WriteMany(
+                    &[item!(0x84, 1, 0x02, 2, 0), item!(0x83, 0, 0x06, 1, 32)],
+                    &[1, 2, 10, 11, 12, 13],
+                ),
+            ),
+            (4, ReadMany(&[item!(0x82, 0, 0x02, 1, 0)])),
+        ],
+    ),
 ];
 
-fn reads_list(alloc: Global, text: &str, id: u16, index: u16) -> bool {
-    match script_of(alloc, text) {
-        Ok(script) => asks_list(script.as_slice(), id, index),
-        Err(_) => false,
-    }
-}
-
 #[test]
-fn status_lists(rt: HostRuntime) -> Result<(), Fail> {
-    for (text, id, index) in LISTS {
-        assert!(rt; reads_list(rt.alloc(), text, *id, *index), "{text:?}");
+fn scripts(rt: HostRuntime) -> Result<(), Fail> {
+    for (text, rows) in SCRIPTS {
+        assert!(rt; reads(rt.alloc(), text.as_bytes(), rows), "{text:?}");
     }
     Ok(())
 }
 
-fn asks_list(lines: &[ScriptLine], expected: u16, place: u16) -> bool {
-    match lines {
-        [line] => match &line.job {
-            Job::Szl { id, index } => *id == expected && *index == place,
-            _ => false,
-        },
-        _ => false,
-    }
-}
-
-const MOMENTS: &[(&str, u64)] = &[
-    ("setclock 2024-02-29T13:45:30.123", 1_709_214_330_123),
-    ("setclock 1990-01-01T00:00:00.000", 631_152_000_000),
-    ("setclock 2089-12-31T23:59:59.999\n", 3_786_911_999_999),
+/// How many elements are written, and the item, or what is wrong with it.
+const LONG: &[(usize, Result<Item, ScriptKind>)] = &[
+    (65_536, Err(ScriptKind::Number)),
+    (65_535, Ok(item!(0x84, 1, 0x02, 65_535, 0))),
+    (131_072, Err(ScriptKind::Number)),
 ];
 
-fn reads_moment(alloc: Global, text: &str, moment: u64) -> bool {
-    match script_of(alloc, text) {
-        Ok(script) => sets_clock(script.as_slice(), moment),
-        Err(_) => false,
-    }
-}
-
-#[test]
-fn moments(rt: HostRuntime) -> Result<(), Fail> {
-    for (text, moment) in MOMENTS {
-        assert!(rt; reads_moment(rt.alloc(), text, *moment), "{text:?}");
-    }
-    Ok(())
-}
-
-fn sets_clock(lines: &[ScriptLine], expected: u64) -> bool {
-    match lines {
-        [line] => match &line.job {
-            Job::ClockSet { moment } => *moment == expected,
-            _ => false,
-        },
-        _ => false,
-    }
-}
-
-const PASSWORDS: &[(&str, &str)] = &[
-    ("password ", ""),
-    ("password secret", "secret"),
-    ("password !~123456789", "!~123456789"),
-];
-
-fn reads_password(alloc: Global, text: &str, password: &str) -> bool {
-    match script_of(alloc, text) {
-        Ok(script) => sets_password(script.as_slice(), password.as_bytes()),
-        Err(_) => false,
-    }
-}
-
-#[test]
-fn passwords(rt: HostRuntime) -> Result<(), Fail> {
-    for (text, password) in PASSWORDS {
-        assert!(rt; reads_password(rt.alloc(), text, password), "{text:?}");
-    }
-    Ok(())
-}
-
-fn sets_password(lines: &[ScriptLine], expected: &[u8]) -> bool {
-    match lines {
-        [line] => match &line.job {
-            Job::PasswordSet { text } => text.as_slice() == expected,
-            _ => false,
-        },
-        _ => false,
-    }
-}
-
-const NAMES: &[&str] = &[
-    "list",
-    "clock",
-    "start",
-    "coldstart",
-    "stop",
-    "compress",
-    "copy",
-    "status",
-    "clearpassword",
-];
-
-fn reads_name(alloc: Global, text: &str) -> bool {
-    match script_of(alloc, text) {
-        Ok(script) => is_named(script.as_slice(), text),
-        Err(_) => false,
-    }
-}
-
-#[test]
-fn jobs_without_fields(rt: HostRuntime) -> Result<(), Fail> {
-    for text in NAMES {
-        assert!(rt; reads_name(rt.alloc(), text), "{text:?}");
-    }
-    Ok(())
-}
-
-fn is_named(lines: &[ScriptLine], name: &str) -> bool {
-    match lines {
-        [line] => match &line.job {
-            Job::List => name == "list",
-            Job::ClockRead => name == "clock",
-            Job::Start => name == "start",
-            Job::ColdStart => name == "coldstart",
-            Job::Stop => name == "stop",
-            Job::Compress => name == "compress",
-            Job::CopyRam => name == "copy",
-            Job::Status => name == "status",
-            Job::PasswordClear => name == "clearpassword",
-            _ => false,
-        },
-        _ => false,
-    }
-}
-
-const EMPTY: &[&str] = &["", "\n", "\r\n\r\n", "# read\n#"];
-
-fn reads_nothing(alloc: Global, text: &str) -> bool {
-    match script_of(alloc, text) {
-        Ok(script) => script.as_slice().is_empty(),
-        Err(_) => false,
-    }
-}
-
-#[test]
-fn no_lines(rt: HostRuntime) -> Result<(), Fail> {
-    for text in EMPTY {
-        assert!(rt; reads_nothing(rt.alloc(), text), "{text:?}");
-    }
-    Ok(())
-}
-
-/// What is wrong with a write of so many elements.
-fn fault_of_many(alloc: Global, count: usize) -> Result<Option<ScriptKind>, Memory> {
-    let mut text = Vec::from_slice(alloc, b"write DB1 byte 0 ")?;
-    for _ in 0..count {
-        text.extend_from_slice(b"a0")?;
-    }
-    Ok(match read_script(alloc, text.as_slice()) {
-        Ok(_) => None,
-        Err(fault) => Some(fault.kind),
+fn reads_long(
+    alloc: Global,
+    count: usize,
+    wanted: Result<Item, ScriptKind>,
+) -> Result<bool, Memory> {
+    let text = long_text(alloc, "write DB1 byte 0 ", count, "")?;
+    let octets = long_octets(alloc, count)?;
+    Ok(match wanted {
+        Ok(item) => reads(
+            alloc,
+            text.as_slice(),
+            &[(1, WriteArea(item, octets.as_slice()))],
+        ),
+        Err(kind) => script_of(alloc, text.as_slice()).err() == Some(ScriptFault { line: 1, kind }),
     })
 }
 
 #[test]
 fn too_many_elements(rt: HostRuntime) -> Result<(), Fail> {
-    assert!(rt; fault_of_many(rt.alloc(), 65_536)? == Some(ScriptKind::Number));
-    assert!(rt; fault_of_many(rt.alloc(), 65_535)?.is_none());
-    assert!(rt; fault_of_many(rt.alloc(), 131_072)? == Some(ScriptKind::Number));
+    for (count, wanted) in LONG {
+        assert!(rt; reads_long(rt.alloc(), *count, *wanted)?, "{count}");
+    }
     Ok(())
 }

@@ -1,3 +1,5 @@
+// Sends files: the blocks of lines, or the first wrong line and what is wrong with it.
+use crate::long::{long_octets, long_text};
 use s7_outer::Memory;
 use s7_script::{ScriptFault, ScriptKind, SendLine, Sends, read_sends};
 use std::alloc::Global;
@@ -8,59 +10,52 @@ fn sends_of(alloc: Global, text: &[u8]) -> Result<Sends, ScriptFault> {
     read_sends(alloc, text)
 }
 
-fn is_block(block: &SendLine, line: u32, rid: u32, octets: &[u8]) -> bool {
-    block.line == line && block.rid == rid && block.body.as_slice() == octets
-}
+/// The number of a line, and the R_ID and the octets of its block.
+type Row<'a> = (u32, u32, &'a [u8]);
 
-fn are_both(blocks: &[SendLine]) -> bool {
-    match blocks {
-        [a, b] => is_block(a, 3, 42, &[10, 11]) && is_block(b, 6, 4_294_967_294, &[0]),
-        _ => false,
-    }
-}
-
-#[test]
-fn blocks_of_lines(rt: HostRuntime) -> Result<(), Fail> {
-    let text = b"# two blocks\n\nsend 0000002A 0a0B\r\n\r\n#\nsend fFFFfffe 00";
-    let Ok(sends) = sends_of(rt.alloc(), text) else {
-        return Err(Fail::from("not read"));
-    };
-    assert!(rt; are_both(sends.as_slice()));
-    Ok(())
-}
-
-const IDS: &[(&str, u32)] = &[
-    ("send 01020304 aa", 16_909_060),
-    ("send 01000000 aa", 16_777_216),
-    ("send 00010000 aa", 65_536),
-    ("send 00000100 aa\n", 256),
-    ("send 00000001 aa\r\n", 1),
-    ("send 00000000 aa", 0),
+const BLOCKS: &[(&str, &[Row<'_>])] = &[
+    // No blocks.
+    ("", &[]),
+    ("\n", &[]),
+    ("\r\n\r\n", &[]),
+    ("# send\n#", &[]),
+    // Two blocks.
+    (
+        "# two blocks\n\nsend 0000002A 0a0B\r\n\r\n#\nsend fFFFfffe 00",
+        &[(3, 42, &[10, 11]), (6, 4_294_967_294, &[0])],
+    ),
+    // The octets of the R_ID are in order.
+    ("send 01020304 aa", &[(1, 16_909_060, &[0xAA])]),
+    ("send 01000000 aa", &[(1, 16_777_216, &[0xAA])]),
+    ("send 00010000 aa", &[(1, 65_536, &[0xAA])]),
+    ("send 00000100 aa\n", &[(1, 256, &[0xAA])]),
+    ("send 00000001 aa\r\n", &[(1, 1, &[0xAA])]),
+    ("send 00000000 aa", &[(1, 0, &[0xAA])]),
 ];
 
-/// The only block stands in the first line, under this R_ID.
-fn is_alone(blocks: &[SendLine], rid: u32) -> bool {
-    match blocks {
-        [block] => block.line == 1 && block.rid == rid,
-        _ => false,
-    }
+/// These are the blocks.
+fn are(blocks: &[SendLine], rows: &[Row<'_>]) -> bool {
+    blocks.len() == rows.len()
+        && blocks.iter().zip(rows).all(|(block, row)| (block.line, block.rid, block.body.as_slice())
+            == *row)
 }
 
-fn reads_id(alloc: Global, text: &str, rid: u32) -> bool {
-    match sends_of(alloc, text.as_bytes()) {
-        Ok(sends) => is_alone(sends.as_slice(), rid),
+fn reads(alloc: Global, text: &[u8], rows: &[Row<'_>]) -> bool {
+    match sends_of(alloc, text) {
+        Ok(sends) => are(sends.as_slice(), rows),
         Err(_) => false,
     }
 }
 
 #[test]
-fn octets_of_the_id_in_order(rt: HostRuntime) -> Result<(), Fail> {
-    for (text, rid) in IDS {
-        assert!(rt; reads_id(rt.alloc(), text, *rid), "{text:?}");
+fn blocks_of_lines(rt: HostRuntime) -> Result<(), Fail> {
+    for (text, rows) in BLOCKS {
+        assert!(rt; reads(rt.alloc(), text.as_bytes(), rows), "{text:?}");
     }
     Ok(())
 }
 
+/// Texts, their first wrong line, and what is wrong with it.
 const WRONG_LINES: &[(&str, u32, ScriptKind)] = &[
     ("sent 00000001 aa", 1, ScriptKind::Word),
     ("Send 00000001 aa", 1, ScriptKind::Word),
@@ -94,10 +89,6 @@ const WRONG_LINES: &[(&str, u32, ScriptKind)] = &[
     ),
 ];
 
-fn fault_of(alloc: Global, text: &str) -> Option<ScriptFault> {
-    sends_of(alloc, text.as_bytes()).err()
-}
-
 #[test]
 fn first_wrong_line(rt: HostRuntime) -> Result<(), Fail> {
     for (text, line, kind) in WRONG_LINES {
@@ -105,67 +96,41 @@ fn first_wrong_line(rt: HostRuntime) -> Result<(), Fail> {
             line: *line,
             kind: *kind,
         };
-        assert!(rt; fault_of(rt.alloc(), text) == Some(fault), "{text:?}");
+        let told = sends_of(rt.alloc(), text.as_bytes()).err();
+        assert!(rt; told == Some(fault), "{text:?}");
     }
     Ok(())
 }
 
-const EMPTY: &[&str] = &["", "\n", "\r\n\r\n", "# send\n#"];
+/// How many octets a block has, what stands behind it, and what is wrong with it.
+const LONG: &[(usize, &str, Option<ScriptKind>)] = &[
+    (65_535, "", None),
+    (65_535, " ", Some(ScriptKind::Fields)),
+    (65_536, "", Some(ScriptKind::Number)),
+    (65_536, " ", Some(ScriptKind::Number)),
+];
 
-fn reads_nothing(alloc: Global, text: &str) -> bool {
-    match sends_of(alloc, text.as_bytes()) {
-        Ok(sends) => sends.as_slice().is_empty(),
-        Err(_) => false,
-    }
-}
-
-#[test]
-fn no_blocks(rt: HostRuntime) -> Result<(), Fail> {
-    for text in EMPTY {
-        assert!(rt; reads_nothing(rt.alloc(), text), "{text:?}");
-    }
-    Ok(())
-}
-
-/// How many octets are read of a block of so many with this behind it, or what is wrong with it.
-fn length_read(
+fn reads_long(
     alloc: Global,
-    octets: usize,
-    after: &[u8],
-) -> Result<Result<usize, ScriptKind>, Memory> {
-    let mut text = Vec::from_slice(alloc, b"send 00000001 ")?;
-    for _ in 0..octets {
-        text.extend_from_slice(b"a0")?;
-    }
-    text.extend_from_slice(after)?;
-    Ok(match sends_of(alloc, text.as_slice()) {
-        Ok(sends) => Ok(octets_of(sends.as_slice())),
-        Err(fault) => Err(fault.kind),
+    count: usize,
+    after: &str,
+    wrong: Option<ScriptKind>,
+) -> Result<bool, Memory> {
+    let text = long_text(alloc, "send 00000001 ", count, after)?;
+    let octets = long_octets(alloc, count)?;
+    Ok(match wrong {
+        None => reads(alloc, text.as_slice(), &[(1, 1, octets.as_slice())]),
+        Some(kind) => sends_of(alloc, text.as_slice()).err() == Some(ScriptFault { line: 1, kind }),
     })
 }
 
-const LONG: &[(usize, &[u8], Result<usize, ScriptKind>)] = &[
-    (65_535, b"", Ok(65_535)),
-    (65_535, b" ", Err(ScriptKind::Fields)),
-    (65_536, b"", Err(ScriptKind::Number)),
-    (65_536, b" ", Err(ScriptKind::Number)),
-];
-
 #[test]
 fn longest_block(rt: HostRuntime) -> Result<(), Fail> {
-    for (k, (octets, after, expected)) in LONG.iter().enumerate() {
+    for (count, after, wrong) in LONG {
         assert!(rt;
-            length_read(rt.alloc(), *octets, after)? == *expected,
-            "row {k}"
+            reads_long(rt.alloc(), *count, after, *wrong)?,
+            "{count} {after:?}"
         );
     }
     Ok(())
-}
-
-/// How many octets the only block has.
-fn octets_of(blocks: &[SendLine]) -> usize {
-    match blocks {
-        [block] => block.body.as_slice().len(),
-        _ => 0,
-    }
 }

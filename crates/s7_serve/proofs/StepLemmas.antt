@@ -166,7 +166,7 @@ module _ {H L : Type 0} (keeps : H → Type 0) (gets : H → Handed) (shows : L 
   pub stopped : (port most : ℕ) (before old now : DoorShown L) (seat all : SeatTold) (lines : List L) (works works' : List (Work H L)) (why : Option Stop) → is_some why ≡ true
       → IfSome why (λ w. (p : ℕ) (b : DoorShown L) (ls : List L) → IsServing keeps gets shows terms p b old seat ls works
       → HasStopped keeps gets shows terms p b now all ls works' × Stops p b now w)
-      → IsServing keeps gets shows terms port before old seat lines works → length lines ≤ most
+      → IsServing keeps gets shows terms port before old seat lines works → length lines < most
       → IsAccepted keeps gets shows terms port most before now all lines works' why
   stopped port most before old now seat all lines works works' None some is s few = absurd (true≢false (sym some))
   stopped port most before old now seat all lines works works' (Some w) some is s few =
@@ -379,14 +379,14 @@ module _ {H L : Type 0} (keeps : H → Type 0) (gets : H → Handed) (shows : L 
   }
   has_given port most before now all lines works (Some stop.End) count a many some = record {
     gives = a.0.gives;
-    few = a.1;
+    few = omega (arith, a.1);
     fault = λ f. absurd (true≢false (sym f));
     all = λ f. inr a.2;
   }
   has_given port most before now all lines works (Some stop.Failed) count a many some = record {
     gives = a.0.gives;
-    few = a.1;
-    fault = λ f. (omega (arith, some_came true count some f, many, as_many_came all lines works a.0.under_way), a.2);
+    few = omega (arith, a.1);
+    fault = λ f. (omega (arith, some_came true count some f, many, as_many_came all lines works a.0.under_way), a.1, a.2);
     all = λ f. absurd (true≢false f);
   }
 

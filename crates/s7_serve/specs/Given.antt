@@ -21,12 +21,12 @@ pub record Gives {L : Type 0} (port : ℕ) (old new : DoorShown L) (lines : List
   pub gave : Gave lines old.coming new.coming
   pub faults : NoPortFell old.faults new.faults
 
--- A DOOR HEARD A PORT AND GAVE THESE LINKS in order, at most so many; where there were fewer, it ended, or it failed
--- after a first one and the port's count rose
+-- A DOOR HEARD A PORT AND GAVE THESE LINKS in order, at most so many, and was asked for no more; where there were fewer,
+-- it ended, or it failed after a first one and the port's count rose
 pub record HasGiven {L : Type 0} (port most : ℕ) (old new : DoorShown L) (lines : List L) (failed : Bool) : Type 0 where
   pub gives : Gives port old new lines
   pub few : length lines ≤ most
-  pub fault : failed ≡ true → (0 < length lines) × Rose (old.faults port) (new.faults port)
+  pub fault : failed ≡ true → (0 < length lines) × (length lines < most) × Rose (old.faults port) (new.faults port)
   pub all : failed ≡ false → (length lines ≡ most) ⊎ IsEmptied new.coming
 
 -- A door failed before a link came.

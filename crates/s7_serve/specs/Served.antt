@@ -3,7 +3,7 @@ use Rattle.std.specs.Prelude.{◌≡◌, ◌⊎◌, ℕ, List, Option, None, IfS
 use Rattle.std.specs.Io.KnownBytes.{prepend_known, append_known}
 use Rattle.s7_outer.specs.Shown.{Shown}
 use Rattle.s7_outer.specs.Calls.{shut_down}
-use Rattle.s7_outer.specs.Count.{RoseBy}
+use Rattle.s7_outer.specs.Count.{RoseExactly}
 use Rattle.s7_plant.specs.State.{State}
 use Rattle.s7_session.specs.declared.outcome.Outcome.{Outcome}
 use Rattle.s7_session.specs.declared.outcome.Outcome.TheVariants as outcome
@@ -48,7 +48,7 @@ pub record IsServedLink (opening : State) (limit : ℕ) (first : LinkState) (his
   -- the history is legal for the link
   pub legal : IsLegalFor opening limit history served.link mets pipe.moment served.entries served.last
   -- the clock failed as often as it was told, and was asked only where a telegram asks for a moment
-  pub clock : RoseBy (clock_failures (verdicts_of mets)) pipe.clock_faults served.line.clock_faults
+  pub clock : RoseExactly (clock_failures (verdicts_of mets)) pipe.clock_faults served.line.clock_faults
   pub unasked : NoneTimed mets → served.line.clock_faults ≡ pipe.clock_faults
   pub end : IsEnd pipe served.line first taken (verdicts_of mets) served.outcome
 

@@ -112,7 +112,7 @@ IsAccepted keeps gets shows terms port most before now all lines works None =
     IsServing keeps gets shows terms port before now all lines works × (length lines ≡ most)
 IsAccepted keeps gets shows terms port most before now all lines works (Some why) =
     HasStopped keeps gets shows terms port before now all lines works
-    × (length lines ≤ most) × Stops port before now why
+    × (length lines < most) × Stops port before now why
 
 -- THE FIRST OF THE LINKS WERE TAKEN IN, and the others are served or were.
 pub record IsGathering {H L : Type 0} (keeps : H → Type 0) (gets : H → Handed) (shows : L → Shown) (terms : Terms)

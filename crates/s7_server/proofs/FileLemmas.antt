@@ -1,19 +1,20 @@
 -- What holds from files on that were left as they were holds from those before on.
-use Rattle.std.proofs.Common.{◌≡◌, ◌∙◌, sym, ap, subst, arith, List, ℕ, Option, Some, None}
+use Rattle.std.proofs.Common.{◌≡◌, ◌∙◌, refl, sym, ap, subst, arith, List, ℕ, Option, Some, None}
 use Rattle.std.specs.Prelude.{IfSome, IsTrue}
 use Rattle.s7_outer.specs.FilesShown.{FilesShown}
 use Rattle.s7_outer.specs.OutShown.{OutShown}
 use Rattle.s7_outer.specs.Shown.{Shown}
 use Rattle.s7_area.specs.Memory.{Memory}
-use Rattle.s7_script.specs.Naming.{Named, path, block, faulty}
+use Rattle.s7_plant.specs.Books.{BookTold}
+use Rattle.s7_script.specs.Naming.{Named, naming, path, block, faulty}
 use Rattle.s7_script.specs.Loading.{LeavesFiles}
 use Rattle.s7_server.specs.declared.run.Ended.{Ended}
 use Rattle.s7_server.specs.declared.run.Ended.TheVariants as ended
 use Rattle.s7_server.specs.declared.run.Run.{Run}
 use Rattle.s7_server.specs.Asked.{AskedTold}
-use Rattle.s7_server.specs.End.{Ends, FileFails}
-use Rattle.s7_server.specs.Report.{BreaksOff, report_text}
-use Rattle.s7_server.specs.Statuses.{output, status_of}
+use Rattle.s7_server.specs.End.{Ends, FileFails, Opens, ReadsNamed}
+use Rattle.s7_server.specs.Report.{BreaksOff, Printed, door_line, report_text}
+use Rattle.s7_server.specs.Statuses.{door, output, status_of}
 use Rattle.s7_server.specs.Told.{run_told}
 use Rattle.s7_server.specs.Saving.{ChangesOnly, HoldsAreas, KeepsBut}
 
@@ -71,3 +72,23 @@ broken shows asked failed (Some run) a b s t ended.Areas entry same is e = absur
 broken shows asked failed (Some run) a b s t ended.File entry same is e = absurd (omega (arith, is))
 broken shows asked failed (Some run) a b s t ended.Door entry same is e = absurd (omega (arith, is))
 broken shows asked failed (Some run) a b s t ended.Memory entry same is e = absurd (omega (arith, is))
+
+-- the door failed behind a book that was opened, and nothing was printed before
+pub door_ended : {L : Type 0} (O : Type 0) (shows : L → Shown) (asked : AskedTold) (failed : Type 0) (book : BookTold)
+    (a b : FilesShown) (s s' t : OutShown) (how : Ended) → Opens asked a book → failed → s' ≡ s → how ≡ ended.Door
+    → Printed s' t door_line
+    → Ends {L = L} {O = O} shows asked (ReadsNamed (naming asked.areas) a × failed) None a b s t how
+door_ended {L} O shows asked failed book a b s s' t how opens met same is printed =
+    subst (λ h. Ends {L = L} {O = O} shows asked (ReadsNamed (naming asked.areas) a × failed) None a b s t h) (sym is)
+    (refl, ((book.opening.areas, opens.opened), met), subst (λ x. Printed x t door_line) same printed)
+
+-- what holds where the door failed
+pub door_told : {L O : Type 0} (shows : L → Shown) (asked : AskedTold) (failed : Type 0) (run : Option (Run L O))
+    (a b : FilesShown) (s t : OutShown) (how : Ended) → status_of how ≡ door → Ends shows asked failed run a b s t how
+    → failed × Printed s t door_line
+door_told shows asked failed run a b s t ended.Door is e = (e.1, e.2)
+door_told shows asked failed run a b s t ended.Output is e = absurd (omega (arith, is))
+door_told shows asked failed run a b s t ended.Done is e = absurd (omega (arith, is))
+door_told shows asked failed run a b s t ended.Areas is e = absurd (omega (arith, is))
+door_told shows asked failed run a b s t ended.File is e = absurd (omega (arith, is))
+door_told shows asked failed run a b s t ended.Memory is e = absurd (omega (arith, is))

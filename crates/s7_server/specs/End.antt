@@ -103,12 +103,17 @@ abbrev pub FileFails : Option (List ℕ) → FilesShown → FilesShown → OutSh
 FileFails failed files files' out out' =
     IsSomeAnd failed (λ p. Rose (files.faults p) (files'.faults p) × Printed out out' (file_line p))
 
--- THE DOOR FAILED before a link came, and the line for it was printed
-abbrev pub DoorFails : {L : Type 0} → Option ServerTold → DoorShown L → DoorShown L → OutShown → OutShown → Type 0
-DoorFails None door door' out out' = ⊥
-DoorFails (Some (pipe areas save journal)) door door' out out' = ⊥
-DoorFails (Some (serve areas port links save journal entry)) door door' out out' =
-    HasFailed port door door' × Printed out out' door_line
+-- the areas that are named were read, which are those of the file where that is told
+abbrev pub ReadsNamed : Named → FilesShown → Type 0
+ReadsNamed named files = (opening : Memory) × (IsTold named files → named_gives named files.held ≡ Ok opening)
+
+-- THE DOOR FAILED before a link came, after the areas were read, and the line for it was printed
+abbrev pub DoorFails : {L : Type 0} → Option ServerTold → FilesShown → DoorShown L → DoorShown L → OutShown → OutShown
+    → Type 0
+DoorFails None files door door' out out' = ⊥
+DoorFails (Some (pipe areas save journal)) files door door' out out' = ⊥
+DoorFails (Some (serve areas port links save journal entry)) files door door' out out' =
+    (ReadsNamed (naming areas) files × HasFailed port door door') × Printed out out' door_line
 
 -- ---- how it ended
 

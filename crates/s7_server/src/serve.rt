@@ -7,7 +7,8 @@ ghost use Rattle.s7_plant.specs.State.{begins_with, state_of};
 ghost use Rattle.s7_serve.specs.Given.{HasFailed};
 ghost use Rattle.s7_session.specs.Books.{history_of};
 ghost use Rattle.s7_server.specs.Asked.{asked_told};
-ghost use Rattle.s7_server.specs.End.{Ends, ServesNamed};
+ghost use Rattle.s7_script.specs.Naming.{naming};
+ghost use Rattle.s7_server.specs.End.{Ends, ReadsNamed, ServesNamed};
 ghost use Rattle.s7_server.specs.Hosts.{ServesDoor};
 ghost use Rattle.s7_server.specs.Saving.{ChangesOnly};
 ghost use Rattle.s7_server.specs.Told.{events_of, run_told};
@@ -58,7 +59,9 @@ pub(crate) fn run_serve<
     ensures untouched { result.1 ≡ None → result.0 ≢ Ended.Door → D.shows door.new ≡ D.shows door.old }
     ensures changed { ChangesOnly (if is_some result.1 then (asked_told asked.entry).save else None)
         (F.shows files.old) (F.shows files.new) }
-    ensures ended { Ends L.shows (asked_told asked.entry) (HasFailed port (D.shows door.old) (D.shows door.new))
+    ensures ended { Ends L.shows (asked_told asked.entry)
+        (ReadsNamed (naming (asked_told asked.entry).areas) (F.shows files.old)
+        × HasFailed port (D.shows door.old) (D.shows door.new))
         result.1 (F.shows files.old) (F.shows files.new) (U.shows out.old) (U.shows out.new) result.0 }
 {
     let book = match open_book(alloc, asked, files, out, observers) {

@@ -63,7 +63,7 @@ pub const MEMORY: u8 = 9;
 /// Each observer, which has counted nothing yet, is told of each entry inside its turn, in order, so a slow
 /// one holds up all links.
 ///
-/// A run is there where links were served. It has the book with its observers, the links by rising number, from 1 on, and
+/// A run is there where links were served, or the door ended before one came. It has the book with its observers, the links by rising number, from 1 on, and
 /// whether the door failed after a first link. All memory but that of the links' sessions is taken
 /// before a link is read or the door is asked. Where no run is there the link comes back as it was, no
 /// path changes, and the door has given no link; with a status other than 4 it is as it was. `serve`
@@ -101,7 +101,7 @@ pub fn server_main<
     ensures file_failed { result.status ≡ status.file
         → FileFails (if is_some result.run then save_path (command_of words.now) else areas_path (command_of words.now))
         (F.shows files.old) (F.shows files.new) (U.shows out.old) (U.shows out.new) }
-    ensures door_failed { result.status ≡ status.door → DoorFails (command_of words.now)
+    ensures door_failed { result.status ≡ status.door → DoorFails (command_of words.now) (F.shows files.old)
         (D.shows door.old) (D.shows door.new) (U.shows out.old) (U.shows out.new) }
     ensures output_failed { result.status ≡ status.output → Rose (U.shows out.old).faults (U.shows out.new).faults }
 
@@ -125,6 +125,7 @@ pub fn server_main<
     ensures paths { KeepsBut (if is_some result.run then save_path (command_of words.now) else None)
         (F.shows files.old) (F.shows files.new) }
     ensures file_faults { NonePathFell (F.shows files.old).faults (F.shows files.new).faults }
+    ensures unread { command_of words.now ≡ None → F.shows files.new ≡ F.shows files.old }
 
     // What was printed.
     ensures done { result.status ≡ status.done → IfSome result.run (λ run.

@@ -1,5 +1,5 @@
 -- Laws of what handling a message does.
-use Rattle.std.proofs.Common.{◌≡◌, ◌⊎◌, ℕ, ◌≤◌, true, false, List, [], ◌∷◌, ◌++◌, refl, ap, sym, ◌∙◌, subst}
+use Rattle.std.proofs.Common.{◌≡◌, ◌⊎◌, ℕ, ◌+◌, ◌≤◌, true, false, List, [], ◌∷◌, ◌++◌, refl, ap, sym, ◌∙◌, subst}
 use Rattle.std.proofs.Common.{append-nil, arith, IsTrue}
 use Rattle.std.specs.Prelude.{Option, None, Some}
 use Rattle.s7_outer.specs.Count.{Rose}
@@ -24,11 +24,11 @@ use Rattle.s7_session.proofs.DoerLemmas.{stays_same, trail_one}
 -- what asking the clock, or not asking it, does to a line
 pub record Looked (line line' : Shown) (asking : Asking) : Type 0 where
   pub same : line' ≡ record line { clock_faults = line'.clock_faults }
-  pub rises : line.clock_faults ≤ line'.clock_faults
+  pub once : line'.clock_faults ≤ line.clock_faults + 1
   pub unasked : asking.is_timed ≡ false → line'.clock_faults ≡ line.clock_faults
 
 pub looked_not : (line : Shown) (asking : Asking) → Looked line line asking
-looked_not line asking = record { same = refl; rises = omega arith; unasked = λ e. refl }
+looked_not line asking = record { same = refl; once = omega arith; unasked = λ e. refl }
 
 -- a message that asks nothing, with what it is owed
 pub answers_settled : {D : Type 0} (stands : D → List Entry → Type 0) (full lack : D → Ask → Type 0) (line : Shown) (d : D) (made : List Verdict → Made) (at : ℕ) (size : Option ℕ) (link : LinkState) (sent : List ℕ)
@@ -50,7 +50,7 @@ answers_settled stands full lack line d made at size link sent is = record {
   doer = λ es h. subst (stands d) (sym (append-nil es)) h;
   trail = subst (λ (ms : List Met). Trail full lack d ms d) (sym (ap (λ (m : Made). m.mets) is)) (stays_same full d);
   line_is = refl;
-  clock = omega arith;
+  clock = (omega arith, omega arith);
   unasked = λ h. refl;
   moments = tt;
 }
@@ -76,7 +76,7 @@ answers_closing stands full lack line d made at size link sent is none = record 
   doer = λ es h. subst (stands d) (sym (append-nil es)) h;
   trail = subst (λ (ms : List Met). Trail full lack d ms d) (sym (ap (λ (m : Made). m.mets) is)) (stays_same full d);
   line_is = refl;
-  clock = omega arith;
+  clock = (omega arith, omega arith);
   unasked = λ h. refl;
   moments = tt;
 }
@@ -84,12 +84,13 @@ answers_closing stands full lack line d made at size link sent is none = record 
 -- the doer entered what was asked
 pub answers_entered : {D : Type 0} (stands : D → List Entry → Type 0) (full lack : D → Ask → Type 0) (line line' : Shown) (d d' : D) (n : ℕ) (link link' : LinkState) (sequence : ℕ) (asking : Asking) (at : ℕ) (sent : List ℕ)
     (number : ℕ) (a : Ask) (reply : Said) (moment : ℕ)
-    → Looked line line' asking → (asking.is_timed ≡ false → moment ≡ 0) → IsAt line.moment (moment_of a.request)
+    → Looked line line' asking → line'.clock_faults ≡ line.clock_faults → (asking.is_timed ≡ false → moment ≡ 0)
+    → IsAt line.moment (moment_of a.request)
     → a ≡ asking.ask moment → asking.link reply ≡ link' → sent_messages n (asking.messages reply) ≡ sent
     → ((es : List Entry) → stands d es → stands d' (es ++ record { number = number; ask = a; reply = reply } ∷ []))
     → StaysFull full d d' → (full d (asking.ask moment) → ⊥)
     → Answers stands full lack line d line' d' (asks n link sequence asking) at (Some n) link' sent (handled.Entered number)
-answers_entered stands full lack line line' d d' n link link' sequence asking at sent number a reply moment looked untimed told is goes out doer still not_full = record {
+answers_entered stands full lack line line' d d' n link link' sequence asking at sent number a reply moment looked told untimed at_moment is goes out doer still not_full = record {
   verdicts = Entered reply moment ∷ [];
   one = omega arith;
   entries = record { number = number; ask = a; reply = reply } ∷ [];
@@ -106,17 +107,18 @@ answers_entered stands full lack line line' d d' n link link' sequence asking at
   doer = doer;
   trail = trail_one full lack d d' (met asking (Entered reply moment)) still (not_full, untimed);
   line_is = looked.same;
-  clock = omega (arith, looked.rises);
+  clock = (omega (arith, told), omega (arith, told));
   unasked = λ h. looked.unasked h.0;
-  moments = (told, tt);
+  moments = (at_moment, tt);
 }
 
 -- the doer was full
 pub answers_full : {D : Type 0} (stands : D → List Entry → Type 0) (full lack : D → Ask → Type 0) (line line' : Shown) (d d' : D) (n : ℕ) (link link' : LinkState) (sequence : ℕ) (asking : Asking) (at : ℕ) (sent : List ℕ) (moment : ℕ)
-    → Looked line line' asking → link ≡ link' → refusal_sent n sequence FULL ≡ sent
+    → Looked line line' asking → line'.clock_faults ≡ line.clock_faults → link ≡ link'
+    → refusal_sent n sequence FULL ≡ sent
     → ((es : List Entry) → stands d es → stands d' es) → StaysFull full d d' → full d' (asking.ask moment)
     → Answers stands full lack line d line' d' (asks n link sequence asking) at (Some n) link' sent handled.Answered
-answers_full stands full lack line line' d d' n link link' sequence asking at sent moment looked goes out doer still is_full = record {
+answers_full stands full lack line line' d d' n link link' sequence asking at sent moment looked told goes out doer still is_full = record {
   verdicts = Full ∷ [];
   one = omega arith;
   entries = [];
@@ -133,7 +135,7 @@ answers_full stands full lack line line' d d' n link link' sequence asking at se
   doer = λ es h. subst (stands d') (sym (append-nil es)) (doer es h);
   trail = trail_one full lack d d' (met asking Full) still (moment, is_full);
   line_is = looked.same;
-  clock = omega (arith, looked.rises);
+  clock = (omega (arith, told), omega (arith, told));
   unasked = λ h. looked.unasked h.0;
   moments = tt;
 }
@@ -167,18 +169,18 @@ answers_clock_failed stands full lack line line' d n link link' sequence asking 
       trail = subst (λ (ms : List Met). Trail full lack d ms d) (sym (ap (λ (m : Made). m.mets) is))
           (trail_one full lack d d (met asking ClockFailed) (stays_same full d) (subst IsTrue (sym timed) refl));
       line_is = looked.same;
-      clock = omega (arith, rose);
+      clock = (omega (arith, rose), omega (arith, looked.once));
       unasked = λ h. looked.unasked (subst NoneTimed (ap (λ (m : Made). m.mets) is) h).0;
       moments = tt;
     }
 
 -- memory was wanting
 pub answers_memory : {D : Type 0} (stands : D → List Entry → Type 0) (full lack : D → Ask → Type 0) (line line' : Shown) (d d' : D) (n : ℕ) (link link' : LinkState) (sequence : ℕ) (asking : Asking) (at : ℕ) (sent : List ℕ)
-    → Looked line line' asking → sent ≡ []
+    → Looked line line' asking → line'.clock_faults ≡ line.clock_faults → sent ≡ []
     → ((es : List Entry) → stands d es → stands d' es) → StaysFull full d d'
     → IsTrue asking.is_copied ⊎ ((moment : ℕ) × lack d (asking.ask moment))
     → Answers stands full lack line d line' d' (asks n link sequence asking) at (Some n) link' sent handled.NoMemory
-answers_memory stands full lack line line' d d' n link link' sequence asking at sent looked none doer still lacks = record {
+answers_memory stands full lack line line' d d' n link link' sequence asking at sent looked told none doer still lacks = record {
   verdicts = NoMemory ∷ [];
   one = omega arith;
   entries = [];
@@ -195,7 +197,7 @@ answers_memory stands full lack line line' d d' n link link' sequence asking at 
   doer = λ es h. subst (stands d') (sym (append-nil es)) (doer es h);
   trail = trail_one full lack d d' (met asking NoMemory) still lacks;
   line_is = looked.same;
-  clock = omega (arith, looked.rises);
+  clock = (omega (arith, told), omega (arith, told));
   unasked = λ h. looked.unasked h.0;
   moments = tt;
 }

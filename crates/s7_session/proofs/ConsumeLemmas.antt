@@ -2,7 +2,7 @@
 use Rattle.std.proofs.Common.{◌≡◌, ◌≢◌, ℕ, suc, ◌+◌, ◌<◌, ◌≤◌, List, [], ◌∷◌, ◌++◌, map, length, refl, ap, sym, ◌∙◌}
 use Rattle.std.proofs.Common.{subst, arith, length-append, append-nil, append_assoc}
 use Rattle.std.specs.Prelude.{Option, None, Some}
-use Rattle.s7_outer.specs.Count.{RoseBy}
+use Rattle.s7_outer.specs.Count.{RoseExactly}
 use Rattle.s7_outer.specs.Shown.{Shown}
 use Rattle.s7_plant.specs.declared.request.Ask.{Ask}
 use Rattle.s7_cotp.specs.declared.tpdu.Connection.{Connection}
@@ -153,7 +153,7 @@ pub record Uses {D : Type 0} (stands : D → List Entry → Type 0) (full lack :
   pub waits : result ≡ turn.NotYet → ⊥
   pub by_octets : (o : Outcome) → result ≡ turn.Closed o → (o ≢ outcome.ReadFault) × (o ≢ outcome.WriteFault)
   pub line_is : line' ≡ record line { clock_faults = line'.clock_faults }
-  pub clock : RoseBy (clock_failures (verdicts_of ms)) line.clock_faults line'.clock_faults
+  pub clock : RoseExactly (clock_failures (verdicts_of ms)) line.clock_faults line'.clock_faults
   pub unasked : NoneTimed ms → line'.clock_faults ≡ line.clock_faults
   pub moments : AllAt line.moment entries
   pub cause : (o : Outcome) → result ≡ turn.Closed o → (k k' : Shown)
@@ -242,7 +242,7 @@ uses_more stands full lack old new line d used going opens found some inbox coun
   waits = went_not_yet;
   by_octets = λ o e. absurd (went_not_closed o e);
   line_is = refl;
-  clock = omega arith;
+  clock = (omega arith, omega arith);
   unasked = λ h. refl;
   moments = tt;
   cause = λ o e. absurd (went_not_closed o e);
@@ -289,7 +289,7 @@ uses_opened stands full lack old new line d used c told going opens found event 
   waits = went_not_yet;
   by_octets = λ o e. absurd (went_not_closed o e);
   line_is = refl;
-  clock = omega arith;
+  clock = (omega arith, omega arith);
   unasked = λ h. refl;
   moments = tt;
   cause = λ o e. absurd (went_not_closed o e);
@@ -402,7 +402,7 @@ uses_message stands full lack old mid new line line' d d' used result a going op
       waits = λ e. turn_not_yet at a.handled (sym a.result_is ∙ e);
       by_octets = λ o e. turn_by_octets at a.handled o (sym a.result_is ∙ e);
       line_is = t.line_is;
-      clock = subst (λ (vs : List Verdict). RoseBy (clock_failures vs) line.clock_faults line'.clock_faults) (sym t.mets_are) t.clock;
+      clock = subst (λ (vs : List Verdict). RoseExactly (clock_failures vs) line.clock_faults line'.clock_faults) (sym t.mets_are) t.clock;
       unasked = t.unasked;
       moments = t.moments;
       cause = λ o e k k' first b js w h.
@@ -497,7 +497,7 @@ uses_ended stands full lack old new line d used found end ends going opens finds
       waits = closed_not_yet end;
       by_octets = λ o e. subst IsByOctets (same_closed end o e) octets;
       line_is = refl;
-      clock = omega arith;
+      clock = (omega arith, omega arith);
       unasked = λ h. refl;
       moments = tt;
       cause = λ o e k k' first b js w h.

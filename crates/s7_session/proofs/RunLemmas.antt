@@ -146,6 +146,7 @@ link_run stands full lack first old new k k' d d' o served fresh =
       fits = m.fits;
       space = m.space;
       lent = m.lent;
+      shut = m.shut;
       moment = m.moment;
       owed = fin.owed;
       asked = g.mets s.met ∙ (m.asked first [] [] [] fresh.stands ∙ ap (λ (p : Past). p.mets ++ m.mets) (past_nothing first []));

@@ -35,6 +35,10 @@ not_yet_not_went e = cc
 pub not_yet_not_closed : (o : Outcome) → turn.NotYet ≡ turn.Closed o → ⊥
 not_yet_not_closed o e = cc
 
+-- one turn closes with one outcome
+pub closed_same : (o p : Outcome) (t : Turn) → t ≡ turn.Closed o → t ≡ turn.Closed p → o ≡ p
+closed_same o p t e h = sym (same_closed p o (sym h ∙ e))
+
 pub write_not_read : outcome.WriteFault ≡ outcome.ReadFault → ⊥
 write_not_read e = cc
 
@@ -99,6 +103,7 @@ moves_used stands full lack old new link link' d d' result k = record {
   fits = fits_none link.space;
   space = ap (λ x. x.space) k.line ∙ space_none link.space;
   lent = ap (λ x. x.lent) k.line;
+  shut = ap (λ x. x.is_shut) k.line;
   inbox = append-nil old.inbox ∙ k.inbox;
   stood = λ first b js w h.
       let P : List ℕ → Type 0 = λ x. Stands first new (b ++ k.used) (js ++ verdicts_of k.mets) x in

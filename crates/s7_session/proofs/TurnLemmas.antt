@@ -5,7 +5,7 @@ use Rattle.std.specs.Prelude.{Option, None, Some, option_map, IfSome}
 use Rattle.std.proofs.lemmas.List.{append-nil}
 use Rattle.std.specs.Io.KnownBytes.{prepend_known, append_known}
 use Rattle.s7_outer.specs.Shown.{Shown}
-use Rattle.s7_outer.specs.Count.{RoseBy}
+use Rattle.s7_outer.specs.Count.{RoseExactly}
 use Rattle.s7_plant.specs.declared.request.Ask.{Ask}
 use Rattle.s7_wire.specs.Reads.{HasRead}
 use Rattle.s7_session.specs.declared.session.Session.{Session}
@@ -60,6 +60,7 @@ pub record Moved (link link' : Shown) (received written : List ℕ) : Type 0 whe
   pub fits : IfSome link.space (λ s. length written ≤ s)
   pub space : link'.space ≡ option_map (λ s. s - length written) link.space
   pub lent : link'.lent ≡ link.lent
+  pub shut : link'.is_shut ≡ link.is_shut
   pub moment : link'.moment ≡ link.moment
   pub clock_faults : link'.clock_faults ≡ link.clock_faults
   pub faults : link.faults ≤ link'.faults
@@ -72,6 +73,7 @@ moved_nothing k = record {
   fits = fits_none k.space;
   space = space_none k.space;
   lent = refl;
+  shut = refl;
   moment = refl;
   clock_faults = refl;
   faults = omega arith;
@@ -86,6 +88,7 @@ moved_by_receive k k' received took faults waits same = record {
   fits = fits_none k.space;
   space = ap (λ x. x.space) same ∙ space_none k.space;
   lent = ap (λ x. x.lent) same;
+  shut = ap (λ x. x.is_shut) same;
   moment = ap (λ x. x.moment) same;
   clock_faults = ap (λ x. x.clock_faults) same;
   faults = faults;
@@ -100,6 +103,7 @@ moved_by_transmit k k' written wrote fits space faults waits same = record {
   fits = fits;
   space = space;
   lent = ap (λ x. x.lent) same;
+  shut = ap (λ x. x.is_shut) same;
   moment = ap (λ x. x.moment) same;
   clock_faults = ap (λ x. x.clock_faults) same;
   faults = faults;
@@ -121,8 +125,8 @@ pub last_number-append : (before : Option ℕ) (xs ys : List Entry) → last_num
 last_number-append before [] ys = refl
 last_number-append before (x ∷ xs) ys = last_number-append (Some x.number) xs ys
 
-pub rose_both : (m n a b c : ℕ) → RoseBy m a b → RoseBy n b c → RoseBy (m + n) a c
-rose_both m n a b c p q = omega (arith, p, q)
+pub rose_both : (m n a b c : ℕ) → RoseExactly m a b → RoseExactly n b c → RoseExactly (m + n) a c
+rose_both m n a b c p q = (omega (arith, p.0, q.0), omega (arith, p.1, q.1))
 
 pub map-append : (xs ys : List Entry) → map answered (xs ++ ys) ≡ map answered xs ++ map answered ys
 map-append [] ys = refl
@@ -201,6 +205,7 @@ moves_plain stands full lack old new link link' d received written k outbox inbo
   fits = moved.fits;
   space = moved.space;
   lent = moved.lent;
+  shut = moved.shut;
   inbox = inbox;
   stood = λ first b js w h. stands_nothing first new b js (w ++ written) (stood_plain first old new written k outbox closed b js w h);
   asked = λ first b js w h. ap (λ x. telegrams first x (js ++ [])) (append-nil b) ∙ (ap (λ x. telegrams first b x) (append-nil js) ∙ sym (append-nil (telegrams first b js)));
@@ -209,7 +214,7 @@ moves_plain stands full lack old new link link' d received written k outbox inbo
   newest = k.newest;
   doer = λ es h. subst (stands d) (sym (append-nil es)) h;
   trail = stays_same full d;
-  clock = omega (arith, moved.clock_faults);
+  clock = (omega (arith, moved.clock_faults), omega (arith, moved.clock_faults));
   unasked = λ h. moved.clock_faults;
   moment = moved.moment;
   moments = tt;
@@ -233,6 +238,7 @@ moves_both stands full lack s0 s1 s2 k0 k1 k2 d0 d1 d2 m n =
       fits = fits_twice k0.space m.written n.written m.fits (subst (λ (x : Option ℕ). IfSome x (λ s. length n.written ≤ s)) m.space n.fits);
       space = n.space ∙ (ap (option_map (λ s. s - length n.written)) m.space ∙ space_twice k0.space m.written n.written);
       lent = n.lent ∙ m.lent;
+      shut = n.shut ∙ m.shut;
       inbox = sym (append_assoc s0.inbox m.received n.received)
           ∙ ap (λ x. x ++ n.received) m.inbox
           ∙ append_assoc m.used s1.inbox n.received
@@ -259,7 +265,7 @@ moves_both stands full lack s0 s1 s2 k0 k1 k2 d0 d1 d2 m n =
       doer = λ es h. subst (stands d2) (append_assoc es m.entries n.entries) (n.doer (es ++ m.entries) (m.doer es h));
       trail = trail-append full lack d0 d1 d2 m.mets n.mets m.trail n.trail;
       clock =
-          subst (λ (x : ℕ). RoseBy x k0.clock_faults k2.clock_faults) (sym (ap clock_failures vs ∙ clock_failures-append (verdicts_of m.mets) (verdicts_of n.mets)))
+          subst (λ (x : ℕ). RoseExactly x k0.clock_faults k2.clock_faults) (sym (ap clock_failures vs ∙ clock_failures-append (verdicts_of m.mets) (verdicts_of n.mets)))
           (rose_both (clock_failures (verdicts_of m.mets)) (clock_failures (verdicts_of n.mets)) k0.clock_faults k1.clock_faults k2.clock_faults m.clock n.clock);
       unasked = λ h. n.unasked (NoneTimed-back m.mets n.mets h) ∙ m.unasked (NoneTimed-front m.mets n.mets h);
       moment = n.moment ∙ m.moment;

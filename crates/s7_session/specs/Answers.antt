@@ -1,6 +1,6 @@
 -- What handling one message does.
 use Rattle.std.specs.Prelude.{◌≡◌, ℕ, ◌≤◌, List, [], ◌++◌, length, map, Option, Some}
-use Rattle.s7_outer.specs.Count.{RoseBy}
+use Rattle.s7_outer.specs.Count.{RoseExactly}
 use Rattle.s7_outer.specs.Shown.{Shown}
 use Rattle.s7_plant.specs.declared.request.Ask.{Ask}
 use Rattle.s7_session.specs.declared.handled.Handled.{Handled}
@@ -59,7 +59,7 @@ pub record Answers {D : Type 0} (stands : D → List Entry → Type 0) (is_full 
   -- of the line nothing changed but how often its clock failed: as often as the verdict says, and only where the
   -- telegram asks for a moment
   pub line_is : line' ≡ record line { clock_faults = line'.clock_faults }
-  pub clock : RoseBy (clock_failures verdicts) line.clock_faults line'.clock_faults
+  pub clock : RoseExactly (clock_failures verdicts) line.clock_faults line'.clock_faults
   pub unasked : NoneTimed (made verdicts).mets → line'.clock_faults ≡ line.clock_faults
   -- the entry has the moment that the clock told
   pub moments : AllAt line.moment entries

@@ -1,4 +1,4 @@
--- Numbers of a served link.
+-- Numbers of a served link: this profile's own.
 use Rattle.std.specs.Prelude.{ℕ}
 
 -- no more octets are taken from a link

@@ -88,7 +88,7 @@ by_judgement size link sequence verdicts (own messages next) =
     settled (Some size) next (sent_messages size messages) verdicts
 by_judgement size link sequence verdicts (ask asking) = asks size link sequence asking verdicts
 
--- a message of this protocol
+-- a message of this protocol (Snap7 1.4 sources, s7_types.h: TS7ReqHeader)
 abbrev pub is_s7 : List ℕ → Bool
 is_s7 m = nat_le 10 (length m) && slice_index m 0 == 0x32
 
@@ -106,7 +106,8 @@ message_made size link m at verdicts =
 
 -- ---- events
 
--- the confirm of a connect request: its source is the destination, the server's reference is 0001, the class 00
+-- the confirm of a connect request (ISO 8073, 13.4): its source is the destination, the server's reference is 0001, the
+-- class 00
 abbrev pub confirmed : ConnectionTold → ConnectionTold
 confirmed c = record {
   dst_ref = c.src_ref;

@@ -1,4 +1,5 @@
--- How a message is judged, by the state of its link. A message has ten octets or more and begins with 32.
+-- How a message is judged, by the state of its link. A message has ten octets or more and begins with 32
+-- (Snap7 1.4 sources, s7_types.h: TS7ReqHeader). Which refusal applies first is this profile's own.
 use Rattle.std.specs.Prelude.{ℕ, ◌+◌, Bool, true, false, ◌==◌, ◌&&◌, ◌||◌, not, nat_lt, nat_le, is_some, List, []}
 use Rattle.std.specs.Prelude.{◌∷◌, ◌++◌, length}
 use Rattle.std.specs.Prelude.{◌-◌, take, drop, slice_index, Option, None, Some, Result, Ok, Err, if◌then◌else◌}
@@ -75,7 +76,7 @@ pub data Judgement : Type 0 where
 abbrev pub sequence_of : List ℕ → ℕ
 sequence_of m = number_at m 4
 
--- the answer to a job
+-- the answer to a job (Snap7 1.4 sources, s7_types.h: TS7ResHeader23)
 abbrev pub answer_octets : ℕ → List ℕ → List ℕ → List ℕ
 answer_octets sequence params body =
     spelling_of (record {
@@ -87,7 +88,7 @@ answer_octets sequence params body =
     })
     ++ params ++ body
 
--- a refusal: an acknowledgement with an error word alone
+-- a refusal: an acknowledgement with an error word alone (Snap7 1.4 sources, s7_types.h: TS7ResHeader23)
 abbrev pub refusal_octets : ℕ → ℕ → List ℕ
 refusal_octets sequence error = spelling_of (refusal_of sequence error)
 
@@ -127,7 +128,7 @@ plainly link sequence request = record {
 abbrev pub asks_plainly : LinkState → ℕ → Request → Judgement
 asks_plainly link sequence request = ask (plainly link sequence request)
 
--- ---- the functions of a job
+-- ---- the functions of a job (Snap7 1.4 sources, s7_types.h: TReqFunNegotiateParams, TReqFunReadParams)
 
 abbrev pub negotiated : LinkState → ℕ → Result Negotiation TooSmall → Judgement
 negotiated link sequence (Err too_small) = refuse OverPdu
@@ -146,7 +147,7 @@ read link pdu sequence body (Ok items) =
     else (if nat_lt pdu (answer_size items) then refuse OverPdu
     else asks_plainly link sequence (Read items))
 
--- a write's answer has a code for each item
+-- a write's answer has a code for each item (Snap7 1.4 sources, s7_types.h: TResFunWrite)
 abbrev pub write_of : LinkState → ℕ → ℕ → List Item → List ℕ → Result (List DataPlace) DataFault → Judgement
 write_of link pdu sequence items body (Err fault) = refuse Unreadable
 write_of link pdu sequence items body (Ok places) =
@@ -157,7 +158,7 @@ abbrev pub write : LinkState → ℕ → ℕ → List ℕ → Result (List Item)
 write link pdu sequence body (Err fault) = refuse Unreadable
 write link pdu sequence body (Ok items) = write_of link pdu sequence items body (data_places_of (length items) body)
 
--- ---- control
+-- ---- control (Snap7 1.4 sources, s7_types.h: TReqFunPlcHotStart, TReqFunPlcStop, TReqControlBlockParams)
 
 -- a block is inserted that the link holds as a finished download, with a head that is its own
 abbrev pub insert : LinkState → ℕ → ℕ → ℕ → Option (List ℕ) → Judgement
@@ -166,7 +167,9 @@ insert link sequence kind number (Some image) =
     if is_stored_kind kind && head_agrees image kind number
     then asks_plainly link sequence (request.Insert kind number image no_room) else refuse NotAllowed
 
--- what a control asks; blocks are inserted and deleted of the kinds that are stored
+-- what a control asks (Snap7 1.4 sources, s7_types.h: TReqFunPlcHotStart, TReqFunPlcColdStart, TReqFunPlcStop,
+-- TReqFunCompress, TReqFunCopyRamToRom, TReqControlBlockParams); that blocks are inserted and deleted of the kinds that
+-- are stored is this profile's own
 abbrev pub control_asked : LinkState → ℕ → Control → Judgement
 control_asked link sequence control.Start = asks_plainly link sequence (request.Start false)
 control_asked link sequence control.ColdStart = asks_plainly link sequence (request.Start true)
@@ -186,7 +189,8 @@ control_in link sequence body (Ok c) =
 
 -- ---- uploads
 
--- the answer to an upload's start: with an id where it is started
+-- the answer to an upload's start: with an id where it is started (after
+-- Snap7 1.4 sources, s7_types.h: TResFunStartUploadParams)
 abbrev pub upload_reply : LinkState → ℕ → Said → List ℕ
 upload_reply link sequence reply =
     if reply.error == 0 then answer_octets sequence (with_id reply.params (next_octet link.upload_id)) []
@@ -205,7 +209,8 @@ abbrev pub upload_started : LinkState → ℕ → Option BlockName → Judgement
 upload_started link sequence None = refuse Unreadable
 upload_started link sequence (Some name) = ask (by_upload link sequence name)
 
--- the answer with a slice of the image, whose parameters say whether others follow
+-- the answer with a slice of the image, whose parameters say whether others follow (after
+-- Snap7 1.4 sources, s7_types.h: TReqFunUploadParams, TResDownloadDataHeader)
 abbrev pub slice_answer : ℕ → Piece → List ℕ
 slice_answer sequence piece =
     answer_octets sequence (slice_function ∷ more_octet piece.more ∷ []) (image_data piece.octets)
@@ -221,7 +226,7 @@ abbrev pub slice_asked : LinkState → ℕ → ℕ → Option ℕ → Judgement
 slice_asked link pdu sequence None = refuse Unreadable
 slice_asked link pdu sequence (Some id) = upload_sliced link pdu sequence id (left_in link.upload id)
 
--- the end of the upload of this id drops it
+-- the end of the upload of this id drops it (after Snap7 1.4 sources, s7_types.h: TReqFunEndUploadParams)
 abbrev pub upload_ended : LinkState → ℕ → ℕ → Judgement
 upload_ended link sequence id =
     if is_held link.upload id
@@ -232,7 +237,7 @@ abbrev pub end_asked : LinkState → ℕ → Option ℕ → Judgement
 end_asked link sequence None = refuse Unreadable
 end_asked link sequence (Some id) = upload_ended link sequence id
 
--- ---- downloads
+-- ---- downloads (after Snap7 1.4 sources, s7_types.h: TReqStartDownloadParams, TReqDownloadParams)
 
 -- the next job of the server's own
 abbrev pub server_job : LinkState → ℕ → BlockName → List ℕ
@@ -244,14 +249,15 @@ download_begun link sequence name size =
     own (answer_octets sequence (announce_function ∷ []) [] ∷ server_job link piece_function name ∷ [])
     (with_server_job link piece_function name (awaiting size []))
 
--- a block of a kind that is stored, and an image of 36 to 65,536 octets
+-- a block of a kind that is stored, and an image of 36 to 65,536 octets: this profile's own limits
 abbrev pub download_started : LinkState → ℕ → Option Announced → Judgement
 download_started link sequence None = refuse Unreadable
 download_started link sequence (Some a) =
     if is_stored_kind a.name.kind && nat_le 36 a.size && nat_le a.size 65536
     then download_begun link sequence a.name a.size else refuse NotAllowed
 
--- a job of an upload or of a download
+-- a job of an upload or of a download (after Snap7 1.4 sources, s7_types.h: TReqStartDownloadParams,
+-- TReqFunStartUploadParams, TReqFunUploadParams, TReqFunEndUploadParams)
 abbrev pub transfer : LinkState → ℕ → ℕ → ℕ → List ℕ → Judgement
 transfer link pdu code sequence params =
     if code == announce_function then download_started link sequence (download_announced params)
@@ -265,7 +271,9 @@ is_transfer code =
 
 -- ---- the functions that need a PDU
 
--- Reading and writing items, control, uploads and downloads, of which none but a write has a data part.
+-- Reading and writing items, control, uploads and downloads, of which none but a write has a data part
+-- (Snap7 1.4 sources, s7_types.h: TReqFunReadParams, TReqFunPlcHotStart, TReqFunPlcStop, TReqFunStartUploadParams,
+-- TReqStartDownloadParams).
 abbrev pub function : LinkState → ℕ → ℕ → ℕ → List ℕ → List ℕ → Judgement
 function link pdu code sequence params body =
     if code == read_function then read link pdu sequence body (items_of params)
@@ -279,13 +287,15 @@ abbrev pub function_at : LinkState → Option ℕ → ℕ → ℕ → List ℕ �
 function_at link None code sequence params body = refuse NotNegotiated
 function_at link (Some pdu) code sequence params body = function link pdu code sequence params body
 
+-- a job: F0 negotiates (Snap7 1.4 sources, s7_types.h: TReqFunNegotiateParams), and every other function needs a PDU
+-- that was granted
 abbrev pub job : LinkState → ℕ → List ℕ → List ℕ → Judgement
 job link sequence [] body = function_at link link.granted 0 sequence [] body
 job link sequence (code ∷ params) body =
     if code == 0xF0 then negotiation link sequence (negotiation_of (code ∷ params))
     else function_at link link.granted code sequence (code ∷ params) body
 
--- ---- user data
+-- ---- user data (Snap7 1.4 sources, s7_types.h: TReqFunTypedParams, TS7Params7)
 
 -- the parameters of an answer that is whole
 abbrev pub user_answer : ℕ → ℕ → ℕ → ℕ → UserParams
@@ -311,6 +321,7 @@ user_data [] = no_data
 user_data (x ∷ xs) = 0xFF ∷ 0x09 ∷ (two_octets (length (x ∷ xs)) ++ (x ∷ xs))
 
 -- how many octets of an answer go out at once: header, parameters and the head of the data take 26 of the PDU
+-- (Snap7 1.4 sources, s7_types.h: TS7ResHeader17, TS7Params7)
 abbrev pub slice_room : ℕ → ℕ
 slice_room pdu = pdu - 26
 
@@ -347,7 +358,7 @@ user_reply link pdu sequence group subfunction reply =
     else user_octets sequence
     (user_answer (group_of_answer group) subfunction (next_octet link.user_sequence) reply.error) no_data
 
--- any answer counts the sequence octet, and takes the place of a sliced answer that was held
+-- any answer counts the sequence octet, and takes the place of a sliced answer that was held: this profile's own
 abbrev pub user_link : LinkState → ℕ → ℕ → ℕ → Said → LinkState
 user_link link pdu group subfunction reply = record link {
   user_sequence = next_octet link.user_sequence;
@@ -370,7 +381,7 @@ abbrev pub asks_user : LinkState → ℕ → ℕ → ℕ → ℕ → Bool → (�
 asks_user link pdu sequence group subfunction is_timed request =
     ask (by_user link pdu sequence group subfunction is_timed request)
 
--- ---- further slices
+-- ---- further slices (Snap7 1.4 sources, s7_types.h: TReqFunReadSZLNext)
 
 abbrev pub is_slice_of : UserParams → Sliced → Bool
 is_slice_of params held =
@@ -385,12 +396,12 @@ further_of link pdu sequence params (Some held) =
     else refuse Unreadable
 
 -- The next octets of the answer that is held: it has the group, the subfunction and the sequence octet that are asked
--- for, and the data are none.
+-- for, and the data are none. For other answers than status lists this is this profile's own.
 abbrev pub further : LinkState → ℕ → ℕ → UserParams → List ℕ → Judgement
 further link pdu sequence params body =
     if bytes_eq body no_data then further_of link pdu sequence params link.sliced else refuse Unreadable
 
--- ---- status lists
+-- ---- status lists (Snap7 1.4 sources, s7_types.h: TReqFunReadSZLFirst)
 
 -- the data name a list and an index
 abbrev pub names_list : List ℕ → Bool
@@ -408,7 +419,7 @@ lists link pdu sequence params body =
     then (if params.answer then further link pdu sequence params body else list_read link pdu sequence body)
     else refuse UnknownFunction
 
--- ---- the clock
+-- ---- the clock (Snap7 1.4 sources, s7_types.h: TResDataGetTime, TReqDataSetTime)
 
 -- the data have the ten octets of a clock
 abbrev pub names_moment : List ℕ → Bool
@@ -435,7 +446,7 @@ clock link pdu sequence params body =
     then (if params.answer then further link pdu sequence params body else clock_set link pdu sequence body)
     else refuse UnknownFunction)
 
--- ---- passwords
+-- ---- passwords (Snap7 1.4 sources, s7_types.h: TReqFunSecurity, TReqDataSecurity)
 
 -- the link has this right from now on, and holds no sliced answer
 abbrev pub secured : LinkState → Bool → LinkState
@@ -470,7 +481,7 @@ security link sequence params body =
     else (if params.sub == 0x02 then (if params.answer then refuse Unreadable else password_cleared link sequence body)
     else refuse UnknownFunction)
 
--- ---- blocks
+-- ---- blocks (Snap7 1.4 reference manual, `Cli_ListBlocks`, `Cli_ListBlocksOfType`, `Cli_GetAgBlockInfo`)
 
 -- the data name a kind
 abbrev pub names_kind : List ℕ → Bool
@@ -508,7 +519,8 @@ blocks link pdu sequence params body =
     else blocks_asked link pdu sequence params.sub body)
     else refuse UnknownFunction
 
--- blocks, status lists, passwords and the clock
+-- blocks, status lists, passwords and the clock (Snap7 1.4 sources, s7_types.h: grBlocksInfo, grSZL, grSecurity,
+-- grClock)
 abbrev pub group : LinkState → ℕ → ℕ → List ℕ → Result UserParams BadParams → Judgement
 group link pdu sequence body (Err bad) = refuse Unreadable
 group link pdu sequence body (Ok params) =
@@ -523,9 +535,9 @@ user_at link None sequence params body = refuse NotNegotiated
 user_at link (Some pdu) sequence [] body = refuse UnknownFunction
 user_at link (Some pdu) sequence (x ∷ params) body = group link pdu sequence body (user_params_of (x ∷ params))
 
--- ---- a message
+-- ---- a message (Snap7 1.4 sources, s7_types.h: TS7ReqHeader)
 
--- the greatest length of a message: before the negotiation that of the greatest PDU
+-- the greatest length of a message: before the negotiation that of the greatest PDU, this profile's own
 abbrev pub pdu_limit : Option ℕ → ℕ
 pdu_limit None = most_pdu
 pdu_limit (Some pdu) = pdu
@@ -542,19 +554,19 @@ headed link m (Ok h) =
     if nat_lt (pdu_limit link.granted) (length m) then refuse OverPdu
     else kinds link h.kind (sequence_of m) (params_of m h) (body_of m h)
 
--- a job or user data
+-- a job or user data (Snap7 1.4 sources, s7_types.h: TS7ReqHeader)
 abbrev pub is_request : List ℕ → Bool
 is_request m = slice_index m 1 == 0x01 || slice_index m 1 == 0x07
 
 -- ---- answers to the server's own jobs
 
--- an acknowledgement with the sequence of the job that isn't answered
+-- an acknowledgement with the sequence of the job that isn't answered (Snap7 1.4 sources, s7_types.h: TS7ResHeader23)
 abbrev pub answers_job : Option ServerJob → List ℕ → Bool
 answers_job None m = false
 answers_job (Some job) m =
     (slice_index m 1 == 0x02 || slice_index m 1 == 0x03) && sequence_of m == job.sequence
 
--- the download is dropped, and nothing is owed
+-- the download is dropped, and nothing is owed: this profile's own
 abbrev pub dropped : LinkState → Judgement
 dropped link = own [] (without_download link)
 
@@ -583,8 +595,8 @@ job_answered link function params body =
     if function == piece_function then piece_came link link.download (piece_in (pdu_limit link.granted) params body)
     else closed link params body
 
--- The answer to the server's job with this function. One that can't be read as that, or has an error, drops the
--- download.
+-- The answer to the server's job with this function (after Snap7 1.4 sources, s7_types.h: TReqDownloadParams). One that
+-- can't be read as that, or has an error, drops the download.
 abbrev pub answer_came : LinkState → ℕ → List ℕ → Result Header HeaderFault → Judgement
 answer_came link function m (Err fault) = dropped link
 answer_came link function m (Ok h) =

@@ -3,7 +3,7 @@ use Rattle.std.specs.Prelude.{◌≡◌, ◌≢◌, ℕ, ◌-◌, ◌<◌, ◌�
 use Rattle.std.specs.Prelude.{Option, None, option_map, IfSome, IsTrue}
 use Rattle.std.specs.Io.KnownBytes.{prepend_known, append_known, IsAtEnd}
 use Rattle.s7_outer.specs.Shown.{Shown}
-use Rattle.s7_outer.specs.Count.{Rose, RoseBy}
+use Rattle.s7_outer.specs.Count.{Rose, RoseExactly}
 use Rattle.s7_plant.specs.declared.request.Ask.{Ask}
 use Rattle.s7_session.specs.declared.session.Session.{Session}
 use Rattle.s7_session.specs.declared.outcome.Outcome.{Outcome}
@@ -87,10 +87,12 @@ pub record IsLinkRun {D : Type 0} (stands : D → List Entry → Type 0) (is_ful
   pub entries : List Entry
   pub took : link.left ≡ prepend_known taken link'.left
   pub wrote : link'.written ≡ append_known link.written written
-  -- the link has room for as many fewer, works on what it worked on, and its clock tells the same moment
+  -- the link has room for as many fewer, works on what it worked on, and its clock tells the same moment; nothing shut
+  -- it
   pub fits : IfSome link.space (λ s. length written ≤ s)
   pub space : link'.space ≡ option_map (λ s. s - length written) link.space
   pub lent : link'.lent ≡ link.lent
+  pub shut : link'.is_shut ≡ link.is_shut
   pub moment : link'.moment ≡ link.moment
   pub owed : IsWritten first result taken (verdicts_of mets) written
   -- the octets ask this, and each met its verdict
@@ -101,7 +103,7 @@ pub record IsLinkRun {D : Type 0} (stands : D → List Entry → Type 0) (is_ful
   pub trail : Trail is_full may_lack d mets d'
   pub count : accepted ≡ length entries
   pub last_is : last ≡ last_number None entries
-  pub clock : RoseBy (clock_failures (verdicts_of mets)) link.clock_faults link'.clock_faults
+  pub clock : RoseExactly (clock_failures (verdicts_of mets)) link.clock_faults link'.clock_faults
   pub unasked : NoneTimed mets → link'.clock_faults ≡ link.clock_faults
   pub moments : AllAt link.moment entries
   pub end : IsEnd link link' first taken (verdicts_of mets) result

@@ -57,10 +57,10 @@ first_link guard = record {
   server_job = None;
 }
 
--- the next sequence octet of an answer to user data, or the next id of an upload: after FF comes 01
+-- the next sequence octet of an answer to user data, or the next id of an upload: after FF comes 01, this profile's own
 abbrev pub next_octet : ℕ → ℕ
 next_octet n = if n == 0xFF then 1 else n + 1
 
--- the next sequence of the server's own jobs: after FFFF comes 0001
+-- the next sequence of the server's own jobs: after FFFF comes 0001, this profile's own
 abbrev pub next_sequence : ℕ → ℕ
 next_sequence n = if n == 0xFFFF then 1 else n + 1

@@ -1,5 +1,5 @@
--- Passwords on their way (Snap7 1.4 sources, `TSnap7MicroClient::opSetPassword`), and what becomes of the right that
--- they give.
+-- Passwords on their way (Snap7 1.4 sources, s7_micro_client.cpp: TSnap7MicroClient::opSetPassword), and what becomes
+-- of the right that they give.
 use Rattle.std.specs.Prelude.{ℕ, Bool, ◌==◌, ◌&&◌, nat_eq, bit_xor, List, []}
 use Rattle.std.specs.Prelude.{◌∷◌, length, Option, None, Some, if◌then◌else◌}
 use Rattle.std.specs.List.{starts_with}
@@ -19,20 +19,21 @@ decoded [] = []
 decoded (a ∷ []) = bit_xor a 0x55 ∷ []
 decoded (a ∷ b ∷ octets) = bit_xor a 0x55 ∷ bit_xor b 0x55 ∷ decoded_after a b octets
 
--- the data that sets a password: `FF 09 00 08` and eight octets
+-- the data that sets a password: `FF 09 00 08` and eight octets (Snap7 1.4 sources, s7_types.h: TReqDataSecurity)
 abbrev pub is_password : List ℕ → Bool
 is_password octets = (length octets == 12) && starts_with nat_eq octets (0xFF ∷ 0x09 ∷ 0x00 ∷ 0x08 ∷ [])
 
--- the data of a telegram without data
+-- the data of a telegram without data (Snap7 1.4 sources, s7_micro_client.cpp: TSnap7MicroClient::opListBlocks)
 abbrev pub no_data : List ℕ
 no_data = 0x0A ∷ 0x00 ∷ 0x00 ∷ 0x00 ∷ []
 
--- the error word of a password that is set
+-- the error word of a password that is set (Snap7 1.4 sources, s7_types.h: Code7NoPasswordToSet, Code7InvalidPassword)
 abbrev pub set_error : Option Guard → List ℕ → ℕ
 set_error None text = NO_GUARD
 set_error (Some guard) text = if bytes_eq text guard.password then 0 else WRONG_PASSWORD
 
--- the error word of a right that is cleared
+-- the error word of a right that is cleared (Snap7 1.4 sources, s7_types.h: Code7NoPasswordToSet,
+-- Code7NoPasswordToClear)
 abbrev pub clear_error : Option Guard → Bool → ℕ
 clear_error None right = NO_GUARD
 clear_error (Some guard) right = if right then 0 else NO_RIGHT

@@ -1,4 +1,4 @@
--- What user data asks of the plant, as the code has it.
+-- What user data asks of the plant (Snap7 1.4 sources, s7_types.h: TReqFunTypedParams), as the code has it.
 use Rattle.std.specs.Prelude.{◌≡◌, ℕ, Bool, true, false, Option}
 use Rattle.s7_clock.specs.Moment.{IsHeld}
 use Rattle.s7_plant.specs.declared.request.Request.{Request}

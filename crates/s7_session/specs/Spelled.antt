@@ -1,5 +1,5 @@
--- TELEGRAMS THAT ARE SPELLED AS THE STANDARD HAS THEM ARE ASKED (Snap7 1.4 reference manual, read and write of several
--- items): what a link asks for that negotiated a PDU, where the telegram and its full answer fit it.
+-- TELEGRAMS THAT ARE SPELLED AS THE STANDARD HAS THEM ARE ASKED (Snap7 1.4 reference manual, `Cli_ReadMultiVars`,
+-- `Cli_WriteMultiVars`): what a link asks for that negotiated a PDU, where the telegram and its full answer fit it.
 use Rattle.std.specs.Prelude.{◌≡◌, ◌≤◌, ◌<◌, ℕ, ◌+◌, List, [], ◌++◌, length, Some}
 use Rattle.std.specs.List.{AllByRecursion}
 use Rattle.s7_header.specs.declared.header.Kind.TheVariants.{Job}
@@ -14,7 +14,7 @@ use Rattle.s7_plant.specs.declared.request.Request.TheVariants.{Read, Write}
 use Rattle.s7_session.specs.Judgement.{judge, asks_plainly}
 use Rattle.s7_session.specs.LinkState.{LinkState}
 
--- a job with this sequence, parameters and data
+-- a job with this sequence, parameters and data (Snap7 1.4 sources, s7_types.h: TS7ReqHeader)
 abbrev pub job_spelled : ℕ → List ℕ → List ℕ → List ℕ
 job_spelled sequence params body =
     spelling_of (record {
@@ -26,15 +26,16 @@ job_spelled sequence params body =
     })
     ++ params ++ body
 
--- a read of these items
+-- a read of these items (Snap7 1.4 sources, s7_types.h: TReqFunReadParams)
 abbrev pub read_spelled : ℕ → List Item → List ℕ
 read_spelled sequence items = job_spelled sequence (items_params read_function items) []
 
--- a write of these items, with these data items
+-- a write of these items, with these data items (Snap7 1.4 sources, s7_types.h: TReqFunWriteDataItem)
 abbrev pub write_spelled : ℕ → List Item → List DataItem → List ℕ
 write_spelled sequence items written = job_spelled sequence (items_params write_function items) (data_octets written)
 
--- one to twenty items, a sequence of two octets, and a PDU that was negotiated and is long enough for the telegram
+-- one to twenty items (Snap7 1.4 reference manual, `Cli_ReadMultiVars`), a sequence of two octets, and a PDU that was
+-- negotiated and is long enough for the telegram
 pub record IsSpelled (link : LinkState) (pdu sequence : ℕ) (items : List Item) (telegram : List ℕ) : Type 0 where
   pub granted : link.granted ≡ Some pdu
   pub pdu_is : pdu ≤ 1920

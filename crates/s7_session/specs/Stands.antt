@@ -3,7 +3,7 @@ use Rattle.std.specs.Prelude.{◌≡◌, ◌≢◌, ℕ, ◌+◌, ◌-◌, ◌<�
 use Rattle.std.specs.Prelude.{Option, None, Some, option_map, IfSome, IsTrue}
 use Rattle.std.specs.Io.KnownBytes.{prepend_known, append_known, IsAtEnd}
 use Rattle.s7_outer.specs.Shown.{Shown}
-use Rattle.s7_outer.specs.Count.{Rose, RoseBy}
+use Rattle.s7_outer.specs.Count.{Rose, RoseExactly}
 use Rattle.s7_plant.specs.declared.request.Ask.{Ask}
 use Rattle.s7_wire.specs.Reading.{message}
 use Rattle.s7_wire.specs.Reads.{HasRead, message_at, place_at}
@@ -105,10 +105,11 @@ pub record Moves {D : Type 0} (stands : D → List Entry → Type 0) (is_full ma
   pub entries : List Entry
   pub took : link.left ≡ prepend_known received link'.left
   pub wrote : link'.written ≡ append_known link.written written
-  -- the link has room for as many fewer, and works on what it worked on
+  -- the link has room for as many fewer, works on what it worked on, and nothing shut it
   pub fits : IfSome link.space (λ s. length written ≤ s)
   pub space : link'.space ≡ option_map (λ s. s - length written) link.space
   pub lent : link'.lent ≡ link.lent
+  pub shut : link'.is_shut ≡ link.is_shut
   pub inbox : unread old ++ received ≡ used ++ unread new
   -- whatever the session stands for
   pub stood : (first : LinkState) (b : List ℕ) (js : List Verdict) (w : List ℕ) → Stands first old b js w
@@ -122,7 +123,7 @@ pub record Moves {D : Type 0} (stands : D → List Entry → Type 0) (is_full ma
   pub doer : (es : List Entry) → stands d es → stands d' (es ++ entries)
   pub trail : Trail is_full may_lack d mets d'
   -- the clock failed as often as it was told, told one moment, and was asked only where a telegram asks for one
-  pub clock : RoseBy (clock_failures (verdicts_of mets)) link.clock_faults link'.clock_faults
+  pub clock : RoseExactly (clock_failures (verdicts_of mets)) link.clock_faults link'.clock_faults
   pub unasked : NoneTimed mets → link'.clock_faults ≡ link.clock_faults
   pub moment : link'.moment ≡ link.moment
   pub moments : AllAt link.moment entries
@@ -246,7 +247,7 @@ pub record Consumes {D : Type 0} (stands : D → List Entry → Type 0) (is_full
   pub waits : result ≡ turn.NotYet → ⊥
   pub by_octets : (o : Outcome) → result ≡ turn.Closed o → (o ≢ outcome.ReadFault) × (o ≢ outcome.WriteFault)
   pub line : link' ≡ record link { clock_faults = link'.clock_faults }
-  pub clock : RoseBy (clock_failures (verdicts_of mets)) link.clock_faults link'.clock_faults
+  pub clock : RoseExactly (clock_failures (verdicts_of mets)) link.clock_faults link'.clock_faults
   pub unasked : NoneTimed mets → link'.clock_faults ≡ link.clock_faults
   pub moments : AllAt link.moment entries
   pub cause : (o : Outcome) → result ≡ turn.Closed o → (k k' : Shown)

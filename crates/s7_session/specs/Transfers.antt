@@ -1,5 +1,6 @@
--- What the telegrams of uploads and downloads say (after Snap7 1.4 sources, s7_types.h, `TReqFunStartUploadParams`),
--- and what they leave of a link. The layouts are this profile's own.
+-- What the telegrams of uploads and downloads say (after Snap7 1.4 sources, s7_types.h: TReqFunStartUploadParams,
+-- TReqFunUploadParams, TReqFunEndUploadParams, TReqStartDownloadParams, TReqDownloadParams), and what they leave of a
+-- link. The layouts are this profile's own.
 use Rattle.std.specs.Prelude.{ℕ, ◌-◌, ◌==◌, ◌&&◌, nat_le, is_some, if◌then◌else◌, Option, None, Some}
 use Rattle.std.specs.Prelude.{List, [], ◌∷◌, ◌++◌, length, take, drop, slice_index}
 use Rattle.std.specs.Str.{bytes_eq}
@@ -23,7 +24,7 @@ abbrev pub block_in : ℕ → ℕ → List ℕ → Option BlockName
 block_in function place params =
     if bytes_eq (take 10 params) (name_front function) then named (take 8 (drop 10 params)) place else None
 
--- the block whose upload is asked for: it is at `A`
+-- the block whose upload is asked for: it is at `A` (after Snap7 1.4 sources, s7_types.h: TReqFunStartUploadParams)
 abbrev pub upload_asked : List ℕ → Option BlockName
 upload_asked params = if length params == 18 then block_in start_function 0x41 params else None
 
@@ -32,7 +33,8 @@ pub record Announced : Type 0 where
   pub name : BlockName
   pub size : ℕ
 
--- The length of an image: `0D 31`, six digits of it, and six of the body's length, which is used for nothing.
+-- The length of an image: `0D 31`, six digits of it, and six of the body's length, which is used for nothing (after
+-- Snap7 1.4 sources, s7_types.h: TReqStartDownloadParams).
 abbrev pub size_announced : List ℕ → Option ℕ
 size_announced octets =
     if bytes_eq (take 2 octets) (0x0D ∷ 0x31 ∷ []) && is_some (number_in (drop 8 octets))
@@ -43,20 +45,23 @@ announced None size = None
 announced (Some name) None = None
 announced (Some name) (Some size) = Some (record { name = name; size = size })
 
--- the download that is announced: of a block at `P`, with the length of its image
+-- the download that is announced: of a block at `P`, with the length of its image (after
+-- Snap7 1.4 sources, s7_types.h: TReqStartDownloadParams)
 abbrev pub download_announced : List ℕ → Option Announced
 download_announced params =
     if length params == 32
     then announced (block_in announce_function 0x50 params) (size_announced (drop 18 params)) else None
 
--- an upload's id, behind the function and six octets 00
+-- an upload's id, behind the function and six octets 00 (after Snap7 1.4 sources, s7_types.h: TReqFunUploadParams,
+-- TReqFunEndUploadParams)
 abbrev pub id_in : ℕ → List ℕ → Option ℕ
 id_in function params =
     if length params == 8
     && bytes_eq (take 7 params) (id_front function)
     then Some (slice_index params 7) else None
 
--- The piece of an image that the client sends: its parameters say whether others follow.
+-- The piece of an image that the client sends: its parameters say whether others follow (after
+-- Snap7 1.4 sources, s7_types.h: TReqDownloadParams, TResDownloadDataHeader).
 abbrev pub piece_in : ℕ → List ℕ → List ℕ → Option Piece
 piece_in pdu params body =
     if (length params == 2 && slice_index params 0 == piece_function && nat_le (slice_index params 1) 1)
@@ -76,13 +81,15 @@ with_upload link reply =
     }
     else link
 
--- the parameters of the answer, with the id in its place
+-- the parameters of the answer, with the id in its place (after
+-- Snap7 1.4 sources, s7_types.h: TResFunStartUploadParams)
 abbrev pub with_id : List ℕ → ℕ → List ℕ
 with_id params id = take 7 params ++ id ∷ drop 8 params
 
 -- ---- downloads
 
--- a job of the server's: the function and the name of the block at `P`, without data
+-- a job of the server's: the function and the name of the block at `P`, without data (after
+-- Snap7 1.4 sources, s7_types.h: TReqDownloadParams)
 abbrev pub server_job_octets : ℕ → ℕ → BlockName → List ℕ
 server_job_octets sequence function name =
     spelling_of (record { kind = Job; sequence = sequence; param_len = 18; body_len = 0; error = 0 })
@@ -107,7 +114,7 @@ piece_left link name idle = without_download link
 piece_left link name (awaiting len octets) = with_server_job link piece_function name (awaiting len octets)
 piece_left link name (whole octets) = with_server_job link close_function name (whole octets)
 
--- images have at most 65,536 octets
+-- images have at most 65,536 octets: this profile's own limit
 abbrev pub with_next_piece : LinkState → Option Download → Piece → LinkState
 with_next_piece link None piece = without_download link
 with_next_piece link (Some d) piece = piece_left link d.name (with_piece 65536 d.progress piece)

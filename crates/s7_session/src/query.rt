@@ -1,5 +1,5 @@
 // What user data asks of the plant.
-ghost use Rattle.std.specs.Prelude.{◌≡◌, ◌≤◌, Some, IfSome, IfNone};
+ghost use Rattle.std.specs.Prelude.{◌≡◌, ◌≤◌, ◌+◌, Some, IfSome, IfNone};
 ghost use Rattle.s7_outer.specs.Count.{Rose};
 ghost use Rattle.s7_session.specs.Telegrams.{IsAt};
 
@@ -81,7 +81,9 @@ impl Query {
         ensures some { IfSome result (IsMade self (L.shows line.old).moment) }
         ensures none { IfNone result (is_timed self ≡ true) }
         ensures failed { IfNone result (Rose (L.shows line.old).clock_faults (L.shows line.new).clock_faults) }
-        ensures clock_faults { (L.shows line.old).clock_faults ≤ (L.shows line.new).clock_faults }
+        ensures told { IfSome result
+            (λ request. (L.shows line.new).clock_faults ≡ (L.shows line.old).clock_faults) }
+        ensures once { (L.shows line.new).clock_faults ≤ (L.shows line.old).clock_faults + 1 }
         ensures unasked { is_timed self ≡ false
             → (L.shows line.new).clock_faults ≡ (L.shows line.old).clock_faults }
         ensures same { L.shows line.new
@@ -110,7 +112,9 @@ impl Query {
 fn moment<L: Link + Clock>(line: &mut L) -> Option<u64>
     ensures told { IfSome result (λ moment. IsAt (L.shows line.old).moment (Some moment)) }
     ensures failed { IfNone result (Rose (L.shows line.old).clock_faults (L.shows line.new).clock_faults) }
-    ensures clock_faults { (L.shows line.old).clock_faults ≤ (L.shows line.new).clock_faults }
+    ensures same_count { IfSome result
+        (λ moment. (L.shows line.new).clock_faults ≡ (L.shows line.old).clock_faults) }
+    ensures once { (L.shows line.new).clock_faults ≤ (L.shows line.old).clock_faults + 1 }
     ensures same { L.shows line.new
         ≡ record (L.shows line.old) { clock_faults = (L.shows line.new).clock_faults } }
 {

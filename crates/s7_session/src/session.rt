@@ -91,7 +91,7 @@ impl Session {
     }
 
     /// Takes turns until one closes. The link's octets and the doer's entries are then one run from
-    /// beginning to end. Gives why the link closed. Behind a turn that answered `NotYet` it sleeps for a
+    /// beginning to end. Gives why the link closed, at once where it did before. Behind a turn that answered `NotYet` it sleeps for a
     /// millisecond, so that a link that doesn't wait by itself leaves the processor to others.
     pub fn serve<R: Wait + time::Clock, L: Link + Clock, D: Doer>(
         &mut self,
@@ -108,6 +108,8 @@ impl Session {
             (L.shows line.old) doer.old (L.shows line.new) doer.new result (entry_count self.new) (newest self.new) }
         ensures number { number_of self.new ≡ number_of self.old }
         ensures kept { D.keeps doer.old doer.new }
+        ensures stays { (o : Outcome) → closed_with self.old ≡ Some o
+            → (result ≡ o) × (self.new ≡ self.old) × (L.shows line.new ≡ L.shows line.old) × (doer.new ≡ doer.old) }
     {
         for _ in rt.forever() {
             match self.turn(alloc, line, doer) {
@@ -137,7 +139,8 @@ impl Session {
         ensures number { number_of self.new ≡ number_of self.old }
         ensures kept { D.keeps doer.old doer.new }
         ensures stays { (o : Outcome) → closed_with self.old ≡ Some o
-            → (result ≡ Turn.Closed o) × (self.new ≡ self.old) }
+            → (result ≡ Turn.Closed o) × (self.new ≡ self.old)
+            × (L.shows line.new ≡ L.shows line.old) × (doer.new ≡ doer.old) }
     {
         if let Some(outcome) = self.closed {
             return Turn::Closed(outcome);

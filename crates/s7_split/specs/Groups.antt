@@ -1,5 +1,6 @@
 -- How a list of items is packed into telegrams (Snap7 1.4 reference manual, `Cli_ReadMultiVars` and
--- `Cli_WriteMultiVars`: at most twenty items, and neither telegram longer than the PDU).
+-- `Cli_WriteMultiVars`: at most twenty items, and neither telegram longer than the PDU). Which items go together is
+-- this profile's own.
 use Rattle.std.specs.Prelude.{◌≡◌, ℕ, ◌+◌, ◌<◌, ◌≤◌, nat_lt, Bool, true, false, if◌then◌else◌, Option, Some, None, Result, Ok, Err, List, [], ◌∷◌, ◌++◌, length, take, slice_index, ◌↔◌}
 use Rattle.std.specs.List.{flat_map, between, AllByRecursion}
 use Rattle.s7_item.specs.declared.item.Item.{Item}

@@ -7,6 +7,7 @@ use Rattle.s7_item.specs.declared.item.Item.{Item}
 use Rattle.s7_split.specs.Fits.{size, fits}
 
 -- counters and timers are addressed by their number, all other areas by octet and bit
+-- (Snap7 1.4 sources, s7_types.h: TReqFunReadItem)
 abbrev pub is_numbered : ℕ → Bool
 is_numbered area = area == 0x1C || area == 0x1D
 
@@ -34,8 +35,9 @@ pub record CanBeSplit (item : Item) : Type 0 where
   pub bit : item.word ≡ 0x01 → item.count ≡ 1
   pub inside : range_end item ≤ 2 ^ 24
 
--- how many elements a part has at most: a read's answer has 18 octets besides them, and a write
--- keeps 35 octets for what else it carries
+-- how many elements a part has at most: a read's answer has 18 octets besides them
+-- (Snap7 1.4 sources, s7_types.h: TS7ResHeader23, TResFunReadItem), and a write keeps 35 octets for what else it
+-- carries
 abbrev pub room_of : Item → ℕ → Bool → ℕ
 room_of item pdu write = (if write then pdu - 35 else pdu - 18) / size item
 

@@ -1,5 +1,5 @@
--- The image of a status list: id, index, record length and record count, each a number of two octets, and the
--- records (Snap7 1.4 reference manual, TS7SZL).
+-- The image of a status list: id, index, record length and record count, each a number of two octets, and the records
+-- (Snap7 1.4 reference manual, `Cli_ReadSZL`: TS7SZL).
 use Rattle.std.specs.Prelude.{ℕ, ◌+◌, ◌*◌, ◌==◌, Bool, List, ◌++◌, length, drop, Option, None, Some}
 use Rattle.std.specs.List.{concat}
 use Rattle.std.specs.Option.{option_map}

@@ -1,11 +1,13 @@
--- Images joined from the slices that they come in (the last-unit octet of user data says whether more follow).
+-- Images joined from the slices that they come in (Snap7 1.4 sources, s7_types.h: TReqFunReadSZLFirst,
+-- TReqFunReadSZLNext): the last-unit octet of user data says whether more follow. Which slices are refused is this
+-- profile's own.
 use Rattle.std.specs.Prelude.{ℕ, ◌+◌, ◌==◌, ◌&&◌, ◌||◌, not, nat_lt, Bool, true, false, if◌then◌else◌}
 use Rattle.std.specs.Prelude.{List, [], ◌∷◌, ◌++◌, length}
 use Rattle.s7_szl.specs.declared.join.SzlAdded.TheVariants.{More, Whole, Bad}
 use Rattle.s7_szl.specs.Images.{adds_up}
 use Rattle.s7_szl.specs.Joined.{Joined, is_whole, is_bad}
 
--- the greatest number of octets that an image has
+-- the greatest number of octets that an image has: this profile's own
 abbrev pub most_joined : ℕ
 most_joined = 8448
 

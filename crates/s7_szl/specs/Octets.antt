@@ -1,4 +1,4 @@
--- Numbers in their places in an image, the high octet first.
+-- Numbers in their places in an image, the high octet first (Snap7 1.4 reference manual, `Cli_ReadSZL`: TS7SZL).
 use Rattle.std.specs.Prelude.{ℕ, ◌+◌, List, slice_index}
 use Rattle.s7_outer.specs.Numbers.{number_of_two}
 

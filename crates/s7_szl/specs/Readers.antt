@@ -1,5 +1,6 @@
--- The fields of images, from their places. A field is there exactly where the image is of its list: where the
--- head has the id, the index and the record length, and as many whole records follow as it counts, one at least.
+-- The fields of images, from their places (Snap7 1.4 reference manual, `Cli_ReadSZL`: TS7SZL). A field is there exactly
+-- where the image is of its list: where the head has the id, the index and the record length, and as many whole records
+-- follow as it counts, one at least.
 use Rattle.std.specs.Prelude.{ℕ, zero, suc, ◌==◌, ◌&&◌, nat_lt, Bool, true, false, if◌then◌else◌}
 use Rattle.std.specs.Prelude.{List, [], ◌∷◌, take, drop, slice_index, Option, None, Some}
 use Rattle.s7_szl.specs.Octets.{number_at}
@@ -18,27 +19,28 @@ is_of id index record_len image =
 abbrev pub field_of : {A : Type 0} → Bool → Option A → Option A
 field_of is found = if is then found else None
 
--- what an octet says of the operating mode: whether it runs
+-- what an octet says of the operating mode: whether it runs (Snap7 1.4 reference manual, `Cli_GetPlcStatus`)
 abbrev pub mode_said : ℕ → Option Bool
 mode_said octet = if octet == 0x08 then Some true else (if octet == 0x04 then Some false else None)
 
--- whether it runs, by the fourth octet of the first record
+-- whether it runs, by the fourth octet of the first record (Snap7 1.4 reference manual, `Cli_GetPlcStatus`)
 abbrev pub mode_of : List ℕ → Option Bool
 mode_of image = field_of (is_of 0x0424 0 20 image) (mode_said (slice_index image 11))
 
--- the 20 octets behind the index of the first record
+-- the 20 octets behind the index of the first record (Snap7 1.4 reference manual, `Cli_GetOrderCode`)
 abbrev pub order_code_of : List ℕ → Option (List ℕ)
 order_code_of image = field_of (is_of 0x0011 0 28 image) (Some (take 20 (drop 10 image)))
 
--- the greatest PDU, behind the index of the first record
+-- the greatest PDU, behind the index of the first record (Snap7 1.4 reference manual, `Cli_GetCpInfo`)
 abbrev pub pdu_of : List ℕ → Option ℕ
 pdu_of image = field_of (is_of 0x0131 1 40 image) (Some (number_at image 10))
 
--- the level of protection in force (sch_rel), behind the index and the two other levels of the first record
+-- the level of protection in force (Snap7 1.4 reference manual, `Cli_GetProtection`: sch_rel), behind the index and the
+-- two other levels of the first record
 abbrev pub protection_of : List ℕ → Option ℕ
 protection_of image = field_of (is_of 0x0232 4 40 image) (Some (number_at image 14))
 
--- so many records of so many octets
+-- so many records of so many octets (Snap7 1.4 reference manual, `Cli_ReadSZL`: TS7SZL)
 abbrev pub records_in : ℕ → ℕ → List ℕ → List (List ℕ)
 records_in record_len zero octets = []
 records_in record_len (suc count) octets =
@@ -49,7 +51,7 @@ abbrev pub first_with : ℕ → List (List ℕ) → Option (List ℕ)
 first_with index [] = None
 first_with index (r ∷ rs) = if number_at r 0 == index then Some (drop 2 r) else first_with index rs
 
--- the text of a component
+-- the text of a component (Snap7 1.4 reference manual, `Cli_GetCpuInfo`)
 abbrev pub component_of : ℕ → List ℕ → Option (List ℕ)
 component_of index image =
     field_of (is_of 0x001C 0 34 image) (first_with index (records_in 34 (number_at image 6) (drop 8 image)))

@@ -1,6 +1,5 @@
--- The status lists that are told, by id and index, as records (Snap7 1.4 reference manual, system info functions:
--- TS7SZL, TS7OrderCode, TS7CpuInfo, TS7CpInfo, TS7Protection, PlcStatus). Which lists there are, and what they say
--- but run and stop, is this profile's own.
+-- The status lists that are told, by id and index, as records (Snap7 1.4 reference manual, `Cli_ReadSZL`: TS7SZL).
+-- Which lists there are, and what they say but run and stop, is this profile's own.
 use Rattle.std.specs.Prelude.{ℕ, ◌-◌, ◌==◌, ◌&&◌, Bool, if◌then◌else◌, Option, None, Some}
 use Rattle.std.specs.Prelude.{List, [], ◌∷◌, ◌++◌, length, map, replicate, codes}
 use Rattle.s7_outer.specs.Numbers.{two_octets}
@@ -14,25 +13,26 @@ pub record Table : Type 0 where
 abbrev pub zeros : ℕ → List ℕ
 zeros count = replicate count 0
 
--- the ids of the lists that there are
+-- the ids of the lists that there are (Snap7 1.4 reference manual, `Cli_ReadSZLList`)
 abbrev pub directory : Table
 directory = record {
   record_len = 2;
   records = map two_octets (0x0000 ∷ 0x0011 ∷ 0x001C ∷ 0x0131 ∷ 0x0232 ∷ 0x0424 ∷ []);
 }
 
--- the order code, 20 octets
+-- the order code, 20 octets (Snap7 1.4 reference manual, `Cli_GetOrderCode`: TS7OrderCode)
 abbrev pub order_code : List ℕ
 order_code = codes "S7SERVER AREA BOOK  "
 
--- what the module is: index 1, the order code, and its version
+-- what the module is: index 1, the order code, and its version (Snap7 1.4 reference manual, `Cli_GetOrderCode`:
+-- TS7OrderCode)
 abbrev pub identification : Table
 identification = record {
   record_len = 28;
   records = (two_octets 1 ++ order_code ++ (0x00 ∷ 0x00 ∷ 0x00 ∷ 0x01 ∷ 0x00 ∷ 0x00 ∷ [])) ∷ [];
 }
 
--- a component: its index, and its text filled to 32 octets
+-- a component: its index, and its text filled to 32 octets (Snap7 1.4 reference manual, `Cli_GetCpuInfo`: TS7CpuInfo)
 abbrev pub filled : List ℕ → List ℕ
 filled text = text ++ zeros (32 - length text)
 
@@ -54,7 +54,7 @@ components = record {
       ∷ [];
 }
 
--- the greatest PDU, and the greatest number of links
+-- the greatest PDU, and the greatest number of links (Snap7 1.4 reference manual, `Cli_GetCpInfo`: TS7CpInfo)
 abbrev pub greatest_pdu : ℕ
 greatest_pdu = 1920
 
@@ -68,7 +68,7 @@ communication = record {
   records = (two_octets 1 ++ two_octets greatest_pdu ++ two_octets greatest_links ++ zeros 34) ∷ [];
 }
 
--- the level of protection: 1 is none
+-- the level of protection: 1 is none (Snap7 1.4 reference manual, `Cli_GetProtection`: TS7Protection)
 abbrev pub level : ℕ
 level = 1
 
@@ -83,7 +83,7 @@ protection = record {
       ∷ [];
 }
 
--- the octet of the operating mode
+-- the octet of the operating mode (Snap7 1.4 reference manual, `Cli_GetPlcStatus`)
 abbrev pub mode_octet : Bool → ℕ
 mode_octet running = if running then 0x08 else 0x04
 
@@ -91,7 +91,7 @@ mode_octet running = if running then 0x08 else 0x04
 abbrev pub mode : Bool → Table
 mode running = record { record_len = 20; records = (0x51 ∷ 0x44 ∷ 0xFF ∷ mode_octet running ∷ zeros 16) ∷ [] }
 
--- the list of an id and an index
+-- the list of an id and an index (Snap7 1.4 reference manual, `Cli_ReadSZL`)
 unfoldable pub table_of : ℕ → ℕ → Bool → Option Table
 table_of id index running =
     if (id == 0x0000) && (index == 0) then Some directory

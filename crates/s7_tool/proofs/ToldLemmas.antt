@@ -1,10 +1,27 @@
 -- What a completion is told of.
-use Rattle.std.proofs.Common.{◌≡◌, List, [], ◌∷◌, ◌++◌, Option, option_map, sym, subst}
+use Rattle.std.proofs.Common.{◌≡◌, ℕ, Bool, List, [], ◌∷◌, ◌++◌, Option, None, Some, Result, option_map, inl, inr, map, refl, sym, subst}
+use Rattle.std.specs.Result.{OnErr}
 use Rattle.std.proofs.lemmas.Iterator.Adapters.{option_map_id}
+use Rattle.s7_area.specs.Memory.{Memory}
+use Rattle.s7_dialogue.specs.declared.config.Config.{Config}
+use Rattle.s7_dialogue.specs.declared.job.Job.{Job}
 use Rattle.s7_dialogue.specs.declared.job.JobResult.{JobResult}
+use Rattle.s7_outer.specs.FilesShown.{FilesShown}
+use Rattle.s7_outer.specs.OutShown.{OutShown}
+use Rattle.s7_script.specs.Naming.{naming}
+use Rattle.s7_script.specs.declared.script_list.ScriptLine.{ScriptLine}
+use Rattle.s7_words.specs.Tool.{RigTold, ToolTold, gen, partner, rig, run}
 use Rattle.s7_client.specs.Completions.{Told, told_of_result, told_of_results}
+use Rattle.s7_rig.specs.Rigs.{ToldWanting}
 use Rattle.s7_rig.specs.Tells.{Tells}
 use Rattle.s7_rig.proofs.TellsLemmas.{tells_none}
+use Rattle.s7_tool.specs.declared.ended.Ended.{Ended}
+use Rattle.s7_tool.specs.declared.ended.Ended.TheVariants as ended
+use Rattle.s7_tool.specs.End.{HeardWanting}
+use Rattle.s7_tool.specs.Report.{PrintsText}
+use Rattle.s7_tool.specs.Rigging.{JobsWanting, Opens, RigWanting}
+use Rattle.s7_tool.specs.Run.{jobs_of}
+use Rattle.s7_tool.specs.Scripts.{ReadsScripts}
 
 -- ---- a run
 
@@ -31,3 +48,35 @@ tells_lent f rs ts old given left new none from to h =
 -- nothing was told
 pub told_nothing : (x : Option Told) → x ≡ option_map (λ t. told_of_results t []) x
 told_nothing x = sym (option_map_id x)
+
+-- ---- where memory was wanting
+
+-- a text that was printed, or not, is no want of memory
+pub not_wanting : (text : List ℕ) (good : Bool) (old new : OutShown) (how : Ended) → PrintsText text good old new how
+    → how ≡ ended.Memory → ⊥
+not_wanting text good old new how printed is = subst (λ h. PrintsText text good old new h) is printed
+
+-- a rig of the same, by other words
+pub wanting_same : {T E : Type 0} (r : Result T E) (areas areas' : Memory) (limit : ℕ) (config config' : Config)
+    (jobs jobs' : List (List Job)) (x y : Option Told) → areas ≡ areas' → config ≡ config' → jobs ≡ jobs'
+    → OnErr r (ToldWanting areas limit config jobs x y) → OnErr r (ToldWanting areas' limit config' jobs' x y)
+wanting_same r areas areas' limit config config' jobs jobs' x y a c j h =
+    subst (λ z. OnErr r (ToldWanting z limit config' jobs' x y)) a
+    (subst (λ z. OnErr r (ToldWanting areas limit z jobs' x y)) c
+    (subst (λ z. OnErr r (ToldWanting areas limit config z x y)) j h))
+
+-- a rig over the files that were read
+pub rig_wanting : (told : RigTold) (files : FilesShown) (opening : Memory) (scripts : List (List ScriptLine))
+    (x y : Option Told) → Opens (naming told.areas) files opening → ReadsScripts told.scripts files scripts
+    → JobsWanting told opening (map jobs_of scripts) x y → RigWanting told files x y
+rig_wanting told files opening scripts x y opened read wanting =
+    inr (record { opening = opening; opened = opened; scripts = scripts; read = read; wanting = wanting })
+
+-- whatever the words are, of nothing
+pub heard_nothing : (words : Option ToolTold) (files : FilesShown) (x y : Option Told) → y ≡ x
+    → HeardWanting words files x y
+heard_nothing None files x y same = same
+heard_nothing (Some (run told)) files x y same = same
+heard_nothing (Some (rig told)) files x y same = inl same
+heard_nothing (Some (gen seed)) files x y same = inl same
+heard_nothing (Some (partner told)) files x y same = same

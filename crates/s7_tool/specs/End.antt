@@ -1,22 +1,25 @@
 -- How it ended, by the command that the words name, and what was left.
-use Rattle.std.specs.Prelude.{ℕ, List, [], Option, Some, None, IsNone, IsSomeAnd}
+use Rattle.std.specs.Prelude.{◌≡◌, ℕ, List, [], Option, Some, None, IsNone, IsSomeAnd}
 use Rattle.s7_outer.specs.DialShown.{DialShown}
 use Rattle.s7_outer.specs.FilesShown.{FilesShown}
 use Rattle.s7_outer.specs.OutShown.{OutShown}
 use Rattle.s7_outer.specs.Shown.{Shown}
+use Rattle.s7_client.specs.Completions.{Told}
 use Rattle.s7_dialogue.specs.declared.job.JobResult.{JobResult}
 use Rattle.s7_rig.specs.declared.end.RigEnd.{RigEnd}
+use Rattle.s7_rig.specs.Rigs.{ToldWanting}
 use Rattle.s7_rig.specs.Shown.{end_told, first_results}
 use Rattle.s7_words.specs.Tool.{ToolTold, gen, partner, rig, run}
 use Rattle.s7_tool.specs.declared.ended.Ended.{Ended}
 use Rattle.s7_tool.specs.declared.ended.RunEnd.{RunEnd}
 use Rattle.s7_tool.specs.declared.ended.ToolEnd.{ToolEnd}
-use Rattle.s7_tool.specs.Gen.{RanGen}
+use Rattle.s7_tool.specs.Drawn.{made_scripts}
+use Rattle.s7_tool.specs.Gen.{RanGen, made_areas, made_config}
 use Rattle.s7_tool.specs.Loading.{PathFails, RefusesScript}
 use Rattle.s7_tool.specs.Partners.{CallFailsFor, FailsOne, PartnersLack, RanPartners, RefusesOne}
 use Rattle.s7_tool.specs.Ran.{CallFails, RanScript, RunLacksMemory}
 use Rattle.s7_tool.specs.Report.{Printed, memory_line}
-use Rattle.s7_tool.specs.Rigging.{FailsOneFile, RanRig, RefusesFile}
+use Rattle.s7_tool.specs.Rigging.{FailsOneFile, RanRig, RefusesFile, RigWanting}
 
 -- ---- what was carried out
 
@@ -71,6 +74,14 @@ DialFails (Some (rig told)) files dial dial' printed = ⊥
 DialFails (Some (gen seed)) files dial dial' printed = ⊥
 DialFails (Some (partner told)) files dial dial' printed = CallFailsFor told told.other files dial dial' printed
 
+-- a command that reads no file
+abbrev pub ReadsNone : Option ToolTold → Type 0
+ReadsNone None = Unit {0}
+ReadsNone (Some (run told)) = ⊥
+ReadsNone (Some (rig told)) = ⊥
+ReadsNone (Some (gen seed)) = Unit {0}
+ReadsNone (Some (partner told)) = ⊥
+
 -- ---- what is left
 
 -- nothing was run
@@ -105,3 +116,13 @@ heard_in (Some r) left = r.results.items
 -- WHAT A COMPLETION HEARD: the results of the run where there is one, and else those of the rig's first client
 abbrev pub heard : {L C : Type 0} → ToolEnd L C → List JobResult
 heard end = heard_in end.run end.rig
+
+-- WHAT A COMPLETION WAS TOLD where memory was wanting and no run is left: of nothing, or of what the first client of a
+-- rig had done
+abbrev pub HeardWanting : Option ToolTold → FilesShown → Option Told → Option Told → Type 0
+HeardWanting None files before after = after ≡ before
+HeardWanting (Some (run told)) files before after = after ≡ before
+HeardWanting (Some (rig told)) files before after = RigWanting told files before after
+HeardWanting (Some (gen seed)) files before after =
+    ToldWanting made_areas 65536 made_config (made_scripts seed) before after
+HeardWanting (Some (partner told)) files before after = after ≡ before

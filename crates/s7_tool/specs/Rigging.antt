@@ -3,10 +3,11 @@ use Rattle.std.specs.Prelude.{◌≡◌, ◌⊎◌, ℕ, List, map, Option, Some
 use Rattle.s7_outer.specs.FilesShown.{FilesShown}
 use Rattle.s7_outer.specs.OutShown.{OutShown}
 use Rattle.s7_area.specs.Memory.{Memory}
+use Rattle.s7_client.specs.Completions.{Told}
 use Rattle.s7_dialogue.specs.declared.job.Job.{Job}
 use Rattle.s7_rig.specs.declared.end.RigEnd.{RigEnd}
 use Rattle.s7_rig.specs.Shown.{EndTold, end_told}
-use Rattle.s7_rig.specs.Rigs.{RigRan}
+use Rattle.s7_rig.specs.Rigs.{RigRan, ToldWanting}
 use Rattle.s7_script.specs.Naming.{Named, naming, path, block, faulty}
 use Rattle.s7_script.specs.Loading.{IsTold, named_gives}
 use Rattle.s7_script.specs.declared.load.LoadFault.{LoadFault}
@@ -75,6 +76,11 @@ pub record FailsOneFile (told : RigTold) (old new : FilesShown) (printed : List 
 abbrev pub RanJobs : RigTold → Memory → List (List Job) → EndTold → Type 0
 RanJobs told opening jobs end = RigRan opening told.journal (rig_config told.pdu told.jobs) jobs (turning_of told) end
 
+-- memory was wanting for such a rig
+abbrev pub JobsWanting : RigTold → Memory → List (List Job) → Option Told → Option Told → Type 0
+JobsWanting told opening jobs before after =
+    ToldWanting opening told.journal (rig_config told.pdu told.jobs) jobs before after
+
 -- A RIG RAN over the areas and the scripts that the words name, which are those of the files where that is told, and
 -- its text was printed
 pub record RanRig (told : RigTold) (files : FilesShown) (out out' : OutShown) (end : EndTold)
@@ -98,3 +104,17 @@ RigEnds told files files' out out' rig ended.Refused = IsNone rig × RefusesFile
 RigEnds told files files' out out' rig ended.File = IsNone rig × FailsOneFile told files files' (Printed out out')
 RigEnds told files files' out out' rig ended.Memory = IsNone rig × Printed out out' memory_line
 RigEnds told files files' out out' rig ended.Dial = ⊥
+
+-- ---- what a completion was told
+
+-- memory was wanting for a rig over the areas and the scripts that the words name
+pub record BreaksOffRig (told : RigTold) (files : FilesShown) (before after : Option Told) : Type 0 where
+  pub opening : Memory
+  pub opened : Opens (naming told.areas) files opening
+  pub scripts : List (List ScriptLine)
+  pub read : ReadsScripts told.scripts files scripts
+  pub wanting : JobsWanting told opening (map jobs_of scripts) before after
+
+-- MEMORY WAS WANTING: before a rig was begun, and the completion was told of nothing, or for that rig
+abbrev pub RigWanting : RigTold → FilesShown → Option Told → Option Told → Type 0
+RigWanting told files before after = (after ≡ before) ⊎ BreaksOffRig told files before after

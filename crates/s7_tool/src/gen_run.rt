@@ -1,8 +1,8 @@
 // The command that makes areas and scripts from a number, and runs them.
-ghost use Rattle.std.specs.Prelude.{◌≡◌, ◌≢◌, ◌∷◌, [], IfOk, is_some, map, option_map, vec_len};
+ghost use Rattle.std.specs.Prelude.{◌≡◌, ◌≢◌, ◌∷◌, [], IfOk, OnErr, is_some, map, option_map, vec_len};
 ghost use Rattle.std.specs.Map.{keys_of};
 ghost use Rattle.s7_client.specs.Completions.{told_of_results};
-ghost use Rattle.s7_rig.specs.Rigs.{RigRan};
+ghost use Rattle.s7_rig.specs.Rigs.{RigRan, ToldWanting};
 ghost use Rattle.s7_rig.specs.Shown.{end_told, first_results};
 ghost use Rattle.s7_tool.specs.Drawn.{made_scripts};
 ghost use Rattle.s7_tool.specs.End.{results_in_rig};
@@ -34,6 +34,8 @@ pub(crate) fn run_gen<O: Out, C: Completion>(
     ensures ended { GenEnds seed (O.shows out.old) (O.shows out.new) result.1 result.0 }
     ensures told { result.0 ≢ Ended.Memory → option_map C.told done.new
         ≡ option_map (λ t. told_of_results t (results_in_rig result.1)) (option_map C.told done.old) }
+    ensures told_wanting { result.0 ≡ Ended.Memory → ToldWanting made_areas 65536 made_config (made_scripts seed)
+        (option_map C.told done.old) (option_map C.told done.new) }
     ensures handed { is_some done.new ≡ is_some done.old }
 {
     match rig_made(alloc, seed, done) {
@@ -53,6 +55,8 @@ fn rig_made<C: Completion>(alloc: Global, seed: u32, done: &mut Option<C>) -> Re
     ensures good { IfOk result (λ r. r.is_good ≡ are_made_good (end_told r.end).clients) }
     ensures told { IfOk result (λ r. option_map C.told done.new
         ≡ option_map (λ t. told_of_results t (first_results (end_told r.end))) (option_map C.told done.old)) }
+    ensures told_wanting { OnErr result (ToldWanting made_areas 65536 made_config (made_scripts seed)
+        (option_map C.told done.old) (option_map C.told done.new)) }
     ensures handed { is_some done.new ≡ is_some done.old }
 {
     let end = run_made(alloc, seed, done)?;
@@ -69,6 +73,8 @@ fn run_made<C: Completion>(alloc: Global, seed: u32, done: &mut Option<C>) -> Re
         ≡ flags_key ∷ map block_key (1 ∷ 2 ∷ 3 ∷ 4 ∷ [])) }
     ensures told { IfOk result (λ end. option_map C.told done.new
         ≡ option_map (λ t. told_of_results t (first_results (end_told end))) (option_map C.told done.old)) }
+    ensures told_wanting { OnErr result (ToldWanting made_areas 65536 made_config (made_scripts seed)
+        (option_map C.told done.old) (option_map C.told done.new)) }
     ensures handed { is_some done.new ≡ is_some done.old }
 {
     let areas = made_areas(alloc)?;

@@ -40,6 +40,7 @@ pub(crate) fn run_partner<F: Files, L: Link + Drop, K: Dial<L>, O: Out>(
     ensures paths { KeepsPaths (F.shows files.old) (F.shows files.new) }
     ensures dial_faults { NoHostFell (K.shows dial.old).faults (K.shows dial.new).faults }
     ensures undialled { result.1 ≡ None → result.0 ≢ Ended.Dial → dial.new ≡ dial.old }
+    ensures undropped { result.0 ≡ Ended.Dial → (K.shows dial.new).next ≡ (K.shows dial.old).next }
     ensures unheard { results_in result.1 ≡ [] }
 {
     let one = match load_sends(alloc, files, words.one) {
@@ -103,6 +104,7 @@ fn run_alone<L: Link + Drop, K: Dial<L>, O: Out>(
         (O.shows out.old) (O.shows out.new) result.1 result.0 }
     ensures dial_faults { NoHostFell (K.shows dial.old).faults (K.shows dial.new).faults }
     ensures undialled { result.1 ≡ None → result.0 ≢ Ended.Dial → dial.new ≡ dial.old }
+    ensures undropped { result.0 ≡ Ended.Dial → (K.shows dial.new).next ≡ (K.shows dial.old).next }
     ensures unheard { results_in result.1 ≡ [] }
 {
     let Ok(talker) = Talker::new(alloc, Role::Active, partner_config(), one) else {

@@ -1,6 +1,6 @@
 // The command that runs scripts together.
 ghost use Rattle.std.specs.Prelude.{◌≡◌, ◌≢◌, ◌≤◌, ◌<◌, ◌*◌, ◌+◌, ◌∷◌, ◌++◌, [], All, IfOk, map, vec_len};
-ghost use Rattle.std.specs.Prelude.{is_some, option_map};
+ghost use Rattle.std.specs.Prelude.{OnErr, is_some, option_map};
 ghost use Rattle.std.specs.List.{AllByRecursion};
 ghost use Rattle.s7_rig.specs.Scripts.{ConnectsFirst};
 ghost use Rattle.s7_client.specs.Completions.{told_of_results};
@@ -10,7 +10,7 @@ ghost use Rattle.s7_tool.specs.Asked.{rig_config};
 ghost use Rattle.s7_tool.specs.End.{results_in_rig};
 ghost use Rattle.s7_tool.specs.Loading.{KeepsPaths};
 ghost use Rattle.s7_tool.specs.RigText.{ArePrintable, are_clients_good, numbers_of, rig_text};
-ghost use Rattle.s7_tool.specs.Rigging.{RanJobs, RigEnds};
+ghost use Rattle.s7_tool.specs.Rigging.{JobsWanting, RanJobs, RigEnds, RigWanting};
 ghost use Rattle.s7_tool.specs.Run.{jobs_of};
 
 use crate::ended::Ended;
@@ -47,6 +47,8 @@ pub(crate) fn run_rigging<F: Files, O: Out, C: Completion>(
     ensures paths { KeepsPaths (F.shows files.old) (F.shows files.new) }
     ensures told { result.0 ≢ Ended.Memory → option_map C.told done.new
         ≡ option_map (λ t. told_of_results t (results_in_rig result.1)) (option_map C.told done.old) }
+    ensures told_wanting { result.0 ≡ Ended.Memory → RigWanting (rig_told_of words.entry) (F.shows files.old)
+        (option_map C.told done.old) (option_map C.told done.new) }
     ensures handed { is_some done.new ≡ is_some done.old }
 {
     let areas = match load_areas(alloc, files, words.areas) {
@@ -83,6 +85,8 @@ fn run_scripts<C: Completion>(
     ensures good { IfOk result (λ r. r.is_good ≡ are_clients_good scripts.items (end_told r.end).clients) }
     ensures told { IfOk result (λ r. option_map C.told done.new
         ≡ option_map (λ t. told_of_results t (first_results (end_told r.end))) (option_map C.told done.old)) }
+    ensures told_wanting { OnErr result (JobsWanting (rig_told_of words.now) areas (map jobs_of scripts.items)
+        (option_map C.told done.old) (option_map C.told done.new)) }
     ensures handed { is_some done.new ≡ is_some done.old }
 {
     let numbers = all_numbers(alloc, scripts.as_slice())?;
@@ -108,6 +112,8 @@ fn run_jobs<C: Completion>(
     ensures printable { IfOk result (λ end. All ArePrintable (end_told end).clients) }
     ensures told { IfOk result (λ end. option_map C.told done.new
         ≡ option_map (λ t. told_of_results t (first_results (end_told end))) (option_map C.told done.old)) }
+    ensures told_wanting { OnErr result (JobsWanting (rig_told_of words.now) areas (map (λ s. s.items) jobs.items)
+        (option_map C.told done.old) (option_map C.told done.new)) }
     ensures handed { is_some done.new ≡ is_some done.old }
 {
     ends_print();

@@ -40,6 +40,7 @@ pub(crate) fn run_script<F: Files, L: Link + Drop, K: Dial<L>, O: Out, C: Comple
     ensures paths { KeepsPaths (F.shows files.old) (F.shows files.new) }
     ensures dial_faults { NoHostFell (K.shows dial.old).faults (K.shows dial.new).faults }
     ensures undialled { result.1 ≡ None → result.0 ≢ Ended.Dial → dial.new ≡ dial.old }
+    ensures undropped { result.0 ≡ Ended.Dial → (K.shows dial.new).next ≡ (K.shows dial.old).next }
     ensures told { option_map C.told done.new
         ≡ option_map (λ t. told_of_results t (results_in result.1)) (option_map C.told done.old) }
     ensures handed { is_some done.new ≡ is_some done.old }

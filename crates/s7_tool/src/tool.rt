@@ -4,7 +4,8 @@ ghost use Rattle.s7_client.specs.Completions.{told_of_results};
 ghost use Rattle.s7_outer.specs.Count.{Rose};
 ghost use Rattle.s7_outer.specs.Dial.{NoHostFell};
 ghost use Rattle.s7_tool.specs.Asked.{command_of};
-ghost use Rattle.s7_tool.specs.End.{CarriesOut, DialFails, FileFails, IsUnrun, LacksMemory, LeavesOnly, Refuses, heard};
+ghost use Rattle.s7_tool.specs.End.{CarriesOut, DialFails, FileFails, IsUnrun, LacksMemory, LeavesOnly};
+ghost use Rattle.s7_tool.specs.End.{HeardWanting, ReadsNone, Refuses, heard};
 ghost use Rattle.s7_tool.specs.Loading.{KeepsPaths};
 ghost use Rattle.s7_tool.specs.Report.{Printed, usage_line};
 ghost use Rattle.s7_tool.specs.Statuses as status;
@@ -63,8 +64,9 @@ pub const MEMORY: u8 = 9;
 /// faulty line, or more than 67,108,864 octets; 3 where a file that the words name failed; 4 where the dial
 /// failed; 5 where the output failed at a result or a news, which ends a run, or at the text of a rig or of two
 /// partners; 6 where a result's code isn't 0, a client of a rig isn't finished, or a block of a partner wasn't
-/// acknowledged; 9 where memory was wanting, which may come in the place of 1 to 4 too; and else 0. The first file that can't be read decides. For 1 to 4
-/// and 9 one line is printed, with 9 after what was printed before, and its failure changes nothing.
+/// acknowledged; 9 where memory was wanting, which may come in the place of 1 to 4 too; and else 0. The first file that
+/// can't be read decides. For 1 to 4 and 9 one line is printed, with 9 after what was printed before, and its failure
+/// changes nothing.
 ///
 /// No path changes. A run is there exactly where a link was dialled. With status 0 or 6 it has the
 /// result of each job, and with 5 or 9 those of the jobs that were done. Where none is there the dial is
@@ -72,7 +74,7 @@ pub const MEMORY: u8 = 9;
 /// dial nothing, `gen` reads no file, and a run of `partner` has no results.
 ///
 /// The completion is handed back. It was told of each job of `run`, or of the first client of `rig` or `gen`, when
-/// the job was done, once, in order, and of nothing else.
+/// the job was done, once, in order, and of nothing else: with 9 too, where no rig is left.
 pub fn tool_main<F: Files, L: Link + Drop, K: Dial<L>, O: Out, C: Completion + Drop>(
     alloc: Global,
     words: &[&str],
@@ -116,13 +118,18 @@ pub fn tool_main<F: Files, L: Link + Drop, K: Dial<L>, O: Out, C: Completion + D
 
     // No path changes, no count falls, and nothing is dialled but for a run.
     ensures paths { KeepsPaths (F.shows files.old) (F.shows files.new) }
+    ensures unread { ReadsNone (command_of words.now) → F.shows files.new ≡ F.shows files.old }
     ensures dial_faults { NoHostFell (K.shows dial.old).faults (K.shows dial.new).faults }
     ensures undialled { IsNone result.run → result.status ≢ status.dial → dial.new ≡ dial.old }
+    ensures undropped { result.status ≡ status.dial → (K.shows dial.new).next ≡ (K.shows dial.old).next }
 
-    // The completion comes back, told of the results that are left; a rig that was broken off leaves none.
+    // The completion comes back, told of the results that are left. A rig that memory was wanting for leaves none, and
+    // it was told of those that there were.
     ensures handed_back { is_some result.done ≡ is_some done }
     ensures told { (result.status ≢ status.memory) ⊎ IsSome result.run → option_map C.told result.done
         ≡ option_map (λ t. told_of_results t (heard result)) (option_map C.told done) }
+    ensures told_wanting { result.status ≡ status.memory → IsNone result.run → HeardWanting (command_of words.now)
+        (F.shows files.old) (option_map C.told done) (option_map C.told result.done) }
 {
     let mut done = done;
     match read_tool_words(alloc, words) {

@@ -1,4 +1,5 @@
--- How a cutter takes octets: never further than to the next place where they may show something.
+-- How a cutter takes the octets of packets (RFC 1006, section 6): never further than to the next place where they may
+-- show something.
 use Rattle.std.specs.Prelude.{◌≡◌, ℕ, ◌+◌, ◌-◌, ◌*◌, List, [], ◌∷◌, length}
 use Rattle.s7_tpkt.specs.declared.state.FedState.{FedState}
 use Rattle.s7_tpkt.specs.declared.state.FedState.TheVariants.{Whole, More, BadVersion, BadLength, TooLong}

@@ -26,7 +26,8 @@ packet_of body = 3 ∷ 0 ∷ ((length body + 4) / 256) ∷ ((length body + 4) % 
 -- function of the bodies before it.
 abbrev pub Packed : (List (List ℕ) → ℕ) → List (List ℕ) → List ℕ → List (List ℕ) → List ℕ → Type 0
 Packed limits before b [] rest = b ≡ rest
-Packed limits before b (p ∷ ps) rest = (q : List ℕ) × (more : List ℕ) × IsPacket (limits before) q × (p ≡ body_of q) × (b ≡ q ++ more) × Packed limits (before ++ p ∷ []) more ps rest
+Packed limits before b (p ∷ ps) rest = (q : List ℕ) × (more : List ℕ) × IsPacket (limits before) q × (p ≡ body_of q) ×
+    (b ≡ q ++ more) × Packed limits (before ++ p ∷ []) more ps rest
 
 -- no packet stands at the front
 abbrev pub NoPacketAhead : ℕ → List ℕ → Type 0

@@ -31,7 +31,8 @@ impl Model for Cutter {
 
     ghost view = { λ c. record { held = take c.len c.octets; limit = c.limit } };
 
-    ghost invariant = { λ c. (c.len ≤ 8199) × (7 ≤ c.limit) × (c.limit ≤ 8199) × (state_of c.limit (take c.len c.octets) ≡ Whole → IsPacket c.limit (take c.len c.octets)) };
+    ghost invariant = { λ c. (c.len ≤ 8199) × (7 ≤ c.limit) × (c.limit ≤ 8199) ×
+        (state_of c.limit (take c.len c.octets) ≡ Whole → IsPacket c.limit (take c.len c.octets)) };
 }
 
 impl Cutter {

@@ -9,7 +9,8 @@ use crate::state::FedState;
 /// What a state says of packets: `Whole` that one stands at the front, any other state that none does, and a
 /// fault that none will, whatever follows.
 pub fn states_tell()
-    ensures whole { (limit : ℕ) (b : List ℕ) → state_of limit b ≡ FedState.Whole → (q : List ℕ) × (more : List ℕ) × IsPacket limit q × (b ≡ q ++ more) }
+    ensures whole { (limit : ℕ) (b : List ℕ) → state_of limit b ≡ FedState.Whole → (q : List ℕ) × (more : List ℕ) ×
+        IsPacket limit q × (b ≡ q ++ more) }
     ensures not_whole { (limit : ℕ) (b : List ℕ) → state_of limit b ≢ FedState.Whole → NoPacketAhead limit b }
     ensures fault { (limit : ℕ) (b more : List ℕ) → is_fault (state_of limit b) ≡ true → NoPacketAhead limit (b ++ more) }
 {}
@@ -24,7 +25,8 @@ pub fn one_reading()
 /// A cutter that holds what stands behind the packets of a stream goes on to do so, whatever the pieces are:
 /// at the start, while no packet is whole, and where the next one is begun.
 pub fn held_is_rest()
-    ensures begins { (limits : List (List ℕ) → ℕ) (cutter : Cut) → cutter.held ≡ [] → cutter.limit ≡ limits [] → HoldsRest limits [] cutter }
+    ensures begins { (limits : List (List ℕ) → ℕ) (cutter : Cut) → cutter.held ≡ [] → cutter.limit ≡ limits [] →
+        HoldsRest limits [] cutter }
     ensures goes_on { (limits : List (List ℕ) → ℕ) (b more : List ℕ) (old new : Cut) → HoldsRest limits b old → GoesOn limits b more
         → new.held ≡ old.held ++ more → new.limit ≡ old.limit → HoldsRest limits (b ++ more) new }
     ensures ends_packet { (limits : List (List ℕ) → ℕ) (b more body : List ℕ) (new : Cut) → EndsPacket limits b more body
@@ -34,9 +36,11 @@ pub fn held_is_rest()
 /// Octets behind others take nothing from what those were read as, and add nothing behind a fault.
 pub fn octets_behind()
     ensures further { (limits : List (List ℕ) → ℕ) (b more : List ℕ) → GoesFurther limits b more }
-    ensures fault { (limits : List (List ℕ) → ℕ) (b more : List ℕ) → is_fault (state_of (limits (packets_of limits b)) (rest_of limits b)) ≡ true
+    ensures fault { (limits : List (List ℕ) → ℕ) (b more : List ℕ) →
+        is_fault (state_of (limits (packets_of limits b)) (rest_of limits b)) ≡ true
         → GoesOn limits b more }
-    ensures fault_stays { (limit : ℕ) (held more : List ℕ) → is_fault (state_of limit held) ≡ true → state_of limit (held ++ more) ≡ state_of limit held }
+    ensures fault_stays { (limit : ℕ) (held more : List ℕ) → is_fault (state_of limit held) ≡ true →
+        state_of limit (held ++ more) ≡ state_of limit held }
 {}
 
 /// A packet that is written for a body is a packet, and is read as that one body with no rest.

@@ -175,7 +175,8 @@ module _ {B R A : Type 0} where
   drew st m found m' = (t : ℕ) × (found ≡ t % 2 ^ 64) × (m' ≡ (at_stage m.0 (Waits t), m.1))
 
   abbrev pub looked : Step (Option B) → Sat B R A → ℕ → Sat B R A → Type 0
-  looked st m found m' = let t = ticket_of m.0.stage in (found ≡ t % 2 ^ 64 → m' ≡ (at_stage m.0 (Called t), m.1)) × (found ≢ t % 2 ^ 64 → m' ≡ m)
+  looked st m found m' = let t = ticket_of m.0.stage in (found ≡ t % 2 ^ 64 → m' ≡ (at_stage m.0 (Called t), m.1))
+      × (found ≢ t % 2 ^ 64 → m' ≡ m)
 
   abbrev pub advanced : Step (Option B) → Sat B R A → ℕ → Sat B R A → Type 0
   advanced st m found m' = m' ≡ (record m.0 { seen = left_by m.0.stage; stage = Idle }, m.1)
@@ -189,15 +190,19 @@ module _ {B R A : Type 0} where
   rang st m found m' = m' ≡ m
 
   abbrev pub compared : Step (Option B) → Sat B R A → ℕ → Sat B R A → Type 0
-  compared st m found m' = (m' ≡ (at_stage m.0 Idle, m.1)) × ((a b : Note R) → m.0.stage ≡ Joined a b → Match a b) × ((n x : ℕ) → m.0.next ≡ Some n → has m.0.callers x ≡ true → x < n) × ((n x : ℕ) → m.0.next ≡ Some n → n ≤ x → calls x m.0.seen ≡ [])
+  compared st m found m' = (m' ≡ (at_stage m.0 Idle, m.1)) × ((a b : Note R) → m.0.stage ≡ Joined a b → Match a b)
+      × ((n x : ℕ) → m.0.next ≡ Some n → has m.0.callers x ≡ true → x < n)
+      × ((n x : ℕ) → m.0.next ≡ Some n → n ≤ x → calls x m.0.seen ≡ [])
 
 module _ {B R A : Type 0} (From : B → A → Type 0) (history : B → List (Entry R)) where
   -- the machine is taken. Its history agrees with what the seat has seen
   abbrev pub took : Step (Option B) → Sat B R A → ℕ → Sat B R A → Type 0
   took st m found m' = (b : B) × (m' ≡ (at_stage m.0 (Took (ticket_of m.0.stage) (history b)), (0, Some b) ∷ m.1))
-      × Agrees m.0.seen m.0.callers (history b) × ((x : A) → m.0.origin ≡ Some x → From b x) × ((n : ℕ) → m.0.next ≡ Some n → Each (λ e. e.caller < n) (history b))
+      × Agrees m.0.seen m.0.callers (history b) × ((x : A) → m.0.origin ≡ Some x → From b x)
+      × ((n : ℕ) → m.0.next ≡ Some n → Each (λ e. e.caller < n) (history b))
 
 module _ {B R A : Type 0} (history : B → List (Entry R)) where
   -- the entry is noted, while the machine is still out
   abbrev pub entered : Step (Option B) → Sat B R A → ℕ → Sat B R A → Type 0
-  entered st m found m' = (h : List (Entry R)) × (m' ≡ (at_stage m.0 (Entered (ticket_of m.0.stage) h), m.1)) × ((b : B) → m.1 ≡ (0, Some b) ∷ [] → h ≡ history b)
+  entered st m found m' = (h : List (Entry R)) × (m' ≡ (at_stage m.0 (Entered (ticket_of m.0.stage) h), m.1))
+      × ((b : B) → m.1 ≡ (0, Some b) ∷ [] → h ≡ history b)

@@ -1,4 +1,4 @@
--- Numbers that hold for each link.
+-- Numbers that hold for each link. All but the TPDU size of a code are this profile's own.
 use Rattle.std.specs.Prelude.{ℕ, ◌+◌, ◌^◌}
 
 -- the greatest length of a message that is joined from fragments
@@ -9,11 +9,12 @@ message_limit = 8192
 abbrev pub first_limit : ℕ
 first_limit = 8199
 
--- A TPDU size by its code: 07 is 128, and each further one doubles it.
+-- A TPDU size by its code: 07 is 128, and each further one doubles it (ISO 8073, 13.3.4).
 abbrev pub size_of_code : ℕ → ℕ
 size_of_code code = 2 ^ code
 
--- Some senders count only user data, so a packet may have the header's three octets more than the TPDU size.
+-- Some senders count only user data, so a packet may have the header's three octets more than the TPDU size: this
+-- profile's own.
 abbrev pub limit_of_size : ℕ → ℕ
 limit_of_size size = size + 7
 

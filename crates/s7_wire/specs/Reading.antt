@@ -30,12 +30,12 @@ opening_of Confirm (fragment last user) = None
 opening_of Confirm (disconnect reason) = None
 opening_of Confirm (reject cause) = None
 
--- the length that no packet passes, by the TPDU size (13.3.4), and before there is one
+-- the length that no packet passes, by the TPDU size (ISO 8073, 13.3.4), and before there is one
 abbrev pub limit_by : Option ℕ → ℕ
 limit_by None = first_limit
 limit_by (Some size) = limit_of_size size
 
--- the TPDU size that an opening tells
+-- the TPDU size that an opening tells (ISO 8073, 13.3.4)
 abbrev pub size_told : Option ConnectionTold → Option ℕ
 size_told None = None
 size_told (Some c) = Some (size_of_code c.size_code)
@@ -52,7 +52,7 @@ limits opening (body ∷ bodies) = limit_after opening (tpdu_of body)
 
 -- ---- what is read
 
--- the fragments of a message that isn't whole (13.7): their octets, and how many they are
+-- the fragments of a message that isn't whole (ISO 8073, 13.7): their octets, and how many they are
 pub record Unfinished : Type 0 where
   pub octets : List ℕ
   pub count : ℕ
@@ -91,11 +91,11 @@ with_ending p ending = record p { ending = Some ending }
 abbrev pub with_fault : Progress → ReadFault → Progress
 with_fault p fault = with_ending p (faulted fault p.at)
 
--- a packet has four octets before its body
+-- a packet has four octets before its body (RFC 1006, section 6)
 abbrev pub after_packet : ℕ → List ℕ → ℕ
 after_packet at body = at + 4 + length body
 
--- before the opening nothing else may come
+-- before the opening nothing else may come (ISO 8073, 6.5)
 abbrev pub with_opening : Progress → List ℕ → Option ConnectionTold → Progress
 with_opening p body None = with_fault p Unexpected
 with_opening p body (Some c) =
@@ -105,7 +105,7 @@ with_opening p body (Some c) =
       events = p.events ++ opened c ∷ [];
     }
 
--- a fragment
+-- a fragment (ISO 8073, 13.7)
 abbrev pub with_joining : Progress → List ℕ → Step → Progress
 with_joining p body (more octets count) =
     record p { at = after_packet p.at body; unfinished = record { octets = octets; count = count } }
@@ -118,7 +118,7 @@ with_joining p body (whole octets) =
 with_joining p body too_many_fragments = with_fault p TooManyFragments
 with_joining p body too_long = with_fault p TooLong
 
--- after the opening come fragments, and a disconnect request ends
+-- after the opening come fragments (ISO 8073, 13.7), and a disconnect request ends (ISO 8073, 13.5)
 abbrev pub connected : Progress → List ℕ → Told → Progress
 connected p body (fragment last user) =
     with_joining p body
@@ -149,7 +149,7 @@ abbrev pub with_bodies : Opening → Progress → List (List ℕ) → Progress
 with_bodies opening p [] = p
 with_bodies opening p (body ∷ bodies) = with_bodies opening (with_body opening p body) bodies
 
--- octets behind the packets show that they can't be one
+-- octets behind the packets show that they can't be one (RFC 1006, section 6)
 abbrev pub with_state : Progress → FedState → Progress
 with_state p fed.BadVersion = with_fault p BadFrame
 with_state p fed.BadLength = with_fault p BadFrame
@@ -208,14 +208,14 @@ pub record GrowsTo (p p' : Progress) : Type 0 where
   pub further : List Event
   pub events : p'.events ≡ p.events ++ further
 
--- The bodies are data TPDUs with these fragments, in order.
+-- The bodies are data TPDUs with these fragments, in order (ISO 8073, 13.7).
 abbrev pub AreData : List (List ℕ) → List Fragment → Type 0
 AreData [] [] = Unit {0}
 AreData [] (f ∷ fs) = ⊥
 AreData (body ∷ bodies) [] = ⊥
 AreData (body ∷ bodies) (f ∷ fs) = (tpdu_of body ≡ Ok (fragment f.last f.user)) × AreData bodies fs
 
--- The first body opens the link.
+-- The first body opens the link (ISO 8073, 13.3 and 13.4).
 pub record Opens (opening : Opening) (body : List ℕ) (connection : ConnectionTold) : Type 0 where
   pub told : Told
   pub spelled : tpdu_of body ≡ Ok told

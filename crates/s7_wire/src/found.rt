@@ -13,13 +13,16 @@ pub enum Opening {
 impl Opening {
     ghost use Rattle.std.specs.Prelude.{◌≡◌, option_map, IfSome};
     ghost use Rattle.s7_cotp.specs.Told.{told_of, connection_of, CanBeWritten, CanBeWrittenAgain};
+    ghost use Rattle.s7_cotp.specs.Told.{IsPaddedConnection, IsPaddedTpdu};
     ghost use Rattle.s7_wire.specs.Reading.{opening_of};
 
     /// The connection of a TPDU that opens, and none of another.
     pub(crate) fn connection(self, tpdu: &Tpdu<'_>) -> Option<Connection>
         requires writable { CanBeWrittenAgain tpdu.now }
+        requires padded { IsPaddedTpdu tpdu.now }
         ensures connection { option_map connection_of result ≡ opening_of self (told_of tpdu.now) }
         ensures writable { IfSome result CanBeWritten }
+        ensures padded { IfSome result IsPaddedConnection }
     {
         match (self, tpdu) {
             (Opening::Request, Tpdu::Connect(connection)) => Some(*connection),

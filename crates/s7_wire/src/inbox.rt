@@ -1,5 +1,5 @@
 // The octets that were read and not used.
-ghost use Rattle.std.specs.Prelude.{◌≡◌, ◌==◌, ◌↔◌, ℕ, ◌<◌, ◌≤◌, [], length, drop, Some, IsTrue, IsSome};
+ghost use Rattle.std.specs.Prelude.{◌≡◌, ◌≢◌, ◌==◌, ◌↔◌, ℕ, ◌+◌, ◌<◌, ◌≤◌, [], length, drop, Some, IsTrue, IsSome};
 ghost use Rattle.std.specs.Io.KnownBytes.{prepend_known, IsAtEnd};
 ghost use Rattle.s7_outer.specs.Count.{Rose};
 ghost use Rattle.s7_wire.specs.Bounds.{most_received};
@@ -87,6 +87,12 @@ impl Inbox {
             → (result ≡ Got.NotYet) ↔ ((L.shows line.old).left ≡ Some []) }
         ensures faults { (L.shows line.old).faults ≤ (L.shows line.new).faults }
         ensures waits { (L.shows line.old).waits ≤ (L.shows line.new).waits }
+
+        // The link is called once.
+        ensures faults_once { (L.shows line.new).faults ≤ (L.shows line.old).faults + 1 }
+        ensures waits_once { (L.shows line.new).waits ≤ (L.shows line.old).waits + 1 }
+        ensures failed_no_other { result ≢ Got.Failed → (L.shows line.new).faults ≡ (L.shows line.old).faults }
+        ensures waited_no_other { result ≢ Got.NotYet → (L.shows line.new).waits ≡ (L.shows line.old).waits }
 
         // Nothing else of the link changes.
         ensures same { L.shows line.new ≡ record (L.shows line.old) {

@@ -19,7 +19,7 @@ pub use laws::{
 };
 pub use limits::{FIRST_LIMIT, HEADERS, MESSAGE_LIMIT};
 pub use message::{MOST_MESSAGE, put_message};
-pub use outbox::{OUTGOING, Outbox};
+pub use outbox::Outbox;
 pub use reader::Reader;
 pub use sizes::tpdu_size;
 

@@ -1,5 +1,5 @@
 // The octets that are to be sent.
-ghost use Rattle.std.specs.Prelude.{◌≡◌, ◌==◌, ◌↔◌, ℕ, ◌+◌, ◌-◌, ◌<◌, ◌≤◌, [], ◌++◌, length, drop, IfSome, option_map};
+ghost use Rattle.std.specs.Prelude.{◌≡◌, ◌≢◌, ◌==◌, ◌↔◌, ℕ, ◌+◌, ◌-◌, ◌<◌, ◌≤◌, [], ◌++◌, length, drop, IfSome, option_map};
 ghost use Rattle.std.specs.Io.KnownBytes.{append_known};
 ghost use Rattle.s7_outer.specs.Count.{Rose};
 ghost use Rattle.s7_outer.specs.Link.{octets_sent};
@@ -10,7 +10,7 @@ use s7_tpkt::write_packet;
 use std::marker::Model;
 
 /// How many octets may wait to be sent.
-pub const OUTGOING: usize = 4_096;
+const OUTGOING: usize = 4_096;
 
 /// The octets that are still to be sent, and the room for more.
 #[derive(Drop)]
@@ -101,6 +101,12 @@ impl Outbox {
             ≡ option_map (λ space. space - length (octets_sent result self.old.unsent)) (L.shows line.old).space }
         ensures faults { (L.shows line.old).faults ≤ (L.shows line.new).faults }
         ensures waits { (L.shows line.old).waits ≤ (L.shows line.new).waits }
+
+        // The link is called once.
+        ensures faults_once { (L.shows line.new).faults ≤ (L.shows line.old).faults + 1 }
+        ensures waits_once { (L.shows line.new).waits ≤ (L.shows line.old).waits + 1 }
+        ensures failed_no_other { result ≢ Sent.Failed → (L.shows line.new).faults ≡ (L.shows line.old).faults }
+        ensures waited_no_other { result ≢ Sent.NotYet → (L.shows line.new).waits ≡ (L.shows line.old).waits }
 
         // Nothing else of the link changes.
         ensures same { L.shows line.new ≡ record (L.shows line.old) {

@@ -28,7 +28,7 @@ impl Reader {
     ghost use Rattle.s7_wire.specs.declared.found.Ended.{Ended};
     ghost use Rattle.s7_tpkt.specs.Packets.{rest_of};
     ghost use Rattle.s7_cotp.specs.declared.tpdu.Connection.{Connection};
-    ghost use Rattle.s7_cotp.specs.Told.{CanBeWritten};
+    ghost use Rattle.s7_cotp.specs.Told.{CanBeWritten, IsPaddedConnection};
     ghost use Rattle.s7_wire.specs.Reading.{torn_of, reading, limits, open_packet};
     ghost use Rattle.s7_wire.specs.Reads.{HasRead, HasFound, HasMessage, message_at, opens_by};
     ghost use Rattle.s7_wire.specs.Reads.{ended_with, size_at, place_at, held_by, limit_at, found_by};
@@ -38,6 +38,7 @@ impl Reader {
         ensures read { IfOk result (λ r. HasRead r []) }
         ensures opening { IfOk result (λ r. opens_by r ≡ opening) }
         ensures going { IfOk result (λ r. ended_with r ≡ None) }
+        ensures place { IfOk result (λ r. place_at r ≡ 0) }
     {
         Ok(Reader {
             cutter: Cutter::new(),
@@ -50,6 +51,7 @@ impl Reader {
         ensures read { HasRead self.new [] }
         ensures opening { opens_by self.new ≡ opens_by self.old }
         ensures going { ended_with self.new ≡ None }
+        ensures place { place_at self.new ≡ 0 }
     {
         self.cutter = Cutter::new();
         self.transport.restart();
@@ -68,6 +70,7 @@ impl Reader {
             → HasFound self.new b (take result.octets piece.now) result.found }
         ensures message { result.found ≡ Found.Message → HasMessage self.new }
         ensures writable { (c : Connection) → result.found ≡ Found.Opened c → CanBeWritten c }
+        ensures padded { (c : Connection) → result.found ≡ Found.Opened c → IsPaddedConnection c }
 
         // Octets are taken as long as the link goes on, and left over only at the end of a packet.
         ensures some { ended_with self.old ≡ None → 0 < length piece.now → 0 < result.octets }
@@ -104,7 +107,7 @@ impl Reader {
         }
     }
 
-    /// The message that was found last. It is there until a further fragment comes.
+    /// The message that was found last. It is there until the next call of `read`.
     pub fn message(&self) -> &[u8]
         requires { HasMessage self.now }
         ensures { result.now ≡ message_at self.now }
@@ -112,8 +115,8 @@ impl Reader {
         self.transport.joiner.message()
     }
 
-    /// Where the last packet begins that was whole or at fault, by the number of octets before it: after
-    /// `Message` the one that ended it. 0 where none was.
+    /// Where the packet begins that ended what was found last, by the number of octets before it: after
+    /// `Message` its last fragment's. 0 where nothing was read; behind `More` it tells nothing.
     pub fn place(&self) -> u64
         ensures { result ≡ place_at self.now }
     {

@@ -37,7 +37,7 @@ fn joined(alloc: Global, parts: &[&[u8]]) -> Result<Vec<u8>, Memory> {
 fn line(alloc: Global, input: &[u8], most: usize) -> Result<MemoryLink, Memory>
     requires { 0 < most }
 {
-    MemoryLink::new(alloc, Octets::copy_of(alloc, input)?, most, OUTGOING, 7)
+    MemoryLink::new(alloc, Octets::copy_of(alloc, input)?, most, 4_096, 7)
 }
 
 /// What a flush answers, where something is to be sent.

@@ -37,6 +37,7 @@ impl Transport {
     ghost use Rattle.std.specs.Prelude.{◌≡◌, ◌≢◌, ◌+◌, ◌≤◌, ℕ, List, length, IfOk, None, Some};
     ghost use Rattle.s7_cotp.specs.declared.tpdu.Connection.{Connection};
     ghost use Rattle.s7_cotp.specs.Told.{told_of, connection_of, CanBeWrittenAgain, CanBeWritten, fragment};
+    ghost use Rattle.s7_cotp.specs.Told.{IsPaddedConnection, IsPaddedTpdu};
     ghost use Rattle.s7_wire.specs.Reading.{Progress, start, limit_by, opening_of, with_body, with_opening, connected};
     ghost use Rattle.s7_wire.specs.Reading.{with_ending, with_fault, after_packet, torn_by};
     ghost use Rattle.s7_wire.specs.Reads.{IsAt, Finds, found_by, ending_at, counted, unfinished_in};
@@ -46,6 +47,7 @@ impl Transport {
         ensures at { IfOk result (λ t. IsAt t start) }
         ensures opening { IfOk result (λ t. t.opening ≡ opening) }
         ensures going { IfOk result (λ t. t.ended ≡ None) }
+        ensures place { IfOk result (λ t. t.place ≡ 0) }
     {
         Ok(Transport {
             opening,
@@ -62,6 +64,7 @@ impl Transport {
         ensures at { IsAt self.new start }
         ensures opening { self.new.opening ≡ self.old.opening }
         ensures going { self.new.ended ≡ None }
+        ensures place { self.new.place ≡ 0 }
     {
         self.joiner.restart();
         self.size = None;
@@ -101,6 +104,7 @@ impl Transport {
             → Finds p (with_body self.old.opening p body.now) self.new result }
         ensures message { result ≡ Found.Message → self.new.joiner.state ≡ Joined.Whole }
         ensures writable { (c : Connection) → result ≡ Found.Opened c → CanBeWritten c }
+        ensures padded { (c : Connection) → result ≡ Found.Opened c → IsPaddedConnection c }
         ensures opening { self.new.opening ≡ self.old.opening }
     {
         let octets = body.len() + HEADER;
@@ -117,10 +121,12 @@ impl Transport {
     fn open(&mut self, tpdu: &Tpdu<'_>, octets: usize) -> Found
         requires going { self.old.ended ≡ None }
         requires writable { CanBeWrittenAgain tpdu.now }
+        requires padded { IsPaddedTpdu tpdu.now }
         ensures finds { (p : Progress) (body : List ℕ) → IsAt self.old p → octets ≡ length body + 4
             → Finds p (with_opening p body (opening_of self.old.opening (told_of tpdu.now))) self.new result }
         ensures message { result ≢ Found.Message }
         ensures writable { (c : Connection) → result ≡ Found.Opened c → CanBeWritten c }
+        ensures padded { (c : Connection) → result ≡ Found.Opened c → IsPaddedConnection c }
         ensures opening { self.new.opening ≡ self.old.opening }
     {
         let Some(connection) = self.opening.connection(tpdu) else {

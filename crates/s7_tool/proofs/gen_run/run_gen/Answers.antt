@@ -3,6 +3,7 @@ use Rattle.s7_rig.specs.Shown.{end_told}
 use Rattle.s7_tool.specs.GenText.{made_text}
 use Rattle.s7_tool.specs.Report.{PrintsText}
 use Rattle.s7_tool.proofs.RanLemmas.{seed_rigged}
+use Rattle.s7_tool.proofs.ToldLemmas.{not_wanting}
 use Rattle.s7_tool.proofs.gen_run.run_gen.Goals as goal
 
 pub returns-in-Ok-clause-ended : goal.returns-in-Ok-clause-ended
@@ -19,3 +20,9 @@ returns-in-Ok-clause-ended g c =
 
 pub returns-in-Ok-clause-told : goal.returns-in-Ok-clause-told
 returns-in-Ok-clause-told g c = λ other. c.in-Ok.ensures.told
+
+pub returns-in-Ok-clause-told_wanting : goal.returns-in-Ok-clause-told_wanting
+returns-in-Ok-clause-told_wanting g c = λ is. absurd (not_wanting _ _ _ _ _ c.print_text-ended.ensures is)
+
+pub returns-in-Err-clause-told_wanting : goal.returns-in-Err-clause-told_wanting
+returns-in-Err-clause-told_wanting g c = λ is. c.in-Err.ensures.told_wanting

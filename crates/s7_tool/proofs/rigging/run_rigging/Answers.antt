@@ -1,4 +1,4 @@
-use Rattle.std.proofs.Common.{◌∙◌, ℕ, List, Bor, map, subst}
+use Rattle.std.proofs.Common.{◌∙◌, ℕ, List, Bor, inl, map, refl, subst}
 use Rattle.s7_script.specs.Naming.{naming}
 use Rattle.s7_rig.specs.Shown.{end_told}
 use Rattle.s7_words.specs.Shown.{rig_told_of}
@@ -8,7 +8,7 @@ use Rattle.s7_tool.specs.Scripts.{ReadsScripts, StopsAt}
 use Rattle.s7_tool.proofs.ConnectsLemmas.{connect_first}
 use Rattle.s7_tool.proofs.RanLemmas.{rigged, script_unloaded}
 use Rattle.s7_tool.proofs.FileLemmas.{keeps_by_areas, scripts_before, stops_before}
-use Rattle.s7_tool.proofs.ToldLemmas.{told_nothing}
+use Rattle.s7_tool.proofs.ToldLemmas.{not_wanting, rig_wanting, told_nothing}
 use Rattle.s7_tool.proofs.rigging.run_rigging.Goals as goal
 
 pub returns-in-Err-load_scripts-clause-ended : goal.returns-in-Err-load_scripts-clause-ended
@@ -64,3 +64,26 @@ returns-in-Err-load_scripts-clause-told g c = λ other. told_nothing _
 
 pub returns-in-Ok-run_scripts-clause-told : goal.returns-in-Ok-run_scripts-clause-told
 returns-in-Ok-run_scripts-clause-told g c = λ other. c.in-Ok-run_scripts.ensures.told
+
+pub returns-in-Err-clause-told_wanting : goal.returns-in-Err-clause-told_wanting
+returns-in-Err-clause-told_wanting g c = λ is. inl refl
+
+pub returns-in-Err-load_scripts-clause-told_wanting : goal.returns-in-Err-load_scripts-clause-told_wanting
+returns-in-Err-load_scripts-clause-told_wanting g c = λ is. inl refl
+
+pub returns-in-Ok-run_scripts-clause-told_wanting : goal.returns-in-Ok-run_scripts-clause-told_wanting
+returns-in-Ok-run_scripts-clause-told_wanting g c = λ is. absurd (not_wanting _ _ _ _ _ c.print_text-ended.ensures is)
+
+pub returns-clause-told_wanting : goal.returns-clause-told_wanting
+returns-clause-told_wanting g c = λ is.
+    let files = g.F.Files.shows in
+    let told = rig_told_of c.args.words in
+    let scripts = c.in-Ok-load_scripts.scripts.items in
+    let left =
+    keeps_by_areas (naming told.areas) (files c.args.files.now) (files c.load_areas.new.files)
+    c.load_areas.ensures.left in
+    let read =
+    subst (λ (ps : List (Bor (List ℕ))). ReadsScripts (map (λ p. p.now) ps) (files c.load_areas.new.files) scripts)
+    c.as_slice.ensures.value c.in-Ok-load_scripts.ensures.ok in
+    rig_wanting told (files c.args.files.now) c.in-Ok.areas scripts _ _ c.in-Ok.ensures.answers
+    (scripts_before told.scripts scripts _ _ left read) c.in-Err-run_scripts.ensures.told_wanting

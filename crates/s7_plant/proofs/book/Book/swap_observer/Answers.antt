@@ -10,3 +10,6 @@ returns-clause-observers g c = rw (c.replace-out.ensures.after, map-set, c.len.e
 pub returns-clause-told : goal.returns-clause-told
 returns-clause-told g c = λ told.
     rw (c.replace-out.ensures.after, map-set) (all_told_set _ _ _ c.args.place _ _ (c.len.ensures.len ∙ sym (length_calls _)) c.requires.fresh told)
+
+pub returns-clause-others : goal.returns-clause-others
+returns-clause-others g c = rw (c.replace-out.ensures.after, map-set) refl

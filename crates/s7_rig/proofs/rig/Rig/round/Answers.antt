@@ -5,7 +5,7 @@ use Rattle.s7_rig.specs.Numbers.{count_from}
 use Rattle.s7_rig.specs.Shown.{first_results, state_told, post_of, state_of}
 use Rattle.s7_rig.specs.Runs.{Turns}
 use Rattle.s7_rig.proofs.TurnsLemmas.{Turns-none, Turns-count}
-use Rattle.s7_rig.proofs.TellsLemmas.{tells_none, tells_then}
+use Rattle.s7_rig.proofs.TellsLemmas.{any_err, reaches_by, tells_none, tells_then, wanting_here}
 use Rattle.s7_rig.proofs.rig.Rig.round.Goals as goal
 
 pub loop-actor-init : goal.loop-actor-init
@@ -32,3 +32,8 @@ returns-clause-turns g c =
     let n : c.loop-actor.actor ≡ 2 * length (map post_of c.args.self.now.stations.items) =
     omega (arith, length-map c.args.self.now.stations.items post_of) in
     subst (λ k. Turns (count_from 0 k) (state_of c.args.self.now) (state_of c.loop-actor.self) c.loop-actor.stirred) n c.loop-actor.invariant.turns
+
+pub returns-in_err-stirred-clause-tells_wanting : goal.returns-in_err-stirred-clause-tells_wanting
+returns-in_err-stirred-clause-tells_wanting g c =
+    any_err _ (wanting_here _ _ _ _ _ (reaches_by _ _ _ _ c.loop-actor.invariant.turns) c.loop-actor.invariant.tells
+    c.in_err-stirred.ensures.untold)

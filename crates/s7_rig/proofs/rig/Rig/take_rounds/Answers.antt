@@ -3,11 +3,17 @@ use Rattle.std.specs.Prelude.{option_map}
 use Rattle.s7_rig.specs.Shown.{first_results, state_told, state_of}
 use Rattle.s7_rig.specs.Runs.{Turns, actors_of, most_rounds}
 use Rattle.s7_rig.proofs.RoundsLemmas.{CountsOn-begin, CountsOn-more, CountsOn-ends, CountsOn-all, Rounds-finished, Rounds-still}
-use Rattle.s7_rig.proofs.TellsLemmas.{tells_none, tells_then}
+use Rattle.s7_rig.proofs.TellsLemmas.{any_err, reaches_by, reaches_none, reaches_then, tells_none, tells_then, wanting_then}
 use Rattle.s7_rig.proofs.rig.Rig.take_rounds.Goals as goal
 
 pub loop-init : goal.loop-init
-loop-init g c = record { count = refl; tells = tells_none (first_results (state_told (state_of c.args.self.now))) (option_map g.C.Completion.told c.args.done.now); handed = refl; rounds = CountsOn-begin (state_of c.args.self.now) }
+loop-init g c = record {
+  count = refl;
+  tells = tells_none (first_results (state_told (state_of c.args.self.now))) (option_map g.C.Completion.told c.args.done.now);
+  handed = refl;
+  reached = reaches_none (state_of c.args.self.now);
+  rounds = CountsOn-begin (state_of c.args.self.now);
+}
 
 pub returns-then-are_finished-clause-rounds : goal.returns-then-are_finished-clause-rounds
 returns-then-are_finished-clause-rounds g c =
@@ -30,8 +36,14 @@ loop-preserved g c =
       count = c.round.ensures.count ∙ c.loop.invariant.count;
       tells = tells_then _ _ _ _ _ _ c.loop.invariant.tells c.in_ok-round.ensures.tells;
       handed = c.round.ensures.handed ∙ c.loop.invariant.handed;
+      reached = reaches_then _ _ _ c.loop.invariant.reached (reaches_by _ _ _ _ c.in_ok-round.ensures.turns);
       rounds = CountsOn-more c.loop.counter _ now next (sym c.if-are_finished.ensures) round c.loop.invariant.rounds;
     }
 
 pub returns-clause-rounds : goal.returns-clause-rounds
 returns-clause-rounds g c = CountsOn-all c.loop.counter most_rounds _ (state_of c.loop.self) c.loop.auto.counter-end c.loop-test.false c.loop.invariant.rounds
+
+pub returns-in_err-round-clause-tells_wanting : goal.returns-in_err-round-clause-tells_wanting
+returns-in_err-round-clause-tells_wanting g c =
+    any_err _ (wanting_then _ _ _ _ _ c.loop.invariant.reached c.loop.invariant.tells
+    c.in_err-round.ensures.tells_wanting)

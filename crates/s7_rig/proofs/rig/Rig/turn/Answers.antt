@@ -1,10 +1,10 @@
 use Rattle.s7_plant.specs.Books.{book_told}
-use Rattle.std.proofs.Common.{◌≡◌, ◌<◌, ◌-◌, length, map, arith}
+use Rattle.std.proofs.Common.{◌≡◌, ◌<◌, ◌-◌, length, map, refl, arith}
 use Rattle.std.proofs.lemmas.List.{map-set, length-map}
 use Rattle.std.proofs.lemmas.Result.{IfOk-weaker, on_ok_weaker}
 use Rattle.s7_rig.specs.Shown.{post_of}
 use Rattle.s7_rig.proofs.PostsLemmas.{client_turned, mapped_at, session_turned, both_ok}
-use Rattle.s7_rig.proofs.TellsLemmas.{any_ok, on_ok_from, session_keeps, tells_first, tells_other}
+use Rattle.s7_rig.proofs.TellsLemmas.{any_err, any_ok, on_ok_from, session_keeps, tells_first, tells_other}
 use Rattle.s7_rig.proofs.rig.Rig.turn.Goals as goal
 
 pub returns-then-actor-eq0-clause-turn : goal.returns-then-actor-eq0-clause-turn
@@ -58,3 +58,9 @@ returns-else-actor-count-clause-tells g c =
     on_ok_from _ c.session_turn.result c.session_turn.ensures.turn (λ stirs t. tells_other xs i _
     c.session_turn.new.self _ below c.index_mut-else-actor-count.ensures.value
     (λ zeroth. session_keeps _ _ _ _ stirs t))
+
+pub returns-then-actor-count-clause-untold : goal.returns-then-actor-count-clause-untold
+returns-then-actor-count-clause-untold g c = any_err c.client_turn.result refl
+
+pub returns-else-actor-count-clause-untold : goal.returns-else-actor-count-clause-untold
+returns-else-actor-count-clause-untold g c = any_err c.session_turn.result refl

@@ -1,7 +1,8 @@
-use Rattle.std.proofs.Common.{refl, ap, ◌∙◌}
-use Rattle.s7_session.specs.Stands.{closed_by}
+use Rattle.std.proofs.Common.{refl, ap, sym, ◌∙◌}
+use Rattle.s7_session.specs.Stands.{closed_by, closed_with}
+use Rattle.s7_session.proofs.ConsumeLemmas.{went_not_closed}
 use Rattle.s7_session.proofs.TurnLemmas.{moves_none, moves_both}
-use Rattle.s7_session.proofs.ServeLemmas.{served_after}
+use Rattle.s7_session.proofs.ServeLemmas.{closed_same, not_yet_not_closed, served_after}
 use Rattle.s7_session.proofs.RunLemmas.{link_run}
 use Rattle.s7_session.proofs.session.Session.serve.Goals as goal
 
@@ -11,6 +12,7 @@ loop-init g c = record {
   number = refl;
   kept = g.met.D.Doer.keeps_same c.args.doer.now;
   going = λ e. e;
+  same = λ o e. (refl, refl, refl);
 }
 
 pub returns-in-Closed : goal.returns-in-Closed
@@ -26,6 +28,14 @@ returns-in-Closed g c =
           c.args.doer.now c.turn.new.doer c.in-Closed.outcome served fresh;
       number = c.turn.ensures.number ∙ c.loop.invariant.number;
       kept = g.met.D.Doer.keeps_both c.args.doer.now c.loop.doer c.turn.new.doer c.loop.invariant.kept c.turn.ensures.kept;
+      stays = λ o e.
+          let before = c.loop.invariant.same o e in
+          let now = c.turn.ensures.stays o (ap closed_with before.0 ∙ e) in (
+            closed_same c.in-Closed.outcome o c.turn.result c.in-Closed.is now.0,
+            now.1 ∙ before.0,
+            now.2 ∙ before.1,
+            now.3 ∙ before.2,
+          );
     }
 
 pub loop-preserved : goal.loop-preserved
@@ -36,6 +46,9 @@ loop-preserved g c = record {
   number = c.turn.ensures.number ∙ c.loop.invariant.number;
   kept = g.met.D.Doer.keeps_both c.args.doer.now c.loop.doer c.turn.new.doer c.loop.invariant.kept c.turn.ensures.kept;
   going = λ e. c.turn.ensures.turn.closed ∙ ap closed_by c.in-Went.is;
+  same = λ o e.
+      let before = c.loop.invariant.same o e in
+      absurd (went_not_closed o (sym c.in-Went.is ∙ (c.turn.ensures.stays o (ap closed_with before.0 ∙ e)).0));
 }
 
 pub loop-preserved-in-NotYet : goal.loop-preserved-in-NotYet
@@ -46,4 +59,7 @@ loop-preserved-in-NotYet g c = record {
   number = c.turn.ensures.number ∙ c.loop.invariant.number;
   kept = g.met.D.Doer.keeps_both c.args.doer.now c.loop.doer c.turn.new.doer c.loop.invariant.kept c.turn.ensures.kept;
   going = λ e. c.turn.ensures.turn.closed ∙ ap closed_by c.in-NotYet.is;
+  same = λ o e.
+      let before = c.loop.invariant.same o e in
+      absurd (not_yet_not_closed o (sym c.in-NotYet.is ∙ (c.turn.ensures.stays o (ap closed_with before.0 ∙ e)).0));
 }

@@ -1,5 +1,6 @@
 use Rattle.std.proofs.Common.{◌≡◌}
-use Rattle.std.specs.Prelude.{None}
+use Rattle.std.specs.Prelude.{None, Some}
+use Rattle.s7_session.specs.declared.outcome.Outcome.{Outcome}
 use Rattle.s7_session.specs.Stands.{Moves, number_of, closed_with}
 use Rattle.s7_session.proofs.session.Session.serve.Given as goal
 
@@ -9,4 +10,5 @@ invariant-loop g l = record {
   number : number_of l.self ≡ number_of l.fn.self;
   kept : g.D.Doer.keeps l.fn.doer l.doer;
   going : closed_with l.fn.self ≡ None → closed_with l.self ≡ None;
+  same : (o : Outcome) → closed_with l.fn.self ≡ Some o → (l.self ≡ l.fn.self) × (g.L.Link.shows l.line ≡ g.L.Link.shows l.fn.line) × (l.doer ≡ l.fn.doer);
 }
