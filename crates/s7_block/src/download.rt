@@ -27,8 +27,8 @@ impl Model for DownloadSide {
 impl DownloadSide {
     ghost use Rattle.s7_block.specs.Sides.{finished_image};
 
-    /// A side that holds no download, with room for images of at most `room` octets, which is taken
-    /// here, and the name 0 of kind 0. `Memory` comes where there is none for it.
+    /// A side that holds no download, named kind 0 and number 0, with room for images of at most `room`
+    /// octets, which is taken here. `Memory` comes where there is none for it.
     pub fn new(alloc: Global, room: usize) -> Result<DownloadSide, Memory>
         ensures progress { IfOk result (λ side. side.progress ≡ idle) }
         ensures name { IfOk result (λ side. side.name ≡ record { kind = 0; number = 0 }) }

@@ -11,8 +11,8 @@ use Rattle.s7_dialogue.specs.declared.grant.Grant.{Grant}
 use Rattle.s7_dialogue.specs.Codes.{link_ended, send_failed, receive_failed}
 use Rattle.s7_client.specs.declared.line.Line.{Line}
 use Rattle.s7_client.specs.declared.under_way.UnderWay.{UnderWay}
-use Rattle.s7_client.specs.declared.steps.Step.{Step}
-use Rattle.s7_client.specs.declared.steps.Step.TheVariants as step
+use Rattle.s7_client.specs.declared.line.Step.{Step}
+use Rattle.s7_client.specs.declared.line.Step.TheVariants as step
 use Rattle.s7_dialogue.specs.Dialogue.{End, fault_end}
 use Rattle.s7_dialogue.specs.Running.{awaited_in, IsOver, IsOpening}
 use Rattle.s7_dialogue.specs.Course.{Origin, Awaits, for_confirm, for_answers, for_departure, for_nothing, conduct_of, course, may_send, limits}
@@ -162,6 +162,7 @@ pub record Moves (kept : List ℕ) (link : Shown) (kept' : List ℕ) (link' : Sh
   pub waits : link.waits ≤ link'.waits
   pub moment : link'.moment ≡ link.moment
   pub clock_faults : link'.clock_faults ≡ link.clock_faults
+  pub looks : link'.looks ≡ link.looks
   pub lent : link'.lent ≡ link.lent
   pub shut : link'.is_shut ≡ link.is_shut
   pub space : link'.space ≡ option_map (λ space. space - length written) link.space

@@ -22,7 +22,7 @@ IsSize value = (n : ℕ) × (value ≡ n ∷ []) × (7 ≤ n) × (n ≤ 13)
 abbrev pub IsTsap : List ℕ → Type 0
 IsTsap value = (1 ≤ length value) × (length value ≤ 16)
 
--- Any other parameter is passed over, in a CC as in a CR (ISO 8073, 13.2.3).
+-- Any other parameter is passed over: in a CR by ISO 8073, 13.2.3, in a CC as this profile's own.
 pub record IsGood (p : Parameter) : Type 0 where
   pub size : p.code ≡ 0xC0 → IsSize p.value
   pub calling : p.code ≡ 0xC1 → IsTsap p.value

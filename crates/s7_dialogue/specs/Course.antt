@@ -1,5 +1,5 @@
 -- The course of a job on its link: what the octets that were used make of it, and what may be sent. The octets are
--- packets (RFC 1006, section 6) with TPDUs of class 0 (ISO 8073, 13.3 to 13.7), as a server's link has them.
+-- packets (RFC 1006, section 6) with TPDUs of class 0 (ISO 8073, 13.3 to 13.5 and 13.7), as a server's link has them.
 use Rattle.std.specs.Prelude.{ℕ, ◌+◌, zero, suc, Bool, false, ◌==◌, ◌&&◌, nat_lt, List, [], ◌∷◌, ◌++◌, length, is_none, Option, None, Some, Result, Ok, Err, if◌then◌else◌}
 use Rattle.s7_outer.specs.Numbers.{two_octets}
 use Rattle.s7_tpkt.specs.Packets.{packet_of, packets_of, rest_of, state_of}

@@ -2,7 +2,7 @@
 use Rattle.std.specs.Prelude.{◌≡◌, ◌≢◌, ℕ, ◌+◌, ◌-◌, ◌≤◌, ◌↔◌, List, [], length, IsTrue, IsSome, IfSome, Some}
 use Rattle.std.specs.Prelude.{option_map, true}
 use Rattle.std.specs.Io.KnownBytes.{prepend_known, append_known, IsAtEnd}
-use Rattle.s7_outer.specs.Count.{Rose}
+use Rattle.s7_outer.specs.Count.{Rose, RoseExactly}
 use Rattle.s7_outer.specs.Link.{octets_got, octets_sent, GotWithin, SentWithin, TellsMoment}
 use Rattle.s7_outer.specs.Shown.{Shown}
 use Rattle.s7_outer.specs.declared.link.Got.{Got}
@@ -32,6 +32,7 @@ pub record IsReceive (old new : Shown) (before after : List ℕ) (result : Got) 
   pub waited_no_other : result ≢ got.NotYet → new.waits ≡ old.waits
   pub moment : new.moment ≡ old.moment
   pub clock_faults : new.clock_faults ≡ old.clock_faults
+  pub looks : new.looks ≡ old.looks
   pub space : new.space ≡ old.space
   pub shut : new.is_shut ≡ old.is_shut
   pub lent : new.lent ≡ old.lent
@@ -53,6 +54,7 @@ pub record IsTransmit (old new : Shown) (piece : List ℕ) (result : Sent) : Typ
   pub waited_no_other : result ≢ sent.NotYet → new.waits ≡ old.waits
   pub moment : new.moment ≡ old.moment
   pub clock_faults : new.clock_faults ≡ old.clock_faults
+  pub looks : new.looks ≡ old.looks
   pub fits : IfSome old.space (λ space. length (octets_sent result piece) ≤ space)
   pub space : new.space ≡ option_map (λ space. space - length (octets_sent result piece)) old.space
   pub shut : new.is_shut ≡ old.is_shut
@@ -69,4 +71,5 @@ pub record IsLook (old new : Shown) (result : Tick) : Type 0 where
   pub clock_faults : old.clock_faults ≤ new.clock_faults
   pub faults_once : new.clock_faults ≤ old.clock_faults + 1
   pub failed_no_other : result ≢ tick.Failed → new.clock_faults ≡ old.clock_faults
-  pub same : new ≡ record old { clock_faults = new.clock_faults }
+  pub looked : RoseExactly 1 old.looks new.looks
+  pub same : new ≡ record old { clock_faults = new.clock_faults; looks = new.looks }

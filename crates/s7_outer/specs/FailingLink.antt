@@ -33,11 +33,13 @@ counted_of f = record { faults = f.failed; waits = f.waited; clock_faults = f.cl
 abbrev pub none_counted : Counted
 none_counted = record { faults = 0; waits = 0; clock_faults = 0 }
 
--- what the link inside shows, with what the fates did; how many octets it can take is not told
+-- what the link inside shows, with what the fates did: a look that failed by its fate is one more; how many octets the
+-- link can take is not told
 abbrev pub with_counted : Counted → Shown → Shown
 with_counted counted inner = record inner {
   faults = inner.faults + counted.faults;
   waits = inner.waits + counted.waits;
   clock_faults = inner.clock_faults + counted.clock_faults;
+  looks = inner.looks + counted.clock_faults;
   space = None;
 }

@@ -47,6 +47,7 @@ end_of loan p s = record {
   waits = p.waits;
   moment = Some p.moment;
   clock_faults = 0;
+  looks = p.looks;
   space = Some (space_of p s);
   is_shut = None;
   lent = Some (record { loan = loan; end = number_of s; room = p.room });
@@ -54,4 +55,4 @@ end_of loan p s = record {
 
 -- pipes that have not been used
 abbrev pub empty_pipes : ℕ → ℕ → PipesHeld
-empty_pipes room moment = record { to_client = []; to_server = []; room = room; waits = 0; moment = moment }
+empty_pipes room moment = record { to_client = []; to_server = []; room = room; waits = 0; moment = moment; looks = 0 }

@@ -12,3 +12,5 @@ pub record PipesHeld : Type 0 where
   pub waits : ℕ
   -- the moment of their clock
   pub moment : ℕ
+  -- how often their clock was asked
+  pub looks : ℕ

@@ -26,6 +26,8 @@ pub record Shown : Type 0 where
   pub moment : Option ℕ
   -- how often its clock has failed
   pub clock_faults : ℕ
+  -- how often its clock was asked
+  pub looks : ℕ
   -- how many octets it can still take, where it tells that
   pub space : Option ℕ
   -- this side has shut the stream, where the link tells that

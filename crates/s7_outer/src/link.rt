@@ -2,7 +2,7 @@
 ghost use Rattle.std.specs.Prelude.{◌≡◌, ◌≢◌, ◌+◌, ◌-◌, ◌<◌, ◌≤◌, ◌↔◌, [], length, IsTrue, IsSome, IfSome, Some, option_map};
 ghost use Rattle.std.specs.Io.KnownBytes.{prepend_known, append_known, IsAtEnd};
 ghost use Rattle.s7_outer.specs.Shown.{Shown};
-ghost use Rattle.s7_outer.specs.Count.{Rose};
+ghost use Rattle.s7_outer.specs.Count.{Rose, RoseExactly};
 ghost use Rattle.s7_outer.specs.Calls.{shut_down};
 ghost use Rattle.s7_outer.specs.Link.{octets_got, octets_sent, GotWithin, SentWithin, TellsMoment};
 
@@ -50,7 +50,7 @@ pub trait Link {
     ///
     /// `End` comes only where nothing is left, and no octet comes after it. `NotYet` comes only
     /// where `waits` rose in this call, `Failed` only where `faults` did; none of the three moves
-    /// an octet, and neither of these two ends the stream. A link that tells its space answers `NotYet`
+    /// an octet, and `NotYet` and `Failed` don't end the stream. A link that tells its space answers `NotYet`
     /// exactly where nothing is left. What lies in `into` behind the octets that came is undefined.
     fn receive(&mut self, into: &mut [u8]) -> Got
         requires { 0 < length into.old }
@@ -78,6 +78,7 @@ pub trait Link {
 
         ensures moment { (shows self.new).moment ≡ (shows self.old).moment }
         ensures clock_faults { (shows self.new).clock_faults ≡ (shows self.old).clock_faults }
+        ensures looks { (shows self.new).looks ≡ (shows self.old).looks }
         ensures space { (shows self.new).space ≡ (shows self.old).space }
         ensures shut { (shows self.new).is_shut ≡ (shows self.old).is_shut }
         ensures lent { (shows self.new).lent ≡ (shows self.old).lent };
@@ -108,6 +109,7 @@ pub trait Link {
 
         ensures moment { (shows self.new).moment ≡ (shows self.old).moment }
         ensures clock_faults { (shows self.new).clock_faults ≡ (shows self.old).clock_faults }
+        ensures looks { (shows self.new).looks ≡ (shows self.old).looks }
         ensures fits { IfSome (shows self.old).space (λ space. length (octets_sent result piece.now) ≤ space) }
         ensures space { (shows self.new).space ≡ option_map (λ space. space - length (octets_sent result piece.now)) (shows self.old).space }
         ensures shut { (shows self.new).is_shut ≡ (shows self.old).is_shut }
@@ -122,8 +124,8 @@ pub trait Link {
 
 /// A link that has a clock.
 pub trait Clock: Link {
-    /// Milliseconds since 1970. `Failed` comes only where `clock_faults` rose in this call.
-    /// Nothing else of the link changes.
+    /// Milliseconds since 1970. Each call is one more of `looks`. `Failed` comes only where
+    /// `clock_faults` rose in this call. Nothing else of the link changes.
     fn now(&mut self) -> Tick
         ensures at { TellsMoment (Self.shows self.old).moment result }
         ensures failed { result ≡ Tick.Failed → Rose (Self.shows self.old).clock_faults (Self.shows self.new).clock_faults }
@@ -131,5 +133,10 @@ pub trait Clock: Link {
         ensures faults_once { (Self.shows self.new).clock_faults ≤ (Self.shows self.old).clock_faults + 1 }
         ensures failed_no_other { result ≢ Tick.Failed
             → (Self.shows self.new).clock_faults ≡ (Self.shows self.old).clock_faults }
-        ensures same { Self.shows self.new ≡ record (Self.shows self.old) { clock_faults = (Self.shows self.new).clock_faults } };
+        ensures looked { RoseExactly 1 (Self.shows self.old).looks (Self.shows self.new).looks }
+        ensures same { Self.shows self.new
+            ≡ record (Self.shows self.old) {
+              clock_faults = (Self.shows self.new).clock_faults;
+              looks = (Self.shows self.new).looks;
+            } };
 }

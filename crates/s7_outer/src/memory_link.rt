@@ -2,7 +2,7 @@
 ghost use Rattle.std.specs.Prelude.{◌≡◌, ◌≢◌, ◌+◌, ◌<◌, ◌≤◌, [], IsTrue, Some, length, IfOk, option_map};
 ghost use Rattle.std.specs.Io.KnownBytes.{prepend_known, append_known, IsAtEnd};
 ghost use Rattle.s7_outer.specs.Calls.{shut_down};
-ghost use Rattle.s7_outer.specs.Count.{raised};
+ghost use Rattle.s7_outer.specs.Count.{RoseExactly, raised};
 ghost use Rattle.s7_outer.specs.Link.{octets_got, octets_sent, GotWithin, SentWithin, GotCount, SentCount};
 
 use crate::count::raise;
@@ -19,6 +19,7 @@ pub struct MemoryLink {
     output: Buffer,
     moment: u64,
     faults: u64,
+    looks: u64,
     shut: bool,
     ghost in_range: { at ≤ length input },
     ghost some: { 0 < most },
@@ -51,6 +52,7 @@ impl MemoryLink {
             output: Buffer::new(alloc, room)?,
             moment,
             faults: 0,
+            looks: 0,
             shut: false,
         })
     }
@@ -148,13 +150,15 @@ impl Link for MemoryLink {
 impl Clock for MemoryLink {
     ghost use Rattle.s7_outer.specs.MemoryLink.{shown_of, most_of, room_of};
 
-    /// The moment.
+    /// The moment. The look is counted.
     fn now(&mut self) -> Tick
         ensures at { option_map Tick.At (shown_of self.old).moment ≡ Some result }
-        ensures same { shown_of self.new ≡ shown_of self.old }
+        ensures looked { RoseExactly 1 (shown_of self.old).looks (shown_of self.new).looks }
+        ensures same { shown_of self.new ≡ record (shown_of self.old) { looks = (shown_of self.new).looks } }
         ensures most { most_of self.new ≡ most_of self.old }
         ensures room { room_of self.new ≡ room_of self.old }
     {
+        raise(&mut self.looks);
         Tick::At(self.moment)
     }
 }

@@ -71,6 +71,6 @@ impl Link for PipeEnd<'_> {
 
 impl Clock for PipeEnd<'_> {
     fn now(&mut self) -> Tick {
-        Tick::At(self.pipes.moment())
+        Tick::At(self.pipes.look())
     }
 }

@@ -1,5 +1,5 @@
 // Two pipes between a client and a server.
-ghost use Rattle.std.specs.Prelude.{◌≡◌, ◌-◌, ◌≤◌, ◌++◌, min, length, take, drop, IfOk};
+ghost use Rattle.std.specs.Prelude.{◌≡◌, ◌+◌, ◌-◌, ◌≤◌, ◌++◌, min, length, take, drop, IfOk};
 ghost use Rattle.s7_outer.specs.Count.{Rose, raised};
 ghost use Rattle.s7_outer.specs.Pipes.{across, waiting_for, with_waiting, space_of, empty_pipes};
 
@@ -20,13 +20,14 @@ pub enum Side {
 
 /// A pipe in either direction, each with the same room for octets, which is used in a ring, and a
 /// clock that stands at one moment. Contracts see the octets that wait for each side, the room,
-/// the count of waits and the moment.
+/// the counts of waits and of looks at the clock, and the moment.
 #[derive(Drop)]
 pub struct Pipes {
     to_client: HeapCircularBuffer<u8>,
     to_server: HeapCircularBuffer<u8>,
     waits: u64,
     moment: u64,
+    looks: u64,
 }
 
 impl Model for Pipes {
@@ -41,6 +42,7 @@ impl Model for Pipes {
       room = p.to_client.capacity;
       waits = p.waits;
       moment = p.moment;
+      looks = p.looks;
     } };
 
     ghost invariant = { λ p. p.to_server.capacity ≡ p.to_client.capacity };
@@ -57,6 +59,7 @@ impl Pipes {
             to_server: HeapCircularBuffer::with_capacity(alloc, room)?,
             waits: 0,
             moment,
+            looks: 0,
         })
     }
 
@@ -71,10 +74,14 @@ impl Pipes {
         }
     }
 
-    // The moment of the clock.
-    pub(crate) fn moment(&self) -> u64
-        ensures { result ≡ self.now.moment }
+    // The moment of the clock. The look is counted.
+    pub(crate) fn look(&mut self) -> u64
+        ensures moment { result ≡ self.old.moment }
+        ensures rose { Rose self.old.looks self.new.looks }
+        ensures once { self.new.looks ≤ self.old.looks + 1 }
+        ensures same { self.new ≡ record self.old { looks = self.new.looks } }
     {
+        raise(&mut self.looks);
         self.moment
     }
 

@@ -21,6 +21,7 @@ pub struct RealLink<R: Input> {
     faults: u64,
     waits: u64,
     clock_faults: u64,
+    looks: u64,
 }
 
 // The reader is boxed, since it has 8 KiB of its own, which a stream needs none of.
@@ -70,6 +71,7 @@ impl<R: Input + Print + SystemClock + Drop> RealLink<R> {
             faults: 0,
             waits: 0,
             clock_faults: 0,
+            looks: 0,
         }
     }
 }
@@ -145,6 +147,7 @@ impl<R: Input + Print + SystemClock + Drop> Link for RealLink<R> {
 
 impl<R: Input + Print + SystemClock + Drop> Clock for RealLink<R> {
     fn now(&mut self) -> Tick {
+        raise(&mut self.looks);
         match milliseconds(&self.rt) {
             Some(moment) => Tick::At(moment),
             None => {

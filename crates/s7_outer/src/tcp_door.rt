@@ -65,7 +65,7 @@ where
         }
     }
 
-    /// The next link, which comes or the door fails: it has no end.
+    /// The next link. It never answers `End`.
     fn next(&mut self) -> Arrival<RealLink<R>>
         ensures never_ends { result ≢ Arrival.End }
         ensures heard { port_of self.new ≡ port_of self.old }

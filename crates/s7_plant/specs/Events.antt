@@ -13,7 +13,7 @@ use Rattle.s7_plant.specs.Journals.{after_call}
 use Rattle.s7_plant.specs.Observers.{Watch, fresh, told}
 use Rattle.s7_plant.specs.State.{State}
 
--- the code of a request, one bit for each group of them (Snap7 1.4 reference manual, `Srv_SetEventsMask`)
+-- the code of a request, one bit for each group of them (Snap7 1.4 reference manual, `Srv_SetMask`)
 abbrev pub code_of : Request → ℕ
 code_of (Read items) = 0x0002_0000
 code_of (Write items places octets) = 0x0004_0000

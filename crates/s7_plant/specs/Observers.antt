@@ -1,5 +1,5 @@
 -- What an observer has after the events that it was told, by its mask
--- (Snap7 1.4 reference manual, `Srv_SetEventsMask`). The tail is this profile's own.
+-- (Snap7 1.4 reference manual, `Srv_SetMask`). The tail is this profile's own.
 use Rattle.std.specs.Prelude.{◌≡◌, ℕ, ◌+◌, ◌-◌, ◌^◌, ◌==◌, List, [], ◌∷◌, ◌++◌, length, fold, slice_get}
 use Rattle.std.specs.Prelude.{Option, None, if◌then◌else◌, bit_and, min, nat_lt}
 use Rattle.circular_buffer.specs.Buffer.{keep_last}

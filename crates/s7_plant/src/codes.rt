@@ -1,6 +1,6 @@
 //! The codes of answers to controls and of refusals: functions, statuses and error words (Snap7 1.4
 //! reference manual, the control functions from `Cli_PlcHotStart` on, `Cli_ReadSZL`, and the block
-//! functions from `Cli_ListBlocks` on); and those of events (`Srv_SetEventsMask`).
+//! functions from `Cli_ListBlocks` on); and those of events (`Srv_SetMask`).
 
 /// The function that calls a service: a start, a compression or a copy.
 pub const SERVICE_FUNCTION: u8 = 0x28;

@@ -102,7 +102,7 @@ impl Request {
     ghost use Rattle.s7_plant.specs.Requests.{HasSpare, IsReady, kept_request};
 
     /// What it is, as observers are told of it, one bit for each group of requests (Snap7 1.4 reference
-    /// manual, `Srv_SetEventsMask`): 00020000 a read, 00040000 a write, 00100000 a status list, 00200000
+    /// manual, `Srv_SetMask`): 00020000 a read, 00040000 a write, 00100000 a status list, 00200000
     /// the clock, 00400000 the start of an upload, 00800000 a block that is stored, 01000000 what tells of
     /// blocks, and 04000000 control of the run state, the memory and the deletion of a block.
     pub fn code(&self) -> u32

@@ -59,6 +59,7 @@ served_on s limit first front history pipe served a few is = record { came = on 
     legal = legal_on s limit front history served.link is.mets pipe.moment served.entries served.last a few is.legal;
     clock = is.clock;
     unasked = is.unasked;
+    looks = is.looks;
     end = is.end;
   }
 

@@ -47,6 +47,7 @@ served_link stands is_full may_lack s limit first history link pipe line d d' o 
       };
       clock = run.clock;
       unasked = run.unasked;
+      looks = run.looks;
       end = run.end;
     }
 
@@ -82,6 +83,7 @@ shut_link s limit first history pipe line link o accepted last is = record {
   legal = is.legal;
   clock = is.clock;
   unasked = is.unasked;
+  looks = is.looks;
   end = shut_end pipe line first is.taken (verdicts_of is.mets) o is.end;
 }
 

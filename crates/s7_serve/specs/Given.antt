@@ -21,8 +21,8 @@ pub record Gives {L : Type 0} (port : ℕ) (old new : DoorShown L) (lines : List
   pub gave : Gave lines old.coming new.coming
   pub faults : NoPortFell old.faults new.faults
 
--- A DOOR HEARD A PORT AND GAVE THESE LINKS in order, at most so many, and was asked for no more; where there were fewer,
--- it ended, or it failed after a first one and the port's count rose
+-- A DOOR HEARD A PORT AND GAVE THESE LINKS in order, at most so many; where there were fewer, it ended, or it failed
+-- after a first one and the port's count rose. Behind the last of so many it didn't fail.
 pub record HasGiven {L : Type 0} (port most : ℕ) (old new : DoorShown L) (lines : List L) (failed : Bool) : Type 0 where
   pub gives : Gives port old new lines
   pub few : length lines ≤ most

@@ -12,7 +12,7 @@ use Rattle.s7_session.specs.Legal.{IsLegalFor}
 use Rattle.s7_session.specs.LinkRun.{IsWritten, IsEnd}
 use Rattle.s7_session.specs.LinkState.{LinkState}
 use Rattle.s7_session.specs.Owed as octets
-use Rattle.s7_session.specs.Telegrams.{Met, verdicts_of, clock_failures, NoneTimed}
+use Rattle.s7_session.specs.Telegrams.{Met, verdicts_of, looks_in, clock_failures, NoneTimed}
 use Rattle.s7_serve.specs.declared.served.Served.{Served}
 
 -- a served link as contracts see it: its number, what it shows, how it ended, how many telegrams were entered, and the
@@ -50,6 +50,7 @@ pub record IsServedLink (opening : State) (limit : ℕ) (first : LinkState) (his
   -- the clock failed as often as it was told, and was asked only where a telegram asks for a moment
   pub clock : RoseExactly (clock_failures (verdicts_of mets)) pipe.clock_faults served.line.clock_faults
   pub unasked : NoneTimed mets → served.line.clock_faults ≡ pipe.clock_faults
+  pub looks : RoseExactly (looks_in mets) pipe.looks served.line.looks
   pub end : IsEnd pipe served.line first taken (verdicts_of mets) served.outcome
 
 -- memory was wanting for the link's buffers, and nothing became of it but that it was shut

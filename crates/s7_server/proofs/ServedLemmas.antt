@@ -94,6 +94,7 @@ served_link opening pipe line d d' o accepted last run none opens same goes =
       };
       clock = run.clock;
       unasked = run.unasked;
+      looks = run.looks;
       end = run.end;
     }
 

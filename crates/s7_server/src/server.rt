@@ -63,8 +63,8 @@ pub const MEMORY: u8 = 9;
 /// Each observer, which has counted nothing yet, is told of each entry inside its turn, in order, so a slow
 /// one holds up all links.
 ///
-/// A run is there where links were served, or the door ended before one came. It has the book with its observers, the links by rising number, from 1 on, and
-/// whether the door failed after a first link. All memory but that of the links' sessions is taken
+/// A run is there where links were served, or the door ended before one came. It has the book with its
+/// observers, the links by rising number, from 1 on, and whether the door failed after a first link. All memory but that of the links' sessions is taken
 /// before a link is read or the door is asked. Where no run is there the link comes back as it was, no
 /// path changes, and the door has given no link; with a status other than 4 it is as it was. `serve`
 /// never touches the link, and `pipe` never the door. Where a run is there, no path changes but the one

@@ -1,8 +1,8 @@
 -- Laws of what handling a message does.
 use Rattle.std.proofs.Common.{◌≡◌, ◌⊎◌, ℕ, ◌+◌, ◌≤◌, true, false, List, [], ◌∷◌, ◌++◌, refl, ap, sym, ◌∙◌, subst}
 use Rattle.std.proofs.Common.{append-nil, arith, IsTrue}
-use Rattle.std.specs.Prelude.{Option, None, Some}
-use Rattle.s7_outer.specs.Count.{Rose}
+use Rattle.std.specs.Prelude.{Bool, Option, None, Some}
+use Rattle.s7_outer.specs.Count.{Rose, RoseExactly}
 use Rattle.s7_outer.specs.Shown.{Shown}
 use Rattle.s7_plant.specs.declared.request.Ask.{Ask}
 use Rattle.s7_plant.specs.Replies.{Said}
@@ -17,18 +17,28 @@ use Rattle.s7_session.specs.Errors.{FULL, CLOCK_FAILED}
 use Rattle.s7_session.specs.Events.{lives, closes, Made, settled, asks, by_clock, judged, refusal_sent}
 use Rattle.s7_session.specs.Judgement.{Asking}
 use Rattle.s7_session.specs.LinkState.{LinkState}
-use Rattle.s7_session.specs.Telegrams.{Met, met, verdicts_of, entered_of, NoneTimed, IsAt, moment_of}
+use Rattle.s7_session.specs.Telegrams.{Met, met, verdicts_of, entered_of, looks_for, looks_in, NoneTimed, IsAt, moment_of}
 use Rattle.s7_session.specs.Verdict.{Verdict, Entered, Full, ClockFailed, NoMemory}
 use Rattle.s7_session.proofs.DoerLemmas.{stays_same, trail_one}
 
 -- what asking the clock, or not asking it, does to a line
 pub record Looked (line line' : Shown) (asking : Asking) : Type 0 where
-  pub same : line' ≡ record line { clock_faults = line'.clock_faults }
+  pub same : line' ≡ record line { clock_faults = line'.clock_faults; looks = line'.looks }
   pub once : line'.clock_faults ≤ line.clock_faults + 1
   pub unasked : asking.is_timed ≡ false → line'.clock_faults ≡ line.clock_faults
+  pub looks : RoseExactly (looks_for asking.is_timed) line.looks line'.looks
 
-pub looked_not : (line : Shown) (asking : Asking) → Looked line line asking
-looked_not line asking = record { same = refl; once = omega arith; unasked = λ e. refl }
+pub looked_not : (line : Shown) (asking : Asking) → asking.is_timed ≡ false → Looked line line asking
+looked_not line asking untimed = record {
+  same = refl;
+  once = omega arith;
+  unasked = λ e. refl;
+  looks = subst (λ (b : Bool). RoseExactly (looks_for b) line.looks line.looks) (sym untimed) (omega arith, omega arith);
+}
+
+-- looks for one telegram are those for the list of it alone
+looks_alone : (n before now : ℕ) → RoseExactly n before now → RoseExactly (n + 0) before now
+looks_alone n before now rose = (omega (arith, rose.0), omega (arith, rose.1))
 
 -- a message that asks nothing, with what it is owed
 pub answers_settled : {D : Type 0} (stands : D → List Entry → Type 0) (full lack : D → Ask → Type 0) (line : Shown) (d : D) (made : List Verdict → Made) (at : ℕ) (size : Option ℕ) (link : LinkState) (sent : List ℕ)
@@ -52,6 +62,7 @@ answers_settled stands full lack line d made at size link sent is = record {
   line_is = refl;
   clock = (omega arith, omega arith);
   unasked = λ h. refl;
+  looks = subst (λ (m : Made). RoseExactly (looks_in m.mets) line.looks line.looks) (sym is) (omega arith, omega arith);
   moments = tt;
 }
 
@@ -78,6 +89,7 @@ answers_closing stands full lack line d made at size link sent is none = record 
   line_is = refl;
   clock = (omega arith, omega arith);
   unasked = λ h. refl;
+  looks = subst (λ (m : Made). RoseExactly (looks_in m.mets) line.looks line.looks) (sym is) (omega arith, omega arith);
   moments = tt;
 }
 
@@ -109,6 +121,7 @@ answers_entered stands full lack line line' d d' n link link' sequence asking at
   line_is = looked.same;
   clock = (omega (arith, told), omega (arith, told));
   unasked = λ h. looked.unasked h.0;
+  looks = looks_alone (looks_for asking.is_timed) line.looks line'.looks looked.looks;
   moments = (at_moment, tt);
 }
 
@@ -137,6 +150,7 @@ answers_full stands full lack line line' d d' n link link' sequence asking at se
   line_is = looked.same;
   clock = (omega (arith, told), omega (arith, told));
   unasked = λ h. looked.unasked h.0;
+  looks = looks_alone (looks_for asking.is_timed) line.looks line'.looks looked.looks;
   moments = tt;
 }
 
@@ -171,6 +185,8 @@ answers_clock_failed stands full lack line line' d n link link' sequence asking 
       line_is = looked.same;
       clock = (omega (arith, rose), omega (arith, looked.once));
       unasked = λ h. looked.unasked (subst NoneTimed (ap (λ (m : Made). m.mets) is) h).0;
+      looks = subst (λ (ms : List Met). RoseExactly (looks_in ms) line.looks line'.looks) (sym (ap (λ (m : Made). m.mets) is))
+          (looks_alone (looks_for asking.is_timed) line.looks line'.looks looked.looks);
       moments = tt;
     }
 
@@ -199,6 +215,7 @@ answers_memory stands full lack line line' d d' n link link' sequence asking at 
   line_is = looked.same;
   clock = (omega (arith, told), omega (arith, told));
   unasked = λ h. looked.unasked h.0;
+  looks = looks_alone (looks_for asking.is_timed) line.looks line'.looks looked.looks;
   moments = tt;
 }
 
@@ -226,6 +243,7 @@ same_made stands full lack line line' d d' f g at size link sent result same a =
       line_is = a.line_is;
       clock = a.clock;
       unasked = λ h. a.unasked (subst NoneTimed (ap (λ (m : Made). m.mets) e) h);
+      looks = subst (λ (ms : List Met). RoseExactly (looks_in ms) line.looks line'.looks) (sym (ap (λ (m : Made). m.mets) e)) a.looks;
       moments = a.moments;
     }
 

@@ -39,7 +39,7 @@ use Rattle.s7_session.specs.Owed.{Past, past, owed, telegrams, entered, with_mad
 use Rattle.s7_session.specs.Owed.{torn_or_ended, outcome_of, end_by}
 use Rattle.s7_session.specs.Stands.{Stands, Handles, Consumes, HasCause, closed_with, closed_by, turn_by, unread}
 use Rattle.s7_session.specs.Stands.{unsent, used_of, entry_count, newest, link_at}
-use Rattle.s7_session.specs.Telegrams.{Met, verdicts_of, entered_by, entered_of, NoneTimed, AllAt, clock_failures}
+use Rattle.s7_session.specs.Telegrams.{Met, verdicts_of, entered_by, entered_of, looks_in, NoneTimed, AllAt, clock_failures}
 use Rattle.s7_session.specs.Telegrams.{last_number}
 use Rattle.s7_session.specs.Verdict.{Verdict}
 use Rattle.s7_session.proofs.DoerLemmas.{stays_same}
@@ -152,9 +152,10 @@ pub record Uses {D : Type 0} (stands : D → List Entry → Type 0) (full lack :
   pub closed : closed_with new ≡ closed_by result
   pub waits : result ≡ turn.NotYet → ⊥
   pub by_octets : (o : Outcome) → result ≡ turn.Closed o → (o ≢ outcome.ReadFault) × (o ≢ outcome.WriteFault)
-  pub line_is : line' ≡ record line { clock_faults = line'.clock_faults }
+  pub line_is : line' ≡ record line { clock_faults = line'.clock_faults; looks = line'.looks }
   pub clock : RoseExactly (clock_failures (verdicts_of ms)) line.clock_faults line'.clock_faults
   pub unasked : NoneTimed ms → line'.clock_faults ≡ line.clock_faults
+  pub looks : RoseExactly (looks_in ms) line.looks line'.looks
   pub moments : AllAt line.moment entries
   pub cause : (o : Outcome) → result ≡ turn.Closed o → (k k' : Shown)
       → (first : LinkState) (b : List ℕ) (js : List Verdict) (w : List ℕ) → Stands first old b js w
@@ -184,6 +185,7 @@ consumes_by stands full lack old new line line' d d' result used ms entries sent
   line = u.line_is;
   clock = u.clock;
   unasked = u.unasked;
+  looks = u.looks;
   moments = u.moments;
   cause = u.cause;
 }
@@ -244,6 +246,7 @@ uses_more stands full lack old new line d used going opens found some inbox coun
   line_is = refl;
   clock = (omega arith, omega arith);
   unasked = λ h. refl;
+  looks = (omega arith, omega arith);
   moments = tt;
   cause = λ o e. absurd (went_not_closed o e);
 }
@@ -291,6 +294,7 @@ uses_opened stands full lack old new line d used c told going opens found event 
   line_is = refl;
   clock = (omega arith, omega arith);
   unasked = λ h. refl;
+  looks = (omega arith, omega arith);
   moments = tt;
   cause = λ o e. absurd (went_not_closed o e);
 }
@@ -404,6 +408,7 @@ uses_message stands full lack old mid new line line' d d' used result a going op
       line_is = t.line_is;
       clock = subst (λ (vs : List Verdict). RoseExactly (clock_failures vs) line.clock_faults line'.clock_faults) (sym t.mets_are) t.clock;
       unasked = t.unasked;
+      looks = t.looks;
       moments = t.moments;
       cause = λ o e k k' first b js w h.
           message_cause at a.handled k k' first new (b ++ used) (js ++ verdicts_of m.mets) (ap (λ (p : Past). p.standing) (step_on first b js w h) ∙ t.standing_is) t.silent o (sym a.result_is ∙ e);
@@ -499,6 +504,7 @@ uses_ended stands full lack old new line d used found end ends going opens finds
       line_is = refl;
       clock = (omega arith, omega arith);
       unasked = λ h. refl;
+      looks = (omega arith, omega arith);
       moments = tt;
       cause = λ o e k k' first b js w h.
           let x = end_at first b js w h in

@@ -157,6 +157,7 @@ link_run stands full lack first old new k k' d d' o served fresh =
       last_is = m.newest ∙ ap (λ x. last_number x m.entries) fresh.newest;
       clock = m.clock;
       unasked = m.unasked;
+      looks = m.looks;
       moments = m.moments;
       end = fin.end;
     }

@@ -116,6 +116,7 @@ moves_used stands full lack old new link link' d d' result k = record {
   trail = k.trail;
   clock = k.clock;
   unasked = k.unasked;
+  looks = k.looks;
   moment = ap (λ x. x.moment) k.line;
   moments = k.moments;
   faults = omega (arith, ap (λ x. x.faults) k.line);

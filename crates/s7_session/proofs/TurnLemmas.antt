@@ -16,7 +16,7 @@ use Rattle.s7_session.specs.Entry.{Entry, answered}
 use Rattle.s7_session.specs.LinkState.{LinkState}
 use Rattle.s7_session.specs.Owed.{telegrams, owed}
 use Rattle.s7_session.specs.Stands.{Stands, AllButOne, Moves, HasCause, closed_with}
-use Rattle.s7_session.specs.Telegrams.{Met, verdicts_of, entered_of, NoneTimed, AllAt, clock_failures, last_number}
+use Rattle.s7_session.specs.Telegrams.{Met, verdicts_of, entered_of, looks_in, NoneTimed, AllAt, clock_failures, last_number}
 use Rattle.s7_session.specs.Verdict.{Verdict, Entered, Full, ClockFailed, NoMemory}
 use Rattle.s7_session.proofs.ConsumeLemmas.{entered-append}
 use Rattle.s7_session.proofs.DoerLemmas.{stays_same, trail-append}
@@ -63,6 +63,7 @@ pub record Moved (link link' : Shown) (received written : List ℕ) : Type 0 whe
   pub shut : link'.is_shut ≡ link.is_shut
   pub moment : link'.moment ≡ link.moment
   pub clock_faults : link'.clock_faults ≡ link.clock_faults
+  pub looks : link'.looks ≡ link.looks
   pub faults : link.faults ≤ link'.faults
   pub waits : link.waits ≤ link'.waits
 
@@ -76,6 +77,7 @@ moved_nothing k = record {
   shut = refl;
   moment = refl;
   clock_faults = refl;
+  looks = refl;
   faults = omega arith;
   waits = omega arith;
 }
@@ -91,6 +93,7 @@ moved_by_receive k k' received took faults waits same = record {
   shut = ap (λ x. x.is_shut) same;
   moment = ap (λ x. x.moment) same;
   clock_faults = ap (λ x. x.clock_faults) same;
+  looks = ap (λ x. x.looks) same;
   faults = faults;
   waits = waits;
 }
@@ -106,6 +109,7 @@ moved_by_transmit k k' written wrote fits space faults waits same = record {
   shut = ap (λ x. x.is_shut) same;
   moment = ap (λ x. x.moment) same;
   clock_faults = ap (λ x. x.clock_faults) same;
+  looks = ap (λ x. x.looks) same;
   faults = faults;
   waits = waits;
 }
@@ -116,6 +120,10 @@ clock_failures-append (Entered reply moment ∷ xs) ys = clock_failures-append x
 clock_failures-append (Full ∷ xs) ys = clock_failures-append xs ys
 clock_failures-append (ClockFailed ∷ xs) ys = omega (arith, clock_failures-append xs ys)
 clock_failures-append (NoMemory ∷ xs) ys = clock_failures-append xs ys
+
+pub looks_in-append : (xs ys : List Met) → looks_in (xs ++ ys) ≡ looks_in xs + looks_in ys
+looks_in-append [] ys = omega arith
+looks_in-append (x ∷ xs) ys = omega (arith, looks_in-append xs ys)
 
 pub AllAt-append : (told : Option ℕ) (xs ys : List Entry) → AllAt told xs → AllAt told ys → AllAt told (xs ++ ys)
 AllAt-append told [] ys p q = q
@@ -216,6 +224,7 @@ moves_plain stands full lack old new link link' d received written k outbox inbo
   trail = stays_same full d;
   clock = (omega (arith, moved.clock_faults), omega (arith, moved.clock_faults));
   unasked = λ h. moved.clock_faults;
+  looks = (omega (arith, moved.looks), omega (arith, moved.looks));
   moment = moved.moment;
   moments = tt;
   faults = moved.faults;
@@ -268,6 +277,9 @@ moves_both stands full lack s0 s1 s2 k0 k1 k2 d0 d1 d2 m n =
           subst (λ (x : ℕ). RoseExactly x k0.clock_faults k2.clock_faults) (sym (ap clock_failures vs ∙ clock_failures-append (verdicts_of m.mets) (verdicts_of n.mets)))
           (rose_both (clock_failures (verdicts_of m.mets)) (clock_failures (verdicts_of n.mets)) k0.clock_faults k1.clock_faults k2.clock_faults m.clock n.clock);
       unasked = λ h. n.unasked (NoneTimed-back m.mets n.mets h) ∙ m.unasked (NoneTimed-front m.mets n.mets h);
+      looks =
+          subst (λ (x : ℕ). RoseExactly x k0.looks k2.looks) (sym (looks_in-append m.mets n.mets))
+          (rose_both (looks_in m.mets) (looks_in n.mets) k0.looks k1.looks k2.looks m.looks n.looks);
       moment = n.moment ∙ m.moment;
       moments = AllAt-append k0.moment m.entries n.entries m.moments (subst (λ (x : Option ℕ). AllAt x n.entries) m.moment n.moments);
       faults = omega (arith, m.faults, n.faults);

@@ -10,7 +10,7 @@ use Rattle.s7_session.specs.Doers.{Trail}
 use Rattle.s7_session.specs.Entry.{Entry, answered}
 use Rattle.s7_session.specs.Events.{Standing, lives, stops, closes, Made}
 use Rattle.s7_session.specs.LinkState.{LinkState}
-use Rattle.s7_session.specs.Telegrams.{entered_of, verdicts_of, last_number, NoneTimed, AllAt, clock_failures}
+use Rattle.s7_session.specs.Telegrams.{entered_of, verdicts_of, last_number, looks_in, NoneTimed, AllAt, clock_failures}
 use Rattle.s7_session.specs.Verdict.{Verdict}
 
 -- whether the link goes on, by what became of a message at this place
@@ -56,10 +56,11 @@ pub record Answers {D : Type 0} (stands : D → List Entry → Type 0) (is_full 
   pub last : (before : Option ℕ) → last_number before entries ≡ last_after before result
   pub doer : (es : List Entry) → stands d es → stands d' (es ++ entries)
   pub trail : Trail is_full may_lack d (made verdicts).mets d'
-  -- of the line nothing changed but how often its clock failed: as often as the verdict says, and only where the
-  -- telegram asks for a moment
-  pub line_is : line' ≡ record line { clock_faults = line'.clock_faults }
+  -- of the line nothing changed but how often its clock failed, as often as the verdict says, and how often it was
+  -- asked: once, if the telegram wants the moment
+  pub line_is : line' ≡ record line { clock_faults = line'.clock_faults; looks = line'.looks }
   pub clock : RoseExactly (clock_failures verdicts) line.clock_faults line'.clock_faults
   pub unasked : NoneTimed (made verdicts).mets → line'.clock_faults ≡ line.clock_faults
+  pub looks : RoseExactly (looks_in (made verdicts).mets) line.looks line'.looks
   -- the entry has the moment that the clock told
   pub moments : AllAt line.moment entries

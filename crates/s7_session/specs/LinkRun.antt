@@ -15,7 +15,7 @@ use Rattle.s7_session.specs.Events.{lives, stops}
 use Rattle.s7_session.specs.LinkState.{LinkState}
 use Rattle.s7_session.specs.Owed.{past, owed, telegrams, end_of}
 use Rattle.s7_session.specs.Stands.{Stands, AllButOne, closed_with, unread, entry_count, newest}
-use Rattle.s7_session.specs.Telegrams.{Met, verdicts_of, entered_of, NoneTimed, AllAt, clock_failures, last_number}
+use Rattle.s7_session.specs.Telegrams.{Met, verdicts_of, entered_of, looks_in, NoneTimed, AllAt, clock_failures, last_number}
 use Rattle.s7_session.specs.Verdict.{Verdict}
 
 -- a session that has taken nothing, of a link that begins in this state
@@ -105,5 +105,7 @@ pub record IsLinkRun {D : Type 0} (stands : D → List Entry → Type 0) (is_ful
   pub last_is : last ≡ last_number None entries
   pub clock : RoseExactly (clock_failures (verdicts_of mets)) link.clock_faults link'.clock_faults
   pub unasked : NoneTimed mets → link'.clock_faults ≡ link.clock_faults
+  -- the clock was asked once for each telegram that wants the moment, and not else
+  pub looks : RoseExactly (looks_in mets) link.looks link'.looks
   pub moments : AllAt link.moment entries
   pub end : IsEnd link link' first taken (verdicts_of mets) result

@@ -22,7 +22,7 @@ use Rattle.s7_session.specs.Entry.{Entry, answered}
 use Rattle.s7_session.specs.Events.{lives, stops, made}
 use Rattle.s7_session.specs.LinkState.{LinkState}
 use Rattle.s7_session.specs.Owed.{past, owed, telegrams, entered, end_of}
-use Rattle.s7_session.specs.Telegrams.{Met, verdicts_of, entered_of, NoneTimed, AllAt, clock_failures, last_number}
+use Rattle.s7_session.specs.Telegrams.{Met, verdicts_of, entered_of, looks_in, NoneTimed, AllAt, clock_failures, last_number}
 use Rattle.s7_session.specs.Verdict.{Verdict}
 
 -- the number of its link
@@ -122,9 +122,11 @@ pub record Moves {D : Type 0} (stands : D → List Entry → Type 0) (is_full ma
   pub newest : newest new ≡ last_number (newest old) entries
   pub doer : (es : List Entry) → stands d es → stands d' (es ++ entries)
   pub trail : Trail is_full may_lack d mets d'
-  -- the clock failed as often as it was told, told one moment, and was asked only where a telegram asks for one
+  -- the clock failed as often as it was told, told one moment, and was asked once for each telegram that wants the
+  -- moment, and not else
   pub clock : RoseExactly (clock_failures (verdicts_of mets)) link.clock_faults link'.clock_faults
   pub unasked : NoneTimed mets → link'.clock_faults ≡ link.clock_faults
+  pub looks : RoseExactly (looks_in mets) link.looks link'.looks
   pub moment : link'.moment ≡ link.moment
   pub moments : AllAt link.moment entries
   pub faults : link.faults ≤ link'.faults
@@ -246,9 +248,10 @@ pub record Consumes {D : Type 0} (stands : D → List Entry → Type 0) (is_full
   pub closed : closed_with new ≡ closed_by result
   pub waits : result ≡ turn.NotYet → ⊥
   pub by_octets : (o : Outcome) → result ≡ turn.Closed o → (o ≢ outcome.ReadFault) × (o ≢ outcome.WriteFault)
-  pub line : link' ≡ record link { clock_faults = link'.clock_faults }
+  pub line : link' ≡ record link { clock_faults = link'.clock_faults; looks = link'.looks }
   pub clock : RoseExactly (clock_failures (verdicts_of mets)) link.clock_faults link'.clock_faults
   pub unasked : NoneTimed mets → link'.clock_faults ≡ link.clock_faults
+  pub looks : RoseExactly (looks_in mets) link.looks link'.looks
   pub moments : AllAt link.moment entries
   pub cause : (o : Outcome) → result ≡ turn.Closed o → (k k' : Shown)
       → (first : LinkState) (b : List ℕ) (js : List Verdict) (w : List ℕ) → Stands first old b js w

@@ -1,5 +1,5 @@
 -- The telegrams of a link that asked the plant, and what became of them.
-use Rattle.std.specs.Prelude.{◌≡◌, ℕ, ◌+◌, false, List, [], ◌∷◌, ◌++◌, map, Option, None, Some}
+use Rattle.std.specs.Prelude.{◌≡◌, ℕ, ◌+◌, Bool, true, false, List, [], ◌∷◌, ◌++◌, map, Option, None, Some}
 use Rattle.std.specs.List.{AllByRecursion}
 use Rattle.s7_plant.specs.declared.request.Ask.{Ask}
 use Rattle.s7_plant.specs.declared.request.Request.{Request}
@@ -32,6 +32,16 @@ entered_by asking NoMemory = []
 abbrev pub entered_of : List Met → List (Ask × Said)
 entered_of [] = []
 entered_of (m ∷ mets) = entered_by m.asking m.verdict ++ entered_of mets
+
+-- how often the clock is asked for a telegram: once, if it wants the moment
+abbrev pub looks_for : Bool → ℕ
+looks_for true = 1
+looks_for false = 0
+
+-- and for all of them
+abbrev pub looks_in : List Met → ℕ
+looks_in [] = 0
+looks_in (m ∷ mets) = looks_for m.asking.is_timed + looks_in mets
 
 -- none asked for a moment
 abbrev pub NoneTimed : List Met → Type 0

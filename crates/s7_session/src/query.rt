@@ -1,7 +1,7 @@
 // What user data asks of the plant.
 ghost use Rattle.std.specs.Prelude.{◌≡◌, ◌≤◌, ◌+◌, Some, IfSome, IfNone};
-ghost use Rattle.s7_outer.specs.Count.{Rose};
-ghost use Rattle.s7_session.specs.Telegrams.{IsAt};
+ghost use Rattle.s7_outer.specs.Count.{Rose, RoseExactly};
+ghost use Rattle.s7_session.specs.Telegrams.{IsAt, looks_for};
 
 use s7_block::BlockName;
 use s7_outer::{Clock, Link, Tick};
@@ -87,7 +87,11 @@ impl Query {
         ensures unasked { is_timed self ≡ false
             → (L.shows line.new).clock_faults ≡ (L.shows line.old).clock_faults }
         ensures same { L.shows line.new
-            ≡ record (L.shows line.old) { clock_faults = (L.shows line.new).clock_faults } }
+            ≡ record (L.shows line.old) {
+              clock_faults = (L.shows line.new).clock_faults;
+              looks = (L.shows line.new).looks;
+            } }
+        ensures looks { RoseExactly (looks_for (is_timed self)) (L.shows line.old).looks (L.shows line.new).looks }
     {
         match self {
             Query::ListAll => Some(Request::ListAll),
@@ -116,7 +120,11 @@ fn moment<L: Link + Clock>(line: &mut L) -> Option<u64>
         (λ moment. (L.shows line.new).clock_faults ≡ (L.shows line.old).clock_faults) }
     ensures once { (L.shows line.new).clock_faults ≤ (L.shows line.old).clock_faults + 1 }
     ensures same { L.shows line.new
-        ≡ record (L.shows line.old) { clock_faults = (L.shows line.new).clock_faults } }
+        ≡ record (L.shows line.old) {
+          clock_faults = (L.shows line.new).clock_faults;
+          looks = (L.shows line.new).looks;
+        } }
+    ensures looked { RoseExactly 1 (L.shows line.old).looks (L.shows line.new).looks }
 {
     match line.now() {
         Tick::At(moment) => Some(moment),

@@ -90,9 +90,9 @@ impl Session {
         self.used
     }
 
-    /// Takes turns until one closes. The link's octets and the doer's entries are then one run from
-    /// beginning to end. Gives why the link closed, at once where it did before. Behind a turn that answered `NotYet` it sleeps for a
-    /// millisecond, so that a link that doesn't wait by itself leaves the processor to others.
+    /// Takes turns until one closes, and gives why; a link that is closed already answers at once. The link's
+    /// octets and the doer's entries are then one run from beginning to end. Behind a turn that answered
+    /// `NotYet` it sleeps for a millisecond, so that a link that doesn't wait by itself leaves the processor to others.
     pub fn serve<R: Wait + time::Clock, L: Link + Clock, D: Doer>(
         &mut self,
         rt: &R,

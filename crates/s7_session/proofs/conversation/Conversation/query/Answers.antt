@@ -28,7 +28,7 @@ returns-in_default-clause-answers g c = λ at.
     let k = c.request.ensures in
     answers_clock_failed g.D.Doer.stands g.D.Doer.is_full g.D.Doer.may_lack (g.L.Link.shows c.args.line.now) (g.L.Link.shows c.request.new.line) c.args.doer.now
     n link link c.args.sequence (queries link c.args.pdu c.args.sequence c.args.query) at _
-    (record { same = k.same; once = k.once; unasked = k.unasked }) c.in_default.ensures.none c.in_default.ensures.failed refl
+    (record { same = k.same; once = k.once; unasked = k.unasked; looks = k.looks }) c.in_default.ensures.none c.in_default.ensures.failed refl
     (after_nothing c.args.self.now.sender.outbox.unsent (refusal_sent n c.args.sequence CLOCK_FAILED) c.put_refusal.new.self.outbox.unsent c.put_refusal.ensures c.requires.sent)
 
 pub returns-in-Ok-clause-answers : goal.returns-in-Ok-clause-answers
@@ -44,7 +44,7 @@ returns-in-Ok-clause-answers g c = λ at.
     let made = c.put_user_reply in
     answers_entered g.D.Doer.stands g.D.Doer.is_full g.D.Doer.may_lack line (g.L.Link.shows c.request.new.line) c.args.doer.now c.act.new.self
     n link (link_of made.new.self.held) c.args.sequence (queries link c.args.pdu c.args.sequence c.args.query) at _
-    c.in-Ok.number (kept ask) said m.moment (record { same = k.same; once = k.once; unasked = k.unasked }) c.in-Some.ensures.told m.untimed
+    c.in-Ok.number (kept ask) said m.moment (record { same = k.same; once = k.once; unasked = k.unasked; looks = k.looks }) c.in-Some.ensures.told m.untimed
     (subst (IsAt line.moment) (sym (moment_kept c.in-Some.request)) m.told_is)
     (kept_is right c.in-Some.request c.args.query m.moment m.request_is) (sym made.ensures.link)
     (one_message n (user_reply link c.args.pdu c.args.sequence (group_of c.args.query) (subfunction_of c.args.query) said) _ (sym made.ensures.sends))
@@ -60,7 +60,7 @@ returns-in-Err-Full-clause-answers g c = λ at.
     let f = c.in-Err-Full in
     answers_full g.D.Doer.stands g.D.Doer.is_full g.D.Doer.may_lack (g.L.Link.shows c.args.line.now) (g.L.Link.shows c.request.new.line) c.args.doer.now c.act.new.self
     n link link c.args.sequence (queries link c.args.pdu c.args.sequence c.args.query) at _ m.moment
-    (record { same = k.same; once = k.once; unasked = k.unasked }) c.in-Some.ensures.told refl
+    (record { same = k.same; once = k.once; unasked = k.unasked; looks = k.looks }) c.in-Some.ensures.told refl
     (after_nothing c.args.self.now.sender.outbox.unsent (refusal_sent n c.args.sequence FULL) c.put_refusal-in-Err-Full.new.self.outbox.unsent c.put_refusal-in-Err-Full.ensures c.requires.sent)
     f.ensures.err c.act.ensures.stays_full
     (subst (g.D.Doer.is_full c.act.new.self) (kept_is c.args.self.now.held.right c.in-Some.request c.args.query m.moment m.request_is) (c.act.ensures.full f.field-0-0 (f.is ∙ ap Err f.field-0-is)).1)
@@ -73,5 +73,5 @@ returns-clause-answers g c = λ at.
     let f = c.in-Err-Memory in
     answers_memory g.D.Doer.stands g.D.Doer.is_full g.D.Doer.may_lack (g.L.Link.shows c.args.line.now) (g.L.Link.shows c.request.new.line) c.args.doer.now c.act.new.self
     c.args.size.octets link link c.args.sequence (queries link c.args.pdu c.args.sequence c.args.query) at _
-    (record { same = k.same; once = k.once; unasked = k.unasked }) c.in-Some.ensures.told c.requires.sent f.ensures.err c.act.ensures.stays_full
+    (record { same = k.same; once = k.once; unasked = k.unasked; looks = k.looks }) c.in-Some.ensures.told c.requires.sent f.ensures.err c.act.ensures.stays_full
     (inr (m.moment, subst (g.D.Doer.may_lack c.args.doer.now) (kept_is c.args.self.now.held.right c.in-Some.request c.args.query m.moment m.request_is) (c.act.ensures.lacked f.field-0-0 (f.is ∙ ap Err f.field-0-is)).1))

@@ -19,7 +19,7 @@ returns-in-Ok-clause-answers g c = λ line at.
     let made = c.put_upload_reply in
     answers_entered g.D.Doer.stands g.D.Doer.is_full g.D.Doer.may_lack line line c.args.doer.now c.act.new.self
     n link (link_of made.new.self.held) c.args.sequence (by_upload link c.args.sequence c.args.name) at _
-    c.in-Ok.number (kept ask) said 0 (looked_not line _) refl (λ e. refl) (untimed_at line.moment (kept ask) refl) refl
+    c.in-Ok.number (kept ask) said 0 (looked_not line _ refl) refl (λ e. refl) (untimed_at line.moment (kept ask) refl) refl
     (sym made.ensures.link)
     (one_message n (upload_reply link c.args.sequence said) _ (sym made.ensures.sends))
     c.in-Ok.ensures.ok c.act.ensures.stays_full (λ e. false_not_true (c.in-Ok.ensures.was_full e))
@@ -30,7 +30,7 @@ returns-in-Err-Full-clause-answers g c = λ line at.
     let n = c.args.size.octets in
     let f = c.in-Err-Full in
     answers_full g.D.Doer.stands g.D.Doer.is_full g.D.Doer.may_lack line line c.args.doer.now c.act.new.self
-    n link link c.args.sequence (by_upload link c.args.sequence c.args.name) at _ 0 (looked_not line _) refl refl
+    n link link c.args.sequence (by_upload link c.args.sequence c.args.name) at _ 0 (looked_not line _ refl) refl refl
     (after_nothing c.args.self.now.sender.outbox.unsent (refusal_sent n c.args.sequence FULL)
     c.put_refusal.new.self.outbox.unsent c.put_refusal.ensures c.requires.sent)
     f.ensures.err c.act.ensures.stays_full (c.act.ensures.full f.field-0-0 (f.is ∙ ap Err f.field-0-is)).1
@@ -41,5 +41,5 @@ returns-clause-answers g c = λ line at.
     let f = c.in-Err-Memory in
     answers_memory g.D.Doer.stands g.D.Doer.is_full g.D.Doer.may_lack line line c.args.doer.now c.act.new.self
     c.args.size.octets link link c.args.sequence (by_upload link c.args.sequence c.args.name) at _
-    (looked_not line _) refl c.requires.sent f.ensures.err c.act.ensures.stays_full
+    (looked_not line _ refl) refl c.requires.sent f.ensures.err c.act.ensures.stays_full
     (inr (0, (c.act.ensures.lacked f.field-0-0 (f.is ∙ ap Err f.field-0-is)).1))
