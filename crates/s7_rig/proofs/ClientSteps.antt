@@ -50,7 +50,8 @@ use Rattle.s7_rig.proofs.ComeOffLemmas.{comes_off}
 use Rattle.s7_rig.proofs.RightLemmas.{own_allowed}
 use Rattle.s7_rig.proofs.ShapeLemmas.{AreAllowed}
 use Rattle.s7_rig.specs.Complete.{CanComeOff, AreWithRight, AllComeOff}
-use Rattle.s7_rig.specs.Exchanges.{AnyUndone, entries_of, rows_of, Converses, WentBy}
+use Rattle.s7_rig.specs.Exchanges.{entries_of, rows_of, Converses, WentBy}
+use Rattle.s7_rig.proofs.UnrefusedLemmas.{AnyUndone}
 use Rattle.s7_session.specs.Telegrams.{AnyFull, clock_failures}
 use Rattle.s7_dialogue.specs.Answer.{Answer}
 use Rattle.s7_dialogue.specs.Codes.{timed_out}

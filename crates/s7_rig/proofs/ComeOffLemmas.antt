@@ -39,7 +39,7 @@ use Rattle.s7_session.specs.Verdict.{Verdict}
 use Rattle.s7_rig.specs.Scripts.{IsNoConnect}
 use Rattle.s7_rig.specs.Awaiting.{AreAsked}
 use Rattle.s7_rig.specs.Complete.{IsThere, HasBlock, CanComeOff}
-use Rattle.s7_rig.specs.Exchanges.{IsSecurity, AnyUndone, HasTold}
+use Rattle.s7_rig.specs.Exchanges.{IsSecurity, HasTold}
 use Rattle.s7_rig.specs.Exchanges.{NamesNone}
 use Rattle.s7_rig.specs.Exchanges.{Exchange, entries_of, rows_of, AreTold, Converses}
 use Rattle.s7_rig.proofs.HoldPieces.{behind_is}
@@ -48,7 +48,7 @@ use Rattle.s7_rig.proofs.HoldReplies.{IsGood, counts_good, lists_good, mode_good
 use Rattle.s7_rig.proofs.HoldReplies.{IsDoneAs, compress_done, copy_done}
 use Rattle.s7_rig.proofs.UploadAsksLemmas.{of_upload}
 use Rattle.s7_rig.proofs.UploadOffLemmas.{upload_good}
-use Rattle.s7_rig.proofs.UnrefusedLemmas.{IsFree, FindsAll, IsControl, NamesNoBlock, IsAbout, IsUploadOf}
+use Rattle.s7_rig.proofs.UnrefusedLemmas.{AnyUndone, IsFree, FindsAll, IsControl, NamesNoBlock, IsAbout, IsUploadOf}
 use Rattle.s7_rig.proofs.UnrefusedLemmas.{part_unrefused, items_unrefused, control_unrefused, about_unrefused}
 use Rattle.s7_rig.proofs.UnrefusedLemmas.{upload_unrefused}
 use Rattle.s7_rig.proofs.AskedItems.{AsksFor, part_reads_for, part_writes_for}

@@ -7,7 +7,7 @@ use Rattle.s7_plant.specs.Replies.{Said}
 use Rattle.s7_dialogue.specs.Question.{Question, announces, awaits_call, gives, inserts}
 use Rattle.s7_dialogue.specs.Answer.{Answer, announced, calls, refuses}
 use Rattle.s7_dialogue.specs.Refusals.{number_of_error, download_refusal}
-use Rattle.s7_dialogue.specs.Dialogue.{last_answer, behind_call, behind_server, next_given}
+use Rattle.s7_dialogue.specs.Dialogue.{last_answer, behind_server, next_given}
 use Rattle.s7_dialogue.proofs.FlightLemmas.{same_some}
 use Rattle.s7_session.specs.LinkState.{LinkState}
 use Rattle.s7_session.specs.Verdict.{Verdict}

@@ -94,3 +94,4 @@ pub mod BlockFitLemmas
 pub mod UserReplyLemmas
 pub mod BlockHeadLemmas
 pub mod BlockReadLemmas
+pub mod JobLawLemmas

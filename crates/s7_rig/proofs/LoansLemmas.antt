@@ -75,6 +75,7 @@ moves_seen old new k k' d d' same m = record {
   trail = trail_seen doer_is_full doer_lacks is_full_in lacks_in book_of seen d d' m.mets m.trail;
   clock = m.clock;
   unasked = m.unasked;
+  looks = m.looks;
   moment = m.moment;
   moments = m.moments;
   faults = m.faults;

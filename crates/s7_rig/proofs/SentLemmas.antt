@@ -1,6 +1,6 @@
 -- What becomes of the messages of a question on a link between two messages: before all their octets came nothing is owed
 -- for them, and where more comes to be owed behind them the link lives.
-use Rattle.std.proofs.Common.{◌≡◌, inl, inr, ℕ, ◌<◌, ◌≤◌, Option, Some, List, [], ◌∷◌, ◌++◌, length, ap, sym, ◌∙◌, arith, length-append, append_assoc, append-nil}
+use Rattle.std.proofs.Common.{◌≡◌, inl, inr, ℕ, ◌<◌, ◌≤◌, Some, List, [], ◌++◌, length, ap, sym, ◌∙◌, arith, length-append, append_assoc, append-nil}
 use Rattle.s7_wire.specs.Bounds.{message_limit}
 use Rattle.s7_wire.specs.Sent.{sent_message, sent_messages}
 use Rattle.s7_dialogue.specs.Question.{Question, awaits_call, inserts, question_octets, closing_octets, messages_of}

@@ -22,7 +22,7 @@ use Rattle.s7_plant.specs.Journals.{entries_of}
 use Rattle.s7_plant.specs.State as plant
 use Rattle.s7_rig.specs.Rigs.{RigRan, ToldWanting, Turning}
 use Rattle.s7_rig.specs.Runs.{AreFresh, IsRun, Rounds, Turns, actors_of, most_rounds}
-use Rattle.s7_rig.specs.Tells.{Reaches, Tells, TellsFirst, TellsWanting}
+use Rattle.s7_rig.specs.Tells.{TurnsLead, Tells, TellsFirst, TellsWanting}
 use Rattle.s7_rig.specs.Turns.{IsClientTurn, IsSessionTurn, IsTurnOf, StartsNext, StartsNothing, with_polled}
 use Rattle.s7_rig.proofs.TurnsLemmas.{Turns-append, Turns-none, Turns-one}
 
@@ -175,36 +175,36 @@ err_weaker (Err e) f h = f h
 
 -- ---- where memory was wanting
 
-pub reaches_none : (s : State) → Reaches s s
+pub reaches_none : (s : State) → TurnsLead s s
 reaches_none s = record { actors = []; stirred = false; turned = Turns-none s }
 
-pub reaches_by : (actors : List ℕ) (old new : State) (stirs : Bool) → Turns actors old new stirs → Reaches old new
+pub reaches_by : (actors : List ℕ) (old new : State) (stirs : Bool) → Turns actors old new stirs → TurnsLead old new
 reaches_by actors old new stirs t = record { actors = actors; stirred = stirs; turned = t }
 
-pub reaches_then : (old middle new : State) → Reaches old middle → Reaches middle new → Reaches old new
+pub reaches_then : (old middle new : State) → TurnsLead old middle → TurnsLead middle new → TurnsLead old new
 reaches_then old middle new r q = record {
   actors = r.actors ++ q.actors;
   stirred = r.stirred || q.stirred;
   turned = Turns-append r.actors q.actors old middle new r.stirred q.stirred r.turned q.turned;
 }
 
-pub reaches_turn : (actor : ℕ) (old middle new : State) (stirs : Bool) → Reaches old middle
-    → IsTurnOf actor middle new stirs → Reaches old new
+pub reaches_turn : (actor : ℕ) (old middle new : State) (stirs : Bool) → TurnsLead old middle
+    → IsTurnOf actor middle new stirs → TurnsLead old new
 reaches_turn actor old middle new stirs r t =
     reaches_then old middle new r (reaches_by (actor ∷ []) middle new stirs (Turns-one actor middle new stirs t))
 
-pub reaches_rounds : (n : ℕ) (old new : State) → Rounds n old new → Reaches old new
+pub reaches_rounds : (n : ℕ) (old new : State) → Rounds n old new → TurnsLead old new
 unfolding Rounds
-reaches_rounds zero old new same = subst (λ s. Reaches old s) (sym same) (reaches_none old)
-reaches_rounds (suc n) old new (inl (over, same)) = subst (λ s. Reaches old s) (sym same) (reaches_none old)
+reaches_rounds zero old new same = subst (λ s. TurnsLead old s) (sym same) (reaches_none old)
+reaches_rounds (suc n) old new (inl (over, same)) = subst (λ s. TurnsLead old s) (sym same) (reaches_none old)
 reaches_rounds (suc n) old new (inr (going, middle, stirs, turned, inl (still, same))) =
-    subst (λ s. Reaches old s) (sym same) (reaches_by (actors_of old) old middle stirs turned)
+    subst (λ s. TurnsLead old s) (sym same) (reaches_by (actors_of old) old middle stirs turned)
 reaches_rounds (suc n) old new (inr (going, middle, stirs, turned, inr (stirred, more))) =
     reaches_then old middle new (reaches_by (actors_of old) old middle stirs turned)
     (reaches_rounds n middle new more)
 
 -- it was wanting at this turn
-pub wanting_here : (old last : State) (x y z : Option Told) → Reaches old last → TellsFirst old last x y → z ≡ y
+pub wanting_here : (old last : State) (x y z : Option Told) → TurnsLead old last → TellsFirst old last x y → z ≡ y
     → TellsWanting old x z
 wanting_here old last x y z reached tells same = record {
   last = last;
@@ -213,7 +213,7 @@ wanting_here old last x y z reached tells same = record {
 }
 
 -- it was wanting behind these turns
-pub wanting_then : (old middle : State) (x y z : Option Told) → Reaches old middle → TellsFirst old middle x y
+pub wanting_then : (old middle : State) (x y z : Option Told) → TurnsLead old middle → TellsFirst old middle x y
     → TellsWanting middle y z → TellsWanting old x z
 wanting_then old middle x y z reached tells w = record {
   last = w.last;
@@ -227,7 +227,7 @@ module _ (opening : Memory) (limit : ℕ) (config : Config) (scripts : List (Lis
     (unchanged : plant.state_of start.book.plant ≡ plant.begins_with opening)
     (journal : start.book.journal ≡ entries_of [] limit)
     (fresh : AreFresh opening.guard config 1 scripts start.posts) (x y : Option Told) where
-  pub rig_wanting : (last : State) → Reaches start last → TellsFirst start last x y
+  pub rig_wanting : (last : State) → TurnsLead start last → TellsFirst start last x y
       → ToldWanting opening limit config scripts x y
   rig_wanting last reached tells = inr (
     last,
@@ -243,7 +243,7 @@ module _ (opening : Memory) (limit : ℕ) (config : Config) (scripts : List (Lis
   )
 
 -- a whole run is one of turns
-pub run_reaches : (turns : List ℕ) (seed steps : ℕ) (old new : State) → IsRun turns seed steps old new → Reaches old new
+pub run_reaches : (turns : List ℕ) (seed steps : ℕ) (old new : State) → IsRun turns seed steps old new → TurnsLead old new
 run_reaches turns seed steps old new run =
     reaches_then old run.middle new (reaches_by _ old run.middle run.stirred run.turned)
     (reaches_rounds most_rounds run.middle new run.rounds)

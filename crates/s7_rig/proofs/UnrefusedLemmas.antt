@@ -1,5 +1,5 @@
 -- Answers that refuse nothing, where no history was full and no clock failed.
-use Rattle.std.proofs.Common.{◌≡◌, ℕ, Bool, true, false, Option, None, Some, List, [], ◌∷◌}
+use Rattle.std.proofs.Common.{◌≡◌, ◌⊎◌, ℕ, ◌<◌, Bool, true, false, Option, None, Some, List, [], ◌∷◌}
 use Rattle.std.proofs.Common.{inl, inr, map, refl, ap, sym, ◌∙◌, subst}
 use Rattle.std.specs.List.{AllByRecursion}
 use Rattle.s7_item.specs.declared.item.Item.{Item}
@@ -20,10 +20,11 @@ use Rattle.s7_dialogue.specs.Question.{starts_upload, slices_upload, ends_upload
 use Rattle.s7_dialogue.specs.Answer.{Answer, tells, notes}
 use Rattle.s7_dialogue.specs.Refusals.{code_refusal, part_refusal, telegram_refusal, control_refusal}
 use Rattle.s7_dialogue.proofs.FlightLemmas.{same_some}
+use Rattle.s7_session.specs.Telegrams.{AnyFull, clock_failures}
 use Rattle.s7_session.specs.Verdict.{Verdict}
 use Rattle.s7_rig.specs.Heard.{told_of}
 use Rattle.s7_rig.specs.Complete.{IsThere}
-use Rattle.s7_rig.specs.Exchanges.{IsSecurity, AnyUndone, IsUndone, HasTold, is_refused, is_read, is_written, is_controlled}
+use Rattle.s7_rig.specs.Exchanges.{IsSecurity, IsUndone, HasTold, is_refused, is_read, is_written, is_controlled}
 use Rattle.s7_rig.specs.Exchanges.{is_brought, is_secured, is_unnamed, is_further, NamesNone, request_of}
 use Rattle.s7_rig.specs.Exchanges.{is_barred, is_started, is_no_upload, is_sliced, is_ended, uploaded_of}
 use Rattle.s7_rig.specs.Exchanges.{is_announced, is_unstored, is_called, is_given, is_inserted}
@@ -95,6 +96,10 @@ IsUploadOf name (ends_upload id) = Unit {0}
 IsUploadOf name _ = ⊥
 
 -- ---- what was told
+
+-- a verdict is that the history was full, or that the clock failed
+abbrev pub AnyUndone : List Verdict → Type 0
+AnyUndone verdicts = AnyFull verdicts ⊎ (0 < clock_failures verdicts)
 
 any_undone : (verdicts : List Verdict) (error : ℕ) → IsUndone verdicts error → AnyUndone verdicts
 any_undone verdicts error (inl h) = inl h.0

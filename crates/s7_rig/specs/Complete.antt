@@ -33,12 +33,12 @@ HasBlock m number = (number < 65536) × MatchOption (data_block m number) ⊥ (�
 abbrev pub IsAllowed : Memory → Bool → Type 0
 IsAllowed m right = (m.guard ≡ None) ⊎ (right ≡ true)
 
--- The job, whose telegrams have a right or not, can be asked with telegrams of this PDU, and where it reads or writes one
--- item, that stands in the areas and wants no right that it hasn't. Of several items each has a code of its own, and the
--- job comes off whatever these are. A status list comes off that there is, and blocks are counted, and the clock and the
--- run state tell, always; the clock is set, and the memory is tidied and copied, where no guard is, or with the right. A
--- data block that stands in the areas is uploaded, where it may be read. Of the other jobs nothing is said here: they
--- hang on what was done before, or on which blocks there are.
+-- The job, whose telegrams have a right or not, can be asked with telegrams of this PDU, and where it reads or writes
+-- one item, that stands in the areas and wants no right that it hasn't. Of several items each has a code of its own, and
+-- the job comes off whatever these are. A status list comes off that there is, and blocks are counted, and the clock and
+-- the run state tell, always; the clock is set, and the memory is tidied and copied, where no guard is, or with the
+-- right. A data block that stands in the areas is uploaded, where it may be read. Of the other jobs nothing is said here:
+-- they hang on what was done before, or on which blocks there are.
 abbrev pub CanComeOff : Memory → Bool → ℕ → Job → Type 0
 CanComeOff m right pdu job.Connect = Unit {0}
 CanComeOff m right pdu (job.ReadArea item) =

@@ -12,7 +12,7 @@ use Rattle.s7_plant.specs.declared.request.Request.TheVariants as plain
 use Rattle.s7_plant.specs.Requests.{asked, no_room}
 use Rattle.s7_plant.specs.Replies.{Said}
 use Rattle.s7_plant.specs.State.{State}
-use Rattle.s7_wire.specs.Sent.{sent_message, sent_messages}
+use Rattle.s7_wire.specs.Sent.{sent_messages}
 use Rattle.s7_header.specs.Negotiation.{most_pdu}
 use Rattle.s7_header.specs.Octets.{number_at}
 use Rattle.s7_clock.specs.declared.control.Control.{Control}
@@ -251,22 +251,18 @@ upload_heard id reply = if reply.error == 0 then uploads id (length reply.body) 
 abbrev pub security_heard : ℕ → ℕ → Answer
 security_heard octet error = if error == 0 then brings octet false [] else refuses error
 
--- a verdict is that the history was full, or that the clock failed
-abbrev pub AnyUndone : List Verdict → Type 0
-AnyUndone verdicts = AnyFull verdicts ⊎ (0 < clock_failures verdicts)
-
--- and with which error that refuses a telegram
+-- a verdict is that the history was full, or that the clock failed, and this is the error word for it
 abbrev pub IsUndone : List Verdict → ℕ → Type 0
 IsUndone verdicts error =
     (AnyFull verdicts × (error ≡ 0x8F01)) ⊎ ((0 < clock_failures verdicts) × (error ≡ 0x8F02))
 
 -- What a question was answered, and what was entered for it. It is refused, and nothing entered, where one of the
--- verdicts is that the history was full or the clock failed. Otherwise a request was entered with a right or without: a read tells what the
--- memory has of the state that gave the reply, a write notes the codes that this memory gives, and of control, of user
--- data, of the start of an upload and of the insertion of the very image that was given the reply is told. Passwords,
--- further octets, slices and the end of an upload enter nothing, and neither do a download up to its insertion, a name of
--- no block, which is refused, a block that isn't deleted, since its kind isn't stored or its number is too large, or one
--- that isn't downloaded, since its kind isn't stored.
+-- verdicts is that the history was full or the clock failed. Otherwise a request was entered with a right or without: a
+-- read tells what the memory has of the state that gave the reply, a write notes the codes that this memory gives, and of
+-- control, of user data, of the start of an upload and of the insertion of the very image that was given the reply is
+-- told. Passwords, further octets, slices and the end of an upload enter nothing, and neither do a download up to its
+-- insertion, a name of no block, which is refused, a block that isn't deleted, since its kind isn't stored or its number
+-- is too large, or one that isn't downloaded, since its kind isn't stored.
 pub data HasTold (verdicts : List Verdict) (question : Question) (answer : Answer) (new : List (Ask × Said))
     : Type 0 where
   is_refused : (error : ℕ) → IsUndone verdicts error → new ≡ [] → answer ≡ refuses error

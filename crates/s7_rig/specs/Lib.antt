@@ -15,6 +15,7 @@ pub mod Written
 pub mod Plants
 pub mod Dialogues
 pub mod Split
+pub mod Jobs
 pub mod Legal
 pub mod Scripts
 pub mod Exchanges

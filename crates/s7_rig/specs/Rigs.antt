@@ -16,7 +16,7 @@ use Rattle.s7_rig.specs.Sent.{sent_by, answered_by}
 use Rattle.s7_rig.specs.Split.{AllStand}
 use Rattle.s7_rig.specs.Complete.{AllComeOff}
 use Rattle.s7_rig.specs.Runs.{AreFresh, IsRun}
-use Rattle.s7_rig.specs.Tells.{Reaches}
+use Rattle.s7_rig.specs.Tells.{TurnsLead}
 
 -- which turns are made: the stated ones, and so many drawn from a seed
 pub record Turning : Type 0 where
@@ -44,7 +44,7 @@ pub record RigRan (opening : Memory) (limit : ℕ) (config : Config) (scripts : 
       → IsLegalPost opening limit config.pdu (history_of last.book) p
       (sent_by k turning.turns turning.seed turning.steps start last run)
       (answered_by k turning.turns turning.seed turning.steps start last run)
-  -- each read with code 0 is the split read at its places
+  -- what a read of one item, of several or of a whole data block with code 0 told stood at its places
   pub reads : AllByRecursion (λ (c : ClientTold). AllStand (plant.begins_with opening) (history_of end.book) c.link
       config.pdu c.results c.places) end.clients
   -- and where the journal has room left, each job that can come off does, unless it met its last poll
@@ -62,7 +62,7 @@ pub record CameTo (opening : Memory) (limit : ℕ) (config : Config) (scripts : 
   pub unchanged : plant.state_of start.book.plant ≡ plant.begins_with opening
   pub journal : start.book.journal ≡ entries_of [] limit
   pub fresh : AreFresh opening.guard config 1 scripts start.posts
-  pub reached : Reaches start last
+  pub reached : TurnsLead start last
 
 -- MEMORY WAS WANTING: a completion was told of nothing, or of each result that the first client of such a rig had then,
 -- once and in order

@@ -18,7 +18,7 @@ abbrev pub TellsFirst : State → State → Option Told → Option Told → Type
 TellsFirst old new before after = Tells (first_results (state_told old)) (first_results (state_told new)) before after
 
 -- turns of some actors lead from one state to the other
-pub record Reaches (old new : State) : Type 0 where
+pub record TurnsLead (old new : State) : Type 0 where
   pub actors : List ℕ
   pub stirred : Bool
   pub turned : Turns actors old new stirred
@@ -26,5 +26,5 @@ pub record Reaches (old new : State) : Type 0 where
 -- WHERE MEMORY WAS WANTING behind such turns, the completion was told of each result that the first client had gained
 pub record TellsWanting (old : State) (before after : Option Told) : Type 0 where
   pub last : State
-  pub reached : Reaches old last
+  pub reached : TurnsLead old last
   pub tells : TellsFirst old last before after

@@ -1,5 +1,6 @@
 // Laws of rigs.
 ghost use Rattle.s7_rig.specs.Formed.{RigsAreFormed};
+ghost use Rattle.s7_rig.specs.Jobs.{JobsAreSettled, JobsComeOff};
 ghost use Rattle.s7_rig.specs.Passwords.{PasswordsAreRead};
 ghost use Rattle.s7_rig.specs.Questions.{QuestionsAreHeard};
 
@@ -21,6 +22,20 @@ pub fn rigs_are_formed()
 /// end, and what is then asked of the plant is the insertion of that very image.
 pub fn questions_are_heard()
     ensures { QuestionsAreHeard }
+{}
+
+/// A law: octets that are a front of what a session owes for what its client sent, and that end a job of this client, leave
+/// both between two messages. A read of one item, of several or of a whole data block with code 0 is then what its
+/// entries read, in their order, each of one of the parts or groups; and the first connect of a client comes off.
+pub fn jobs_are_settled()
+    ensures { JobsAreSettled }
+{}
+
+/// A law: where the session is a link's on a book, no telegram of the link met a full history and the clock never failed,
+/// such a job of a connected client has code 0 where it can come off: so each read and write does that is in range, fits
+/// and wants no right that it hasn't.
+pub fn jobs_come_off()
+    ensures { JobsComeOff }
 {}
 
 /// A law: a session reads the password that a client sends.

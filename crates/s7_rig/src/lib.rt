@@ -12,6 +12,8 @@ mod station;
 mod turns;
 
 pub use end::{RigClient, RigEnd};
-pub use laws::{passwords_are_read, questions_are_heard, rigs_are_formed};
+pub use laws::{
+    jobs_are_settled, jobs_come_off, passwords_are_read, questions_are_heard, rigs_are_formed,
+};
 pub use places::Places;
 pub use runs::{Schedule, run_rig};

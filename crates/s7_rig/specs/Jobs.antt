@@ -1,0 +1,43 @@
+-- What becomes of a job whose client's peer is a session.
+use Rattle.std.specs.Prelude.{◌≡◌, ℕ, Bool, true, List, ◌++◌, map, Option}
+use Rattle.s7_area.specs.Memory.{Memory}
+use Rattle.s7_area.specs.declared.guard.Guard.{Guard}
+use Rattle.s7_dialogue.specs.Codes.{no_fault}
+use Rattle.s7_dialogue.specs.Course.{Origin}
+use Rattle.s7_dialogue.specs.Dialogue.{End}
+use Rattle.s7_plant.specs.State.{begins_with}
+use Rattle.s7_session.specs.Books.{History, own}
+use Rattle.s7_session.specs.Entry.{Entry, answered}
+use Rattle.s7_session.specs.LinkState.{LinkState}
+use Rattle.s7_session.specs.Owed.{entered}
+use Rattle.s7_session.specs.Telegrams.{AnyFull, clock_failures}
+use Rattle.s7_session.specs.Verdict.{Verdict}
+use Rattle.s7_rig.specs.Complete.{AreWithRight, CanComeOff}
+use Rattle.s7_rig.specs.Dialogues.{IsJobOver, IsJobSettled, IsConnectOver, IsConnectSettled}
+use Rattle.s7_rig.specs.Scripts.{IsNoConnect}
+
+-- EACH JOB IS SETTLED that the octets end of which its client heard a front of what a session owes for what the client
+-- sent: a read with code 0 reads what its entries read, in their order, and a first connect comes off.
+pub record JobsAreSettled : Type 0 where
+  pub settled : (first : LinkState) (origin : Origin) (pdu : ℕ) (heard sent : List ℕ) (end : End)
+      (carried b used : List ℕ) (js verdicts : List Verdict) (behind : List ℕ)
+      → IsJobOver first origin pdu heard sent end carried b used js verdicts behind
+      → IsJobSettled first origin pdu heard sent end b used js verdicts behind
+  pub connected : (guard : Option Guard) (origin : Origin) (heard sent : List ℕ) (end : End) (carried used : List ℕ)
+      (verdicts : List Verdict) (behind : List ℕ)
+      → IsConnectOver guard origin heard sent end carried used verdicts behind
+      → IsConnectSettled guard origin heard sent end used verdicts behind
+
+-- SUCH A JOB COMES OFF WHERE IT CAN, where the session is a link's on a book that began with this memory. Its entries are
+-- the link's own calls in the history, behind the earlier ones; no telegram of the link met a full history or a clock
+-- that failed, and where it wants a right, all its entries have it.
+pub record JobsComeOff : Type 0 where
+  pub comes_off : (opening : Memory) (history : History) (link : ℕ) (right : Bool) (earlier mine : List Entry)
+      (first : LinkState) (origin : Origin) (pdu : ℕ) (heard sent : List ℕ) (end : End) (carried b used : List ℕ)
+      (js verdicts : List Verdict) (behind : List ℕ)
+      → IsJobOver first origin pdu heard sent end carried b used js verdicts behind → IsNoConnect origin.job
+      → own (begins_with opening) link history ≡ earlier ++ mine
+      → entered first (b ++ used) (js ++ verdicts) ≡ entered first b js ++ map answered mine
+      → (AnyFull (js ++ verdicts) → ⊥) → clock_failures (js ++ verdicts) ≡ 0
+      → (right ≡ true → AreWithRight history (map (λ (e : Entry). e.number) mine))
+      → CanComeOff opening right pdu origin.job → end.code ≡ no_fault
