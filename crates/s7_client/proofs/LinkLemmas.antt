@@ -10,7 +10,7 @@ use Rattle.s7_dialogue.specs.declared.config.Config.{Config}
 use Rattle.s7_dialogue.specs.declared.grant.Grant.{Grant}
 use Rattle.s7_client.specs.declared.line.Line.{Line}
 use Rattle.s7_client.specs.declared.under_way.UnderWay.{UnderWay}
-use Rattle.s7_client.specs.declared.steps.Step.TheVariants as step
+use Rattle.s7_client.specs.declared.line.Step.TheVariants as step
 use Rattle.s7_dialogue.specs.Dialogue.{fault_end}
 use Rattle.s7_dialogue.specs.Running.{awaited_in, IsOver}
 use Rattle.s7_dialogue.specs.Course.{Origin, for_nothing, course, may_send}
@@ -66,6 +66,7 @@ moves_received l l' link link' received used inbox took same faults waits = reco
   waits = waits;
   moment = ap (λ x. x.moment) same;
   clock_faults = ap (λ x. x.clock_faults) same;
+  looks = ap (λ x. x.looks) same;
   lent = ap (λ x. x.lent) same;
   shut = ap (λ x. x.is_shut) same;
   space = ap (λ x. x.space) same ∙ space_none link.space;
@@ -88,6 +89,7 @@ moves_sent l l' link link' written inbox wrote space same faults waits = record 
   waits = waits;
   moment = ap (λ x. x.moment) same;
   clock_faults = ap (λ x. x.clock_faults) same;
+  looks = ap (λ x. x.looks) same;
   lent = ap (λ x. x.lent) same;
   shut = ap (λ x. x.is_shut) same;
   space = space;
@@ -131,6 +133,7 @@ moves_both l l1 l2 k k1 k2 m n = record {
   waits = omega (arith, m.waits, n.waits);
   moment = n.moment ∙ m.moment;
   clock_faults = n.clock_faults ∙ m.clock_faults;
+  looks = n.looks ∙ m.looks;
   lent = n.lent ∙ m.lent;
   shut = n.shut ∙ m.shut;
   space = n.space ∙ (ap (option_map (λ space. space - length n.written)) m.space

@@ -105,6 +105,7 @@ poll_done old new u u' line link link' leaves told is none config granted closed
         waits = r.moves.waits;
         moment = r.moves.moment;
         clock_faults = r.moves.clock_faults;
+        looks = r.moves.looks;
         lent = r.moves.lent;
         shut = r.moves.shut;
         space = r.moves.space;

@@ -17,7 +17,7 @@ use Rattle.s7_dialogue.specs.declared.running.Stage.{Stage}
 use Rattle.s7_dialogue.specs.declared.running.Stage.TheVariants as stage
 use Rattle.s7_client.specs.declared.line.Line.{Line}
 use Rattle.s7_client.specs.declared.under_way.UnderWay.{UnderWay}
-use Rattle.s7_client.specs.declared.steps.Step.{Step}
+use Rattle.s7_client.specs.declared.line.Step.{Step}
 use Rattle.s7_dialogue.specs.Flight.{Row}
 use Rattle.s7_dialogue.specs.Running.{awaited_in, unput_of, Follows, IsOver, IsOpening, IsAsking, IsLeaving, answers_left}
 use Rattle.s7_dialogue.specs.Course.{Origin, Course, course, limits}

@@ -217,6 +217,7 @@ runs_whole old mid new link link' asked told s k =
         waits = k.moves.waits;
         moment = k.moves.moment;
         clock_faults = k.moves.clock_faults;
+        looks = k.moves.looks;
         lent = k.moves.lent;
         shut = k.moves.shut;
         space = k.moves.space;

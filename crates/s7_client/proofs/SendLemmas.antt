@@ -15,7 +15,7 @@ use Rattle.s7_dialogue.specs.declared.running.Stage.{Stage}
 use Rattle.s7_dialogue.specs.declared.running.Stage.TheVariants as stage
 use Rattle.s7_client.specs.declared.line.Line.{Line}
 use Rattle.s7_client.specs.declared.under_way.UnderWay.{UnderWay}
-use Rattle.s7_client.specs.declared.steps.Step.TheVariants as step
+use Rattle.s7_client.specs.declared.line.Step.TheVariants as step
 use Rattle.s7_dialogue.specs.Codes.{send_failed}
 use Rattle.s7_dialogue.specs.Dialogue.{End, fault_end, departed_end}
 use Rattle.s7_dialogue.specs.Running.{awaited_in, awaited_by, unput_of, IsOver, IsLeaving}

@@ -1,13 +1,21 @@
-// A connection.
-ghost use Rattle.std.specs.Prelude.{◌≡◌, ◌<◌, ◌≤◌, [], None, IsSome};
+// A connection: how jobs are started, polled and carried out whole.
+ghost use Rattle.std.specs.Prelude.{◌≡◌, ◌<◌, ◌≤◌, [], true, false, None, Some, IsSome, IfOk, OnOk, IfErr, OnErr};
 ghost use Rattle.std.specs.Option.{ForSome};
 ghost use Rattle.s7_header.specs.Negotiation.{most_pdu};
+ghost use Rattle.s7_dialogue.specs.Course.{begins_anew, for_nothing};
+ghost use Rattle.s7_dialogue.specs.Dialogue.{End};
+ghost use Rattle.s7_dialogue.specs.Running.{awaited_in, Begins, IsOver, IsResult};
 ghost use Rattle.s7_dialogue.specs.Stages.{IsGrant};
+ghost use Rattle.s7_client.specs.At.{LeavesLink};
 ghost use Rattle.s7_client.specs.Standing.{Fits, IsBetween, unsent};
 
+use crate::job::{Polled, StartCause, StartFault};
 use crate::line::Line;
-use crate::under_way::UnderWay;
-use s7_dialogue::{Config, Grant};
+use crate::under_way::{UnderWay, closed_after, grant_after};
+use s7_dialogue::{Config, Grant, Job, JobResult, Leaves, Running};
+use s7_outer::{Buffer, Link, Memory};
+use s7_wire::{MESSAGE_LIMIT, Outbox};
+use std::alloc::Global;
 
 /// The client's side of one link, of which nobody is told: jobs are started one at a time, and polled over the link until
 /// they are done. It begins unconnected.
@@ -27,4 +35,247 @@ pub struct Connection {
     ghost most_pdu: { config.pdu ≤ most_pdu },
     ghost most_jobs: { config.jobs ≤ 8 },
     ghost least_polls: { 1 ≤ config.polls },
+}
+
+impl Connection {
+    ghost use Rattle.s7_client.specs.Polling.{IsFresh, IsStarted, IsPoll, IsNew, IsBlank};
+    ghost use Rattle.s7_client.specs.Polling.{job_of, config_of, waited_of, granted_pdu, closed_of};
+    ghost use Rattle.s7_client.specs.Runs.{between_of, JobRun, Completes};
+
+    /// A client that isn't connected and has no job. The PDU is from 64 to 1,920, the jobs from 1 to
+    /// 8, the polls at least 1. `Memory` comes where there is none for its buffers.
+    pub fn new(alloc: Global, config: Config) -> Result<Connection, Memory>
+        requires least_pdu { 64 ≤ config.pdu }
+        requires most_pdu { config.pdu ≤ most_pdu }
+        requires least_jobs { 1 ≤ config.jobs }
+        requires most_jobs { config.jobs ≤ 8 }
+        requires polls { 1 ≤ config.polls }
+        ensures { IfOk result (λ client. IsFresh client config) }
+    {
+        Ok(Connection {
+            config,
+            granted: None,
+            is_closed: false,
+            line: Line::new(alloc)?,
+            job: None,
+        })
+    }
+
+    /// The longest telegram that was granted, in octets; `None` exactly while the client isn't
+    /// connected.
+    pub fn granted(&self) -> Option<u16>
+        ensures { result ≡ granted_pdu self.now }
+    {
+        match self.granted {
+            Some(grant) => Some(grant.pdu),
+            None => None,
+        }
+    }
+
+    /// Whether a code closed the client, and no connect was started since.
+    pub fn closed(&self) -> bool
+        ensures { result ≡ closed_of self.now }
+    {
+        self.is_closed
+    }
+
+    /// Starts a job and polls until it is done: in at most as many polls as the configuration has,
+    /// where the link has nothing to give, or no room, each time. No job is outstanding before it.
+    /// `Memory` comes where there is none for the job, which is then handed back; the client and
+    /// the link are as before.
+    pub fn carry_out<L: Link>(
+        &mut self,
+        alloc: Global,
+        job: Job,
+        link: &mut L,
+    ) -> Result<JobResult, StartFault>
+        requires idle { job_of self.old ≡ None }
+        ensures run { IfOk result (λ told. JobRun (config_of self.old) (between_of self.old) job
+            (L.shows link.old) (L.shows link.new) told (between_of self.new)) }
+        ensures idle { job_of self.new ≡ None }
+        ensures config { config_of self.new ≡ config_of self.old }
+        ensures refused { OnErr result (L.shows link.new ≡ L.shows link.old) }
+        ensures unchanged { OnErr result (self.new ≡ self.old) }
+        ensures memory { IfErr result (λ fault. fault.cause ≡ StartCause.Memory) }
+        ensures handed_back { IfErr result (λ fault. fault.job ≡ job) }
+    {
+        match self.start(alloc, job) {
+            Ok(()) => Ok(self.complete(link)),
+            Err(fault) => Err(fault),
+        }
+    }
+
+    // Polls until the job is done.
+    fn complete<L: Link>(&mut self, link: &mut L) -> JobResult
+        requires { waited_of self.old ≡ Some 0 }
+        ensures { Completes self.old (L.shows link.old) self.new (L.shows link.new) result }
+    {
+        loop {
+            match self.poll(link) {
+                Polled::Done(result) => return result,
+                Polled::Pending => {}
+                Polled::Idle => unreachable!(),
+            }
+        }
+    }
+
+    /// Starts a job. All memory of the job is taken here. `Pending` comes exactly while another job
+    /// is outstanding, `Memory` where there is none for it; both hand the job back and change
+    /// nothing.
+    pub fn start(&mut self, alloc: Global, job: Job) -> Result<(), StartFault>
+        ensures started { OnOk result (IsStarted self.old self.new job) }
+        ensures idle { OnOk result (job_of self.old ≡ None) }
+        ensures pending { IsSome (job_of self.old) → IfErr result (λ fault. fault.cause ≡ StartCause.Pending) }
+        ensures only_pending { IfErr result (λ fault. fault.cause ≡ StartCause.Pending → IsSome (job_of self.old)) }
+        ensures handed_back { IfErr result (λ fault. fault.job ≡ job) }
+        ensures unchanged { OnErr result (self.new ≡ self.old) }
+    {
+        if self.job.is_some() {
+            return Err(StartFault {
+                cause: StartCause::Pending,
+                job,
+            });
+        }
+        let anew = begins_anew(self.granted, &job);
+        let running = match Running::begin(alloc, self.granted, job) {
+            Ok(running) => running,
+            Err(job) => return Err(wants_memory(job)),
+        };
+        let Ok(carried) = Buffer::new(alloc, MESSAGE_LIMIT) else {
+            return Err(wants_memory(running.job));
+        };
+        let job = UnderWay {
+            running,
+            carried,
+            waited: 0,
+        };
+        if anew {
+            let Ok(line) = Line::new(alloc) else {
+                return Err(wants_memory(job.running.job));
+            };
+            self.set_out_anew(line, job);
+            return Ok(());
+        }
+        if self.granted.is_some() {
+            self.set_out(job);
+            return Ok(());
+        }
+        self.turn_down(job);
+        Ok(())
+    }
+
+    // Sets out with a job on a client that is connected.
+    fn set_out(&mut self, mut job: UnderWay)
+        requires idle { self.old.job ≡ None }
+        requires connected { IsSome self.old.granted }
+        requires blank { IsBlank job }
+        requires begins { Begins job.running self.old.config self.old.granted }
+        ensures { IsStarted self.old self.new job.running.job }
+    {
+        self.line.talk.begin(&mut job.running, &self.config);
+        self.job = Some(job);
+    }
+
+    // Sets out with a connect on a link that begins anew.
+    fn set_out_anew(&mut self, line: Line, mut job: UnderWay)
+        requires idle { self.old.job ≡ None }
+        requires anew { begins_anew self.old.granted job.running.job ≡ true }
+        requires line { IsNew line }
+        requires blank { IsBlank job }
+        requires begins { Begins job.running self.old.config self.old.granted }
+        ensures { IsStarted self.old self.new job.running.job }
+    {
+        self.line = line;
+        self.is_closed = false;
+        self.line.talk.begin(&mut job.running, &self.config);
+        self.job = Some(job);
+    }
+
+    // Begins a job that is over at once, since the client isn't connected: nothing is put.
+    fn turn_down(&mut self, mut job: UnderWay)
+        requires idle { self.old.job ≡ None }
+        requires unconnected { self.old.granted ≡ None }
+        requires not_anew { begins_anew self.old.granted job.running.job ≡ false }
+        requires blank { IsBlank job }
+        requires begins { Begins job.running self.old.config self.old.granted }
+        ensures { IsStarted self.old self.new job.running.job }
+    {
+        self.line.talk.begin(&mut job.running, &self.config);
+        self.job = Some(job);
+    }
+
+    /// Goes on with the job over the link until it is done or the link has nothing to give, or no
+    /// room, yet.
+    ///
+    /// All that may go out is sent before the next octet is used, and octets are received only
+    /// where all was sent and used. `Done` carries what the octets used make of the job, or a cause
+    /// by its code. `Pending` comes only where the link's `waits` rose in this poll, `Idle` exactly
+    /// where no job is outstanding.
+    pub fn poll<L: Link>(&mut self, link: &mut L) -> Polled
+        ensures { IsPoll self.old (L.shows link.old) self.new (L.shows link.new) result }
+    {
+        if self.job.is_none() {
+            return Polled::Idle;
+        }
+        let Some(job) = &mut self.job else {
+            unreachable!()
+        };
+        if self.line.round(job, &self.config, self.granted, link) {
+            return Polled::Pending;
+        }
+        let leaves = job.running.leaves();
+        self.granted = grant_after(leaves, self.granted);
+        self.is_closed = closed_after(leaves, self.is_closed);
+        let_go(&mut self.line.talk.outbox, leaves);
+        match self.job.take() {
+            Some(job) => Polled::Done(done(job)),
+            None => unreachable!(),
+        }
+    }
+}
+
+// What came of a job that is over.
+fn done(job: UnderWay) -> JobResult
+    requires { IsOver job.running.stage }
+    ensures { (end : End) → awaited_in job.running [] ≡ for_nothing end []
+        → IsResult result job.running.job end job.carried.octets }
+{
+    let UnderWay {
+        running,
+        mut carried,
+        ..
+    } = job;
+    running.into_result(carried.take())
+}
+
+// Nothing is left to send on a link that doesn't go on.
+fn let_go(outbox: &mut Outbox, leaves: Leaves)
+    ensures kept { LeavesLink leaves → outbox.new ≡ outbox.old }
+    ensures cleared { (LeavesLink leaves → ⊥) → outbox.new.unsent ≡ [] }
+{
+    match leaves {
+        Leaves::AsItWas | Leaves::Connected(_) => {}
+        Leaves::Disconnected | Leaves::Closed => *outbox = Outbox::new(),
+    }
+}
+
+// A job that there is no memory for.
+fn wants_memory(job: Job) -> StartFault
+    ensures cause { result.cause ≡ StartCause.Memory }
+    ensures job { result.job ≡ job }
+{
+    StartFault {
+        cause: StartCause::Memory,
+        job,
+    }
+}
+
+// A connect on a client that isn't connected begins the link anew.
+fn begins_anew(granted: Option<Grant>, job: &Job) -> bool
+    ensures { result ≡ begins_anew granted job.now }
+{
+    match (granted, job) {
+        (None, Job::Connect) => true,
+        _ => false,
+    }
 }

@@ -9,10 +9,6 @@ mod job;
 mod laws;
 mod line;
 mod op;
-mod packets;
-mod polls;
-mod runs;
-mod steps;
 mod talk;
 mod under_way;
 

@@ -1,5 +1,9 @@
 // A job that was started and isn't done.
-use s7_dialogue::Running;
+ghost use Rattle.std.specs.Prelude.{◌≡◌, ◌<◌};
+ghost use Rattle.s7_client.specs.Polling.{Waits, grant_after, closed_after};
+
+use s7_dialogue::codes::TIMED_OUT;
+use s7_dialogue::{Grant, Leaves, Running};
 use s7_outer::Buffer;
 
 /// A job with what came of it, and how many of its polls met a link that had nothing to give, or no
@@ -10,4 +14,42 @@ pub(crate) struct UnderWay {
     /// The message that is no answer, if one came. It has room for 8,192 octets.
     pub(crate) carried: Buffer,
     pub(crate) waited: u32,
+}
+
+impl UnderWay {
+    /// The link had nothing to give, or no room, once more. Says whether the job goes on, and else
+    /// ends it.
+    pub(crate) fn wait(&mut self, polls: u32) -> bool
+        requires { self.old.waited < polls }
+        ensures { Waits self.old self.new polls result }
+    {
+        self.waited += 1;
+        if self.waited < polls {
+            return true;
+        }
+        self.running.fail(TIMED_OUT);
+        false
+    }
+}
+
+/// What is granted after the end of a job.
+pub(crate) fn grant_after(leaves: Leaves, granted: Option<Grant>) -> Option<Grant>
+    ensures { result ≡ grant_after leaves granted }
+{
+    match leaves {
+        Leaves::AsItWas => granted,
+        Leaves::Connected(grant) => Some(grant),
+        Leaves::Disconnected | Leaves::Closed => None,
+    }
+}
+
+/// Whether the client is closed after it.
+pub(crate) fn closed_after(leaves: Leaves, closed: bool) -> bool
+    ensures { result ≡ closed_after leaves closed }
+{
+    match leaves {
+        Leaves::AsItWas | Leaves::Disconnected => closed,
+        Leaves::Connected(_) => false,
+        Leaves::Closed => true,
+    }
 }

@@ -14,7 +14,7 @@ use Rattle.s7_partner.specs.declared.event.PartnerEvent.{PartnerEvent}
 use Rattle.s7_partner.specs.declared.event.PartnerEvent.TheVariants as told
 use Rattle.s7_partner.specs.Calls.{closed_by}
 use Rattle.s7_partner.specs.Held.{unread_of, closed_of}
-use Rattle.s7_script.specs.declared.send_list.SendLine.{SendLine}
+use Rattle.s7_script.specs.declared.sends.send_list.SendLine.{SendLine}
 use Rattle.s7_pair.specs.declared.event.News.{News}
 use Rattle.s7_pair.specs.declared.event.News.TheVariants as told_news
 use Rattle.s7_pair.specs.Events.{list_of, news_by, sent_in}

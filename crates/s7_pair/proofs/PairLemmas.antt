@@ -15,7 +15,7 @@ use Rattle.s7_partner.specs.States.{Act, Parcel, given_in, handed_in}
 use Rattle.s7_partner.specs.Held.{unread_of, closed_of}
 use Rattle.s7_partner.specs.Pairs.{IsConfig, ArePaired, Delivered, sent_in as ended_in}
 use Rattle.s7_partner.proofs.PairLaws.{delivers, sent_handed_out}
-use Rattle.s7_script.specs.declared.send_list.SendLine.{SendLine}
+use Rattle.s7_script.specs.declared.sends.send_list.SendLine.{SendLine}
 use Rattle.s7_pair.specs.declared.event.News.{News}
 use Rattle.s7_pair.specs.declared.event.PairEvent.{PairEvent}
 use Rattle.s7_pair.specs.Events.{events_of, list_of, is_same, told_by, received_in, sent_in}

@@ -19,7 +19,7 @@ use Rattle.s7_partner.specs.Pairs.{sends_ended, sent_in as ended_in}
 use Rattle.s7_partner.proofs.CountedLemmas.{pending, acts_count}
 use Rattle.s7_partner.specs.Held.{role_of, config_of, unread_of, closed_of, sending_of, StandsFor}
 use Rattle.s7_partner.specs.Calls.{IsNew, IsGiven, IsPolled, IsPoll, IsClosing, closed_by}
-use Rattle.s7_script.specs.declared.send_list.SendLine.{SendLine}
+use Rattle.s7_script.specs.declared.sends.send_list.SendLine.{SendLine}
 use Rattle.s7_pair.specs.declared.event.News.{News}
 use Rattle.s7_pair.specs.Events.{news_of, news_by, is_idle_by, list_of, received_by, received_in, sent_by, sent_in}
 use Rattle.s7_pair.specs.Talking.{Post, IsFresh, block_of, blocks_of, is_sending, is_closed, is_done, GivesNext, GivesNone}

@@ -9,7 +9,7 @@ use Rattle.s7_outer.specs.declared.memory.Memory.{Memory}
 use Rattle.s7_dialogue.specs.declared.config.Config.{Config}
 use Rattle.s7_partner.specs.declared.role.Role.{Role}
 use Rattle.s7_partner.specs.Held.{closed_of}
-use Rattle.s7_script.specs.declared.send_list.SendLine.{SendLine}
+use Rattle.s7_script.specs.declared.sends.send_list.SendLine.{SendLine}
 use Rattle.s7_pair.specs.declared.alone.TalkEnd.{TalkEnd}
 use Rattle.s7_pair.specs.declared.alone.TalkEnd.TheVariants as end
 use Rattle.s7_pair.specs.declared.event.News.{News}

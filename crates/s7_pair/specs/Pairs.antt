@@ -12,7 +12,7 @@ use Rattle.s7_dialogue.specs.declared.config.Config.{Config}
 use Rattle.s7_partner.specs.declared.role.Role.{Role}
 use Rattle.s7_partner.specs.declared.role.Role.TheVariants.{Active, Passive}
 use Rattle.s7_partner.specs.Pairs.{ArePaired, Delivered}
-use Rattle.s7_script.specs.declared.send_list.SendLine.{SendLine}
+use Rattle.s7_script.specs.declared.sends.send_list.SendLine.{SendLine}
 use Rattle.s7_pair.specs.declared.event.News.{News}
 use Rattle.s7_pair.specs.declared.event.PairEvent.{PairEvent}
 use Rattle.s7_pair.specs.declared.pair.Pair.{Pair}
@@ -97,7 +97,7 @@ Rounds (suc more) old new =
     ((is_over old ≡ true) × (new ≡ old))
     ⊎ ((is_over old ≡ false) × (middle : State) × Turns (Active ∷ Passive ∷ []) old middle × Rounds more middle new)
 
--- ---- whole runs
+-- ---- whole runs, of this profile's own lengths
 
 -- two partners that have done nothing, with the blocks of each before it, and pipes of 4,096 octets whose clock stands
 -- at 2024-01-01

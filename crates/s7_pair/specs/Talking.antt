@@ -10,7 +10,7 @@ use Rattle.s7_partner.specs.declared.partner.Partner.{Partner}
 use Rattle.s7_partner.specs.States.{Parcel}
 use Rattle.s7_partner.specs.Held.{closed_of, sending_of}
 use Rattle.s7_partner.specs.Calls.{IsNew, IsGiven, IsPoll}
-use Rattle.s7_script.specs.declared.send_list.SendLine.{SendLine}
+use Rattle.s7_script.specs.declared.sends.send_list.SendLine.{SendLine}
 use Rattle.s7_pair.specs.declared.event.News.{News}
 use Rattle.s7_pair.specs.declared.talker.Talker.{Talker}
 use Rattle.s7_pair.specs.Events.{news_by, is_idle_by, list_of}

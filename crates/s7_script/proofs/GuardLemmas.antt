@@ -14,9 +14,9 @@ use Rattle.s7_script.specs.Lines.{Text, lines}
 use Rattle.s7_script.specs.Fields.{fields_after, first_field, is_space, number_of, number_within}
 use Rattle.s7_script.specs.Reading.{State, ◌>>=◌, by_current, guard_line, guarded, is_graphic, is_word, next_line, nothing_read, password_of, read_lines, with_guard, with_line, with_word}
 use Rattle.s7_script.specs.Spelling.{guard_head, guard_text, word_of}
-use Rattle.s7_script.specs.declared.fault.AreasFault.{AreasFault}
-use Rattle.s7_script.specs.declared.fault.AreasKind.TheVariants as kind
-use Rattle.s7_script.specs.declared.version.Version.TheVariants.{Two}
+use Rattle.s7_script.specs.declared.areas.fault.AreasFault.{AreasFault}
+use Rattle.s7_script.specs.declared.areas.fault.AreasKind.TheVariants as kind
+use Rattle.s7_script.specs.declared.areas.version.Version.TheVariants.{Two}
 use Rattle.s7_script.proofs.LawLemmas.{AllPlain, Lacks, between, digits_plain, drop_front, lacks_by_test, line_then, number_of-decimal, plain-append, plain_by_test, position_at, position_none, spaceless, take_front}
 use Rattle.s7_script.proofs.ReadLemmas.{line_passes}
 

@@ -12,8 +12,8 @@ use Rattle.s7_area.specs.declared.register.RegisterFault.TheVariants as fault
 use Rattle.s7_area.specs.Laws.{AreasJoin}
 use Rattle.s7_script.specs.Lines.{Text}
 use Rattle.s7_script.specs.Reading.{Open, State, ◌>>=◌, FailsAs, filled, joined, kind_of, registered, run_octets, run_of, with_octets}
-use Rattle.s7_script.specs.declared.fault.AreasFault.{AreasFault}
-use Rattle.s7_script.specs.declared.fault.AreasKind.{AreasKind}
+use Rattle.s7_script.specs.declared.areas.fault.AreasFault.{AreasFault}
+use Rattle.s7_script.specs.declared.areas.fault.AreasKind.{AreasKind}
 use Rattle.s7_script.proofs.KeptLemmas.{sorted-insert}
 
 pub record Joins (new : Memory) (total : ℕ) : Type 0 where

@@ -16,7 +16,7 @@ use Rattle.s7_script.specs.Lines.{Text, lines, with_first}
 use Rattle.s7_script.specs.Fields.{fields_after, first_field, is_space, number_of, parts_around, parts_at}
 use Rattle.s7_script.specs.Reading.{State, area_line, area_named, block_line, is_guard_line, is_passed, named_line, with_line, with_size}
 use Rattle.s7_script.specs.Spelling.{head_text}
-use Rattle.s7_script.specs.declared.version.Version.TheVariants.{Two}
+use Rattle.s7_script.specs.declared.areas.version.Version.TheVariants.{Two}
 use Rattle.s7_script.proofs.LineLemmas.{isn't}
 
 -- ---- lines

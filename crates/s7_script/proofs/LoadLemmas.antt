@@ -8,9 +8,9 @@ use Rattle.s7_script.specs.Lines.{Text}
 use Rattle.s7_script.specs.Reading.{areas}
 use Rattle.s7_script.specs.Naming.{path}
 use Rattle.s7_script.specs.Loading.{Answers, Loads, file_gives, with_line_fault}
-use Rattle.s7_script.specs.declared.fault.AreasFault.{AreasFault}
-use Rattle.s7_script.specs.declared.load.LoadFault.{LoadFault}
-use Rattle.s7_script.specs.declared.load.LoadFault.TheVariants as fault
+use Rattle.s7_script.specs.declared.areas.fault.AreasFault.{AreasFault}
+use Rattle.s7_script.specs.declared.areas.load.LoadFault.{LoadFault}
+use Rattle.s7_script.specs.declared.areas.load.LoadFault.TheVariants as fault
 
 -- the octets of a file that was read, within the limit
 gives : (held : Option Text) (octets : Text) → held ≡ Some octets → length octets ≤ file_limit → file_gives held ≡ with_line_fault (areas octets)

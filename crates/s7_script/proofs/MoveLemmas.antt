@@ -15,10 +15,10 @@ use Rattle.s7_script.specs.Fields.{number_of}
 use Rattle.s7_script.specs.Moments.{moment_named}
 use Rattle.s7_script.specs.Script.{Written, parts, read_item, read_items, written_item, written_items, read_job, write_job, read_many_job, write_many_job, word_of, within, kind_named, list_of_job, block_named, info_job, upload_job, with_image, download_job, delete_job, db_get_job, octet_in, with_value, db_fill_job, two_octets_in, with_index, list_job, moment_job, set_clock_job, is_printable, password_job, plain_job, or_unknown, ended, job_named, job_of, at_line, line_jobs, script_lines, script, field_of, rest_of, ◌>>=◌}
 use Rattle.s7_script.specs.Laws.{KeepsLink}
-use Rattle.s7_script.specs.declared.script_list.ScriptLine.{ScriptLine}
-use Rattle.s7_script.specs.declared.script_fault.ScriptFault.{ScriptFault}
-use Rattle.s7_script.specs.declared.script_fault.ScriptKind.{ScriptKind}
-use Rattle.s7_script.specs.declared.script_fault.ScriptKind.TheVariants as kind
+use Rattle.s7_script.specs.declared.scripts.script_list.ScriptLine.{ScriptLine}
+use Rattle.s7_script.specs.declared.scripts.script_fault.ScriptFault.{ScriptFault}
+use Rattle.s7_script.specs.declared.scripts.script_fault.ScriptKind.{ScriptKind}
+use Rattle.s7_script.specs.declared.scripts.script_fault.ScriptKind.TheVariants as kind
 
 -- ---- the job of a line
 

@@ -2,9 +2,9 @@
 use Rattle.std.proofs.Common.{◌≡◌, ℕ, refl, ap, List, [], ◌∷◌, Result, Ok}
 use Rattle.s7_script.specs.Lines.{Text}
 use Rattle.s7_script.specs.Reading.{State, FailsAs, with_line, read_lines, closed, next_line, ◌>>=◌}
-use Rattle.s7_script.specs.declared.fault.AreasFault.{AreasFault}
-use Rattle.s7_script.specs.declared.fault.AreasKind.{AreasKind}
-use Rattle.s7_script.specs.declared.fault.AreasKind.TheVariants as kind
+use Rattle.s7_script.specs.declared.areas.fault.AreasFault.{AreasFault}
+use Rattle.s7_script.specs.declared.areas.fault.AreasKind.{AreasKind}
+use Rattle.s7_script.specs.declared.areas.fault.AreasKind.TheVariants as kind
 
 -- a step that fails makes the whole fail
 fails_on : {A B : Type 0} (e : AreasFault) (k : AreasKind) (r : Result A AreasFault) (f : A → Result B AreasFault) → FailsAs e k r → FailsAs e k (r >>= f)

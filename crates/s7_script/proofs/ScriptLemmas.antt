@@ -10,10 +10,10 @@ use Rattle.s7_script.specs.Lines.{Text}
 use Rattle.s7_script.specs.Reading.{next_line}
 use Rattle.s7_script.specs.Script.{FailsAs, LineFails, Written, element_size, line_jobs, read_item, read_items, script_lines, written_item, written_items, ◌>>=◌}
 use Rattle.s7_script.specs.ScriptShown.{appended, written_after}
-use Rattle.s7_script.specs.declared.script_list.ScriptLine.{ScriptLine}
-use Rattle.s7_script.specs.declared.script_fault.ScriptFault.{ScriptFault}
-use Rattle.s7_script.specs.declared.script_fault.ScriptKind.{ScriptKind}
-use Rattle.s7_script.specs.declared.script_fault.ScriptKind.TheVariants as kind
+use Rattle.s7_script.specs.declared.scripts.script_list.ScriptLine.{ScriptLine}
+use Rattle.s7_script.specs.declared.scripts.script_fault.ScriptFault.{ScriptFault}
+use Rattle.s7_script.specs.declared.scripts.script_fault.ScriptKind.{ScriptKind}
+use Rattle.s7_script.specs.declared.scripts.script_fault.ScriptKind.TheVariants as kind
 
 -- a step that fails makes the whole fail
 pub fails_on : {A B : Type 0} (e : ScriptKind) (r : Result A ScriptKind) (f : A → Result B ScriptKind) → FailsAs e r → FailsAs e (r >>= f)

@@ -15,9 +15,9 @@ use Rattle.s7_script.specs.Script.{LineFails, ◌>>=◌, field_of, rest_of, ende
 use Rattle.s7_script.specs.ScriptShown.{appended}
 use Rattle.s7_script.specs.Sends.{Send, IsSized, four_octets_in, with_body, with_digits, with_hex, block_sent, send_of}
 use Rattle.s7_script.specs.Sends.{at_line, line_sends, send_lines, sends}
-use Rattle.s7_script.specs.declared.script_fault.ScriptKind.{ScriptKind}
-use Rattle.s7_script.specs.declared.send_list.SendLine.{SendLine}
-use Rattle.s7_script.specs.declared.script_fault.ScriptFault.{ScriptFault}
+use Rattle.s7_script.specs.declared.scripts.script_fault.ScriptKind.{ScriptKind}
+use Rattle.s7_script.specs.declared.sends.send_list.SendLine.{SendLine}
+use Rattle.s7_script.specs.declared.scripts.script_fault.ScriptFault.{ScriptFault}
 use Rattle.s7_script.proofs.ScriptLemmas.{append-fail, append-step}
 
 pub sends-step : (found new : List SendLine) (line : ℕ) (text : Text) (rest : List Text) → appended found (line_sends line text) ≡ Ok new

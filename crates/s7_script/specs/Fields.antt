@@ -4,9 +4,9 @@ use Rattle.std.specs.List.{list_all, position}
 use Rattle.std.specs.Char.{is_ascii_digit}
 use Rattle.std.specs.Str.Parse.{digits_value}
 use Rattle.s7_script.specs.Lines.{Text}
-use Rattle.s7_script.specs.declared.fault.AreasFault.{AreasFault}
-use Rattle.s7_script.specs.declared.fault.AreasKind.{AreasKind}
-use Rattle.s7_script.specs.declared.fault.AreasKind.TheVariants as kind
+use Rattle.s7_script.specs.declared.areas.fault.AreasFault.{AreasFault}
+use Rattle.s7_script.specs.declared.areas.fault.AreasKind.{AreasKind}
+use Rattle.s7_script.specs.declared.areas.fault.AreasKind.TheVariants as kind
 
 abbrev pub fault_at : {A : Type 0} → ℕ → AreasKind → Result A AreasFault
 fault_at line kind = Err (record { line = line; kind = kind })

@@ -13,7 +13,7 @@ use Rattle.s7_script.specs.Reading.{areas}
 use Rattle.s7_script.specs.Spelling.{spelling}
 use Rattle.s7_script.specs.Printing.{IsPrintable}
 use Rattle.s7_script.specs.Script.{script}
-use Rattle.s7_script.specs.declared.script_list.ScriptLine.{ScriptLine}
+use Rattle.s7_script.specs.declared.scripts.script_list.ScriptLine.{ScriptLine}
 
 -- What is written for what a text names, of either version, is read as what the text names.
 pub record AreasMigrate : Type 0 where

@@ -8,9 +8,9 @@ use Rattle.s7_area.specs.Memory.{Memory, no_areas, with_area}
 use Rattle.s7_script.specs.Lines.{Text}
 use Rattle.s7_script.specs.Reading.{areas}
 use Rattle.s7_script.specs.Naming.{Named, path, block, faulty}
-use Rattle.s7_script.specs.declared.fault.AreasFault.{AreasFault}
-use Rattle.s7_script.specs.declared.load.LoadFault.{LoadFault}
-use Rattle.s7_script.specs.declared.load.LoadFault.TheVariants as fault
+use Rattle.s7_script.specs.declared.areas.fault.AreasFault.{AreasFault}
+use Rattle.s7_script.specs.declared.areas.load.LoadFault.{LoadFault}
+use Rattle.s7_script.specs.declared.areas.load.LoadFault.TheVariants as fault
 
 -- the data block of this number alone, without a guard
 abbrev pub opening : ℕ → List ℕ → Memory

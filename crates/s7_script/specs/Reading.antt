@@ -13,11 +13,11 @@ use Rattle.s7_area.specs.declared.register.RegisterFault.{RegisterFault}
 use Rattle.s7_area.specs.declared.register.RegisterFault.TheVariants as refusal
 use Rattle.s7_script.specs.Lines.{Text, lines}
 use Rattle.s7_script.specs.Fields.{fault_at, is_space, first_field, fields_after, parts_around, number_of, number_within}
-use Rattle.s7_script.specs.declared.version.Version.{Version}
-use Rattle.s7_script.specs.declared.version.Version.TheVariants.{One, Two}
-use Rattle.s7_script.specs.declared.fault.AreasFault.{AreasFault}
-use Rattle.s7_script.specs.declared.fault.AreasKind.{AreasKind}
-use Rattle.s7_script.specs.declared.fault.AreasKind.TheVariants as kind
+use Rattle.s7_script.specs.declared.areas.version.Version.{Version}
+use Rattle.s7_script.specs.declared.areas.version.Version.TheVariants.{One, Two}
+use Rattle.s7_script.specs.declared.areas.fault.AreasFault.{AreasFault}
+use Rattle.s7_script.specs.declared.areas.fault.AreasKind.{AreasKind}
+use Rattle.s7_script.specs.declared.areas.fault.AreasKind.TheVariants as kind
 
 infixl 10 ◌>>=◌
 abbrev pub ◌>>=◌ : {A B : Type 0} → Result A AreasFault → (A → Result B AreasFault) → Result B AreasFault

@@ -15,10 +15,10 @@ use Rattle.s7_script.specs.Lines.{Text, lines, with_first}
 use Rattle.s7_script.specs.Fields.{is_space, first_field, fields_after, number_of}
 use Rattle.s7_script.specs.Moments.{moment_named}
 use Rattle.s7_script.specs.Reading.{area_named, is_passed, next_line}
-use Rattle.s7_script.specs.declared.script_list.ScriptLine.{ScriptLine}
-use Rattle.s7_script.specs.declared.script_fault.ScriptFault.{ScriptFault}
-use Rattle.s7_script.specs.declared.script_fault.ScriptKind.{ScriptKind}
-use Rattle.s7_script.specs.declared.script_fault.ScriptKind.TheVariants as kind
+use Rattle.s7_script.specs.declared.scripts.script_list.ScriptLine.{ScriptLine}
+use Rattle.s7_script.specs.declared.scripts.script_fault.ScriptFault.{ScriptFault}
+use Rattle.s7_script.specs.declared.scripts.script_fault.ScriptKind.{ScriptKind}
+use Rattle.s7_script.specs.declared.scripts.script_fault.ScriptKind.TheVariants as kind
 
 infixl 10 ◌>>=◌
 abbrev pub ◌>>=◌ : {A B E : Type 0} → Result A E → (A → Result B E) → Result B E

@@ -6,11 +6,11 @@ use Rattle.hex.specs.declared.error.FromHexError.{FromHexError}
 use Rattle.s7_item.specs.declared.item.Item.{Item}
 use Rattle.s7_script.specs.Lines.{Text}
 use Rattle.s7_script.specs.Script.{Place, Written, parts, ◌>>=◌}
-use Rattle.s7_script.specs.declared.script_fault.ScriptKind.{ScriptKind}
-use Rattle.s7_script.specs.declared.script_fault.ScriptKind.TheVariants as kind
-use Rattle.s7_script.specs.declared.item_text.Placed.{Placed}
-use Rattle.s7_script.specs.declared.written.WrittenItem.{WrittenItem}
-use Rattle.s7_script.specs.declared.written.WrittenItems.{WrittenItems}
+use Rattle.s7_script.specs.declared.scripts.script_fault.ScriptKind.{ScriptKind}
+use Rattle.s7_script.specs.declared.scripts.script_fault.ScriptKind.TheVariants as kind
+use Rattle.s7_script.specs.declared.scripts.item_text.Placed.{Placed}
+use Rattle.s7_script.specs.declared.scripts.written.WrittenItem.{WrittenItem}
+use Rattle.s7_script.specs.declared.scripts.written.WrittenItems.{WrittenItems}
 
 abbrev pub place_of : Placed → Place
 place_of p = record { key = p.key; word = p.word; address = p.address; rest = option_map (λ t. t.now) p.rest }

@@ -7,10 +7,10 @@ use Rattle.hex.specs.declared.error.FromHexError.{FromHexError}
 use Rattle.s7_script.specs.Lines.{Text, lines}
 use Rattle.s7_script.specs.Reading.{is_passed, next_line}
 use Rattle.s7_script.specs.Script.{◌>>=◌, field_of, rest_of, ended}
-use Rattle.s7_script.specs.declared.send_list.SendLine.{SendLine}
-use Rattle.s7_script.specs.declared.script_fault.ScriptFault.{ScriptFault}
-use Rattle.s7_script.specs.declared.script_fault.ScriptKind.{ScriptKind}
-use Rattle.s7_script.specs.declared.script_fault.ScriptKind.TheVariants as kind
+use Rattle.s7_script.specs.declared.sends.send_list.SendLine.{SendLine}
+use Rattle.s7_script.specs.declared.scripts.script_fault.ScriptFault.{ScriptFault}
+use Rattle.s7_script.specs.declared.scripts.script_fault.ScriptKind.{ScriptKind}
+use Rattle.s7_script.specs.declared.scripts.script_fault.ScriptKind.TheVariants as kind
 
 -- what a line gives to send
 pub record Send : Type 0 where

@@ -1,6 +1,6 @@
 -- What the reader of sends files holds, as contracts see it.
 use Rattle.s7_script.specs.Sends.{Send}
-use Rattle.s7_script.specs.declared.send_line.NamedBlock.{NamedBlock}
+use Rattle.s7_script.specs.declared.sends.send_line.NamedBlock.{NamedBlock}
 
 abbrev pub block_of : NamedBlock → Send
 block_of b = record { rid = b.rid; body = b.body }

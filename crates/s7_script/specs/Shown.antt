@@ -1,8 +1,8 @@
 -- What the reader holds, as contracts see it.
 use Rattle.std.specs.Prelude.{option_map}
 use Rattle.s7_script.specs.Reading.{Open as OpenArea, State as Reading}
-use Rattle.s7_script.specs.declared.opening.Open.{Open}
-use Rattle.s7_script.specs.declared.opening.State.{State}
+use Rattle.s7_script.specs.declared.areas.opening.Open.{Open}
+use Rattle.s7_script.specs.declared.areas.opening.State.{State}
 
 abbrev pub open_of : Open → OpenArea
 open_of o = record { line = o.line; key = o.key; size = o.size; octets = o.octets.items }

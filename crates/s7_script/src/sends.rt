@@ -5,11 +5,14 @@ ghost use Rattle.s7_script.specs.ScriptShown.{appended};
 ghost use Rattle.s7_script.specs.Sends.{IsSized, line_sends, sends};
 
 use crate::lines::first_line;
-use crate::reading::add_line;
-use crate::send_line::{NamedBlock, send_of};
-use crate::send_list::{SendLine, Sends};
+use crate::scripts::reading::add_line;
+use crate::sends::send_line::{NamedBlock, send_of};
+use crate::sends::send_list::{SendLine, Sends};
 use crate::{ScriptFault, ScriptKind};
 use std::alloc::Global;
+
+pub(crate) mod send_line;
+pub(crate) mod send_list;
 
 /// The blocks that a sends file names, or its first wrong line.
 ///

@@ -13,7 +13,7 @@ use Rattle.s7_plant.specs.State.{begins_with, state_of}
 use Rattle.s7_serve.specs.Given.{HasFailed}
 use Rattle.s7_script.specs.Naming.{Named, path, block, faulty, naming}
 use Rattle.s7_script.specs.Loading.{IsTold, named_gives}
-use Rattle.s7_script.specs.declared.load.LoadFault.{LoadFault}
+use Rattle.s7_script.specs.declared.areas.load.LoadFault.{LoadFault}
 use Rattle.s7_words.specs.Server.{ServerTold, pipe, serve}
 use Rattle.s7_server.specs.declared.run.Ended.{Ended}
 use Rattle.s7_server.specs.declared.run.Ended.TheVariants as ended

@@ -11,8 +11,8 @@ use Rattle.s7_plant.specs.Books.{BookTold}
 use Rattle.s7_plant.specs.Journals.{at}
 use Rattle.s7_plant.specs.State.{state_of}
 use Rattle.s7_script.specs.Spelling.{spelling}
-use Rattle.s7_script.specs.declared.load.LoadFault.{LoadFault}
-use Rattle.s7_script.specs.declared.load.LoadFault.TheVariants as fault
+use Rattle.s7_script.specs.declared.areas.load.LoadFault.{LoadFault}
+use Rattle.s7_script.specs.declared.areas.load.LoadFault.TheVariants as fault
 use Rattle.s7_serve.specs.Served.{ServedTold}
 use Rattle.s7_session.specs.declared.outcome.Outcome.{Outcome}
 use Rattle.s7_session.specs.declared.outcome.Outcome.TheVariants as outcome

@@ -1,4 +1,4 @@
--- The exit statuses of the program.
+-- The exit statuses of the program, this profile's own.
 use Rattle.std.specs.Prelude.{ℕ}
 use Rattle.s7_server.specs.declared.run.Ended.{Ended}
 use Rattle.s7_server.specs.declared.run.Ended.TheVariants as ended

@@ -7,7 +7,7 @@ use Rattle.s7_dialogue.specs.declared.job.Job.{Job}
 use Rattle.s7_dialogue.specs.declared.job.Job.TheVariants as job
 use Rattle.s7_rig.specs.Scripts.{IsNoConnect, NoneConnects, ConnectsFirst}
 use Rattle.s7_script.specs.Laws.{KeepsLink, ScriptsKeepLinks}
-use Rattle.s7_script.specs.declared.script_list.ScriptLine.{ScriptLine}
+use Rattle.s7_script.specs.declared.scripts.script_list.ScriptLine.{ScriptLine}
 use Rattle.s7_tool.specs.Run.{job_in, jobs_of}
 use Rattle.s7_tool.specs.Scripts.{ReadsScripts}
 

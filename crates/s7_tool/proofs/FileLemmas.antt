@@ -7,8 +7,8 @@ use Rattle.s7_outer.specs.FilesShown.{FilesShown}
 use Rattle.s7_outer.specs.Files.{IsCutFrom}
 use Rattle.s7_script.specs.Loading.{LeavesFiles}
 use Rattle.s7_script.specs.Naming.{Named, path, block, faulty}
-use Rattle.s7_script.specs.declared.script_fault.ScriptFault.{ScriptFault}
-use Rattle.s7_script.specs.declared.script_list.ScriptLine.{ScriptLine}
+use Rattle.s7_script.specs.declared.scripts.script_fault.ScriptFault.{ScriptFault}
+use Rattle.s7_script.specs.declared.scripts.script_list.ScriptLine.{ScriptLine}
 use Rattle.s7_tool.specs.declared.load.LoadFault.{LoadFault}
 use Rattle.s7_tool.specs.declared.load.LoadFault.TheVariants as fault
 use Rattle.s7_tool.specs.Loading.{IsRefusedFor, IsUnloaded, KeepsPaths, PathFails, ReadsScript, ReadsText}

@@ -9,7 +9,7 @@ use Rattle.s7_outer.specs.OutShown.{OutShown}
 use Rattle.s7_outer.specs.Shown.{Shown}
 use Rattle.s7_partner.specs.declared.role.Role.TheVariants.{Active}
 use Rattle.s7_script.specs.Sends.{sends as sends_in}
-use Rattle.s7_script.specs.declared.send_list.SendLine.{SendLine}
+use Rattle.s7_script.specs.declared.sends.send_list.SendLine.{SendLine}
 use Rattle.s7_pair.specs.declared.alone.TalkEnd.{TalkEnd}
 use Rattle.s7_pair.specs.declared.alone.TalkEnd.TheVariants as end
 use Rattle.s7_pair.specs.Text.{events_text}

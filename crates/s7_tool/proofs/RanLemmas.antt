@@ -15,8 +15,8 @@ use Rattle.s7_script.specs.Laws.{EndsPrint}
 use Rattle.s7_script.specs.Naming.{naming}
 use Rattle.s7_script.specs.Printing.{IsPrintable}
 use Rattle.s7_script.specs.Script.{script}
-use Rattle.s7_script.specs.declared.script_fault.ScriptFault.{ScriptFault}
-use Rattle.s7_script.specs.declared.script_list.ScriptLine.{ScriptLine}
+use Rattle.s7_script.specs.declared.scripts.script_fault.ScriptFault.{ScriptFault}
+use Rattle.s7_script.specs.declared.scripts.script_list.ScriptLine.{ScriptLine}
 use Rattle.s7_words.specs.Tool.{RigTold}
 use Rattle.s7_tool.specs.declared.ended.Ended.{Ended}
 use Rattle.s7_tool.specs.declared.ended.Ended.TheVariants as ended

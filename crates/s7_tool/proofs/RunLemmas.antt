@@ -12,7 +12,7 @@ use Rattle.s7_client.specs.declared.connection.Connection.{Connection}
 use Rattle.s7_client.specs.Polling.{config_of}
 use Rattle.s7_client.specs.Runs.{Between, JobRun, between_of, fresh}
 use Rattle.s7_script.specs.Printing.{print}
-use Rattle.s7_script.specs.declared.script_list.ScriptLine.{ScriptLine}
+use Rattle.s7_script.specs.declared.scripts.script_list.ScriptLine.{ScriptLine}
 use Rattle.s7_tool.specs.declared.ended.Ended.{Ended}
 use Rattle.s7_tool.specs.Report.{Gains, report}
 use Rattle.s7_tool.specs.Run.{RunsJobs, Place, DoesJob, DoesLines, DoesFirst, EndsEarly, DoesAll, Goes}

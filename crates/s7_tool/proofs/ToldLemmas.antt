@@ -9,7 +9,7 @@ use Rattle.s7_dialogue.specs.declared.job.JobResult.{JobResult}
 use Rattle.s7_outer.specs.FilesShown.{FilesShown}
 use Rattle.s7_outer.specs.OutShown.{OutShown}
 use Rattle.s7_script.specs.Naming.{naming}
-use Rattle.s7_script.specs.declared.script_list.ScriptLine.{ScriptLine}
+use Rattle.s7_script.specs.declared.scripts.script_list.ScriptLine.{ScriptLine}
 use Rattle.s7_words.specs.Tool.{RigTold, ToolTold, gen, partner, rig, run}
 use Rattle.s7_client.specs.Completions.{Told, told_of_result, told_of_results}
 use Rattle.s7_rig.specs.Rigs.{ToldWanting}

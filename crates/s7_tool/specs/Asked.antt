@@ -9,7 +9,8 @@ use Rattle.s7_words.specs.Tool.{RigTold, RunTold, ToolTold, tool_words}
 abbrev pub command_of : List (Bor (List ℕ)) → Option ToolTold
 command_of words = tool_words (map (λ w. w.now) words)
 
--- how the client of `run` connects: the calling TSAP 0100, and the called one of kind, rack and slot
+-- how the client of `run` connects: the calling TSAP 0100, and the called one of kind, rack and slot (Snap7 1.4
+-- reference manual, `Cli_ConnectTo` and `Cli_SetConnectionType`)
 abbrev pub config_by : RunTold → Config
 config_by told = record {
   calling = 0x0100;
@@ -19,7 +20,8 @@ config_by told = record {
   polls = told.polls;
 }
 
--- how the clients of a rig connect: as programming devices to rack 0 and slot 2, with 1,000,000 polls each
+-- how the clients of a rig connect: as programming devices to rack 0 and slot 2, with 1,000,000 polls each, this
+-- profile's own
 abbrev pub rig_config : ℕ → ℕ → Config
 rig_config pdu jobs = record { calling = 0x0100; called = 0x0102; pdu = pdu; jobs = jobs; polls = 1000000 }
 

@@ -1,4 +1,4 @@
--- What the command `gen` draws from a seed: numbers, and from these the lines of scripts.
+-- What the command `gen` draws from a seed, by this profile's own rules: numbers, and from these the lines of scripts.
 use Rattle.std.specs.Prelude.{ℕ, zero, suc, ◌+◌, ◌*◌, ◌%◌, ◌==◌, if◌then◌else◌, List, [], ◌∷◌, ◌++◌}
 use Rattle.std.specs.Prelude.{map, take, drop, replicate, slice_index}
 use Rattle.s7_draw.specs.Drawing.{drawn_from, first_x}

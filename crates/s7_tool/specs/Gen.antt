@@ -1,4 +1,4 @@
--- What the command `gen` does.
+-- What the command `gen` does, by this profile's own rules.
 use Rattle.std.specs.Prelude.{ℕ, ◌+◌, ◌%◌, List, [], ◌∷◌, map, replicate, Option, None, IsNone, IsSomeAnd}
 use Rattle.std.specs.List.{range_with_len}
 use Rattle.s7_outer.specs.OutShown.{OutShown}

@@ -7,9 +7,9 @@ use Rattle.s7_outer.specs.FilesShown.{FilesShown}
 use Rattle.s7_outer.specs.Files.{file_limit, IsCutFrom, NonePathFell}
 use Rattle.s7_script.specs.Script.{script}
 use Rattle.s7_script.specs.Sends.{sends}
-use Rattle.s7_script.specs.declared.script_fault.ScriptFault.{ScriptFault}
-use Rattle.s7_script.specs.declared.send_list.SendLine.{SendLine}
-use Rattle.s7_script.specs.declared.script_list.ScriptLine.{ScriptLine}
+use Rattle.s7_script.specs.declared.scripts.script_fault.ScriptFault.{ScriptFault}
+use Rattle.s7_script.specs.declared.sends.send_list.SendLine.{SendLine}
+use Rattle.s7_script.specs.declared.scripts.script_list.ScriptLine.{ScriptLine}
 use Rattle.s7_tool.specs.declared.load.LoadFault.{LoadFault}
 use Rattle.s7_tool.specs.declared.load.LoadFault.TheVariants as fault
 use Rattle.s7_tool.specs.Report.{file_line, script_line, too_long_line}

@@ -1,4 +1,4 @@
--- What the command `partner` does.
+-- What the command `partner` does, by this profile's own rules.
 use Rattle.std.specs.Prelude.{◌≡◌, ◌⊎◌, ℕ, Bool, true, List, [], length, Option, Some, None, IsNone, IsSomeAnd, MatchOption}
 use Rattle.s7_outer.specs.Count.{Rose}
 use Rattle.s7_outer.specs.DialShown.{DialShown}
@@ -7,7 +7,7 @@ use Rattle.s7_outer.specs.OutShown.{OutShown}
 use Rattle.s7_outer.specs.Shown.{Shown}
 use Rattle.s7_dialogue.specs.declared.config.Config.{Config}
 use Rattle.s7_partner.specs.declared.role.Role.TheVariants.{Active}
-use Rattle.s7_script.specs.declared.send_list.SendLine.{SendLine}
+use Rattle.s7_script.specs.declared.sends.send_list.SendLine.{SendLine}
 use Rattle.s7_pair.specs.declared.alone.TalkEnd.{TalkEnd}
 use Rattle.s7_pair.specs.declared.alone.TalkEnd.TheVariants as end
 use Rattle.s7_pair.specs.declared.event.News.{News}

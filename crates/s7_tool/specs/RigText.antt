@@ -6,7 +6,7 @@ use Rattle.std.specs.List.{list_all, zip}
 use Rattle.s7_dialogue.specs.declared.job.JobResult.{JobResult}
 use Rattle.s7_rig.specs.Shown.{ClientTold, EndTold}
 use Rattle.s7_script.specs.Printing.{IsPrintable, print}
-use Rattle.s7_script.specs.declared.script_list.ScriptLine.{ScriptLine}
+use Rattle.s7_script.specs.declared.scripts.script_list.ScriptLine.{ScriptLine}
 use Rattle.s7_tool.specs.Report.{line_end}
 use Rattle.s7_tool.specs.Run.{connect_line, is_good}
 

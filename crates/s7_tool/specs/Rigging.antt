@@ -10,9 +10,9 @@ use Rattle.s7_rig.specs.Shown.{EndTold, end_told}
 use Rattle.s7_rig.specs.Rigs.{RigRan, ToldWanting}
 use Rattle.s7_script.specs.Naming.{Named, naming, path, block, faulty}
 use Rattle.s7_script.specs.Loading.{IsTold, named_gives}
-use Rattle.s7_script.specs.declared.load.LoadFault.{LoadFault}
-use Rattle.s7_script.specs.declared.load.LoadFault.TheVariants as fault
-use Rattle.s7_script.specs.declared.script_list.ScriptLine.{ScriptLine}
+use Rattle.s7_script.specs.declared.areas.load.LoadFault.{LoadFault}
+use Rattle.s7_script.specs.declared.areas.load.LoadFault.TheVariants as fault
+use Rattle.s7_script.specs.declared.scripts.script_list.ScriptLine.{ScriptLine}
 use Rattle.s7_words.specs.Tool.{RigTold}
 use Rattle.s7_tool.specs.declared.ended.Ended.{Ended}
 use Rattle.s7_tool.specs.declared.ended.Ended.TheVariants as ended

@@ -13,7 +13,7 @@ use Rattle.s7_dialogue.specs.Codes.{no_fault}
 use Rattle.s7_client.specs.Completions.{connection_of}
 use Rattle.s7_client.specs.Runs.{Between, JobRun, between_of, fresh}
 use Rattle.s7_script.specs.Printing.{print}
-use Rattle.s7_script.specs.declared.script_list.ScriptLine.{ScriptLine}
+use Rattle.s7_script.specs.declared.scripts.script_list.ScriptLine.{ScriptLine}
 use Rattle.s7_tool.specs.declared.ended.Ended.{Ended}
 use Rattle.s7_tool.specs.declared.ended.Ended.TheVariants as ended
 use Rattle.s7_tool.specs.declared.jobs.ScriptRun.{ScriptRun}

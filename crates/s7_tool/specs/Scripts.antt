@@ -2,7 +2,7 @@
 use Rattle.std.specs.Prelude.{◌≡◌, ℕ, List, [], ◌∷◌, ◌++◌}
 use Rattle.s7_outer.specs.FilesShown.{FilesShown}
 use Rattle.s7_script.specs.Script.{script}
-use Rattle.s7_script.specs.declared.script_list.ScriptLine.{ScriptLine}
+use Rattle.s7_script.specs.declared.scripts.script_list.ScriptLine.{ScriptLine}
 use Rattle.s7_tool.specs.declared.load.LoadFault.{LoadFault}
 use Rattle.s7_tool.specs.Loading.{IsUnloaded, ReadsScript}
 

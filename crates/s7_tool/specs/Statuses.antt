@@ -1,4 +1,4 @@
--- The exit statuses of the program.
+-- The exit statuses of the program, this profile's own.
 use Rattle.std.specs.Prelude.{ℕ}
 use Rattle.s7_tool.specs.declared.ended.Ended.{Ended}
 use Rattle.s7_tool.specs.declared.ended.Ended.TheVariants as ended

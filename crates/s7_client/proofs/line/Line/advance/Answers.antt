@@ -1,4 +1,4 @@
-use Rattle.s7_client.specs.declared.steps.Step.TheVariants as step
+use Rattle.s7_client.specs.declared.line.Step.TheVariants as step
 use Rattle.s7_client.proofs.LinkLemmas.{not_yet_not_went, over_not_went}
 use Rattle.s7_client.proofs.RoundLemmas.{walks_none, walks_on, ends_walk}
 use Rattle.s7_client.proofs.line.Line.advance.Goals as goal

@@ -1,0 +1,133 @@
+// The areas that a word of the command line names.
+ghost use Rattle.std.specs.Prelude.{◌≡◌, ◌≢◌, ◌≤◌, length, option_map, Err, IfSome, Ok};
+ghost use Rattle.hex.specs.Hex.{decode_of};
+ghost use Rattle.s7_script.specs.Fields.{number_of};
+ghost use Rattle.s7_script.specs.Reading.{areas as areas_by};
+ghost use Rattle.s7_script.specs.Naming.{naming, path, inline_parts, block_number, block_octets, block_named};
+ghost use Rattle.s7_script.specs.Naming.{block_with};
+ghost use Rattle.s7_script.specs.Loading.{Loads, LoadsBlock, Answers, opening, with_line_fault};
+
+use crate::areas::read::read_areas;
+use crate::lines::{number, split_mark};
+use crate::{AreasFault, AreasKind};
+use hex::FromHexError;
+use s7_area::{AreaKey, Areas, RegisterFault};
+use s7_item::codes::DATA_BLOCKS;
+use s7_outer::{FileFault, Files, Octets};
+use std::alloc::Global;
+
+/// How many octets a data block has at most.
+const MOST_OCTETS: usize = 2_097_152;
+
+/// Why areas were not loaded.
+#[derive(Clone, Copy, Debug, PartialEq, Eq)]
+pub enum LoadFault {
+    /// The file is not there, or could not be read.
+    Failed,
+    /// The file has more than 67,108,864 octets.
+    TooLong,
+    /// The first faulty line of the file, from 1 on, or line 1 for an inline word that can't be
+    /// read.
+    Line(u32),
+    /// There is no memory.
+    Memory,
+}
+
+/// The areas that a word names. No path changes.
+///
+/// A word that begins with `DB` and holds `=` is inline: `DBn=HEX`, where `n` is a decimal number
+/// of at most ten digits from 1 to 65,535, and `HEX` an even number of hexadecimal digits in either
+/// case for 1 to 2,097,152 octets. It names the data block `n` alone, with these octets and without a
+/// guard; where it can't be read, the answer is `Line(1)`. It touches no file.
+///
+/// Every other word is a path, and the file under it is read as `read_areas` has it, with its guard
+/// where it has one. `Failed` comes
+/// only where this path's count of faults rose in this call, `TooLong` exactly where more than
+/// 67,108,864 octets were read, and `Line` exactly where a line is faulty. `Memory` comes where
+/// there is none.
+pub fn load_areas<F: Files>(alloc: Global, files: &mut F, word: &str) -> Result<Areas, LoadFault>
+    ensures { Loads (naming word.now) (F.shows files.old) (F.shows files.new) result }
+{
+    match inline_parts(word.as_bytes()) {
+        Some((number, digits)) => load_block(alloc, number, digits),
+        None => load_file(alloc, files, word),
+    }
+}
+
+/// The number and the digits of an inline word.
+fn inline_parts(word: &[u8]) -> Option<(&[u8], &[u8])>
+    ensures { option_map (λ p. (p.0.now, p.1.now)) result ≡ inline_parts word.now }
+{
+    match word.strip_prefix(b"DB") {
+        Some(rest) => split_mark(rest, b'='),
+        None => None,
+    }
+}
+
+/// The data block of this number, with the octets of these digits.
+fn load_block(alloc: Global, number_text: &[u8], digits: &[u8]) -> Result<Areas, LoadFault>
+    ensures { LoadsBlock (block_named (block_number (number_of number_text.now)) digits.now) result }
+{
+    let Some(number) = block_number(number(number_text)) else {
+        return Err(LoadFault::Line(1));
+    };
+    match hex::decode(alloc, digits) {
+        Ok(octets) => open_block(alloc, number, octets),
+        Err(FromHexError::OutOfMemory) => Err(LoadFault::Memory),
+        Err(_) => Err(LoadFault::Line(1)),
+    }
+}
+
+fn block_number(number: Option<u64>) -> Option<u16>
+    ensures number { result ≡ block_number number }
+    ensures least { IfSome result (λ n. 1 ≤ n) }
+{
+    match number {
+        Some(number) if 1 <= number && number <= 65_535 => Some(number as u16),
+        _ => None,
+    }
+}
+
+fn open_block(alloc: Global, number: u16, octets: Vec<u8>) -> Result<Areas, LoadFault>
+    requires { 1 ≤ number }
+    ensures { LoadsBlock (block_with number (block_octets (Ok octets.items))) result }
+{
+    if octets.is_empty() || octets.len() > MOST_OCTETS {
+        return Err(LoadFault::Line(1));
+    }
+    let key = AreaKey {
+        area: DATA_BLOCKS,
+        number,
+    };
+    let mut areas = Areas::new();
+    match areas.register(alloc, key, Octets::of_vec(octets)) {
+        Ok(()) => Ok(areas),
+        Err((RegisterFault::Memory, _)) => Err(LoadFault::Memory),
+        Err(_) => unreachable!(),
+    }
+}
+
+/// The areas of the file under a path.
+fn load_file<F: Files>(alloc: Global, files: &mut F, file: &str) -> Result<Areas, LoadFault>
+    ensures { Loads (path file.now) (F.shows files.old) (F.shows files.new) result }
+{
+    let mut octets = Vec::new(alloc);
+    match files.read(alloc, file, &mut octets) {
+        Ok(()) => areas_of(alloc, octets.as_slice()),
+        Err(FileFault::Failed) => Err(LoadFault::Failed),
+        Err(FileFault::TooLong) => Err(LoadFault::TooLong),
+        Err(FileFault::Memory) => Err(LoadFault::Memory),
+    }
+}
+
+/// The areas of an area file, or the number of its first faulty line.
+fn areas_of(alloc: Global, text: &[u8]) -> Result<Areas, LoadFault>
+    ensures told { Answers (with_line_fault (areas_by text.now)) result }
+    ensures read { result ≢ Err LoadFault.Failed }
+{
+    match read_areas(alloc, text) {
+        Ok(areas) => Ok(areas),
+        Err(fault) if fault.kind == AreasKind::Memory => Err(LoadFault::Memory),
+        Err(fault) => Err(LoadFault::Line(fault.line)),
+    }
+}
