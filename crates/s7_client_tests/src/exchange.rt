@@ -186,10 +186,10 @@ fn goes_on(alloc: Global, text: &str, jobs: &str, most: &str) -> Result<(), Fail
 }
 
 fn begun<'a>(alloc: Global, text: &'a str, jobs: &str, most: usize) -> Result<Exchange<'a>, Fail> {
-    let client = client_of(alloc, text, jobs)?;
+    let waits = waits_of(alloc, text)?;
+    let pipes = pipes_of(alloc, text)?;
     let link = link_of(alloc, text, "", most)?;
-    let pipes = Pipes::new(alloc, room_of(text)?, 7)?;
-    let fates = fates_of(alloc, setting(text, "fates", ""))?;
+    let client = client_of(alloc, text, jobs)?;
     Ok(Exchange {
         alloc,
         text,
@@ -197,11 +197,22 @@ fn begun<'a>(alloc: Global, text: &'a str, jobs: &str, most: usize) -> Result<Ex
         client,
         link,
         pipes,
-        waits: fates.iter().filter(|fate| **fate == Fate::NotYet).count(),
+        waits,
         waited: 0,
         finished: 0,
         last: None,
     })
+}
+
+/// How many calls of a link wait.
+fn waits_of(alloc: Global, text: &str) -> Result<usize, Fail> {
+    let fates = fates_of(alloc, setting(text, "fates", ""))?;
+    Ok(fates.iter().filter(|fate| **fate == Fate::NotYet).count())
+}
+
+fn pipes_of(alloc: Global, text: &str) -> Result<Pipes, Fail> {
+    let room = room_of(text)?;
+    Ok(Pipes::new(alloc, room, 7)?)
 }
 
 fn client_of(alloc: Global, text: &str, jobs: &str) -> Result<Client<Counter>, Fail> {
@@ -222,12 +233,16 @@ fn link_of(
     gives: &str,
     most: usize,
 ) -> Result<FailingLink<MemoryLink>, Fail> {
-    let room = room_of(text)?;
-    let fates = setting(text, "fates", "");
-    let fates = fates_of(alloc, fates)?;
-    let input = Octets::of_vec(octets_of(alloc, gives)?);
-    let inner = MemoryLink::new(alloc, input, most.max(1), room, 7)?;
+    let inner = inner_of(alloc, text, gives, most)?;
+    let fates = fates_of(alloc, setting(text, "fates", ""))?;
     Ok(FailingLink::new(inner, fates))
+}
+
+/// The link as it is where nothing fails.
+fn inner_of(alloc: Global, text: &str, gives: &str, most: usize) -> Result<MemoryLink, Fail> {
+    let room = room_of(text)?;
+    let input = Octets::of_vec(octets_of(alloc, gives)?);
+    Ok(MemoryLink::new(alloc, input, most.max(1), room, 7)?)
 }
 
 fn room_of(text: &str) -> Result<usize, Fail> {
@@ -295,6 +310,12 @@ impl Exchange<'_> {
             "sent" => are(self.alloc, rest, self.link.inner().written()),
             "begun" => self.has_begun(rest),
             "count" => self.has_written(rest),
+            _ => self.stands(word, rest, line),
+        }
+    }
+
+    fn stands(&mut self, word: &str, rest: &str, line: &str) -> Result<bool, Fail> {
+        match word {
             "waited" => Ok(self.waited == number(rest)?),
             "granted" => self.is_granted(rest),
             "closed" => Ok(self.client.closed()),
@@ -343,10 +364,11 @@ impl Exchange<'_> {
     /// A job ends as its line says.
     fn ends(&mut self, line: &str) -> Result<bool, Fail> {
         let (ask, end) = parted(line, ':');
+        let number = number_of(ask)?;
         let job = job_of(self.alloc, ask)?;
         match self.done(job) {
             Some(told) => {
-                self.finish(number_of(ask)?, &told);
+                self.finish(number, &told);
                 is_told(self.alloc, &told, end)
             }
             None => Ok(false),

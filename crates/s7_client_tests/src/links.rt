@@ -70,6 +70,7 @@ open";
 
 /// A connect waits so.
 const CONNECT_WAITS: &str = "\
+jobs 1 2 8
 most 20
 fates pass*$1 wait
 gives CONFIRM GRANTED
@@ -253,32 +254,47 @@ const FLIGHT_CALLS: &str = "\
 11 | 000a0000 | 202
 12 | 000a0000 | 202";
 
+/// The form over the exchange holds with each of its calls.
+fn form_holds(alloc: Global, exchange: &str, form: &str, calls: &str) -> Result<bool, Fail> {
+    let form = with_values(alloc, exchange, form)?;
+    each_holds(alloc, exchange, form.as_str(), calls)
+}
+
+/// The exchange makes no more calls than it names.
+fn is_done(alloc: Global, exchange: &str) -> Result<bool, Fail> {
+    let text = with_values(alloc, exchange, IS_DONE)?;
+    holds(alloc, exchange, text.as_str())
+}
+
 /// An exchange over links that fail or wait at each of its calls, which are these.
 fn goes(alloc: Global, exchange: &str, calls: &str) -> Result<bool, Fail> {
-    let fails = with_values(alloc, exchange, FAILS)?;
-    let tires = with_values(alloc, exchange, TIRES)?;
-    let waits = with_values(alloc, exchange, WAITS)?;
-    let is_done = with_values(alloc, exchange, IS_DONE)?;
-    Ok(
-        each_holds(alloc, exchange, fails.as_str(), calls)?
-            && each_holds(alloc, exchange, tires.as_str(), calls)?
-            && each_holds(alloc, exchange, waits.as_str(), calls)?
-            && holds(alloc, exchange, is_done.as_str())?,
-    )
+    let mut all = is_done(alloc, exchange)?;
+    for form in [FAILS, TIRES, WAITS] {
+        all = form_holds(alloc, exchange, form, calls)? && all;
+    }
+    Ok(all)
 }
 
 #[test]
-fn links_fail_and_wait_at_each_call(rt: HostRuntime) -> Result<(), Fail> {
+fn connects_wait_at_each_call(rt: HostRuntime) -> Result<(), Fail> {
     assert!(rt; each_holds(rt.alloc(), "", CONNECT_WAITS, CONNECT_CALLS)?);
-    for (job, calls) in [
-        (READ, READ_CALLS),
-        (DISCONNECT, DISCONNECT_CALLS),
-        (UPLOAD, UPLOAD_CALLS),
-        (DOWNLOAD, DOWNLOAD_CALLS),
-        (LIST, LIST_CALLS),
-        (FLIGHT, FLIGHT_CALLS),
-    ] {
-        assert!(rt; goes(rt.alloc(), job, calls)?);
+    Ok(())
+}
+
+/// The exchanges, and the calls of each.
+const EXCHANGES: [(&str, &str); 6] = [
+    (READ, READ_CALLS),
+    (DISCONNECT, DISCONNECT_CALLS),
+    (UPLOAD, UPLOAD_CALLS),
+    (DOWNLOAD, DOWNLOAD_CALLS),
+    (LIST, LIST_CALLS),
+    (FLIGHT, FLIGHT_CALLS),
+];
+
+#[test]
+fn links_fail_and_wait_at_each_call(rt: HostRuntime) -> Result<(), Fail> {
+    for (exchange, calls) in EXCHANGES {
+        assert!(rt; goes(rt.alloc(), exchange, calls)?);
     }
     Ok(())
 }

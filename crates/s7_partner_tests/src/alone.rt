@@ -35,6 +35,7 @@ const CLOSING: &str = "
     anew 480, a gives 1 aabbcc, reads confirm granted confirm, a polls 9, a closed 00030000
     anew 480, b gives 1 aabbcc, reads request asked begun rejects, b polls 9, b closed 00030000
     anew 480, b gives 1 aabbcc, reads request asked begun confirm, b polls 9, b closed 00030000
+    anew 480, b gives 1 aabbcc, reads request asked begun request, b polls 9, b closed 00030000
     # A disconnect request.
     anew 480, a gives 1 aabbcc, reads confirm leaves, a polls 9, a closed 00020000
     anew 480, b gives 1 aabbcc, reads request asked leaves, b polls 9, b closed 00020000

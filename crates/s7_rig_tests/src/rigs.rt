@@ -1,4 +1,5 @@
-ghost use Rattle.std.specs.Prelude.{◌≡◌, ◌<◌, ◌≤◌, All, length, IfOk, ◌∷◌, []};
+ghost use Rattle.std.specs.Prelude.{◌≡◌, ◌<◌, ◌≤◌, ◌*◌, All, length, map, IfOk, ◌∷◌, []};
+ghost use Rattle.std.specs.List.{AllByRecursion};
 ghost use Rattle.s7_header.specs.Negotiation.{most_pdu};
 ghost use Rattle.s7_dialogue.specs.declared.job.Job.TheVariants.{Connect, Szl, ClockRead, Stop, Status, Disconnect};
 ghost use Rattle.s7_rig.specs.Scripts.{ConnectsFirst};
@@ -73,12 +74,37 @@ fn around(alloc: Global, job: Job) -> Result<Vec<Job>, Fail>
     Ok(jobs)
 }
 
-// A client that reads 300 bytes, and one that writes AA to them, with a PDU of 240 octets.
-fn a_reader_and_a_writer(
+// The end of a rig whose counter was told of the jobs of the first client.
+fn told_rig(
     alloc: Global,
+    areas: Areas,
+    limit: u64,
+    scripts: Vec<Vec<Job>>,
+    config: Config,
     schedule: Schedule<'_>,
-    done: &mut Option<Counter>,
 ) -> Result<RigEnd, Fail>
+    requires some { 1 ≤ limit }
+    requires few { limit ≤ 262144 }
+    requires least_pdu { 64 ≤ config.pdu }
+    requires most_pdu { config.pdu ≤ most_pdu }
+    requires least_jobs { 1 ≤ config.jobs }
+    requires most_jobs { config.jobs ≤ 8 }
+    requires polls { 1 ≤ config.polls }
+    requires clients { 0 < length scripts.items }
+    requires connects { AllByRecursion ConnectsFirst (map (λ s. s.items) scripts.items) }
+    requires few_clients { length scripts.items ≤ 1024 }
+    requires actors { All (λ actor. actor < 2 * length scripts.items) schedule.turns.now }
+{
+    let mut done = Some(Counter::new());
+    match run_rig(alloc, areas, limit, scripts, config, schedule, &mut done) {
+        Ok(end) if is_told(&end, done) => Ok(end),
+        Ok(_) => Err(Fail::from("not told")),
+        Err(_) => Err(Fail::from("no rig")),
+    }
+}
+
+// A client that reads 300 bytes, and one that writes AA to them, with a PDU of 240 octets.
+fn a_reader_and_a_writer(alloc: Global, schedule: Schedule<'_>) -> Result<RigEnd, Fail>
     requires { All (λ actor. actor < 4) schedule.turns.now }
 {
     let read = Job::ReadArea { item: bytes(300) };
@@ -94,18 +120,7 @@ fn a_reader_and_a_writer(
         polls: 1_000_000,
         ..Config::new(1, 0, 2)
     };
-    match run_rig(
-        alloc,
-        zeros(alloc, 300)?,
-        65_536,
-        scripts,
-        config,
-        schedule,
-        done,
-    ) {
-        Ok(end) => Ok(end),
-        Err(_) => Err(Fail::from("no rig")),
-    }
+    told_rig(alloc, zeros(alloc, 300)?, 65_536, scripts, config, schedule)
 }
 
 // The counter was told of the jobs of the first client, of which a disconnect was the last, and of no other.
@@ -158,11 +173,8 @@ fn is_written(end: &RigEnd, number: usize, count: u16, address: u32) -> bool {
     }
 }
 
-// A read of two parts is told what stood at the places of each: the first part before a write, the
-// second after it.
-#[test]
-fn a_read_stands_at_its_places(rt: HostRuntime) -> Result<(), Fail> {
-    let alloc = rt.alloc();
+// The reader's first part comes before the writer's two, and its second one behind them.
+fn a_read_around_a_write(alloc: Global) -> Result<RigEnd, Fail> {
     let turns = [
         0, 2, 2, 0, 2, 2, 0, 0, 2, 2, 1, 3, 3, 1, 3, 3, 1, 1, 3, 3, 1, 3, 3, 1, 0, 2, 2, 0,
     ];
@@ -171,32 +183,49 @@ fn a_read_stands_at_its_places(rt: HostRuntime) -> Result<(), Fail> {
         seed: 0,
         steps: 0,
     };
-    let mut done = Some(Counter::new());
-    let end = a_reader_and_a_writer(alloc, schedule, &mut done)?;
-    assert!(rt; is_told(&end, done));
-    assert!(rt; end.book.journal.len() == 4);
-    assert!(rt; reads_between(&end, 222, &[0, 3]));
-    assert!(rt; is_placed(&end, &[1, 2]));
-    assert!(rt; is_written(&end, 1, 205, 0));
-    assert!(rt; is_written(&end, 2, 95, 1_640));
+    a_reader_and_a_writer(alloc, schedule)
+}
+
+// The read was told what stood there before the write in its first 222 octets, and what it left in the others.
+fn stands_at_its_places(end: &RigEnd) -> bool {
+    end.book.journal.len() == 4
+        && reads_between(end, 222, &[0, 3])
+        && is_placed(end, &[1, 2])
+        && is_written(end, 1, 205, 0)
+        && is_written(end, 2, 95, 1_640)
+}
+
+// A read of two parts is told what stood at the places of each: the first part before a write, the
+// second after it.
+#[test]
+fn a_read_stands_at_its_places(rt: HostRuntime) -> Result<(), Fail> {
+    let end = a_read_around_a_write(rt.alloc())?;
+    assert!(rt; stands_at_its_places(&end));
     Ok(())
 }
 
-// Rounds alone finish both clients.
-#[test]
-fn rounds_finish(rt: HostRuntime) -> Result<(), Fail> {
-    let alloc = rt.alloc();
+// The reader and the writer, by rounds alone.
+fn rounds_of_both(alloc: Global) -> Result<RigEnd, Fail> {
     let schedule = Schedule {
         turns: &[],
         seed: 7,
         steps: 0,
     };
-    let mut done = Some(Counter::new());
-    let end = a_reader_and_a_writer(alloc, schedule, &mut done)?;
-    assert!(rt; is_told(&end, done));
-    assert!(rt; end.book.journal.len() == 4);
-    assert!(rt; end.clients.len() == 2);
-    assert!(rt; end.clients.iter().all(|client| client.results.len() == 3));
+    a_reader_and_a_writer(alloc, schedule)
+}
+
+// Both clients are finished.
+fn are_finished(end: &RigEnd) -> bool {
+    end.book.journal.len() == 4
+        && end.clients.len() == 2
+        && end.clients.iter().all(|client| client.results.len() == 3)
+}
+
+// Rounds alone finish both clients.
+#[test]
+fn rounds_finish(rt: HostRuntime) -> Result<(), Fail> {
+    let end = rounds_of_both(rt.alloc())?;
+    assert!(rt; are_finished(&end));
     Ok(())
 }
 
@@ -273,20 +302,7 @@ fn a_client_alone(alloc: Global, jobs: Vec<Job>, pdu: u16, count: usize) -> Resu
         seed: 0,
         steps: 0,
     };
-    let mut done = Some(Counter::new());
-    match run_rig(
-        alloc,
-        zeros(alloc, count)?,
-        16,
-        scripts,
-        config,
-        schedule,
-        &mut done,
-    ) {
-        Ok(end) if is_told(&end, done) => Ok(end),
-        Ok(_) => Err(Fail::from("not told")),
-        Err(_) => Err(Fail::from("no rig")),
-    }
+    told_rig(alloc, zeros(alloc, count)?, 16, scripts, config, schedule)
 }
 
 // The first client's job at this place came off, and brought these octets.
@@ -311,46 +327,95 @@ fn ends_with(end: &RigEnd, at: usize, code: u32) -> bool {
     told.code == code
 }
 
+// The first client's jobs came off, and brought these octets each.
+fn all_bring(end: &RigEnd, expected: &[&[u8]]) -> bool {
+    for (at, octets) in expected.iter().enumerate() {
+        if !brings(end, at, octets) {
+            return false;
+        }
+    }
+    true
+}
+
+// The jobs that ask of the controller came off, with five entries.
+fn brings_user_data(end: &RigEnd) -> bool {
+    let expected: [&[u8]; 7] = [b"", RUNS, b"", STOPPED, COMPONENTS, NEW_YEAR, b""];
+    all_bring(end, &expected) && end.book.journal.len() == 5
+}
+
+// The client that asks of the controller, with a PDU of 128 octets.
+fn asks_status(alloc: Global) -> Result<RigEnd, Fail> {
+    let jobs = around_status(alloc)?;
+    a_client_alone(alloc, jobs, 128, 4)
+}
+
 // Lists, a stop and the clock come off, a list of 212 octets in three slices, for which one entry is made: a PDU of 128
 // octets has room for 102 octets of user data.
 #[test]
 fn user_data_comes_whole(rt: HostRuntime) -> Result<(), Fail> {
-    let alloc = rt.alloc();
-    let end = a_client_alone(alloc, around_status(alloc)?, 128, 4)?;
-    let expected: [&[u8]; 7] = [b"", RUNS, b"", STOPPED, COMPONENTS, NEW_YEAR, b""];
-    for (at, octets) in expected.iter().enumerate() {
-        assert!(rt; brings(&end, at, octets), "at {at}");
-    }
-    assert!(rt; end.book.journal.len() == 5);
+    let end = asks_status(rt.alloc())?;
+    assert!(rt; brings_user_data(&end));
     Ok(())
 }
 
-// With the greatest PDU a telegram and an answer of two fragments come whole: a write of 1,885 bytes and a read of 1,902
-// are one part each.
+// The client that writes and reads long, with the greatest PDU.
+fn writes_long(alloc: Global) -> Result<RigEnd, Fail> {
+    let jobs = around_long(alloc, 1_885, 1_902)?;
+    a_client_alone(alloc, jobs, 1_920, 1_902)
+}
+
+// AA in the octets that were written, and 00 in the others.
+fn long_octets(alloc: Global) -> Result<Vec<u8>, Fail> {
+    let mut octets = vec![in alloc; 0xAA; 1_885]?;
+    octets.extend_from_slice(&[0; 17])?;
+    Ok(octets)
+}
+
+// The long write and the long read came off, with two entries.
+fn brings_long(alloc: Global, end: &RigEnd) -> Result<bool, Fail> {
+    let expected = long_octets(alloc)?;
+    Ok(brings(end, 1, b"") && brings(end, 2, expected.as_slice()) && end.book.journal.len() == 2)
+}
+
+// With the greatest PDU a telegram and an answer of two fragments come whole: a write of 1,885 bytes and a read of
+// 1,902 are one part each.
 #[test]
 fn two_fragments_come_whole(rt: HostRuntime) -> Result<(), Fail> {
-    let alloc = rt.alloc();
-    let end = a_client_alone(alloc, around_long(alloc, 1_885, 1_902)?, 1_920, 1_902)?;
-    let mut expected = vec![in alloc; 0xAA; 1_885]?;
-    expected.extend_from_slice(&[0; 17])?;
-    assert!(rt; brings(&end, 1, b""));
-    assert!(rt; brings(&end, 2, &expected));
-    assert!(rt; end.book.journal.len() == 2);
+    let end = writes_long(rt.alloc())?;
+    assert!(rt; brings_long(rt.alloc(), &end)?);
     Ok(())
+}
+
+// The client that asks for blocks, with a PDU of 64 octets.
+fn asks_for_blocks(alloc: Global) -> Result<RigEnd, Fail> {
+    let jobs = around_blocks(alloc)?;
+    a_client_alone(alloc, jobs, 64, 100)
+}
+
+// The image of data block 1, which has 100 octets 00.
+fn an_image(alloc: Global) -> Result<Vec<u8>, Fail> {
+    let mut octets = Vec::new(alloc);
+    octets.extend_from_slice(HEAD)?;
+    octets.extend_from_slice(&[0; 100])?;
+    Ok(octets)
+}
+
+// The image came, and what isn't there didn't, with three entries.
+fn brings_image(alloc: Global, end: &RigEnd) -> Result<bool, Fail> {
+    let expected = an_image(alloc)?;
+    Ok(
+        brings(end, 1, expected.as_slice())
+            && ends_with(end, 2, NOT_AVAILABLE)
+            && ends_with(end, 3, NOT_AVAILABLE)
+            && end.book.journal.len() == 3,
+    )
 }
 
 // An image of 136 octets comes whole in three slices, for which one entry is made: a PDU of 64 octets has room for 46
 // of them. A block that there isn't is neither uploaded nor deleted.
 #[test]
 fn an_image_comes_whole(rt: HostRuntime) -> Result<(), Fail> {
-    let alloc = rt.alloc();
-    let end = a_client_alone(alloc, around_blocks(alloc)?, 64, 100)?;
-    let mut expected = Vec::new(alloc);
-    expected.extend_from_slice(HEAD)?;
-    expected.extend_from_slice(&[0; 100])?;
-    assert!(rt; brings(&end, 1, &expected));
-    assert!(rt; ends_with(&end, 2, NOT_AVAILABLE));
-    assert!(rt; ends_with(&end, 3, NOT_AVAILABLE));
-    assert!(rt; end.book.journal.len() == 3);
+    let end = asks_for_blocks(rt.alloc())?;
+    assert!(rt; brings_image(rt.alloc(), &end)?);
     Ok(())
 }

@@ -1,10 +1,13 @@
 // Many links that come and go.
 use crate::calls::{ask, open};
-use crate::ports::{has_all, opened, served};
-use s7_outer::{Dial, Dialled, Link, RealLink, TcpDial, TcpDoor};
+use crate::ports::{OpenedDoor, Ported, a_door, has_all, served};
+use s7_outer::{Dial, Dialled, Link, RealLink, TcpDial};
+use s7_serve::Served;
 use std::alloc::Global;
+use std::sync::Wait;
 use std::test::Fail;
-use std::thread::{join, map_vec};
+use std::thread::{Threads, join, map_vec};
+use std::time::Clock;
 
 const READ: &[u8] = b"\x03\x00\x00\x1F\x02\xF0\x80\x32\x01\x00\x00\x00\x05\x00\x0E\x00\x00\x04\x01\
     \x12\x0A\x10\x02\x00\x04\x00\x01\x84\x00\x00\x00";
@@ -77,38 +80,86 @@ fn sum_of(callers: &[Answers]) -> Answers {
 /// Per row: the room of the journal, and how many reads are answered with the data and how many refused.
 const ROOMS: [(u16, u32, u32); 2] = [(400, 400, 0), (150, 150, 250)];
 
+// The dials of the callers.
+type Dials = Vec<TcpDial<HostRuntime>>;
+
+// A door, and the callers' dials.
+fn a_door_and_dials(rt: &HostRuntime, alloc: Global) -> Result<(OpenedDoor, Dials), Fail> {
+    let mut dials = Vec::new(alloc);
+    for _ in 0..CALLERS {
+        dials.push(TcpDial::new(rt.clone()?))?;
+    }
+    Ok((a_door(rt)?, dials))
+}
+
+// What the callers are answered together.
+fn called<R: Threads + Sync>(rt: &R, alloc: Global, dials: Dials, port: u16) -> Option<Answers> {
+    let call = |dial: TcpDial<HostRuntime>| calls::<RealLink<HostRuntime>, _>(alloc, dial, port);
+    let callers = map_vec(rt, dials, &call).ok()?;
+    Some(sum_of(callers.as_slice()))
+}
+
+// What serving the callers leaves, and what they are answered.
+fn served_and_called<R: Threads + Wait + Clock + Sync>(
+    rt: &R,
+    alloc: Global,
+    door: OpenedDoor,
+    dials: Dials,
+    room: u16,
+) -> (Option<Ported>, Option<Answers>) {
+    let port = door.port;
+    join(
+        rt,
+        || served(rt, alloc, door, 200, room),
+        || called(rt, alloc, dials, port),
+    )
+}
+
+// The links have the numbers from 1 on.
+fn are_numbered<L>(links: &[Served<L>]) -> bool {
+    for (served, link) in links.iter().zip(1..) {
+        if served.link != link {
+            return false;
+        }
+    }
+    true
+}
+
+// All links were served, and made so many entries.
+fn is_whole(hosted: &Ported, entries: u32) -> bool {
+    hosted.links.len() == 200
+        && !hosted.door_failed
+        && are_numbered(hosted.links.as_slice())
+        && hosted.keeper.journal.len() == u64::from(entries)
+        && has_all(hosted)
+}
+
+// Links come and go, with room for so many entries, and are answered so.
+fn come_and_are_answered<R: Threads + Wait + Clock + Sync>(
+    rt: &R,
+    alloc: Global,
+    door: OpenedDoor,
+    dials: Dials,
+    room: u16,
+    wanted: Answers,
+) -> bool {
+    let (hosted, answers) = served_and_called(rt, alloc, door, dials, room);
+    let Some(hosted) = hosted else {
+        return false;
+    };
+    answers == Some(wanted) && is_whole(&hosted, wanted.read)
+}
+
 #[test]
 fn links_come_and_go(rt: HostRuntime) -> Result<(), Fail> {
-    let alloc = rt.alloc();
     for (room, read, refused) in ROOMS {
-        let door = opened(TcpDoor::new(rt.clone()?)).ok_or("no port")?;
-        let port = door.port;
-        let mut dials = Vec::new(alloc);
-        for _ in 0..CALLERS {
-            dials.push(TcpDial::new(rt.clone()?))?;
-        }
-        let (hosted, callers) = join(
-            &rt,
-            || served(&rt, alloc, door, 200, room),
-            || map_vec(
-                &rt,
-                dials,
-                &|dial| calls::<RealLink<HostRuntime>, _>(alloc, dial, port),
-            ),
-        );
-        let hosted = hosted.ok_or("not served")?;
         let wanted = Answers {
             read,
             refused,
             wrong: 0,
         };
-        assert_eq!(rt; sum_of(callers?.as_slice()), wanted);
-        assert_eq!(rt; (hosted.links.len(), hosted.door_failed), (200, false));
-        for (served, link) in hosted.links.iter().zip(1..) {
-            assert_eq!(rt; served.link, link);
-        }
-        assert_eq!(rt; hosted.keeper.journal.len(), u64::from(read));
-        assert!(rt; has_all(&hosted));
+        let (door, dials) = a_door_and_dials(&rt, rt.alloc())?;
+        assert!(rt; come_and_are_answered(&rt, rt.alloc(), door, dials, room, wanted));
     }
     Ok(())
 }

@@ -1,11 +1,13 @@
 // A link that has ended, while others go on.
 use crate::calls::{is_answered, open, send};
-use crate::ports::{opened, served};
-use s7_outer::{Dial, Dialled, Got, Link, RealLink, TcpDial, TcpDoor};
+use crate::ports::{OpenedDoor, Ported, a_door, served};
+use s7_outer::{Dial, Dialled, Got, Link, RealLink, TcpDial};
 use s7_session::Outcome;
 use std::alloc::Global;
+use std::sync::Wait;
 use std::test::Fail;
-use std::thread::join;
+use std::thread::{Threads, join};
+use std::time::Clock;
 
 const READ: &[u8] = b"\x03\x00\x00\x1F\x02\xF0\x80\x32\x01\x00\x00\x00\x05\x00\x0E\x00\x00\x04\x01\
     \x12\x0A\x10\x02\x00\x04\x00\x01\x84\x00\x00\x00";
@@ -40,6 +42,15 @@ fn is_told<L: Link>(link: &mut L) -> Option<()> {
     None
 }
 
+// A link that is negotiated.
+fn a_link<L: Link + Drop, D: Dial<L>>(alloc: Global, dial: &mut D, port: u16) -> Option<L> {
+    let Dialled::Link(mut link) = dial.call("127.0.0.1", port) else {
+        return None;
+    };
+    open(alloc, &mut link)?;
+    Some(link)
+}
+
 // Two links, of which one ends by what it sent and is told so, while the other one is still served.
 fn ends_alone<L: Link + Drop, D: Dial<L> + Drop>(
     alloc: Global,
@@ -47,37 +58,66 @@ fn ends_alone<L: Link + Drop, D: Dial<L> + Drop>(
     port: u16,
     last: &[u8],
 ) -> Option<()> {
-    let Dialled::Link(mut first) = dial.call("127.0.0.1", port) else {
-        return None;
-    };
-    open(alloc, &mut first)?;
-    let Dialled::Link(mut second) = dial.call("127.0.0.1", port) else {
-        return None;
-    };
-    open(alloc, &mut second)?;
+    let mut first = a_link(alloc, &mut dial, port)?;
+    let mut second = a_link(alloc, &mut dial, port)?;
     send(&mut first, last)?;
     is_told(&mut first)?;
     is_answered(alloc, &mut second, READ, READ_ANSWER)
 }
 
+// What serving the two links leaves, and whether they were told so.
+fn served_and_told<R: Threads + Wait + Clock + Sync>(
+    rt: &R,
+    alloc: Global,
+    door: OpenedDoor,
+    dial: TcpDial<HostRuntime>,
+    last: &[u8],
+) -> (Option<Ported>, Option<()>) {
+    let port = door.port;
+    join(
+        rt,
+        || served(rt, alloc, door, 2, 4),
+        || ends_alone::<RealLink<HostRuntime>, _>(alloc, dial, port, last),
+    )
+}
+
+// The first link ended so, the second one as links do, and one entry was made.
+fn have_ended(hosted: &Ported, first: Outcome) -> bool {
+    for (served, wanted) in hosted.links.iter().zip([first, Outcome::Ended]) {
+        if served.outcome != wanted {
+            return false;
+        }
+    }
+    hosted.keeper.journal.len() == 1
+}
+
+// A link that sends this at last ends so, and is told.
+fn ends_so<R: Threads + Wait + Clock + Sync>(
+    rt: &R,
+    alloc: Global,
+    door: OpenedDoor,
+    dial: TcpDial<HostRuntime>,
+    last: &[u8],
+    outcome: Outcome,
+) -> bool {
+    let (hosted, told) = served_and_told(rt, alloc, door, dial, last);
+    let Some(hosted) = hosted else {
+        return false;
+    };
+    told.is_some() && have_ended(&hosted, outcome)
+}
+
+// A door, and a dial.
+fn a_door_and_dial(rt: &HostRuntime) -> Result<(OpenedDoor, TcpDial<HostRuntime>), Fail> {
+    let dial = TcpDial::new(rt.clone()?);
+    Ok((a_door(rt)?, dial))
+}
+
 #[test]
 fn a_link_that_ended_is_told(rt: HostRuntime) -> Result<(), Fail> {
-    let alloc = rt.alloc();
     for (last, outcome) in ENDS {
-        let door = opened(TcpDoor::new(rt.clone()?)).ok_or("no port")?;
-        let port = door.port;
-        let dial = TcpDial::new(rt.clone()?);
-        let (hosted, told) = join(
-            &rt,
-            || served(&rt, alloc, door, 2, 4),
-            || ends_alone::<RealLink<HostRuntime>, _>(alloc, dial, port, last),
-        );
-        let hosted = hosted.ok_or("not served")?;
-        assert!(rt; told.is_some());
-        for (served, wanted) in hosted.links.iter().zip([outcome, Outcome::Ended]) {
-            assert!(rt; served.outcome == wanted);
-        }
-        assert_eq!(rt; hosted.keeper.journal.len(), 1);
+        let (door, dial) = a_door_and_dial(&rt)?;
+        assert!(rt; ends_so(&rt, rt.alloc(), door, dial, last, outcome));
     }
     Ok(())
 }

@@ -1,11 +1,18 @@
 // Links and doors in memory.
+ghost use Rattle.std.specs.Prelude.{◌≡◌, ◌≤◌, [], ◌∷◌, Some, map, IfOk};
+ghost use Rattle.s7_plant.specs.Books.{seen_of};
+ghost use Rattle.s7_plant.specs.Journals.{entries_of};
+ghost use Rattle.s7_plant.specs.Observers.{fresh};
+ghost use Rattle.s7_turn.specs.Histories.{calls};
+ghost use Rattle.s7_turn.specs.Seats.{IsOf, caller, callers, next, seen};
+
 use s7_area::{AreaKey, Areas};
 use s7_block::Blocks;
-use s7_outer::{HoldGate, Memory, MemoryDoor, MemoryLink, Octets, OpenGate};
-use s7_plant::{Book, MOST_BLOCKS, Tail};
-use s7_serve::{Keeper, NotHosted, Served, serve_door, serve_link};
+use s7_outer::{Gate, HoldGate, Memory, MemoryDoor, MemoryLink, Octets, OpenGate};
+use s7_plant::{Book, MOST_BLOCKS, Observer, Tail};
+use s7_serve::{Hosted, Keeper, NotHosted, Served, serve_door, serve_link};
 use s7_session::Outcome;
-use s7_turn::Hall;
+use s7_turn::{Hall, Seat};
 use std::alloc::Global;
 use std::sync::Wait;
 use std::test::Fail;
@@ -25,20 +32,26 @@ const GRANTED: &[u8] =
     b"\x03\x00\x00\x1B\x02\xF0\x80\x32\x03\x00\x00\x00\x04\x00\x08\x00\x00\x00\x00\xF0\x00\x00\x01\x00\x01\x01\xE0";
 
 const READ: &[u8] =
-    b"\x03\x00\x00\x1F\x02\xF0\x80\x32\x01\x00\x00\x00\x05\x00\x0E\x00\x00\x04\x01\x12\x0A\x10\x02\x00\x04\x00\x01\x84\x00\x00\x00";
+    b"\x03\x00\x00\x1F\x02\xF0\x80\x32\x01\x00\x00\x00\x05\x00\x0E\x00\x00\x04\x01\x12\x0A\x10\x02\
+    \x00\x04\x00\x01\x84\x00\x00\x00";
 
 const READ_ANSWER: &[u8] =
-    b"\x03\x00\x00\x1D\x02\xF0\x80\x32\x03\x00\x00\x00\x05\x00\x02\x00\x08\x00\x00\x04\x01\xFF\x04\x00\x20\x11\x22\x33\x44";
+    b"\x03\x00\x00\x1D\x02\xF0\x80\x32\x03\x00\x00\x00\x05\x00\x02\x00\x08\x00\x00\x04\x01\xFF\x04\
+    \x00\x20\x11\x22\x33\x44";
 
 /// The write of three items, whose second lies outside of its data block.
 const WRITE: &[u8] =
-    b"\x03\x00\x00\x48\x02\xF0\x80\x32\x01\x00\x00\x00\x0A\x00\x26\x00\x11\x05\x03\x12\x0A\x10\x02\x00\x01\x00\x01\x84\x00\x00\x00\x12\x0A\x10\x02\x00\x01\x00\x01\x84\x00\x00\x20\x12\x0A\x10\x02\x00\x01\x00\x01\x84\x00\x00\x18\x00\x04\x00\x08\xAA\x00\x00\x04\x00\x08\xBB\x00\x00\x04\x00\x08\xCC";
+    b"\x03\x00\x00\x48\x02\xF0\x80\x32\x01\x00\x00\x00\x0A\x00\x26\x00\x11\x05\x03\x12\x0A\x10\x02\
+    \x00\x01\x00\x01\x84\x00\x00\x00\x12\x0A\x10\x02\x00\x01\x00\x01\x84\x00\x00\x20\x12\x0A\x10\x02\
+    \x00\x01\x00\x01\x84\x00\x00\x18\x00\x04\x00\x08\xAA\x00\x00\x04\x00\x08\xBB\x00\x00\x04\x00\x08\
+    \xCC";
 
 const WRITE_ANSWER: &[u8] =
     b"\x03\x00\x00\x18\x02\xF0\x80\x32\x03\x00\x00\x00\x0A\x00\x02\x00\x03\x00\x00\x05\x03\xFF\x05\xFF";
 
 const READ_AFTER_WRITE: &[u8] =
-    b"\x03\x00\x00\x1D\x02\xF0\x80\x32\x03\x00\x00\x00\x05\x00\x02\x00\x08\x00\x00\x04\x01\xFF\x04\x00\x20\xAA\x22\x33\xCC";
+    b"\x03\x00\x00\x1D\x02\xF0\x80\x32\x03\x00\x00\x00\x05\x00\x02\x00\x08\x00\x00\x04\x01\xFF\x04\
+    \x00\x20\xAA\x22\x33\xCC";
 
 /// The refusal of a read for which there is no room.
 const NO_ROOM: &[u8] =
@@ -89,38 +102,138 @@ fn is_answered(
     )
 }
 
-#[test]
-fn links_are_answered_by_what_others_left(rt: HostRuntime) -> Result<(), Fail> {
-    let alloc = rt.alloc();
-    let book: Book<Tail> = Book::new(
-        alloc,
-        some_areas(alloc)?,
-        Blocks::new(alloc, MOST_BLOCKS)?,
-        2,
-        Vec::new(alloc),
-    )?;
-    let Ok((hall, mut first)) = Hall::new(alloc, book) else {
-        return Err(Fail::from("memory"));
-    };
+/// A book of data block 1, whose journal takes so many entries.
+fn a_book(alloc: Global, limit: u64) -> Result<Book<Tail>, Memory>
+    requires some { 1 ≤ limit }
+    requires few { limit ≤ 262144 }
+    ensures journal { IfOk result (λ book. book.journal ≡ entries_of [] limit) }
+    ensures untold { IfOk result (λ book.
+        seen_of ⟦<Tail as Observer>⟧.seen book ≡ map fresh (seen_of ⟦<Tail as Observer>⟧.seen book)) }
+{
+    let areas = some_areas(alloc)?;
+    let blocks = Blocks::new(alloc, MOST_BLOCKS)?;
+    Book::new(alloc, areas, blocks, limit, Vec::new(alloc))
+}
+
+/// A hall with a book that takes two entries, and its first seat.
+fn a_hall(alloc: Global) -> Result<(Hall<Book<Tail>>, Seat<Book<Tail>>), Memory>
+    ensures hall { IfOk result (λ r. IsOf r.0 r.1) }
+    ensures number { IfOk result (λ r. next r.1 ≡ Some 1) }
+{
+    let book = a_book(alloc, 2)?;
+    match Hall::new(alloc, book) {
+        Ok(opened) => Ok(opened),
+        Err((memory, _)) => Err(memory),
+    }
+}
+
+/// A link that gives these telegrams is served in the name of a new seat: it has this number, is answered so, and makes
+/// one entry, of the other number.
+fn is_served<R: Wait + Clock>(
+    rt: &R,
+    alloc: Global,
+    hall: &Hall<Book<Tail>>,
+    seat: Seat<Book<Tail>>,
+    telegrams: &[&[u8]],
+    answers: &[&[u8]],
+    numbers: (u32, u64),
+) -> Result<(Seat<Book<Tail>>, bool), Memory>
+    requires hall { IsOf hall.now seat }
+    requires alone { callers seat ≡ caller seat ∷ [] }
+    requires new { calls (caller seat) (seen seat) ≡ [] }
+    ensures { IfOk result (λ r. IsOf hall.entry.now r.0) }
+{
+    let line = a_link(alloc, telegrams)?;
+    let (seat, served) = serve_link(rt, alloc, hall, seat, &OpenGate, None, line);
+    let (link, entry) = numbers;
+    let is_so = served.link == link && served.last == Some(entry);
+    let is_so = is_so && is_answered(alloc, &served, answers, 1)?;
+    Ok((seat, is_so))
+}
+
+/// A writer and then a reader are served, whose seats were split off before.
+fn are_served<R: Wait + Clock>(
+    rt: &R,
+    alloc: Global,
+    hall: &Hall<Book<Tail>>,
+    first: Seat<Book<Tail>>,
+) -> Result<(Seat<Book<Tail>>, bool), Memory>
+    requires hall { IsOf hall.now first }
+    requires number { next first ≡ Some 1 }
+    ensures { IfOk result (λ r. IsOf hall.entry.now r.0) }
+{
+    let mut first = first;
     let writer = hall.split(&mut first);
     let reader = hall.split(&mut first);
-    let line = a_link(alloc, &[CONNECT, SETUP, WRITE])?;
-    let (writer, written) = serve_link(&rt, alloc, &hall, writer, &OpenGate, None, line);
-    let line = a_link(alloc, &[CONNECT, SETUP, READ, READ])?;
-    let (reader, read) = serve_link(&rt, alloc, &hall, reader, &OpenGate, None, line);
-    assert_eq!(rt; (written.link, written.last), (1, Some(0)));
-    assert!(rt; is_answered(alloc, &written, &[CONFIRM, GRANTED, WRITE_ANSWER], 1)?);
-    assert_eq!(rt; (read.link, read.last), (2, Some(1)));
+    let answers = [CONFIRM, GRANTED, WRITE_ANSWER];
+    let telegrams = [CONNECT, SETUP, WRITE];
+    let (writer, has_written) = is_served(rt, alloc, hall, writer, &telegrams, &answers, (1, 0))?;
     let answers = [CONFIRM, GRANTED, READ_AFTER_WRITE, NO_ROOM];
-    assert!(rt; is_answered(alloc, &read, &answers, 1)?);
+    let telegrams = [CONNECT, SETUP, READ, READ];
+    let (reader, has_read) = is_served(rt, alloc, hall, reader, &telegrams, &answers, (2, 1))?;
     let all = hall.meet(hall.meet(first, writer), reader);
-    let book = hall.close(&rt, all);
-    assert_eq!(rt; Keeper::entries(&book), 2);
-    let links = [1, 2];
-    for (entry, link) in book.journal.as_slice().iter().zip(links) {
-        assert_eq!(rt; entry.link, link);
+    Ok((all, has_written && has_read))
+}
+
+/// The book has an entry of link 1 and then one of link 2.
+fn has_both(book: &Book<Tail>) -> bool {
+    for (entry, link) in book.journal.as_slice().iter().zip([1, 2]) {
+        if entry.link != link {
+            return false;
+        }
     }
+    Keeper::entries(book) == 2
+}
+
+/// The hall is closed behind them, and has what they entered.
+fn answer_one_another<R: Wait + Clock>(rt: &R, alloc: Global) -> Result<bool, Memory> {
+    let (hall, first) = a_hall(alloc)?;
+    let (all, are_answered) = are_served(rt, alloc, &hall, first)?;
+    let book = hall.close(rt, all);
+    Ok(are_answered && has_both(&book))
+}
+
+#[test]
+fn links_are_answered_by_what_others_left(rt: HostRuntime) -> Result<(), Fail> {
+    assert!(rt; answer_one_another(&rt, rt.alloc())?);
     Ok(())
+}
+
+/// Serves the links of a door, at most so many, on a book that takes so many entries.
+fn host<R: Threads + Wait + Clock + Sync, G: Gate + Sync>(
+    rt: &R,
+    alloc: Global,
+    gate: &G,
+    door: MemoryDoor<MemoryLink>,
+    most: u16,
+    limit: u64,
+) -> Result<Hosted<Book<Tail>, MemoryLink>, NotHosted>
+    requires some { 1 ≤ limit }
+    requires few { limit ≤ 262144 }
+{
+    let Ok(book) = a_book(alloc, limit) else {
+        return Err(NotHosted::Memory);
+    };
+    let (hosted, _) = serve_door(rt, alloc, book, gate, None, door, 102, most);
+    hosted
+}
+
+/// The links have the numbers 1 and 2, and their reads are answered.
+fn are_read(alloc: Global, links: &[Served<MemoryLink>]) -> Result<bool, Memory> {
+    let answers = [CONFIRM, GRANTED, READ_ANSWER, READ_ANSWER];
+    for (served, link) in links.iter().zip([1, 2]) {
+        if served.link != link || !is_answered(alloc, served, &answers, 2)? {
+            return Ok(false);
+        }
+    }
+    Ok(links.len() == 2)
+}
+
+/// The book has four entries, of which two are of link 1.
+fn has_two_of_each(book: &Book<Tail>) -> bool {
+    let journal = book.journal.as_slice();
+    let mine = journal.iter().filter(|entry| entry.link == 1).count();
+    journal.len() == 4 && mine == 2
 }
 
 /// Two links by a door: the first request of one of them waits for the second one of the other. No
@@ -131,27 +244,17 @@ fn are_served_at_once<R: Threads + Wait + Clock + Sync>(
     held: u32,
     until: u32,
 ) -> Result<bool, Memory> {
-    let book: Book<Tail> = Book::new(
-        alloc,
-        some_areas(alloc)?,
-        Blocks::new(alloc, MOST_BLOCKS)?,
-        4,
-        Vec::new(alloc),
-    )?;
     let gate = HoldGate::new(held, until, 1_000_000_000);
     let door = a_door(alloc, 2, None)?;
-    let (hosted, _) = serve_door(rt, alloc, book, &gate, None, door, 102, 2);
-    let Ok(hosted) = hosted else {
+    let Ok(hosted) = host(rt, alloc, &gate, door, 2, 4) else {
         return Err(Memory);
     };
-    let mut good = !gate.gave_up() && !hosted.door_failed && hosted.links.len() == 2;
-    for (served, link) in hosted.links.iter().zip([1, 2]) {
-        let answers = [CONFIRM, GRANTED, READ_ANSWER, READ_ANSWER];
-        good = good && served.link == link && is_answered(alloc, served, &answers, 2)?;
-    }
-    let journal = hosted.keeper.journal.as_slice();
-    let mine = journal.iter().filter(|entry| entry.link == 1).count();
-    Ok(good && journal.len() == 4 && mine == 2)
+    Ok(
+        !gate.gave_up()
+            && !hosted.door_failed
+            && has_two_of_each(&hosted.keeper)
+            && are_read(alloc, hosted.links.as_slice())?,
+    )
 }
 
 #[test]
@@ -190,27 +293,33 @@ const DOORS: [(usize, Option<usize>, u16, Option<(usize, bool)>); 7] = [
     (1_024, None, 1_024, Some((1_024, false))),
 ];
 
+/// So many links are left, each with two entries, and the door failed or not.
+fn are_left(hosted: &Hosted<Book<Tail>, MemoryLink>, left: Option<(usize, bool)>) -> bool {
+    let count = hosted.links.len();
+    let entries = hosted.keeper.journal.as_slice().len();
+    left == Some((count, hosted.door_failed)) && count.checked_mul(2) == Some(entries)
+}
+
+/// A door of a row leaves so much.
+fn leaves<R: Threads + Wait + Clock + Sync>(
+    rt: &R,
+    alloc: Global,
+    count: usize,
+    fail_at: Option<usize>,
+    most: u16,
+    left: Option<(usize, bool)>,
+) -> Result<bool, Memory> {
+    let door = a_door(alloc, count, fail_at)?;
+    match host(rt, alloc, &OpenGate, door, most, 2_048) {
+        Ok(hosted) => Ok(are_left(&hosted, left)),
+        Err(why) => Ok(left.is_none() && why == NotHosted::Door),
+    }
+}
+
 #[test]
 fn doors_end_and_fail(rt: HostRuntime) -> Result<(), Fail> {
-    let alloc = rt.alloc();
     for (count, fail_at, most, left) in DOORS {
-        let book: Book<Tail> = Book::new(
-            alloc,
-            some_areas(alloc)?,
-            Blocks::new(alloc, MOST_BLOCKS)?,
-            2_048,
-            Vec::new(alloc),
-        )?;
-        let door = a_door(alloc, count, fail_at)?;
-        let (hosted, _) = serve_door(&rt, alloc, book, &OpenGate, None, door, 102, most);
-        match hosted {
-            Ok(hosted) => {
-                let count = hosted.links.len();
-                assert_eq!(rt; left, Some((count, hosted.door_failed)));
-                assert_eq!(rt; hosted.keeper.journal.as_slice().len(), 2 * count);
-            }
-            Err(why) => assert!(rt; left.is_none() && why == NotHosted::Door),
-        }
+        assert!(rt; leaves(&rt, rt.alloc(), count, fail_at, most, left)?);
     }
     Ok(())
 }

@@ -10,6 +10,7 @@ use s7_serve::{Hosted, serve_door};
 use s7_session::Outcome;
 use std::alloc::Global;
 use std::sync::Wait;
+use std::test::Fail;
 use std::thread::Threads;
 use std::time::Clock;
 
@@ -36,8 +37,13 @@ impl Door<RealLink<HostRuntime>> for OpenedDoor {
 /// The first of the ports on this machine that are tried.
 const FIRST_PORT: u16 = 28_102;
 
-/// Has a door hear one of some ports.
-pub(crate) fn opened(mut door: TcpDoor<HostRuntime>) -> Option<OpenedDoor> {
+/// A door that hears one of some ports.
+pub(crate) fn a_door(rt: &HostRuntime) -> Result<OpenedDoor, Fail> {
+    Ok(opened(TcpDoor::new(rt.clone()?)).ok_or("no port")?)
+}
+
+// Has a door hear one of some ports.
+fn opened(mut door: TcpDoor<HostRuntime>) -> Option<OpenedDoor> {
     for port in FIRST_PORT..FIRST_PORT + 20 {
         if door.listen(port).is_ok() {
             return Some(OpenedDoor { door, port });
@@ -64,16 +70,20 @@ fn areas(alloc: Global) -> Option<Areas> {
     Some(areas)
 }
 
-/// Serves so many links of a door over the data blocks, with room for so many entries.
+/// What serving links on ports of this machine leaves.
+pub(crate) type Ported = Hosted<Book<Tail>, RealLink<HostRuntime>>;
+
+/// Serves so many links of a door over the data blocks, with room for so many entries, at least one.
 pub(crate) fn served<R: Threads + Wait + Clock + Sync>(
     rt: &R,
     alloc: Global,
     door: OpenedDoor,
     links: u16,
     room: u16,
-) -> Option<Hosted<Book<Tail>, RealLink<HostRuntime>>>
-    requires { 0 < room }
-{
+) -> Option<Ported> {
+    if room == 0 {
+        return None;
+    }
     let blocks = Blocks::new(alloc, MOST_BLOCKS).ok()?;
     let book = Book::new(
         alloc,

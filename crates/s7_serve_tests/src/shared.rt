@@ -1,12 +1,14 @@
 // Clients that write data blocks of their own and a shared one, beside one another.
 use crate::calls::{ask, is_answered, joined, open};
-use crate::ports::{has_all, key_of, opened, served};
+use crate::ports::{OpenedDoor, Ported, a_door, has_all, key_of, served};
 use crate::walk::Walk;
-use s7_outer::{Dial, Dialled, Link, RealLink, TcpDial, TcpDoor};
+use s7_outer::{Dial, Dialled, Link, RealLink, TcpDial};
 use s7_plant::{Book, Tail};
 use std::alloc::Global;
+use std::sync::Wait;
 use std::test::Fail;
-use std::thread::{join, map_vec};
+use std::thread::{Threads, join, map_vec};
+use std::time::Clock;
 
 /// How many clients there are.
 pub(crate) const CLIENTS: u8 = 8;
@@ -112,29 +114,71 @@ fn is_shown(alloc: Global, book: &Book<Tail>, shown: &[Vec<Vec<u8>>]) -> Option<
     Some(())
 }
 
+// The answers to the reads of each client. None where one wasn't answered.
+fn all_shown<R: Threads + Sync>(
+    rt: &R,
+    alloc: Global,
+    clients: Vec<Client>,
+) -> Option<Vec<Vec<Vec<u8>>>> {
+    let ask = |client: Client| rounds(alloc, client.number, client.link);
+    let answers = map_vec(rt, clients, &ask).ok()?;
+    let mut shown = Vec::new(alloc);
+    for answer in answers {
+        shown.push(answer?).ok()?;
+    }
+    Some(shown)
+}
+
+// What serving the clients leaves, and what they are shown.
+fn served_and_shown<R: Threads + Wait + Clock + Sync>(
+    rt: &R,
+    alloc: Global,
+    door: OpenedDoor,
+    clients: Vec<Client>,
+) -> (Option<Ported>, Option<Vec<Vec<Vec<u8>>>>) {
+    join(
+        rt,
+        || served(rt, alloc, door, u16::from(CLIENTS), 1_024),
+        || all_shown(rt, alloc, clients),
+    )
+}
+
+// All clients were served. Each has an entry of a read at first, and of two writes and a read in each of the rounds.
+fn is_whole(hosted: &Ported) -> bool {
+    hosted.links.len() == 8
+        && !hosted.door_failed
+        && hosted.keeper.journal.as_slice().len() == 488
+        && has_all(hosted)
+}
+
+// The clients are shown what the entries before each read left.
+fn share_a_book<R: Threads + Wait + Clock + Sync>(
+    rt: &R,
+    alloc: Global,
+    door: OpenedDoor,
+    clients: Vec<Client>,
+) -> bool {
+    let (hosted, shown) = served_and_shown(rt, alloc, door, clients);
+    let Some(hosted) = hosted else {
+        return false;
+    };
+    let Some(shown) = shown else {
+        return false;
+    };
+    is_whole(&hosted) && is_shown(alloc, &hosted.keeper, shown.as_slice()).is_some()
+}
+
+// A door, and the clients, each of which has called it.
+fn a_door_and_clients(rt: &HostRuntime, alloc: Global) -> Result<(OpenedDoor, Vec<Client>), Fail> {
+    let door = a_door(rt)?;
+    let dial = TcpDial::new(rt.clone()?);
+    let clients = called(alloc, dial, door.port).ok_or("no link")?;
+    Ok((door, clients))
+}
+
 #[test]
 fn eight_clients_share_a_book(rt: HostRuntime) -> Result<(), Fail> {
-    let alloc = rt.alloc();
-    let door = opened(TcpDoor::new(rt.clone()?)).ok_or("no port")?;
-    let clients = called(alloc, TcpDial::new(rt.clone()?), door.port).ok_or("no link")?;
-    let (hosted, answers) = join(
-        &rt,
-        || served(&rt, alloc, door, u16::from(CLIENTS), 1_024),
-        || map_vec(
-            &rt,
-            clients,
-            &|client| rounds(alloc, client.number, client.link),
-        ),
-    );
-    let hosted = hosted.ok_or("not served")?;
-    let mut shown = Vec::new(alloc);
-    for answer in answers? {
-        shown.push(answer.ok_or("a client was not answered")?)?;
-    }
-    assert_eq!(rt; (hosted.links.len(), hosted.door_failed), (8, false));
-    // Per client a read at first, and two writes and a read in each of the rounds.
-    assert_eq!(rt; hosted.keeper.journal.as_slice().len(), 488);
-    assert!(rt; has_all(&hosted));
-    assert!(rt; is_shown(alloc, &hosted.keeper, shown.as_slice()).is_some());
+    let (door, clients) = a_door_and_clients(&rt, rt.alloc())?;
+    assert!(rt; share_a_book(&rt, rt.alloc(), door, clients));
     Ok(())
 }

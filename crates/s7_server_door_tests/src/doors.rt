@@ -1,7 +1,7 @@
 // Links that come by a door.
 ghost use Rattle.s7_outer.specs.TcpDoor.{tcp_door_of};
 
-use crate::helpers::{ANSWER, BLOCK, CONFIRM, CONNECT, READ, ROOM, a_door, host, octets};
+use crate::helpers::{ANSWER, BLOCK, CONFIRM, CONNECT, READ, ROOM, ended, host_two, octets};
 use s7_outer::{
     Arrival, Dial, Dialled, Door, DoorFailed, Gate, Got, HoldGate, Link, MemoryFiles, MemoryLink,
     MemoryOut, OpenGate, RealLink, Sent, TcpDial, TcpDoor,
@@ -9,60 +9,91 @@ use s7_outer::{
 use s7_plant::Tail;
 use s7_server::{ServerEnd, server_main};
 use std::alloc::Global;
-use std::process::Abort;
 use std::sync::Wait;
 use std::test::Fail;
 use std::thread::Threads;
 use std::time::Clock;
 
-// Serves at most two links of a door over the data block.
-fn hosts<R: Threads + Wait + Clock + Sync + Abort, D: Door<MemoryLink>, G: Gate + Sync>(
+// What a server leaves: its status, what it printed, and what the run says of the door, where links were served.
+struct Left<'a> {
+    status: u8,
+    text: &'a str,
+    door_failed: Option<bool>,
+}
+
+// This is left, and the link on standard input and output is handed back.
+fn is_left(end: &ServerEnd<MemoryLink, Tail>, out: &MemoryOut, left: &Left) -> bool {
+    ended(end, out, left.status, left.text)
+        && end.pipe.is_some()
+        && door_failed(end) == left.door_failed
+}
+
+fn door_failed(end: &ServerEnd<MemoryLink, Tail>) -> Option<bool> {
+    match &end.run {
+        Some(run) => Some(run.door_failed),
+        None => None,
+    }
+}
+
+// At most two links of a door are served over the data block, and leave this.
+fn hosts<R: Threads + Wait + Clock + Sync, G: Gate + Sync>(
     rt: &R,
     alloc: Global,
-    door: &mut D,
+    fail_at: Option<usize>,
     gate: &G,
-    status: u8,
-    text: &str,
-) -> Result<ServerEnd<MemoryLink, Tail>, Fail> {
+    left: &Left,
+) -> Result<bool, Fail> {
     let mut out = MemoryOut::new(alloc, ROOM)?;
     let words = &["serve", BLOCK, "--links", "2"];
-    let end = host(
-        rt,
-        alloc,
-        words,
-        &mut MemoryFiles::new(),
-        door,
-        gate,
-        &mut out,
-    )?;
-    assert_eq!(rt; end.status, status);
-    assert!(rt; out.text() == text.as_bytes(), "{text}");
-    assert!(rt; end.pipe.is_some());
-    Ok(end)
+    let end = host_two(rt, alloc, words, fail_at, gate, &mut out)?;
+    Ok(is_left(&end, &out, left))
+}
+
+const BOTH_SERVED: Left = Left {
+    status: 0,
+    text: "link 1 ended entries 2\nlink 2 ended entries 2\njournal 4\n",
+    door_failed: Some(false),
+};
+
+// One link is held until the other one was served so far.
+fn one_is_held<R: Threads + Wait + Clock + Sync>(
+    rt: &R,
+    alloc: Global,
+    held: u32,
+    until: u32,
+) -> Result<bool, Fail> {
+    let gate = HoldGate::new(held, until, 1_000_000_000);
+    Ok(hosts(rt, alloc, None, &gate, &BOTH_SERVED)? && !gate.gave_up())
 }
 
 #[test]
 fn links_are_served_at_once(rt: HostRuntime) -> Result<(), Fail> {
-    let alloc = rt.alloc();
-    let text = "link 1 ended entries 2\nlink 2 ended entries 2\njournal 4\n";
     for (held, until) in [(1, 2), (2, 1)] {
-        let gate = HoldGate::new(held, until, 1_000_000_000);
-        hosts(&rt, alloc, &mut a_door(alloc, 2, None)?, &gate, 0, text)?;
-        assert!(&rt; !gate.gave_up());
+        assert!(&rt; one_is_held(&rt, rt.alloc(), held, until)?, "{held}");
     }
     Ok(())
 }
 
+const NONE_CAME: Left = Left {
+    status: 4,
+    text: "door failed\n",
+    door_failed: None,
+};
+
+const ONE_CAME: Left = Left {
+    status: 0,
+    text: "link 1 ended entries 2\njournal 2\ndoor\n",
+    door_failed: Some(true),
+};
+
 #[test]
 fn a_door_may_fail(rt: HostRuntime) -> Result<(), Fail> {
-    let alloc = rt.alloc();
-    let mut door = a_door(alloc, 2, Some(0))?;
-    let end = hosts(&rt, alloc, &mut door, &OpenGate, 4, "door failed\n")?;
-    assert!(&rt; end.run.is_none());
-    let mut door = a_door(alloc, 2, Some(1))?;
-    let text = "link 1 ended entries 2\njournal 2\ndoor\n";
-    let end = hosts(&rt, alloc, &mut door, &OpenGate, 0, text)?;
-    assert!(&rt; end.run.is_some_and(|run| run.door_failed));
+    for (fail_at, left) in [(0, &NONE_CAME), (1, &ONE_CAME)] {
+        assert!(&rt;
+            hosts(&rt, rt.alloc(), Some(fail_at), &OpenGate, left)?,
+            "{fail_at}"
+        );
+    }
     Ok(())
 }
 
@@ -113,42 +144,70 @@ fn rest_of<L: Link>(alloc: Global, link: &mut L) -> Result<Vec<u8>, Fail> {
     Ok(came)
 }
 
+// A client's link to a port of this machine.
+fn called(rt: HostRuntime, port: u16) -> Result<RealLink<HostRuntime>, Fail> {
+    match TcpDial::new(rt).call("127.0.0.1", port) {
+        Dialled::Link(client) => Ok(client),
+        Dialled::Failed => Err(Fail::from("no link")),
+    }
+}
+
+// The link takes all of these octets at once.
+fn takes<L: Link>(link: &mut L, octets: &[u8]) -> bool {
+    !octets.is_empty() && link.transmit(octets) == Sent::Bytes(octets.len())
+}
+
 /// A disconnect request.
 const DISCONNECT: &str = "0300000b06800001000180";
+
+// The client asks all that it asks.
+fn asks(alloc: Global, client: &mut RealLink<HostRuntime>) -> Result<bool, Fail> {
+    let asked = octets(alloc, &[CONNECT, READ, DISCONNECT])?;
+    Ok(takes(client, asked.as_slice()))
+}
+
+// One link of a door over TCP is served over the data block.
+fn served<R: Threads + Wait + Clock + Sync>(
+    rt: &R,
+    alloc: Global,
+    pipe: RealLink<HostRuntime>,
+    door: &mut OpenedDoor,
+    out: &mut MemoryOut,
+) -> ServerEnd<RealLink<HostRuntime>, Tail> {
+    let words = &["serve", BLOCK, "--links", "1"];
+    let mut files = MemoryFiles::new();
+    let observers: Vec<Tail> = Vec::new(alloc);
+    server_main(
+        rt, alloc, words, &mut files, pipe, door, &OpenGate, out, observers,
+    )
+}
+
+// The link is served, and is closed behind it.
+fn is_served<R: Threads + Wait + Clock + Sync>(
+    rt: &R,
+    alloc: Global,
+    pipe: RealLink<HostRuntime>,
+    door: &mut OpenedDoor,
+) -> Result<bool, Fail> {
+    let mut out = MemoryOut::new(alloc, ROOM)?;
+    let end = served(rt, alloc, pipe, door, &mut out);
+    Ok(ended(&end, &out, 0, "link 1 ended entries 1\njournal 1\n"))
+}
+
+// The client is answered, and nothing comes behind this.
+fn is_answered(alloc: Global, client: &mut RealLink<HostRuntime>) -> Result<bool, Fail> {
+    let answers = octets(alloc, &[CONFIRM, ANSWER])?;
+    Ok(rest_of(alloc, client)?.as_slice() == answers.as_slice())
+}
 
 #[test]
 fn links_come_over_tcp(rt: HostRuntime) -> Result<(), Fail> {
     let alloc = rt.alloc();
-    let mut door = open(TcpDoor::new(rt.clone()?)).ok_or("no port")?;
-    let Dialled::Link(mut client) = TcpDial::new(rt.clone()?).call("127.0.0.1", door.port) else {
-        return Err(Fail::from("no link"));
-    };
-    let mut asked = Vec::new(alloc);
-    for part in [CONNECT, READ, DISCONNECT] {
-        asked.extend_from_slice(octets(alloc, part)?.as_slice())?;
-    }
-    assert!(&rt; !asked.is_empty());
-    assert!(&rt; client.transmit(asked.as_slice()) == Sent::Bytes(asked.len()));
-    let mut out = MemoryOut::new(alloc, ROOM)?;
-    let words = &["serve", BLOCK, "--links", "1"];
     let pipe = RealLink::standard(alloc, rt.clone()?)?;
-    let observers: Vec<Tail> = Vec::new(alloc);
-    let end = server_main(
-        &rt,
-        alloc,
-        words,
-        &mut MemoryFiles::new(),
-        pipe,
-        &mut door,
-        &OpenGate,
-        &mut out,
-        observers,
-    );
-    assert_eq!(&rt; end.status, 0);
-    assert!(&rt; out.text() == b"link 1 ended entries 1\njournal 1\n".as_slice());
-    drop(end);
-    let mut written = octets(alloc, CONFIRM)?;
-    written.extend_from_slice(octets(alloc, ANSWER)?.as_slice())?;
-    assert!(&rt; rest_of(alloc, &mut client)?.as_slice() == written.as_slice());
+    let mut door = open(TcpDoor::new(rt.clone()?)).ok_or("no port")?;
+    let mut client = called(rt.clone()?, door.port)?;
+    assert!(&rt; asks(alloc, &mut client)?);
+    assert!(&rt; is_served(&rt, alloc, pipe, &mut door)?);
+    assert!(&rt; is_answered(alloc, &mut client)?);
     Ok(())
 }

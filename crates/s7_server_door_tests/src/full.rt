@@ -1,5 +1,5 @@
-// Two links at a journal of one entry. One of them is kept until the other asks a second time, so that the other's first
-// request is the entry.
+// Two links at a journal of one entry. One of them is kept until the other asks a second time, so that the other's
+// first request is the entry.
 //
 // A table has a blank line between two of its talks. Each line of a talk is a word and its value:
 //
@@ -8,10 +8,10 @@
 //   answers1, answers2   what it is answered
 //   block                what data block 1 has in the end
 //   entries              how many entries each link has in the report
-use crate::helpers::{BLOCK, CONFIRM, CONNECT, ROOM, holds, host, octets};
-use s7_outer::{Gate, HoldGate, MemoryDoor, MemoryFiles, MemoryLink, MemoryOut, Octets, OpenGate};
+use crate::helpers::{BLOCK, CONFIRM, CONNECT, ROOM, a_link, add_octets, holds, host, octets};
+use s7_outer::{Gate, HoldGate, MemoryDoor, MemoryLink, MemoryOut, OpenGate};
 use s7_plant::Tail;
-use s7_server::ServerEnd;
+use s7_server::{Run, ServerEnd};
 use std::alloc::Global;
 use std::sync::Wait;
 use std::test::Fail;
@@ -86,92 +86,143 @@ fn value<'a>(lines: &'a str, word: &str) -> Result<&'a str, Fail> {
 
 // These octets, and those of the names behind them.
 fn with_names(alloc: Global, first: &str, names: &str) -> Result<Vec<u8>, Fail> {
-    let mut all = octets(alloc, first)?;
+    let mut all = octets(alloc, &[first])?;
     for name in names.split_ascii_whitespace() {
-        let octets = octets(alloc, value(NAMES, name)?)?;
-        all.extend_from_slice(octets.as_slice())?;
+        add_octets(alloc, value(NAMES, name)?, &mut all)?;
     }
     Ok(all)
+}
+
+// A door of links that ask this behind their negotiations.
+fn a_door_of(alloc: Global, asked: &[&str]) -> Result<MemoryDoor<MemoryLink>, Fail> {
+    let mut links = Vec::new(alloc);
+    for names in asked {
+        links.push(a_link(alloc, with_names(alloc, CONNECT, names)?)?)?;
+    }
+    Ok(MemoryDoor::new(links, None))
 }
 
 // Serves two links that ask this.
 fn served<R: Threads + Wait + Clock + Sync, G: Gate + Sync>(
     rt: &R,
     alloc: Global,
-    asked: [&str; 2],
+    asked: &[&str],
     gate: &G,
     out: &mut MemoryOut,
 ) -> Result<ServerEnd<MemoryLink, Tail>, Fail> {
-    let mut links = Vec::new(alloc);
-    for names in asked {
-        let input = Octets::of_vec(with_names(alloc, CONNECT, names)?);
-        links.push(MemoryLink::new(alloc, input, ROOM, ROOM, 0)?)?;
-    }
-    let mut door = MemoryDoor::new(links, None);
     let words = &["serve", BLOCK, "--links", "2", "--journal", "1"];
-    host(
-        rt,
-        alloc,
-        words,
-        &mut MemoryFiles::new(),
-        &mut door,
-        gate,
-        out,
-    )
+    let mut door = a_door_of(alloc, asked)?;
+    host(rt, alloc, words, &mut door, gate, out)
 }
 
-fn report(alloc: Global, one: &str, other: &str) -> Result<String, Fail> {
-    Ok(format!(in alloc; "link 1 ended entries {one}\nlink 2 ended entries {other}\njournal 1\n")?)
+// The report of two links that have so many entries, with a blank between them.
+fn is_reported(alloc: Global, out: &MemoryOut, entries: &str) -> Result<bool, Fail> {
+    let (one, other) = entries.split_once(' ').ok_or("no entries")?;
+    let report = format!(in alloc;
+        "link 1 ended entries {one}\nlink 2 ended entries {other}\njournal 1\n"
+    )?;
+    Ok(out.text() == report.as_bytes())
+}
+
+fn is_answered(alloc: Global, line: &MemoryLink, answers: &str) -> Result<bool, Fail> {
+    Ok(line.written() == with_names(alloc, CONFIRM, answers)?.as_slice())
+}
+
+// Each link of the run is answered so, and there is one for each of the answers.
+fn are_answered(
+    alloc: Global,
+    run: &Run<MemoryLink, Tail>,
+    answers: &[&str],
+) -> Result<bool, Fail> {
+    let mut good = run.links.len() == answers.len();
+    for (served, names) in run.links.iter().zip(answers) {
+        good = good && is_answered(alloc, &served.line, names)?;
+    }
+    Ok(good)
+}
+
+// The data block is left as the talk says.
+fn has_block(alloc: Global, run: &Run<MemoryLink, Tail>, lines: &str) -> Result<bool, Fail> {
+    let octets = hex::decode(alloc, value(lines, "block")?)?;
+    Ok(holds(&run.book, octets.as_slice()))
 }
 
 // The links are answered and the data block is left as the talk says.
+fn is_left(
+    alloc: Global,
+    lines: &str,
+    run: &Run<MemoryLink, Tail>,
+    out: &MemoryOut,
+) -> Result<bool, Fail> {
+    let answers = &[value(lines, "answers1")?, value(lines, "answers2")?];
+    Ok(
+        is_reported(alloc, out, value(lines, "entries")?)?
+            && has_block(alloc, run, lines)?
+            && are_answered(alloc, run, answers)?,
+    )
+}
+
+fn gate_of(lines: &str) -> Result<HoldGate, Fail> {
+    let kept = value(lines, "kept")?.parse::<u32>()?;
+    let until = value(lines, "until")?.parse::<u32>()?;
+    Ok(HoldGate::new(kept, until, 1_000_000_000))
+}
+
+// The links of a talk are served so.
+fn is_served<R: Threads + Wait + Clock + Sync>(
+    rt: &R,
+    alloc: Global,
+    lines: &str,
+    gate: &HoldGate,
+) -> Result<bool, Fail> {
+    let asked = &[value(lines, "asks1")?, value(lines, "asks2")?];
+    let mut out = MemoryOut::new(alloc, ROOM)?;
+    let end = served(rt, alloc, asked, gate, &mut out)?;
+    match &end.run {
+        Some(run) if end.status == 0 => is_left(alloc, lines, run, &out),
+        _ => Ok(false),
+    }
+}
+
+// The talk goes so, and no link was kept for too long.
 fn goes<R: Threads + Wait + Clock + Sync>(
     rt: &R,
     alloc: Global,
     lines: &str,
 ) -> Result<bool, Fail> {
-    let kept = value(lines, "kept")?.parse::<u32>()?;
-    let until = value(lines, "until")?.parse::<u32>()?;
-    let gate = HoldGate::new(kept, until, 1_000_000_000);
-    let mut out = MemoryOut::new(alloc, ROOM)?;
-    let asked = [value(lines, "asks1")?, value(lines, "asks2")?];
-    let end = served(rt, alloc, asked, &gate, &mut out)?;
-    let run = end.run.ok_or("no run")?;
-    let (one, other) = value(lines, "entries")?
-        .split_once(' ')
-        .ok_or("no entries")?;
-    let mut good = end.status == 0
-        && !gate.gave_up()
-        && out.text() == report(alloc, one, other)?.as_bytes()
-        && run.links.len() == 2
-        && holds(
-            &run.book,
-            hex::decode(alloc, value(lines, "block")?)?.as_slice(),
-        );
-    for (served, word) in run.links.iter().zip(["answers1", "answers2"]) {
-        let answers = with_names(alloc, CONFIRM, value(lines, word)?)?;
-        good = good && served.line.written() == answers.as_slice();
-    }
-    Ok(good)
+    let gate = gate_of(lines)?;
+    Ok(is_served(rt, alloc, lines, &gate)? && !gate.gave_up())
 }
 
-// Two links read once each, and nobody is kept. The one that comes first is answered, and the other one is refused.
+// The request of link 1 was the entry.
+fn is_first(run: &Run<MemoryLink, Tail>) -> bool {
+    match run.links.first() {
+        Some(served) => served.entries == 1,
+        None => false,
+    }
+}
+
+// The link that came first is answered, and the other one is refused.
+fn one_is_answered(
+    alloc: Global,
+    run: &Run<MemoryLink, Tail>,
+    out: &MemoryOut,
+) -> Result<bool, Fail> {
+    if is_first(run) {
+        Ok(is_reported(alloc, out, "1 0")? && are_answered(alloc, run, &["ANSWER", "READ_FULL"])?)
+    } else {
+        Ok(is_reported(alloc, out, "0 1")? && are_answered(alloc, run, &["READ_FULL", "ANSWER"])?)
+    }
+}
+
+// Two links read once each, and nobody is kept.
 fn one_is_refused<R: Threads + Wait + Clock + Sync>(rt: &R, alloc: Global) -> Result<bool, Fail> {
     let mut out = MemoryOut::new(alloc, ROOM)?;
-    let end = served(rt, alloc, ["READ", "READ"], &OpenGate, &mut out)?;
-    let run = end.run.ok_or("no run")?;
-    let is_first = run.links.first().is_some_and(|served| served.entries == 1);
-    let (wanted, printed) = if is_first {
-        (["ANSWER", "READ_FULL"], report(alloc, "1", "0")?)
-    } else {
-        (["READ_FULL", "ANSWER"], report(alloc, "0", "1")?)
-    };
-    let mut good = out.text() == printed.as_bytes() && run.links.len() == 2;
-    for (served, name) in run.links.iter().zip(wanted) {
-        let answers = with_names(alloc, CONFIRM, name)?;
-        good = good && served.line.written() == answers.as_slice();
+    let end = served(rt, alloc, &["READ", "READ"], &OpenGate, &mut out)?;
+    match &end.run {
+        Some(run) => one_is_answered(alloc, run, &out),
+        None => Ok(false),
     }
-    Ok(good)
 }
 
 #[test]

@@ -1,14 +1,9 @@
-// What the tests share: telegrams, and links in memory that are served.
-ghost use Rattle.std.specs.Prelude.{◌<◌};
-
+// What the tests share: telegrams, links in memory that are served, and what is left of them.
 use s7_area::AreaKey;
-use s7_outer::{
-    Clock as LinkClock, Link, MemoryDoor, MemoryFiles, MemoryLink, MemoryOut, Octets, OpenGate,
-};
+use s7_outer::{MemoryDoor, MemoryFiles, MemoryLink, MemoryOut, Octets, OpenGate};
 use s7_plant::{Book, Tail};
-use s7_server::{ServerEnd, server_main};
+use s7_server::{Run, ServerEnd, server_main};
 use std::alloc::Global;
-use std::process::Abort;
 use std::sync::Wait;
 use std::test::Fail;
 use std::thread::Threads;
@@ -36,17 +31,25 @@ pub const WRITE: &str = "0300004802f08032010000000a002600110503120a1002000100018
 
 pub const WRITTEN: &str = "0300001802f08032030000000a0002000300000503ff05ff";
 
-// The octets of a text in hex with blanks.
-pub fn octets(alloc: Global, text: &str) -> Result<Vec<u8>, Fail> {
+// The octets of texts in hex with blanks, one behind another.
+pub fn octets(alloc: Global, texts: &[&str]) -> Result<Vec<u8>, Fail> {
     let mut all = Vec::new(alloc);
-    for part in text.split(' ') {
-        all.extend_from_slice(hex::decode(alloc, part)?.as_slice())?;
+    for text in texts {
+        add_octets(alloc, text, &mut all)?;
     }
     Ok(all)
 }
 
+// Adds the octets of a text in hex with blanks.
+pub fn add_octets(alloc: Global, text: &str, all: &mut Vec<u8>) -> Result<(), Fail> {
+    for part in text.split(' ') {
+        all.extend_from_slice(hex::decode(alloc, part)?.as_slice())?;
+    }
+    Ok(())
+}
+
 // Data block 1 of the book's plant holds these octets.
-pub fn holds(book: &Book<Tail>, octets: &[u8]) -> bool {
+fn holds(book: &Book<Tail>, octets: &[u8]) -> bool {
     let key = AreaKey {
         area: 0x84,
         number: 1,
@@ -54,87 +57,106 @@ pub fn holds(book: &Book<Tail>, octets: &[u8]) -> bool {
     book.plant.areas.octets_of(key) == Some(octets)
 }
 
-// The report of a link that ended so.
-pub fn report(alloc: Global, outcome: &str, entries: &str) -> Result<String, Fail> {
-    Ok(format!(in alloc; "link 1 {outcome} entries {entries}\njournal {entries}\n")?)
-}
-
 // Calls the server with a link, at a door without links and a gate that is open. Nobody watches.
-pub fn call<R: Threads + Wait + Clock + Sync, L: Link + LinkClock + Send + Drop>(
+pub fn call<R: Threads + Wait + Clock + Sync>(
     rt: &R,
     alloc: Global,
     words: &[&str],
     files: &mut MemoryFiles,
-    link: L,
+    link: MemoryLink,
     out: &mut MemoryOut,
-) -> ServerEnd<L, Tail> {
+) -> ServerEnd<MemoryLink, Tail> {
     let mut door = MemoryDoor::new(Vec::new(alloc), None);
+    let observers = Vec::new(alloc);
     server_main(
-        rt,
-        alloc,
-        words,
-        files,
-        link,
-        &mut door,
-        &OpenGate,
-        out,
-        Vec::new(alloc),
+        rt, alloc, words, files, link, &mut door, &OpenGate, out, observers,
     )
 }
 
-// Serves a link over the data block of a word with this input, which moves so many octets a call,
-// compares what is written on it and printed, and gives the book.
-pub fn serves<R: Threads + Wait + Clock + Sync + Abort>(
+/// What comes on a link, what is written on it, and the report.
+#[derive(Drop)]
+pub struct Talk {
+    pub input: Vec<u8>,
+    pub written: Vec<u8>,
+    pub report: String,
+}
+
+// The talk of a link that ended so.
+pub fn a_talk(
+    alloc: Global,
+    input: Vec<u8>,
+    written: Vec<u8>,
+    outcome: &str,
+    entries: &str,
+) -> Result<Talk, Fail> {
+    let report = format!(in alloc; "link 1 {outcome} entries {entries}\njournal {entries}\n")?;
+    Ok(Talk {
+        input,
+        written,
+        report,
+    })
+}
+
+// Serves the link of a talk with these words and no files. It moves so many octets a call.
+pub fn served<R: Threads + Wait + Clock + Sync>(
     rt: &R,
     alloc: Global,
-    word: &str,
-    input: Vec<u8>,
+    words: &[&str],
     most: usize,
+    talk: &Talk,
+    out: &mut MemoryOut,
+) -> Result<ServerEnd<MemoryLink, Tail>, Fail> {
+    let input = Octets::copy_of(alloc, talk.input.as_slice())?;
+    let link = MemoryLink::new(alloc, input, most.max(1), ROOM, 0)?;
+    let mut files = MemoryFiles::new();
+    Ok(call(rt, alloc, words, &mut files, link, out))
+}
+
+// The server ended well and printed this, and this was written on the first link.
+pub fn has_written(
+    end: &ServerEnd<MemoryLink, Tail>,
+    out: &MemoryOut,
     written: &[u8],
     report: &str,
-) -> Result<Book<Tail>, Fail>
-    requires { 0 < most }
-{
-    let link = MemoryLink::new(alloc, Octets::of_vec(input), most, ROOM, 0)?;
-    let mut out = MemoryOut::new(alloc, ROOM)?;
-    let end = call(
-        rt,
-        alloc,
-        &["pipe", word],
-        &mut MemoryFiles::new(),
-        link,
-        &mut out,
-    );
-    assert_eq!(rt; end.status, 0);
-    assert!(rt; out.text() == report.as_bytes(), "{report}");
-    let run = end.run.ok_or("no run")?;
-    let served = run.links.first().ok_or("no link")?;
-    assert!(rt; served.line.written() == written, "{report}");
-    Ok(run.book)
+) -> bool {
+    match &end.run {
+        Some(run) => {
+            end.status == 0 && out.text() == report.as_bytes() && first_wrote(run, written)
+        }
+        None => false,
+    }
 }
 
-// Serves a link for a line of input, octets written, outcome and entries.
-pub fn serves_line<R: Threads + Wait + Clock + Sync + Abort>(
+fn first_wrote(run: &Run<MemoryLink, Tail>, written: &[u8]) -> bool {
+    match run.links.first() {
+        Some(served) => served.line.written() == written,
+        None => false,
+    }
+}
+
+// Data block 1 is left with these octets.
+fn is_left(end: &ServerEnd<MemoryLink, Tail>, block: &[u8]) -> bool {
+    match &end.run {
+        Some(run) => holds(&run.book, block),
+        None => false,
+    }
+}
+
+// What is written and printed is as the talk says, and data block 1 is left with these octets.
+pub fn goes(end: &ServerEnd<MemoryLink, Tail>, out: &MemoryOut, talk: &Talk, block: &[u8]) -> bool {
+    has_written(end, out, talk.written.as_slice(), talk.report.as_str()) && is_left(end, block)
+}
+
+// A link over the data block of a word, which moves so many octets a call, goes as the talk says.
+pub fn serves<R: Threads + Wait + Clock + Sync>(
     rt: &R,
     alloc: Global,
     word: &str,
-    line: &str,
     most: usize,
-) -> Result<Book<Tail>, Fail>
-    requires { 0 < most }
-{
-    let mut fields = line.split('|');
-    let input = octets(alloc, fields.next().ok_or("no input")?)?;
-    let written = octets(alloc, fields.next().ok_or("nothing written")?)?;
-    let outcome = fields.next().ok_or("no outcome")?;
-    let report = report(alloc, outcome, fields.next().ok_or("no entries")?)?;
-    serves(
-        rt,
-        alloc,
-        word,
-        input,
-        most,
-        written.as_slice(),
-        report.as_str(),
-    )
+    talk: &Talk,
+    block: &[u8],
+) -> Result<bool, Fail> {
+    let mut out = MemoryOut::new(alloc, ROOM)?;
+    let end = served(rt, alloc, &["pipe", word], most, talk, &mut out)?;
+    Ok(goes(&end, &out, talk, block))
 }

@@ -1,5 +1,5 @@
-//! Tests of `server_main` over a link in memory: what it is answered, and what the journal has. They stand in a crate of
-//! their own, so that the server is proved once and not once more together with them.
+//! Tests of `server_main` over a link in memory: what it is answered, and what the journal has. They stand in a crate
+//! of their own, so that the server is proved once and not once more together with them.
 #![tactic(auto)]
 
 #[cfg(test)]

@@ -1,10 +1,8 @@
 // What a link is answered.
 use crate::helpers::{
-    BLOCK, CONFIRM, CONNECT, OPENED, ROOM, WRITE, WRITTEN, holds, octets, report, serves,
-    serves_line,
+    BLOCK, CONFIRM, CONNECT, OPENED, ROOM, Talk, WRITE, WRITTEN, a_talk, octets, serves,
 };
 use std::alloc::Global;
-use std::process::Abort;
 use std::sync::Wait;
 use std::test::Fail;
 use std::thread::Threads;
@@ -114,43 +112,49 @@ const SIZES: &str =
 
 // The octets of a text, and then the packet that carries a message in one fragment.
 fn with_message(alloc: Global, text: &str, message: &str) -> Result<Vec<u8>, Fail> {
-    let mut all = octets(alloc, text)?;
-    let message = octets(alloc, message)?;
+    let mut all = octets(alloc, &[text])?;
+    let message = octets(alloc, &[message])?;
     let size = (message.len() % 249) as u8 + 7;
     all.extend_from_slice(&[3, 0, 0, size, 2, 0xF0, 0x80])?;
     all.extend_from_slice(message.as_slice())?;
     Ok(all)
 }
 
-// Serves a link for a line of message, answer and entries.
-fn answers_line<R: Threads + Wait + Clock + Sync + Abort>(
-    rt: &R,
-    alloc: Global,
-    line: &str,
-) -> Result<(), Fail> {
+// The talk of a line of input, octets written, outcome and entries.
+fn talk_of(alloc: Global, line: &str) -> Result<Talk, Fail> {
+    let mut fields = line.split('|');
+    let input = octets(alloc, &[fields.next().ok_or("no input")?])?;
+    let written = octets(alloc, &[fields.next().ok_or("nothing written")?])?;
+    let outcome = fields.next().ok_or("no outcome")?;
+    let entries = fields.next().ok_or("no entries")?;
+    a_talk(alloc, input, written, outcome, entries)
+}
+
+// The talk of a line of message, answer and entries.
+fn message_of(alloc: Global, line: &str) -> Result<Talk, Fail> {
     let mut fields = line.split('|');
     let input = with_message(alloc, CONNECT, fields.next().ok_or("no message")?)?;
     let written = with_message(alloc, CONFIRM, fields.next().ok_or("no answer")?)?;
-    let report = report(alloc, "ended", fields.next().ok_or("no entries")?)?;
-    let book = serves(
-        rt,
-        alloc,
-        BLOCK,
-        input,
-        ROOM,
-        written.as_slice(),
-        report.as_str(),
-    )?;
-    assert!(rt; holds(&book, &OPENED));
-    Ok(())
+    let entries = fields.next().ok_or("no entries")?;
+    a_talk(alloc, input, written, "ended", entries)
+}
+
+// A link goes as the line says, whole and octet by octet.
+fn line_goes<R: Threads + Wait + Clock + Sync>(
+    rt: &R,
+    alloc: Global,
+    word: &str,
+    line: &str,
+    block: &[u8],
+) -> Result<bool, Fail> {
+    let talk = talk_of(alloc, line)?;
+    Ok(serves(rt, alloc, word, ROOM, &talk, block)? && serves(rt, alloc, word, 1, &talk, block)?)
 }
 
 #[test]
 fn a_link_is_served(rt: HostRuntime) -> Result<(), Fail> {
     for line in SERVED.lines() {
-        serves_line(&rt, rt.alloc(), BLOCK, line, ROOM)?;
-        let book = serves_line(&rt, rt.alloc(), BLOCK, line, 1)?;
-        assert!(&rt; holds(&book, &OPENED));
+        assert!(&rt; line_goes(&rt, rt.alloc(), BLOCK, line, &OPENED)?, "{line}");
     }
     Ok(())
 }
@@ -158,8 +162,7 @@ fn a_link_is_served(rt: HostRuntime) -> Result<(), Fail> {
 #[test]
 fn packets_and_messages_end_a_link(rt: HostRuntime) -> Result<(), Fail> {
     for line in ENDS.lines() {
-        serves_line(&rt, rt.alloc(), BLOCK, line, ROOM)?;
-        serves_line(&rt, rt.alloc(), BLOCK, line, 1)?;
+        assert!(&rt; line_goes(&rt, rt.alloc(), BLOCK, line, &OPENED)?, "{line}");
     }
     Ok(())
 }
@@ -167,8 +170,10 @@ fn packets_and_messages_end_a_link(rt: HostRuntime) -> Result<(), Fail> {
 #[test]
 fn tpdu_sizes_are_honoured(rt: HostRuntime) -> Result<(), Fail> {
     for line in SIZES.lines() {
-        serves_line(&rt, rt.alloc(), LONG_BLOCK, line, ROOM)?;
-        serves_line(&rt, rt.alloc(), LONG_BLOCK, line, 1)?;
+        assert!(&rt;
+            line_goes(&rt, rt.alloc(), LONG_BLOCK, line, &[0x5A; 200])?,
+            "{line}"
+        );
     }
     Ok(())
 }
@@ -176,56 +181,50 @@ fn tpdu_sizes_are_honoured(rt: HostRuntime) -> Result<(), Fail> {
 #[test]
 fn a_write_goes_on_after_a_refused_item(rt: HostRuntime) -> Result<(), Fail> {
     let alloc = rt.alloc();
-    let mut input = octets(alloc, CONNECT)?;
-    input.extend_from_slice(octets(alloc, WRITE)?.as_slice())?;
-    let mut written = octets(alloc, CONFIRM)?;
-    written.extend_from_slice(octets(alloc, WRITTEN)?.as_slice())?;
-    let report = report(alloc, "ended", "1")?;
-    let book = serves(
-        &rt,
-        alloc,
-        BLOCK,
-        input,
-        ROOM,
-        written.as_slice(),
-        report.as_str(),
-    )?;
-    assert!(&rt; holds(&book, &[0xAA, 0x22, 0x33, 0xCC]));
+    let input = octets(alloc, &[CONNECT, WRITE])?;
+    let written = octets(alloc, &[CONFIRM, WRITTEN])?;
+    let talk = a_talk(alloc, input, written, "ended", "1")?;
+    assert!(&rt; serves(&rt, alloc, BLOCK, ROOM, &talk, &[0xAA, 0x22, 0x33, 0xCC])?);
+    Ok(())
+}
+
+// Adds a fragment of so many octets.
+fn add_fragment(len: u8, all: &mut Vec<u8>) -> Result<(), Fail> {
+    all.extend_from_slice(&[3, 0, 0, len % 249 + 7, 2, 0xF0, 0])?;
+    for _ in 0..len % 249 {
+        all.push(0x32)?;
+    }
     Ok(())
 }
 
 // A connect request, and so many fragments of so many octets.
 fn fragments(alloc: Global, count: usize, len: u8) -> Result<Vec<u8>, Fail> {
-    let mut all = octets(alloc, "0300001611e00000000100c0010ac1020100c2020102")?;
+    let mut all = octets(alloc, &["0300001611e00000000100c0010ac1020100c2020102"])?;
     for _ in 0..count {
-        all.extend_from_slice(&[3, 0, 0, len % 249 + 7, 2, 0xF0, 0])?;
-        for _ in 0..len % 249 {
-            all.push(0x32)?;
-        }
+        add_fragment(len, &mut all)?;
     }
     Ok(all)
 }
 
+// The talk of such a link, which ends so.
+fn fragments_end(alloc: Global, count: usize, len: u8, outcome: &str) -> Result<Talk, Fail> {
+    let input = fragments(alloc, count, len)?;
+    let written = octets(alloc, &["0300001611d00001000100c0010ac1020100c2020102"])?;
+    a_talk(alloc, input, written, outcome, "0")
+}
+
 #[test]
 fn fragments_have_an_end(rt: HostRuntime) -> Result<(), Fail> {
-    let alloc = rt.alloc();
-    let confirm = octets(alloc, "0300001611d00001000100c0010ac1020100c2020102")?;
     for (count, len, outcome) in [
         (64, 128, "torn 8192"),
         (65, 1, "too-many-fragments 534"),
         (52, 160, "too-long 8539"),
     ] {
-        let input = fragments(alloc, count, len)?;
-        let report = report(alloc, outcome, "0")?;
-        serves(
-            &rt,
-            alloc,
-            BLOCK,
-            input,
-            ROOM,
-            confirm.as_slice(),
-            report.as_str(),
-        )?;
+        let talk = fragments_end(rt.alloc(), count, len, outcome)?;
+        assert!(&rt;
+            serves(&rt, rt.alloc(), BLOCK, ROOM, &talk, &OPENED)?,
+            "{outcome}"
+        );
     }
     Ok(())
 }
@@ -233,30 +232,32 @@ fn fragments_have_an_end(rt: HostRuntime) -> Result<(), Fail> {
 #[test]
 fn messages_are_answered(rt: HostRuntime) -> Result<(), Fail> {
     for line in MESSAGES.lines() {
-        answers_line(&rt, rt.alloc(), line)?;
+        let talk = message_of(rt.alloc(), line)?;
+        assert!(&rt;
+            serves(&rt, rt.alloc(), BLOCK, ROOM, &talk, &OPENED)?,
+            "{line}"
+        );
     }
     Ok(())
+}
+
+// A connect request, and the longest packet that is taken.
+fn longest(alloc: Global) -> Result<Vec<u8>, Fail> {
+    let mut all = octets(alloc, &["0300001611e00000000100c0010dc1020100c2020102"])?;
+    all.extend_from_slice(&[3, 0, 0x20, 0x07, 2, 0xF0, 0x80, 0x32])?;
+    for _ in 8..8199 {
+        all.push(0)?;
+    }
+    Ok(all)
 }
 
 #[test]
 fn the_longest_packet_is_taken(rt: HostRuntime) -> Result<(), Fail> {
     let alloc = rt.alloc();
-    let mut input = octets(alloc, "0300001611e00000000100c0010dc1020100c2020102")?;
-    input.extend_from_slice(&[3, 0, 0x20, 0x07, 2, 0xF0, 0x80, 0x32])?;
-    for _ in 8..8199 {
-        input.push(0)?;
-    }
     let confirm = "0300001611d00001000100c0010dc1020100c2020102";
+    let input = longest(alloc)?;
     let written = with_message(alloc, confirm, "320200000000000000008104")?;
-    let report = report(alloc, "ended", "0")?;
-    serves(
-        &rt,
-        alloc,
-        BLOCK,
-        input,
-        ROOM,
-        written.as_slice(),
-        report.as_str(),
-    )?;
+    let talk = a_talk(alloc, input, written, "ended", "0")?;
+    assert!(&rt; serves(&rt, alloc, BLOCK, ROOM, &talk, &OPENED)?);
     Ok(())
 }

@@ -1,8 +1,11 @@
 // A panel's session through the whole program: tags that are read again and again, a write, the clock and the mode.
-use crate::helpers::{CONFIRM, CONNECT, ROOM, call, octets};
+use crate::helpers::{CONFIRM, CONNECT, ROOM, add_octets, call, has_written, octets};
 use s7_outer::{MemoryFiles, MemoryLink, MemoryOut, Octets};
 use std::alloc::Global;
+use std::sync::Wait;
 use std::test::Fail;
+use std::thread::Threads;
+use std::time::Clock;
 
 const AREAS: &str = "s7 areas 1\nMK 4\n81020304\nCT 4\n00070123\nDB 1 32\n\
     000102030405060708090a0b0c0d0e0f101112131415161718191a1b1c1d1e1f\n";
@@ -34,40 +37,62 @@ const REST_TOLD: &str = "0300001602f0803203000000190002000100000501ff \
 /// 2024-02-29 13:45:30.123, in milliseconds since 1970.
 const MOMENT: u64 = 1_709_214_330_123;
 
-// The telegram under sequences from 5 to 24, one after another.
-fn twenty(alloc: Global, telegram: &str, into: &mut Vec<u8>) -> Result<(), Fail> {
-    for sequence in 5..25u8 {
-        let mut numbered = octets(alloc, telegram)?;
-        if let Some(low) = numbered.get_mut(12) {
-            *low = sequence;
-        }
-        into.extend_from_slice(numbered.as_slice())?;
+// Adds the telegram with this sequence.
+fn add_numbered(
+    alloc: Global,
+    telegram: &str,
+    sequence: u8,
+    into: &mut Vec<u8>,
+) -> Result<(), Fail> {
+    let mut numbered = octets(alloc, &[telegram])?;
+    if let Some(low) = numbered.get_mut(12) {
+        *low = sequence;
     }
+    into.extend_from_slice(numbered.as_slice())?;
     Ok(())
 }
 
-// What begins with a connect and a negotiation, has the reads, and ends so.
+// What begins with a connect and a negotiation, has the reads under sequences from 5 to 24, one after another, and
+// ends so.
 fn session(alloc: Global, begin: &str, reads: &str, rest: &str) -> Result<Vec<u8>, Fail> {
-    let mut all = octets(alloc, begin)?;
-    twenty(alloc, reads, &mut all)?;
-    all.extend_from_slice(octets(alloc, rest)?.as_slice())?;
+    let mut all = octets(alloc, &[begin])?;
+    for sequence in 5..25u8 {
+        add_numbered(alloc, reads, sequence, &mut all)?;
+    }
+    add_octets(alloc, rest, &mut all)?;
     Ok(all)
+}
+
+// The panel's link, which moves a hundred octets a call.
+fn a_panel(alloc: Global) -> Result<MemoryLink, Fail> {
+    let input = Octets::of_vec(session(alloc, CONNECT, TAGS, REST)?);
+    Ok(MemoryLink::new(alloc, input, 100, ROOM, MOMENT)?)
+}
+
+// The areas under `a.txt`.
+fn area_files(alloc: Global) -> Result<MemoryFiles, Fail> {
+    let mut files = MemoryFiles::new();
+    files.insert(alloc, "a.txt", Octets::copy_of(alloc, AREAS.as_bytes())?)?;
+    Ok(files)
+}
+
+// The panel is told this, and has 23 entries.
+fn is_told<R: Threads + Wait + Clock + Sync>(
+    rt: &R,
+    alloc: Global,
+    told: &[u8],
+) -> Result<bool, Fail> {
+    let mut files = area_files(alloc)?;
+    let link = a_panel(alloc)?;
+    let mut out = MemoryOut::new(alloc, ROOM)?;
+    let end = call(rt, alloc, &["pipe", "a.txt"], &mut files, link, &mut out);
+    let report = "link 1 ended entries 23\njournal 23\n";
+    Ok(has_written(&end, &out, told, report))
 }
 
 #[test]
 fn a_panel_is_served(rt: HostRuntime) -> Result<(), Fail> {
-    let alloc = rt.alloc();
-    let mut files = MemoryFiles::new();
-    files.insert(alloc, "a.txt", Octets::copy_of(alloc, AREAS.as_bytes())?)?;
-    let input = session(alloc, CONNECT, TAGS, REST)?;
-    let link = MemoryLink::new(alloc, Octets::of_vec(input), 100, ROOM, MOMENT)?;
-    let mut out = MemoryOut::new(alloc, ROOM)?;
-    let end = call(&rt, alloc, &["pipe", "a.txt"], &mut files, link, &mut out);
-    assert_eq!(rt; end.status, 0);
-    assert!(rt; out.text() == b"link 1 ended entries 23\njournal 23\n".as_slice());
-    let run = end.run.ok_or("no run")?;
-    let served = run.links.first().ok_or("no link")?;
-    let told = session(alloc, CONFIRM, TOLD, REST_TOLD)?;
-    assert!(rt; served.line.written() == told.as_slice());
+    let told = session(rt.alloc(), CONFIRM, TOLD, REST_TOLD)?;
+    assert!(&rt; is_told(&rt, rt.alloc(), told.as_slice())?);
     Ok(())
 }

@@ -1,13 +1,9 @@
-// What the tests share: telegrams, and links in memory that are served.
+// What the tests share: telegrams, links in memory that are served, and what is left of them.
 use s7_area::AreaKey;
-use s7_outer::{
-    Clock as LinkClock, Door, Gate, Link, MemoryDoor, MemoryFiles, MemoryLink, MemoryOut, Octets,
-    OpenGate,
-};
+use s7_outer::{MemoryDoor, MemoryFiles, MemoryLink, MemoryOut, Octets, OpenGate};
 use s7_plant::{Book, Tail};
 use s7_server::{ServerEnd, server_main};
 use std::alloc::Global;
-use std::process::Abort;
 use std::sync::Wait;
 use std::test::Fail;
 use std::thread::Threads;
@@ -31,13 +27,70 @@ pub const WRITE: &str = "0300004802f08032010000000a002600110503120a1002000100018
 
 pub const WRITTEN: &str = "0300001802f08032030000000a0002000300000503ff05ff";
 
-// The octets of a text in hex with blanks.
-pub fn octets(alloc: Global, text: &str) -> Result<Vec<u8>, Fail> {
+/// The report of a link without an entry.
+pub const NO_ENTRY: &str = "link 1 ended entries 0\njournal 0\n";
+
+// The octets of texts in hex with blanks, one behind another.
+pub fn octets(alloc: Global, texts: &[&str]) -> Result<Vec<u8>, Fail> {
     let mut all = Vec::new(alloc);
+    for text in texts {
+        add_octets(alloc, text, &mut all)?;
+    }
+    Ok(all)
+}
+
+// Adds the octets of a text in hex with blanks.
+fn add_octets(alloc: Global, text: &str, all: &mut Vec<u8>) -> Result<(), Fail> {
     for part in text.split(' ') {
         all.extend_from_slice(hex::decode(alloc, part)?.as_slice())?;
     }
-    Ok(all)
+    Ok(())
+}
+
+// A link that gives these octets.
+pub fn a_link(alloc: Global, input: Vec<u8>) -> Result<MemoryLink, Fail> {
+    Ok(MemoryLink::new(alloc, Octets::of_vec(input), ROOM, ROOM, 0)?)
+}
+
+// A door of two links, each of which connects, negotiates and reads twice.
+fn a_door(alloc: Global) -> Result<MemoryDoor<MemoryLink>, Fail> {
+    let mut links = Vec::new(alloc);
+    for _ in 0..2 {
+        links.push(a_link(alloc, octets(alloc, &[CONNECT, READ, READ])?)?)?;
+    }
+    Ok(MemoryDoor::new(links, None))
+}
+
+// Calls the server with a link, at a door without links and a gate that is open. Nobody watches.
+pub fn call<R: Threads + Wait + Clock + Sync>(
+    rt: &R,
+    alloc: Global,
+    words: &[&str],
+    files: &mut MemoryFiles,
+    link: MemoryLink,
+    out: &mut MemoryOut,
+) -> ServerEnd<MemoryLink, Tail> {
+    let mut door = MemoryDoor::new(Vec::new(alloc), None);
+    let observers = Vec::new(alloc);
+    server_main(
+        rt, alloc, words, files, link, &mut door, &OpenGate, out, observers,
+    )
+}
+
+// Calls the server with a door of two links that read twice, and a link that has ended. Nobody watches.
+pub fn host<R: Threads + Wait + Clock + Sync>(
+    rt: &R,
+    alloc: Global,
+    words: &[&str],
+    files: &mut MemoryFiles,
+    out: &mut MemoryOut,
+) -> Result<ServerEnd<MemoryLink, Tail>, Fail> {
+    let link = a_link(alloc, Vec::new(alloc))?;
+    let mut door = a_door(alloc)?;
+    let observers = Vec::new(alloc);
+    Ok(server_main(
+        rt, alloc, words, files, link, &mut door, &OpenGate, out, observers,
+    ))
 }
 
 // Data block 1 of the book's plant holds these octets.
@@ -49,78 +102,18 @@ pub fn holds(book: &Book<Tail>, octets: &[u8]) -> bool {
     book.plant.areas.octets_of(key) == Some(octets)
 }
 
-// The report of a link that ended so.
-pub fn report(alloc: Global, outcome: &str, entries: &str) -> Result<String, Fail> {
-    Ok(format!(in alloc; "link 1 {outcome} entries {entries}\njournal {entries}\n")?)
+// The server ended with this status, and printed this.
+pub fn ended(end: &ServerEnd<MemoryLink, Tail>, out: &MemoryOut, status: u8, text: &str) -> bool {
+    end.status == status && out.text() == text.as_bytes()
 }
 
-// Calls the server with a link, at a door without links and a gate that is open. Nobody watches.
-pub fn call<R: Threads + Wait + Clock + Sync, L: Link + LinkClock + Send + Drop>(
-    rt: &R,
-    alloc: Global,
-    words: &[&str],
-    files: &mut MemoryFiles,
-    link: L,
-    out: &mut MemoryOut,
-) -> ServerEnd<L, Tail> {
-    let mut door = MemoryDoor::new(Vec::new(alloc), None);
-    server_main(
-        rt,
-        alloc,
-        words,
-        files,
-        link,
-        &mut door,
-        &OpenGate,
-        out,
-        Vec::new(alloc),
-    )
+// A run is there exactly with status 0, and else the link is handed back.
+fn runs(end: &ServerEnd<MemoryLink, Tail>) -> bool {
+    end.run.is_some() == (end.status == 0) && end.pipe.is_none() == end.run.is_some()
 }
 
-// Calls the server with a door and a gate, and a link that has ended. Nobody watches.
-pub fn host<R: Threads + Wait + Clock + Sync, D: Door<MemoryLink>, G: Gate + Sync>(
-    rt: &R,
-    alloc: Global,
-    words: &[&str],
-    files: &mut MemoryFiles,
-    door: &mut D,
-    gate: &G,
-    out: &mut MemoryOut,
-) -> Result<ServerEnd<MemoryLink, Tail>, Fail> {
-    let link = MemoryLink::new(alloc, Octets::of_vec(Vec::new(alloc)), ROOM, ROOM, 0)?;
-    Ok(server_main(
-        rt,
-        alloc,
-        words,
-        files,
-        link,
-        door,
-        gate,
-        out,
-        Vec::new(alloc),
-    ))
-}
-
-// A door of so many links, each of which connects, negotiates and reads twice.
-pub fn a_door(
-    alloc: Global,
-    count: usize,
-    fail_at: Option<usize>,
-) -> Result<MemoryDoor<MemoryLink>, Fail> {
-    let mut input = octets(alloc, CONNECT)?;
-    for _ in 0..2 {
-        input.extend_from_slice(octets(alloc, READ)?.as_slice())?;
-    }
-    let mut links = Vec::new(alloc);
-    for _ in 0..count {
-        let octets = Octets::copy_of(alloc, input.as_slice())?;
-        links.push(MemoryLink::new(alloc, octets, ROOM, ROOM, 0)?)?;
-    }
-    Ok(MemoryDoor::new(links, fail_at))
-}
-
-// Calls the server with these words and files, on a link that has ended.
-pub fn files_give<R: Threads + Wait + Clock + Sync + Abort>(
+// Calls the server with these words and files, on a link that has ended: this is its status, and what it prints.
+pub fn files_give<R: Threads + Wait + Clock + Sync>(
     rt: &R,
     alloc: Global,
     words: &[&str],
@@ -128,11 +121,8 @@ pub fn files_give<R: Threads + Wait + Clock + Sync + Abort>(
     status: u8,
     text: &str,
 ) -> Result<bool, Fail> {
-    let link = MemoryLink::new(alloc, Octets::of_vec(Vec::new(alloc)), ROOM, ROOM, 0)?;
+    let link = a_link(alloc, Vec::new(alloc))?;
     let mut out = MemoryOut::new(alloc, ROOM)?;
     let end = call(rt, alloc, words, files, link, &mut out);
-    assert_eq!(rt; end.status, status);
-    assert!(rt; out.text() == text.as_bytes(), "{text}");
-    assert!(rt; end.pipe.is_none() == end.run.is_some());
-    Ok(end.run.is_some())
+    Ok(ended(&end, &out, status, text) && runs(&end))
 }

@@ -166,26 +166,61 @@ fn bound_of(at: usize) -> (usize, usize) {
     last
 }
 
-/// A link that gives the first octets ends where a packet ends, or in one, and what was answered is answered.
-fn ends_at<R: Wait + Clock>(rt: &R, alloc: Global, at: usize) -> Result<bool, Fail> {
+/// The link that gives the first octets.
+fn cut_line(alloc: Global, at: usize) -> Result<FailingLink<MemoryLink>, Fail> {
     let mut input = octets(alloc, &CUT, "asked")?;
     input.truncate(at);
-    let answers = octets(alloc, &CUT, "answered")?;
-    let (from, answered) = bound_of(at);
-    let wanted = if from == at {
+    let inner = MemoryLink::new(alloc, Octets::of_vec(input), 8_192, 8_192, 0)?;
+    Ok(FailingLink::new(inner, Vec::new(alloc)))
+}
+
+/// It ends where a packet ends, or in one.
+fn end_of(at: usize) -> Outcome {
+    let (from, _) = bound_of(at);
+    if from == at {
         Outcome::Ended
     } else {
         Outcome::Torn(at.saturating_sub(from))
-    };
-    let inner = MemoryLink::new(alloc, Octets::of_vec(input), 8_192, 8_192, 0)?;
-    let mut line = FailingLink::new(inner, Vec::new(alloc));
-    let mut desk = desk_of(alloc, &CUT)?;
+    }
+}
+
+/// How the session of a link ends, and how many entries it has made.
+fn served<R: Wait + Clock>(
+    rt: &R,
+    alloc: Global,
+    line: &mut FailingLink<MemoryLink>,
+    desk: &mut Desk,
+) -> Result<(Outcome, u64), Fail> {
     let mut session = Session::new(alloc, 1, None)?;
-    let outcome = serve(rt, alloc, &mut session, &mut line, &mut desk);
+    let outcome = serve(rt, alloc, &mut session, line, desk);
+    Ok((outcome, session.entries()))
+}
+
+/// The session of the talk that is cut has a desk of its own.
+fn cut_served<R: Wait + Clock>(
+    rt: &R,
+    alloc: Global,
+    line: &mut FailingLink<MemoryLink>,
+) -> Result<(Outcome, u64), Fail> {
+    let mut desk = desk_of(alloc, &CUT)?;
+    served(rt, alloc, line, &mut desk)
+}
+
+/// What was written are the first so many octets of the talk's answers.
+fn is_answered(alloc: Global, talk: &Talk<'_>, count: usize, written: &[u8]) -> Result<bool, Fail> {
+    let answers = octets(alloc, talk, "answered")?;
+    Ok(answers.as_slice().get(..count) == Some(written))
+}
+
+/// A link that gives the first octets ends where a packet ends, or in one, and what was answered is answered.
+fn ends_at<R: Wait + Clock>(rt: &R, alloc: Global, at: usize) -> Result<bool, Fail> {
+    let mut line = cut_line(alloc, at)?;
+    let (outcome, entries) = cut_served(rt, alloc, &mut line)?;
+    let (_, answered) = bound_of(at);
     Ok(
-        outcome == wanted
-            && session.entries() == u64::from(at == 78)
-            && answers.as_slice().get(..answered) == Some(line.inner().written()),
+        outcome == end_of(at)
+            && entries == u64::from(at == 78)
+            && is_answered(alloc, &CUT, answered, line.inner().written())?,
     )
 }
 
@@ -243,12 +278,12 @@ fn with_fate(alloc: Global, lines: &str, passing: usize, fate: char) -> Result<S
     Ok(text)
 }
 
-/// What became of a link that failed is what the words between colons say.
+/// What became of a link that failed, whose session made so many entries, is what the words between colons say.
 fn is_left(
     alloc: Global,
     talk: &Talk<'_>,
     left: &str,
-    session: &Session,
+    made: u64,
     line: &FailingLink<MemoryLink>,
     desk: &Desk,
 ) -> Result<bool, Fail> {
@@ -260,11 +295,10 @@ fn is_left(
         Some(hex) => hex::decode(alloc, hex)?,
         None => octets(alloc, talk, "block")?,
     };
-    let answers = octets(alloc, talk, "answered")?;
     Ok(
-        session.entries() == entries
+        made == entries
             && desk.holds(blocks, block.as_slice())
-            && answers.as_slice().get(..written) == Some(line.inner().written()),
+            && is_answered(alloc, talk, written, line.inner().written())?,
     )
 }
 
@@ -278,9 +312,8 @@ fn fails_so<R: Wait + Clock>(
 ) -> Result<bool, Fail> {
     let mut line = line_of(alloc, talk, 8_192)?;
     let mut desk = desk_of(alloc, talk)?;
-    let mut session = Session::new(alloc, 1, None)?;
-    let outcome = serve(rt, alloc, &mut session, &mut line, &mut desk);
-    Ok(outcome == wanted && is_left(alloc, talk, left, &session, &line, &desk)?)
+    let (outcome, made) = served(rt, alloc, &mut line, &mut desk)?;
+    Ok(outcome == wanted && is_left(alloc, talk, left, made, &line, &desk)?)
 }
 
 /// A talk whose link fails at the call behind so many of its calls leaves what the word says.

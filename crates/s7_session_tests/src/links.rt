@@ -277,15 +277,37 @@ fn turn(
     session.turn(alloc, line, desk)
 }
 
+/// The turns of a session tell this.
+fn turns_tell(
+    alloc: Global,
+    session: &mut Session,
+    line: &mut FailingLink<MemoryLink>,
+    desk: &mut Desk,
+) -> bool {
+    for told in TURNS {
+        if turn(alloc, session, line, desk) != told {
+            return false;
+        }
+    }
+    true
+}
+
+/// Those of a new session do.
+fn new_turns_tell(alloc: Global, line: &mut FailingLink<MemoryLink>) -> Result<bool, Fail> {
+    let mut desk = desk_of(alloc, &SLOW)?;
+    let mut session = Session::new(alloc, 1, None)?;
+    Ok(turns_tell(alloc, &mut session, line, &mut desk))
+}
+
+/// They do on that link, and its answer is written.
+fn slow_turns_tell(alloc: Global) -> Result<bool, Fail> {
+    let mut line = line_of(alloc, &SLOW, 8_192)?;
+    Ok(new_turns_tell(alloc, &mut line)? && is_written(alloc, &SLOW, line.inner().written())?)
+}
+
 #[test]
 fn a_turn_tells_what_it_did(rt: HostRuntime) -> Result<(), Fail> {
-    let mut line = line_of(rt.alloc(), &SLOW, 8_192)?;
-    let mut desk = desk_of(rt.alloc(), &SLOW)?;
-    let mut session = Session::new(rt.alloc(), 1, None)?;
-    for told in TURNS {
-        assert!(rt; turn(rt.alloc(), &mut session, &mut line, &mut desk) == told);
-    }
-    assert!(rt; is_written(rt.alloc(), &SLOW, line.inner().written())?);
+    assert!(rt; slow_turns_tell(rt.alloc())?);
     Ok(())
 }
 
@@ -324,15 +346,36 @@ fn has_one_entry(book: &Book<Tail>) -> bool {
     book.journal.len() == 1
 }
 
+/// A session ends as links do, and has entered one telegram, as the first.
+fn enters_one<R: Wait + Clock>(
+    rt: &R,
+    alloc: Global,
+    line: &mut FailingLink<MemoryLink>,
+    book: &mut Book<Tail>,
+) -> Result<bool, Fail> {
+    let mut session = Session::new(alloc, 7, None)?;
+    let outcome = serve_book(rt, alloc, &mut session, line, book);
+    Ok(outcome == Outcome::Ended && session.entries() == 1 && session.last() == Some(0))
+}
+
+/// The book takes it, and no other.
+fn takes_one<R: Wait + Clock>(
+    rt: &R,
+    alloc: Global,
+    line: &mut FailingLink<MemoryLink>,
+) -> Result<bool, Fail> {
+    let mut book = a_book(alloc, &BOOKED)?;
+    Ok(enters_one(rt, alloc, line, &mut book)? && has_one_entry(&book))
+}
+
+/// The link is answered so.
+fn is_full_at_one<R: Wait + Clock>(rt: &R, alloc: Global) -> Result<bool, Fail> {
+    let mut line = line_of(alloc, &BOOKED, 8_192)?;
+    Ok(takes_one(rt, alloc, &mut line)? && is_written(alloc, &BOOKED, line.inner().written())?)
+}
+
 #[test]
 fn a_book_is_full_at_its_limit(rt: HostRuntime) -> Result<(), Fail> {
-    let mut line = line_of(rt.alloc(), &BOOKED, 8_192)?;
-    let mut book = a_book(rt.alloc(), &BOOKED)?;
-    let mut session = Session::new(rt.alloc(), 7, None)?;
-    let outcome = serve_book(&rt, rt.alloc(), &mut session, &mut line, &mut book);
-    assert!(rt; outcome == Outcome::Ended);
-    assert!(rt; session.entries() == 1 && session.last() == Some(0));
-    assert!(rt; is_written(rt.alloc(), &BOOKED, line.inner().written())?);
-    assert!(rt; has_one_entry(&book));
+    assert!(rt; is_full_at_one(&rt, rt.alloc())?);
     Ok(())
 }
