@@ -19,7 +19,7 @@ use Rattle.s7_area.specs.declared.key.AreaKey.{AreaKey}
 use Rattle.std.specs.Prelude.{IfSome}
 use Rattle.s7_area.specs.declared.guard.Guard.{Guard}
 use Rattle.s7_area.specs.Guards.{IsGuard}
-use Rattle.s7_area.specs.Memory.{AreaList, Memory, no_areas, key_cmp, octets_at, with_area, without_area, with_octets}
+use Rattle.s7_area.specs.Memory.{AreaList, Memory, no_areas, key_cmp, area_octets, with_area, without_area, with_octets}
 use Rattle.s7_area.specs.declared.register.RegisterFault.TheVariants.{Key, Size, Exists, TooManyDbs}
 use Rattle.s7_area.specs.Keys.{is_key, is_numbered}
 use Rattle.s7_area.specs.Laws.{IsFaultless}
@@ -87,7 +87,7 @@ blocks-remove_entry test [] = omega arith
 blocks-remove_entry test (e ∷ m) = blocks_remove_step (test e.0) e m (remove_entry test m) (blocks-remove_entry test m)
 
 -- the octets of an area change, and not their number
-pub IsMemory-with_octets : (m : Memory) (key : AreaKey) (old new : List ℕ) → octets_at m key ≡ Some old → length new ≡ length old → IsMemory m → IsMemory (with_octets m key new)
+pub IsMemory-with_octets : (m : Memory) (key : AreaKey) (old new : List ℕ) → area_octets m key ≡ Some old → length new ≡ length old → IsMemory m → IsMemory (with_octets m key new)
 IsMemory-with_octets m key old new found same is =
     let sums = sum_by-set_value length (is_at (key_cmp key)) m.areas old new found in
     record {
@@ -98,15 +98,15 @@ IsMemory-with_octets m key old new found same is =
       guard = is.guard;
     }
 
-pub total-with_octets : (m : Memory) (key : AreaKey) (old new : List ℕ) → octets_at m key ≡ Some old → length new ≡ length old → total_of (with_octets m key new) ≡ total_of m
+pub total-with_octets : (m : Memory) (key : AreaKey) (old new : List ℕ) → area_octets m key ≡ Some old → length new ≡ length old → total_of (with_octets m key new) ≡ total_of m
 total-with_octets m key old new found same =
     let sums = sum_by-set_value length (is_at (key_cmp key)) m.areas old new found in omega (arith, sums, same)
 
 -- an area joins
-pub total-with_area : (m : Memory) (key : AreaKey) (octets : List ℕ) → IsStrictlySortedBy key_cmp (keys_of m.areas) → octets_at m key ≡ None → total_of (with_area m key octets) ≡ total_of m + length octets
+pub total-with_area : (m : Memory) (key : AreaKey) (octets : List ℕ) → IsStrictlySortedBy key_cmp (keys_of m.areas) → area_octets m key ≡ None → total_of (with_area m key octets) ≡ total_of m + length octets
 total-with_area m key octets sorted absent =
     let sums = sum_by-insert_entry length key_cmp_total m.areas key octets sorted in
-    let none : unwrap_or (option_map length (octets_at m key)) 0 ≡ 0 = rw absent refl in
+    let none : unwrap_or (option_map length (area_octets m key)) 0 ≡ 0 = rw absent refl in
     omega (arith, sums, none)
 
 absent_by : (o : Option (List ℕ)) → is_some o ≡ false → o ≡ None
@@ -117,7 +117,7 @@ sized_by : (total len : ℕ) (pairs : Bool) → (eqb len 0 || ltb most_octets le
 sized_by total len true size = (grind (arith, nat_tests), grind (arith, nat_tests), λ _. grind (arith, nat_tests), grind (arith, nat_tests))
 sized_by total len false size = (grind (arith, nat_tests), grind (arith, nat_tests), λ is. cc, grind (arith, nat_tests))
 
-faultless_by : (m : Memory) (key : AreaKey) (len : ℕ) (a b c d : Bool) → is_key key ≡ a → is_wrong_size m key len ≡ b → is_some (octets_at m key) ≡ c → is_db_too_many m key ≡ d → cond (not a) (Some Key) (cond b (Some Size) (cond c (Some Exists) (cond d (Some TooManyDbs) None))) ≡ None → IsFaultless m key len
+faultless_by : (m : Memory) (key : AreaKey) (len : ℕ) (a b c d : Bool) → is_key key ≡ a → is_wrong_size m key len ≡ b → is_some (area_octets m key) ≡ c → is_db_too_many m key ≡ d → cond (not a) (Some Key) (cond b (Some Size) (cond c (Some Exists) (cond d (Some TooManyDbs) None))) ≡ None → IsFaultless m key len
 faultless_by m key len false b c d p q r s none = cc
 faultless_by m key len true true c d p q r s none = cc
 faultless_by m key len true false true d p q r s none = cc
@@ -146,13 +146,13 @@ IsMemory-with_area m key octets sorted none is =
     }
 
 -- an area goes
-pub total-without_area : (m : Memory) (key : AreaKey) (octets : List ℕ) → octets_at m key ≡ Some octets → total_of (without_area m key) + length octets ≡ total_of m
+pub total-without_area : (m : Memory) (key : AreaKey) (octets : List ℕ) → area_octets m key ≡ Some octets → total_of (without_area m key) + length octets ≡ total_of m
 total-without_area m key octets found =
     let sums = sum_by-remove_entry length (is_at (key_cmp key)) m.areas in
-    let some : unwrap_or (option_map length (octets_at m key)) 0 ≡ length octets = rw found refl in
+    let some : unwrap_or (option_map length (area_octets m key)) 0 ≡ length octets = rw found refl in
     omega (arith, sums, some)
 
-pub IsMemory-without_area : (m : Memory) (key : AreaKey) (octets : List ℕ) → octets_at m key ≡ Some octets → IsStrictlySortedBy key_cmp (keys_of ((without_area m key).areas)) → IsMemory m → IsMemory (without_area m key)
+pub IsMemory-without_area : (m : Memory) (key : AreaKey) (octets : List ℕ) → area_octets m key ≡ Some octets → IsStrictlySortedBy key_cmp (keys_of ((without_area m key).areas)) → IsMemory m → IsMemory (without_area m key)
 IsMemory-without_area m key octets found sorted is =
     let sums = total-without_area m key octets found in
     record {
@@ -172,7 +172,7 @@ pub Keeps-with_guard : (m : Memory) (guard : Option Guard) (total : ℕ) → IfS
 Keeps-with_guard m guard total known is =
     (record { areas = is.0.areas; ordered = is.0.ordered; total = is.0.total; blocks = is.0.blocks; guard = known }, is.1)
 
-pub Keeps-with_octets : (m : Memory) (key : AreaKey) (old new : List ℕ) (total : ℕ) → octets_at m key ≡ Some old → length new ≡ length old → Keeps m total → Keeps (with_octets m key new) total
+pub Keeps-with_octets : (m : Memory) (key : AreaKey) (old new : List ℕ) (total : ℕ) → area_octets m key ≡ Some old → length new ≡ length old → Keeps m total → Keeps (with_octets m key new) total
 Keeps-with_octets m key old new total found same is =
     (IsMemory-with_octets m key old new found same is.0, is.1 ∙ sym (total-with_octets m key old new found same))
 
@@ -181,6 +181,6 @@ Keeps-with_area m key octets total sorted none is =
     let joined = total-with_area m key octets is.0.ordered ((faultless m key (length octets) none).absent) in
     (IsMemory-with_area m key octets sorted none is.0, omega (arith, joined, is.1))
 
-pub Keeps-without_area : (m : Memory) (key : AreaKey) (octets : List ℕ) (total : ℕ) → octets_at m key ≡ Some octets → IsStrictlySortedBy key_cmp (keys_of ((without_area m key).areas)) → Keeps m total → Keeps (without_area m key) (total - length octets)
+pub Keeps-without_area : (m : Memory) (key : AreaKey) (octets : List ℕ) (total : ℕ) → area_octets m key ≡ Some octets → IsStrictlySortedBy key_cmp (keys_of ((without_area m key).areas)) → Keeps m total → Keeps (without_area m key) (total - length octets)
 Keeps-without_area m key octets total found sorted is =
     (IsMemory-without_area m key octets found sorted is.0, omega (arith, total-without_area m key octets found, is.1))

@@ -9,14 +9,14 @@ use Rattle.s7_item.specs.Item.{octet_count}
 use Rattle.s7_item.specs.declared.item.Item.{Item}
 use Rattle.s7_area.specs.Places.{is_misfit, key_of, start_of, is_inside, value_at, changed_at}
 use Rattle.s7_area.specs.Guards.{level_of, is_read_barred}
-use Rattle.s7_area.specs.Memory.{Memory, key_cmp, octets_at, code_in, put_code, read_code, read_octets, write_code, written}
+use Rattle.s7_area.specs.Memory.{Memory, key_cmp, area_octets, code_in, put_code, read_code, read_octets, write_code, written}
 use Rattle.s7_area.specs.Laws.{WrittenIsRead}
 
 -- what is known where a write with a right to it has the code FF
 pub record IsGood (m : Memory) (item : Item) (octets : List ℕ) : Type 0 where
   pub old : List ℕ
   pub fits : is_misfit item ≡ false
-  pub found : octets_at m (key_of item) ≡ Some old
+  pub found : area_octets m (key_of item) ≡ Some old
   pub inside : is_inside item (length old) ≡ true
   pub count : length octets ≡ octet_count item
 
@@ -24,13 +24,13 @@ pub record IsGood (m : Memory) (item : Item) (octets : List ℕ) : Type 0 where
 abbrev judged : ℕ → Bool → ℕ
 judged code counts = cond (eqb code 255 && not counts) 7 code
 
-good_inside : (m : Memory) (item : Item) (octets old : List ℕ) (inside counts : Bool) → is_misfit item ≡ false → octets_at m (key_of item) ≡ Some old → is_inside item (length old) ≡ inside → eqb (length octets) (octet_count item) ≡ counts → judged (cond inside 255 5) counts ≡ 255 → IsGood m item octets
+good_inside : (m : Memory) (item : Item) (octets old : List ℕ) (inside counts : Bool) → is_misfit item ≡ false → area_octets m (key_of item) ≡ Some old → is_inside item (length old) ≡ inside → eqb (length octets) (octet_count item) ≡ counts → judged (cond inside 255 5) counts ≡ 255 → IsGood m item octets
 good_inside m item octets old false counts fits found a b is = absurd (omega arith)
 good_inside m item octets old true false fits found a b is = absurd (omega arith)
 good_inside m item octets old true true fits found a b is =
     record { old = old; fits = fits; found = found; inside = a; count = eqb-true _ _ b }
 
-good_by : (m : Memory) (item : Item) (octets : List ℕ) (misfit : Bool) (found : Option (List ℕ)) → is_misfit item ≡ misfit → octets_at m (key_of item) ≡ found → judged (cond misfit 6 (code_in found item)) (eqb (length octets) (octet_count item)) ≡ 255 → IsGood m item octets
+good_by : (m : Memory) (item : Item) (octets : List ℕ) (misfit : Bool) (found : Option (List ℕ)) → is_misfit item ≡ misfit → area_octets m (key_of item) ≡ found → judged (cond misfit 6 (code_in found item)) (eqb (length octets) (octet_count item)) ≡ 255 → IsGood m item octets
 good_by m item octets true found a b is = absurd (omega arith)
 good_by m item octets false None a b is = absurd (omega arith)
 good_by m item octets false (Some old) a b is = good_inside m item octets old _ _ a b refl refl is
@@ -78,7 +78,7 @@ value-changed_at item octets old wide inside count =
     let front : length (take (start_of item) old) ≡ start_of item = grind (arith, common_steps) in
     rw wide (seam (take (start_of item) old) octets (drop (start_of item + length octets) old) (start_of item) (octet_count item) front count)
 
-written-good : (m : Memory) (right : Bool) (item : Item) (octets old : List ℕ) → write_code m right item octets ≡ 255 → octets_at m (key_of item) ≡ Some old → octets_at (written m right item octets) (key_of item) ≡ Some (changed_at item octets old)
+written-good : (m : Memory) (right : Bool) (item : Item) (octets old : List ℕ) → write_code m right item octets ≡ 255 → area_octets m (key_of item) ≡ Some old → area_octets (written m right item octets) (key_of item) ≡ Some (changed_at item octets old)
 unfolding written
 written-good m right item octets old is found =
     rw (is, found) (lookup_set (is_at (key_cmp (key_of item))) m.areas old (changed_at item octets old) found)

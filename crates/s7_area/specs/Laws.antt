@@ -7,7 +7,7 @@ use Rattle.s7_item.specs.Codes.{good, bits}
 use Rattle.s7_item.specs.declared.item.Item.{Item}
 use Rattle.s7_area.specs.Places.{bit_of, with_bit}
 use Rattle.s7_area.specs.Keys.{is_key, is_numbered}
-use Rattle.s7_area.specs.Memory.{Memory, key_cmp, octets_at, with_area, shape_of, read_code, read_octets, write_code, written}
+use Rattle.s7_area.specs.Memory.{Memory, key_cmp, area_octets, with_area, shape_of, read_code, read_octets, write_code, written}
 use Rattle.s7_area.specs.Registers.{most_octets, most_in_all, total_of, is_wrong_size, is_db_too_many, fault_of}
 use Rattle.s7_area.specs.declared.key.AreaKey.{AreaKey}
 
@@ -38,7 +38,7 @@ pub record IsFaultless (m : Memory) (key : AreaKey) (len : ℕ) : Type 0 where
   pub most : len ≤ most_octets
   pub even : is_numbered key.area ≡ true → len % 2 ≡ 0
   pub fits : total_of m + len ≤ most_in_all
-  pub absent : octets_at m key ≡ None
+  pub absent : area_octets m key ≡ None
   pub few : is_db_too_many m key ≡ false
 
 -- names have a total order, an area that joins adds its octets to those of all, and what no fault means
@@ -46,6 +46,6 @@ pub record AreasJoin : Type 0 where
   pub ordered : IsTotalOrder key_cmp
   pub total :
       (m : Memory) (key : AreaKey) (octets : List ℕ)
-      → IsStrictlySortedBy key_cmp (keys_of m.areas) → octets_at m key ≡ None
+      → IsStrictlySortedBy key_cmp (keys_of m.areas) → area_octets m key ≡ None
       → total_of (with_area m key octets) ≡ total_of m + length octets
   pub faultless : (m : Memory) (key : AreaKey) (len : ℕ) → fault_of m key len ≡ None → IsFaultless m key len

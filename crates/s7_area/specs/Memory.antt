@@ -30,8 +30,8 @@ no_areas = record { areas = []; guard = None }
 abbrev pub key_cmp : AreaKey → AreaKey → Ordering
 key_cmp a b = ordering_then (nat_cmp a.area b.area) (nat_cmp a.number b.number)
 
-abbrev pub octets_at : Memory → AreaKey → Option (List ℕ)
-octets_at m key = lookup (is_at (key_cmp key)) m.areas
+abbrev pub area_octets : Memory → AreaKey → Option (List ℕ)
+area_octets m key = lookup (is_at (key_cmp key)) m.areas
 
 -- the memory with one more area
 abbrev pub with_area : Memory → AreaKey → List ℕ → Memory
@@ -60,7 +60,7 @@ code_in (Some octets) item = if is_inside item (length octets) then good else ou
 
 -- the code of an item with a right to it
 abbrev pub place_code : Memory → Item → ℕ
-place_code m item = if is_misfit item then wrong_word else code_in (octets_at m (key_of item)) item
+place_code m item = if is_misfit item then wrong_word else code_in (area_octets m (key_of item)) item
 
 -- the code of a read, with a right to it or without
 unfoldable pub read_code : Memory → Bool → Item → ℕ
@@ -69,7 +69,7 @@ read_code m right item = if is_read_barred m.guard right then not_allowed else p
 -- what a read gives
 unfoldable pub read_octets : Memory → Bool → Item → List ℕ
 read_octets m right item =
-    if read_code m right item == good then value_at item (unwrap_or (octets_at m (key_of item)) []) else []
+    if read_code m right item == good then value_at item (unwrap_or (area_octets m (key_of item)) []) else []
 
 -- the code of a write with a right to it: the octets may not be those of the elements
 abbrev pub put_code : Memory → Item → List ℕ → ℕ
@@ -85,7 +85,7 @@ write_code m right item octets =
 unfoldable pub written : Memory → Bool → Item → List ℕ → Memory
 written m right item octets =
     if write_code m right item octets == good
-    then with_octets m (key_of item) (changed_at item octets (unwrap_or (octets_at m (key_of item)) []))
+    then with_octets m (key_of item) (changed_at item octets (unwrap_or (area_octets m (key_of item)) []))
     else m
 
 -- what a map that may not have been made yet holds

@@ -10,7 +10,7 @@ use Rattle.s7_area.specs.declared.register.RegisterFault.{RegisterFault}
 use Rattle.s7_area.specs.declared.register.RegisterFault.TheVariants as fault
 use Rattle.s7_area.specs.Keys.{is_key, is_numbered}
 use Rattle.s7_area.specs.Guards.{IsGuard}
-use Rattle.s7_area.specs.Memory.{Memory, key_cmp, octets_at}
+use Rattle.s7_area.specs.Memory.{Memory, key_cmp, area_octets}
 
 -- how many octets an area has at most
 abbrev pub most_octets : ℕ
@@ -71,7 +71,7 @@ abbrev pub fault_of : Memory → AreaKey → ℕ → Option RegisterFault
 fault_of m key len =
     if not (is_key key) then Some fault.Key
     else (if is_wrong_size m key len then Some fault.Size
-    else (if is_some (octets_at m key) then Some fault.Exists
+    else (if is_some (area_octets m key) then Some fault.Exists
     else (if is_db_too_many m key then Some fault.TooManyDbs
     else None)))
 

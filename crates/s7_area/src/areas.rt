@@ -1,5 +1,6 @@
 // Areas by their names, and their guard.
-ghost use Rattle.std.specs.Prelude.{◌≡◌, ◌≢◌, ◌≤◌, ◌++◌, [], None, false, length, drop, IfOk, IfErr, IfSome, IfNone, OnErr, MatchResult, option_map};
+ghost use Rattle.std.specs.Prelude.{◌≡◌, ◌≢◌, ◌≤◌, ◌++◌, [], None, false, length, drop, IfOk, IfErr, IfSome, IfNone};
+ghost use Rattle.std.specs.Prelude.{OnErr, MatchResult, option_map};
 ghost use Rattle.std.specs.Option.{option_copied};
 ghost use Rattle.std.specs.Result.{result_ok};
 ghost use Rattle.std.specs.Map.{keys_of};
@@ -7,7 +8,8 @@ ghost use Rattle.s7_item.specs.Codes.{good};
 ghost use Rattle.s7_item.specs.Item.{octet_count};
 ghost use Rattle.s7_item.specs.DataItem.{carries};
 ghost use Rattle.s7_area.specs.Guards.{is_read_barred, is_write_barred};
-ghost use Rattle.s7_area.specs.Memory.{no_areas, octets_at, with_area, without_area, entries_of, lengths_of, shape_of};
+ghost use Rattle.s7_area.specs.Memory.{no_areas, area_octets, with_area, without_area, entries_of, lengths_of};
+ghost use Rattle.s7_area.specs.Memory.{shape_of};
 ghost use Rattle.s7_area.specs.Memory.{read_code, read_octets, write_code, written};
 
 use crate::area::Area;
@@ -93,7 +95,7 @@ impl Areas {
 
     /// The octets of an area, lent; `None` exactly where no area of this name is registered.
     pub fn octets_of(&self, key: AreaKey) -> Option<&[u8]>
-        ensures { option_map (λ octets. octets.now) result ≡ octets_at self.now key }
+        ensures { option_map (λ octets. octets.now) result ≡ area_octets self.now key }
     {
         match self.area_of(key) {
             Some(area) => Some(area.as_slice()),
@@ -102,7 +104,7 @@ impl Areas {
     }
 
     fn area_of(&self, key: AreaKey) -> Option<&Area>
-        ensures { option_copied result ≡ octets_at self.now key }
+        ensures { option_copied result ≡ area_octets self.now key }
     {
         match &self.map {
             Some(map) => map.get(&key),
@@ -330,7 +332,7 @@ impl Areas {
     /// Gives the octets of an area back, which is then no longer registered. `Unknown` comes exactly
     /// where no area of this name is, and changes nothing. The guard stays.
     pub fn unregister(&mut self, key: AreaKey) -> Result<Octets, Unknown>
-        ensures octets { result_ok result ≡ octets_at self.old key }
+        ensures octets { result_ok result ≡ area_octets self.old key }
         ensures rest { self.new ≡ without_area self.old key }
         ensures err { OnErr result (self.new ≡ self.old) }
     {

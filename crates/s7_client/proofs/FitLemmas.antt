@@ -23,14 +23,14 @@ use Rattle.s7_block.specs.Telegrams.{slice_function, end_function}
 use Rattle.s7_clock.specs.declared.control.Control.{Control}
 use Rattle.s7_clock.specs.declared.control.Control.TheVariants as control
 use Rattle.s7_clock.specs.Control.{control_spelling}
-use Rattle.s7_clock.specs.Moment.{octets_at}
+use Rattle.s7_clock.specs.Moment.{moment_octets}
 use Rattle.s7_dialogue.specs.declared.config.Config.{Config}
 use Rattle.s7_dialogue.specs.declared.grant.Grant.{Grant}
 use Rattle.s7_dialogue.specs.declared.grant.Leaves.TheVariants.{AsItWas}
 use Rattle.s7_dialogue.specs.declared.job.Job.{Job}
 use Rattle.s7_dialogue.specs.declared.job.Job.TheVariants as job
-use Rattle.s7_dialogue.specs.declared.subject.Subject.{Subject}
-use Rattle.s7_dialogue.specs.declared.subject.Subject.TheVariants.{StatusList, RunState, BlockCounts, BlocksOfKind, BlockHead, DataHead, Clock, ClockSetting, Password, PasswordClearing}
+use Rattle.s7_dialogue.specs.declared.questions.subject.Subject.{Subject}
+use Rattle.s7_dialogue.specs.declared.questions.subject.Subject.TheVariants.{StatusList, RunState, BlockCounts, BlocksOfKind, BlockHead, DataHead, Clock, ClockSetting, Password, PasswordClearing}
 use Rattle.s7_dialogue.specs.UserData.{request_params, further_params, no_data, data_of, filled_text, encoded_after, encoded}
 use Rattle.s7_dialogue.specs.DataBlocks.{data_length, data_parts}
 use Rattle.s7_dialogue.specs.Uploads.{start_params, id_params}
@@ -304,8 +304,8 @@ data_written pdu number size value least =
 
 -- ---- the octets of user data
 
-length-clock : (moment : ℕ) → length (octets_at moment) ≡ 10
-unfolding octets_at
+length-clock : (moment : ℕ) → length (moment_octets moment) ≡ 10
+unfolding moment_octets
 length-clock moment = refl
 
 length-encoded_after : (second first : ℕ) (text : List ℕ) → length (encoded_after second first text) ≡ length text
@@ -420,7 +420,7 @@ sent_short job.ClockRead config granted answers question least is =
     piece_short granted.pdu Clock [] answers question least (omega arith) is
 sent_short (job.ClockSet moment) config granted answers question least is =
     let sent = good_sent (check_moment moment) _ answers question is in
-    piece_short granted.pdu ClockSetting (octets_at moment) answers question least (omega (arith, length-clock moment))
+    piece_short granted.pdu ClockSetting (moment_octets moment) answers question least (omega (arith, length-clock moment))
     sent.1
 sent_short job.Start config granted answers question least is =
     control_sent granted.pdu control.Start answers question least (omega arith) is

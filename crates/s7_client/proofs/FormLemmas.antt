@@ -21,8 +21,8 @@ use Rattle.s7_dialogue.specs.declared.grant.Leaves.{Leaves}
 use Rattle.s7_dialogue.specs.declared.grant.Leaves.TheVariants.{AsItWas, Connected, Disconnected, Closed}
 use Rattle.s7_dialogue.specs.declared.job.Job.{Job}
 use Rattle.s7_dialogue.specs.declared.job.Job.TheVariants as job
-use Rattle.s7_dialogue.specs.declared.subject.Subject.{Subject}
-use Rattle.s7_dialogue.specs.declared.subject.Subject.TheVariants.{StatusList, RunState, BlockCounts, BlocksOfKind, BlockHead, Clock, ClockSetting, Password, PasswordClearing}
+use Rattle.s7_dialogue.specs.declared.questions.subject.Subject.{Subject}
+use Rattle.s7_dialogue.specs.declared.questions.subject.Subject.TheVariants.{StatusList, RunState, BlockCounts, BlocksOfKind, BlockHead, Clock, ClockSetting, Password, PasswordClearing}
 use Rattle.s7_dialogue.specs.UserData.{is_whole, lead_of}
 use Rattle.s7_dialogue.specs.Codes.{refused_otherwise}
 use Rattle.s7_block.specs.Slices.{image_room}

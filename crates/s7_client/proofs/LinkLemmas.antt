@@ -8,9 +8,9 @@ use Rattle.s7_outer.specs.Shown.{Shown}
 use Rattle.s7_outer.specs.Count.{Rose}
 use Rattle.s7_dialogue.specs.declared.config.Config.{Config}
 use Rattle.s7_dialogue.specs.declared.grant.Grant.{Grant}
-use Rattle.s7_client.specs.declared.line.Line.{Line}
+use Rattle.s7_client.specs.declared.channel.Channel.{Channel}
 use Rattle.s7_client.specs.declared.under_way.UnderWay.{UnderWay}
-use Rattle.s7_client.specs.declared.line.Step.TheVariants as step
+use Rattle.s7_client.specs.declared.channel.Step.TheVariants as step
 use Rattle.s7_dialogue.specs.Dialogue.{fault_end}
 use Rattle.s7_dialogue.specs.Running.{awaited_in, IsOver}
 use Rattle.s7_dialogue.specs.Course.{Origin, for_nothing, course, may_send}
@@ -51,7 +51,7 @@ pub over_not_yet : step.Over ≡ step.NotYet → ⊥
 over_not_yet e = cc
 
 -- nothing was written
-unfoldable pub moves_received : (l l' : Line) (link link' : Shown) (received used : List ℕ)
+unfoldable pub moves_received : (l l' : Channel) (link link' : Shown) (received used : List ℕ)
     → unread l ++ received ≡ used ++ unread l' → link.left ≡ prepend_known received link'.left
     → link' ≡ record link { left = link'.left; has_ended = link'.has_ended; faults = link'.faults; waits = link'.waits }
     → link.faults ≤ link'.faults → link.waits ≤ link'.waits → Moves (unread l) link (unread l') link'
@@ -73,7 +73,7 @@ moves_received l l' link link' received used inbox took same faults waits = reco
 }
 
 -- nothing was received or used
-unfoldable pub moves_sent : (l l' : Line) (link link' : Shown) (written : List ℕ) → unread l ≡ unread l'
+unfoldable pub moves_sent : (l l' : Channel) (link link' : Shown) (written : List ℕ) → unread l ≡ unread l'
     → link'.written ≡ append_known link.written written
     → link'.space ≡ option_map (λ space. space - length written) link.space
     → link' ≡ record link { written = link'.written; faults = link'.faults; waits = link'.waits; space = link'.space }
@@ -95,7 +95,7 @@ moves_sent l l' link link' written inbox wrote space same faults waits = record 
   space = space;
 }
 
-unfoldable pub moves_none : (l : Line) (link : Shown) → Moves (unread l) link (unread l) link
+unfoldable pub moves_none : (l : Channel) (link : Shown) → Moves (unread l) link (unread l) link
 moves_none l link = moves_received l l link link [] [] (append-nil (unread l)) (prepend_none link.left) refl
     (omega arith) (omega arith)
 
@@ -115,7 +115,7 @@ pub space_both : (o : Option ℕ) (xs ys : List ℕ)
 space_both None xs ys = refl
 space_both (Some n) xs ys = ap Some (omega (arith, length-append xs ys))
 
-unfoldable pub moves_both : (l l1 l2 : Line) (k k1 k2 : Shown) → Moves (unread l) k (unread l1) k1
+unfoldable pub moves_both : (l l1 l2 : Channel) (k k1 k2 : Shown) → Moves (unread l) k (unread l1) k1
     → Moves (unread l1) k1 (unread l2) k2 → Moves (unread l) k (unread l2) k2
 moves_both l l1 l2 k k1 k2 m n = record {
   received = m.received ++ n.received;
@@ -143,7 +143,7 @@ moves_both l l1 l2 k k1 k2 m n = record {
 -- ---- octets are used
 
 -- a job stands where it stood, whatever was read
-stands_with : (origin : Origin) (l : Line) (octets : _) (u : UnderWay) (b w : List ℕ) → Stands origin l u b w
+stands_with : (origin : Origin) (l : Channel) (octets : _) (u : UnderWay) (b w : List ℕ) → Stands origin l u b w
     → Stands origin (record l { inbox = octets }) u b w
 stands_with origin l octets u b w s = record {
   at = s.at;
@@ -153,7 +153,7 @@ stands_with origin l octets u b w s = record {
   all_awaited = s.all_awaited;
 }
 
-pub step_used : (l l' : Line) (u u' : UnderWay) (link : Shown) (config : Config) (granted : Option Grant)
+pub step_used : (l l' : Channel) (u u' : UnderWay) (link : Shown) (config : Config) (granted : Option Grant)
     → pending config l.talk u.running ≡ [] → Consumes l u l' u' config granted
     → IsStep l u link l' u' link config granted step.Went
 unfolding moves_received
@@ -175,7 +175,7 @@ step_used l l' u u' link config granted sent k = record {
 }
 
 -- octets came, and are used
-pub step_taken : (l l' : Line) (u u' : UnderWay) (link link' : Shown) (received : List ℕ) (config : Config)
+pub step_taken : (l l' : Channel) (u u' : UnderWay) (link link' : Shown) (received : List ℕ) (config : Config)
     (granted : Option Grant) → pending config l.talk u.running ≡ [] → unread l ≡ []
     → Consumes (record l { inbox = received }) u l' u' config granted → link.left ≡ prepend_known received link'.left
     → link' ≡ record link { left = link'.left; has_ended = link'.has_ended; faults = link'.faults; waits = link'.waits }
@@ -202,7 +202,7 @@ step_taken l l' u u' link link' received config granted sent none k took same fa
 -- ---- nothing comes
 
 -- all was sent, and octets are awaited
-waits_here : (origin : Origin) (l l' : Line) (u : UnderWay) (b w : List ℕ) (config : Config) → origin.config ≡ config
+waits_here : (origin : Origin) (l l' : Channel) (u : UnderWay) (b w : List ℕ) (config : Config) → origin.config ≡ config
     → Stands origin l u b w → IsAwaiting u.running.stage
     → pending config l.talk u.running ≡ [] → unread l' ≡ [] → IsWaiting origin (unread l') b w
 waits_here origin l l' u b w config ec s awaiting sent none = record {
@@ -211,7 +211,7 @@ waits_here origin l l' u b w config ec s awaiting sent none = record {
   none = none;
 }
 
-fits_with : (l : Line) (u : UnderWay) (octets : _) → Fits l u → Fits (record l { inbox = octets }) u
+fits_with : (l : Channel) (u : UnderWay) (octets : _) → Fits l u → Fits (record l { inbox = octets }) u
 fits_with l u octets f = record {
   reads = f.reads;
   unsized = f.unsized;
@@ -227,13 +227,13 @@ fits_with l u octets f = record {
 }
 
 -- octets and writings at their ends
-pub same_stands : (origin : Origin) (l : Line) (u : UnderWay) (b w : List ℕ) → Stands origin l u b w
+pub same_stands : (origin : Origin) (l : Channel) (u : UnderWay) (b w : List ℕ) → Stands origin l u b w
     → Stands origin l u (b ++ []) (w ++ [])
 same_stands origin l u b w s =
     subst (λ x. Stands origin l u x (w ++ [])) (sym (append-nil b))
     (subst (λ x. Stands origin l u b x) (sym (append-nil w)) s)
 
-pub same_cause : (origin : Origin) (link link' : Shown) (l : Line) (u : UnderWay) (b w : List ℕ)
+pub same_cause : (origin : Origin) (link link' : Shown) (l : Channel) (u : UnderWay) (b w : List ℕ)
     → HasEnded origin link link' l u b w → HasEnded origin link link' l u (b ++ []) (w ++ [])
 same_cause origin link link' l u b w s =
     subst (λ x. HasEnded origin link link' l u x (w ++ [])) (sym (append-nil b))
@@ -260,7 +260,7 @@ took_none : (left left' : Option (List ℕ)) (received : List ℕ) → received 
     → left ≡ prepend_known received left' → left ≡ left'
 took_none left left' received none took = took ∙ (ap (λ x. prepend_known x left') none ∙ sym (prepend_none left'))
 
-pub step_waiting : (l : Line) (octets : _) (u : UnderWay) (link link' : Shown) (config : Config)
+pub step_waiting : (l : Channel) (octets : _) (u : UnderWay) (link link' : Shown) (config : Config)
     (granted : Option Grant) → Fits l u → IsAwaiting u.running.stage
     → pending config l.talk u.running ≡ [] → unread l ≡ []
     → unread (record l { inbox = octets }) ≡ []
@@ -271,7 +271,7 @@ pub step_waiting : (l : Line) (octets : _) (u : UnderWay) (link link' : Shown) (
     → IsStep l u link (record l { inbox = octets }) u link' config granted step.NotYet
 unfolding moves_received
 step_waiting l octets u link link' config granted fits awaiting sent none none' took same faults waits rose none_left =
-    let l' : Line = record l { inbox = octets } in
+    let l' : Channel = record l { inbox = octets } in
     let took' : link.left ≡ link'.left = took_none link.left link'.left (unread l') none' took in
     record {
       moves = moves_received l l' link link' [] [] (append-nil (unread l) ∙ (none ∙ sym none'))
@@ -295,7 +295,7 @@ step_waiting l octets u link link' config granted fits awaiting sent none none' 
     }
 
 -- the job is over, by what a receive answered
-pub step_broken : (l : Line) (octets : _) (u u' : UnderWay) (link link' : Shown) (config : Config)
+pub step_broken : (l : Channel) (octets : _) (u u' : UnderWay) (link link' : Shown) (config : Config)
     (granted : Option Grant) (code : ℕ) → IsAwaiting u.running.stage
     → pending config l.talk u.running ≡ [] → unread l ≡ []
     → unread (record l { inbox = octets }) ≡ []
@@ -310,7 +310,7 @@ pub step_broken : (l : Line) (octets : _) (u u' : UnderWay) (link link' : Shown)
 unfolding moves_received
 step_broken l octets u u' link link' config granted code awaiting sent none none' took same faults waits e over job
     carried waited cause =
-    let l' : Line = record l { inbox = octets } in
+    let l' : Channel = record l { inbox = octets } in
     let took' : link.left ≡ link'.left = took_none link.left link'.left (unread l') none' took in
     record {
       moves = moves_received l l' link link' [] [] (append-nil (unread l) ∙ (none ∙ sym none'))

@@ -5,7 +5,7 @@ use Rattle.s7_outer.specs.Shown.{Shown}
 use Rattle.s7_dialogue.specs.declared.job.JobResult.{JobResult}
 use Rattle.s7_client.specs.declared.job.Polled.TheVariants as polled
 use Rattle.s7_dialogue.specs.declared.grant.Leaves.{Leaves}
-use Rattle.s7_client.specs.declared.line.Line.{Line}
+use Rattle.s7_client.specs.declared.channel.Channel.{Channel}
 use Rattle.s7_client.specs.declared.under_way.UnderWay.{UnderWay}
 use Rattle.s7_client.specs.declared.connection.Connection.{Connection}
 use Rattle.s7_dialogue.specs.Dialogue.{End}
@@ -26,7 +26,7 @@ none_under o u none some = cc
 pub poll_idle : (c : Connection) (link : Shown) (empty : Bool) → is_some c.job ≡ not empty → empty ≡ true
     → IsPoll c link c link polled.Idle
 poll_idle c link empty e h = record {
-  moves = moves_none c.line link;
+  moves = moves_none c.channel link;
   orderly = λ origin b w s. absurd (none_under c.job s.under_way (none_is c.job empty e h) s.is);
   config = refl;
   comes = (ap (option_map (λ (u : UnderWay). u.running.job)) (none_is c.job empty e h), refl, refl);
@@ -35,15 +35,15 @@ poll_idle c link empty e h = record {
 pub same_under : (u u' : UnderWay) → Some u ≡ Some u' → u ≡ u'
 same_under u u' e = ap (λ o. unwrap_or o u) e
 
--- whatever the client stands for, its job's line does
+-- whatever the client stands for, its job's channel does
 stands_at : (old : Connection) (u : UnderWay) (origin : Origin) (b w : List ℕ) → old.job ≡ Some u
-    → StandsFor old origin b w → Stands origin old.line u b w
-stands_at old u origin b w is s = subst (λ x. Stands origin old.line x b w) (same_under s.under_way u (sym s.is ∙ is))
+    → StandsFor old origin b w → Stands origin old.channel u b w
+stands_at old u origin b w is s = subst (λ x. Stands origin old.channel x b w) (same_under s.under_way u (sym s.is ∙ is))
     s.stands
 
 pub poll_pending : (old new : Connection) (u u' : UnderWay) (link link' : Shown) → old.job ≡ Some u → new.job ≡ Some u'
     → new.config ≡ old.config → new.granted ≡ old.granted → new.is_closed ≡ old.is_closed
-    → RoundGoesOn old.line u link new.line u' link' old.config old.granted → IsPoll old link new link' polled.Pending
+    → RoundGoesOn old.channel u link new.channel u' link' old.config old.granted → IsPoll old link new link' polled.Pending
 poll_pending old new u u' link link' is is' config granted closed r = record {
   moves = r.moves;
   orderly = λ origin b w s. r.orderly origin b w s.config s.granted (stands_at old u origin b w is s);
@@ -84,15 +84,15 @@ done_by : (origin : Origin) (link link' : Shown) (kept : List ℕ) (end : End) (
 done_by origin link link' kept end carried b w waited n is h =
     subst (IsDoneBy origin link link' kept end carried b w) (sym is) h
 
-pub poll_done : (old new : Connection) (u u' : UnderWay) (line : Line) (link link' : Shown) (leaves : Leaves)
+pub poll_done : (old new : Connection) (u u' : UnderWay) (channel : Channel) (link link' : Shown) (leaves : Leaves)
     (told : JobResult) → old.job ≡ Some u → new.job ≡ None → new.config ≡ old.config
     → new.granted ≡ grant_after leaves old.granted → new.is_closed ≡ closed_after leaves old.is_closed
-    → RoundEnds old.line u link line u' link' old.config old.granted
+    → RoundEnds old.channel u link channel u' link' old.config old.granted
     → ((end : End) → awaited_in u'.running [] ≡ for_nothing end [] → leaves ≡ end.leaves)
     → ((end : End) → awaited_in u'.running [] ≡ for_nothing end [] → IsResult told u'.running.job end u'.carried.octets)
-    → unread new.line ≡ unread line → size_in new.line.talk ≡ size_in line.talk → new.line.talk.sequence ≡ line.talk.sequence
+    → unread new.channel ≡ unread channel → size_in new.channel.talk ≡ size_in channel.talk → new.channel.talk.sequence ≡ channel.talk.sequence
     → IsPoll old link new link' (polled.Done told)
-poll_done old new u u' line link link' leaves told is none config granted closed r left result inbox size
+poll_done old new u u' channel link link' leaves told is none config granted closed r left result inbox size
     sequence = record {
       moves = record {
         received = r.moves.received;
@@ -138,7 +138,7 @@ poll_done old new u u' line link link' leaves told is none config granted closed
                   let used = b ++ r.moves.used in
                   let written = w ++ r.moves.written in
                   subst (λ x. IsDoneBy origin link link' x e.end e.carried used written (waited_of old)) (sym inbox)
-                  (done_by origin link link' (unread line) e.end e.carried used written (waited_of old) u.waited
+                  (done_by origin link link' (unread channel) e.end e.carried used written (waited_of old) u.waited
                   (ap (option_map (λ (x : UnderWay). x.waited)) is) e.cause);
               size = size ∙ e.size;
               sequence = sequence ∙ e.sequence;

@@ -12,12 +12,12 @@ use Rattle.s7_wire.specs.Sent.{fragment_octets, sent_message}
 use Rattle.s7_dialogue.specs.declared.config.Config.{Config}
 use Rattle.s7_dialogue.specs.declared.grant.Grant.{Grant}
 use Rattle.s7_client.specs.declared.talk.Talk.{Talk}
-use Rattle.s7_dialogue.specs.declared.running.Running.{Running}
-use Rattle.s7_dialogue.specs.declared.running.Stage.{Stage}
-use Rattle.s7_dialogue.specs.declared.running.Stage.TheVariants as stage
-use Rattle.s7_client.specs.declared.line.Line.{Line}
+use Rattle.s7_dialogue.specs.declared.stages.running.Running.{Running}
+use Rattle.s7_dialogue.specs.declared.stages.running.Stage.{Stage}
+use Rattle.s7_dialogue.specs.declared.stages.running.Stage.TheVariants as stage
+use Rattle.s7_client.specs.declared.channel.Channel.{Channel}
 use Rattle.s7_client.specs.declared.under_way.UnderWay.{UnderWay}
-use Rattle.s7_client.specs.declared.line.Step.{Step}
+use Rattle.s7_client.specs.declared.channel.Step.{Step}
 use Rattle.s7_dialogue.specs.Flight.{Row}
 use Rattle.s7_dialogue.specs.Running.{awaited_in, unput_of, Follows, IsOver, IsOpening, IsAsking, IsLeaving, answers_left}
 use Rattle.s7_dialogue.specs.Course.{Origin, Course, course, limits}
@@ -88,7 +88,7 @@ at_put origin c t t' u r config ec p at =
       silent = λ h. at.silent (λ o. h (forth IsOver over_not_asking s r.stage same o));
     }
 
-stands_put : (origin : Origin) (l : Line) (t : Talk) (u : UnderWay) (r : Running) (b w : List ℕ) (config : Config)
+stands_put : (origin : Origin) (l : Channel) (t : Talk) (u : UnderWay) (r : Running) (b w : List ℕ) (config : Config)
     → origin.config ≡ config → Puts config l.talk u.running t r
     → Stands origin l u b w → Stands origin (record l { talk = t }) (record u { running = r }) b w
 stands_put origin l t u r b w config ec p s = record {
@@ -103,7 +103,7 @@ stands_put origin l t u r b w config ec p s = record {
 
 -- ---- what fits
 
-between_put : (config : Config) (l : Line) (t : Talk) (r r' : Running) → Puts config l.talk r t r' → IsBetween l
+between_put : (config : Config) (l : Channel) (t : Talk) (r r' : Running) → Puts config l.talk r t r' → IsBetween l
     → t.outbox.unsent ≡ unsent l → IsBetween (record l { talk = t })
 between_put config l t r r' p h same = record {
   reads = subst IsReading (sym p.reader) h.reads;
@@ -119,7 +119,7 @@ unsent_by : (config : Config) (t t' : Talk) (r r' : Running) → ((t'.outbox.uns
 unsent_by config t t' r r' (inl h) over = h.0
 unsent_by config t t' r r' (inr a) over = absurd (over_not_asking r'.stage over a.1)
 
-pub fits_put : (config : Config) (l : Line) (t : Talk) (u : UnderWay) (r : Running) → Puts config l.talk u.running t r
+pub fits_put : (config : Config) (l : Channel) (t : Talk) (u : UnderWay) (r : Running) → Puts config l.talk u.running t r
     → Fits l u → Fits (record l { talk = t }) (record u { running = r })
 fits_put config l t u r p f =
     let s = u.running.stage in
@@ -150,7 +150,7 @@ less_put : (n n' count count' held held' out out' now : ℕ) → n' ≡ n → co
     → now < (n * 533000 - (count * 8200 + held)) * 16384 + out
 less_put n n' count count' held held' out out' now a b c d h = omega (arith, a, b, c, d, h)
 
-pub step_put : (l l' : Line) (t : Talk) (u u' : UnderWay) (r : Running) (link link' : Shown) (config : Config)
+pub step_put : (l l' : Channel) (t : Talk) (u u' : UnderWay) (r : Running) (link link' : Shown) (config : Config)
     (granted : Option Grant) (result : Step) → Puts config l.talk u.running t r
     → IsStep (record l { talk = t }) (record u { running = r }) link l' u' link' config granted result
     → IsStep l u link l' u' link' config granted result

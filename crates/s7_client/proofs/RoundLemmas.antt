@@ -4,12 +4,12 @@ use Rattle.std.specs.Prelude.{Option, Some}
 use Rattle.s7_outer.specs.Shown.{Shown}
 use Rattle.s7_dialogue.specs.declared.config.Config.{Config}
 use Rattle.s7_dialogue.specs.declared.grant.Grant.{Grant}
-use Rattle.s7_dialogue.specs.declared.running.Stage.{Stage}
-use Rattle.s7_dialogue.specs.declared.running.Stage.TheVariants as stage
-use Rattle.s7_client.specs.declared.line.Line.{Line}
+use Rattle.s7_dialogue.specs.declared.stages.running.Stage.{Stage}
+use Rattle.s7_dialogue.specs.declared.stages.running.Stage.TheVariants as stage
+use Rattle.s7_client.specs.declared.channel.Channel.{Channel}
 use Rattle.s7_client.specs.declared.under_way.UnderWay.{UnderWay}
-use Rattle.s7_client.specs.declared.line.Step.{Step}
-use Rattle.s7_client.specs.declared.line.Step.TheVariants as step
+use Rattle.s7_client.specs.declared.channel.Step.{Step}
+use Rattle.s7_client.specs.declared.channel.Step.TheVariants as step
 use Rattle.s7_dialogue.specs.Codes.{timed_out}
 use Rattle.s7_dialogue.specs.Dialogue.{End, fault_end}
 use Rattle.s7_dialogue.specs.Running.{awaited_by, IsOver}
@@ -44,7 +44,7 @@ cause_earlier origin k k1 k2 l end carried b w le (inr (inr (inr (inr h)))) =
     }))))
 
 -- what steps that went did
-pub record Walks (l : Line) (u : UnderWay) (link : Shown) (l' : Line) (u' : UnderWay) (link' : Shown) (config : Config)
+pub record Walks (l : Channel) (u : UnderWay) (link : Shown) (l' : Channel) (u' : UnderWay) (link' : Shown) (config : Config)
     (granted : Option Grant) : Type 0 where
   pub moves : Moves (unread l) link (unread l') link'
   pub fits : Fits l' u'
@@ -56,7 +56,7 @@ pub record Walks (l : Line) (u : UnderWay) (link : Shown) (l' : Line) (u' : Unde
       → Stands origin l u b w
       → IsOrderly origin (unread l) b w moves
 
-pub walks_none : (l : Line) (u : UnderWay) (link : Shown) (config : Config) (granted : Option Grant) → Fits l u
+pub walks_none : (l : Channel) (u : UnderWay) (link : Shown) (config : Config) (granted : Option Grant) → Fits l u
     → Walks l u link l u link config granted
 unfolding moves_none moves_received
 walks_none l u link config granted fits = record {
@@ -67,14 +67,14 @@ walks_none l u link config granted fits = record {
   orderly = λ origin b w ec eg s. orderly_none origin (unread l) b w _ refl refl refl;
 }
 
-stands_on : (origin : Origin) (l : Line) (u : UnderWay) (b w x y x' y' : List ℕ)
+stands_on : (origin : Origin) (l : Channel) (u : UnderWay) (b w x y x' y' : List ℕ)
     → Stands origin l u ((b ++ x) ++ x') ((w ++ y) ++ y') → Stands origin l u (b ++ (x ++ x')) (w ++ (y ++ y'))
 stands_on origin l u b w x y x' y' s =
     subst (λ z. Stands origin l u z (w ++ (y ++ y'))) (append_assoc b x x')
     (subst (λ z. Stands origin l u ((b ++ x) ++ x') z) (append_assoc w y y') s)
 
 -- a step after steps that came in order
-walk_orderly : (origin : Origin) (l l1 l2 : Line) (u u1 u2 : UnderWay) (k k1 k2 : Shown) (b w : List ℕ)
+walk_orderly : (origin : Origin) (l l1 l2 : Channel) (u u1 u2 : UnderWay) (k k1 k2 : Shown) (b w : List ℕ)
     (config : Config) (granted : Option Grant) (result : Step) → origin.config ≡ config → origin.granted ≡ granted
     → (m : Walks l u k l1 u1 k1 config granted) → (n : IsStep l1 u1 k1 l2 u2 k2 config granted result)
     → Stands origin l u b w
@@ -84,7 +84,7 @@ walk_orderly origin l l1 l2 u u1 u2 k k1 k2 b w config granted result ec eg m n 
     orderly_both origin (unread l) b w m.moves n.moves _ refl refl refl (m.orderly origin b w ec eg s)
     (n.orderly origin (b ++ m.moves.used) (w ++ m.moves.written) ec eg (m.stood origin b w ec eg s))
 
-pub walks_on : (l l1 l2 : Line) (u u1 u2 : UnderWay) (k k1 k2 : Shown) (config : Config) (granted : Option Grant)
+pub walks_on : (l l1 l2 : Channel) (u u1 u2 : UnderWay) (k k1 k2 : Shown) (config : Config) (granted : Option Grant)
     → Walks l u k l1 u1 k1 config granted → IsStep l1 u1 k1 l2 u2 k2 config granted step.Went
     → Walks l u k l2 u2 k2 config granted
 unfolding moves_both
@@ -98,7 +98,7 @@ walks_on l l1 l2 u u1 u2 k k1 k2 config granted m n = record {
 }
 
 -- the last step ends a poll
-pub ends_walk : (l l1 l2 : Line) (u u1 u2 : UnderWay) (k k1 k2 : Shown) (config : Config) (granted : Option Grant)
+pub ends_walk : (l l1 l2 : Channel) (u u1 u2 : UnderWay) (k k1 k2 : Shown) (config : Config) (granted : Option Grant)
     (result : Step) → (result ≡ step.Went → ⊥)
     → Walks l u k l1 u1 k1 config granted → IsStep l1 u1 k1 l2 u2 k2 config granted result
     → IsStep l u k l2 u2 k2 config granted result
@@ -142,7 +142,7 @@ ends_walk l l1 l2 u u1 u2 k k1 k2 config granted result rests m n = record {
 
 -- ---- a round of steps
 
-met_goes_on : (origin : Origin) (l : Line) (u : UnderWay) (link : Shown) (b w : List ℕ) → Fits l u
+met_goes_on : (origin : Origin) (l : Channel) (u : UnderWay) (link : Shown) (b w : List ℕ) → Fits l u
     → Stands origin l u b w → HasMetNotYet origin (unread l) link b w → IsOver u.running.stage → ⊥
 met_goes_on origin l u link b w fits s met over =
     let r = u.running in
@@ -159,7 +159,7 @@ not_over_awaits found codes carried stage.Leaving going end message e = cc
 not_over_awaits found codes carried (stage.Over code leaves) going end message e = going tt
 
 -- a job that isn't over where the client stands
-still_under_way : (origin : Origin) (l : Line) (u : UnderWay) (b w : List ℕ) → Stands origin l u b w
+still_under_way : (origin : Origin) (l : Channel) (u : UnderWay) (b w : List ℕ) → Stands origin l u b w
     → (IsOver u.running.stage → ⊥) → IsUnderWay origin b w
 still_under_way origin l u b w s going = record {
   owed = (pending origin.config l.talk u.running, s.owed);
@@ -170,7 +170,7 @@ still_under_way origin l u b w s going = record {
       not_over_awaits r.found.items r.codes u.carried.octets r.stage going end message (sym s.at.awaits ∙ e);
 }
 
-fits_waited : (l : Line) (u : UnderWay) (n : _) → Fits l u → Fits l (record u { waited = n })
+fits_waited : (l : Channel) (u : UnderWay) (n : _) → Fits l u → Fits l (record u { waited = n })
 fits_waited l u n f = record {
   reads = f.reads;
   unsized = f.unsized;
@@ -183,7 +183,7 @@ fits_waited l u n f = record {
   carried = f.carried;
 }
 
-stands_waited : (origin : Origin) (l : Line) (u : UnderWay) (n : _) (b w : List ℕ) → Stands origin l u b w
+stands_waited : (origin : Origin) (l : Channel) (u : UnderWay) (n : _) (b w : List ℕ) → Stands origin l u b w
     → Stands origin l (record u { waited = n }) b w
 stands_waited origin l u n b w s = record {
   at = record {
@@ -203,7 +203,7 @@ stands_waited origin l u n b w s = record {
   all_awaited = s.all_awaited;
 }
 
-pub round_goes_on : (l l' : Line) (u u1 u' : UnderWay) (link link' : Shown) (config : Config) (granted : Option Grant)
+pub round_goes_on : (l l' : Channel) (u u1 u' : UnderWay) (link link' : Shown) (config : Config) (granted : Option Grant)
     → IsStep l u link l' u1 link' config granted step.NotYet
     → Waits u1 u' config.polls true → RoundGoesOn l u link l' u' link' config granted
 round_goes_on l l' u u1 u' link link' config granted k v =
@@ -222,7 +222,7 @@ round_goes_on l l' u u1 u' link link' config granted k v =
       );
     }
 
-pub round_tires : (l l' : Line) (u u1 u' : UnderWay) (link link' : Shown) (config : Config) (granted : Option Grant)
+pub round_tires : (l l' : Channel) (u u1 u' : UnderWay) (link link' : Shown) (config : Config) (granted : Option Grant)
     → IsStep l u link l' u1 link' config granted step.NotYet
     → Waits u1 u' config.polls false → RoundEnds l u link l' u' link' config granted
 round_tires l l' u u1 u' link link' config granted k v = record {
@@ -253,7 +253,7 @@ round_tires l l' u u1 u' link link' config granted k v = record {
       };
 }
 
-pub round_ends : (l l' : Line) (u u' : UnderWay) (link link' : Shown) (config : Config) (granted : Option Grant)
+pub round_ends : (l l' : Channel) (u u' : UnderWay) (link link' : Shown) (config : Config) (granted : Option Grant)
     → IsStep l u link l' u' link' config granted step.Over → RoundEnds l u link l' u' link' config granted
 round_ends l l' u u' link link' config granted k = record {
   moves = k.moves;
@@ -274,7 +274,7 @@ round_ends l l' u u' link link' config granted k = record {
       };
 }
 
-pub round_by : (l l' : Line) (u u1 u' : UnderWay) (link link' : Shown) (config : Config) (granted : Option Grant)
+pub round_by : (l l' : Channel) (u u1 u' : UnderWay) (link link' : Shown) (config : Config) (granted : Option Grant)
     (goes_on : Bool) → IsStep l u link l' u1 link' config granted step.NotYet
     → Waits u1 u' config.polls goes_on → Round l u link l' u' link' config granted goes_on
 round_by l l' u u1 u' link link' config granted true k v = round_goes_on l l' u u1 u' link link' config granted k v

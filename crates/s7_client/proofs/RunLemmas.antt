@@ -57,7 +57,7 @@ stands_joined c origin b w x y x' y' s =
 pub awaits_none : (c : Connection) (link : Shown) → waited_of c ≡ Some 0 → StillWaits c link c link
 unfolding moves_none moves_received
 awaits_none c link e = record {
-  moves = moves_none c.line link;
+  moves = moves_none c.channel link;
   orderly = λ origin b w s. orderly_none origin (unread_of c) b w _ refl refl refl;
   config = refl;
   granted = refl;
@@ -80,7 +80,7 @@ awaits_on old c c2 k k1 k2 m p =
     let pends = p.comes.0 in
     let more = waits_more (waited_of c) (waited_of c2) m.polls (config_of c).polls m.waited pends.waited in
     record {
-      moves = moves_both old.line c.line c2.line k k1 k2 m.moves p.moves;
+      moves = moves_both old.channel c.channel c2.channel k k1 k2 m.moves p.moves;
       orderly = λ origin b w s.
           orderly_both origin (unread_of old) b w m.moves p.moves _ refl refl refl (m.orderly origin b w s)
           (p.orderly origin (b ++ m.moves.used) (w ++ m.moves.written) (m.stood origin b w s));
@@ -137,7 +137,7 @@ pub completes_now : (old c c2 : Connection) (k k1 k2 : Shown) (told : JobResult)
     → IsPoll c k1 c2 k2 (polled.Done told) → Completes old k c2 k2 told
 unfolding moves_both
 completes_now old c c2 k k1 k2 told m p = record {
-  moves = moves_both old.line c.line c2.line k k1 k2 m.moves p.moves;
+  moves = moves_both old.channel c.channel c2.channel k k1 k2 m.moves p.moves;
   orderly = λ origin b w s.
       orderly_both origin (unread_of old) b w m.moves p.moves _ refl refl refl (m.orderly origin b w s)
       (p.orderly origin (b ++ m.moves.used) (w ++ m.moves.written) (m.stood origin b w s));

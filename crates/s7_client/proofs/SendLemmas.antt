@@ -11,11 +11,11 @@ use Rattle.s7_wire.specs.Reads.{size_at, held_by}
 use Rattle.s7_wire.specs.declared.reader.Reader.{Reader}
 use Rattle.s7_dialogue.specs.declared.config.Config.{Config}
 use Rattle.s7_dialogue.specs.declared.grant.Grant.{Grant}
-use Rattle.s7_dialogue.specs.declared.running.Stage.{Stage}
-use Rattle.s7_dialogue.specs.declared.running.Stage.TheVariants as stage
-use Rattle.s7_client.specs.declared.line.Line.{Line}
+use Rattle.s7_dialogue.specs.declared.stages.running.Stage.{Stage}
+use Rattle.s7_dialogue.specs.declared.stages.running.Stage.TheVariants as stage
+use Rattle.s7_client.specs.declared.channel.Channel.{Channel}
 use Rattle.s7_client.specs.declared.under_way.UnderWay.{UnderWay}
-use Rattle.s7_client.specs.declared.line.Step.TheVariants as step
+use Rattle.s7_client.specs.declared.channel.Step.TheVariants as step
 use Rattle.s7_dialogue.specs.Codes.{send_failed}
 use Rattle.s7_dialogue.specs.Dialogue.{End, fault_end, departed_end}
 use Rattle.s7_dialogue.specs.Running.{awaited_in, awaited_by, unput_of, IsOver, IsLeaving}
@@ -31,16 +31,16 @@ use Rattle.s7_client.proofs.LinkLemmas.{went_not_yet, went_not_over, not_yet_not
 -- ---- octets are sent
 
 -- only what is to be sent changed
-pub record Sends (l l' : Line) (written : List ℕ) : Type 0 where
+pub record Sends (l l' : Channel) (written : List ℕ) : Type 0 where
   pub reader : l'.talk.reader ≡ l.talk.reader
   pub inbox : unread l ≡ unread l'
   pub sequence : l'.talk.sequence ≡ l.talk.sequence
   pub out : unsent l ≡ written ++ unsent l'
 
-same_size : (l l' : Line) (written : List ℕ) → Sends l l' written → size_in l'.talk ≡ size_in l.talk
+same_size : (l l' : Channel) (written : List ℕ) → Sends l l' written → size_in l'.talk ≡ size_in l.talk
 same_size l l' written k = ap size_by k.reader
 
-at_sent : (origin : Origin) (c : Course) (l l' : Line) (u : UnderWay) (written : List ℕ) → Sends l l' written
+at_sent : (origin : Origin) (c : Course) (l l' : Channel) (u : UnderWay) (written : List ℕ) → Sends l l' written
     → IsAt origin c l.talk u → IsAt origin c l'.talk u
 at_sent origin c l l' u written k at = record {
   job = at.job;
@@ -54,7 +54,7 @@ at_sent origin c l l' u written k at = record {
   silent = at.silent;
 }
 
-pending_sent : (config : Config) (l l' : Line) (u : UnderWay) (written : List ℕ) → Sends l l' written
+pending_sent : (config : Config) (l l' : Channel) (u : UnderWay) (written : List ℕ) → Sends l l' written
     → pending config l.talk u.running ≡ written ++ pending config l'.talk u.running
 pending_sent config l l' u written k =
     let unput : ℕ → List ℕ = λ n. unput_of config n u.running in
@@ -62,11 +62,11 @@ pending_sent config l l' u written k =
     ∙ (append_assoc written (unsent l') (unput (size_in l.talk))
     ∙ ap (λ n. written ++ (unsent l' ++ unput n)) (sym (same_size l l' written k)))
 
-pub some_pending : (config : Config) (l : Line) (u : UnderWay) → 0 < length (unsent l)
+pub some_pending : (config : Config) (l : Channel) (u : UnderWay) → 0 < length (unsent l)
     → 0 < length (pending config l.talk u.running)
 some_pending config l u some = omega (arith, some, length-append (unsent l) (unput_of config (size_in l.talk) u.running))
 
-stands_sent : (origin : Origin) (l l' : Line) (u : UnderWay) (b w written : List ℕ) → Sends l l' written
+stands_sent : (origin : Origin) (l l' : Channel) (u : UnderWay) (b w written : List ℕ) → Sends l l' written
     → Stands origin l u b w → Stands origin l' u b (w ++ written)
 stands_sent origin l l' u b w written k s = record {
   at = at_sent origin (course origin b) l l' u written k s.at;
@@ -77,7 +77,7 @@ stands_sent origin l l' u b w written k s = record {
   all_awaited = s.all_awaited;
 }
 
-fits_sent : (l l' : Line) (u : UnderWay) (written : List ℕ) → Sends l l' written → Fits l u
+fits_sent : (l l' : Channel) (u : UnderWay) (written : List ℕ) → Sends l l' written → Fits l u
     → 0 < length (unsent l) → Fits l' u
 fits_sent l l' u written k f some = record {
   reads = λ h. subst IsReading (sym k.reader) (f.reads h);
@@ -95,7 +95,7 @@ less_sent : (s : Stage) (count count' held held' out out' sent : ℕ) → count'
     → 0 < sent → budget s count' held' * 16384 + out' < budget s count held * 16384 + out
 less_sent s count count' held held' out out' sent same same' all some = omega (arith, same, same', all, some)
 
-pub step_sent : (l l' : Line) (u : UnderWay) (link link' : Shown) (written : List ℕ) (config : Config)
+pub step_sent : (l l' : Channel) (u : UnderWay) (link link' : Shown) (written : List ℕ) (config : Config)
     (granted : Option Grant) → Fits l u → 0 < length (unsent l) → Sends l l' written → 0 < length written
     → link'.written ≡ append_known link.written written
     → link'.space ≡ option_map (λ space. space - length written) link.space
@@ -128,7 +128,7 @@ no_room : (o : Option ℕ) → IfSome o (λ space. space ≡ 0) → (n : ℕ)
 no_room None h n e = absurd (cc)
 no_room (Some m) h n e = omega (arith, h, ap (λ x. unwrap_or x 0) e)
 
-pub step_full : (l l' : Line) (u : UnderWay) (link link' : Shown) (config : Config) (granted : Option Grant) → Fits l u
+pub step_full : (l l' : Channel) (u : UnderWay) (link link' : Shown) (config : Config) (granted : Option Grant) → Fits l u
     → 0 < length (unsent l) → Sends l l' []
     → link'.written ≡ append_known link.written []
     → link'.space ≡ option_map (λ space. space - length {A = ℕ} []) link.space
@@ -160,7 +160,7 @@ step_full l l' u link link' config granted fits some k wrote space same faults w
       cause = λ origin b w ec eg s e. absurd (not_yet_not_over e);
     }
 
-pub step_unsent : (l l' : Line) (u u' : UnderWay) (link link' : Shown) (config : Config) (granted : Option Grant)
+pub step_unsent : (l l' : Channel) (u u' : UnderWay) (link link' : Shown) (config : Config) (granted : Option Grant)
     → Fits l u → 0 < length (unsent l) → Sends l l' []
     → link'.written ≡ append_known link.written []
     → link'.space ≡ option_map (λ space. space - length {A = ℕ} []) link.space
@@ -222,7 +222,7 @@ ends_at found codes carried (stage.Single single) h = absurd h
 ends_at found codes carried stage.Leaving h = absurd h
 ends_at found codes carried (stage.Over code leaves) h = refl
 
-pub step_over : (l : Line) (u : UnderWay) (link : Shown) (config : Config) (granted : Option Grant) → Fits l u
+pub step_over : (l : Channel) (u : UnderWay) (link : Shown) (config : Config) (granted : Option Grant) → Fits l u
     → unsent l ≡ [] → IsOver u.running.stage
     → IsStep l u link l u link config granted step.Over
 unfolding moves_none moves_received
@@ -272,7 +272,7 @@ leaving_goes_on stage.Leaving h over = over
 leaving_goes_on (stage.Over code leaves) h over = h
 
 -- the disconnect request was transmitted
-pub step_departed : (l : Line) (u u' : UnderWay) (link : Shown) (config : Config) (granted : Option Grant)
+pub step_departed : (l : Channel) (u u' : UnderWay) (link : Shown) (config : Config) (granted : Option Grant)
     → pending config l.talk u.running ≡ [] → IsLeaving u.running.stage
     → awaited_in u'.running [] ≡ for_nothing departed_end [] → IsOver u'.running.stage → u'.running.job ≡ u.running.job
     → u'.carried ≡ u.carried → u'.waited ≡ u.waited

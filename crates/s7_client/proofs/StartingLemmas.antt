@@ -13,11 +13,11 @@ use Rattle.s7_dialogue.specs.declared.job.Job.{Job}
 use Rattle.s7_dialogue.specs.declared.job.Job.TheVariants as job
 use Rattle.s7_dialogue.specs.declared.grant.Grant.{Grant}
 use Rattle.s7_dialogue.specs.declared.grant.Leaves.TheVariants.{Disconnected}
-use Rattle.s7_dialogue.specs.declared.running.Stage.{Stage}
-use Rattle.s7_dialogue.specs.declared.running.Stage.TheVariants as stage
-use Rattle.s7_dialogue.specs.declared.running.Running.{Running}
+use Rattle.s7_dialogue.specs.declared.stages.running.Stage.{Stage}
+use Rattle.s7_dialogue.specs.declared.stages.running.Stage.TheVariants as stage
+use Rattle.s7_dialogue.specs.declared.stages.running.Running.{Running}
 use Rattle.s7_client.specs.declared.talk.Talk.{Talk}
-use Rattle.s7_client.specs.declared.line.Line.{Line}
+use Rattle.s7_client.specs.declared.channel.Channel.{Channel}
 use Rattle.s7_client.specs.declared.under_way.UnderWay.{UnderWay}
 use Rattle.s7_client.specs.declared.connection.Connection.{Connection}
 use Rattle.s7_dialogue.specs.Codes.{not_connected}
@@ -48,7 +48,7 @@ unfolding begun
 begun_unfinished origin = first_unfinished origin (plan_of origin.job origin.config origin.granted).first
 
 -- the client stands at the beginning of the course
-begun_at : (origin : Origin) (l : Line) (u : UnderWay) → u.running.job ≡ origin.job → IsBlank u
+begun_at : (origin : Origin) (l : Channel) (u : UnderWay) → u.running.job ≡ origin.job → IsBlank u
     → StartsAt origin (begun origin) l.talk u.running
     → ((IsOver u.running.stage → ⊥) → unfinished_of (joiner_in l.talk) ≡ nothing_unfinished)
     → IsAt origin (begun origin) l.talk u
@@ -81,16 +81,16 @@ none_unfinished j h = ap (λ o. record { octets = o; count = j.count }) h.octets
 
 -- a job was started
 started : (old new : Connection) (done : Job) (u : UnderWay) → new.job ≡ Some u → u.running.job ≡ done → IsBlank u
-    → StartsAt (origin_at old done) (begun (origin_at old done)) new.line.talk u.running
+    → StartsAt (origin_at old done) (begun (origin_at old done)) new.channel.talk u.running
     → new.config ≡ old.config → new.granted ≡ old.granted
-    → unread new.line ≡ (if begins_anew old.granted done then [] else unread old.line)
+    → unread new.channel ≡ (if begins_anew old.granted done then [] else unread old.channel)
     → new.is_closed ≡ (if begins_anew old.granted done then false else old.is_closed)
-    → ((IsOver u.running.stage → ⊥) → IsReady new.line.talk u.running.stage)
+    → ((IsOver u.running.stage → ⊥) → IsReady new.channel.talk u.running.stage)
     → IsStarted old new done
 started old new done u is same blank_ starts config granted inbox closed ready =
     let origin = origin_at old done in
-    let at = begun_at origin new.line u same blank_ starts
-    (λ h. none_unfinished (joiner_in new.line.talk) (ready h).clear) in
+    let at = begun_at origin new.channel u same blank_ starts
+    (λ h. none_unfinished (joiner_in new.channel.talk) (ready h).clear) in
     let nothing_used = course_nothing origin in
     record {
       stands = record {
@@ -99,13 +99,13 @@ started old new done u is same blank_ starts config granted inbox closed ready =
         config = sym config;
         granted = sym granted;
         stands = record {
-          at = subst (λ c. IsAt origin c new.line.talk u) (sym nothing_used) at;
+          at = subst (λ c. IsAt origin c new.channel.talk u) (sym nothing_used) at;
           owed = ap (λ c. c.out) nothing_used ∙ starts.out;
           rest = λ h.
               let k = ready h in
-              holds_nothing (limits origin) new.line.talk.reader.cutter k.held
-              (limit_read new.line.talk.reader k.reads
-              ∙ sym (limit_here (begun origin) new.line.talk u.running [] starts.awaits starts.size h k.unsized
+              holds_nothing (limits origin) new.channel.talk.reader.cutter k.held
+              (limit_read new.channel.talk.reader k.reads
+              ∙ sym (limit_here (begun origin) new.channel.talk u.running [] starts.awaits starts.size h k.unsized
               k.sized));
           sent_first = λ front rest e some. absurd (none_in_nothing front rest e some);
           all_awaited = λ front rest e some. absurd (none_in_nothing front rest e some);
@@ -118,33 +118,33 @@ started old new done u is same blank_ starts config granted inbox closed ready =
       closed = closed;
     }
 
--- ---- where a line begins a job
+-- ---- where a channel begins a job
 
 starts_where : (old : Connection) (t t' : Talk) (r r' : Running) (anew : Bool) → begins_anew old.granted r.job ≡ anew
-    → size_in t ≡ size_of_link anew (size_in old.line.talk) → t.sequence ≡ sequence_at anew old.line.talk.sequence
+    → size_in t ≡ size_of_link anew (size_in old.channel.talk) → t.sequence ≡ sequence_at anew old.channel.talk.sequence
     → Begins r old.config old.granted → BeginsTalk old.config t r t' r'
     → StartsAt (origin_at old r.job) (begun (origin_at old r.job)) t' r'
 starts_where old t t' r r' anew is size sequence begins b =
-    b.starts (origin_at old r.job) refl refl (size ∙ ap (λ x. size_of_link x (size_in old.line.talk)) (sym is))
-    (sequence ∙ ap (λ x. sequence_at x old.line.talk.sequence) (sym is)) begins
+    b.starts (origin_at old r.job) refl refl (size ∙ ap (λ x. size_of_link x (size_in old.channel.talk)) (sym is))
+    (sequence ∙ ap (λ x. sequence_at x old.channel.talk.sequence) (sym is)) begins
 
-pub started_line : (old new : Connection) (line : Line) (r : Running) (u : UnderWay) (anew : Bool)
+pub started_channel : (old new : Connection) (channel : Channel) (r : Running) (u : UnderWay) (anew : Bool)
     → begins_anew old.granted r.job ≡ anew → new.job ≡ Some u → IsBlank u → Begins r old.config old.granted
     → new.config ≡ old.config → new.granted ≡ old.granted → new.is_closed ≡ (if anew then false else old.is_closed)
-    → unread new.line ≡ (if anew then [] else unread old.line)
-    → size_in line.talk ≡ size_of_link anew (size_in old.line.talk)
-    → line.talk.sequence ≡ sequence_at anew old.line.talk.sequence
-    → IsReady new.line.talk u.running.stage
-    → BeginsTalk old.config line.talk r new.line.talk u.running → IsStarted old new r.job
-started_line old new line r u anew is there blank_ begins config granted closed inbox size sequence ready b =
-    started old new r.job u there b.job blank_ (starts_where old line.talk new.line.talk r u.running anew is size
+    → unread new.channel ≡ (if anew then [] else unread old.channel)
+    → size_in channel.talk ≡ size_of_link anew (size_in old.channel.talk)
+    → channel.talk.sequence ≡ sequence_at anew old.channel.talk.sequence
+    → IsReady new.channel.talk u.running.stage
+    → BeginsTalk old.config channel.talk r new.channel.talk u.running → IsStarted old new r.job
+started_channel old new channel r u anew is there blank_ begins config granted closed inbox size sequence ready b =
+    started old new r.job u there b.job blank_ (starts_where old channel.talk new.channel.talk r u.running anew is size
     sequence begins b) config granted
-    (inbox ∙ ap (λ (x : Bool). if x then [] else unread old.line) (sym is))
+    (inbox ∙ ap (λ (x : Bool). if x then [] else unread old.channel) (sym is))
     (closed ∙ ap (λ (x : Bool). if x then false else old.is_closed) (sym is))
     (λ h. ready)
 
 -- what fits a job that begins there
-pub fits_ready : (l : Line) (t : Talk) (r : Running) (u : UnderWay) (config : Config)
+pub fits_ready : (l : Channel) (t : Talk) (r : Running) (u : UnderWay) (config : Config)
     → IsReady l.talk u.running.stage → BeginsTalk config t r l.talk u.running → u.carried.room ≡ 8192 → Fits l u
 fits_ready l t r u config k b room = record {
   reads = λ h. k.reads;
@@ -189,7 +189,7 @@ anew_opens r config granted (stage.Over code leaves) is begins first =
     absurd (let x : nothing ≡ connect_request = sym (ap (λ (p : Plan). p.first) begins) ∙ first in cc)
 
 -- on a client that is connected
-pub ready_between : (l : Line) (t : Talk) (r r' : Running) (config : Config) (granted : Option Grant) → IsBetween l
+pub ready_between : (l : Channel) (t : Talk) (r r' : Running) (config : Config) (granted : Option Grant) → IsBetween l
     → BeginsTalk config l.talk r t r' → Begins r config granted → IsSome granted → IsReady t r'.stage
 ready_between l t r r' config granted k b begins some =
     let before : IsOpening r'.stage → ⊥ =
@@ -203,7 +203,7 @@ ready_between l t r r' config granted k b begins some =
     }
 
 -- on a link that begins anew
-pub ready_new : (l : Line) (t : Talk) (r r' : Running) (config : Config) (granted : Option Grant) → IsNew l
+pub ready_new : (l : Channel) (t : Talk) (r r' : Running) (config : Config) (granted : Option Grant) → IsNew l
     → BeginsTalk config l.talk r t r' → Begins r config granted → begins_anew granted r.job ≡ true → IsReady t r'.stage
 ready_new l t r r' config granted k b begins anew =
     let opening : IsOpening r'.stage =
@@ -225,9 +225,9 @@ unfolding rest_of
 nothing_held ls = refl
 
 -- a link of which nothing was read
-pub new_line : (l : Line) → HasRead l.talk.reader [] → opens_by l.talk.reader ≡ Confirm
+pub new_channel : (l : Channel) → HasRead l.talk.reader [] → opens_by l.talk.reader ≡ Confirm
     → ended_with l.talk.reader ≡ None → l.talk.sequence ≡ 0 → unsent l ≡ [] → unread l ≡ [] → IsNew l
-new_line l h opening going sequence sent none =
+new_channel l h opening going sequence sent none =
     let r = l.talk.reader in
     let nothing = nothing_read (opens_by r) in
     record {
@@ -240,7 +240,7 @@ new_line l h opening going sequence sent none =
       unread = none;
     }
 
-pub new_size : (l : Line) → IsNew l → size_in l.talk ≡ 1024
+pub new_size : (l : Channel) → IsNew l → size_in l.talk ≡ 1024
 new_size l k = ap (λ o. unwrap_or o 1024) k.size
 
 pub connected_not_anew : (granted : Option Grant) (done : Job) → IsSome granted → begins_anew granted done ≡ false
@@ -290,15 +290,15 @@ pub record IsTurned (old : Connection) (t : Talk) (r r' : Running) : Type 0 wher
   pub shut : LeavesOpen r'.stage → ⊥
 
 pub is_turned : (old : Connection) (t : Talk) (r r' : Running) → begins_anew old.granted r.job ≡ false
-    → Begins r old.config old.granted → BeginsTalk old.config old.line.talk r t r' → old.granted ≡ None
+    → Begins r old.config old.granted → BeginsTalk old.config old.channel.talk r t r' → old.granted ≡ None
     → IsTurned old t r r'
 is_turned old t r r' is begins b none =
-    let starts = starts_where old old.line.talk t r r' false is refl refl begins b in
+    let starts = starts_where old old.channel.talk t r r' false is refl refl begins b in
     let e = turned_awaits (origin_at old r.job) t r' none is starts in
     record { starts = starts; over = turned_over r' e; shut = turned_shut r' e }
 
-pub fits_turned : (old : Connection) (l : Line) (r : Running) (u : UnderWay) → IsTurned old l.talk r u.running
-    → BeginsTalk old.config old.line.talk r l.talk u.running → u.carried.room ≡ 8192 → Fits l u
+pub fits_turned : (old : Connection) (l : Channel) (r : Running) (u : UnderWay) → IsTurned old l.talk r u.running
+    → BeginsTalk old.config old.channel.talk r l.talk u.running → u.carried.room ≡ 8192 → Fits l u
 fits_turned old l r u k b room = record {
   reads = λ h. absurd (h k.over);
   unsized = λ h. absurd (over_not_opening u.running.stage k.over h);
@@ -312,11 +312,11 @@ fits_turned old l r u k b room = record {
 }
 
 pub started_turned : (old new : Connection) (r : Running) (u : UnderWay) → begins_anew old.granted r.job ≡ false
-    → new.job ≡ Some u → IsBlank u → IsTurned old new.line.talk r u.running → u.running.job ≡ r.job
+    → new.job ≡ Some u → IsBlank u → IsTurned old new.channel.talk r u.running → u.running.job ≡ r.job
     → new.config ≡ old.config → new.granted ≡ old.granted → new.is_closed ≡ old.is_closed
-    → unread new.line ≡ unread old.line → IsStarted old new r.job
+    → unread new.channel ≡ unread old.channel → IsStarted old new r.job
 started_turned old new r u is there blank_ k done config granted closed inbox =
     started old new r.job u there done blank_ k.starts config granted
-    (inbox ∙ ap (λ (x : Bool). if x then [] else unread old.line) (sym is))
+    (inbox ∙ ap (λ (x : Bool). if x then [] else unread old.channel) (sym is))
     (closed ∙ ap (λ (x : Bool). if x then false else old.is_closed) (sym is))
     (λ h. absurd (h k.over))

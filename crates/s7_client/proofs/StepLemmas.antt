@@ -18,10 +18,10 @@ use Rattle.s7_wire.specs.declared.reader.Reader.{Reader}
 use Rattle.s7_dialogue.specs.declared.config.Config.{Config}
 use Rattle.s7_client.specs.declared.talk.Talk.{Talk}
 use Rattle.s7_dialogue.specs.declared.grant.Grant.{Grant}
-use Rattle.s7_dialogue.specs.declared.running.Running.{Running}
-use Rattle.s7_dialogue.specs.declared.running.Stage.{Stage}
-use Rattle.s7_dialogue.specs.declared.running.Stage.TheVariants as stage
-use Rattle.s7_client.specs.declared.line.Line.{Line}
+use Rattle.s7_dialogue.specs.declared.stages.running.Running.{Running}
+use Rattle.s7_dialogue.specs.declared.stages.running.Stage.{Stage}
+use Rattle.s7_dialogue.specs.declared.stages.running.Stage.TheVariants as stage
+use Rattle.s7_client.specs.declared.channel.Channel.{Channel}
 use Rattle.s7_client.specs.declared.under_way.UnderWay.{UnderWay}
 use Rattle.s7_dialogue.specs.Codes.{link_ended}
 use Rattle.s7_dialogue.specs.Dialogue.{fault_end}
@@ -63,7 +63,7 @@ awaits_here c u awaiting is =
 -- ---- all was sent
 
 -- what may be sent was transmitted
-pub sent_whole : (origin : Origin) (l : Line) (u : UnderWay) (b w : List ℕ) (config : Config) → origin.config ≡ config
+pub sent_whole : (origin : Origin) (l : Channel) (u : UnderWay) (b w : List ℕ) (config : Config) → origin.config ≡ config
     → Stands origin l u b w → pending config l.talk u.running ≡ []
     → may_send origin b ≡ w
 sent_whole origin l u b w config ec s none =
@@ -106,7 +106,7 @@ awaits_alike (Some n) (stage.Single s) found codes carried h none some = refl
 awaits_alike size stage.Leaving found codes carried h none some = absurd h
 awaits_alike size (stage.Over code leaves) found codes carried h none some = absurd h
 
-alike : (origin : Origin) (b w : List ℕ) (l : Line) (u : UnderWay) → Fits l u → IsAwaiting u.running.stage
+alike : (origin : Origin) (b w : List ℕ) (l : Channel) (u : UnderWay) → Fits l u → IsAwaiting u.running.stage
     → Stands origin l u b w → IsAlike l.talk.reader (course origin b)
 alike origin b w l u fits awaiting s =
     let going = awaiting_goes_on u.running.stage awaiting in
@@ -126,7 +126,7 @@ asks_sized size (stage.Single s) h none some = tt
 asks_sized size stage.Leaving h none some = absurd h
 asks_sized size (stage.Over code leaves) h none some = absurd h
 
-pub asks_where : (l : Line) (u : UnderWay) → Fits l u → IsAwaiting u.running.stage → IsSome (size_at l.talk.reader)
+pub asks_where : (l : Channel) (u : UnderWay) → Fits l u → IsAwaiting u.running.stage → IsSome (size_at l.talk.reader)
     → IsAsking u.running.stage
 asks_where l u fits awaiting some = asks_sized (size_at l.talk.reader) u.running.stage awaiting fits.unsized some
 
@@ -138,7 +138,7 @@ opens_unsized size (stage.Single s) h some none = absurd (let x = subst IsSome n
 opens_unsized size stage.Leaving h some none = absurd h
 opens_unsized size (stage.Over code leaves) h some none = absurd h
 
-pub opens_where : (l : Line) (u : UnderWay) → Fits l u → IsAwaiting u.running.stage → size_at l.talk.reader ≡ None
+pub opens_where : (l : Channel) (u : UnderWay) → Fits l u → IsAwaiting u.running.stage → size_at l.talk.reader ≡ None
     → IsOpening u.running.stage
 opens_where l u fits awaiting none =
     opens_unsized (size_at l.talk.reader) u.running.stage awaiting
@@ -147,13 +147,13 @@ opens_where l u fits awaiting none =
 -- ---- a front of the octets
 
 -- the first octets were read, and this was found
-pub record UsesFront (l : Line) (t : Talk) (after used : List ℕ) (found : Found) : Type 0 where
+pub record UsesFront (l : Channel) (t : Talk) (after used : List ℕ) (found : Found) : Type 0 where
   pub some : 0 < length used
   pub earliest : OnlyLastShows (limit_at l.talk.reader) (held_by l.talk.reader) used
   pub inbox : unread l ≡ used ++ after
   pub reads : Reads l.talk.reader t.reader used found
 
-pub uses_front : (l : Line) (t : Talk) (u : UnderWay) (piece after : List ℕ) (n : ℕ) (found : Found) → Fits l u
+pub uses_front : (l : Channel) (t : Talk) (u : UnderWay) (piece after : List ℕ) (n : ℕ) (found : Found) → Fits l u
     → IsAwaiting u.running.stage → piece ≡ unread l → after ≡ drop n (unread l) → n ≤ length piece → 0 < n
     → opens_by t.reader ≡ opens_by l.talk.reader
     → ((k : ℕ) → k < n → state_of (limit_at l.talk.reader) (held_by l.talk.reader ++ take k piece) ≡ fed.More)
@@ -172,19 +172,19 @@ uses_front l t u piece after n found fits awaiting is rest least some opening ea
           opening some_used last finds;
     }
 
-pub opens_at : (l : Line) (t : Talk) (u : UnderWay) (after used : List ℕ) (found : Found) (connection : _) → Fits l u
+pub opens_at : (l : Channel) (t : Talk) (u : UnderWay) (after used : List ℕ) (found : Found) (connection : _) → Fits l u
     → IsAwaiting u.running.stage → UsesFront l t after used found → found ≡ finding.Opened connection
     → IsOpening u.running.stage
 opens_at l t u after used found connection fits awaiting k is =
     opens_where l u fits awaiting (subst (λ x. Turns x l.talk.reader t.reader) is k.reads.turns).1
 
-pub asks_at : (l : Line) (t : Talk) (u : UnderWay) (after used : List ℕ) (found : Found) → Fits l u
+pub asks_at : (l : Channel) (t : Talk) (u : UnderWay) (after used : List ℕ) (found : Found) → Fits l u
     → IsAwaiting u.running.stage → UsesFront l t after used found → found ≡ finding.Message
     → IsAsking u.running.stage
 asks_at l t u after used found fits awaiting k is =
     asks_where l u fits awaiting (subst (λ x. Turns x l.talk.reader t.reader) is k.reads.turns).1
 
-pub message_short : (l : Line) (t : Talk) (after used : List ℕ) (found : Found) → UsesFront l t after used found
+pub message_short : (l : Channel) (t : Talk) (after used : List ℕ) (found : Found) → UsesFront l t after used found
     → found ≡ finding.Message → length (message_at t.reader) ≤ 8192
 message_short l t after used found k is = (subst (λ x. Turns x l.talk.reader t.reader) is k.reads.turns).3
 
@@ -202,7 +202,7 @@ nothing_as r h =
 
 -- ---- octets are used
 
-pub consumes : (l l' : Line) (u u' : UnderWay) (used : List ℕ) (found : Found) (config : Config)
+pub consumes : (l l' : Channel) (u u' : UnderWay) (used : List ℕ) (found : Found) (config : Config)
     (granted : Option Grant)
     → Fits l u → IsAwaiting u.running.stage → unsent l ≡ [] → ((size : ℕ) → unput_of config size u.running ≡ [])
     → 0 < length used → OnlyLastShows (limit_at l.talk.reader) (held_by l.talk.reader) used
@@ -265,7 +265,7 @@ less_more s count count' held held' out out' a few short further none =
     let n = messages_left s in
     omega (arith, a, few, short, further, none)
 
-pub consumes_more : (l l' : Line) (u : UnderWay) (used : List ℕ) (found : Found) (config : Config)
+pub consumes_more : (l l' : Channel) (u : UnderWay) (used : List ℕ) (found : Found) (config : Config)
     (granted : Option Grant) → found ≡ finding.More
     → Fits l u → IsAwaiting u.running.stage → unsent l ≡ [] → ((size : ℕ) → unput_of config size u.running ≡ [])
     → UsesFront l l'.talk (unread l') used found → l'.talk ≡ record l.talk { reader = l'.talk.reader }
@@ -339,7 +339,7 @@ fault_at origin c t t' u u' code at size sequence job carried going e over = rec
   silent = λ h. absurd (h over);
 }
 
-consumes_end : (l l' : Line) (u u' : UnderWay) (used : List ℕ) (found : Found) (config : Config)
+consumes_end : (l l' : Channel) (u u' : UnderWay) (used : List ℕ) (found : Found) (config : Config)
     (granted : Option Grant) (code : ℕ)
     → Fits l u → IsAwaiting u.running.stage → unsent l ≡ [] → ((size : ℕ) → unput_of config size u.running ≡ [])
     → UsesFront l l'.talk (unread l') used found → l'.talk ≡ record l.talk { reader = l'.talk.reader }
@@ -380,7 +380,7 @@ consumes_end l l' u u' used found config granted code fits awaiting sent unput f
       out = sent_with c.out c.out _ refl (none_over origin.config l'.talk u'.running none over);
     }))
 
-pub consumes_disconnect : (l l' : Line) (u u' : UnderWay) (used : List ℕ) (found : Found) (config : Config)
+pub consumes_disconnect : (l l' : Channel) (u u' : UnderWay) (used : List ℕ) (found : Found) (config : Config)
     (granted : Option Grant) → found ≡ finding.Disconnected
     → Fits l u → IsAwaiting u.running.stage → unsent l ≡ [] → ((size : ℕ) → unput_of config size u.running ≡ [])
     → UsesFront l l'.talk (unread l') used found → l'.talk ≡ record l.talk { reader = l'.talk.reader }
@@ -408,7 +408,7 @@ code_by Unexpected (stage.Over code leaves) found codes carried = refl
 code_by TooManyFragments s found codes carried = refl
 code_by TooLong s found codes carried = refl
 
-pub consumes_fault : (l l' : Line) (u u' : UnderWay) (used : List ℕ) (found : Found) (fault : ReadFault) (code : ℕ)
+pub consumes_fault : (l l' : Channel) (u u' : UnderWay) (used : List ℕ) (found : Found) (fault : ReadFault) (code : ℕ)
     (config : Config) (granted : Option Grant) → found ≡ finding.Fault fault
     → Fits l u → IsAwaiting u.running.stage → unsent l ≡ [] → ((size : ℕ) → unput_of config size u.running ≡ [])
     → UsesFront l l'.talk (unread l') used found → l'.talk ≡ record l.talk { reader = l'.talk.reader }
@@ -442,7 +442,7 @@ least_size : (o : Option ℕ) → ForSome o (λ n. 128 ≤ n) → 128 ≤ unwrap
 least_size None h = omega arith
 least_size (Some n) h = omega (arith, h n refl)
 
-consumes_settled : (l : Line) (m : Talk) (l' : Line) (u u' : UnderWay) (used : List ℕ) (found : Found) (config : Config)
+consumes_settled : (l : Channel) (m : Talk) (l' : Channel) (u u' : UnderWay) (used : List ℕ) (found : Found) (config : Config)
     (granted : Option Grant)
     → Fits l u → IsAwaiting u.running.stage → unsent l ≡ [] → ((size : ℕ) → unput_of config size u.running ≡ [])
     → 0 < length used → OnlyLastShows (limit_at l.talk.reader) (held_by l.talk.reader) used
@@ -510,7 +510,7 @@ reaches_from origin before before' next t u same r = record {
   out = r.out ∙ ap (λ o. o ++ pending origin.config t u.running) same;
 }
 
-pub consumes_open : (l : Line) (m : Talk) (l' : Line) (u u' : UnderWay) (used : List ℕ) (found : Found) (connection : _)
+pub consumes_open : (l : Channel) (m : Talk) (l' : Channel) (u u' : UnderWay) (used : List ℕ) (found : Found) (connection : _)
     (config : Config) (granted : Option Grant) → found ≡ finding.Opened connection
     → Fits l u → IsAwaiting u.running.stage → unsent l ≡ [] → ((size : ℕ) → unput_of config size u.running ≡ [])
     → UsesFront l m (unread l') used found → m ≡ record l.talk { reader = m.reader }
@@ -557,7 +557,7 @@ at_whole origin c t t' u at size sequence unfinished = record {
   silent = at.silent;
 }
 
-pub consumes_message : (l : Line) (m : Talk) (l' : Line) (u u' : UnderWay) (used : List ℕ) (found : Found)
+pub consumes_message : (l : Channel) (m : Talk) (l' : Channel) (u u' : UnderWay) (used : List ℕ) (found : Found)
     (config : Config) (granted : Option Grant) → found ≡ finding.Message
     → Fits l u → IsAwaiting u.running.stage → unsent l ≡ [] → ((size : ℕ) → unput_of config size u.running ≡ [])
     → UsesFront l m (unread l') used found → m ≡ record l.talk { reader = m.reader }

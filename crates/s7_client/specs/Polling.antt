@@ -15,7 +15,7 @@ use Rattle.s7_client.specs.declared.under_way.UnderWay.{UnderWay}
 use Rattle.s7_client.specs.declared.connection.Connection.{Connection}
 use Rattle.s7_wire.specs.Bounds.{size_of_code}
 use Rattle.s7_wire.specs.Reads.{size_at, held_by}
-use Rattle.s7_client.specs.declared.line.Line.{Line}
+use Rattle.s7_client.specs.declared.channel.Channel.{Channel}
 use Rattle.s7_dialogue.specs.Dialogue.{End, fault_end}
 use Rattle.s7_dialogue.specs.Running.{IsResult, IsOver, awaited_in}
 use Rattle.s7_dialogue.specs.Course.{Origin, begins_anew, course, for_nothing, asked_size_code}
@@ -44,15 +44,15 @@ abbrev pub closed_of : Connection → Bool
 closed_of c = c.is_closed
 
 -- the TPDU size of its link, and the sequence of the last numbered telegram
-abbrev pub size_of : Connection → ℕ
-size_of c = size_in c.line.talk
+abbrev pub tpdu_size_of : Connection → ℕ
+tpdu_size_of c = size_in c.channel.talk
 
 abbrev pub sequence_of : Connection → ℕ
-sequence_of c = c.line.talk.sequence
+sequence_of c = c.channel.talk.sequence
 
 -- the octets that were read and not used
 abbrev pub unread_of : Connection → List ℕ
-unread_of c = unread c.line
+unread_of c = unread c.channel
 
 -- where a job starts on a client
 abbrev pub origin_at : Connection → Job → Origin
@@ -60,7 +60,7 @@ origin_at c job = record {
   job = job;
   config = c.config;
   granted = c.granted;
-  size = size_of c;
+  size = tpdu_size_of c;
   sequence = sequence_of c;
 }
 
@@ -70,7 +70,7 @@ pub record StandsFor (c : Connection) (origin : Origin) (b written : List ℕ) :
   pub is : c.job ≡ Some under_way
   pub config : origin.config ≡ c.config
   pub granted : origin.granted ≡ c.granted
-  pub stands : Stands origin c.line under_way b written
+  pub stands : Stands origin c.channel under_way b written
 
 -- a client that isn't connected and has no job
 pub record IsFresh (c : Connection) (asked : Config) : Type 0 where
@@ -79,7 +79,7 @@ pub record IsFresh (c : Connection) (asked : Config) : Type 0 where
   pub closed : closed_of c ≡ false
   pub job : job_of c ≡ None
   pub unread : unread_of c ≡ []
-  pub size : size_of c ≡ size_of_code asked_size_code
+  pub size : tpdu_size_of c ≡ size_of_code asked_size_code
   pub sequence : sequence_of c ≡ 0
 
 -- ---- starting
@@ -135,7 +135,7 @@ pub record IsDone (origin : Origin) (link link' : Shown) (old new : Connection) 
   pub closed : closed_of new ≡ closed_after end.leaves (closed_of old)
   pub cause : IsDoneBy origin link link' (unread_of new) end carried b written (waited_of old)
   -- where the next job starts
-  pub size : size_of new ≡ (course origin b).size
+  pub size : tpdu_size_of new ≡ (course origin b).size
   pub sequence : sequence_of new ≡ (course origin b).sequence
 
 -- the job goes on
@@ -178,10 +178,10 @@ pub record IsPoll (old : Connection) (link : Shown) (new : Connection) (link' : 
   pub config : config_of new ≡ config_of old
   pub comes : Comes old link new link' moves.used moves.written result
 
--- ---- the line
+-- ---- the channel
 
 -- a link that nothing moved on
-pub record IsNew (l : Line) : Type 0 where
+pub record IsNew (l : Channel) : Type 0 where
   pub reads : IsReading l.talk.reader
   pub size : size_at l.talk.reader ≡ None
   pub held : held_by l.talk.reader ≡ []
@@ -203,7 +203,7 @@ pub record Waits (u u' : UnderWay) (polls : ℕ) (goes_on : Bool) : Type 0 where
   pub carried : u'.carried ≡ u.carried
 
 -- the job goes on after a round of steps
-pub record RoundGoesOn (l : Line) (u : UnderWay) (link : Shown) (l' : Line) (u' : UnderWay) (link' : Shown)
+pub record RoundGoesOn (l : Channel) (u : UnderWay) (link : Shown) (l' : Channel) (u' : UnderWay) (link' : Shown)
     (config : Config) (granted : Option Grant) : Type 0 where
   pub moves : Moves (unread l) link (unread l') link'
   pub fits : Fits l' u'
@@ -219,7 +219,7 @@ pub record RoundGoesOn (l : Line) (u : UnderWay) (link : Shown) (l' : Line) (u' 
       × HasMetNotYet origin (unread l') link' (b ++ moves.used) (w ++ moves.written)
 
 -- how a job is over
-pub record EndsBy (origin : Origin) (link link' : Shown) (l : Line) (u : UnderWay) (b written : List ℕ)
+pub record EndsBy (origin : Origin) (link link' : Shown) (l : Channel) (u : UnderWay) (b written : List ℕ)
     (waited : ℕ) : Type 0 where
   pub end : End
   pub carried : List ℕ
@@ -231,7 +231,7 @@ pub record EndsBy (origin : Origin) (link link' : Shown) (l : Line) (u : UnderWa
   pub cause : IsDoneBy origin link link' (unread l) end carried b written (Some waited)
 
 -- the job is over after it
-pub record RoundEnds (l : Line) (u : UnderWay) (link : Shown) (l' : Line) (u' : UnderWay) (link' : Shown)
+pub record RoundEnds (l : Channel) (u : UnderWay) (link : Shown) (l' : Channel) (u' : UnderWay) (link' : Shown)
     (config : Config) (granted : Option Grant) : Type 0 where
   pub moves : Moves (unread l) link (unread l') link'
   pub over : IsOver u'.running.stage
@@ -243,7 +243,7 @@ pub record RoundEnds (l : Line) (u : UnderWay) (link : Shown) (l' : Line) (u' : 
       → Stands origin l u b w
       → EndsBy origin link link' l' u' (b ++ moves.used) (w ++ moves.written) u.waited
 
-abbrev pub Round : Line → UnderWay → Shown → Line → UnderWay → Shown → Config → Option Grant → Bool → Type 0
+abbrev pub Round : Channel → UnderWay → Shown → Channel → UnderWay → Shown → Config → Option Grant → Bool → Type 0
 Round l u link l' u' link' config granted true = RoundGoesOn l u link l' u' link' config granted
 Round l u link l' u' link' config granted false = RoundEnds l u link l' u' link' config granted
 

@@ -14,7 +14,7 @@ use Rattle.s7_dialogue.specs.Running.{IsResult}
 use Rattle.s7_client.specs.Form.{HasForm, IsWhole}
 use Rattle.s7_dialogue.specs.Course.{Origin, begins_anew, asked_size_code, course}
 use Rattle.s7_client.specs.Standing.{Moves, IsOrderly, HasCause, HasMetNotYet, IsUnderWay, IsFault}
-use Rattle.s7_client.specs.Polling.{StandsFor, grant_of, closed_of, size_of, sequence_of, unread_of, config_of, waited_of, job_of, grant_after, closed_after}
+use Rattle.s7_client.specs.Polling.{StandsFor, grant_of, closed_of, tpdu_size_of, sequence_of, unread_of, config_of, waited_of, job_of, grant_after, closed_after}
 
 -- what a client has between two jobs
 pub record Between : Type 0 where
@@ -31,7 +31,7 @@ abbrev pub between_of : Connection → Between
 between_of c = record {
   granted = grant_of c;
   is_closed = closed_of c;
-  size = size_of c;
+  size = tpdu_size_of c;
   sequence = sequence_of c;
   unread = unread_of c;
 }
@@ -110,7 +110,7 @@ pub record IsOverNow (origin : Origin) (link link' : Shown) (old new : Connectio
   pub closed : closed_of new ≡ closed_after end.leaves (closed_of old)
   pub cause : HasCause origin link link' (unread_of new) end carried b written
       ⊎ IsTired origin link link' (unread_of new) end carried b written
-  pub size : size_of new ≡ (course origin b).size
+  pub size : tpdu_size_of new ≡ (course origin b).size
   pub sequence : sequence_of new ≡ (course origin b).sequence
 
 -- polls up to the one that was done

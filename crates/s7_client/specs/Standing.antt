@@ -9,20 +9,20 @@ use Rattle.s7_wire.specs.Reads.{size_at, held_by}
 use Rattle.s7_dialogue.specs.declared.config.Config.{Config}
 use Rattle.s7_dialogue.specs.declared.grant.Grant.{Grant}
 use Rattle.s7_dialogue.specs.Codes.{link_ended, send_failed, receive_failed}
-use Rattle.s7_client.specs.declared.line.Line.{Line}
+use Rattle.s7_client.specs.declared.channel.Channel.{Channel}
 use Rattle.s7_client.specs.declared.under_way.UnderWay.{UnderWay}
-use Rattle.s7_client.specs.declared.line.Step.{Step}
-use Rattle.s7_client.specs.declared.line.Step.TheVariants as step
+use Rattle.s7_client.specs.declared.channel.Step.{Step}
+use Rattle.s7_client.specs.declared.channel.Step.TheVariants as step
 use Rattle.s7_dialogue.specs.Dialogue.{End, fault_end}
 use Rattle.s7_dialogue.specs.Running.{awaited_in, IsOver, IsOpening}
 use Rattle.s7_dialogue.specs.Course.{Origin, Awaits, for_confirm, for_answers, for_departure, for_nothing, conduct_of, course, may_send, limits}
 use Rattle.s7_client.specs.At.{IsAt, IsReading, IsClear, LeavesOpen, budget, pending, joiner_in, size_in}
 use Rattle.s7_client.specs.Order.{Deed, transmitted_in, used_in, received_in, AreInOrder}
 
-abbrev pub unread : Line → List ℕ
+abbrev pub unread : Channel → List ℕ
 unread l = l.inbox
 
-abbrev pub unsent : Line → List ℕ
+abbrev pub unsent : Channel → List ℕ
 unsent l = l.talk.outbox.unsent
 
 abbrev pub IsPrefixOf : List ℕ → List ℕ → Type 0
@@ -47,7 +47,7 @@ AllAwaited origin b =
 
 -- The client stands for the octets that its job has used and those that it has transmitted: it stands at their place
 -- of the course, and what is still to be sent is what may be sent beyond what was transmitted.
-pub record Stands (origin : Origin) (l : Line) (u : UnderWay) (b written : List ℕ) : Type 0 where
+pub record Stands (origin : Origin) (l : Channel) (u : UnderWay) (b written : List ℕ) : Type 0 where
   pub at : IsAt origin (course origin b) l.talk u
   pub owed : may_send origin b ≡ written ++ pending origin.config l.talk u.running
   pub rest : (IsOver u.running.stage → ⊥) → HoldsRest (limits origin) b l.talk.reader.cutter
@@ -55,15 +55,15 @@ pub record Stands (origin : Origin) (l : Line) (u : UnderWay) (b written : List 
   pub all_awaited : AllAwaited origin b
 
 -- a link between two messages
-pub record IsBetween (l : Line) : Type 0 where
+pub record IsBetween (l : Channel) : Type 0 where
   pub reads : IsReading l.talk.reader
   pub sized : IsSome (size_at l.talk.reader)
   pub held : held_by l.talk.reader ≡ []
   pub clear : IsClear (joiner_in l.talk)
   pub sent : unsent l ≡ []
 
--- what holds of a line and its job, whatever the course
-pub record Fits (l : Line) (u : UnderWay) : Type 0 where
+-- what holds of a channel and its job, whatever the course
+pub record Fits (l : Channel) (u : UnderWay) : Type 0 where
   pub reads : (IsOver u.running.stage → ⊥) → IsReading l.talk.reader
   -- the confirm has come, but where it is awaited
   pub unsized : IsOpening u.running.stage → size_at l.talk.reader ≡ None
@@ -136,7 +136,7 @@ HasCause origin link link' kept end carried b written =
     ⊎ IsBySend origin link link' end carried b written
 
 -- the job is over, and that has its cause
-pub record HasEnded (origin : Origin) (link link' : Shown) (l : Line) (u : UnderWay) (b written : List ℕ) : Type 0 where
+pub record HasEnded (origin : Origin) (link link' : Shown) (l : Channel) (u : UnderWay) (b written : List ℕ) : Type 0 where
   pub end : End
   pub carried : List ℕ
   pub ends_as : awaited_in u.running [] ≡ for_nothing end []
@@ -194,13 +194,13 @@ pub record IsUnderWay (origin : Origin) (b written : List ℕ) : Type 0 where
   pub goes_on : (end : End) (carried : List ℕ) → (course origin b).awaits ≡ for_nothing end carried → ⊥
 
 -- how much a job can still do: octets to use, and then octets to send, which are fewer than 16,384 behind a packet
-abbrev pub work : Config → Line → UnderWay → ℕ
+abbrev pub work : Config → Channel → UnderWay → ℕ
 work config l u =
     budget u.running.stage (joiner_in l.talk).count (length (held_by l.talk.reader)) * 16384
     + length (pending config l.talk u.running)
 
 -- what one step comes to
-pub record IsStep (l : Line) (u : UnderWay) (link : Shown) (l' : Line) (u' : UnderWay) (link' : Shown)
+pub record IsStep (l : Channel) (u : UnderWay) (link : Shown) (l' : Channel) (u' : UnderWay) (link' : Shown)
     (config : Config) (granted : Option Grant) (result : Step) : Type 0 where
   pub moves : Moves (unread l) link (unread l') link'
   pub fits : (result ≡ step.Over → ⊥) → Fits l' u'
@@ -222,7 +222,7 @@ pub record IsStep (l : Line) (u : UnderWay) (link : Shown) (l' : Line) (u' : Und
       → result ≡ step.Over → HasEnded origin link link' l' u' (b ++ moves.used) (w ++ moves.written)
 
 -- what using octets that were received does, up to the end of one packet
-pub record Consumes (l : Line) (u : UnderWay) (l' : Line) (u' : UnderWay) (config : Config)
+pub record Consumes (l : Channel) (u : UnderWay) (l' : Channel) (u' : UnderWay) (config : Config)
     (granted : Option Grant) : Type 0 where
   pub used : List ℕ
   pub some : 0 < length used

@@ -9,29 +9,29 @@ ghost use Rattle.s7_dialogue.specs.Stages.{IsGrant};
 ghost use Rattle.s7_client.specs.At.{LeavesLink};
 ghost use Rattle.s7_client.specs.Standing.{Fits, IsBetween, unsent};
 
+use crate::channel::Channel;
 use crate::job::{Polled, StartCause, StartFault};
-use crate::line::Line;
 use crate::under_way::{UnderWay, closed_after, grant_after};
 use s7_dialogue::{Config, Grant, Job, JobResult, Leaves, Running};
 use s7_outer::{Buffer, Link, Memory};
 use s7_wire::{MESSAGE_LIMIT, Outbox};
 use std::alloc::Global;
 
-/// The client's side of one link, of which nobody is told: jobs are started one at a time, and polled over the link until
-/// they are done. It begins unconnected.
+/// The client's side of one link, of which nobody is told: jobs are started one at a time, and polled over
+/// the link until they are done. It begins unconnected.
 #[derive(Drop)]
 pub struct Connection {
     pub(crate) config: Config,
     /// What was granted, and nothing on a client that isn't connected.
     pub(crate) granted: Option<Grant>,
     pub(crate) is_closed: bool,
-    pub(crate) line: Line,
+    pub(crate) channel: Channel,
     pub(crate) job: Option<UnderWay>,
-    ghost fits: { ForSome job (λ u. Fits line u) },
+    ghost fits: { ForSome job (λ u. Fits channel u) },
     ghost waits: { ForSome job (λ u. u.waited < config.polls) },
     ghost grants: { ForSome granted IsGrant },
-    ghost between: { job ≡ None → IsSome granted → IsBetween line },
-    ghost quiet: { job ≡ None → unsent line ≡ [] },
+    ghost between: { job ≡ None → IsSome granted → IsBetween channel },
+    ghost quiet: { job ≡ None → unsent channel ≡ [] },
     ghost most_pdu: { config.pdu ≤ most_pdu },
     ghost most_jobs: { config.jobs ≤ 8 },
     ghost least_polls: { 1 ≤ config.polls },
@@ -56,7 +56,7 @@ impl Connection {
             config,
             granted: None,
             is_closed: false,
-            line: Line::new(alloc)?,
+            channel: Channel::new(alloc)?,
             job: None,
         })
     }
@@ -150,10 +150,10 @@ impl Connection {
             waited: 0,
         };
         if anew {
-            let Ok(line) = Line::new(alloc) else {
+            let Ok(channel) = Channel::new(alloc) else {
                 return Err(wants_memory(job.running.job));
             };
-            self.set_out_anew(line, job);
+            self.set_out_anew(channel, job);
             return Ok(());
         }
         if self.granted.is_some() {
@@ -172,22 +172,22 @@ impl Connection {
         requires begins { Begins job.running self.old.config self.old.granted }
         ensures { IsStarted self.old self.new job.running.job }
     {
-        self.line.talk.begin(&mut job.running, &self.config);
+        self.channel.talk.begin(&mut job.running, &self.config);
         self.job = Some(job);
     }
 
     // Sets out with a connect on a link that begins anew.
-    fn set_out_anew(&mut self, line: Line, mut job: UnderWay)
+    fn set_out_anew(&mut self, channel: Channel, mut job: UnderWay)
         requires idle { self.old.job ≡ None }
         requires anew { begins_anew self.old.granted job.running.job ≡ true }
-        requires line { IsNew line }
+        requires channel { IsNew channel }
         requires blank { IsBlank job }
         requires begins { Begins job.running self.old.config self.old.granted }
         ensures { IsStarted self.old self.new job.running.job }
     {
-        self.line = line;
+        self.channel = channel;
         self.is_closed = false;
-        self.line.talk.begin(&mut job.running, &self.config);
+        self.channel.talk.begin(&mut job.running, &self.config);
         self.job = Some(job);
     }
 
@@ -200,7 +200,7 @@ impl Connection {
         requires begins { Begins job.running self.old.config self.old.granted }
         ensures { IsStarted self.old self.new job.running.job }
     {
-        self.line.talk.begin(&mut job.running, &self.config);
+        self.channel.talk.begin(&mut job.running, &self.config);
         self.job = Some(job);
     }
 
@@ -220,13 +220,13 @@ impl Connection {
         let Some(job) = &mut self.job else {
             unreachable!()
         };
-        if self.line.round(job, &self.config, self.granted, link) {
+        if self.channel.round(job, &self.config, self.granted, link) {
             return Polled::Pending;
         }
         let leaves = job.running.leaves();
         self.granted = grant_after(leaves, self.granted);
         self.is_closed = closed_after(leaves, self.is_closed);
-        let_go(&mut self.line.talk.outbox, leaves);
+        let_go(&mut self.channel.talk.outbox, leaves);
         match self.job.take() {
             Some(job) => Polled::Done(done(job)),
             None => unreachable!(),

@@ -1,13 +1,13 @@
 //! A client of S7 over ISO-on-TCP: jobs that are started and polled.
 #![tactic(auto)]
 
+mod channel;
 mod client;
 mod completion;
 mod connection;
 mod counter;
 mod job;
 mod laws;
-mod line;
 mod op;
 mod talk;
 mod under_way;

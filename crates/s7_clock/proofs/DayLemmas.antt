@@ -10,7 +10,7 @@ use Rattle.jiff_core.proofs.CalendarLemmas.{day_count-day, day_count-day_of_year
 use Rattle.jiff.proofs.Family.{civil_nanos-parts}
 use Rattle.jiff.proofs.SpanFacts.{signed_arith}
 use Rattle.s7_clock.specs.Clock.{IsClockYear, bcd, milliseconds, octets_of}
-use Rattle.s7_clock.specs.Moment.{day_on, first_day, last_of, moment_of, month_on, octets_at, year_on}
+use Rattle.s7_clock.specs.Moment.{day_on, first_day, last_of, moment_of, month_on, moment_octets, year_on}
 use Rattle.s7_clock.proofs.MomentLemmas.{clock_days, moment_at, not_negative}
 
 -- ---- the last that passes a test
@@ -135,8 +135,8 @@ moment_parts t day e =
     split (moment_of t) day t.time.hour t.time.minute t.time.second (milliseconds t) (omega (arith, t.time.hour_in)) (omega (arith, t.time.minute_in))
     (omega (arith, t.time.second_in)) (omega (arith, t.time.subsec_in)) (moment_sum t day e)
 
-octets_by : (y day : ℕ) (t : DateTime) → t.date.year ≡ pos y → 1990 ≤ y → y ≤ 2089 → epoch_day t.date ≡ pos day → octets_of t ≡ octets_at (moment_of t)
-unfolding octets_at
+octets_by : (y day : ℕ) (t : DateTime) → t.date.year ≡ pos y → 1990 ≤ y → y ≤ 2089 → epoch_day t.date ≡ pos day → octets_of t ≡ moment_octets (moment_of t)
+unfolding moment_octets
 octets_by y day t year low high e =
     let civil : IsCivilDate (pos y) t.date.month t.date.day = subst (λ (z : ℤ). IsCivilDate z t.date.month t.date.day) year (t.date.year_in, t.date.month_in, t.date.day_in) in
     let here : days_from_civil (pos y) t.date.month t.date.day ≡ pos day = subst (λ (z : ℤ). days_from_civil z t.date.month t.date.day ≡ pos day) year e in
@@ -156,7 +156,7 @@ octets_by y day t year low high e =
     0x00 ∷ 0x19 ∷ bcd (y_abs i % 100) ∷ bcd (m_is i) ∷ bcd (d_is i) ∷ bcd (h i) ∷ bcd (mi i) ∷ bcd (s i) ∷ bcd (f i / 10)
     ∷ (digit i * 16 + ((weekday_number (week i) + 1) % 7 + 1)) ∷ [])
 
-pub octets_are : (t : DateTime) → IsClockYear t.date.year → octets_of t ≡ octets_at (moment_of t)
+pub octets_are : (t : DateTime) → IsClockYear t.date.year → octets_of t ≡ moment_octets (moment_of t)
 octets_are t year =
     let days = clock_days t.date year in
     let day = not_negative (epoch_day t.date) (omega (arith, signed_arith, days.0)) in

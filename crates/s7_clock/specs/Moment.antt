@@ -95,8 +95,8 @@ abbrev pub day_on : ℕ → ℕ
 day_on day = day - first_day (year_on day) (month_on day) + 1
 
 -- the clock octets of a moment
-unfoldable pub octets_at : ℕ → List ℕ
-octets_at ms =
+unfoldable pub moment_octets : ℕ → List ℕ
+moment_octets ms =
     0x00 ∷ 0x19 ∷ bcd (year_on (ms / 86400000) % 100) ∷ bcd (month_on (ms / 86400000)) ∷ bcd (day_on (ms / 86400000))
     ∷ bcd (ms / 3600000 % 24) ∷ bcd (ms / 60000 % 60) ∷ bcd (ms / 1000 % 60) ∷ bcd (ms % 1000 / 10)
     ∷ (ms % 10 * 16 + ((weekday_number (pos (ms / 86400000)) + 1) % 7 + 1)) ∷ []

@@ -1,7 +1,9 @@
 // The ten octets of a clock, as in the Snap7 1.4 sources (`TResDataGetTime`).
-ghost use Rattle.std.specs.Prelude.{◌≡◌, ◌≤◌, ◌<◌, ◌↔◌, ◌*◌, ◌/◌, ◌%◌, ◌+◌, ℕ, IsTrue, IfSome, IfOk, pos, unsigned_abs, None, Some};
+ghost use Rattle.std.specs.Prelude.{◌≡◌, ◌≤◌, ◌<◌, ◌↔◌, ◌*◌, ◌/◌, ◌%◌, ◌+◌, ℕ, IsTrue, IfSome, IfOk, pos};
+ghost use Rattle.std.specs.Prelude.{unsigned_abs, None, Some};
 ghost use Rattle.jiff.specs.Words.{monday_zero, weekday_of};
-ghost use Rattle.s7_clock.specs.Clock.{HasClockYear, IsClockYear, IsSmall, Reads, bcd, digit, number_in, octets_of, parts_in, weekday, year_of};
+ghost use Rattle.s7_clock.specs.Clock.{HasClockYear, IsClockYear, IsSmall, Reads, bcd, digit, number_in, octets_of};
+ghost use Rattle.s7_clock.specs.Clock.{parts_in, weekday, year_of};
 ghost use Rattle.s7_clock.specs.Moment.{moment_in, moment_read};
 
 use crate::faults::NotDate;

@@ -1,7 +1,8 @@
 // The control of a PLC, as in the Snap7 1.4 sources (`s7_types.h`: `TReqFunPlcHotStart`,
 // `TReqFunPlcColdStart`, `TReqFunPlcStop`, `TReqFunCompress`, `TReqFunCopyRamToRom`).
 ghost use Rattle.std.specs.Prelude.{◌≡◌, ◌≤◌, ◌-◌, ◌∷◌, ◌++◌, length, take, drop};
-ghost use Rattle.s7_clock.specs.Control.{block_control_of, control_of, control_spelling, five_digits, is_kind, number_named};
+ghost use Rattle.s7_clock.specs.Control.{block_control_of, control_of, control_spelling, five_digits, is_kind};
+ghost use Rattle.s7_clock.specs.Control.{number_named};
 
 use crate::faults::BadParams;
 

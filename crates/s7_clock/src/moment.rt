@@ -2,7 +2,7 @@
 ghost use Rattle.std.specs.Prelude.{◌≡◌, ◌*◌, ◌*ℤ◌, ℕ, pos, unsigned_abs, int_div};
 ghost use Rattle.jiff.specs.Words.{civil_nanos};
 ghost use Rattle.s7_clock.specs.Clock.{IsClockYear, octets_of};
-ghost use Rattle.s7_clock.specs.Moment.{HasMoment, IsHeld, held, moment_of, octets_at};
+ghost use Rattle.s7_clock.specs.Moment.{HasMoment, IsHeld, held, moment_of, moment_octets};
 
 use jiff::Timestamp;
 use jiff::civil::{DateTime, datetime};
@@ -28,7 +28,7 @@ pub fn date_of(ms: u64) -> DateTime
     requires { IsHeld ms }
     ensures moment { HasMoment result ms }
     ensures year { IsClockYear result.date.year }
-    ensures octets { octets_of result ≡ octets_at ms }
+    ensures octets { octets_of result ≡ moment_octets ms }
 {
     match Timestamp::from_millisecond(ms as i64) {
         Ok(instant) => Offset::UTC.to_datetime(instant),

@@ -2,7 +2,8 @@
 
 ghost use Rattle.std.specs.Prelude.{◌≤◌, ◌≡◌, ◌<◌, ◌++◌, ◌∷◌, [], ℕ, List, length, true, IfOk, if◌then◌else◌, nat_lt};
 ghost use Rattle.s7_cotp.specs.Gathered.{empty, is_fault, is_whole};
-ghost use Rattle.s7_cotp.specs.Messages.{Fragment, joined_with, answer_of, with_fragment, HoldsRest, GoesOn, EndsMessage};
+ghost use Rattle.s7_cotp.specs.Messages.{Fragment, joined_with, answer_of, with_fragment, HoldsRest, GoesOn};
+ghost use Rattle.s7_cotp.specs.Messages.{EndsMessage};
 
 use s7_outer::{Buffer, Memory};
 use std::alloc::Global;
@@ -150,7 +151,8 @@ impl Joiner {
 
     // What a joiner that is at no fault answers to a fragment.
     fn judge(&self, user: &[u8], last: bool) -> Joined
-        ensures { result ≡ answer_of (joined_with self.now.limit self.now.octets self.now.count (record { last = last; user = user.now })) }
+        ensures { result ≡ answer_of
+            (joined_with self.now.limit self.now.octets self.now.count (record { last = last; user = user.now })) }
     {
         let held = self.buffer.as_slice().len();
         if self.count >= MOST_FRAGMENTS {

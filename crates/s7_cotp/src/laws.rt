@@ -4,8 +4,10 @@ ghost use Rattle.std.specs.Prelude.{◌≡◌, ℕ, ◌<◌, ◌≤◌, ◌^◌,
 ghost use Rattle.s7_cotp.specs.Told.{Told, ConnectionTold, connect, confirm, fragment, disconnect};
 ghost use Rattle.s7_cotp.specs.Tpdus.{SpellsTpdu};
 ghost use Rattle.s7_cotp.specs.Reading.{tpdu_of};
-ghost use Rattle.s7_cotp.specs.Spelling.{IsWritable, spelling_of_connect, spelling_of_confirm, spelling_of_data, spelling_of_disconnect};
-ghost use Rattle.s7_cotp.specs.Messages.{Fragment, Messages, messages_of, rest_of, octets_of, is_over, joined_with, StepSays};
+ghost use Rattle.s7_cotp.specs.Spelling.{IsWritable, spelling_of_connect, spelling_of_confirm, spelling_of_data};
+ghost use Rattle.s7_cotp.specs.Spelling.{spelling_of_disconnect};
+ghost use Rattle.s7_cotp.specs.Messages.{Fragment, Messages, messages_of, rest_of, octets_of, is_over, joined_with};
+ghost use Rattle.s7_cotp.specs.Messages.{StepSays};
 ghost use Rattle.s7_cotp.specs.Pairs.{IsCut, pairs_of, parts_of};
 
 /// Octets are read as a TPDU exactly where they spell it, so they spell one at most.
@@ -19,13 +21,15 @@ pub fn written_is_read()
     ensures connect { (c : ConnectionTold) → IsWritable c → tpdu_of (spelling_of_connect c) ≡ Ok (connect c) }
     ensures confirm { (c : ConnectionTold) → IsWritable c → tpdu_of (spelling_of_confirm c) ≡ Ok (confirm c) }
     ensures data { (last : Bool) (user : List ℕ) → tpdu_of (spelling_of_data last user) ≡ Ok (fragment last user) }
-    ensures disconnect { (dst_ref src_ref reason : ℕ) → tpdu_of (spelling_of_disconnect dst_ref src_ref reason) ≡ Ok (disconnect reason) }
+    ensures disconnect { (dst_ref src_ref reason : ℕ)
+        → tpdu_of (spelling_of_disconnect dst_ref src_ref reason) ≡ Ok (disconnect reason) }
 {}
 
 /// The messages that the functions give are the ones, and the only ones, that the relation admits.
 pub fn one_joining()
     ensures reads { (limit : ℕ) (fs : List Fragment) → Messages limit fs (messages_of limit fs) (rest_of limit fs) }
-    ensures only { (limit : ℕ) (fs : List Fragment) (ms : List (List ℕ)) (rest : List Fragment) → Messages limit fs ms rest
+    ensures only { (limit : ℕ) (fs : List Fragment) (ms : List (List ℕ)) (rest : List Fragment)
+        → Messages limit fs ms rest
         → (messages_of limit fs ≡ ms) × (rest_of limit fs ≡ rest) }
 {}
 
@@ -42,6 +46,7 @@ pub fn one_cut()
 
 /// A message that is cut is joined again, where the receiver takes so many fragments and octets.
 pub fn cut_is_joined()
-    ensures { (limit tpdu : ℕ) (message : List ℕ) → 4 ≤ tpdu → length message ≤ limit → length (pairs_of (length message) tpdu) ≤ 64
+    ensures { (limit tpdu : ℕ) (message : List ℕ) → 4 ≤ tpdu → length message ≤ limit
+        → length (pairs_of (length message) tpdu) ≤ 64
         → (messages_of limit (parts_of tpdu message) ≡ message ∷ []) × (rest_of limit (parts_of tpdu message) ≡ []) }
 {}

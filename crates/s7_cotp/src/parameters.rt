@@ -61,7 +61,7 @@ fn with_parameter(mut said: Said, code: u8, value: &[u8]) -> Result<Said, CotpFa
     ensures { result_map said_of result ≡ with_parameter code value.now (said_of said) }
 {
     match code {
-        SIZE => said.size_code = size_of(value)?,
+        SIZE => said.size_code = size_code_of(value)?,
         CALLING => said.calling = tsap_of(value)?,
         CALLED => said.called = tsap_of(value)?,
         _ => {}
@@ -69,7 +69,7 @@ fn with_parameter(mut said: Said, code: u8, value: &[u8]) -> Result<Said, CotpFa
     Ok(said)
 }
 
-fn size_of(value: &[u8]) -> Result<u8, CotpFault>
+fn size_code_of(value: &[u8]) -> Result<u8, CotpFault>
     ensures size { result ≡ size_in value.now }
     ensures within { IfOk result (λ n. (7 ≤ n) × (n ≤ 13)) }
 {

@@ -1,7 +1,8 @@
 //! Reading TPDUs.
 
 ghost use Rattle.std.specs.Prelude.{◌≡◌, ◌+◌, ◌*◌, IfOk};
-ghost use Rattle.s7_cotp.specs.Told.{result_map, told_of, connection_of, IsPaddedConnection, IsPaddedTpdu, CanBeWritten, CanBeWrittenAgain};
+ghost use Rattle.s7_cotp.specs.Told.{result_map, told_of, connection_of, IsPaddedConnection, IsPaddedTpdu};
+ghost use Rattle.s7_cotp.specs.Told.{CanBeWritten, CanBeWrittenAgain};
 ghost use Rattle.s7_cotp.specs.Reading.{tpdu_of, connection_in, fragment_in, disconnect_in, reject_in};
 
 use crate::parameters::read_parameters;
@@ -22,9 +23,10 @@ pub(crate) const REJECT: u8 = 0x70;
 /// Reads the one TPDU of a packet's body (ISO 8073, 13.3 to 13.5, 13.7 and 13.12).
 ///
 /// The first that applies: `BadCode` where the body has fewer than two octets, or its code is that of no CR
-/// (0xE0), CC (0xD0), DT (0xF0), DR (0x80) or ER (0x70); `ShortHeader` where the length octet passes the body, is below 6
-/// in a CR, CC or DR, below 4 in an ER, or other than 2 in a DT; `BadParameter` where a parameter of a CR or
-/// CC passes the header, a TPDU size isn't one octet from 07 to 0D, or a TSAP hasn't 1 to 16 octets.
+/// (0xE0), CC (0xD0), DT (0xF0), DR (0x80) or ER (0x70); `ShortHeader` where the length octet passes the
+/// body, is below 6 in a CR, CC or DR, below 4 in an ER, or other than 2 in a DT; `BadParameter` where a
+/// parameter of a CR or CC passes the header, a TPDU size isn't one octet from 07 to 0D, or a TSAP hasn't 1
+/// to 16 octets.
 #[tactic(auto, unfolding(crate::specs::Reading::tpdu_of))]
 pub fn read_tpdu(body: &[u8]) -> Result<Tpdu<'_>, CotpFault>
     ensures told { result_map told_of result ≡ tpdu_of body.now }

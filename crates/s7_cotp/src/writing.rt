@@ -2,7 +2,8 @@
 
 ghost use Rattle.std.specs.Prelude.{◌≡◌, ◌≤◌, ◌+◌, ◌/◌, ◌%◌, ◌++◌, length, drop};
 ghost use Rattle.s7_cotp.specs.Told.{connection_of, tsap_of};
-ghost use Rattle.s7_cotp.specs.Spelling.{spelling_of_connect, spelling_of_confirm, spelling_of_connection, spelling_of_data, spelling_of_disconnect, tsap_octets, end_octet};
+ghost use Rattle.s7_cotp.specs.Spelling.{spelling_of_connect, spelling_of_confirm, spelling_of_connection};
+ghost use Rattle.s7_cotp.specs.Spelling.{spelling_of_data, spelling_of_disconnect, tsap_octets, end_octet};
 
 use crate::parameters::{CALLED, CALLING, SIZE};
 use crate::reading::{CONFIRM, CONNECT, DATA, DISCONNECT};

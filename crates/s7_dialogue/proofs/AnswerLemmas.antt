@@ -7,9 +7,9 @@ use Rattle.s7_header.specs.Header.{header_of, params_of, body_of}
 use Rattle.s7_header.specs.declared.header.Header.{Header}
 use Rattle.s7_header.specs.declared.header.Kind.{Kind}
 use Rattle.s7_header.specs.declared.header.Kind.TheVariants.{Ack, AckData}
-use Rattle.s7_dialogue.specs.declared.answer.Asked.{Asked}
-use Rattle.s7_dialogue.specs.declared.answer.Asked.TheVariants as asked
-use Rattle.s7_dialogue.specs.declared.answer.Answer.{Answer}
+use Rattle.s7_dialogue.specs.declared.answers.answer.Asked.{Asked}
+use Rattle.s7_dialogue.specs.declared.answers.answer.Asked.TheVariants as asked
+use Rattle.s7_dialogue.specs.declared.answers.answer.Answer.{Answer}
 use Rattle.s7_dialogue.specs.Question.{Question, negotiates, reads, writes}
 use Rattle.s7_dialogue.specs.Answer as spelled
 use Rattle.s7_dialogue.specs.Answered.{IsTold}

@@ -15,7 +15,7 @@ use Rattle.s7_header.specs.Header.{header_of, params_of, body_of}
 use Rattle.s7_header.specs.UserParams.{user_params_of}
 use Rattle.s7_item.specs.declared.item.Item.{Item}
 use Rattle.s7_szl.specs.Joining.{is_refused}
-use Rattle.s7_dialogue.specs.declared.subject.Subject.{Subject}
+use Rattle.s7_dialogue.specs.declared.questions.subject.Subject.{Subject}
 use Rattle.s7_dialogue.specs.UserData.{octets_in as data_in, answers_about, comes_in_pieces, is_whole, goes_on_with}
 use Rattle.s7_dialogue.specs.Question.{Question, negotiates, reads, writes, asks, asks_further, awaits_call, gives}
 use Rattle.s7_dialogue.specs.Answer.{Answer, ItemAnswer, tells, notes, brings, refuses, item_answers, counts_items, acknowledged, brought, if_data, is_under, by_params, answered_by_user, by_kind, awaits_server, by_call, by_header, answer_of}

@@ -6,13 +6,13 @@ use Rattle.std.proofs.Math.Path.{ap₂}
 use Rattle.std.proofs.lemmas.Bool.{eqb-true, eqb-false, eq-eqb, ltb-true, ltb-false}
 use Rattle.std.proofs.lemmas.Grind.{flat_map-append}
 use Rattle.std.proofs.lemmas.List.{append-nil, take_at}
-use Rattle.s7_dialogue.specs.declared.data_block.DataBlock.{DataBlock}
-use Rattle.s7_dialogue.specs.declared.data_block.Place.{Place}
+use Rattle.s7_dialogue.specs.declared.transfers.data_block.DataBlock.{DataBlock}
+use Rattle.s7_dialogue.specs.declared.transfers.data_block.Place.{Place}
 use Rattle.s7_dialogue.specs.declared.grant.Leaves.TheVariants.{AsItWas}
 use Rattle.s7_dialogue.specs.declared.job.Job.{Job}
-use Rattle.s7_dialogue.specs.declared.subject.Subject.TheVariants.{DataHead}
-use Rattle.s7_dialogue.specs.declared.single.Ask.{Ask}
-use Rattle.s7_dialogue.specs.declared.single.Ask.TheVariants as ask
+use Rattle.s7_dialogue.specs.declared.questions.subject.Subject.TheVariants.{DataHead}
+use Rattle.s7_dialogue.specs.declared.stages.single.Ask.{Ask}
+use Rattle.s7_dialogue.specs.declared.stages.single.Ask.TheVariants as ask
 use Rattle.s7_dialogue.specs.Codes.{partly_written}
 use Rattle.s7_dialogue.specs.DataBlocks.{data_length}
 use Rattle.s7_dialogue.specs.Question.{Question, asks_further}

@@ -10,8 +10,8 @@ use Rattle.s7_item.specs.declared.item.Item.{Item}
 use Rattle.s7_item.specs.Item.{octet_count}
 use Rattle.s7_item.specs.Word.{size_of}
 use Rattle.s7_split.specs.Parts.{room_of, elements, parts_from, parts_of}
-use Rattle.s7_dialogue.specs.declared.data_block.DataBlock.{DataBlock}
-use Rattle.s7_dialogue.specs.declared.data_block.Place.{Place}
+use Rattle.s7_dialogue.specs.declared.transfers.data_block.DataBlock.{DataBlock}
+use Rattle.s7_dialogue.specs.declared.transfers.data_block.Place.{Place}
 use Rattle.s7_dialogue.specs.DataBlocks.{data_item, data_items_from}
 use Rattle.s7_dialogue.specs.Question.{writes}
 use Rattle.s7_dialogue.specs.Dialogue.{alone, write_questions}

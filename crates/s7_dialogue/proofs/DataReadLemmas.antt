@@ -9,12 +9,12 @@ use Rattle.s7_item.specs.declared.item.Item.{Item}
 use Rattle.s7_item.specs.Item.{octet_count}
 use Rattle.s7_item.specs.DataItem.{padding_of}
 use Rattle.s7_item.specs.Sizes.{request_size}
-use Rattle.s7_dialogue.specs.declared.data_block.DataBlock.{DataBlock}
-use Rattle.s7_dialogue.specs.declared.data_block.Place.{Place}
-use Rattle.s7_dialogue.specs.declared.data_items.First.{First as Taken}
-use Rattle.s7_dialogue.specs.declared.single.Ask.TheVariants as ask
-use Rattle.s7_dialogue.specs.declared.user_data.Told.{Told}
-use Rattle.s7_dialogue.specs.declared.user_data.Told.TheVariants as told
+use Rattle.s7_dialogue.specs.declared.transfers.data_block.DataBlock.{DataBlock}
+use Rattle.s7_dialogue.specs.declared.transfers.data_block.Place.{Place}
+use Rattle.s7_dialogue.specs.declared.answers.data_items.First.{First as Taken}
+use Rattle.s7_dialogue.specs.declared.stages.single.Ask.TheVariants as ask
+use Rattle.s7_dialogue.specs.declared.transfers.user_data.Told.{Told}
+use Rattle.s7_dialogue.specs.declared.transfers.user_data.Told.TheVariants as told
 use Rattle.s7_dialogue.specs.DataBlocks.{data_item}
 use Rattle.s7_dialogue.specs.DataItems.{First, first_of, first_told}
 use Rattle.s7_dialogue.specs.Question.{reads, writes, question_octets}

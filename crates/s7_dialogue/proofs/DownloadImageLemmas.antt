@@ -4,7 +4,7 @@ use Rattle.std.specs.Prelude.{◌==◌, ◌&&◌}
 use Rattle.std.proofs.lemmas.Bool.{and_parts, eqb-true, leb-true}
 use Rattle.s7_block.specs.Heads.{begins_head, head_of, is_of_block, head_agrees}
 use Rattle.s7_dialogue.specs.declared.job.Job.{Job}
-use Rattle.s7_dialogue.specs.declared.download.Pieces.{Pieces}
+use Rattle.s7_dialogue.specs.declared.transfers.download.Pieces.{Pieces}
 use Rattle.s7_dialogue.specs.Codes.{no_fault}
 use Rattle.s7_dialogue.specs.Downloads.{name_in}
 use Rattle.s7_dialogue.specs.Checks.{check_image}

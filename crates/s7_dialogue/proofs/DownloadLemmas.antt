@@ -3,9 +3,9 @@ use Rattle.std.proofs.Common.{◌≡◌, ℕ, suc, ◌+◌, ◌-◌, ◌*◌, �
 use Rattle.std.proofs.Math.Nat.{mul-suc}
 use Rattle.std.proofs.lemmas.List.{length-append}
 use Rattle.s7_dialogue.specs.declared.job.Job.{Job}
-use Rattle.s7_dialogue.specs.declared.download.Pieces.{Pieces}
-use Rattle.s7_dialogue.specs.declared.single.Ask.{Ask}
-use Rattle.s7_dialogue.specs.declared.single.Ask.TheVariants as ask
+use Rattle.s7_dialogue.specs.declared.transfers.download.Pieces.{Pieces}
+use Rattle.s7_dialogue.specs.declared.stages.single.Ask.{Ask}
+use Rattle.s7_dialogue.specs.declared.stages.single.Ask.TheVariants as ask
 use Rattle.s7_dialogue.specs.Question.{Question, announces, awaits_call, gives, inserts}
 use Rattle.s7_dialogue.specs.Answer.{Answer, calls}
 use Rattle.s7_dialogue.specs.Dialogue.{last_answer, behind_call, behind_server, next_given}

@@ -8,11 +8,11 @@ use Rattle.s7_dialogue.specs.declared.config.Config.{Config}
 use Rattle.s7_dialogue.specs.declared.grant.Grant.{Grant}
 use Rattle.s7_dialogue.specs.declared.job.Job.{Job}
 use Rattle.s7_dialogue.specs.declared.job.Job.TheVariants as job
-use Rattle.s7_dialogue.specs.declared.left.Left.TheVariants as left
-use Rattle.s7_dialogue.specs.declared.asking.Asking.{Asking}
-use Rattle.s7_dialogue.specs.declared.running.Stage.{Stage}
-use Rattle.s7_dialogue.specs.declared.running.Stage.TheVariants as stage
-use Rattle.s7_dialogue.specs.declared.running.Running.{Running}
+use Rattle.s7_dialogue.specs.declared.questions.left.Left.TheVariants as left
+use Rattle.s7_dialogue.specs.declared.stages.asking.Asking.{Asking}
+use Rattle.s7_dialogue.specs.declared.stages.running.Stage.{Stage}
+use Rattle.s7_dialogue.specs.declared.stages.running.Stage.TheVariants as stage
+use Rattle.s7_dialogue.specs.declared.stages.running.Running.{Running}
 use Rattle.s7_dialogue.specs.Checks.{check_item, check_items, check_moment, check_password, check_image, octet_count_of}
 use Rattle.s7_dialogue.specs.Flight.{Row}
 use Rattle.s7_dialogue.specs.Dialogue.{nothing, connect_request, Plan, plan_of}

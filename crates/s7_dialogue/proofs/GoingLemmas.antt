@@ -3,9 +3,9 @@ use Rattle.std.proofs.Common.{◌≡◌, ◌+◌, ◌≤◌, Option, Some, None,
 use Rattle.std.specs.Prelude.{IfSome, IfNone}
 use Rattle.std.proofs.lemmas.List.{length-append}
 use Rattle.s7_item.specs.declared.item.Item.{Item}
-use Rattle.s7_dialogue.specs.declared.answer.Asked.{Asked}
-use Rattle.s7_dialogue.specs.declared.left.Left.{Left}
-use Rattle.s7_dialogue.specs.declared.left.Left.TheVariants as left
+use Rattle.s7_dialogue.specs.declared.answers.answer.Asked.{Asked}
+use Rattle.s7_dialogue.specs.declared.questions.left.Left.{Left}
+use Rattle.s7_dialogue.specs.declared.questions.left.Left.TheVariants as left
 use Rattle.s7_dialogue.specs.Checks.{octet_count_of}
 use Rattle.s7_dialogue.specs.Left.{joined, groups_in, questions_left, items_left, octets_left, items_asked, TakesNext}
 use Rattle.s7_dialogue.proofs.GroupLemmas.{octet_count_append}

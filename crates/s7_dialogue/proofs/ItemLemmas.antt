@@ -10,7 +10,7 @@ use Rattle.s7_item.specs.declared.item.Item.{Item}
 use Rattle.s7_item.specs.Item.{octet_count}
 use Rattle.s7_item.specs.Word.{transport_of}
 use Rattle.s7_item.specs.DataItem.{stated_length, padding_of}
-use Rattle.s7_dialogue.specs.declared.data_items.First.{First as Taken}
+use Rattle.s7_dialogue.specs.declared.answers.data_items.First.{First as Taken}
 use Rattle.s7_dialogue.specs.Answer.{ItemAnswer, begins_read, begins_refused, item_first, item_answers}
 use Rattle.s7_dialogue.specs.DataItems.{First, first_of, first_told}
 use Rattle.s7_dialogue.specs.Checks.{octet_count_of}

@@ -3,11 +3,11 @@ use Rattle.std.proofs.Common.{◌≡◌, ℕ, ◌+◌, ◌≤◌, Bool, true, fa
 use Rattle.std.proofs.lemmas.Bool.{and_parts}
 use Rattle.s7_item.specs.declared.item.Item.{Item}
 use Rattle.s7_dialogue.specs.declared.job.Job.{Job}
-use Rattle.s7_dialogue.specs.declared.answer.Asked.{Asked}
-use Rattle.s7_dialogue.specs.declared.answer.Asked.TheVariants as asked
-use Rattle.s7_dialogue.specs.declared.answer.Answer as kept
-use Rattle.s7_dialogue.specs.declared.answer.Answer.TheVariants as told
-use Rattle.s7_dialogue.specs.declared.flight.Flight.{Flight}
+use Rattle.s7_dialogue.specs.declared.answers.answer.Asked.{Asked}
+use Rattle.s7_dialogue.specs.declared.answers.answer.Asked.TheVariants as asked
+use Rattle.s7_dialogue.specs.declared.answers.answer.Answer as kept
+use Rattle.s7_dialogue.specs.declared.answers.answer.Answer.TheVariants as told
+use Rattle.s7_dialogue.specs.declared.stages.flight.Flight.{Flight}
 use Rattle.s7_dialogue.specs.Question.{Question, writes}
 use Rattle.s7_dialogue.specs.Answer.{Answer, ItemAnswer, item_answers}
 use Rattle.s7_dialogue.specs.Told.{IsAsked, Tells}

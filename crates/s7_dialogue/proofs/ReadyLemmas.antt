@@ -7,21 +7,21 @@ use Rattle.std.proofs.lemmas.List.{length-append}
 use Rattle.std.proofs.lemmas.List.Folds.{list_all-append}
 use Rattle.s7_item.specs.declared.item.Item.{Item}
 use Rattle.s7_dialogue.specs.declared.job.Job.{Job}
-use Rattle.s7_dialogue.specs.declared.answer.Asked.{Asked}
-use Rattle.s7_dialogue.specs.declared.flight.Flight.{Flight}
-use Rattle.s7_dialogue.specs.declared.left.Left.{Left}
-use Rattle.s7_dialogue.specs.declared.left.Left.TheVariants as left
-use Rattle.s7_dialogue.specs.declared.asking.Asking.{Asking}
-use Rattle.s7_dialogue.specs.declared.running.Stage.TheVariants as stage
+use Rattle.s7_dialogue.specs.declared.answers.answer.Asked.{Asked}
+use Rattle.s7_dialogue.specs.declared.stages.flight.Flight.{Flight}
+use Rattle.s7_dialogue.specs.declared.questions.left.Left.{Left}
+use Rattle.s7_dialogue.specs.declared.questions.left.Left.TheVariants as left
+use Rattle.s7_dialogue.specs.declared.stages.asking.Asking.{Asking}
+use Rattle.s7_dialogue.specs.declared.stages.running.Stage.TheVariants as stage
 use Rattle.s7_dialogue.specs.Checks.{octet_count_of}
 use Rattle.s7_dialogue.specs.Left.{joined, groups_in, questions_left, items_asked, TakesNext}
 use Rattle.s7_dialogue.specs.Stages.{octets_of, is_alone, is_sendable, can_ask, can_ask_all, can_fly, has_places, is_ready}
 use Rattle.s7_dialogue.specs.Asks.{Spot, AsksNext, TakesFirst}
 use Rattle.s7_dialogue.proofs.GoingLemmas.{IsLess, takes_less}
 use Rattle.s7_dialogue.proofs.GroupLemmas.{octet_count_append}
-use Rattle.s7_dialogue.specs.declared.answer.Answer as kept
-use Rattle.s7_dialogue.specs.declared.running.Stage.TheVariants as stage
-use Rattle.s7_dialogue.specs.declared.running.Running.{Running}
+use Rattle.s7_dialogue.specs.declared.answers.answer.Answer as kept
+use Rattle.s7_dialogue.specs.declared.stages.running.Stage.TheVariants as stage
+use Rattle.s7_dialogue.specs.declared.stages.running.Running.{Running}
 
 pub split_ask : (each within places : Bool) → (each && (within && places)) ≡ true
     → (each ≡ true) × (within ≡ true) × (places ≡ true)

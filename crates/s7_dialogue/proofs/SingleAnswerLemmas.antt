@@ -5,12 +5,12 @@ use Rattle.std.proofs.lemmas.Bool.{and_parts, and_from, ltb-true, lt-ltb, le-leb
 use Rattle.s7_szl.specs.Joining.{most_joined}
 use Rattle.s7_dialogue.specs.declared.grant.Leaves.TheVariants.{AsItWas}
 use Rattle.s7_dialogue.specs.declared.job.Job.{Job}
-use Rattle.s7_dialogue.specs.declared.data_block.DataBlock.{DataBlock}
-use Rattle.s7_dialogue.specs.declared.data_block.Place.{Place}
-use Rattle.s7_dialogue.specs.declared.subject.Subject.{Subject}
-use Rattle.s7_dialogue.specs.declared.download.Pieces.{Pieces}
-use Rattle.s7_dialogue.specs.declared.single.Ask.{Ask}
-use Rattle.s7_dialogue.specs.declared.single.Ask.TheVariants as ask
+use Rattle.s7_dialogue.specs.declared.transfers.data_block.DataBlock.{DataBlock}
+use Rattle.s7_dialogue.specs.declared.transfers.data_block.Place.{Place}
+use Rattle.s7_dialogue.specs.declared.questions.subject.Subject.{Subject}
+use Rattle.s7_dialogue.specs.declared.transfers.download.Pieces.{Pieces}
+use Rattle.s7_dialogue.specs.declared.stages.single.Ask.{Ask}
+use Rattle.s7_dialogue.specs.declared.stages.single.Ask.TheVariants as ask
 use Rattle.s7_dialogue.specs.Uploads.{most_uploaded}
 use Rattle.s7_dialogue.specs.DataPlaces.{most_data, next_part, part_count, room_for_value, comes_for, has_pdu, is_inside}
 use Rattle.s7_dialogue.specs.Answer.{Answer, stands, brings, uploads, slices, uploaded, announced, calls}

@@ -7,10 +7,10 @@ use Rattle.std.proofs.lemmas.List.{map-append, nil_from_length}
 use Rattle.s7_clock.specs.declared.control.Control.{Control}
 use Rattle.s7_block.specs.declared.block.BlockName.{BlockName}
 use Rattle.s7_dialogue.specs.declared.job.Job.{Job}
-use Rattle.s7_dialogue.specs.declared.subject.Subject.{Subject}
-use Rattle.s7_dialogue.specs.declared.download.Pieces.{Pieces}
-use Rattle.s7_dialogue.specs.declared.single.Ask.{Ask}
-use Rattle.s7_dialogue.specs.declared.single.Ask.TheVariants as ask
+use Rattle.s7_dialogue.specs.declared.questions.subject.Subject.{Subject}
+use Rattle.s7_dialogue.specs.declared.transfers.download.Pieces.{Pieces}
+use Rattle.s7_dialogue.specs.declared.stages.single.Ask.{Ask}
+use Rattle.s7_dialogue.specs.declared.stages.single.Ask.TheVariants as ask
 use Rattle.s7_dialogue.specs.UserData.{comes_in_pieces, lead_of}
 use Rattle.s7_dialogue.specs.Question.{Question, controls, asks_further, starts_upload, slices_upload, ends_upload}
 use Rattle.s7_dialogue.specs.Question.{announces, awaits_call, gives, inserts}

@@ -13,26 +13,26 @@ use Rattle.s7_header.specs.Negotiation.{most_pdu}
 use Rattle.s7_clock.specs.declared.control.Control.{Control}
 use Rattle.s7_clock.specs.declared.control.Control.TheVariants as control
 use Rattle.s7_clock.specs.Control.{control_spelling}
-use Rattle.s7_clock.specs.Moment.{octets_at}
+use Rattle.s7_clock.specs.Moment.{moment_octets}
 use Rattle.s7_szl.specs.Joining.{most_joined}
 use Rattle.s7_block.specs.Telegrams.{slice_function, end_function}
 use Rattle.s7_item.specs.declared.item.Item.{Item}
 use Rattle.s7_item.specs.Params.{items_params}
 use Rattle.s7_item.specs.DataItem.{data_octets}
 use Rattle.s7_item.proofs.SizeLaws.{reads_sized, writes_sized}
-use Rattle.s7_dialogue.specs.declared.data_block.DataBlock.{DataBlock}
-use Rattle.s7_dialogue.specs.declared.data_block.Place.{Place}
-use Rattle.s7_dialogue.specs.declared.subject.Subject.TheVariants.{DataHead}
+use Rattle.s7_dialogue.specs.declared.transfers.data_block.DataBlock.{DataBlock}
+use Rattle.s7_dialogue.specs.declared.transfers.data_block.Place.{Place}
+use Rattle.s7_dialogue.specs.declared.questions.subject.Subject.TheVariants.{DataHead}
 use Rattle.s7_dialogue.specs.DataBlocks.{data_item}
 use Rattle.s7_dialogue.specs.DataPlaces.{part_count, question_for, room_for_value, has_pdu, is_inside}
 use Rattle.s7_dialogue.specs.declared.config.Config.{Config}
 use Rattle.s7_dialogue.specs.declared.job.Job.{Job}
 use Rattle.s7_dialogue.specs.declared.job.Job.TheVariants as job
-use Rattle.s7_dialogue.specs.declared.download.Pieces.{Pieces}
-use Rattle.s7_dialogue.specs.declared.single.Ask.{Ask}
-use Rattle.s7_dialogue.specs.declared.single.Ask.TheVariants as ask
-use Rattle.s7_dialogue.specs.declared.single.Single.{Single}
-use Rattle.s7_dialogue.specs.declared.running.Stage.TheVariants as stage
+use Rattle.s7_dialogue.specs.declared.transfers.download.Pieces.{Pieces}
+use Rattle.s7_dialogue.specs.declared.stages.single.Ask.{Ask}
+use Rattle.s7_dialogue.specs.declared.stages.single.Ask.TheVariants as ask
+use Rattle.s7_dialogue.specs.declared.stages.single.Single.{Single}
+use Rattle.s7_dialogue.specs.declared.stages.running.Stage.TheVariants as stage
 use Rattle.s7_dialogue.specs.Codes.{no_fault, invalid_parameters}
 use Rattle.s7_dialogue.specs.Checks.{octet_count_of, check_password}
 use Rattle.s7_dialogue.specs.Dialogue.{block_octets}
@@ -50,8 +50,8 @@ use Rattle.s7_dialogue.proofs.DataReadLemmas.{write_sized, few_written}
 
 -- ---- the octets that a job sends
 
-clock_long : (moment : ℕ) → length (octets_at moment) ≡ 10
-unfolding octets_at
+clock_long : (moment : ℕ) → length (moment_octets moment) ≡ 10
+unfolding moment_octets
 clock_long moment = refl
 
 length-encoded_after : (second first : ℕ) (octets : List ℕ)

@@ -10,16 +10,16 @@ use Rattle.s7_dialogue.specs.declared.config.Config.{Config}
 use Rattle.s7_dialogue.specs.declared.grant.Grant.{Grant}
 use Rattle.s7_dialogue.specs.declared.grant.Leaves.TheVariants.{AsItWas}
 use Rattle.s7_dialogue.specs.declared.job.Job.{Job}
-use Rattle.s7_dialogue.specs.declared.data_block.DataBlock.{DataBlock}
-use Rattle.s7_dialogue.specs.declared.data_block.Place.{Place}
-use Rattle.s7_dialogue.specs.declared.subject.Subject.{Subject}
-use Rattle.s7_dialogue.specs.declared.single.Ask.{Ask}
-use Rattle.s7_dialogue.specs.declared.single.Ask.TheVariants as ask
-use Rattle.s7_dialogue.specs.declared.single.Single.{Single}
-use Rattle.s7_dialogue.specs.declared.running.Stage.TheVariants as stage
-use Rattle.s7_dialogue.specs.declared.running.Running.{Running}
-use Rattle.s7_dialogue.specs.declared.user_data.Told.{Told}
-use Rattle.s7_dialogue.specs.declared.user_data.Told.TheVariants as told
+use Rattle.s7_dialogue.specs.declared.transfers.data_block.DataBlock.{DataBlock}
+use Rattle.s7_dialogue.specs.declared.transfers.data_block.Place.{Place}
+use Rattle.s7_dialogue.specs.declared.questions.subject.Subject.{Subject}
+use Rattle.s7_dialogue.specs.declared.stages.single.Ask.{Ask}
+use Rattle.s7_dialogue.specs.declared.stages.single.Ask.TheVariants as ask
+use Rattle.s7_dialogue.specs.declared.stages.single.Single.{Single}
+use Rattle.s7_dialogue.specs.declared.stages.running.Stage.TheVariants as stage
+use Rattle.s7_dialogue.specs.declared.stages.running.Running.{Running}
+use Rattle.s7_dialogue.specs.declared.transfers.user_data.Told.{Told}
+use Rattle.s7_dialogue.specs.declared.transfers.user_data.Told.TheVariants as told
 use Rattle.s7_dialogue.specs.DataBlocks.{tells_data, data_length}
 use Rattle.s7_dialogue.specs.DataPlaces.{room_for_value, comes_for, has_pdu, is_inside}
 use Rattle.s7_dialogue.specs.Question.{Question}

@@ -4,7 +4,7 @@ use Rattle.std.specs.Prelude.{is_none}
 use Rattle.std.specs.List.{AllByRecursion}
 use Rattle.s7_dialogue.specs.declared.config.Config.{Config}
 use Rattle.s7_dialogue.specs.declared.job.Job.{Job}
-use Rattle.s7_dialogue.specs.declared.flight.Flight.{Flight}
+use Rattle.s7_dialogue.specs.declared.stages.flight.Flight.{Flight}
 use Rattle.s7_dialogue.specs.Answer.{Answer}
 use Rattle.s7_dialogue.specs.Flight.{Row, open_count}
 use Rattle.s7_dialogue.specs.Asks.{items_of, Spot, spot_past, spot_behind, flight_at, if_open, flights_of, AreMadeAgain}

@@ -9,12 +9,12 @@ use Rattle.s7_dialogue.specs.declared.config.Config.{Config}
 use Rattle.s7_dialogue.specs.declared.grant.Grant.{Grant}
 use Rattle.s7_dialogue.specs.declared.job.Job.{Job}
 use Rattle.s7_dialogue.specs.declared.job.Job.TheVariants as job
-use Rattle.s7_dialogue.specs.declared.answer.Asked.TheVariants as asked
-use Rattle.s7_dialogue.specs.declared.answer.Answer as kept
-use Rattle.s7_dialogue.specs.declared.flight.Flight.{Flight}
-use Rattle.s7_dialogue.specs.declared.asking.Asking.{Asking}
-use Rattle.s7_dialogue.specs.declared.running.Stage.TheVariants as stage
-use Rattle.s7_dialogue.specs.declared.running.Running.{Running}
+use Rattle.s7_dialogue.specs.declared.answers.answer.Asked.TheVariants as asked
+use Rattle.s7_dialogue.specs.declared.answers.answer.Answer as kept
+use Rattle.s7_dialogue.specs.declared.stages.flight.Flight.{Flight}
+use Rattle.s7_dialogue.specs.declared.stages.asking.Asking.{Asking}
+use Rattle.s7_dialogue.specs.declared.stages.running.Stage.TheVariants as stage
+use Rattle.s7_dialogue.specs.declared.stages.running.Running.{Running}
 use Rattle.s7_dialogue.specs.Question.{Question, negotiates, reads, writes}
 use Rattle.s7_dialogue.specs.Answer.{Answer, answer_of}
 use Rattle.s7_header.specs.declared.negotiation.Negotiation.{Negotiation}

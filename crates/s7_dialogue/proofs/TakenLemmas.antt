@@ -14,10 +14,10 @@ use Rattle.s7_item.specs.DataItem.{stated_length, padding_of}
 use Rattle.s7_header.specs.Octets.{number_at}
 use Rattle.s7_dialogue.specs.declared.config.Config.{Config}
 use Rattle.s7_dialogue.specs.declared.job.Job.{Job}
-use Rattle.s7_dialogue.specs.declared.answer.Answer as kept
-use Rattle.s7_dialogue.specs.declared.answer.Answer.TheVariants as told
-use Rattle.s7_dialogue.specs.declared.flight.Flight.{Flight}
-use Rattle.s7_dialogue.specs.declared.asking.Asking.{Asking}
+use Rattle.s7_dialogue.specs.declared.answers.answer.Answer as kept
+use Rattle.s7_dialogue.specs.declared.answers.answer.Answer.TheVariants as told
+use Rattle.s7_dialogue.specs.declared.stages.flight.Flight.{Flight}
+use Rattle.s7_dialogue.specs.declared.stages.asking.Asking.{Asking}
 use Rattle.s7_dialogue.specs.Question.{Question, negotiates, reads, writes}
 use Rattle.s7_dialogue.specs.Answer.{Answer, ItemAnswer, begins_read, begins_refused, item_first, item_answers, answer_of}
 use Rattle.s7_dialogue.specs.DataItems.{First, first_of}

@@ -1,7 +1,7 @@
 -- Lemmas on what an answer tells.
 use Rattle.std.proofs.Common.{◌≡◌, ℕ, Bool, true, false, Bor, Option, Some, List, [], ◌∷◌, length, map, sym, ap, ◌∙◌, arith}
 use Rattle.s7_item.specs.declared.item.Item.{Item}
-use Rattle.s7_dialogue.specs.declared.answer.Answer.TheVariants as told
+use Rattle.s7_dialogue.specs.declared.answers.answer.Answer.TheVariants as told
 use Rattle.s7_dialogue.specs.Answer.{Answer, ItemAnswer, item_answers, tells}
 use Rattle.s7_dialogue.specs.Refusals.{code_refusal, part_refusal}
 use Rattle.s7_dialogue.specs.GoesOn.{refusal_by}

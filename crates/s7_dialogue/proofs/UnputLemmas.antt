@@ -14,13 +14,13 @@ use Rattle.s7_item.specs.Sizes.{request_size}
 use Rattle.s7_item.proofs.SizeLaws.{reads_sized, writes_sized}
 use Rattle.s7_dialogue.specs.declared.config.Config.{Config}
 use Rattle.s7_dialogue.specs.declared.job.Job.{Job}
-use Rattle.s7_dialogue.specs.declared.answer.Asked.{Asked}
-use Rattle.s7_dialogue.specs.declared.answer.Asked.TheVariants as asked
-use Rattle.s7_dialogue.specs.declared.flight.Flight.{Flight}
-use Rattle.s7_dialogue.specs.declared.asking.Asking.{Asking}
-use Rattle.s7_dialogue.specs.declared.running.Running.{Running}
-use Rattle.s7_dialogue.specs.declared.running.Stage.{Stage}
-use Rattle.s7_dialogue.specs.declared.running.Stage.TheVariants as stage
+use Rattle.s7_dialogue.specs.declared.answers.answer.Asked.{Asked}
+use Rattle.s7_dialogue.specs.declared.answers.answer.Asked.TheVariants as asked
+use Rattle.s7_dialogue.specs.declared.stages.flight.Flight.{Flight}
+use Rattle.s7_dialogue.specs.declared.stages.asking.Asking.{Asking}
+use Rattle.s7_dialogue.specs.declared.stages.running.Running.{Running}
+use Rattle.s7_dialogue.specs.declared.stages.running.Stage.{Stage}
+use Rattle.s7_dialogue.specs.declared.stages.running.Stage.TheVariants as stage
 use Rattle.s7_dialogue.specs.Question.{written, job_octets, question_octets}
 use Rattle.s7_dialogue.specs.Checks.{is_known, octet_count_of}
 use Rattle.s7_dialogue.specs.Stages.{octets_of, is_alone, question_of, message_of, unput_by, is_addressed, is_sendable, can_ask, can_ask_all, can_fly, has_places, is_ready}

@@ -17,15 +17,15 @@ use Rattle.s7_header.specs.declared.faults.BadParams.{BadParams}
 use Rattle.s7_szl.specs.Joining.{is_refused}
 use Rattle.s7_item.specs.declared.item.Item.{Item}
 use Rattle.s7_dialogue.specs.declared.job.Job.{Job}
-use Rattle.s7_dialogue.specs.declared.data_block.DataBlock.{DataBlock}
-use Rattle.s7_dialogue.specs.declared.data_block.Place.{Place}
-use Rattle.s7_dialogue.specs.declared.subject.Subject.{Subject}
-use Rattle.s7_dialogue.specs.declared.subject.Subject.TheVariants.{DataHead}
-use Rattle.s7_dialogue.specs.declared.download.Pieces.{Pieces}
-use Rattle.s7_dialogue.specs.declared.single.Ask.{Ask}
-use Rattle.s7_dialogue.specs.declared.single.Ask.TheVariants as ask
-use Rattle.s7_dialogue.specs.declared.user_data.Told.{Told}
-use Rattle.s7_dialogue.specs.declared.user_data.Told.TheVariants as told
+use Rattle.s7_dialogue.specs.declared.transfers.data_block.DataBlock.{DataBlock}
+use Rattle.s7_dialogue.specs.declared.transfers.data_block.Place.{Place}
+use Rattle.s7_dialogue.specs.declared.questions.subject.Subject.{Subject}
+use Rattle.s7_dialogue.specs.declared.questions.subject.Subject.TheVariants.{DataHead}
+use Rattle.s7_dialogue.specs.declared.transfers.download.Pieces.{Pieces}
+use Rattle.s7_dialogue.specs.declared.stages.single.Ask.{Ask}
+use Rattle.s7_dialogue.specs.declared.stages.single.Ask.TheVariants as ask
+use Rattle.s7_dialogue.specs.declared.transfers.user_data.Told.{Told}
+use Rattle.s7_dialogue.specs.declared.transfers.user_data.Told.TheVariants as told
 use Rattle.s7_dialogue.specs.UserData.{is_whole, goes_on_with}
 use Rattle.s7_dialogue.specs.Question.{Question}
 use Rattle.s7_dialogue.specs.Answer.{Answer, brings, refuses, acknowledged, by_params, answered_by_user, by_kind, answer_of}

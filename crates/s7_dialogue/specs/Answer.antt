@@ -22,7 +22,7 @@ use Rattle.s7_block.specs.Slices.{Piece}
 use Rattle.s7_block.specs.Telegrams.{announce_function, piece_function, end_function}
 use Rattle.s7_clock.specs.declared.control.Control.{Control}
 use Rattle.s7_clock.specs.declared.control.Control.TheVariants as control
-use Rattle.s7_dialogue.specs.declared.subject.Subject.{Subject}
+use Rattle.s7_dialogue.specs.declared.questions.subject.Subject.{Subject}
 use Rattle.s7_dialogue.specs.UserData.{octets_in, answers_about, goes_on_with}
 use Rattle.s7_dialogue.specs.Question.{Question, negotiates, reads, writes, controls, asks, asks_further}
 use Rattle.s7_dialogue.specs.Question.{starts_upload, slices_upload, ends_upload}

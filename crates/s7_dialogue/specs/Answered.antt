@@ -1,6 +1,6 @@
 -- What the code says that a message answers.
 use Rattle.std.specs.Prelude.{◌≡◌, Option, None, MatchOption}
-use Rattle.s7_dialogue.specs.declared.answer.Answer.{Answer}
+use Rattle.s7_dialogue.specs.declared.answers.answer.Answer.{Answer}
 use Rattle.s7_dialogue.specs.Question.{Question}
 use Rattle.s7_dialogue.specs.Answer as spelled
 use Rattle.s7_dialogue.specs.Told.{TellsSome}

@@ -4,14 +4,14 @@ use Rattle.std.specs.List.{AllByRecursion}
 use Rattle.s7_item.specs.declared.item.Item.{Item}
 use Rattle.s7_dialogue.specs.declared.config.Config.{Config}
 use Rattle.s7_dialogue.specs.declared.job.Job.{Job}
-use Rattle.s7_dialogue.specs.declared.answer.Asked.{Asked}
-use Rattle.s7_dialogue.specs.declared.answer.Asked.TheVariants as asked
-use Rattle.s7_dialogue.specs.declared.answer.Answer as kept
-use Rattle.s7_dialogue.specs.declared.flight.Flight.{Flight}
-use Rattle.s7_dialogue.specs.declared.left.Left.{Left}
-use Rattle.s7_dialogue.specs.declared.left.Left.TheVariants as left
-use Rattle.s7_dialogue.specs.declared.asking.Asking.{Asking}
-use Rattle.s7_dialogue.specs.declared.asking.Refused.{Refused}
+use Rattle.s7_dialogue.specs.declared.answers.answer.Asked.{Asked}
+use Rattle.s7_dialogue.specs.declared.answers.answer.Asked.TheVariants as asked
+use Rattle.s7_dialogue.specs.declared.answers.answer.Answer as kept
+use Rattle.s7_dialogue.specs.declared.stages.flight.Flight.{Flight}
+use Rattle.s7_dialogue.specs.declared.questions.left.Left.{Left}
+use Rattle.s7_dialogue.specs.declared.questions.left.Left.TheVariants as left
+use Rattle.s7_dialogue.specs.declared.stages.asking.Asking.{Asking}
+use Rattle.s7_dialogue.specs.declared.stages.asking.Refused.{Refused}
 use Rattle.s7_dialogue.specs.Question.{Question, negotiates, reads, writes}
 use Rattle.s7_dialogue.specs.Answer.{Answer, answer_of}
 use Rattle.s7_dialogue.specs.Told.{IsAsked, TellsSome}

@@ -3,7 +3,7 @@ use Rattle.std.specs.Prelude.{ℕ, ◌+◌, Bool, List, [], take, drop, slice_in
 use Rattle.s7_item.specs.declared.item.Item.{Item}
 use Rattle.s7_item.specs.Item.{octet_count}
 use Rattle.s7_item.specs.DataItem.{padding_of}
-use Rattle.s7_dialogue.specs.declared.data_items.First.{First as Taken}
+use Rattle.s7_dialogue.specs.declared.answers.data_items.First.{First as Taken}
 use Rattle.s7_dialogue.specs.Answer.{begins_read, begins_refused}
 
 -- a data item: its code, its octets where it was read, and the octets that follow it

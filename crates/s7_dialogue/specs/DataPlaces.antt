@@ -5,8 +5,8 @@ use Rattle.s7_header.specs.Negotiation.{least_pdu, most_pdu}
 use Rattle.s7_szl.specs.Joining.{most_joined}
 use Rattle.s7_item.specs.declared.item.Item.{Item}
 use Rattle.s7_split.specs.Parts.{parts_of}
-use Rattle.s7_dialogue.specs.declared.data_block.DataBlock.{DataBlock}
-use Rattle.s7_dialogue.specs.declared.data_block.Place.{Place}
+use Rattle.s7_dialogue.specs.declared.transfers.data_block.DataBlock.{DataBlock}
+use Rattle.s7_dialogue.specs.declared.transfers.data_block.Place.{Place}
 use Rattle.s7_dialogue.specs.Codes.{partly_written}
 use Rattle.s7_dialogue.specs.DataBlocks.{data_item, data_items_from, data_parts}
 use Rattle.s7_dialogue.specs.Question.{Question, reads, writes}

@@ -11,7 +11,7 @@ use Rattle.s7_split.specs.Parts.{parts_of}
 use Rattle.s7_split.specs.Groups.{groups_of}
 use Rattle.s7_clock.specs.declared.control.Control.{Control}
 use Rattle.s7_clock.specs.declared.control.Control.TheVariants as control
-use Rattle.s7_clock.specs.Moment.{octets_at}
+use Rattle.s7_clock.specs.Moment.{moment_octets}
 use Rattle.s7_block.specs.declared.block.BlockName.{BlockName}
 use Rattle.s7_block.specs.Names.{name_octets}
 use Rattle.s7_dialogue.specs.declared.config.Config.{Config}
@@ -20,8 +20,8 @@ use Rattle.s7_dialogue.specs.declared.grant.Leaves.{Leaves}
 use Rattle.s7_dialogue.specs.declared.grant.Leaves.TheVariants.{AsItWas, Connected, Disconnected, Closed}
 use Rattle.s7_dialogue.specs.declared.job.Job.{Job}
 use Rattle.s7_dialogue.specs.declared.job.Job.TheVariants as job
-use Rattle.s7_dialogue.specs.declared.subject.Subject.{Subject}
-use Rattle.s7_dialogue.specs.declared.subject.Subject.TheVariants.{StatusList, RunState, BlockCounts, BlocksOfKind, BlockHead, DataHead, Clock, ClockSetting, Password, PasswordClearing}
+use Rattle.s7_dialogue.specs.declared.questions.subject.Subject.{Subject}
+use Rattle.s7_dialogue.specs.declared.questions.subject.Subject.TheVariants.{StatusList, RunState, BlockCounts, BlocksOfKind, BlockHead, DataHead, Clock, ClockSetting, Password, PasswordClearing}
 use Rattle.s7_dialogue.specs.Codes.{no_fault, not_connected, negotiation_failed, partly_written}
 use Rattle.s7_dialogue.specs.UserData.{comes_in_pieces, lead_of, filled_text, encoded}
 use Rattle.s7_dialogue.specs.DataBlocks.{data_length, data_parts}
@@ -512,7 +512,7 @@ connected_plan (job.DbFill number value) granted =
 connected_plan (job.Szl id index) granted = at_once (asking_about StatusList (list_octets id index))
 connected_plan job.ClockRead granted = at_once (asking_about Clock [])
 connected_plan (job.ClockSet moment) granted =
-    if_good (check_moment moment) (at_once (asking_about ClockSetting (octets_at moment)))
+    if_good (check_moment moment) (at_once (asking_about ClockSetting (moment_octets moment)))
 connected_plan job.Start granted = at_once (controlling control.Start)
 connected_plan job.ColdStart granted = at_once (controlling control.ColdStart)
 connected_plan job.Stop granted = at_once (controlling control.Stop)

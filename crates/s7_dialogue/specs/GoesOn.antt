@@ -8,11 +8,11 @@ use Rattle.s7_dialogue.specs.declared.config.Config.{Config}
 use Rattle.s7_dialogue.specs.declared.grant.Grant.{Grant}
 use Rattle.s7_dialogue.specs.declared.job.Job.{Job}
 use Rattle.s7_dialogue.specs.declared.job.Job.TheVariants as job
-use Rattle.s7_dialogue.specs.declared.asking.Asking.{Asking}
-use Rattle.s7_dialogue.specs.declared.left.Left.{Left}
-use Rattle.s7_dialogue.specs.declared.running.Running.{Running}
-use Rattle.s7_dialogue.specs.declared.running.Stage.{Stage}
-use Rattle.s7_dialogue.specs.declared.running.Stage.TheVariants as stage
+use Rattle.s7_dialogue.specs.declared.stages.asking.Asking.{Asking}
+use Rattle.s7_dialogue.specs.declared.questions.left.Left.{Left}
+use Rattle.s7_dialogue.specs.declared.stages.running.Running.{Running}
+use Rattle.s7_dialogue.specs.declared.stages.running.Stage.{Stage}
+use Rattle.s7_dialogue.specs.declared.stages.running.Stage.TheVariants as stage
 use Rattle.s7_dialogue.specs.Question.{Question, negotiates, reads, writes}
 use Rattle.s7_dialogue.specs.Answer.{Answer, ItemAnswer, tells, notes, refuses}
 use Rattle.s7_dialogue.specs.Refusals.{telegram_refusal, part_refusal}
@@ -20,13 +20,13 @@ use Rattle.s7_dialogue.specs.Flight.{Row, answers_of}
 use Rattle.s7_dialogue.specs.Left.{joined, questions_left, items_left, octets_left}
 use Rattle.s7_dialogue.specs.Dialogue.{End, Conduct, asked_by, negotiated, departed_end, read_questions, write_questions, first_refusal, write_number, by_refusal, items_told, codes_in, of_answer, octets_told, codes_told, octets_brought, count_of_data, good_end, plan_of}
 use Rattle.s7_dialogue.specs.Course.{Course}
-use Rattle.s7_dialogue.specs.declared.single.Ask.{Ask}
-use Rattle.s7_dialogue.specs.declared.single.Ask.TheVariants as ask
-use Rattle.s7_dialogue.specs.declared.single.Single.{Single}
+use Rattle.s7_dialogue.specs.declared.stages.single.Ask.{Ask}
+use Rattle.s7_dialogue.specs.declared.stages.single.Ask.TheVariants as ask
+use Rattle.s7_dialogue.specs.declared.stages.single.Single.{Single}
 use Rattle.s7_dialogue.specs.DataBlocks.{data_length}
 use Rattle.s7_dialogue.specs.DataPlaces.{told_for, data_questions, questions_behind as data_questions_behind}
 use Rattle.s7_dialogue.specs.Stages.{unput_by, conduct_of_single, question_of_single}
-use Rattle.s7_dialogue.specs.declared.asking.Refused.{Refused}
+use Rattle.s7_dialogue.specs.declared.stages.asking.Refused.{Refused}
 use Rattle.s7_dialogue.specs.Asks.{Asks, items_of, refused_at, Refuses}
 
 -- the refusal of an answer, by whether each item is asked for alone

@@ -5,12 +5,12 @@ use Rattle.s7_item.specs.declared.item.Item.{Item}
 use Rattle.s7_split.specs.Groups.{cut_at}
 use Rattle.s7_dialogue.specs.Checks.{octet_count_of}
 use Rattle.s7_dialogue.specs.Dialogue.{alone}
-use Rattle.s7_dialogue.specs.declared.answer.Asked.{Asked}
-use Rattle.s7_dialogue.specs.declared.answer.Asked.TheVariants as asked
-use Rattle.s7_dialogue.specs.declared.left.Grouped.{Grouped}
-use Rattle.s7_dialogue.specs.declared.left.Grouped.TheVariants as grouped
-use Rattle.s7_dialogue.specs.declared.left.Left.{Left}
-use Rattle.s7_dialogue.specs.declared.left.Left.TheVariants as left
+use Rattle.s7_dialogue.specs.declared.answers.answer.Asked.{Asked}
+use Rattle.s7_dialogue.specs.declared.answers.answer.Asked.TheVariants as asked
+use Rattle.s7_dialogue.specs.declared.questions.left.Grouped.{Grouped}
+use Rattle.s7_dialogue.specs.declared.questions.left.Grouped.TheVariants as grouped
+use Rattle.s7_dialogue.specs.declared.questions.left.Left.{Left}
+use Rattle.s7_dialogue.specs.declared.questions.left.Left.TheVariants as left
 
 -- the items of groups, one after another
 abbrev pub joined : List (List Item) → List Item

@@ -16,7 +16,7 @@ use Rattle.s7_clock.specs.declared.control.Control.TheVariants.{Insert}
 use Rattle.s7_clock.specs.Control.{control_spelling}
 use Rattle.s7_block.specs.declared.block.BlockName.{BlockName}
 use Rattle.s7_block.specs.Telegrams.{slice_function, end_function, image_data}
-use Rattle.s7_dialogue.specs.declared.subject.Subject.{Subject}
+use Rattle.s7_dialogue.specs.declared.questions.subject.Subject.{Subject}
 use Rattle.s7_dialogue.specs.UserData.{request_params, further_params, no_data, data_of}
 use Rattle.s7_dialogue.specs.Uploads.{start_params, id_params}
 use Rattle.s7_dialogue.specs.Downloads.{name_in, piece_at, announce_params, piece_params, close_params}

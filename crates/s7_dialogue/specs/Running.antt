@@ -4,9 +4,9 @@ use Rattle.s7_dialogue.specs.declared.config.Config.{Config}
 use Rattle.s7_dialogue.specs.declared.grant.Grant.{Grant}
 use Rattle.s7_dialogue.specs.declared.job.Job.{Job}
 use Rattle.s7_dialogue.specs.declared.job.JobResult.{JobResult}
-use Rattle.s7_dialogue.specs.declared.running.Running.{Running}
-use Rattle.s7_dialogue.specs.declared.running.Stage.{Stage}
-use Rattle.s7_dialogue.specs.declared.running.Stage.TheVariants as stage
+use Rattle.s7_dialogue.specs.declared.stages.running.Running.{Running}
+use Rattle.s7_dialogue.specs.declared.stages.running.Stage.{Stage}
+use Rattle.s7_dialogue.specs.declared.stages.running.Stage.TheVariants as stage
 use Rattle.s7_dialogue.specs.Flight.{Row}
 use Rattle.s7_dialogue.specs.Dialogue.{End, Conduct, nothing, connect_request, disconnect_request, over, plan_of}
 use Rattle.s7_dialogue.specs.Course.{Awaits, Course}

@@ -5,7 +5,7 @@ use Rattle.s7_header.specs.Negotiation.{most_pdu}
 use Rattle.s7_item.specs.declared.item.Item.{Item}
 use Rattle.s7_item.specs.Sizes.{request_size}
 use Rattle.s7_wire.specs.Sent.{sent_messages}
-use Rattle.s7_clock.specs.Moment.{octets_at}
+use Rattle.s7_clock.specs.Moment.{moment_octets}
 use Rattle.s7_block.specs.declared.block.BlockName.{BlockName}
 use Rattle.s7_dialogue.specs.declared.config.Config.{Config}
 use Rattle.s7_dialogue.specs.declared.grant.Grant.{Grant}
@@ -13,18 +13,18 @@ use Rattle.s7_dialogue.specs.declared.grant.Leaves.{Leaves}
 use Rattle.s7_dialogue.specs.declared.grant.Leaves.TheVariants as leaving
 use Rattle.s7_dialogue.specs.declared.job.Job.{Job}
 use Rattle.s7_dialogue.specs.declared.job.Job.TheVariants as job
-use Rattle.s7_dialogue.specs.declared.answer.Asked.{Asked}
-use Rattle.s7_dialogue.specs.declared.answer.Asked.TheVariants as asked
-use Rattle.s7_dialogue.specs.declared.flight.Flight.{Flight}
-use Rattle.s7_dialogue.specs.declared.left.Left.{Left}
-use Rattle.s7_dialogue.specs.declared.left.Left.TheVariants as left
-use Rattle.s7_dialogue.specs.declared.subject.Subject.TheVariants.{DataHead}
-use Rattle.s7_dialogue.specs.declared.download.Pieces.{Pieces}
-use Rattle.s7_dialogue.specs.declared.single.Ask.{Ask}
-use Rattle.s7_dialogue.specs.declared.single.Ask.TheVariants as ask
-use Rattle.s7_dialogue.specs.declared.single.Single.{Single}
-use Rattle.s7_dialogue.specs.declared.running.Stage.{Stage}
-use Rattle.s7_dialogue.specs.declared.running.Stage.TheVariants as stage
+use Rattle.s7_dialogue.specs.declared.answers.answer.Asked.{Asked}
+use Rattle.s7_dialogue.specs.declared.answers.answer.Asked.TheVariants as asked
+use Rattle.s7_dialogue.specs.declared.stages.flight.Flight.{Flight}
+use Rattle.s7_dialogue.specs.declared.questions.left.Left.{Left}
+use Rattle.s7_dialogue.specs.declared.questions.left.Left.TheVariants as left
+use Rattle.s7_dialogue.specs.declared.questions.subject.Subject.TheVariants.{DataHead}
+use Rattle.s7_dialogue.specs.declared.transfers.download.Pieces.{Pieces}
+use Rattle.s7_dialogue.specs.declared.stages.single.Ask.{Ask}
+use Rattle.s7_dialogue.specs.declared.stages.single.Ask.TheVariants as ask
+use Rattle.s7_dialogue.specs.declared.stages.single.Single.{Single}
+use Rattle.s7_dialogue.specs.declared.stages.running.Stage.{Stage}
+use Rattle.s7_dialogue.specs.declared.stages.running.Stage.TheVariants as stage
 use Rattle.s7_dialogue.specs.Codes.{no_fault}
 use Rattle.s7_dialogue.specs.UserData.{filled_text, encoded}
 use Rattle.s7_dialogue.specs.Question.{Question, negotiates, reads, writes, controls, asks, asks_further}
@@ -70,7 +70,7 @@ abbrev pub data_of_job : Job → List ℕ
 data_of_job (job.ListOf kind) = kind_octets kind
 data_of_job (job.Info kind number) = block_octets kind number
 data_of_job (job.Szl id index) = list_octets id index
-data_of_job (job.ClockSet moment) = octets_at moment
+data_of_job (job.ClockSet moment) = moment_octets moment
 data_of_job job.Status = list_octets 0x0424 0
 data_of_job (job.PasswordSet text) = encoded (filled_text text)
 data_of_job _ = []

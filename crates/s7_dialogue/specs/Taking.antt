@@ -3,11 +3,11 @@ use Rattle.std.specs.Prelude.{◌≡◌, ◌⊎◌, ℕ, ◌+◌, ◌==◌, Bool
 use lib.Seq.{paste}
 use Rattle.s7_item.specs.declared.item.Item.{Item}
 use Rattle.s7_item.specs.Item.{octet_count}
-use Rattle.s7_dialogue.specs.declared.answer.Asked.{Asked}
-use Rattle.s7_dialogue.specs.declared.answer.Asked.TheVariants as asked
-use Rattle.s7_dialogue.specs.declared.answer.Answer.{Answer}
-use Rattle.s7_dialogue.specs.declared.answer.Answer.TheVariants as told
-use Rattle.s7_dialogue.specs.declared.flight.Flight.{Flight}
+use Rattle.s7_dialogue.specs.declared.answers.answer.Asked.{Asked}
+use Rattle.s7_dialogue.specs.declared.answers.answer.Asked.TheVariants as asked
+use Rattle.s7_dialogue.specs.declared.answers.answer.Answer.{Answer}
+use Rattle.s7_dialogue.specs.declared.answers.answer.Answer.TheVariants as told
+use Rattle.s7_dialogue.specs.declared.stages.flight.Flight.{Flight}
 use Rattle.s7_dialogue.specs.declared.job.Job.{Job}
 use Rattle.s7_dialogue.specs.declared.job.Job.TheVariants as job
 use Rattle.s7_dialogue.specs.Question.{Question, reads, writes}

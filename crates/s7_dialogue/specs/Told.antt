@@ -1,10 +1,10 @@
 -- What is kept of a question, and what the code's answers tell.
 use Rattle.std.specs.Prelude.{◌≡◌, ℕ, length, List, Option, None, Some}
 use Rattle.s7_header.specs.declared.negotiation.Negotiation.{Negotiation}
-use Rattle.s7_dialogue.specs.declared.answer.Asked.{Asked}
-use Rattle.s7_dialogue.specs.declared.answer.Asked.TheVariants as asked
-use Rattle.s7_dialogue.specs.declared.answer.Answer.{Answer}
-use Rattle.s7_dialogue.specs.declared.answer.Answer.TheVariants as told
+use Rattle.s7_dialogue.specs.declared.answers.answer.Asked.{Asked}
+use Rattle.s7_dialogue.specs.declared.answers.answer.Asked.TheVariants as asked
+use Rattle.s7_dialogue.specs.declared.answers.answer.Answer.{Answer}
+use Rattle.s7_dialogue.specs.declared.answers.answer.Answer.TheVariants as told
 use Rattle.s7_dialogue.specs.Question.{Question, negotiates, reads, writes}
 use Rattle.s7_dialogue.specs.Answer as spelled
 

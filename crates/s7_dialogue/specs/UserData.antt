@@ -11,8 +11,8 @@ use Rattle.s7_szl.specs.Readers.{mode_of}
 use Rattle.s7_szl.specs.Joining.{is_refused}
 use Rattle.s7_clock.specs.Moment.{moment_in}
 use Rattle.s7_dialogue.specs.DataBlocks.{tells_data}
-use Rattle.s7_dialogue.specs.declared.subject.Subject.{Subject}
-use Rattle.s7_dialogue.specs.declared.subject.Subject.TheVariants.{StatusList, RunState, BlockCounts, BlocksOfKind, BlockHead, DataHead, Clock, ClockSetting, Password, PasswordClearing}
+use Rattle.s7_dialogue.specs.declared.questions.subject.Subject.{Subject}
+use Rattle.s7_dialogue.specs.declared.questions.subject.Subject.TheVariants.{StatusList, RunState, BlockCounts, BlocksOfKind, BlockHead, DataHead, Clock, ClockSetting, Password, PasswordClearing}
 
 -- ---- what is asked
 

@@ -20,8 +20,8 @@ pub enum Job {
     WriteMany { items: ItemList, octets: Octets },
     /// Count the blocks of each kind.
     List,
-    /// List the blocks of a kind: 38 OB, 41 DB, 42 SDB, 43 FC, 44 SFC, 45 FB, 46 SFB. Another kind is asked for too, and
-    /// the server refuses it.
+    /// List the blocks of a kind: 38 OB, 41 DB, 42 SDB, 43 FC, 44 SFC, 45 FB, 46 SFB. Another kind is asked
+    /// for too, and the server refuses it.
     ListOf { kind: u8 },
     /// Read the head of the block of this kind and number, which may be any.
     Info { kind: u8, number: u16 },
@@ -71,10 +71,11 @@ pub struct JobResult {
     pub job: Job,
     /// 0, or the number of an error, one of the constants of the module `codes`.
     pub code: u32,
-    /// The octets that were read, of several items those of each that was read, joined; of `List` `30`, kind and count
-    /// (2) for each of the seven kinds; of `ListOf` number (2), flags and language of each block, by rising numbers; the
-    /// 36 octets of a head; the image of a block; the octets of a data block; the image of a status list, which that of
-    /// `Status` is too; the ten octets of a clock that was read. None where the code isn't 0.
+    /// The octets that were read, of several items those of each that was read, joined; of `List` `30`, kind
+    /// and count (2) for each of the seven kinds; of `ListOf` number (2), flags and language of each block,
+    /// by rising numbers; the 36 octets of a head; the image of a block; the octets of a data block; the
+    /// image of a status list, which that of `Status` is too; the ten octets of a clock that was read. None
+    /// where the code isn't 0.
     pub octets: Octets,
     /// The return codes of the items of `ReadMany` and `WriteMany`, in the first `count` places;
     /// the other places are 0.

@@ -1,7 +1,8 @@
 // Headers of S7 messages, as in the Snap7 1.4 sources (`TS7ReqHeader`, `TS7ResHeader17` and
 // `TS7ResHeader23`).
 ghost use Rattle.std.specs.Prelude.{◌≡◌, ◌≤◌, ◌++◌, length, drop};
-ghost use Rattle.s7_header.specs.Header.{type_octet, has_error, header_len, spelling_of, kind_of, header_of, whole_len, params_of, body_of, refusal_of};
+ghost use Rattle.s7_header.specs.Header.{type_octet, has_error, header_len, spelling_of, kind_of, header_of};
+ghost use Rattle.s7_header.specs.Header.{whole_len, params_of, body_of, refusal_of};
 
 use crate::faults::HeaderFault;
 use crate::octets::{number_at, two_octets};

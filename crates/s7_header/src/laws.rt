@@ -12,26 +12,32 @@ ghost use Rattle.s7_header.specs.declared.user_params.UserParams.{UserParams};
 /// over, and a message spells one header at most. A header that was written is read again before
 /// parameters and data of its lengths, and these are the parts of the message.
 pub fn header_reading()
-    ensures read { (message : List ℕ) (h : Header) → AreOctets message → (header_of message ≡ Ok h) ↔ SpellsHeader message h }
+    ensures read { (message : List ℕ) (h : Header) → AreOctets message
+        → (header_of message ≡ Ok h) ↔ SpellsHeader message h }
     ensures one { (message : List ℕ) (g h : Header) → SpellsHeader message g → SpellsHeader message h → g ≡ h }
-    ensures again { (h : Header) (params body : List ℕ) → IsHeader h → length params ≡ h.param_len → length body ≡ h.body_len
+    ensures again { (h : Header) (params body : List ℕ) → IsHeader h → length params ≡ h.param_len
+        → length body ≡ h.body_len
         → header_of (spelling_of h ++ params ++ body) ≡ Ok h }
     ensures parts { (h : Header) (params body : List ℕ) → length params ≡ h.param_len
-        → (params_of (spelling_of h ++ params ++ body) h ≡ params) × (body_of (spelling_of h ++ params ++ body) h ≡ body) }
+        → (params_of (spelling_of h ++ params ++ body) h ≡ params)
+        × (body_of (spelling_of h ++ params ++ body) h ≡ body) }
 {}
 
 /// A negotiation is read exactly where the parameters spell it, and they spell one at most. One that
 /// was written is read again.
 pub fn negotiation_reading()
-    ensures read { (params : List ℕ) (n : Negotiation) → AreOctets params → (negotiation_of params ≡ Ok n) ↔ SpellsNegotiation params n }
-    ensures one { (params : List ℕ) (m n : Negotiation) → SpellsNegotiation params m → SpellsNegotiation params n → m ≡ n }
+    ensures read { (params : List ℕ) (n : Negotiation) → AreOctets params
+        → (negotiation_of params ≡ Ok n) ↔ SpellsNegotiation params n }
+    ensures one { (params : List ℕ) (m n : Negotiation) → SpellsNegotiation params m → SpellsNegotiation params n
+        → m ≡ n }
     ensures again { (n : Negotiation) → IsNegotiation n → negotiation_of (negotiation_spelling n) ≡ Ok n }
 {}
 
 /// Parameters of user data are read exactly where the octets spell them, and octets spell one set of
 /// them at most. Those that were written are read again.
 pub fn user_reading()
-    ensures read { (params : List ℕ) (u : UserParams) → AreOctets params → (user_params_of params ≡ Ok u) ↔ SpellsUser params u }
+    ensures read { (params : List ℕ) (u : UserParams) → AreOctets params
+        → (user_params_of params ≡ Ok u) ↔ SpellsUser params u }
     ensures one { (params : List ℕ) (t u : UserParams) → SpellsUser params t → SpellsUser params u → t ≡ u }
     ensures again { (u : UserParams) → IsUserParams u → user_params_of (user_spelling u) ≡ Ok u }
 {}

@@ -16,8 +16,8 @@ abbrev pub failing_place : {L : Type 0} → MemoryDoor L → Option ℕ
 failing_place d = d.fail_at
 
 -- how many calls of `next` there were
-abbrev pub place_of : {L : Type 0} → MemoryDoor L → ℕ
-place_of d = d.place
+abbrev pub next_count : {L : Type 0} → MemoryDoor L → ℕ
+next_count d = d.place
 
 -- how often the door has failed
 abbrev pub fault_count : {L : Type 0} → MemoryDoor L → ℕ

@@ -15,11 +15,11 @@ entries_of None = []
 entries_of (Some files) = files.entries
 
 -- the octets under a path
-abbrev pub octets_at : Option (BTreeMap (String Global) (List ℕ)) → List ℕ → Option (List ℕ)
-octets_at files path = lookup (is_at (λ key. slice_cmp nat_cmp path (string_bytes key))) (entries_of files)
+abbrev pub file_octets : Option (BTreeMap (String Global) (List ℕ)) → List ℕ → Option (List ℕ)
+file_octets files path = lookup (is_at (λ key. slice_cmp nat_cmp path (string_bytes key))) (entries_of files)
 
 abbrev pub files_of : MemoryFiles → FilesShown
-files_of m = record { tells = true; held = octets_at m.files; faults = λ _. m.faults }
+files_of m = record { tells = true; held = file_octets m.files; faults = λ _. m.faults }
 
 -- the number of the call that fails
 abbrev pub failing_call : MemoryFiles → Option ℕ

@@ -22,7 +22,8 @@ pub trait Dial<L> {
     /// in this call, and takes no link.
     fn call(&mut self, host: &str, port: u16) -> Dialled<L>
         ensures gives { GivesTold ((shows self.old).next host.now port) result }
-        ensures failed { result ≡ Dialled.Failed → Rose ((shows self.old).faults host.now port) ((shows self.new).faults host.now port) }
+        ensures failed { result ≡ Dialled.Failed
+            → Rose ((shows self.old).faults host.now port) ((shows self.new).faults host.now port) }
         ensures kept { result ≡ Dialled.Failed → (shows self.new).next ≡ (shows self.old).next }
         ensures faults { NoHostFell (shows self.old).faults (shows self.new).faults };
 }

@@ -39,12 +39,15 @@ pub trait Files {
         ensures after_memory { IsErrOf result FileFault.Memory → into.new.items ≡ [] }
 
         // where the files tell what lies under the paths
-        ensures told { OnOk result (IsTrue (shows self.old).tells → (shows self.old).held path.now ≡ Some into.new.items) }
+        ensures told { OnOk result (IsTrue (shows self.old).tells
+            → (shows self.old).held path.now ≡ Some into.new.items) }
         ensures cut { IsErrOf result FileFault.TooLong → IsTrue (shows self.old).tells →
             IsCutFrom ((shows self.old).held path.now) into.new.items }
-        ensures missing { IsTrue (shows self.old).tells → (shows self.old).held path.now ≡ None → result ≡ Err FileFault.Failed }
+        ensures missing { IsTrue (shows self.old).tells → (shows self.old).held path.now ≡ None
+            → result ≡ Err FileFault.Failed }
 
-        ensures failed { IsErrOf result FileFault.Failed → Rose ((shows self.old).faults path.now) ((shows self.new).faults path.now) }
+        ensures failed { IsErrOf result FileFault.Failed
+            → Rose ((shows self.old).faults path.now) ((shows self.new).faults path.now) }
         ensures faults { NonePathFell (shows self.old).faults (shows self.new).faults }
         ensures same { shows self.new ≡ record (shows self.old) { faults = (shows self.new).faults } };
 
@@ -53,12 +56,14 @@ pub trait Files {
     /// `Failed` comes only where this path's count of faults rose in this call, and its path may
     /// then hold anything. After `Memory` no path has changed. `TooLong` never comes.
     fn write(&mut self, alloc: Global, path: &str, octets: &[u8]) -> Result<(), FileFault>
-        ensures written { OnOk result (IsTrue (shows self.old).tells → (shows self.new).held path.now ≡ Some octets.now) }
+        ensures written { OnOk result (IsTrue (shows self.old).tells
+            → (shows self.new).held path.now ≡ Some octets.now) }
         ensures not_too_long { result ≢ Err FileFault.TooLong }
         ensures after_memory { IsErrOf result FileFault.Memory → (shows self.new).held ≡ (shows self.old).held }
         ensures others { KeepsOtherPaths path.now (shows self.old).held (shows self.new).held }
         ensures tells { (shows self.new).tells ≡ (shows self.old).tells }
 
-        ensures failed { IsErrOf result FileFault.Failed → Rose ((shows self.old).faults path.now) ((shows self.new).faults path.now) }
+        ensures failed { IsErrOf result FileFault.Failed
+            → Rose ((shows self.old).faults path.now) ((shows self.new).faults path.now) }
         ensures faults { NonePathFell (shows self.old).faults (shows self.new).faults };
 }

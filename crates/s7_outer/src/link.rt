@@ -1,5 +1,6 @@
 // A link: octets come in and go out, in whatever pieces. Its clock tells the time of day.
-ghost use Rattle.std.specs.Prelude.{◌≡◌, ◌≢◌, ◌+◌, ◌-◌, ◌<◌, ◌≤◌, ◌↔◌, [], length, IsTrue, IsSome, IfSome, Some, option_map};
+ghost use Rattle.std.specs.Prelude.{◌≡◌, ◌≢◌, ◌+◌, ◌-◌, ◌<◌, ◌≤◌, ◌↔◌, [], length, IsTrue, IsSome, IfSome, Some};
+ghost use Rattle.std.specs.Prelude.{option_map};
 ghost use Rattle.std.specs.Io.KnownBytes.{prepend_known, append_known, IsAtEnd};
 ghost use Rattle.s7_outer.specs.Shown.{Shown};
 ghost use Rattle.s7_outer.specs.Count.{Rose, RoseExactly};
@@ -60,13 +61,15 @@ pub trait Link {
         ensures wrote { (shows self.new).written ≡ (shows self.old).written }
 
         ensures end { result ≡ Got.End → IsAtEnd (shows self.old).left × IsTrue (shows self.new).has_ended }
-        ensures ended { IsTrue (shows self.old).has_ended → IsTrue (shows self.new).has_ended × (octets_got result into.new ≡ []) }
+        ensures ended { IsTrue (shows self.old).has_ended
+            → IsTrue (shows self.new).has_ended × (octets_got result into.new ≡ []) }
         ensures waits_open { result ≡ Got.NotYet → (shows self.new).has_ended ≡ (shows self.old).has_ended }
         ensures fails_open { result ≡ Got.Failed → (shows self.new).has_ended ≡ (shows self.old).has_ended }
 
         ensures failed { result ≡ Got.Failed → Rose (shows self.old).faults (shows self.new).faults }
         ensures not_yet { result ≡ Got.NotYet → Rose (shows self.old).waits (shows self.new).waits }
-        ensures nothing_left { IsSome (shows self.old).space → (result ≡ Got.NotYet) ↔ ((shows self.old).left ≡ Some []) }
+        ensures nothing_left { IsSome (shows self.old).space
+            → (result ≡ Got.NotYet) ↔ ((shows self.old).left ≡ Some []) }
         ensures faults { (shows self.old).faults ≤ (shows self.new).faults }
         ensures waits { (shows self.old).waits ≤ (shows self.new).waits }
 
@@ -92,7 +95,8 @@ pub trait Link {
 
         ensures within { SentWithin result (length piece.now) }
         ensures took { (shows self.new).left ≡ (shows self.old).left }
-        ensures wrote { (shows self.new).written ≡ append_known (shows self.old).written (octets_sent result piece.now) }
+        ensures wrote { (shows self.new).written
+            ≡ append_known (shows self.old).written (octets_sent result piece.now) }
         ensures ended { (shows self.new).has_ended ≡ (shows self.old).has_ended }
 
         ensures failed { result ≡ Sent.Failed → Rose (shows self.old).faults (shows self.new).faults }
@@ -111,7 +115,8 @@ pub trait Link {
         ensures clock_faults { (shows self.new).clock_faults ≡ (shows self.old).clock_faults }
         ensures looks { (shows self.new).looks ≡ (shows self.old).looks }
         ensures fits { IfSome (shows self.old).space (λ space. length (octets_sent result piece.now) ≤ space) }
-        ensures space { (shows self.new).space ≡ option_map (λ space. space - length (octets_sent result piece.now)) (shows self.old).space }
+        ensures space { (shows self.new).space
+            ≡ option_map (λ space. space - length (octets_sent result piece.now)) (shows self.old).space }
         ensures shut { (shows self.new).is_shut ≡ (shows self.old).is_shut }
         ensures lent { (shows self.new).lent ≡ (shows self.old).lent };
 
@@ -128,7 +133,8 @@ pub trait Clock: Link {
     /// `clock_faults` rose in this call. Nothing else of the link changes.
     fn now(&mut self) -> Tick
         ensures at { TellsMoment (Self.shows self.old).moment result }
-        ensures failed { result ≡ Tick.Failed → Rose (Self.shows self.old).clock_faults (Self.shows self.new).clock_faults }
+        ensures failed { result ≡ Tick.Failed
+            → Rose (Self.shows self.old).clock_faults (Self.shows self.new).clock_faults }
         ensures clock_faults { (Self.shows self.old).clock_faults ≤ (Self.shows self.new).clock_faults }
         ensures faults_once { (Self.shows self.new).clock_faults ≤ (Self.shows self.old).clock_faults + 1 }
         ensures failed_no_other { result ≢ Tick.Failed

@@ -20,14 +20,14 @@ pub struct MemoryDoor<L> {
 }
 
 impl<L: Drop> MemoryDoor<L> {
-    ghost use Rattle.s7_outer.specs.MemoryDoor.{door_of, unused_door, failing_place, place_of};
+    ghost use Rattle.s7_outer.specs.MemoryDoor.{door_of, unused_door, failing_place, next_count};
 
     /// A door with these links. Where `fail_at` is given, the call of `next` of that number fails,
     /// counted from 0.
     pub fn new(links: Vec<L>, fail_at: Option<usize>) -> MemoryDoor<L>
         ensures shown { door_of result ≡ unused_door links.items }
         ensures failing { failing_place result ≡ fail_at }
-        ensures place { place_of result ≡ 0 }
+        ensures place { next_count result ≡ 0 }
     {
         MemoryDoor {
             links: links.into_iter(),
@@ -40,9 +40,9 @@ impl<L: Drop> MemoryDoor<L> {
 
     // Counts a call, and says whether it has to fail.
     fn fails(&mut self) -> bool
-        ensures fails { IsTrue result ↔ (failing_place self.old ≡ Some (place_of self.old)) }
+        ensures fails { IsTrue result ↔ (failing_place self.old ≡ Some (next_count self.old)) }
         ensures failing { failing_place self.new ≡ failing_place self.old }
-        ensures place { place_of self.new ≡ raised (place_of self.old) }
+        ensures place { next_count self.new ≡ raised (next_count self.old) }
         ensures counted { IsTrue result → self.new.faults ≡ raised self.old.faults }
         ensures counted_no_other { (IsTrue result → ⊥) → self.new.faults ≡ self.old.faults }
         ensures faults { self.old.faults ≤ self.new.faults }
@@ -59,7 +59,7 @@ impl<L: Drop> MemoryDoor<L> {
 }
 
 impl<L: Drop> Door<L> for MemoryDoor<L> {
-    ghost use Rattle.s7_outer.specs.MemoryDoor.{door_of, failing_place, place_of, fault_count};
+    ghost use Rattle.s7_outer.specs.MemoryDoor.{door_of, failing_place, next_count, fault_count};
 
     ghost shows = { door_of };
 
@@ -69,7 +69,7 @@ impl<L: Drop> Door<L> for MemoryDoor<L> {
         ensures shown { door_of self.new ≡ record (door_of self.old) { heard = port } }
         ensures faults { NoPortFell (door_of self.old).faults (door_of self.new).faults }
         ensures failing { failing_place self.new ≡ failing_place self.old }
-        ensures place { place_of self.new ≡ place_of self.old }
+        ensures place { next_count self.new ≡ next_count self.old }
     {
         self.port = port;
         Ok(())
@@ -77,7 +77,7 @@ impl<L: Drop> Door<L> for MemoryDoor<L> {
 
     /// The next link, or `Failed` exactly at the chosen call.
     fn next(&mut self) -> Arrival<L>
-        ensures fails { (result ≡ Arrival.Failed) ↔ (failing_place self.old ≡ Some (place_of self.old)) }
+        ensures fails { (result ≡ Arrival.Failed) ↔ (failing_place self.old ≡ Some (next_count self.old)) }
         ensures gives { GivesNext (door_of self.old).coming (door_of self.new).coming result }
         ensures counted { result ≡ Arrival.Failed → fault_count self.new ≡ raised (fault_count self.old) }
         ensures counted_no_other { result ≢ Arrival.Failed → fault_count self.new ≡ fault_count self.old }
@@ -85,7 +85,7 @@ impl<L: Drop> Door<L> for MemoryDoor<L> {
         ensures same { door_of self.new
             ≡ record (door_of self.old) { coming = (door_of self.new).coming; faults = (door_of self.new).faults } }
         ensures failing { failing_place self.new ≡ failing_place self.old }
-        ensures place { place_of self.new ≡ raised (place_of self.old) }
+        ensures place { next_count self.new ≡ raised (next_count self.old) }
     {
         if self.fails() {
             return Arrival::Failed;

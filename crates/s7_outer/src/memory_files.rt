@@ -3,7 +3,7 @@ ghost use Rattle.std.specs.Prelude.{◌≡◌, ◌≢◌, ◌+◌, ◌≤◌, �
 ghost use Rattle.std.specs.Prelude.{IsTrue, IsErrOf, OnOk, OnErr, option_map, vec_len};
 ghost use Rattle.s7_outer.specs.Count.{raised};
 ghost use Rattle.s7_outer.specs.Files.{file_limit, IsCutFrom, KeepsOtherPaths};
-ghost use Rattle.s7_outer.specs.MemoryFiles.{entries_of, octets_at};
+ghost use Rattle.s7_outer.specs.MemoryFiles.{entries_of, file_octets};
 
 use crate::count::raise;
 use crate::files::FILE_LIMIT;
@@ -159,7 +159,7 @@ impl Files for MemoryFiles {
 
 // The octets under the path, where there is a file.
 fn octets_in<'a>(files: &'a Option<BTreeMap<String, Octets>>, path: &str) -> Option<&'a [u8]>
-    ensures { option_map (λ octets. octets.now) result ≡ octets_at files.now path.now }
+    ensures { option_map (λ octets. octets.now) result ≡ file_octets files.now path.now }
 {
     match files {
         Some(files) => files.get(path).map(|octets| octets.as_slice()),
@@ -187,9 +187,9 @@ fn put(
     path: &str,
     octets: Octets,
 ) -> Result<(), Memory>
-    ensures ok { OnOk result (octets_at files.new path.now ≡ Some octets) }
-    ensures err { OnErr result (octets_at files.new ≡ octets_at files.old) }
-    ensures others { KeepsOtherPaths path.now (octets_at files.old) (octets_at files.new) }
+    ensures ok { OnOk result (file_octets files.new path.now ≡ Some octets) }
+    ensures err { OnErr result (file_octets files.new ≡ file_octets files.old) }
+    ensures others { KeepsOtherPaths path.now (file_octets files.old) (file_octets files.new) }
 {
     let key = String::from_str(alloc, path)?;
     let mut map = taken_map(files, alloc);

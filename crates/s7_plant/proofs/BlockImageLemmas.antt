@@ -6,7 +6,7 @@ use Rattle.std.specs.Map.{lookup}
 use Rattle.std.proofs.lemmas.List.{length-map}
 use Rattle.std.proofs.lemmas.List.Sums.{length-filter, count_by-le-length}
 use Rattle.s7_area.specs.declared.key.AreaKey.{AreaKey}
-use Rattle.s7_area.specs.Memory.{Memory, octets_at}
+use Rattle.s7_area.specs.Memory.{Memory, area_octets}
 use Rattle.s7_area.specs.Registers.{IsArea, IsMemory}
 use Rattle.s7_block.specs.declared.block.BlockName.{BlockName}
 use Rattle.s7_block.specs.Store.{Store, IsStore, numbers_of}
@@ -21,7 +21,7 @@ found_of_all P Q test [] v each all is = cc
 found_of_all P Q test (e ∷ es) v each all is =
     found_step Q (test e.0) e.1 v (lookup test es) is (each e all.0) (found_of_all P Q test es v each all.1)
 
-pub area_few : (m : Memory) (key : AreaKey) (octets : List ℕ) → IsMemory m → octets_at m key ≡ Some octets → length octets ≤ 2097152
+pub area_few : (m : Memory) (key : AreaKey) (octets : List ℕ) → IsMemory m → area_octets m key ≡ Some octets → length octets ≤ 2097152
 area_few m key octets memory is = found_of_all IsArea (λ v. length v ≤ 2097152) _ m.areas octets (λ e area. area.most) memory.areas is
 
 -- there are at most 1,024 numbers

@@ -6,13 +6,13 @@ use Rattle.std.specs.BTreeMap.{is_at}
 use Rattle.std.proofs.lemmas.Bool.{eqb-true}
 use Rattle.std.proofs.lemmas.Grind.{common_steps}
 use Rattle.s7_item.specs.Item.{octet_count}
-use Rattle.s7_item.specs.DataItem.{octets_at as octets_in}
+use Rattle.s7_item.specs.DataItem.{octets_at}
 use Rattle.s7_item.specs.declared.item.Item.{Item}
 use Rattle.s7_item.specs.declared.places.DataPlace.{DataPlace}
 use Rattle.s7_area.specs.declared.key.AreaKey.{AreaKey}
 use Rattle.s7_area.specs.Guards.{is_write_barred}
 use Rattle.s7_area.specs.Places.{is_misfit, is_inside, key_of, changed_at}
-use Rattle.s7_area.specs.Memory.{Memory, key_cmp, octets_at, with_octets, code_in, write_code, written}
+use Rattle.s7_area.specs.Memory.{Memory, key_cmp, area_octets, with_octets, code_in, write_code, written}
 use Rattle.s7_plant.specs.Answers.{write_codes}
 
 option_length-cond : (b : Bool) (o : Option (List ℕ)) (x y : List ℕ) → length x ≡ length y → option_map length (cond b (Some x) o) ≡ option_map length (cond b (Some y) o)
@@ -43,25 +43,25 @@ code_by misfit found item octets =
     let code = cond misfit 6 (code_in found item) in
     cond (eqb code 255 && not (eqb (length octets) (octet_count item))) 7 code
 
-same_by_parts : (m : Memory) (item : Item) (octets : List ℕ) (key : AreaKey) (old : List ℕ) (fits counts : Bool) → octets_at m (key_of item) ≡ Some old → fits ≡ is_inside item (length old) → counts ≡ eqb (length octets) (octet_count item) → option_map length (octets_at (cond (eqb (cond (eqb (cond fits 255 5) 255 && not counts) 7 (cond fits 255 5)) 255) (with_octets m (key_of item) (changed_at item octets old)) m) key) ≡ option_map length (octets_at m key)
+same_by_parts : (m : Memory) (item : Item) (octets : List ℕ) (key : AreaKey) (old : List ℕ) (fits counts : Bool) → area_octets m (key_of item) ≡ Some old → fits ≡ is_inside item (length old) → counts ≡ eqb (length octets) (octet_count item) → option_map length (area_octets (cond (eqb (cond (eqb (cond fits 255 5) 255 && not counts) 7 (cond fits 255 5)) 255) (with_octets m (key_of item) (changed_at item octets old)) m) key) ≡ option_map length (area_octets m key)
 same_by_parts m item octets key old false counts found a b = refl
 same_by_parts m item octets key old true false found a b = refl
 same_by_parts m item octets key old true true found a b =
     length-set_value (is_at (key_cmp (key_of item))) (is_at (key_cmp key)) m.areas old _ found (length-changed_at item octets old (sym a) (eqb-true (length octets) (octet_count item) (sym b)))
 
-by_parts : (m : Memory) (item : Item) (octets : List ℕ) (key : AreaKey) (misfit : Bool) (found : Option (List ℕ)) → octets_at m (key_of item) ≡ found → option_map length (octets_at (cond (eqb (code_by misfit found item octets) 255) (with_octets m (key_of item) (changed_at item octets (unwrap_or found []))) m) key) ≡ option_map length (octets_at m key)
+by_parts : (m : Memory) (item : Item) (octets : List ℕ) (key : AreaKey) (misfit : Bool) (found : Option (List ℕ)) → area_octets m (key_of item) ≡ found → option_map length (area_octets (cond (eqb (code_by misfit found item octets) 255) (with_octets m (key_of item) (changed_at item octets (unwrap_or found []))) m) key) ≡ option_map length (area_octets m key)
 by_parts m item octets key true found is = refl
 by_parts m item octets key false None is = refl
 by_parts m item octets key false (Some old) is = same_by_parts m item octets key old _ _ is refl refl
 
 -- without a right a write that is barred changes nothing
 barred : (b : Bool) (m : Memory) (item : Item) (octets : List ℕ) (key : AreaKey)
-    → option_map length (octets_at (cond (eqb (cond b 3 (code_by (is_misfit item) (octets_at m (key_of item)) item octets)) 255) (with_octets m (key_of item) (changed_at item octets (unwrap_or (octets_at m (key_of item)) []))) m) key) ≡ option_map length (octets_at m key)
+    → option_map length (area_octets (cond (eqb (cond b 3 (code_by (is_misfit item) (area_octets m (key_of item)) item octets)) 255) (with_octets m (key_of item) (changed_at item octets (unwrap_or (area_octets m (key_of item)) []))) m) key) ≡ option_map length (area_octets m key)
 barred true m item octets key = refl
-barred false m item octets key = by_parts m item octets key (is_misfit item) (octets_at m (key_of item)) refl
+barred false m item octets key = by_parts m item octets key (is_misfit item) (area_octets m (key_of item)) refl
 
 -- the areas after a write have the lengths that they had
-length-written : (m : Memory) (right : Bool) (item : Item) (octets : List ℕ) (key : AreaKey) → option_map length (octets_at (written m right item octets) key) ≡ option_map length (octets_at m key)
+length-written : (m : Memory) (right : Bool) (item : Item) (octets : List ℕ) (key : AreaKey) → option_map length (area_octets (written m right item octets) key) ≡ option_map length (area_octets m key)
 unfolding written write_code
 length-written m right item octets key = barred (is_write_barred m.guard right) m item octets key
 
@@ -74,13 +74,13 @@ code_in-length (Some a) (Some b) item same = let is : length a ≡ length b = cc
 -- two memories have the same guard, and the same areas, of the same lengths
 record SameLengths (m n : Memory) : Type 0 where
   guard : m.guard ≡ n.guard
-  areas : (key : AreaKey) → option_map length (octets_at m key) ≡ option_map length (octets_at n key)
+  areas : (key : AreaKey) → option_map length (area_octets m key) ≡ option_map length (area_octets n key)
 
 code-same : (m n : Memory) (right : Bool) (item : Item) (octets : List ℕ) → SameLengths m n → write_code m right item octets ≡ write_code n right item octets
 unfolding write_code
 code-same m n right item octets same =
     let places = ap (λ c. let code = cond (is_misfit item) 6 c in cond (eqb code 255 && not (eqb (length octets) (octet_count item))) 7 code) (code_in-length _ _ item (same.areas (key_of item))) in
-    ap (λ g. cond (is_write_barred g right) 3 (code_by (is_misfit item) (octets_at m (key_of item)) item octets)) same.guard
+    ap (λ g. cond (is_write_barred g right) 3 (code_by (is_misfit item) (area_octets m (key_of item)) item octets)) same.guard
     ∙ ap (cond (is_write_barred n.guard right) 3) places
 
 kept_guard : (b : Bool) (m n : Memory) → n.guard ≡ m.guard → (cond b n m).guard ≡ m.guard
@@ -101,8 +101,8 @@ codes-same : (m n : Memory) (right : Bool) (items : List Item) (places : List Da
 codes-same m n right [] places all same = refl
 codes-same m n right (i ∷ is) [] all same = refl
 codes-same m n right (i ∷ is) (p ∷ ps) all same =
-    let head = code-same m n right i (octets_in all p) same in
-    let tail = codes-same (written m right i (octets_in all p)) (written n right i (octets_in all p)) right is ps all (same-written m n right i (octets_in all p) same) in
+    let head = code-same m n right i (octets_at all p) same in
+    let tail = codes-same (written m right i (octets_at all p)) (written n right i (octets_at all p)) right is ps all (same-written m n right i (octets_at all p) same) in
     rw (head, tail) refl
 
 -- no write changes the codes of those that follow

@@ -10,7 +10,7 @@ use Rattle.s7_item.specs.Codes.{read_function, write_function}
 use Rattle.s7_item.specs.DataItem.{DataItem, padding_of, data_octets, octets_at}
 use Rattle.s7_item.specs.declared.item.Item.{Item}
 use Rattle.s7_item.specs.declared.places.DataPlace.{DataPlace}
-use Rattle.s7_clock.specs.Moment.{held, octets_at as clock_octets}
+use Rattle.s7_clock.specs.Moment.{held, moment_octets}
 use Rattle.s7_szl.specs.Images.{image_of}
 use Rattle.std.specs.List.{flat_map}
 use Rattle.std.specs.Map.{keys_of}
@@ -21,7 +21,7 @@ use Rattle.s7_block.specs.Store.{image_at as image_of_block, numbers_of, with_bl
 use Rattle.s7_area.specs.Guards.{is_read_barred}
 use Rattle.s7_item.specs.Codes.{data_blocks}
 use Rattle.s7_area.specs.Registers.{db_numbers}
-use Rattle.s7_area.specs.Memory.{octets_at as area_octets, Memory, read_code, read_octets, write_code, written}
+use Rattle.s7_area.specs.Memory.{area_octets, Memory, read_code, read_octets, write_code, written}
 use Rattle.s7_plant.specs.declared.request.Ask.{Ask}
 use Rattle.s7_plant.specs.declared.request.Request.{Request}
 use Rattle.s7_plant.specs.declared.request.Request.TheVariants.{Read, Write, Szl, ClockRead, ClockSet}
@@ -200,7 +200,7 @@ answer s right (Read items) =
 answer s right (Write items places octets) =
     said 0 (write_function ∷ length items ∷ []) (write_codes s.memory right items places octets)
 answer s right (Szl id index) = listed (image_of id index s.running)
-answer s right (ClockRead moment) = said 0 [] (clock_octets (clock_at s moment))
+answer s right (ClockRead moment) = said 0 [] (moment_octets (clock_at s moment))
 answer s right (ClockSet moment value) = guarded s right (said 0 [] [])
 answer s right (Start cold) = guarded s right (controlled service_function (start_status s.running))
 answer s right Stop = guarded s right (controlled stop_function (stop_status s.running))

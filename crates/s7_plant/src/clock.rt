@@ -1,12 +1,12 @@
 // The clock of a plant.
 ghost use Rattle.std.specs.Prelude.{◌≡◌, pos, ◌+ℤ◌, ◌-ℤ◌};
-ghost use Rattle.s7_clock.specs.Moment.{IsHeld, held, octets_at};
+ghost use Rattle.s7_clock.specs.Moment.{IsHeld, held, moment_octets};
 
 use s7_clock::{date_of, hold, to_octets};
 
 /// The clock octets of what a clock shows at a moment, so many milliseconds ahead of it.
 pub(crate) fn shown_octets(moment: u64, offset: i64) -> [u8; 10]
-    ensures { result ≡ octets_at (held (pos (held (pos moment)) +ℤ offset)) }
+    ensures { result ≡ moment_octets (held (pos (held (pos moment)) +ℤ offset)) }
 {
     let shown = hold((nearest(moment) as i64).saturating_add(offset));
     to_octets(date_of(shown))

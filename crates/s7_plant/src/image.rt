@@ -1,7 +1,7 @@
 // The images of blocks.
 ghost use Rattle.std.specs.Prelude.{◌≡◌, ◌≤◌, ◌++◌, length, option_map};
 ghost use Rattle.s7_item.specs.Codes.{data_blocks};
-ghost use Rattle.s7_area.specs.Memory.{octets_at};
+ghost use Rattle.s7_area.specs.Memory.{area_octets};
 ghost use Rattle.s7_block.specs.Store.{image_at};
 ghost use Rattle.s7_plant.specs.Answers.{db_image, image_in};
 ghost use Rattle.s7_plant.specs.State.{state_of};
@@ -37,7 +37,7 @@ pub(crate) fn find_image(plant: &Plant, kind: u8, number: u16) -> Option<Image<'
 /// The image of a data block, whose head is made here.
 fn find_area(areas: &Areas, number: u16) -> Option<Image<'_>>
     ensures { option_map (λ image. image.head ++ image.rest.now) result
-        ≡ option_map (db_image number) (octets_at areas.now (record { area = data_blocks; number = number })) }
+        ≡ option_map (db_image number) (area_octets areas.now (record { area = data_blocks; number = number })) }
 {
     // what is registered is within the limits of areas
     let _numbers = areas.db_numbers();

@@ -3,7 +3,8 @@ ghost use Rattle.std.specs.Prelude.{◌≡◌, ◌≤◌, ◌-◌, ◌%◌, [], 
 ghost use Rattle.s7_area.specs.Memory.{shape_of};
 ghost use Rattle.s7_block.specs.Heads.{head_agrees};
 ghost use Rattle.s7_block.specs.Kinds.{is_stored_kind};
-ghost use Rattle.s7_plant.specs.Images.{AreKept, AreNoted, CanBeNoted, HasPlace, all_there, image_of_source, kept_of, kept_state, sourced, sources_after};
+ghost use Rattle.s7_plant.specs.Images.{AreKept, AreNoted, CanBeNoted, HasPlace, all_there, image_of_source, kept_of};
+ghost use Rattle.s7_plant.specs.Images.{kept_state, sourced, sources_after};
 ghost use Rattle.s7_plant.specs.Journals.{AreReady, at, entries_of, image_interval};
 ghost use Rattle.s7_plant.specs.State.{state_of};
 
@@ -201,7 +202,8 @@ fn find_source<'a>(
     source: Option<u64>,
 ) -> Option<&'a [u8]>
     requires { AreReady entries.now }
-    ensures image { option_map (λ image. image.now) result ≡ image_of_source opening.now.images entries.now name source }
+    ensures image { option_map (λ image. image.now) result
+        ≡ image_of_source opening.now.images entries.now name source }
     ensures kind { IfSome result (λ image. is_stored_kind name.kind ≡ true) }
     ensures head { IfSome result (λ image. head_agrees image.now name.kind name.number ≡ true) }
 {

@@ -8,7 +8,7 @@ use Rattle.s7_item.specs.declared.item.Item.{Item}
 use Rattle.s7_item.specs.Item.{octet_count}
 use Rattle.s7_item.specs.Word.{size_of}
 use Rattle.s7_item.specs.Sizes.{request_size, answer_size}
-use Rattle.s7_clock.specs.Moment.{IsHeld, first_moment, last_moment, octets_at}
+use Rattle.s7_clock.specs.Moment.{IsHeld, first_moment, last_moment, moment_octets}
 use Rattle.s7_clock.specs.declared.control.Control.TheVariants as control
 use Rattle.s7_split.specs.Fits.{fits}
 use Rattle.s7_split.specs.Parts.{parts_of, CanBeAsked}
@@ -19,8 +19,8 @@ use Rattle.s7_dialogue.specs.declared.config.Config.{Config}
 use Rattle.s7_dialogue.specs.declared.grant.Grant.{Grant}
 use Rattle.s7_dialogue.specs.declared.job.Job.{Job}
 use Rattle.s7_dialogue.specs.declared.job.Job.TheVariants as job
-use Rattle.s7_dialogue.specs.declared.subject.Subject.{Subject}
-use Rattle.s7_dialogue.specs.declared.subject.Subject.TheVariants.{StatusList, RunState, BlockCounts, BlocksOfKind, BlockHead, Clock, ClockSetting, Password, PasswordClearing}
+use Rattle.s7_dialogue.specs.declared.questions.subject.Subject.{Subject}
+use Rattle.s7_dialogue.specs.declared.questions.subject.Subject.TheVariants.{StatusList, RunState, BlockCounts, BlocksOfKind, BlockHead, Clock, ClockSetting, Password, PasswordClearing}
 use Rattle.s7_dialogue.specs.Codes.{invalid_parameters}
 use Rattle.s7_block.specs.Slices.{image_room}
 use Rattle.s7_dialogue.specs.UserData.{comes_in_pieces, filled_text, encoded}
@@ -155,7 +155,7 @@ moment_checked moment good =
       to = leb-true moment last_moment both.1;
     }
 
-setting_can : (moment : ℕ) → IsHeld moment → CanGoWith ClockSetting (octets_at moment)
+setting_can : (moment : ℕ) → IsHeld moment → CanGoWith ClockSetting (moment_octets moment)
 setting_can moment held = (length-clock moment, ap is_some (clock_read moment held))
 
 password_can : (text : List ℕ) → check_password text ≡ 0 → CanGoWith Password (encoded (filled_text text))
@@ -232,8 +232,8 @@ askable (job.Szl id index) config granted answers q least is =
     piece_askable granted.pdu StatusList (list_octets id index) answers q refl is
 askable job.ClockRead config granted answers q least is = piece_askable granted.pdu Clock [] answers q refl is
 askable (job.ClockSet moment) config granted answers q least is =
-    let sent = good_sent (check_moment moment) (at_once (asking_about ClockSetting (octets_at moment))) answers q is in
-    piece_askable granted.pdu ClockSetting (octets_at moment) answers q
+    let sent = good_sent (check_moment moment) (at_once (asking_about ClockSetting (moment_octets moment))) answers q is in
+    piece_askable granted.pdu ClockSetting (moment_octets moment) answers q
     (setting_can moment (moment_checked moment sent.0)) sent.1
 askable job.Start config granted answers q least is =
     one_askable granted.pdu (controls control.Start) q (length answers) tt is

@@ -14,7 +14,7 @@ use Rattle.std.proofs.lemmas.List.{length-take-le, length-drop}
 use Rattle.s7_outer.specs.Numbers.{two_octets}
 use Rattle.s7_item.specs.Codes.{data_blocks}
 use Rattle.s7_area.specs.declared.key.AreaKey.{AreaKey}
-use Rattle.s7_area.specs.Memory.{AreaList, key_cmp, octets_at}
+use Rattle.s7_area.specs.Memory.{AreaList, key_cmp, area_octets}
 use Rattle.s7_area.specs.Registers.{db_numbers, IsArea}
 use Rattle.s7_area.proofs.MemoryLemmas.{key_cmp_total}
 use Rattle.s7_block.specs.declared.block.BlockName.{BlockName}
@@ -26,7 +26,7 @@ use Rattle.s7_plant.specs.Answers as plant
 use Rattle.s7_plant.specs.Answers.{db_image, db_octets, image_in, numbers_in, list_entry, entries_told, info_told}
 use Rattle.s7_plant.specs.State.{State}
 use Rattle.s7_plant.specs.declared.request.Request.TheVariants as plain
-use Rattle.s7_dialogue.specs.declared.subject.Subject.TheVariants.{BlockCounts, BlocksOfKind, BlockHead, DataHead}
+use Rattle.s7_dialogue.specs.declared.questions.subject.Subject.TheVariants.{BlockCounts, BlocksOfKind, BlockHead, DataHead}
 use Rattle.s7_dialogue.specs.DataBlocks.{tells_data}
 use Rattle.s7_rig.specs.Plants.{IsPlant}
 use Rattle.s7_rig.proofs.UserFitLemmas.{refusal_fits}
@@ -171,7 +171,7 @@ some_image number None some = absurd (cc)
 some_image number (Some octets) some = refl
 
 dbs_step : (s : State) (b : Bool) (key : AreaKey) (keys : List AreaKey) → eqb key.area data_blocks ≡ b
-    → IsSome (octets_at s.memory key)
+    → IsSome (area_octets s.memory key)
     → HasImages s 0x41 (map (λ (k : AreaKey). k.number) (filter (λ (k : AreaKey). eqb k.area data_blocks) keys))
     → HasImages s 0x41
     (map (λ (k : AreaKey). k.number) (cond b (key ∷ filter (λ (k : AreaKey). eqb k.area data_blocks) keys)
@@ -179,12 +179,12 @@ dbs_step : (s : State) (b : Bool) (key : AreaKey) (keys : List AreaKey) → eqb 
 dbs_step s true key keys is some rest =
     let same : key.area ≡ data_blocks = eqb-true key.area data_blocks is in (
       some_image key.number (db_octets s key.number)
-          (subst (λ (area : ℕ). IsSome (octets_at s.memory (record { area = area; number = key.number }))) same some),
+          (subst (λ (area : ℕ). IsSome (area_octets s.memory (record { area = area; number = key.number }))) same some),
       rest,
     )
 dbs_step s false key keys is some rest = rest
 
-dbs_there : (s : State) (keys : List AreaKey) → AllByRecursion (λ key. IsSome (octets_at s.memory key)) keys
+dbs_there : (s : State) (keys : List AreaKey) → AllByRecursion (λ key. IsSome (area_octets s.memory key)) keys
     → HasImages s 0x41 (db_numbers keys)
 dbs_there s [] all = tt
 dbs_there s (key ∷ keys) all = dbs_step s (eqb key.area data_blocks) key keys refl all.0 (dbs_there s keys all.1)

@@ -16,8 +16,8 @@ use Rattle.s7_plant.specs.declared.request.Request.TheVariants.{Info}
 use Rattle.s7_plant.specs.Requests.{asked}
 use Rattle.s7_plant.specs.Replies.{Said}
 use Rattle.s7_plant.specs.State.{State}
-use Rattle.s7_dialogue.specs.declared.subject.Subject.{Subject}
-use Rattle.s7_dialogue.specs.declared.subject.Subject.TheVariants.{DataHead, Password, PasswordClearing}
+use Rattle.s7_dialogue.specs.declared.questions.subject.Subject.{Subject}
+use Rattle.s7_dialogue.specs.declared.questions.subject.Subject.TheVariants.{DataHead, Password, PasswordClearing}
 use Rattle.s7_dialogue.specs.Answer.{Answer, refuses, brings}
 use Rattle.s7_dialogue.specs.DataBlocks.{data_length}
 use Rattle.s7_dialogue.specs.Dialogue.{block_octets}

@@ -13,7 +13,7 @@ use Rattle.s7_plant.specs.Requests.{asked}
 use Rattle.s7_plant.specs.Replies.{Said}
 use Rattle.s7_dialogue.specs.declared.grant.Grant.{Grant}
 use Rattle.s7_dialogue.specs.declared.job.Job.TheVariants as job
-use Rattle.s7_dialogue.specs.declared.subject.Subject.TheVariants.{DataHead}
+use Rattle.s7_dialogue.specs.declared.questions.subject.Subject.TheVariants.{DataHead}
 use Rattle.s7_dialogue.specs.Question.{Question, reads, asks, asks_further}
 use Rattle.s7_dialogue.specs.Answer.{Answer, ItemAnswer, refuses, tells, brings}
 use Rattle.s7_dialogue.specs.DataBlocks.{data_length, data_parts}

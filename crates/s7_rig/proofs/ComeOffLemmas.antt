@@ -16,13 +16,13 @@ use Rattle.s7_block.specs.declared.block.BlockName.{BlockName}
 use Rattle.s7_block.proofs.DigitLemmas.{names_read}
 use Rattle.s7_clock.specs.declared.control.Control.{Control}
 use Rattle.s7_clock.specs.declared.control.Control.TheVariants as control
-use Rattle.s7_clock.specs.Moment.{octets_at}
+use Rattle.s7_clock.specs.Moment.{moment_octets}
 use Rattle.s7_dialogue.specs.declared.grant.Grant.{Grant}
 use Rattle.s7_dialogue.specs.declared.grant.Leaves.TheVariants.{AsItWas}
 use Rattle.s7_dialogue.specs.declared.job.Job.{Job}
 use Rattle.s7_dialogue.specs.declared.job.Job.TheVariants as job
-use Rattle.s7_dialogue.specs.declared.subject.Subject.{Subject}
-use Rattle.s7_dialogue.specs.declared.subject.Subject.TheVariants.{StatusList, RunState, BlockCounts, Clock, ClockSetting}
+use Rattle.s7_dialogue.specs.declared.questions.subject.Subject.{Subject}
+use Rattle.s7_dialogue.specs.declared.questions.subject.Subject.TheVariants.{StatusList, RunState, BlockCounts, Clock, ClockSetting}
 use Rattle.s7_dialogue.specs.Question.{Question, controls, asks}
 use Rattle.s7_dialogue.specs.Answer.{Answer}
 use Rattle.s7_dialogue.specs.Refusals.{part_refusal, telegram_refusal, control_refusal}
@@ -230,8 +230,8 @@ module _ (n : Memory) (right : Bool) (verdicts : List Verdict) (all_done : AnyUn
   comes_off job.ClockRead grant end xs none least shaped c can =
       about_off Clock [] end xs (λ secures. secures) (λ names. names) (clock_good n right) c shaped
   comes_off (job.ClockSet moment) grant end xs none least shaped c can =
-      about_off ClockSetting (octets_at moment) end xs (λ secures. secures) (λ names. names)
-      (setting_good n right (octets_at moment) can.1) (checked (check_moment moment) _ end xs can.0 c) shaped
+      about_off ClockSetting (moment_octets moment) end xs (λ secures. secures) (λ names. names)
+      (setting_good n right (moment_octets moment) can.1) (checked (check_moment moment) _ end xs can.0 c) shaped
   comes_off job.Compress grant end xs none least shaped c can =
       control_off control.Compress service_function end xs tt (compress_done n right can) c shaped
   comes_off job.CopyRam grant end xs none least shaped c can =

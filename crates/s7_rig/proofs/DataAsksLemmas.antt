@@ -7,7 +7,7 @@ use Rattle.std.specs.List.{AllByRecursion}
 use Rattle.s7_item.specs.declared.item.Item.{Item}
 use Rattle.s7_item.specs.Word.{size_of}
 use Rattle.s7_split.specs.Parts.{parts_of}
-use Rattle.s7_dialogue.specs.declared.subject.Subject.TheVariants.{DataHead}
+use Rattle.s7_dialogue.specs.declared.questions.subject.Subject.TheVariants.{DataHead}
 use Rattle.s7_dialogue.specs.DataBlocks.{data_length, data_item, data_items_from, data_parts}
 use Rattle.s7_dialogue.specs.DataPlaces.{parts_of_all}
 use Rattle.s7_dialogue.specs.Question.{Question, asks, asks_further}

@@ -2,7 +2,7 @@
 use Rattle.std.proofs.Common.{◌≡◌, ℕ, Bool, true, false, cond, Option, None, Some, List, [], ◌∷◌, ◌++◌, refl, ap, ap₂}
 use Rattle.std.proofs.Common.{sym, ◌∙◌, subst, append-nil}
 use Rattle.std.proofs.lemmas.List.Concat.{flat_map-append}
-use Rattle.s7_dialogue.specs.declared.subject.Subject.{Subject}
+use Rattle.s7_dialogue.specs.declared.questions.subject.Subject.{Subject}
 use Rattle.s7_dialogue.specs.UserData.{comes_in_pieces}
 use Rattle.s7_dialogue.specs.Question.{Question, asks, asks_further}
 use Rattle.s7_dialogue.specs.Answer.{Answer, brings}

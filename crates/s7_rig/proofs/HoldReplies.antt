@@ -16,8 +16,8 @@ use Rattle.s7_plant.specs.declared.request.Request.{Request}
 use Rattle.s7_plant.specs.declared.request.Request.TheVariants as plain
 use Rattle.s7_plant.specs.Replies.{Said, said}
 use Rattle.s7_plant.specs.State.{State}
-use Rattle.s7_dialogue.specs.declared.subject.Subject.{Subject}
-use Rattle.s7_dialogue.specs.declared.subject.Subject.TheVariants.{StatusList, RunState, BlockCounts, Clock, ClockSetting}
+use Rattle.s7_dialogue.specs.declared.questions.subject.Subject.{Subject}
+use Rattle.s7_dialogue.specs.declared.questions.subject.Subject.TheVariants.{StatusList, RunState, BlockCounts, Clock, ClockSetting}
 use Rattle.s7_dialogue.specs.Answer.{brings, uploads, refuses}
 use Rattle.s7_dialogue.specs.Refusals.{control_refusal, telegram_refusal}
 use Rattle.s7_dialogue.specs.Dialogue.{list_octets}

@@ -59,7 +59,7 @@ pub record IsConnected (first : LinkState) (config : Config) (p : Post) (o : Oct
   pub grant : Grant
   pub granted : client.grant_of p.client ≡ Some grant
   pub pdu : grant.pdu ≡ config.pdu
-  pub size : client.size_of p.client ≡ 1024
+  pub size : client.tpdu_size_of p.client ≡ 1024
   pub sequence : client.sequence_of p.client < 65536
   pub settled : Settled first o.used o.verdicts (Some config.pdu)
   pub all_used : o.used ≡ o.sent

@@ -16,7 +16,7 @@ use Rattle.s7_area.specs.Guards.{level_of, is_read_barred, is_write_barred}
 use Rattle.s7_area.specs.Keys.{is_numbered}
 use Rattle.s7_area.specs.Places.{differ, is_misfit, key_of, start_of, is_inside}
 use Rattle.s7_area.specs.Registers.{IsArea}
-use Rattle.s7_area.specs.Memory.{AreaList, Memory, key_cmp, octets_at, code_in, place_code, put_code, read_code, write_code}
+use Rattle.s7_area.specs.Memory.{AreaList, Memory, key_cmp, area_octets, code_in, place_code, put_code, read_code, write_code}
 use Rattle.s7_split.specs.Fits.{size}
 use Rattle.s7_split.specs.Parts.{range_end, elements, room_of, parts_from, parts_of, CanBeSplit}
 use Rattle.s7_split.proofs.PartLemmas.{size_some, counts_low}
@@ -31,33 +31,33 @@ use Rattle.s7_rig.proofs.ShapeLemmas.{SameShape, read_code_same, write_code_same
 record HasPlace (m : Memory) (item : Item) : Type 0 where
   octets : List ℕ
   fits : is_misfit item ≡ false
-  found : octets_at m (key_of item) ≡ Some octets
+  found : area_octets m (key_of item) ≡ Some octets
   inside : is_inside item (length octets) ≡ true
 
 place_inside : (m : Memory) (item : Item) (octets : List ℕ) (inside : Bool) → is_misfit item ≡ false
-    → octets_at m (key_of item) ≡ Some octets → is_inside item (length octets) ≡ inside
+    → area_octets m (key_of item) ≡ Some octets → is_inside item (length octets) ≡ inside
     → ◌≡◌ {A = ℕ} (cond inside 0xFF 0x05) 0xFF → HasPlace m item
 place_inside m item octets true fits found is good =
     record { octets = octets; fits = fits; found = found; inside = is }
 place_inside m item octets false fits found is good = absurd (omega (arith, good))
 
 place_found : (m : Memory) (item : Item) (found : Option (List ℕ)) → is_misfit item ≡ false
-    → octets_at m (key_of item) ≡ found → code_in found item ≡ 0xFF → HasPlace m item
+    → area_octets m (key_of item) ≡ found → code_in found item ≡ 0xFF → HasPlace m item
 place_found m item None fits is good = absurd (omega (arith, good))
 place_found m item (Some octets) fits is good =
     place_inside m item octets (is_inside item (length octets)) fits is refl good
 
 place_by : (m : Memory) (item : Item) (misfit : Bool) → is_misfit item ≡ misfit
-    → cond misfit 0x06 (code_in (octets_at m (key_of item)) item) ≡ 0xFF → HasPlace m item
+    → cond misfit 0x06 (code_in (area_octets m (key_of item)) item) ≡ 0xFF → HasPlace m item
 place_by m item true is good = absurd (omega (arith, good))
-place_by m item false is good = place_found m item (octets_at m (key_of item)) is refl good
+place_by m item false is good = place_found m item (area_octets m (key_of item)) is refl good
 
 has_place : (m : Memory) (item : Item) → place_code m item ≡ 0xFF → HasPlace m item
 has_place m item good = place_by m item (is_misfit item) refl good
 
 good_place : (m : Memory) (item : Item) → HasPlace m item → place_code m item ≡ 0xFF
 good_place m item place =
-    ap (λ b. cond b 0x06 (code_in (octets_at m (key_of item)) item)) place.fits
+    ap (λ b. cond b 0x06 (code_in (area_octets m (key_of item)) item)) place.fits
     ∙ (ap (λ found. code_in found item) place.found ∙ ap (λ b. cond b 0xFF 0x05) place.inside)
 
 -- ---- words that go with their areas

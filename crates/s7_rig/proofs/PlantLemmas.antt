@@ -88,7 +88,7 @@ names_written : (m : Memory) (right : Bool) (item : Item) (octets : List ℕ)
     → names (written m right item octets) ≡ names m
 unfolding written
 names_written m right item octets =
-    go (write_code m right item octets == good) (changed_at item octets (unwrap_or (memory.octets_at m (key_of item)) []))
+    go (write_code m right item octets == good) (changed_at item octets (unwrap_or (memory.area_octets m (key_of item)) []))
   where
     go : (b : Bool) (new : List ℕ) → names (cond b (with_octets m (key_of item) new) m) ≡ names m
     go true new = keys-set_value (is_at (key_cmp (key_of item))) m.areas new
@@ -131,7 +131,7 @@ abbrev judged : ℕ → Bool → ℕ
 judged code counts = cond (eqb code 255 && not counts) 7 code
 
 areas_inside : (m : Memory) (item : Item) (octets old : List ℕ) (inside counts : Bool)
-    → memory.octets_at m (key_of item) ≡ Some old → is_inside item (length old) ≡ inside
+    → memory.area_octets m (key_of item) ≡ Some old → is_inside item (length old) ≡ inside
     → eqb (length octets) (octet_count item) ≡ counts → AreAreas m
     → AreAreas (cond (eqb (judged (cond inside 255 5) counts) 255) (with_octets m (key_of item) (changed_at item octets old)) m)
 areas_inside m item octets old false counts found is whole all = all
@@ -141,7 +141,7 @@ areas_inside m item octets old true true found is whole all =
     (length-changed item octets old is (eqb-true (length octets) (octet_count item) whole)) all
 
 areas_by : (m : Memory) (item : Item) (octets : List ℕ) (barred misfit : Bool) (found : Option (List ℕ))
-    → memory.octets_at m (key_of item) ≡ found → AreAreas m
+    → memory.area_octets m (key_of item) ≡ found → AreAreas m
     → AreAreas
     (cond
     (eqb (cond barred 3 (judged (cond misfit 6 (code_in found item)) (eqb (length octets) (octet_count item)))) 255)
@@ -156,7 +156,7 @@ areas_written : (m : Memory) (right : Bool) (item : Item) (octets : List ℕ) �
     → AreAreas (written m right item octets)
 unfolding written write_code
 areas_written m right item octets all =
-    areas_by m item octets (is_write_barred m.guard right) (is_misfit item) (memory.octets_at m (key_of item)) refl all
+    areas_by m item octets (is_write_barred m.guard right) (is_misfit item) (memory.area_octets m (key_of item)) refl all
 
 areas_changed : (s : State) (right : Bool) (request : Request) → AreAreas s.memory
     → AreAreas (changed s right request).memory

@@ -9,13 +9,13 @@ use Rattle.s7_item.specs.DataItem.{carries}
 use Rattle.s7_item.specs.Word.{size_of}
 use Rattle.s7_area.specs.Guards.{is_read_barred}
 use Rattle.s7_area.specs.Places.{is_misfit, key_of, is_inside, value_at}
-use Rattle.s7_area.specs.Memory.{Memory, octets_at, code_in, place_code, read_code, read_octets}
+use Rattle.s7_area.specs.Memory.{Memory, area_octets, code_in, place_code, read_code, read_octets}
 
 -- the item is read: it fits its area, and its octets are inside
 record IsGood (m : Memory) (item : Item) : Type 0 where
   octets : List ℕ
   fits : is_misfit item ≡ false
-  found : octets_at m (key_of item) ≡ Some octets
+  found : area_octets m (key_of item) ≡ Some octets
   inside : is_inside item (length octets) ≡ true
 
 -- the code refuses the item
@@ -26,18 +26,18 @@ pub record IsRefusing (code : ℕ) : Type 0 where
 abbrev Judged : Memory → Item → ℕ → Type 0
 Judged m item code = ((code ≡ 0xFF) × IsGood m item) ⊎ IsRefusing code
 
-judged_inside : (m : Memory) (item : Item) (octets : List ℕ) (inside : Bool) → is_misfit item ≡ false → octets_at m (key_of item) ≡ Some octets → is_inside item (length octets) ≡ inside
+judged_inside : (m : Memory) (item : Item) (octets : List ℕ) (inside : Bool) → is_misfit item ≡ false → area_octets m (key_of item) ≡ Some octets → is_inside item (length octets) ≡ inside
     → Judged m item (cond inside 0xFF 0x05)
 judged_inside m item octets true fits found e = inl (refl, record { octets = octets; fits = fits; found = found; inside = e })
 judged_inside m item octets false fits found e = inr (record { other = refl; carried = refl })
 
-judged_found : (m : Memory) (item : Item) (found : Option (List ℕ)) → is_misfit item ≡ false → octets_at m (key_of item) ≡ found → Judged m item (code_in found item)
+judged_found : (m : Memory) (item : Item) (found : Option (List ℕ)) → is_misfit item ≡ false → area_octets m (key_of item) ≡ found → Judged m item (code_in found item)
 judged_found m item None fits e = inr (record { other = refl; carried = refl })
 judged_found m item (Some octets) fits e = judged_inside m item octets (is_inside item (length octets)) fits e refl
 
-judged_fit : (m : Memory) (item : Item) (misfit : Bool) → is_misfit item ≡ misfit → Judged m item (cond misfit 0x06 (code_in (octets_at m (key_of item)) item))
+judged_fit : (m : Memory) (item : Item) (misfit : Bool) → is_misfit item ≡ misfit → Judged m item (cond misfit 0x06 (code_in (area_octets m (key_of item)) item))
 judged_fit m item true fits = inr (record { other = refl; carried = refl })
-judged_fit m item false fits = judged_found m item (octets_at m (key_of item)) fits refl
+judged_fit m item false fits = judged_found m item (area_octets m (key_of item)) fits refl
 
 -- what the guard bars is refused
 judged_barred : (m : Memory) (item : Item) (barred : Bool) → Judged m item (cond barred 0x03 (place_code m item))
@@ -61,7 +61,7 @@ count_at item octets true e fits inside = rw e (sym (bit_count item fits (eqb-tr
 count_at item octets false e fits inside = rw e (grind (arith, common_steps))
 
 abbrev given : Memory → Item → Bool → List ℕ
-given m item read = cond read (value_at item (unwrap_or (octets_at m (key_of item)) [])) []
+given m item read = cond read (value_at item (unwrap_or (area_octets m (key_of item)) [])) []
 
 given_whole : (m : Memory) (item : Item) → IsGood m item → length (given m item true) ≡ octet_count item
 given_whole m item good =

@@ -111,11 +111,11 @@ guard_written m right item octets = kept_guard _ m _ refl
 abbrev zeros : Item → List ℕ
 zeros item = replicate (octet_count item) 0
 
-abbrev place_of : Item → DataPlace
-place_of item = record { transport = 0; from = 0; len = length (zeros item) }
+abbrev read_place : Item → DataPlace
+read_place item = record { transport = 0; from = 0; len = length (zeros item) }
 
 abbrev whole_of : Item → List ℕ
-whole_of item = octets_at (zeros item) (place_of item)
+whole_of item = octets_at (zeros item) (read_place item)
 
 length-whole : (item : Item) → length (whole_of item) ≡ octet_count item
 length-whole item = ap length (take-length (zeros item)) ∙ length-replicate (octet_count item) 0
@@ -124,7 +124,7 @@ write_again : (m : Memory) (item other : Item) (octets : List ℕ)
     → write_code (written m true item octets) true other (whole_of other) ≡ write_code m true other (whole_of other)
 write_again m item other octets =
     ap (λ codes. get_or codes 0 0)
-    (codes_in_turn m true item octets (other ∷ []) (place_of other ∷ []) (zeros other))
+    (codes_in_turn m true item octets (other ∷ []) (read_place other ∷ []) (zeros other))
 
 place_with_right : (m : Memory) (item other : Item) (octets : List ℕ)
     → place_code (written m true item octets) other ≡ place_code m other

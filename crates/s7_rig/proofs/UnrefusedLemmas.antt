@@ -14,7 +14,7 @@ use Rattle.s7_plant.specs.declared.request.Request.TheVariants as plain
 use Rattle.s7_block.specs.declared.block.BlockName.{BlockName}
 use Rattle.s7_clock.specs.declared.control.Control.{Control}
 use Rattle.s7_clock.specs.declared.control.Control.TheVariants as control
-use Rattle.s7_dialogue.specs.declared.subject.Subject.{Subject}
+use Rattle.s7_dialogue.specs.declared.questions.subject.Subject.{Subject}
 use Rattle.s7_dialogue.specs.Question.{Question, reads, writes, controls, asks, asks_further}
 use Rattle.s7_dialogue.specs.Question.{starts_upload, slices_upload, ends_upload}
 use Rattle.s7_dialogue.specs.Answer.{Answer, tells, notes}

@@ -9,7 +9,7 @@ use Rattle.jiff.proofs.SpanFacts.{signed_arith}
 use Rattle.jiff_core.specs.Calendar.{days_from_civil}
 use Rattle.jiff_core.proofs.CalendarLemmas.{days_in_month_bounds}
 use Rattle.jiff_core.proofs.StandardFacts.{known_days}
-use Rattle.s7_clock.specs.Moment.{HasMoment, IsHeld, moment_in, octets_at}
+use Rattle.s7_clock.specs.Moment.{HasMoment, IsHeld, moment_in, moment_octets}
 use Rattle.s7_clock.proofs.AgainLemmas.{read_again}
 use Rattle.s7_clock.proofs.DayLemmas.{octets_are}
 use Rattle.s7_clock.proofs.MomentLemmas.{has_clock_year, moment_is}
@@ -149,16 +149,16 @@ at_moment ms held =
 
 -- ---- clock octets
 
-read_by : (t : DateTime) (ms : ℕ) → IsHeld ms → HasMoment t ms → moment_in (octets_at ms) ≡ Some ms
+read_by : (t : DateTime) (ms : ℕ) → IsHeld ms → HasMoment t ms → moment_in (moment_octets ms) ≡ Some ms
 read_by t ms held has =
     let year = has_clock_year t ms held has in
-    subst (λ n. moment_in (octets_at n) ≡ Some n) (moment_is t ms has)
+    subst (λ n. moment_in (moment_octets n) ≡ Some n) (moment_is t ms has)
     (ap moment_in (sym (octets_are t year)) ∙ read_again t year)
 
 -- the clock octets of a moment are read as it
-pub clock_read : (ms : ℕ) → IsHeld ms → moment_in (octets_at ms) ≡ Some ms
+pub clock_read : (ms : ℕ) → IsHeld ms → moment_in (moment_octets ms) ≡ Some ms
 clock_read ms held = let at = at_moment ms held in read_by at.instant ms held at.is
 
-pub length-clock : (ms : ℕ) → length (octets_at ms) ≡ 10
-unfolding octets_at
+pub length-clock : (ms : ℕ) → length (moment_octets ms) ≡ 10
+unfolding moment_octets
 length-clock ms = refl

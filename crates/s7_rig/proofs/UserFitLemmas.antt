@@ -10,8 +10,8 @@ use Rattle.s7_plant.specs.Answers.{listed, refused, guarded, is_barred}
 use Rattle.s7_plant.specs.Replies.{said}
 use Rattle.s7_plant.specs.State.{State, clock_at}
 use Rattle.s7_plant.specs.declared.request.Request.TheVariants as plain
-use Rattle.s7_dialogue.specs.declared.subject.Subject.{Subject}
-use Rattle.s7_dialogue.specs.declared.subject.Subject.TheVariants.{StatusList, RunState, Clock, ClockSetting}
+use Rattle.s7_dialogue.specs.declared.questions.subject.Subject.{Subject}
+use Rattle.s7_dialogue.specs.declared.questions.subject.Subject.TheVariants.{StatusList, RunState, Clock, ClockSetting}
 use Rattle.s7_rig.proofs.UserHeardLemmas.{IsRest}
 use Rattle.s7_rig.proofs.UserServedLemmas.{IsFit}
 use Rattle.s7_rig.proofs.UserClockLemmas.{clock_read, length-clock}

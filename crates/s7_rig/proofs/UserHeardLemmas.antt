@@ -13,7 +13,7 @@ use Rattle.s7_header.proofs.HeaderLemmas.{spelled}
 use Rattle.s7_header.proofs.OctetLemmas.{two_of_number}
 use Rattle.s7_header.proofs.UserLemmas.{spelled_user}
 use Rattle.s7_szl.specs.Joining.{is_refused}
-use Rattle.s7_dialogue.specs.declared.subject.Subject.{Subject}
+use Rattle.s7_dialogue.specs.declared.questions.subject.Subject.{Subject}
 use Rattle.s7_dialogue.specs.UserData.{group_of, subfunction_of, octets_in, comes_in_pieces, is_whole, goes_on_with}
 use Rattle.s7_dialogue.specs.Question.{Question, is_numbered}
 use Rattle.s7_dialogue.specs.Answer.{refuses, brings, brought, if_data, is_under, by_params, answered_by_user, answer_of}

@@ -21,10 +21,10 @@ use Rattle.s7_dialogue.proofs.FlightLemmas.{same_some}
 use Rattle.s7_area.specs.declared.guard.Guard.{Guard}
 use Rattle.s7_plant.specs.declared.request.Request.{Request}
 use Rattle.s7_plant.specs.declared.request.Request.TheVariants as plain
-use Rattle.s7_dialogue.specs.declared.subject.Subject.{Subject}
-use Rattle.s7_dialogue.specs.declared.subject.Subject.TheVariants.{StatusList, RunState, Clock, ClockSetting, Password}
-use Rattle.s7_dialogue.specs.declared.subject.Subject.TheVariants.{PasswordClearing, BlockCounts, BlocksOfKind, BlockHead}
-use Rattle.s7_dialogue.specs.declared.subject.Subject.TheVariants.{DataHead}
+use Rattle.s7_dialogue.specs.declared.questions.subject.Subject.{Subject}
+use Rattle.s7_dialogue.specs.declared.questions.subject.Subject.TheVariants.{StatusList, RunState, Clock, ClockSetting, Password}
+use Rattle.s7_dialogue.specs.declared.questions.subject.Subject.TheVariants.{PasswordClearing, BlockCounts, BlocksOfKind, BlockHead}
+use Rattle.s7_dialogue.specs.declared.questions.subject.Subject.TheVariants.{DataHead}
 use Rattle.s7_dialogue.specs.UserData.{group_of, subfunction_of, request_params, further_params, data_of, comes_in_pieces}
 use Rattle.s7_dialogue.specs.Question.{Question, controls, asks, asks_further, kind_of, params_of, body_of}
 use Rattle.s7_dialogue.specs.Question.{is_numbered, question_octets}

@@ -16,10 +16,10 @@ use Rattle.s7_plant.specs.declared.request.Request.TheVariants.{Read}
 use Rattle.s7_plant.specs.State.{State}
 use Rattle.s7_plant.specs.Answers as plant
 use Rattle.s7_wire.specs.Sent.{sent_messages}
-use Rattle.s7_dialogue.specs.declared.subject.Subject.{Subject}
-use Rattle.s7_dialogue.specs.declared.subject.Subject.TheVariants.{StatusList, RunState, Clock, ClockSetting, Password}
-use Rattle.s7_dialogue.specs.declared.subject.Subject.TheVariants.{PasswordClearing, BlockCounts, BlocksOfKind, BlockHead}
-use Rattle.s7_dialogue.specs.declared.subject.Subject.TheVariants.{DataHead}
+use Rattle.s7_dialogue.specs.declared.questions.subject.Subject.{Subject}
+use Rattle.s7_dialogue.specs.declared.questions.subject.Subject.TheVariants.{StatusList, RunState, Clock, ClockSetting, Password}
+use Rattle.s7_dialogue.specs.declared.questions.subject.Subject.TheVariants.{PasswordClearing, BlockCounts, BlocksOfKind, BlockHead}
+use Rattle.s7_dialogue.specs.declared.questions.subject.Subject.TheVariants.{DataHead}
 use Rattle.s7_dialogue.specs.UserData.{group_of, subfunction_of, goes_on_with, comes_in_pieces}
 use Rattle.s7_dialogue.specs.Dialogue.{list_octets, kind_octets, block_octets}
 use Rattle.s7_dialogue.proofs.FlightLemmas.{same_some}

@@ -8,7 +8,7 @@ use Rattle.s7_plant.specs.declared.request.Request.{Request}
 use Rattle.s7_plant.specs.Answers as plant
 use Rattle.s7_plant.specs.Replies.{Said}
 use Rattle.s7_plant.specs.State.{State}
-use Rattle.s7_dialogue.specs.declared.subject.Subject.{Subject}
+use Rattle.s7_dialogue.specs.declared.questions.subject.Subject.{Subject}
 use Rattle.s7_dialogue.specs.UserData.{group_of, subfunction_of}
 use Rattle.s7_dialogue.specs.Question.{asks}
 use Rattle.s7_dialogue.specs.Answer.{Answer, brings, refuses, answer_of}

@@ -5,7 +5,7 @@ use Rattle.std.specs.List.{AllByRecursion}
 use Rattle.s7_item.specs.declared.item.Item.{Item}
 use Rattle.s7_item.specs.Item.{octet_count}
 use Rattle.s7_area.specs.Guards.{is_read_barred, is_write_barred}
-use Rattle.s7_area.specs.Memory.{Memory, octets_at, place_code}
+use Rattle.s7_area.specs.Memory.{Memory, area_octets, place_code}
 use Rattle.s7_item.specs.Codes.{data_blocks}
 use Rattle.s7_szl.specs.Tables.{table_of}
 use Rattle.s7_dialogue.specs.declared.job.Job.{Job}
@@ -23,7 +23,7 @@ IsThere m item = place_code m item ≡ 0xFF
 
 -- the octets of a data block
 abbrev pub data_block : Memory → ℕ → Option (List ℕ)
-data_block m number = octets_at m (record { area = data_blocks; number = number })
+data_block m number = area_octets m (record { area = data_blocks; number = number })
 
 -- a data block with a number of two octets stands in the areas, with no more octets than an upload has room for
 abbrev pub HasBlock : Memory → ℕ → Type 0

@@ -24,10 +24,10 @@ use Rattle.s7_block.specs.Names.{is_name, name_octets, named}
 use Rattle.s7_block.specs.Sides.{is_held}
 use Rattle.s7_block.specs.Assembly.{awaiting, whole}
 use Rattle.s7_block.specs.Telegrams.{piece_function, close_function}
-use Rattle.s7_dialogue.specs.declared.subject.Subject.{Subject}
-use Rattle.s7_dialogue.specs.declared.subject.Subject.TheVariants.{StatusList, RunState, Clock, ClockSetting, Password}
-use Rattle.s7_dialogue.specs.declared.subject.Subject.TheVariants.{PasswordClearing, BlockCounts, BlocksOfKind, BlockHead}
-use Rattle.s7_dialogue.specs.declared.subject.Subject.TheVariants.{DataHead}
+use Rattle.s7_dialogue.specs.declared.questions.subject.Subject.{Subject}
+use Rattle.s7_dialogue.specs.declared.questions.subject.Subject.TheVariants.{StatusList, RunState, Clock, ClockSetting, Password}
+use Rattle.s7_dialogue.specs.declared.questions.subject.Subject.TheVariants.{PasswordClearing, BlockCounts, BlocksOfKind, BlockHead}
+use Rattle.s7_dialogue.specs.declared.questions.subject.Subject.TheVariants.{DataHead}
 use Rattle.s7_dialogue.specs.UserData.{group_of, subfunction_of, comes_in_pieces, is_whole}
 use Rattle.s7_dialogue.specs.Question.{Question, negotiates, reads, writes, controls, asks, asks_further, messages_of}
 use Rattle.s7_dialogue.specs.Question.{starts_upload, slices_upload, ends_upload}

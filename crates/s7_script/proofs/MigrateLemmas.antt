@@ -11,7 +11,7 @@ use Rattle.hex.specs.Hex.{IsBytes, decode_of, decode_sized}
 use Rattle.hex.specs.declared.error.FromHexError.{FromHexError}
 use Rattle.hex.proofs.HexLemmas.{decode_of-ok, decode_sized-ok, decode_sized-twice}
 use Rattle.s7_area.specs.Laws.{AreasJoin}
-use Rattle.s7_area.specs.Memory.{AreaList, Memory, key_cmp, octets_at, with_area}
+use Rattle.s7_area.specs.Memory.{AreaList, Memory, key_cmp, area_octets, with_area}
 use Rattle.s7_area.specs.Registers.{IsMemory, db_numbers, fault_of, is_wrong_size}
 use Rattle.s7_area.specs.declared.key.AreaKey.{AreaKey}
 use Rattle.s7_area.specs.declared.register.RegisterFault.{RegisterFault}
@@ -224,9 +224,9 @@ text_reads law (text ∷ rest) m h = version_reads law (version_of text) rest m 
 -- ---- the names in order
 
 octets_in : (m : Memory) (key : AreaKey) → AllByRecursion InRange m.areas → key.number < 65536 → IsInRange m key
-octets_in m key all few = (few, go (octets_at m key) refl)
+octets_in m key all few = (few, go (area_octets m key) refl)
   where
-    go : (o : Option (List ℕ)) → octets_at m key ≡ o → IfSome o IsBytes
+    go : (o : Option (List ℕ)) → area_octets m key ≡ o → IfSome o IsBytes
     go None found = tt
     go (Some octets) found = is_bytes octets ((all-found key_cmp InRange exact key octets m.areas all found).1)
 

@@ -15,7 +15,7 @@ use Rattle.std.proofs.lemmas.Map.Keys.{sorted_head, sorted_tail}
 use Rattle.std.proofs.lemmas.Map.Lookups.{CmpEqualImpliesEq, exact_pairs, exact_unsigned}
 use Rattle.hex.specs.Hex.{IsBytes}
 use Rattle.s7_area.specs.Keys.{is_key, is_single}
-use Rattle.s7_area.specs.Memory.{AreaList, Memory, key_cmp, octets_at}
+use Rattle.s7_area.specs.Memory.{AreaList, Memory, key_cmp, area_octets}
 use Rattle.s7_area.specs.Registers.{IsArea, IsMemory, most_octets, most_in_all, most_dbs, db_numbers, fault_of, total_of}
 use Rattle.s7_area.specs.declared.key.AreaKey.{AreaKey}
 use Rattle.s7_area.specs.Laws.{AreasJoin}
@@ -128,7 +128,7 @@ with_areas m areas = record m { areas = areas }
 abbrev kept_of : (AreaKey → Bool) → Memory → Memory
 kept_of p m = with_areas m (kept key_cmp p m.areas)
 
-no_fault : AreasJoin → (m : Memory) (p : AreaKey → Bool) (key : AreaKey) (octets : List ℕ) → IsMemory m → octets_at m key ≡ Some octets → p key ≡ false → fault_of (kept_of p m) key (length octets) ≡ None
+no_fault : AreasJoin → (m : Memory) (p : AreaKey → Bool) (key : AreaKey) (octets : List ℕ) → IsMemory m → area_octets m key ≡ Some octets → p key ≡ false → fault_of (kept_of p m) key (length octets) ≡ None
 no_fault law m p key octets is found out =
     let area = all-found key_cmp IsArea exact key octets m.areas is.areas found in
     let absent = lookup-kept key_cmp exact p key m.areas out in
@@ -149,7 +149,7 @@ abbrev Fresh : (AreaKey → Bool) → List AreaKey → Type 0
 Fresh p [] = Unit {0}
 Fresh p (k ∷ ks) = (p k ≡ false) × Fresh (added key_cmp p k) ks
 
-part-is : (m : Memory) (key : AreaKey) (o : Option (List ℕ)) → octets_at m key ≡ o → part m key ≡ part_of key o
+part-is : (m : Memory) (key : AreaKey) (o : Option (List ℕ)) → area_octets m key ≡ o → part m key ≡ part_of key o
 unfolding part
 part-is m key o is = ap (part_of key) is
 
@@ -161,9 +161,9 @@ Reads m p ks line may = read_lines line (between may (kept_of p m)) (lines (flat
 
 reads_part : AreasJoin → (m : Memory) (p : AreaKey → Bool) (key : AreaKey) (ks : List AreaKey) (line : ℕ) (may : Bool) → IsMemory m → IsInRange m key → p key ≡ false
     → ((n : ℕ) (later : Bool) → Reads m (added key_cmp p key) ks n later) → Reads m p (key ∷ ks) line may
-reads_part law m p key ks line may is range out more = go (octets_at m key) refl range.1
+reads_part law m p key ks line may is range out more = go (area_octets m key) refl range.1
   where
-    go : (o : Option (List ℕ)) → octets_at m key ≡ o → IfSome o IsBytes → Reads m p (key ∷ ks) line may
+    go : (o : Option (List ℕ)) → area_octets m key ≡ o → IfSome o IsBytes → Reads m p (key ∷ ks) line may
     go None found bytes =
         ap (λ t. read_lines line (between may (kept_of p m)) (lines (t ++ flat_map (part m) ks))) (part-is m key None found)
         ∙ ap (λ (a : AreaList). read_lines line (between may (with_areas m a)) (lines (flat_map (part m) ks))) (sym (kept-none key_cmp p key m.areas found))

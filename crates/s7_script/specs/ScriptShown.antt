@@ -12,8 +12,8 @@ use Rattle.s7_script.specs.declared.scripts.item_text.Placed.{Placed}
 use Rattle.s7_script.specs.declared.scripts.written.WrittenItem.{WrittenItem}
 use Rattle.s7_script.specs.declared.scripts.written.WrittenItems.{WrittenItems}
 
-abbrev pub place_of : Placed → Place
-place_of p = record { key = p.key; word = p.word; address = p.address; rest = option_map (λ t. t.now) p.rest }
+abbrev pub placed_told : Placed → Place
+placed_told p = record { key = p.key; word = p.word; address = p.address; rest = option_map (λ t. t.now) p.rest }
 
 abbrev pub written_of : WrittenItem → Written
 written_of w = (w.item, w.octets.items)

@@ -5,7 +5,7 @@ use Rattle.std.specs.Map.{keys_of}
 use Rattle.std.specs.Fmt.{decimal}
 use Rattle.hex.specs.Hex.{IsBytes, encode_lower}
 use Rattle.s7_item.specs.Codes.{inputs, outputs, flags, data_blocks, counters, timers}
-use Rattle.s7_area.specs.Memory.{Memory, octets_at}
+use Rattle.s7_area.specs.Memory.{Memory, area_octets}
 use Rattle.s7_area.specs.Registers.{db_numbers}
 use Rattle.s7_area.specs.declared.guard.Guard.{Guard}
 use Rattle.s7_area.specs.declared.key.AreaKey.{AreaKey}
@@ -89,11 +89,11 @@ part_of key None = []
 part_of key (Some octets) = area_text key octets
 
 unfoldable pub part : Memory → AreaKey → Text
-part m key = part_of key (octets_at m key)
+part m key = part_of key (area_octets m key)
 
 -- a number that fits its field, and octets where there is an area of this name
 abbrev pub IsInRange : Memory → AreaKey → Type 0
-IsInRange m key = (key.number < 65536) × IfSome (octets_at m key) IsBytes
+IsInRange m key = (key.number < 65536) × IfSome (area_octets m key) IsBytes
 
 -- inputs, outputs, flags, counters and timers
 abbrev pub singles : List ℕ

@@ -8,7 +8,8 @@ ghost use Rattle.s7_clock.specs.Moment.{moment_in};
 ghost use Rattle.s7_szl.specs.Readers.{mode_of};
 ghost use Rattle.s7_client.specs.Form.{count_read, octets_read};
 ghost use Rattle.s7_script.specs.Printing.{IsPrintable, IsPrintableOf, clock_values, code_text, four_octets};
-ghost use Rattle.s7_script.specs.Printing.{job_values, mode_values, number_in, numbers_told, octets_value, print, read_values};
+ghost use Rattle.s7_script.specs.Printing.{job_values, mode_values, number_in, numbers_told, octets_value, print};
+ghost use Rattle.s7_script.specs.Printing.{read_values};
 ghost use Rattle.s7_script.specs.Printing.{spaced, values, values_text, word_of};
 
 use crate::moment::clock_text;
@@ -30,12 +31,12 @@ const NUMBER_AT: usize = 0;
 /// The line that tells what came of the job of a line: the line's number, the job's word, its code in
 /// eight upper-case hexadecimal digits, and the value, with one space between them and LF at the end.
 ///
-/// The value of `read`, `info` and `szl` is their octets in lower case, that of `list` the seven counts, that of `listof`
-/// the blocks' numbers, in decimal. That of `readmany` is of each item its
-/// code in two upper-case digits, a colon, and its octets where the code is FF; that of `writemany` the
-/// codes; with one space between two. That of `clock` is its date and time, `YYYY-MM-DDThh:mm:ss.mmm`,
-/// and that of `status` `run` or `stop`. The value is `-` where there is none, as after other jobs and
-/// where the code isn't 0. `Memory` comes where there is none.
+/// The value of `read`, `info` and `szl` is their octets in lower case, that of `list` the seven counts, that
+/// of `listof` the blocks' numbers, in decimal. That of `readmany` is of each item its code in two upper-case
+/// digits, a colon, and its octets where the code is FF; that of `writemany` the codes; with one space
+/// between two. That of `clock` is its date and time, `YYYY-MM-DDThh:mm:ss.mmm`, and that of `status` `run`
+/// or `stop`. The value is `-` where there is none, as after other jobs and where the code isn't 0. `Memory`
+/// comes where there is none.
 pub fn print_result(alloc: Global, line: u32, done: &JobResult) -> Result<Octets, Memory>
     requires { IsPrintable done.now }
     ensures { IfOk result (λ text. text ≡ print line done.now) }

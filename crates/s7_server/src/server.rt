@@ -64,11 +64,12 @@ pub const MEMORY: u8 = 9;
 /// one holds up all links.
 ///
 /// A run is there where links were served, or the door ended before one came. It has the book with its
-/// observers, the links by rising number, from 1 on, and whether the door failed after a first link. All memory but that of the links' sessions is taken
-/// before a link is read or the door is asked. Where no run is there the link comes back as it was, no
-/// path changes, and the door has given no link; with a status other than 4 it is as it was. `serve`
-/// never touches the link, and `pipe` never the door. Where a run is there, no path changes but the one
-/// to save to. With status 0 or 5 the areas that are left lie there; with 3 or 9 it may hold anything.
+/// observers, the links by rising number, from 1 on, and whether the door failed after a first link. All
+/// memory but that of the links' sessions is taken before a link is read or the door is asked. Where no run
+/// is there the link comes back as it was, no path changes, and the door has given no link; with a status
+/// other than 4 it is as it was. `serve` never touches the link, and `pipe` never the door. Where a run is
+/// there, no path changes but the one to save to. With status 0 or 5 the areas that are left lie there; with
+/// 3 or 9 it may hold anything.
 pub fn server_main<
     R: Threads + Wait + time::Clock + Sync,
     F: Files,

@@ -30,7 +30,7 @@ use Rattle.s7_session.specs.declared.outcome.Turn.{Turn}
 use Rattle.s7_session.specs.declared.outcome.Turn.TheVariants as turn
 use Rattle.s7_session.specs.Answers.{standing_by, entries_by, last_after}
 use Rattle.s7_session.specs.Bounds.{spent}
-use Rattle.s7_session.specs.Conversing.{link_of, size_of, sends}
+use Rattle.s7_session.specs.Conversing.{link_of, tpdu_size_of, sends}
 use Rattle.s7_session.specs.Doers.{Trail}
 use Rattle.s7_session.specs.Entry.{Entry, answered}
 use Rattle.s7_session.specs.Events.{lives, stops, closes, settled, made}
@@ -102,7 +102,7 @@ pub record Steps (p q : Past) (new : Session) (ms : List Met) (out : List ℕ) :
   pub met : q.verdicts ≡ []
   pub lives : closed_with new ≡ None → q.standing ≡ lives
   pub link : closed_with new ≡ None → q.link ≡ link_at new
-  pub size : closed_with new ≡ None → q.size ≡ size_of new.conversation.size
+  pub size : closed_with new ≡ None → q.size ≡ tpdu_size_of new.conversation.size
 
 pub stood_by : (first : LinkState) (old new : Session) (b used : List ℕ) (js vs : List Verdict) (w out : List ℕ) (ms : List Met)
     → Stands first old b js w → unsent old ≡ [] → HasRead new.reader (b ++ used) → used_of new ≡ used_of old + length used
@@ -233,7 +233,7 @@ uses_more stands full lack old new line d used going opens found some inbox coun
         met = ap (λ (p : Past). p.verdicts) q ∙ h.met;
         lives = λ e. ap (λ (p : Past). p.standing) q ∙ live;
         link = λ e. ap (λ (p : Past). p.link) q ∙ (h.link going ∙ ap (λ c. link_of c.held) (sym same));
-        size = λ e. ap (λ (p : Past). p.size) q ∙ (h.size going ∙ ap (λ c. size_of c.size) (sym same));
+        size = λ e. ap (λ (p : Past). p.size) q ∙ (h.size going ∙ ap (λ c. tpdu_size_of c.size) (sym same));
       };
   entered = refl;
   count = omega (arith, count);
@@ -256,7 +256,7 @@ uses_more stands full lack old new line d used going opens found some inbox coun
 pub uses_opened : {D : Type 0} (stands : D → List Entry → Type 0) (full lack : D → Ask → Type 0) (old new : Session) (line : Shown) (d : D) (used : List ℕ) (c : Connection) (told : ConnectionTold)
     → closed_with old ≡ None → opens_by new.reader ≡ Request → ((b : List ℕ) → HasRead old.reader b → HasFound new.reader b used (finding.Opened c))
     → events_by (finding.Opened c) [] 0 ≡ opened told ∷ []
-    → made (size_of old.conversation.size) (link_at old) (opened told) [] ≡ settled (size_of new.conversation.size) (link_at new) (unsent new) []
+    → made (tpdu_size_of old.conversation.size) (link_at old) (opened told) [] ≡ settled (tpdu_size_of new.conversation.size) (link_at new) (unsent new) []
     → 0 < length used → unread old ≡ used ++ unread new → used_of new ≡ used_of old + length used
     → entry_count new ≡ entry_count old → newest new ≡ newest old → closed_with new ≡ None
     → Uses stands full lack old line d new line d turn.Went used [] []
@@ -271,9 +271,9 @@ uses_opened stands full lack old new line d used c told going opens found event 
       let f = found_in new.reader b used (finding.Opened c) opens (found b h.read) in
       let live = h.lives going in
       let p = past first b js in
-      let m : made p.size p.link (opened told) [] ≡ settled (size_of new.conversation.size) (link_at new) (unsent new) [] =
-      ap (λ n. made n p.link (opened told) []) (h.size going) ∙ (ap (λ l. made (size_of old.conversation.size) l (opened told) []) (h.link going) ∙ is) in
-      let q : past first (b ++ used) (js ++ []) ≡ with_made p (settled (size_of new.conversation.size) (link_at new) (unsent new) []) =
+      let m : made p.size p.link (opened told) [] ≡ settled (tpdu_size_of new.conversation.size) (link_at new) (unsent new) [] =
+      ap (λ n. made n p.link (opened told) []) (h.size going) ∙ (ap (λ l. made (tpdu_size_of old.conversation.size) l (opened told) []) (h.link going) ∙ is) in
+      let q : past first (b ++ used) (js ++ []) ≡ with_made p (settled (tpdu_size_of new.conversation.size) (link_at new) (unsent new) []) =
       past_event first b used js [] (opened told) live h.met (f.events ∙ ap (λ es. (reading Request b).events ++ es) event) f.ending ∙ ap (with_made p) m in
       record {
         owed = ap (λ (p : Past). p.owed) q;
@@ -361,12 +361,12 @@ pub uses_message : {D : Type 0} (stands : D → List Entry → Type 0) (full lac
     → mid.conversation ≡ old.conversation → used_of mid ≤ spent
     → 0 < length used → unread old ≡ used ++ unread mid → used_of mid ≡ used_of old + length used
     → entry_count mid ≡ entry_count old → newest mid ≡ newest old
-    → Uses stands full lack old line d new line' d' result used (made (size_of mid.conversation.size) (link_at mid) (message (message_at mid.reader) (place_at mid.reader)) a.answers.verdicts).mets a.answers.entries
+    → Uses stands full lack old line d new line' d' result used (made (tpdu_size_of mid.conversation.size) (link_at mid) (message (message_at mid.reader) (place_at mid.reader)) a.answers.verdicts).mets a.answers.entries
 uses_message stands full lack old mid new line line' d d' used result a going opens found same few some inbox size count last =
     let t = a.answers in
     let at = place_at mid.reader in
     let event : Event = message (message_at mid.reader) at in
-    let m = made (size_of mid.conversation.size) (link_at mid) event t.verdicts in
+    let m = made (tpdu_size_of mid.conversation.size) (link_at mid) event t.verdicts in
     let step : (first : LinkState) (b : List ℕ) (js : List Verdict) (w : List ℕ) → Stands first old b js w → past first (b ++ used) (js ++ t.verdicts) ≡ with_made (past first b js) m =
     λ first b js w h.
     let f = found_in mid.reader b used finding.Message opens (found b h.read) in
@@ -374,8 +374,8 @@ uses_message stands full lack old mid new line line' d d' used result a going op
     let at_is : at ≡ (reading Request b).at = place_is mid.reader b (used_of old) (f.place (λ e. absurd (cc))) h.used (omega (arith, size, few)) in
     past_event first b used js t.verdicts event (h.lives going) h.met
     (f.events ∙ ap (λ n. (reading Request b).events ++ message (message_at mid.reader) n ∷ []) (sym at_is)) f.ending
-    ∙ ap (with_made p) (ap (λ n. made n p.link event t.verdicts) (h.size going ∙ ap (λ c. size_of c.size) (sym same))
-    ∙ ap (λ l. made (size_of mid.conversation.size) l event t.verdicts) (h.link going ∙ ap (λ c. link_of c.held) (sym same)))
+    ∙ ap (with_made p) (ap (λ n. made n p.link event t.verdicts) (h.size going ∙ ap (λ c. tpdu_size_of c.size) (sym same))
+    ∙ ap (λ l. made (tpdu_size_of mid.conversation.size) l event t.verdicts) (h.link going ∙ ap (λ c. link_of c.held) (sym same)))
     in
     let step_on : (first : LinkState) (b : List ℕ) (js : List Verdict) (w : List ℕ) → Stands first old b js w → past first (b ++ used) (js ++ verdicts_of m.mets) ≡ with_made (past first b js) m =
     λ first b js w h. ap (λ vs. past first (b ++ used) (js ++ vs)) t.mets_are ∙ step first b js w h

@@ -11,7 +11,7 @@ use Rattle.s7_wire.specs.Reads.{HasRead}
 use Rattle.s7_session.specs.declared.session.Session.{Session}
 use Rattle.s7_session.specs.declared.outcome.Outcome.{Outcome}
 use Rattle.s7_session.specs.declared.outcome.Outcome.TheVariants as outcome
-use Rattle.s7_session.specs.Conversing.{link_of, size_of, sends}
+use Rattle.s7_session.specs.Conversing.{link_of, tpdu_size_of, sends}
 use Rattle.s7_session.specs.Entry.{Entry, answered}
 use Rattle.s7_session.specs.LinkState.{LinkState}
 use Rattle.s7_session.specs.Owed.{telegrams, owed}
@@ -193,7 +193,7 @@ stood_plain first old new written k outbox closed b js w h = record {
   whole = whole_more first b js w written h.whole;
   lives = λ e. h.lives (closed e);
   link = λ e. h.link (closed e) ∙ ap link_of (sym k.held);
-  size = λ e. h.size (closed e) ∙ ap size_of (sym k.size);
+  size = λ e. h.size (closed e) ∙ ap tpdu_size_of (sym k.size);
 }
 
 -- a session that only received and sent

@@ -30,8 +30,8 @@ link_of held = record {
   server_job = option_map job_of held.server_job;
 }
 
-abbrev pub size_of : Option TpduSize → Option ℕ
-size_of size = option_map (λ (s : TpduSize). s.octets) size
+abbrev pub tpdu_size_of : Option TpduSize → Option ℕ
+tpdu_size_of size = option_map (λ (s : TpduSize). s.octets) size
 
 -- what it has still to send
 abbrev pub sends : Conversation → List ℕ

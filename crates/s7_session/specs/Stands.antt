@@ -16,7 +16,7 @@ use Rattle.s7_session.specs.declared.outcome.Turn.{Turn}
 use Rattle.s7_session.specs.declared.outcome.Turn.TheVariants as turn
 use Rattle.s7_session.specs.Answers.{Answers, entries_by, last_after}
 use Rattle.s7_session.specs.Bounds.{spent}
-use Rattle.s7_session.specs.Conversing.{link_of, size_of, sends}
+use Rattle.s7_session.specs.Conversing.{link_of, tpdu_size_of, sends}
 use Rattle.s7_session.specs.Doers.{Trail}
 use Rattle.s7_session.specs.Entry.{Entry, answered}
 use Rattle.s7_session.specs.Events.{lives, stops, made}
@@ -90,7 +90,7 @@ pub record Stands (first : LinkState) (s : Session) (b : List ℕ) (js : List Ve
   pub whole : AllButOne first b js written
   pub lives : closed_with s ≡ None → (past first b js).standing ≡ lives
   pub link : closed_with s ≡ None → (past first b js).link ≡ link_at s
-  pub size : closed_with s ≡ None → (past first b js).size ≡ size_of s.conversation.size
+  pub size : closed_with s ≡ None → (past first b js).size ≡ tpdu_size_of s.conversation.size
 
 -- What calls did to a session, its link and its doer, however many they were.
 pub record Moves {D : Type 0} (stands : D → List Entry → Type 0) (is_full may_lack : D → Ask → Type 0)
@@ -215,9 +215,9 @@ pub record Handles {D : Type 0} (stands : D → List Entry → Type 0) (is_full 
     : Type 0 where
   pub handled : Handled
   pub answers : Answers stands is_full may_lack link d link' d'
-      (made (size_of old.conversation.size) (link_at old) (message (message_at old.reader) (place_at old.reader)))
+      (made (tpdu_size_of old.conversation.size) (link_at old) (message (message_at old.reader) (place_at old.reader)))
       (place_at old.reader)
-      (size_of new.conversation.size) (link_at new) (unsent new) handled
+      (tpdu_size_of new.conversation.size) (link_at new) (unsent new) handled
   pub result_is : result ≡ turn_by (place_at old.reader) handled
   pub closed : closed_with new ≡ closed_by result
   pub reader : new.reader ≡ old.reader

@@ -53,7 +53,7 @@ impl Conversation {
     ghost use Rattle.s7_wire.specs.Sent.{sent_message};
     ghost use Rattle.s7_wire.specs.Reading.{opened, message};
     ghost use Rattle.s7_session.specs.Answers.{Answers};
-    ghost use Rattle.s7_session.specs.Conversing.{link_of, size_of, sends};
+    ghost use Rattle.s7_session.specs.Conversing.{link_of, tpdu_size_of, sends};
     ghost use Rattle.s7_session.specs.Errors.{error_of};
     ghost use Rattle.s7_session.specs.Events.{made, settled, by_judgement, asks, refusal_sent};
     ghost use Rattle.s7_session.specs.Judged.{judgement_of, IsWithin, queries};
@@ -66,7 +66,7 @@ impl Conversation {
 
     /// A link on which nothing came, to areas with this guard. All its buffers are taken here.
     pub(crate) fn new(alloc: Global, guard: Option<Guard>) -> Result<Conversation, Memory>
-        ensures size { IfOk result (λ c. size_of c.size ≡ None) }
+        ensures size { IfOk result (λ c. tpdu_size_of c.size ≡ None) }
         ensures link { IfOk result (λ c. link_of c.held ≡ first_link guard) }
         ensures sends { IfOk result (λ c. sends c ≡ []) }
     {
@@ -82,8 +82,8 @@ impl Conversation {
     pub(crate) fn open(&mut self, request: &Connection)
         requires sent { sends self.old ≡ [] }
         requires writable { CanBeWritten request.now }
-        ensures { made (size_of self.old.size) (link_of self.old.held) (opened (connection_of request.now)) []
-            ≡ settled (size_of self.new.size) (link_of self.new.held) (sends self.new) [] }
+        ensures { made (tpdu_size_of self.old.size) (link_of self.old.held) (opened (connection_of request.now)) []
+            ≡ settled (tpdu_size_of self.new.size) (link_of self.new.held) (sends self.new) [] }
     {
         self.sender.outbox.clear();
         let confirm = Connection {
@@ -109,8 +109,8 @@ impl Conversation {
         requires sent { sends self.old ≡ [] }
         ensures answers { (at : ℕ) → Answers D.stands D.is_full D.may_lack
             (L.shows line.old) doer.old (L.shows line.new) doer.new
-            (made (size_of self.old.size) (link_of self.old.held) (message octets.now at)) at
-            (size_of self.new.size) (link_of self.new.held) (sends self.new) result }
+            (made (tpdu_size_of self.old.size) (link_of self.old.held) (message octets.now at)) at
+            (tpdu_size_of self.new.size) (link_of self.new.held) (sends self.new) result }
         ensures kept { D.keeps doer.old doer.new }
     {
         self.sender.outbox.clear();
@@ -143,7 +143,7 @@ impl Conversation {
             (L.shows line.old) doer.old (L.shows line.new) doer.new
             (λ verdicts. by_judgement size.octets (link_of self.old.held) sequence verdicts
             (judgement_of (link_of self.old.held) sequence judgement.entry)) at
-            (size_of self.new.size) (link_of self.new.held) (sends self.new) result }
+            (tpdu_size_of self.new.size) (link_of self.new.held) (sends self.new) result }
         ensures kept { D.keeps doer.old doer.new }
     {
         match judgement {

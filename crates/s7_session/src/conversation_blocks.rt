@@ -26,7 +26,7 @@ impl Conversation {
     ghost use Rattle.s7_wire.specs.Bounds.{most_waiting};
     ghost use Rattle.s7_wire.specs.Sent.{sent_message};
     ghost use Rattle.s7_session.specs.Answers.{Answers};
-    ghost use Rattle.s7_session.specs.Conversing.{link_of, size_of, sends};
+    ghost use Rattle.s7_session.specs.Conversing.{link_of, tpdu_size_of, sends};
     ghost use Rattle.s7_session.specs.Events.{settled, by_judgement, asks};
     ghost use Rattle.s7_session.specs.Judged.{judgement_of, IsWithin, IsTransfer};
     ghost use Rattle.s7_session.specs.Judgement.{by_upload, upload_reply, upload_sliced, upload_ended};

@@ -5,7 +5,7 @@ use Rattle.std.specs.Fmt.{decimal}
 use Rattle.std.specs.List.{count_by, flat_map, list_all}
 use Rattle.std.specs.Map.{values_of}
 use Rattle.s7_area.specs.declared.key.AreaKey.{AreaKey}
-use Rattle.s7_area.specs.Memory.{Memory, octets_at}
+use Rattle.s7_area.specs.Memory.{Memory, area_octets}
 use Rattle.s7_dialogue.specs.declared.job.JobResult.{JobResult}
 use Rattle.s7_rig.specs.Shown.{ClientTold, EndTold}
 use Rattle.s7_tool.specs.Report.{line_end}
@@ -42,7 +42,7 @@ octet_sum m = sum_by sum (values_of m.areas)
 
 -- those of the area of a name, where there is one
 abbrev pub sum_at : Memory → AreaKey → ℕ
-sum_at m key = unwrap_or (option_map sum (octets_at m key)) 0
+sum_at m key = unwrap_or (option_map sum (area_octets m key)) 0
 
 abbrev pub sum_line : ℕ → List ℕ
 sum_line count = codes "sum " ++ (decimal count ++ line_end)

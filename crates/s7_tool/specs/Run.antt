@@ -16,7 +16,7 @@ use Rattle.s7_script.specs.Printing.{print}
 use Rattle.s7_script.specs.declared.scripts.script_list.ScriptLine.{ScriptLine}
 use Rattle.s7_tool.specs.declared.ended.Ended.{Ended}
 use Rattle.s7_tool.specs.declared.ended.Ended.TheVariants as ended
-use Rattle.s7_tool.specs.declared.jobs.ScriptRun.{ScriptRun}
+use Rattle.s7_tool.specs.declared.scripts.jobs.ScriptRun.{ScriptRun}
 use Rattle.s7_tool.specs.Report.{Gains, Printed, memory_line, report}
 
 -- ---- jobs

@@ -6,7 +6,7 @@ ghost use Rattle.s7_tool.specs.Rigging.{areas_refusal_line};
 
 use crate::ended::Ended;
 use crate::load::LoadFault;
-use crate::report::{areas_line, file_line, script_line};
+use crate::scripts::report::{areas_line, file_line, script_line};
 use s7_outer::Out;
 use s7_script::LoadFault as AreasFault;
 use std::alloc::Global;

@@ -12,11 +12,11 @@ ghost use Rattle.s7_tool.specs.Statuses as status;
 
 pub use crate::ended::RunEnd;
 use crate::ended::{Ended, ToolEnd};
-use crate::gen_run::run_gen;
+use crate::made::gen_run::run_gen;
 use crate::output::print_line;
-use crate::partner_run::run_partner;
-use crate::rigging::run_rigging;
-use crate::script_run::run_script;
+use crate::rigs::rigging::run_rigging;
+use crate::scripts::partner_run::run_partner;
+use crate::scripts::script_run::run_script;
 use s7_client::Completion;
 use s7_outer::{Dial, Files, Link, Out};
 use s7_words::{ToolWords, read_tool_words};

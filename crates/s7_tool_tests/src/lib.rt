@@ -1,5 +1,5 @@
-//! Tests of `tool_main`, with links in memory and over TCP on this machine. They stand in a crate of their own, so that it
-//! is proved once and not once more together with them.
+//! Tests of `tool_main`, with links in memory and over TCP on this machine. They stand in a crate of their
+//! own, so that it is proved once and not once more together with them.
 #![tactic(auto)]
 
 #[cfg(test)]

@@ -5,7 +5,7 @@ use Rattle.std.proofs.lemmas.Bool.Decides.{nat_tests}
 use Rattle.std.proofs.Math.Seq.{take-length, drop-length, take-append_seam, drop-append_seam}
 use Rattle.s7_tpkt.specs.declared.state.FedState.{FedState}
 use Rattle.s7_tpkt.specs.declared.state.FedState.TheVariants.{Whole, More, BadVersion, BadLength, TooLong}
-use Rattle.s7_tpkt.specs.Packets.{IsPacket, NoPacketAhead, Packets, Packed, body_of, state_of, state_by, if_begun, size_of, is_whole, cut, packets_of, rest_of, GoesOn, EndsPacket, GoesFurther, HoldsRest, is_fault}
+use Rattle.s7_tpkt.specs.Packets.{IsPacket, NoPacketAhead, Packets, Packed, body_of, state_of, state_by, if_begun, length_field, is_whole, cut, packets_of, rest_of, GoesOn, EndsPacket, GoesFurther, HoldsRest, is_fault}
 use Rattle.s7_tpkt.specs.Cut.{Cut}
 
 -- a packet has its header, and passes no limit
@@ -18,9 +18,9 @@ packet_length limit (v ∷ r ∷ hi ∷ lo ∷ body) h = (omega (arith, h.2), om
 
 -- what the length field of a whole packet and more octets says
 pub record IsWhole (limit : ℕ) (b : List ℕ) : Type 0 where
-  pub least : 7 ≤ size_of b
-  pub most : size_of b ≤ length b
-  pub more : (used : List ℕ) → (is_whole (state_of limit (b ++ used)) ≡ true) × (size_of (b ++ used) ≡ size_of b)
+  pub least : 7 ≤ length_field b
+  pub most : length_field b ≤ length b
+  pub more : (used : List ℕ) → (is_whole (state_of limit (b ++ used)) ≡ true) × (length_field (b ++ used) ≡ length_field b)
 
 whole_by : (limit size held : ℕ) → is_whole (state_by limit size held) ≡ true → (7 ≤ size) × (size ≤ held) × ((more : ℕ) → held ≤ more → is_whole (state_by limit size more) ≡ true)
 whole_by limit size held h = (grind (arith, nat_tests), grind (arith, nat_tests), λ more le. grind (arith, nat_tests))
@@ -43,7 +43,7 @@ whole limit (v ∷ r ∷ hi ∷ lo ∷ body) h =
     }
 
 -- a packet is whole, and has its length in its length field
-packet_whole : (limit : ℕ) (q : List ℕ) → IsPacket limit q → (is_whole (state_of limit q) ≡ true) × (size_of q ≡ length q)
+packet_whole : (limit : ℕ) (q : List ℕ) → IsPacket limit q → (is_whole (state_of limit q) ≡ true) × (length_field q ≡ length q)
 packet_whole limit [] h = absurd h
 packet_whole limit (v ∷ []) h = absurd h
 packet_whole limit (v ∷ r ∷ []) h = absurd h
@@ -68,43 +68,43 @@ cut_same limits before (suc n) zero b p q =
 cut_same limits before (suc n) (suc m) b p q =
     same_cond (is_whole (state_of (limits before) b)) _ (before, b) _ (before, b)
     (λ w. let i = whole (limits before) b w in
-    cut_same limits (before ++ body_of (take (size_of b) b) ∷ []) n m (drop (size_of b) b)
-    (omega (arith, i.least, i.most, length-drop (size_of b) b)) (omega (arith, i.least, i.most, length-drop (size_of b) b)))
+    cut_same limits (before ++ body_of (take (length_field b) b) ∷ []) n m (drop (length_field b) b)
+    (omega (arith, i.least, i.most, length-drop (length_field b) b)) (omega (arith, i.least, i.most, length-drop (length_field b) b)))
     (λ w. refl)
 
 -- a packet that is whole is cut off
 cut_step : (limits : List (List ℕ) → ℕ) (before : List (List ℕ)) (m k : ℕ) (b : List ℕ) → is_whole (state_of (limits before) b) ≡ true → length b ≤ m → length b ≤ k
-    → cut limits before m b ≡ cut limits (before ++ body_of (take (size_of b) b) ∷ []) k (drop (size_of b) b)
+    → cut limits before m b ≡ cut limits (before ++ body_of (take (length_field b) b) ∷ []) k (drop (length_field b) b)
 cut_step limits before zero k b w p q = let i = whole (limits before) b w in absurd (omega (arith, i.least, i.most))
 cut_step limits before (suc m) k b w p q =
     let i = whole (limits before) b w in
-    ap (λ t. cond t (cut limits (before ++ body_of (take (size_of b) b) ∷ []) m (drop (size_of b) b)) (before, b)) w
-    ∙ cut_same limits (before ++ body_of (take (size_of b) b) ∷ []) m k (drop (size_of b) b)
-    (omega (arith, i.least, i.most, length-drop (size_of b) b)) (omega (arith, i.least, i.most, length-drop (size_of b) b))
+    ap (λ t. cond t (cut limits (before ++ body_of (take (length_field b) b) ∷ []) m (drop (length_field b) b)) (before, b)) w
+    ∙ cut_same limits (before ++ body_of (take (length_field b) b) ∷ []) m k (drop (length_field b) b)
+    (omega (arith, i.least, i.most, length-drop (length_field b) b)) (omega (arith, i.least, i.most, length-drop (length_field b) b))
 
 -- more octets are read from where the octets before them end
 cut_more : (limits : List (List ℕ) → ℕ) (before : List (List ℕ)) (n m k : ℕ) (b used : List ℕ) → length b ≤ n → length (b ++ used) ≤ m → length (b ++ used) ≤ k
     → cut limits before m (b ++ used) ≡ cut limits (cut limits before n b).0 k ((cut limits before n b).1 ++ used)
 cut_more limits before zero m k b used p q r = cut_same limits before m k (b ++ used) q r
 cut_more limits before (suc n) m k b used p q r =
-    let front = before ++ body_of (take (size_of b) b) ∷ [] in
-    let inner = cut limits front n (drop (size_of b) b) in
+    let front = before ++ body_of (take (length_field b) b) ∷ [] in
+    let inner = cut limits front n (drop (length_field b) b) in
     elim (is_whole (state_of (limits before) b)) as (λ v. is_whole (state_of (limits before) b) ≡ v
     → cut limits before m (b ++ used) ≡ cut limits (cond v inner (before, b)).0 k ((cond v inner (before, b)).1 ++ used)) [
       | true ↦ λ w.
           let i = whole (limits before) b w in
           let e = i.more used in
-          let size : size_of (b ++ used) ≡ size_of b = e.1 in
-          let fits : size_of b ≤ length b = i.most in
-          let shown : drop (size_of b) (b ++ used) ≡ drop (size_of b) b ++ used = drop-append-le (size_of b) b used fits in
+          let size : length_field (b ++ used) ≡ length_field b = e.1 in
+          let fits : length_field b ≤ length b = i.most in
+          let shown : drop (length_field b) (b ++ used) ≡ drop (length_field b) b ++ used = drop-append-le (length_field b) b used fits in
           cut_step limits before m k (b ++ used) e.0 q r
           ∙ ap (λ s. cut limits (before ++ body_of (take s (b ++ used)) ∷ []) k (drop s (b ++ used))) size
-          ∙ ap (λ t. cut limits (before ++ body_of t ∷ []) k (drop (size_of b) (b ++ used))) (take-append-le (size_of b) b used fits)
+          ∙ ap (λ t. cut limits (before ++ body_of t ∷ []) k (drop (length_field b) (b ++ used))) (take-append-le (length_field b) b used fits)
           ∙ ap (λ t. cut limits front k t) shown
-          ∙ cut_more limits front n k k (drop (size_of b) b) used
-          (omega (arith, i.least, i.most, length-drop (size_of b) b))
-          (omega (arith, length-append b used, length-append (drop (size_of b) b) used, length-drop (size_of b) b))
-          (omega (arith, length-append b used, length-append (drop (size_of b) b) used, length-drop (size_of b) b))
+          ∙ cut_more limits front n k k (drop (length_field b) b) used
+          (omega (arith, i.least, i.most, length-drop (length_field b) b))
+          (omega (arith, length-append b used, length-append (drop (length_field b) b) used, length-drop (length_field b) b))
+          (omega (arith, length-append b used, length-append (drop (length_field b) b) used, length-drop (length_field b) b))
       | false ↦ λ w. cut_same limits before m k (b ++ used) q r
     ] refl
 
@@ -120,7 +120,7 @@ goes_on limits b used h =
     let rest = (cut limits [] (length b) b).1 in
     let e : cut limits [] n (b ++ used) ≡ (ps, rest ++ used) =
     cut_more limits [] (length b) n (suc n) b used (omega arith) (omega arith) (omega arith)
-    ∙ ap (λ t. cond t (cut limits (ps ++ body_of (take (size_of (rest ++ used)) (rest ++ used)) ∷ []) n (drop (size_of (rest ++ used)) (rest ++ used))) (ps, rest ++ used)) h in
+    ∙ ap (λ t. cond t (cut limits (ps ++ body_of (take (length_field (rest ++ used)) (rest ++ used)) ∷ []) n (drop (length_field (rest ++ used)) (rest ++ used))) (ps, rest ++ used)) h in
     record { packets = ap (λ x. x.0) e; rest = ap (λ x. x.1) e }
 
 pub ends_packet : (limits : List (List ℕ) → ℕ) (b used : List ℕ) → IsPacket (limits (packets_of limits b)) (rest_of limits b ++ used) → EndsPacket limits b used (body_of (rest_of limits b ++ used))
@@ -161,10 +161,10 @@ ends_packet_at limits b used held limit h l k =
 cut_keeps : (limits : List (List ℕ) → ℕ) (before : List (List ℕ)) (n : ℕ) (b : List ℕ) → (tail : List (List ℕ)) × ((cut limits before n b).0 ≡ before ++ tail)
 cut_keeps limits before zero b = ([], sym (append-nil before))
 cut_keeps limits before (suc n) b =
-    let front = before ++ body_of (take (size_of b) b) ∷ [] in
-    let inner = cut_keeps limits front n (drop (size_of b) b) in
-    elim (is_whole (state_of (limits before) b)) as (λ v. (tail : List (List ℕ)) × ((cond v (cut limits front n (drop (size_of b) b)) (before, b)).0 ≡ before ++ tail)) [
-      | true ↦ (body_of (take (size_of b) b) ∷ inner.0, inner.1 ∙ append_assoc before (body_of (take (size_of b) b) ∷ []) inner.0)
+    let front = before ++ body_of (take (length_field b) b) ∷ [] in
+    let inner = cut_keeps limits front n (drop (length_field b) b) in
+    elim (is_whole (state_of (limits before) b)) as (λ v. (tail : List (List ℕ)) × ((cond v (cut limits front n (drop (length_field b) b)) (before, b)).0 ≡ before ++ tail)) [
+      | true ↦ (body_of (take (length_field b) b) ∷ inner.0, inner.1 ∙ append_assoc before (body_of (take (length_field b) b) ∷ []) inner.0)
       | false ↦ ([], sym (append-nil before))
     ]
 
@@ -217,7 +217,7 @@ pub fault_goes_on : (limits : List (List ℕ) → ℕ) (b more : List ℕ) → i
 fault_goes_on limits b more h =
     goes_on limits b more (ap is_whole (fault_stays (limits (packets_of limits b)) (rest_of limits b) more h) ∙ fault_not_whole (state_of (limits (packets_of limits b)) (rest_of limits b)) h)
 
-front_whole : (limit : ℕ) (q more : List ℕ) → IsPacket limit q → (is_whole (state_of limit (q ++ more)) ≡ true) × (size_of (q ++ more) ≡ length q)
+front_whole : (limit : ℕ) (q more : List ℕ) → IsPacket limit q → (is_whole (state_of limit (q ++ more)) ≡ true) × (length_field (q ++ more) ≡ length q)
 front_whole limit q more h =
     let w = packet_whole limit q h in
     let m = (whole limit q w.0).more more in
@@ -229,7 +229,7 @@ cut_only : (limits : List (List ℕ) → ℕ) (before : List (List ℕ)) (n : �
 cut_only limits before n b [] rest le h none =
     let e : before ++ [] ≡ before = append-nil before in
     cut_same limits before n (suc n) b le (omega arith)
-    ∙ ap (λ t. cond t (cut limits (before ++ body_of (take (size_of b) b) ∷ []) n (drop (size_of b) b)) (before, b)) (ap (λ x. is_whole (state_of (limits x) b)) (sym e) ∙ (ap (λ x. is_whole (state_of (limits (before ++ [])) x)) h ∙ none))
+    ∙ ap (λ t. cond t (cut limits (before ++ body_of (take (length_field b) b) ∷ []) n (drop (length_field b) b)) (before, b)) (ap (λ x. is_whole (state_of (limits x) b)) (sym e) ∙ (ap (λ x. is_whole (state_of (limits (before ++ [])) x)) h ∙ none))
     ∙ ap (λ x. (before, x)) h
     ∙ ap (λ x. (x, rest)) (sym e)
 cut_only limits before n b (p ∷ ps) rest le h none =
@@ -258,7 +258,7 @@ none_ahead limit rest h q more k e =
 whole_limit : (limit size held : ℕ) → is_whole (state_by limit size held) ≡ true → size ≤ limit
 whole_limit limit size held h = grind (arith, nat_tests)
 
-whole_ahead : (limit : ℕ) (b : List ℕ) → is_whole (state_of limit b) ≡ true → IsPacket limit (take (size_of b) b)
+whole_ahead : (limit : ℕ) (b : List ℕ) → is_whole (state_of limit b) ≡ true → IsPacket limit (take (length_field b) b)
 whole_ahead limit [] h = absurd (omega (arith, (whole limit [] h).least))
 whole_ahead limit (v ∷ []) h = absurd (omega (arith, (whole limit (v ∷ []) h).least))
 whole_ahead limit (v ∷ r ∷ []) h = absurd (omega (arith, (whole limit (v ∷ r ∷ []) h).least))
@@ -275,7 +275,7 @@ whole_ahead limit (v ∷ r ∷ hi ∷ lo ∷ body) h =
 not_whole_ahead : (t : Bool) (limit : ℕ) (rest : List ℕ) → is_whole (state_of limit rest) ≡ t → NoPacketAhead limit rest → t ≡ false
 not_whole_ahead false limit rest e h = refl
 not_whole_ahead true limit rest e h =
-    absurd (h (take (size_of rest) rest) (drop (size_of rest) rest) (whole_ahead limit rest e) (sym (take-append-drop (size_of rest) rest)))
+    absurd (h (take (length_field rest) rest) (drop (length_field rest) rest) (whole_ahead limit rest e) (sym (take-append-drop (length_field rest) rest)))
 
 not_true : (t : Bool) → (t ≡ true → ⊥) → t ≡ false
 not_true true h = absurd (h refl)
@@ -287,16 +287,16 @@ cut_reads : (limits : List (List ℕ) → ℕ) (before : List (List ℕ)) (n : �
 cut_reads limits before zero b le =
     ([], sym (append-nil before), refl, not_true (is_whole (state_of (limits before) b)) (λ w. let i = whole (limits before) b w in omega (arith, i.least, i.most)))
 cut_reads limits before (suc n) b le =
-    let front = before ++ body_of (take (size_of b) b) ∷ [] in
-    let inner = cut limits front n (drop (size_of b) b) in
+    let front = before ++ body_of (take (length_field b) b) ∷ [] in
+    let inner = cut limits front n (drop (length_field b) b) in
     elim (is_whole (state_of (limits before) b)) as (λ v. is_whole (state_of (limits before) b) ≡ v
     → (ps : List (List ℕ)) × ((cond v inner (before, b)).0 ≡ before ++ ps) × Packed limits before b ps (cond v inner (before, b)).1 × (is_whole (state_of (limits (cond v inner (before, b)).0) (cond v inner (before, b)).1) ≡ false)) [
       | true ↦ λ w.
           let i = whole (limits before) b w in
-          let h = cut_reads limits front n (drop (size_of b) b) (omega (arith, i.least, i.most, length-drop (size_of b) b)) in (
-            body_of (take (size_of b) b) ∷ h.0,
-            h.1 ∙ append_assoc before (body_of (take (size_of b) b) ∷ []) h.0,
-            (take (size_of b) b, drop (size_of b) b, whole_ahead (limits before) b w, refl, sym (take-append-drop (size_of b) b), h.2),
+          let h = cut_reads limits front n (drop (length_field b) b) (omega (arith, i.least, i.most, length-drop (length_field b) b)) in (
+            body_of (take (length_field b) b) ∷ h.0,
+            h.1 ∙ append_assoc before (body_of (take (length_field b) b) ∷ []) h.0,
+            (take (length_field b) b, drop (length_field b) b, whole_ahead (limits before) b w, refl, sym (take-append-drop (length_field b) b), h.2),
             h.3,
           )
       | false ↦ λ w. ([], sym (append-nil before), refl, w)
@@ -304,7 +304,7 @@ cut_reads limits before (suc n) b le =
 
 -- what a state says
 pub whole_front : (limit : ℕ) (b : List ℕ) → state_of limit b ≡ Whole → (q : List ℕ) × (more : List ℕ) × IsPacket limit q × (b ≡ q ++ more)
-whole_front limit b h = (take (size_of b) b, drop (size_of b) b, whole_ahead limit b (ap is_whole h), sym (take-append-drop (size_of b) b))
+whole_front limit b h = (take (length_field b) b, drop (length_field b) b, whole_ahead limit b (ap is_whole h), sym (take-append-drop (length_field b) b))
 
 pub not_whole_front : (limit : ℕ) (b : List ℕ) → state_of limit b ≢ Whole → NoPacketAhead limit b
 not_whole_front limit b h = none_ahead limit b (not_whole (state_of limit b) h)

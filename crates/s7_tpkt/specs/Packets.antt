@@ -72,19 +72,19 @@ is_fault BadLength = true
 is_fault TooLong = true
 
 -- the length field, or 0 where it isn't there yet
-abbrev pub size_of : List ℕ → ℕ
-size_of (v ∷ r ∷ hi ∷ lo ∷ body) = 256 * hi + lo
-size_of (v ∷ r ∷ hi ∷ []) = 0
-size_of (v ∷ r ∷ []) = 0
-size_of (v ∷ []) = 0
-size_of [] = 0
+abbrev pub length_field : List ℕ → ℕ
+length_field (v ∷ r ∷ hi ∷ lo ∷ body) = 256 * hi + lo
+length_field (v ∷ r ∷ hi ∷ []) = 0
+length_field (v ∷ r ∷ []) = 0
+length_field (v ∷ []) = 0
+length_field [] = 0
 
 -- the bodies before and those of the packets at the front, at most n of them, and the rest
 abbrev pub cut : (List (List ℕ) → ℕ) → List (List ℕ) → ℕ → List ℕ → List (List ℕ) × List ℕ
 cut limits before zero b = (before, b)
 cut limits before (suc n) b =
     if is_whole (state_of (limits before) b)
-    then cut limits (before ++ body_of (take (size_of b) b) ∷ []) n (drop (size_of b) b)
+    then cut limits (before ++ body_of (take (length_field b) b) ∷ []) n (drop (length_field b) b)
     else (before, b)
 
 -- the bodies of the packets of a stream

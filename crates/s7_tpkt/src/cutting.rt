@@ -71,13 +71,15 @@ impl Cutter {
         ensures goes_on { (limits : List (List ℕ) → ℕ) (b : List ℕ) → HoldsRest limits b self.old
             → result.state ≢ FedState.Whole → GoesOn limits b (take result.taken piece.now) }
         ensures ends_packet { (limits : List (List ℕ) → ℕ) (b : List ℕ) → HoldsRest limits b self.old
-            → result.state ≡ FedState.Whole → EndsPacket limits b (take result.taken piece.now) (body_of self.new.held) }
+            → result.state ≡ FedState.Whole
+            → EndsPacket limits b (take result.taken piece.now) (body_of self.new.held) }
 
         // The state is that of the octets held, and no octet is taken past a state other than `More`.
         ensures state { result.state ≡ state_of self.new.limit self.new.held }
         ensures whole { result.state ≡ FedState.Whole → IsPacket self.new.limit self.new.held }
         ensures used_up { result.state ≡ FedState.More → result.taken ≡ length piece.now }
-        ensures earliest { (k : ℕ) → k < result.taken → state_of self.old.limit (self.old.held ++ take k piece.now) ≡ FedState.More }
+        ensures earliest { (k : ℕ) → k < result.taken
+            → state_of self.old.limit (self.old.held ++ take k piece.now) ≡ FedState.More }
         ensures shown { 0 < result.taken → IsShownAt result.state (length self.new.held) }
 
         // A packet that is whole and a fault stay.
@@ -141,7 +143,8 @@ impl Cutter {
         ensures taken { result ≤ length piece.now }
         ensures held { self.new.held ≡ self.old.held ++ take result piece.now }
         ensures limit { self.new.limit ≡ self.old.limit }
-        ensures earliest { (k : ℕ) → k < result → state_of self.old.limit (self.old.held ++ take k piece.now) ≡ FedState.More }
+        ensures earliest { (k : ℕ) → k < result
+            → state_of self.old.limit (self.old.held ++ take k piece.now) ≡ FedState.More }
     {
         let taken = wanted(&self.octets[..self.len]).min(piece.len());
         let end = self.len + taken;

@@ -24,7 +24,7 @@ pub(crate) fn state_of(limit: usize, held: &[u8]) -> FedState
         [] => FedState::More,
         [version, ..] if *version != VERSION => FedState::BadVersion,
         [_, _, high, low, body @ ..] => {
-            let size = size_of(*high, *low);
+            let size = length_field(*high, *low);
             if size < LEAST {
                 FedState::BadLength
             } else if limit < size {
@@ -44,13 +44,15 @@ pub(crate) fn wanted(held: &[u8]) -> usize
     ensures { result ≡ wanted held.now }
 {
     match held {
-        [_, _, high, low, body @ ..] => size_of(*high, *low).saturating_sub(body.len() + HEADER),
+        [_, _, high, low, body @ ..] => length_field(*high, *low).saturating_sub(
+            body.len() + HEADER,
+        ),
         _ => 1,
     }
 }
 
 // The length field.
-fn size_of(high: u8, low: u8) -> usize
+fn length_field(high: u8, low: u8) -> usize
     ensures { result ≡ 256 * high + low }
 {
     let octets = [high, low];

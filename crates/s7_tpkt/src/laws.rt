@@ -1,7 +1,8 @@
 //! Laws of the definitions, for whoever builds on them. They run nothing.
 
 ghost use Rattle.std.specs.Prelude.{◌≡◌, ◌≢◌, ℕ, ◌+◌, ◌≤◌, List, [], ◌∷◌, ◌++◌, length, true};
-ghost use Rattle.s7_tpkt.specs.Packets.{packets_of, rest_of, state_of, is_fault, Packets, NoPacketAhead, GoesOn, GoesFurther, EndsPacket, HoldsRest, IsPacket, packet_of};
+ghost use Rattle.s7_tpkt.specs.Packets.{packets_of, rest_of, state_of, is_fault, Packets, NoPacketAhead, GoesOn};
+ghost use Rattle.s7_tpkt.specs.Packets.{GoesFurther, EndsPacket, HoldsRest, IsPacket, packet_of};
 ghost use Rattle.s7_tpkt.specs.Cut.{Cut};
 
 use crate::state::FedState;
@@ -12,13 +13,16 @@ pub fn states_tell()
     ensures whole { (limit : ℕ) (b : List ℕ) → state_of limit b ≡ FedState.Whole → (q : List ℕ) × (more : List ℕ) ×
         IsPacket limit q × (b ≡ q ++ more) }
     ensures not_whole { (limit : ℕ) (b : List ℕ) → state_of limit b ≢ FedState.Whole → NoPacketAhead limit b }
-    ensures fault { (limit : ℕ) (b more : List ℕ) → is_fault (state_of limit b) ≡ true → NoPacketAhead limit (b ++ more) }
+    ensures fault { (limit : ℕ) (b more : List ℕ) → is_fault (state_of limit b) ≡ true
+        → NoPacketAhead limit (b ++ more) }
 {}
 
 /// The packets that the functions give are the ones, and the only ones, that the relation admits.
 pub fn one_reading()
-    ensures reads { (limits : List (List ℕ) → ℕ) (b : List ℕ) → Packets limits b (packets_of limits b) (rest_of limits b) }
-    ensures only { (limits : List (List ℕ) → ℕ) (b : List ℕ) (ps : List (List ℕ)) (rest : List ℕ) → Packets limits b ps rest
+    ensures reads { (limits : List (List ℕ) → ℕ) (b : List ℕ)
+        → Packets limits b (packets_of limits b) (rest_of limits b) }
+    ensures only { (limits : List (List ℕ) → ℕ) (b : List ℕ) (ps : List (List ℕ)) (rest : List ℕ)
+        → Packets limits b ps rest
         → (packets_of limits b ≡ ps) × (rest_of limits b ≡ rest) }
 {}
 
@@ -27,9 +31,11 @@ pub fn one_reading()
 pub fn held_is_rest()
     ensures begins { (limits : List (List ℕ) → ℕ) (cutter : Cut) → cutter.held ≡ [] → cutter.limit ≡ limits [] →
         HoldsRest limits [] cutter }
-    ensures goes_on { (limits : List (List ℕ) → ℕ) (b more : List ℕ) (old new : Cut) → HoldsRest limits b old → GoesOn limits b more
+    ensures goes_on { (limits : List (List ℕ) → ℕ) (b more : List ℕ) (old new : Cut) → HoldsRest limits b old
+        → GoesOn limits b more
         → new.held ≡ old.held ++ more → new.limit ≡ old.limit → HoldsRest limits (b ++ more) new }
-    ensures ends_packet { (limits : List (List ℕ) → ℕ) (b more body : List ℕ) (new : Cut) → EndsPacket limits b more body
+    ensures ends_packet { (limits : List (List ℕ) → ℕ) (b more body : List ℕ) (new : Cut)
+        → EndsPacket limits b more body
         → new.held ≡ [] → new.limit ≡ limits (packets_of limits b ++ body ∷ []) → HoldsRest limits (b ++ more) new }
 {}
 
@@ -45,7 +51,8 @@ pub fn octets_behind()
 
 /// A packet that is written for a body is a packet, and is read as that one body with no rest.
 pub fn written_is_read()
-    ensures packet { (limit : ℕ) (body : List ℕ) → 3 ≤ length body → length body + 4 ≤ limit → IsPacket limit (packet_of body) }
+    ensures packet { (limit : ℕ) (body : List ℕ) → 3 ≤ length body → length body + 4 ≤ limit
+        → IsPacket limit (packet_of body) }
     ensures one { (limits : List (List ℕ) → ℕ) (body : List ℕ) → 3 ≤ length body → length body + 4 ≤ limits []
         → (packets_of limits (packet_of body) ≡ body ∷ []) × (rest_of limits (packet_of body) ≡ []) }
 {}

@@ -8,7 +8,7 @@ use Rattle.std.proofs.Math.Nat.{lt_of_lt_of_le}
 use Rattle.std.proofs.lemmas.List.{map-append, length-map, take_all}
 use Rattle.std.proofs.lemmas.List.Folds.{list_all-append}
 use Rattle.std.proofs.lemmas.List.Elements.{All-nil, All-cons}
-use Rattle.s7_words.specs.Line.{Text, is_number, number_of}
+use Rattle.s7_words.specs.CommandLine.{Text, is_number, number_of}
 use Rattle.s7_words.specs.Tool.{is_actor}
 use Rattle.s7_words.proofs.Fine.{both_true, digits_from}
 

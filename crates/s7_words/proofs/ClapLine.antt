@@ -1,4 +1,4 @@
--- `clap` reads a simple command by the rules of `specs/Line.antt`.
+-- `clap` reads a simple command by the rules of `specs/CommandLine.antt`.
 use Rattle.std.proofs.Common.{◌≡◌, ◌∙◌, ◌<◌, ◌+◌, ◌^◌, ◌&&◌, ◌||◌, ◌⊎◌, ℕ, Bool, cond, true, false, not, refl, sym, ap, subst, List, [], ◌∷◌, ◌++◌, map, length, min, Option, Some, None, is_some, nat_lt, nat_le, inl, inr, true≢false}
 use Rattle.std.specs.Prelude.{◌==◌, if◌then◌else◌, slice_get, option_and_then, option_map, fold}
 use Rattle.std.specs.List.{list_any, list_all}
@@ -21,7 +21,7 @@ use Rattle.clap.specs.Takes.{is_given as given_row}
 use Rattle.clap.specs.declared.builder.action.ArgAction.{ArgAction}
 use Rattle.clap.specs.declared.builder.action.ArgAction.TheVariants.{Set, Append}
 use Rattle.s7_words.proofs.Rows.{parser_in, rows_with, rows_by, or-false, has-rows, was_given}
-use Rattle.s7_words.specs.Line.{Text, Kind, ends, named, dashed, plain, Field, Line, Given, Reading, after_two_dashes, after_dash, kind_of_word, range_takes, is_given, added, with_operand, with_value, with_named, option_of, left_after, with_kind, read, has_required, start, given_by}
+use Rattle.s7_words.specs.CommandLine.{Text, Kind, ends, named, dashed, plain, Field, CommandLine, Given, Reading, after_two_dashes, after_dash, kind_of_word, range_takes, is_given, added, with_operand, with_value, with_named, option_of, left_after, with_kind, read, has_required, start, given_by}
 
 -- ---- the rules that a line is built as
 
@@ -186,7 +186,7 @@ abbrev pub AreKnown : List Rule → List Field → Type 0
 AreKnown c [] = Unit {0}
 AreKnown c (f ∷ fs) = IsKnown c f × AreKnown c fs
 
-pub record IsBuiltBy (c : List Rule) (line : Line) : Type 0 where
+pub record IsBuiltBy (c : List Rule) (line : CommandLine) : Type 0 where
   pub by_long : (name : Text) → arg_by_long c name ≡ option_map (λ f. rule f (Some f.name) None) (option_of line.options name)
   pub by_short : (x : ℕ) → arg_by_short c x ≡ None
   pub known : AreKnown c line.options
@@ -608,7 +608,7 @@ module _ (name : Text) (c : List Rule) (options : List Field) where
         )
 
 -- the walk over the words of a line
-pub walk_agrees : (name : Text) (c : List Rule) (line : Line) → IsBuiltBy c line → (words : List Text)
+pub walk_agrees : (name : Text) (c : List Rule) (line : CommandLine) → IsBuiltBy c line → (words : List Text)
     → Agrees name c line.options (walk_of [] nothing idle 1 false) words (read line.options (start line) words)
 walk_agrees name c line is words =
     (both name c line.options is.by_long is.by_short is.known words).0 [] nothing idle 1 line.operands tt tt is.placed
@@ -658,7 +658,7 @@ level_fails (k ∷ ks) x b y h = fails _ _
 level_fails [] (k ∷ ks) b y h = fails _ _
 level_fails [] [] b y h = fails_first b y h
 
-module _ (name : Text) (ps : List Placed) (line : Line) (fields : map (λ (p : Placed). p.0) ps ≡ line.operands ++ line.options) where
+module _ (name : Text) (ps : List Placed) (line : CommandLine) (fields : map (λ (p : Placed). p.0) ps ≡ line.operands ++ line.options) where
   abbrev pub rules_at : List Rule
   rules_at = map rule_at ps
 
@@ -716,7 +716,7 @@ abbrev pub operand_places : ℕ → List Field → List Placed
 operand_places i [] = []
 operand_places i (f ∷ fs) = (f, None, Some i) ∷ operand_places (min (i + 1) usize_max) fs
 
-abbrev pub places : Line → List Placed
+abbrev pub places : CommandLine → List Placed
 places line = operand_places 1 line.operands ++ map option_place line.options
 
 by_long_options : (options : List Field) (text : Text)
@@ -742,7 +742,7 @@ by_short_operands : (i : ℕ) (fs : List Field) (ps : List Placed) (x : ℕ) →
 by_short_operands i [] ps x = refl
 by_short_operands i (f ∷ fs) ps x = by_short_operands (min (i + 1) usize_max) fs ps x
 
-pub is_built_by : (line : Line) → AreKnown (map rule_at (places line)) line.options → ArePlaced (map rule_at (places line)) line.operands 1
+pub is_built_by : (line : CommandLine) → AreKnown (map rule_at (places line)) line.options → ArePlaced (map rule_at (places line)) line.operands 1
     → IsBuiltBy (map rule_at (places line)) line
 is_built_by line known placed = record {
   by_long = λ text. by_long_operands 1 line.operands (map option_place line.options) text ∙ by_long_options line.options text;

@@ -13,7 +13,7 @@ use Rattle.clap.specs.declared.error.Error.{Error}
 use Rattle.clap.specs.declared.error.kind.ErrorKind.TheVariants.{OutOfMemory}
 use Rattle.clap.specs.declared.parser.matches.ArgMatches.{ArgMatches}
 use Rattle.clap.proofs.WalkLemmas.{first_value-rows, one_text-rows, raw_values-rows}
-use Rattle.s7_words.specs.Line.{Text, Field, Line, Given, given_by, has_required, number_of, read, start, value_of, values_of, is_between, is_number_between, range_takes, option_of}
+use Rattle.s7_words.specs.CommandLine.{Text, Field, CommandLine, Given, given_by, has_required, number_of, read, start, value_of, values_of, is_between, is_number_between, range_takes, option_of}
 use Rattle.s7_words.specs.Fields.{number_given, number_or}
 use Rattle.s7_words.specs.Built.{app_by}
 use Rattle.s7_words.proofs.ClapLine.{AreKnown, ArePlaced, Fails, Gives, IsKnown, is_bounded, is_built_by, places, reads_line, rule, rule_at, shape}
@@ -39,14 +39,14 @@ in_range : (low high default n : ℕ) (o : Option Text) → n ≡ unwrap_or (opt
 in_range low high default n None is between taken = rw is between
 in_range low high default n (Some t) is between taken = rw is (both_true _ _ (taken t refl)).1
 
-abbrev pub rules_by : Line → List Rule
+abbrev pub rules_by : CommandLine → List Rule
 rules_by line = map rule_at (places line)
 
-abbrev pub built_app : Text → Line → App
+abbrev pub built_app : Text → CommandLine → App
 built_app name line = record { top = shape name (rules_by line); subs = [] }
 
 -- the command of a line is simple, is built as the line's rules, and its fields have names of their own
-pub record IsCommand (name : Text) (line : Line) : Type 0 where
+pub record IsCommand (name : Text) (line : CommandLine) : Type 0 where
   pub is_built : built (app_by name line) ≡ built_app name line
   pub is_free : is_simple_and_free (app_by name line) ≡ true
   pub is_simple_too : is_simple (app_by name line) ≡ true
@@ -61,11 +61,11 @@ abbrev Reads : Kinds → List Row → Option Given → Type 0
 Reads kinds rows None = Fails kinds
 Reads kinds rows (Some gs) = (kinds ≡ []) × (rows ≡ rows_by gs)
 
-as_reads : (name : Text) (line : Line) (is : IsCommand name line) (kinds : Kinds) (rows : List Row) (o : Option Given) → Gives name (places line) line is.fields kinds rows o → Reads kinds rows o
+as_reads : (name : Text) (line : CommandLine) (is : IsCommand name line) (kinds : Kinds) (rows : List Row) (o : Option Given) → Gives name (places line) line is.fields kinds rows o → Reads kinds rows o
 as_reads name line is kinds rows None h = h
 as_reads name line is kinds rows (Some gs) h = h
 
-module _ (name : Text) (line : Line) (is : IsCommand name line) where
+module _ (name : Text) (line : CommandLine) (is : IsCommand name line) where
   words_after : (words : List Text) → argument_words (app_by name line) words ≡ drop 1 words
   words_after words = rw is.has_name refl
 

@@ -9,7 +9,7 @@ use Rattle.std.proofs.lemmas.Bool.{leb-true}
 use Rattle.std.proofs.Math.Nat.{lt_of_le_of_lt}
 use Rattle.std.proofs.lemmas.Slice.Eq.{bytes_eq-Decides}
 use Rattle.clap.specs.Matches.{ReadsOne}
-use Rattle.s7_words.specs.Line.{Text, Kind, ends, named, dashed, plain, Field, Line, Given, Reading, kind_of_word, is_number_between, range_takes, is_given, value_of, added, with_operand, with_value, with_named, option_of, left_after, with_kind, with_word, read, has_required, start, given_by}
+use Rattle.s7_words.specs.CommandLine.{Text, Kind, ends, named, dashed, plain, Field, CommandLine, Given, Reading, kind_of_word, is_number_between, range_takes, is_given, value_of, added, with_operand, with_value, with_named, option_of, left_after, with_kind, with_word, read, has_required, start, given_by}
 
 pub record IsFine (all : List Field) (g : Field × Text) : Type 0 where
   pub known : option_of all g.0.name ≡ Some g.0
@@ -108,7 +108,7 @@ module _ (all : List Field) where
   read_fine options (word ∷ words) r every fine =
       onward_fine options words (with_word options r word) (word_fine options r word every fine) (λ next h. read_fine options words next every h)
 
-  required_fine : (line : Line) (o : Option Given) → GivenFine o → GivenFine (option_and_then (λ gs. cond (has_required line gs) (Some gs) None) o)
+  required_fine : (line : CommandLine) (o : Option Given) → GivenFine o → GivenFine (option_and_then (λ gs. cond (has_required line gs) (Some gs) None) o)
   required_fine line None h = tt
   required_fine line (Some gs) h = go (has_required line gs)
     where
@@ -125,7 +125,7 @@ each_named all (f ∷ fs) known name = go (bytes_eq f.name name) (each_named all
     go false rest = rest
 
 -- what a line gives is fine, where no two fields have one name
-pub line_fine : (line : Line) → AllNamed (line.operands ++ line.options) line.operands → AllNamed (line.operands ++ line.options) line.options → (words : List Text)
+pub line_fine : (line : CommandLine) → AllNamed (line.operands ++ line.options) line.operands → AllNamed (line.operands ++ line.options) line.options → (words : List Text)
     → GivenFine (line.operands ++ line.options) (given_by line words)
 line_fine line operands options words =
     let all = line.operands ++ line.options in

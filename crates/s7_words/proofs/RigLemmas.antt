@@ -4,7 +4,7 @@ use Rattle.std.specs.Prelude.{option_map, unwrap_or}
 use Rattle.std.specs.Borrow.{Bor}
 use Rattle.std.proofs.lemmas.Bool.Decides.{leb_tells}
 use Rattle.std.proofs.lemmas.List.{length-map}
-use Rattle.s7_words.specs.Line.{Text, Given, has_required, value_of, values_of}
+use Rattle.s7_words.specs.CommandLine.{Text, Given, has_required, value_of, values_of}
 use Rattle.s7_words.specs.Tool.{ToolTold, actors, most_scripts, rig_line, rig_of, rig_with, scripts, turns, turns_or_none}
 use Rattle.s7_words.proofs.Fine.{both_true}
 use Rattle.s7_words.proofs.Rows.{given-values, has_some}

@@ -13,7 +13,7 @@ use Rattle.clap.specs.Takes.{is_given as given_row}
 use Rattle.clap.specs.declared.builder.value_parser.ValueParser.{ValueParser}
 use Rattle.clap.specs.declared.builder.value_parser.ValueParser.TheVariants as vp
 use Rattle.clap.specs.declared.parser.matches.ValueSource.TheVariants.{CommandLine}
-use Rattle.s7_words.specs.Line.{Text, Field, Given, is_given, value_of, values_of}
+use Rattle.s7_words.specs.CommandLine.{Text, Field, Given, is_given, value_of, values_of}
 
 abbrev pub parser_in : Option (ℕ × ℕ) → ValueParser
 parser_in None = vp.String

@@ -4,7 +4,7 @@ use Rattle.clap.specs.Words.{App, Rule, new_app, new_rule, with_rule}
 use Rattle.clap.specs.declared.builder.action.ArgAction.TheVariants.{Append}
 use Rattle.clap.specs.declared.builder.value_parser.ValueParser.{ValueParser}
 use Rattle.clap.specs.declared.builder.value_parser.ValueParser.TheVariants as vp
-use Rattle.s7_words.specs.Line.{Text, Field, Line}
+use Rattle.s7_words.specs.CommandLine.{Text, Field, CommandLine}
 
 abbrev pub parser_of : Option (ℕ × ℕ) → Option ValueParser
 parser_of None = None
@@ -28,5 +28,5 @@ with_rules a (r ∷ rs) = with_rules (with_rule a r) rs
 abbrev pub without_help : Text → App
 without_help name = record (new_app name) { top = record (new_app name).top { disable_help_flag = true } }
 
-abbrev pub app_by : Text → Line → App
+abbrev pub app_by : Text → CommandLine → App
 app_by name line = with_rules (without_help name) (map operand_rule line.operands ++ map option_rule line.options)

@@ -1,6 +1,6 @@
 -- Fields of commands, and the numbers and texts that were given for them.
 use Rattle.std.specs.Prelude.{ℕ, true, false, codes, Option, Some, None, option_map, unwrap_or}
-use Rattle.s7_words.specs.Line.{Text, Field, Given, number_of, value_of}
+use Rattle.s7_words.specs.CommandLine.{Text, Field, Given, number_of, value_of}
 
 -- an operand that has to be there
 abbrev pub operand : Text → Field

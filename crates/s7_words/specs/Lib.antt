@@ -1,4 +1,4 @@
-pub mod Line
+pub mod CommandLine
 pub mod Built
 pub mod Fields
 pub mod Server

@@ -1,7 +1,7 @@
 -- The words of the server: this project's own command line, with options in GNU form.
 use Rattle.std.specs.Prelude.{ℕ, codes, List, [], ◌∷◌, Option, None, option_map, if◌then◌else◌}
 use Rattle.std.specs.Str.{bytes_eq}
-use Rattle.s7_words.specs.Line.{Text, Field, Line, Given, given_by, value_of}
+use Rattle.s7_words.specs.CommandLine.{Text, Field, CommandLine, Given, given_by, value_of}
 use Rattle.s7_words.specs.Fields.{text, number, areas, port, journal, text_or, number_given, number_or}
 
 -- a command with its operands and options
@@ -14,7 +14,7 @@ pub data ServerTold : Type 0 where
 abbrev pub save : Field
 save = text (codes "save")
 
-abbrev pub pipe_line : Line
+abbrev pub pipe_line : CommandLine
 pipe_line = record { operands = areas ∷ []; options = save ∷ journal ∷ [] }
 
 abbrev pub pipe_of : Given → ServerTold
@@ -30,7 +30,7 @@ links = number (codes "links") 1 1024
 abbrev pub at_entry : Field
 at_entry = number (codes "at") 0 262144
 
-abbrev pub serve_line : Line
+abbrev pub serve_line : CommandLine
 serve_line = record { operands = areas ∷ []; options = port ∷ links ∷ journal ∷ save ∷ at_entry ∷ [] }
 
 abbrev pub serve_of : Given → ServerTold

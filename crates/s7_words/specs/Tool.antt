@@ -3,7 +3,7 @@ use Rattle.std.specs.Prelude.{ℕ, Bool, codes, List, [], ◌∷◌, map, length
 use Rattle.std.specs.Prelude.{Option, Some, None, option_map, option_and_then, if◌then◌else◌}
 use Rattle.std.specs.List.{list_all, slice_split}
 use Rattle.std.specs.Str.{bytes_eq}
-use Rattle.s7_words.specs.Line.{Text, Field, Line, Given, given_by, is_number, number_of, value_of, values_of}
+use Rattle.s7_words.specs.CommandLine.{Text, Field, CommandLine, Given, given_by, is_number, number_of, value_of, values_of}
 use Rattle.s7_words.specs.Fields.{operand, operands, optional, numeral, text, number, areas, port, journal, text_or, number_or}
 
 -- how a script is run: against which controller, over which connection, with how many polls and parallel jobs
@@ -73,7 +73,7 @@ polls = number (codes "polls") 1 4294967295
 abbrev pub jobs : Field
 jobs = number (codes "jobs") 1 8
 
-abbrev pub run_line : Line
+abbrev pub run_line : CommandLine
 run_line = record {
   operands = script ∷ [];
   options = host ∷ port ∷ kind ∷ rack ∷ slot ∷ pdu ∷ polls ∷ jobs ∷ [];
@@ -106,7 +106,7 @@ seed = number (codes "seed") 0 4294967295
 abbrev pub steps : Field
 steps = number (codes "steps") 0 1000000
 
-abbrev pub rig_line : Line
+abbrev pub rig_line : CommandLine
 rig_line = record {
   operands = areas ∷ scripts ∷ [];
   options = turns ∷ seed ∷ steps ∷ pdu ∷ journal ∷ jobs ∷ [];
@@ -162,7 +162,7 @@ rig_of given =
 abbrev pub made_from : Field
 made_from = numeral (codes "N") 0 4294967295
 
-abbrev pub gen_line : Line
+abbrev pub gen_line : CommandLine
 gen_line = record { operands = made_from ∷ []; options = [] }
 
 abbrev pub gen_of : Given → ToolTold
@@ -178,7 +178,7 @@ one = operand (codes "A")
 abbrev pub other : Field
 other = optional (codes "B")
 
-abbrev pub partner_line : Line
+abbrev pub partner_line : CommandLine
 partner_line = record { operands = one ∷ other ∷ []; options = host ∷ port ∷ seed ∷ steps ∷ [] }
 
 abbrev pub partner_of : Given → ToolTold

@@ -2,7 +2,7 @@
 ghost use Rattle.std.specs.Prelude.{◌≡◌, IfOk, codes, drop, map, option_and_then, option_map};
 ghost use Rattle.clap.specs.Words.{app_of};
 ghost use Rattle.s7_words.specs.Built.{app_by};
-ghost use Rattle.s7_words.specs.Line.{given_by};
+ghost use Rattle.s7_words.specs.CommandLine.{given_by};
 ghost use Rattle.s7_words.specs.Tool.{rig_line, rig_of};
 ghost use Rattle.s7_words.specs.Shown.{tool_told_of};
 

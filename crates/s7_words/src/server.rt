@@ -2,7 +2,7 @@
 ghost use Rattle.std.specs.Prelude.{◌≡◌, IfOk, IfSome, codes, drop, map, option_map};
 ghost use Rattle.clap.specs.Words.{app_of};
 ghost use Rattle.s7_words.specs.Built.{app_by};
-ghost use Rattle.s7_words.specs.Line.{given_by};
+ghost use Rattle.s7_words.specs.CommandLine.{given_by};
 ghost use Rattle.s7_words.specs.Server.{pipe_line, pipe_of, serve_line, serve_of, server_words};
 ghost use Rattle.s7_words.specs.Shown.{server_told_of, HasLinks, HasPort, HasRoom};
 

@@ -1,6 +1,6 @@
 // The turns that are given for scripts that are run together.
 ghost use Rattle.std.specs.Prelude.{◌≡◌, ◌<◌, All, IfOk, IfSome, Some, None, option_map, if◌then◌else◌};
-ghost use Rattle.s7_words.specs.Line.{number_of};
+ghost use Rattle.s7_words.specs.CommandLine.{number_of};
 ghost use Rattle.s7_words.specs.Tool.{is_actor, turns_or_none};
 
 use std::alloc::{AllocError, Global};

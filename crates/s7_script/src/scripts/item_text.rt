@@ -4,7 +4,7 @@ ghost use Rattle.std.specs.List.{position};
 ghost use Rattle.std.specs.Result.{result_map_both};
 ghost use Rattle.s7_script.specs.Script.{address_of, bit_place, ended, is_point, item_at, key_of, octet_place, place};
 ghost use Rattle.s7_script.specs.Script.{read_item, with_count, with_start, with_word, within, word_named, word_of};
-ghost use Rattle.s7_script.specs.ScriptShown.{place_of};
+ghost use Rattle.s7_script.specs.ScriptShown.{placed_told};
 
 use crate::ScriptKind;
 use crate::areas::area_line::area_named;
@@ -40,7 +40,7 @@ pub(crate) fn read_item(text: &[u8]) -> Result<Item, ScriptKind>
 }
 
 fn with_count(placed: Placed) -> Result<Item, ScriptKind>
-    ensures { result ≡ with_count (place_of placed.entry) (place_of placed.entry).rest }
+    ensures { result ≡ with_count (placed_told placed.entry) (placed_told placed.entry).rest }
 {
     let Some(text) = placed.rest else {
         return Err(ScriptKind::Fields);
@@ -62,7 +62,7 @@ pub(crate) fn ended<T: Drop>(found: T, rest: Option<&[u8]>) -> Result<T, ScriptK
 
 /// So many elements from this place on.
 pub(crate) fn item_at(placed: Placed, count: u16) -> Item
-    ensures { result ≡ item_at (place_of placed.entry) count }
+    ensures { result ≡ item_at (placed_told placed.entry) count }
 {
     Item {
         area: placed.key.area,
@@ -75,7 +75,7 @@ pub(crate) fn item_at(placed: Placed, count: u16) -> Item
 
 /// Where an item lies: its key, word and start.
 pub(crate) fn place(text: &[u8]) -> Result<Placed<'_>, ScriptKind>
-    ensures { result_map_both place_of (λ e. e) result ≡ place text.now }
+    ensures { result_map_both placed_told (λ e. e) result ≡ place text.now }
 {
     let (field, rest) = split_field(text);
     let key = key_of(field)?;
@@ -83,7 +83,7 @@ pub(crate) fn place(text: &[u8]) -> Result<Placed<'_>, ScriptKind>
 }
 
 fn with_word(key: AreaKey, rest: Option<&[u8]>) -> Result<Placed<'_>, ScriptKind>
-    ensures { result_map_both place_of (λ e. e) result ≡ with_word key (option_map (λ t. t.now) rest.entry) }
+    ensures { result_map_both placed_told (λ e. e) result ≡ with_word key (option_map (λ t. t.now) rest.entry) }
 {
     let Some(text) = rest else {
         return Err(ScriptKind::Fields);
@@ -94,7 +94,7 @@ fn with_word(key: AreaKey, rest: Option<&[u8]>) -> Result<Placed<'_>, ScriptKind
 }
 
 fn with_start(key: AreaKey, word: u8, rest: Option<&[u8]>) -> Result<Placed<'_>, ScriptKind>
-    ensures { result_map_both place_of (λ e. e) result ≡ with_start key word (option_map (λ t. t.now) rest.entry) }
+    ensures { result_map_both placed_told (λ e. e) result ≡ with_start key word (option_map (λ t. t.now) rest.entry) }
 {
     let Some(text) = rest else {
         return Err(ScriptKind::Fields);

@@ -1,7 +1,7 @@
 // Items that are written, and their octets.
 ghost use Rattle.std.specs.Prelude.{◌≡◌, ◌<◌, ◌≤◌, length, option_map};
 ghost use Rattle.s7_script.specs.Script.{Gives, counted, element_size, with_digits, with_hex, written_item};
-ghost use Rattle.s7_script.specs.ScriptShown.{octets_in, place_of, written_of};
+ghost use Rattle.s7_script.specs.ScriptShown.{octets_in, placed_told, written_of};
 
 use crate::ScriptKind;
 use crate::lines::split_field;
@@ -33,7 +33,7 @@ pub(crate) fn written_item(alloc: Global, text: &[u8]) -> Result<WrittenItem, Sc
 }
 
 fn with_hex(alloc: Global, placed: Placed) -> Result<WrittenItem, ScriptKind>
-    ensures { Gives written_of result (with_hex (place_of placed.entry) (place_of placed.entry).rest) }
+    ensures { Gives written_of result (with_hex (placed_told placed.entry) (placed_told placed.entry).rest) }
 {
     let Some(text) = placed.rest else {
         return Err(ScriptKind::Fields);
@@ -50,7 +50,7 @@ fn with_digits(
     rest: Option<&[u8]>,
 ) -> Result<WrittenItem, ScriptKind>
     ensures { Gives written_of result
-        (with_digits (place_of placed.entry) field.now (option_map (λ t. t.now) rest.entry)) }
+        (with_digits (placed_told placed.entry) field.now (option_map (λ t. t.now) rest.entry)) }
 {
     let octets = octets_in(alloc, field)?;
     let item = counted(placed, octets.len())?;
@@ -74,7 +74,7 @@ pub(crate) fn octets_in(alloc: Global, field: &[u8]) -> Result<Vec<u8>, ScriptKi
 
 /// The item of as many elements as the octets make.
 fn counted(placed: Placed, octets: usize) -> Result<Item, ScriptKind>
-    ensures { result ≡ counted (place_of placed.entry) octets }
+    ensures { result ≡ counted (placed_told placed.entry) octets }
 {
     let size = element_size(placed.word);
     if octets % size != 0 {

@@ -3,7 +3,7 @@ use Rattle.std.specs.Prelude.{slice_get}
 use Rattle.std.specs.Borrow.{Bor}
 use Rattle.std.specs.Str.{bytes_eq}
 use Rattle.std.proofs.lemmas.Slice.Eq.{bytes_eq-Decides}
-use Rattle.s7_words.specs.Line.{Text, given_by}
+use Rattle.s7_words.specs.CommandLine.{Text, given_by}
 use Rattle.s7_words.specs.Server.{server_words, ServerTold, pipe_line, pipe_of, serve_line, serve_of}
 use Rattle.s7_words.proofs.server.read_server_words.Goals as goal
 

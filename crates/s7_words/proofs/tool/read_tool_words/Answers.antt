@@ -3,7 +3,7 @@ use Rattle.std.specs.Prelude.{option_and_then, slice_get}
 use Rattle.std.specs.Borrow.{Bor}
 use Rattle.std.specs.Str.{bytes_eq}
 use Rattle.std.proofs.lemmas.Slice.Eq.{bytes_eq-Decides}
-use Rattle.s7_words.specs.Line.{Text, given_by}
+use Rattle.s7_words.specs.CommandLine.{Text, given_by}
 use Rattle.s7_words.specs.Tool.{tool_words, ToolTold, run_line, run_of, rig_line, rig_of, gen_line, gen_of, partner_line, partner_of}
 use Rattle.s7_words.proofs.tool.read_tool_words.Goals as goal
 

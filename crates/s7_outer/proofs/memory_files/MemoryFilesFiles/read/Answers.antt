@@ -1,7 +1,7 @@
 use Rattle.std.proofs.Common.{◌≡◌, ℕ, ◌<◌, min, List, Option, Some, length, take, sym, ap, ◌∙◌, option_map, arith}
 use Rattle.std.proofs.lemmas.Grind.{common_steps}
 use Rattle.s7_outer.specs.Files.{IsCutFrom}
-use Rattle.s7_outer.specs.MemoryFiles.{octets_at}
+use Rattle.s7_outer.specs.MemoryFiles.{file_octets}
 use Rattle.s7_outer.proofs.memory_files.MemoryFilesFiles.read.Goals as goal
 
 -- so many octets were taken of a file that has more
@@ -13,4 +13,4 @@ cut held whole octets n is count over taken =
 pub returns-then-count-gt-FILE_LIMIT-clause-cut : goal.returns-then-count-gt-FILE_LIMIT-clause-cut
 returns-then-count-gt-FILE_LIMIT-clause-cut c = λ _.
     let whole = c.in-Some.octets.now in
-    cut _ whole c.extend_from_slice.new.self.items c.min-count.result (sym (ap (λ files. octets_at files c.args.path.now) c.fails.ensures.files) ∙ sym c.octets_in.ensures ∙ ap (option_map (λ octets. octets.now)) c.in-Some.is) (grind (arith, common_steps)) c.if-count-gt-FILE_LIMIT.true (grind (arith, common_steps))
+    cut _ whole c.extend_from_slice.new.self.items c.min-count.result (sym (ap (λ files. file_octets files c.args.path.now) c.fails.ensures.files) ∙ sym c.octets_in.ensures ∙ ap (option_map (λ octets. octets.now)) c.in-Some.is) (grind (arith, common_steps)) c.if-count-gt-FILE_LIMIT.true (grind (arith, common_steps))

@@ -4,7 +4,7 @@ use Rattle.s7_plant.specs.declared.request.Request.{Request}
 use Rattle.s7_plant.specs.declared.request.Request.TheVariants.{Write}
 use Rattle.s7_wire.specs.Sent.{sent_messages}
 use Rattle.s7_session.specs.Answers.{Answers}
-use Rattle.s7_session.specs.Conversing.{link_of, size_of, sends}
+use Rattle.s7_session.specs.Conversing.{link_of, tpdu_size_of, sends}
 use Rattle.s7_session.specs.Events.{settled, asks, by_judgement}
 use Rattle.s7_session.specs.Judged.{judgement_of, IsWithin}
 use Rattle.s7_session.specs.Judgement.{answer_octets, plainly, user_octets, user_answer, secured}
@@ -30,7 +30,7 @@ returns-in-Err-clause-answers g c = λ at.
     let P : Option ℕ → Type 0 = λ s.
     Answers g.D.Doer.stands g.D.Doer.is_full g.D.Doer.may_lack line c.args.doer.now line c.args.doer.now
     (λ verdicts. by_judgement n link sequence verdicts (judgement_of link sequence c.args.judgement)) at s link (sends c.args.self.now) handled.NoMemory in
-    subst P (sym (ap size_of c.requires.size))
+    subst P (sym (ap tpdu_size_of c.requires.size))
     (same_made g.D.Doer.stands g.D.Doer.is_full g.D.Doer.may_lack line line c.args.doer.now c.args.doer.now _ _ at _ _ _ _
     (λ vs. ap (λ j. by_judgement n link sequence vs (judgement_of link sequence j)) c.in-Write.is)
     (answers_memory g.D.Doer.stands g.D.Doer.is_full g.D.Doer.may_lack line line c.args.doer.now c.args.doer.now n link link sequence
@@ -47,7 +47,7 @@ returns-in-Refuse-clause-answers g c = λ at.
     (ap (λ j. by_judgement n link sequence [] (judgement_of link sequence j)) c.in-Refuse.is
     ∙ (ap (λ (x : List ℕ). settled (Some n) link x []) (sym k.sends)
     ∙ (ap (λ (h : Held). settled (Some n) (link_of h) (sends new) []) (sym k.held)
-    ∙ ap (λ (s : Option ℕ). settled s (link_of new.held) (sends new) []) (sym (ap size_of (k.size ∙ c.requires.size))))))
+    ∙ ap (λ (s : Option ℕ). settled s (link_of new.held) (sends new) []) (sym (ap tpdu_size_of (k.size ∙ c.requires.size))))))
 
 pub returns-in-Grant-clause-answers : goal.returns-in-Grant-clause-answers
 returns-in-Grant-clause-answers g c = λ at.
@@ -62,7 +62,7 @@ returns-in-Grant-clause-answers g c = λ at.
     (ap (λ j. by_judgement n link sequence [] (judgement_of link sequence j)) c.in-Grant.is
     ∙ (ap (λ (x : List ℕ). settled (Some n) next x [])
     (one_message n (answer_octets sequence (negotiation_spelling granted) []) sent (after_nothing c.args.self.now.sender.outbox.unsent _ sent c.put_grant.ensures c.requires.sent))
-    ∙ ap (λ (s : Option ℕ). settled s next sent []) (sym (ap size_of c.requires.size))))
+    ∙ ap (λ (s : Option ℕ). settled s next sent []) (sym (ap tpdu_size_of c.requires.size))))
 
 pub returns-in-Security-clause-answers : goal.returns-in-Security-clause-answers
 returns-in-Security-clause-answers g c = λ at.
@@ -77,7 +77,7 @@ returns-in-Security-clause-answers g c = λ at.
     ∙ (ap (λ (x : List ℕ). settled (Some n) (secured link c.in-Security.right) x [])
     (one_message n (user_octets sequence (user_answer 0x85 c.in-Security.subfunction (next_octet link.user_sequence) c.in-Security.error) no_data) sent (sym k.sends))
     ∙ (ap (λ (l : LinkState). settled (Some n) l sent []) (sym k.link)
-    ∙ ap (λ (s : Option ℕ). settled s (link_of c.secure.new.self.held) sent []) (sym (ap size_of (k.size ∙ c.requires.size))))))
+    ∙ ap (λ (s : Option ℕ). settled s (link_of c.secure.new.self.held) sent []) (sym (ap tpdu_size_of (k.size ∙ c.requires.size))))))
 
 pub returns-in-Ask-clause-answers : goal.returns-in-Ask-clause-answers
 returns-in-Ask-clause-answers g c = λ at.
@@ -88,7 +88,7 @@ returns-in-Ask-clause-answers g c = λ at.
     let P : Option ℕ → Type 0 = λ s.
     Answers g.D.Doer.stands g.D.Doer.is_full g.D.Doer.may_lack line c.args.doer.now line c.ask.new.doer
     (λ verdicts. by_judgement n link sequence verdicts (judgement_of link sequence c.args.judgement)) at s (link_of c.ask.new.self.held) (sends c.ask.new.self) c.ask.result in
-    subst P (sym (ap size_of (c.ask.ensures.size ∙ c.requires.size)))
+    subst P (sym (ap tpdu_size_of (c.ask.ensures.size ∙ c.requires.size)))
     (same_made g.D.Doer.stands g.D.Doer.is_full g.D.Doer.may_lack line line c.args.doer.now c.ask.new.doer _ _ at _ _ _ _
     (λ vs. ap (λ j. by_judgement n link sequence vs (judgement_of link sequence j)) c.in-Ask.is
     ∙ ap (λ (r : Request). asks n link sequence (plainly link sequence r) vs)
@@ -105,7 +105,7 @@ returns-in-Ok-clause-answers g c = λ at.
     let P : Option ℕ → Type 0 = λ s.
     Answers g.D.Doer.stands g.D.Doer.is_full g.D.Doer.may_lack line c.args.doer.now line k.new.doer
     (λ verdicts. by_judgement n link sequence verdicts (judgement_of link sequence c.args.judgement)) at s (link_of k.new.self.held) (sends k.new.self) k.result in
-    subst P (sym (ap size_of (k.ensures.size ∙ c.requires.size)))
+    subst P (sym (ap tpdu_size_of (k.ensures.size ∙ c.requires.size)))
     (same_made g.D.Doer.stands g.D.Doer.is_full g.D.Doer.may_lack line line c.args.doer.now k.new.doer _ _ at _ _ _ _
     (λ vs. ap (λ j. by_judgement n link sequence vs (judgement_of link sequence j)) c.in-Write.is
     ∙ ap (λ (r : Request). asks n link sequence (plainly link sequence (kept_request r)) vs) (sym c.in-Ok.ensures))
@@ -122,7 +122,7 @@ returns-in-Query-clause-answers g c = λ at.
     let P : Option ℕ → Type 0 = λ s.
     Answers g.D.Doer.stands g.D.Doer.is_full g.D.Doer.may_lack line c.args.doer.now line' k.new.doer
     (λ verdicts. by_judgement n link sequence verdicts (judgement_of link sequence c.args.judgement)) at s (link_of k.new.self.held) (sends k.new.self) k.result in
-    subst P (sym (ap size_of (k.ensures.size ∙ c.requires.size)))
+    subst P (sym (ap tpdu_size_of (k.ensures.size ∙ c.requires.size)))
     (same_made g.D.Doer.stands g.D.Doer.is_full g.D.Doer.may_lack line line' c.args.doer.now k.new.doer _ _ at _ _ _ _
     (λ vs. ap (λ j. by_judgement n link sequence vs (judgement_of link sequence j)) c.in-Query.is)
     (k.ensures.answers at))
@@ -144,7 +144,7 @@ returns-in-Further-clause-answers g c = λ at.
     ∙ (ap (λ (xs : List ℕ). settled (Some n) (next xs) (sent_messages n (slice xs ∷ [])) []) (rest_held c.args.self.now.held.slices)
     ∙ (ap (λ (x : List ℕ). settled (Some n) (next rest) x []) (one_message n (slice rest) sent (sym k.sends))
     ∙ (ap (λ (l : LinkState). settled (Some n) l sent []) (sym k.link)
-    ∙ ap (λ (s : Option ℕ). settled s (link_of c.put_slice.new.self.held) sent []) (sym (ap size_of (k.size ∙ c.requires.size)))))))
+    ∙ ap (λ (s : Option ℕ). settled s (link_of c.put_slice.new.self.held) sent []) (sym (ap tpdu_size_of (k.size ∙ c.requires.size)))))))
 
 pub returns-in-Insert-clause-answers : goal.returns-in-Insert-clause-answers
 returns-in-Insert-clause-answers g c = λ at.
@@ -156,7 +156,7 @@ returns-in-Insert-clause-answers g c = λ at.
     let P : Option ℕ → Type 0 = λ s.
     Answers g.D.Doer.stands g.D.Doer.is_full g.D.Doer.may_lack line c.args.doer.now line k.new.doer
     (λ verdicts. by_judgement n link sequence verdicts (judgement_of link sequence c.args.judgement)) at s (link_of k.new.self.held) (sends k.new.self) k.result in
-    subst P (sym (ap size_of (k.ensures.size ∙ c.requires.size)))
+    subst P (sym (ap tpdu_size_of (k.ensures.size ∙ c.requires.size)))
     (same_made g.D.Doer.stands g.D.Doer.is_full g.D.Doer.may_lack line line c.args.doer.now k.new.doer _ _ at _ _ _ _
     (λ vs. ap (λ j. by_judgement n link sequence vs (judgement_of link sequence j)) c.in-Insert.is)
     (k.ensures.answers line at))
@@ -171,7 +171,7 @@ returns-in-Upload-clause-answers g c = λ at.
     let P : Option ℕ → Type 0 = λ s.
     Answers g.D.Doer.stands g.D.Doer.is_full g.D.Doer.may_lack line c.args.doer.now line k.new.doer
     (λ verdicts. by_judgement n link sequence verdicts (judgement_of link sequence c.args.judgement)) at s (link_of k.new.self.held) (sends k.new.self) k.result in
-    subst P (sym (ap size_of (k.ensures.size ∙ c.requires.size)))
+    subst P (sym (ap tpdu_size_of (k.ensures.size ∙ c.requires.size)))
     (same_made g.D.Doer.stands g.D.Doer.is_full g.D.Doer.may_lack line line c.args.doer.now k.new.doer _ _ at _ _ _ _
     (λ vs. ap (λ j. by_judgement n link sequence vs (judgement_of link sequence j)) c.in-Upload.is)
     (k.ensures.answers line at))
@@ -182,4 +182,4 @@ returns-in-Slice-clause-answers g c = λ at.
     let new = c.transfer.new.self in
     answers_settled g.D.Doer.stands g.D.Doer.is_full g.D.Doer.may_lack (g.L.Link.shows c.args.line.now) c.args.doer.now _ at _ _ _
     (k.made []
-    ∙ ap (λ (s : Option ℕ). settled s (link_of new.held) (sends new) []) (sym (ap size_of (k.size ∙ c.requires.size))))
+    ∙ ap (λ (s : Option ℕ). settled s (link_of new.held) (sends new) []) (sym (ap tpdu_size_of (k.size ∙ c.requires.size))))

@@ -1,0 +1,103 @@
+// What the data items of a read's answer tell.
+ghost use Rattle.std.specs.Prelude.{◌≡◌, ◌+◌, ◌≤◌, [], ◌∷◌, ◌++◌, List, length, map, take, drop, slice_index, Some};
+ghost use Rattle.s7_dialogue.specs.Answer.{ItemAnswer, item_answers};
+ghost use Rattle.s7_dialogue.specs.Checks.{octet_count_of};
+ghost use Rattle.s7_dialogue.specs.Taking.{with_codes, with_octets, without_gaps};
+
+use crate::answers::codes_list::Codes;
+use crate::answers::data_items::first_item;
+use s7_item::{Item, Items, is_good};
+
+/// Puts the return codes of the items at their places, and the octets of those that were read at
+/// theirs.
+pub(crate) fn place_items(
+    items: &Items,
+    body: &[u8],
+    found: &mut [u8],
+    from: usize,
+    codes: &mut Codes,
+    place: usize,
+)
+    requires octets { from + octet_count_of items.now ≤ length found.old }
+    requires codes { place + length items.now ≤ usize.MAX }
+    ensures octets { (answers : List ItemAnswer) → item_answers items.now body.now ≡ Some answers
+        → found.new ≡ with_octets from items.now answers found.old }
+    ensures codes { (answers : List ItemAnswer) → item_answers items.now body.now ≡ Some answers
+        → codes.new ≡ with_codes place (map (λ (item : ItemAnswer). item.code) answers) codes.old }
+{
+    let mut rest = body;
+    let mut at = from;
+    for (k, item) in items.as_slice().iter().enumerate() {
+        let Some(first) = first_item(item, k + 1 == items.len(), rest) else {
+            return;
+        };
+        codes.set(place + k, first.code);
+        found[at..at + first.octets.len()].copy_from_slice(first.octets);
+        at += item.octet_count();
+        rest = first.rest;
+    }
+}
+
+/// Puts return codes at their places.
+pub(crate) fn place_codes(noted: &[u8], codes: &mut Codes, place: usize)
+    requires { place + length noted.now ≤ usize.MAX }
+    ensures { codes.new ≡ with_codes place noted.now codes.old }
+{
+    for (k, code) in noted.iter().enumerate() {
+        codes.set(place + k, *code);
+    }
+}
+
+/// Puts octets at a place.
+pub(crate) fn place_octets(octets: &[u8], found: &mut [u8], at: usize)
+    requires { at + length octets.now ≤ length found.old }
+    ensures octets { found.new ≡ take at found.old ++ octets.now ++ drop (at + length octets.now) found.old }
+    ensures len { length found.new ≡ length found.old }
+{
+    found[at..at + octets.len()].copy_from_slice(octets);
+}
+
+/// Keeps the octets from one place to another, or as many of them as there are.
+pub(crate) fn keep_octets(found: &mut Vec<u8>, from: usize, to: usize)
+    ensures { found.new.items ≡ drop from (take to found.old.items) }
+{
+    found.truncate(to);
+    let len = found.len();
+    let from = from.min(len);
+    found.copy_within(from..len, 0);
+    found.truncate(len - from);
+}
+
+/// Closes up the octets of the items whose code isn't FF.
+pub(crate) fn close_gaps(items: &[Item], codes: &[u8], found: &mut Vec<u8>)
+    requires { octet_count_of items.now ≤ length found.old.items }
+    ensures { found.new.items ≡ without_gaps items.now codes.now found.old.items }
+{
+    let mut from = 0;
+    let mut to = 0;
+    for (k, item) in items.iter().enumerate() {
+        let count = item.octet_count();
+        if is_good(code_at(codes, k)) {
+            found.copy_within(from..from + count, to);
+            to += count;
+        }
+        from += count;
+    }
+    found.truncate(to);
+}
+
+// The code at a place, and 00 where there is none.
+fn code_at(codes: &[u8], place: usize) -> u8
+    ensures { result ≡ slice_index codes.now place }
+{
+    codes.get(place).copied().unwrap_or(0)
+}
+
+/// The return code of the one item.
+pub(crate) fn code_of(items: &Items, body: &[u8]) -> u8
+    requires { length items.now ≡ 1 }
+    ensures { (answers : List ItemAnswer) → item_answers items.now body.now ≡ Some answers
+        → map (λ (item : ItemAnswer). item.code) answers ≡ result ∷ [] }
+{
+    body.first().copied().unwrap_or(0)
+}

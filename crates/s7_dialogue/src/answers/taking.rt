@@ -1,0 +1,137 @@
+// What an answer comes to.
+ghost use Rattle.std.specs.Prelude.{◌≡◌, ◌≤◌, IfSome, length, true};
+ghost use Rattle.s7_header.specs.declared.negotiation.Negotiation.{Negotiation};
+ghost use Rattle.s7_header.specs.Negotiation.{most_pdu};
+ghost use Rattle.s7_dialogue.specs.Question.{negotiates};
+ghost use Rattle.s7_dialogue.specs.Answer as spelled;
+ghost use Rattle.s7_dialogue.specs.Told.{Tells};
+ghost use Rattle.s7_dialogue.specs.Dialogue.{number_end, negotiated_by, taken_grant};
+ghost use Rattle.s7_dialogue.specs.GoesOn.{refusal_by, number_of};
+ghost use Rattle.s7_dialogue.specs.Taking.{TellsFor};
+ghost use Rattle.s7_dialogue.specs.Stages.{is_alone, octets_of, IsGoodLeave, IsGrant};
+ghost use Rattle.s7_dialogue.specs.Refusals.{code_refusal};
+
+use crate::answers::answer::{Answer, Asked};
+use crate::answers::collect::code_of;
+use crate::codes::{GOOD, NEGOTIATION_FAILED, PARTLY_WRITTEN};
+use crate::config::Config;
+use crate::grant::{Grant, Leaves};
+use crate::job::Job;
+use crate::refusals::{number_of_code, number_of_error};
+use crate::stages::asking::Refused;
+use s7_header::Negotiation;
+use s7_item::Items;
+
+const LEAST_PDU: u16 = 64;
+
+/// Each item of the job is asked for alone.
+pub(crate) fn is_alone(job: &Job) -> bool
+    ensures { result ≡ is_alone job.now }
+{
+    match job {
+        Job::ReadArea { .. } | Job::WriteArea { .. } => true,
+        _ => false,
+    }
+}
+
+/// The octets that the job writes.
+pub(crate) fn octets_of(job: &Job) -> &[u8]
+    ensures { result.now ≡ octets_of job.now }
+{
+    match job {
+        Job::WriteArea { octets, .. } => octets.as_slice(),
+        Job::WriteMany { octets, .. } => octets.as_slice(),
+        _ => &[],
+    }
+}
+
+/// The number of the refusal that the answer is, for one item or for all of its telegram.
+pub(crate) fn refusal_of(alone: bool, items: &Items, answer: &Answer<'_>) -> Option<u32>
+    requires { alone ≡ true → length items.now ≡ 1 }
+    ensures { (write : _) (x : spelled.Answer) → TellsFor write items.now answer.now x → result ≡ refusal_by alone x }
+{
+    match answer {
+        Answer::Refused(error) => Some(number_of_error(*error)),
+        Answer::Granted(_) => None,
+        Answer::Items(body) => {
+            if alone {
+                code_refusal(code_of(items, body))
+            } else {
+                None
+            }
+        }
+        Answer::Codes(codes) => { if alone { first_refusal(codes) } else { None } }
+    }
+}
+
+// The number of a return code that isn't FF.
+fn code_refusal(code: u8) -> Option<u32>
+    ensures { result ≡ code_refusal code }
+{
+    if code == 0xFF {
+        None
+    } else {
+        Some(number_of_code(code))
+    }
+}
+
+// The number of the one code.
+fn first_refusal(codes: &[u8]) -> Option<u32>
+    ensures { result ≡ refusal_by true (spelled.notes codes.now) }
+{
+    match codes {
+        [code] => code_refusal(*code),
+        _ => None,
+    }
+}
+
+/// The number that the refusal of the question at a place ends the job with: in a write of several
+/// parts, another one after the first.
+pub(crate) fn number_by(job: &Job, refused: Refused) -> u32
+    ensures { result ≡ number_of job.now refused.place refused.number }
+{
+    match job {
+        Job::WriteArea { .. } => {
+            if refused.place == 0 {
+                refused.number
+            } else {
+                PARTLY_WRITTEN
+            }
+        }
+        _ => refused.number,
+    }
+}
+
+/// The number and what it leaves, by the answer to the negotiation.
+pub(crate) fn negotiated(config: &Config, answer: &Answer<'_>) -> (u32, Leaves)
+    requires pdu { config.now.pdu ≤ most_pdu }
+    requires jobs { config.now.jobs ≤ 8 }
+    ensures granted { IsGoodLeave result.1 }
+    ensures ends { (asked : Negotiation) (x : spelled.Answer) → Tells (negotiates asked) answer.now x
+        → number_end result.0 result.1 ≡ negotiated_by config.now x }
+{
+    match answer {
+        Answer::Granted(granted) => match taken_grant(config, granted) {
+            Some(granted) => (GOOD, Leaves::Connected(granted)),
+            None => (NEGOTIATION_FAILED, Leaves::Closed),
+        },
+        _ => (NEGOTIATION_FAILED, Leaves::Closed),
+    }
+}
+
+// The grant that is taken: a PDU from 64 to the one asked for, and jobs up to those asked for.
+fn taken_grant(config: &Config, granted: &Negotiation) -> Option<Grant>
+    requires pdu { config.now.pdu ≤ most_pdu }
+    requires jobs { config.now.jobs ≤ 8 }
+    ensures within { IfSome result IsGrant }
+    ensures taken { result ≡ taken_grant config.now granted.now }
+{
+    if granted.pdu < LEAST_PDU || granted.pdu > config.pdu {
+        return None;
+    }
+    let jobs = granted.calling.min(granted.called).min(config.jobs).max(1);
+    Some(Grant {
+        pdu: granted.pdu,
+        jobs,
+    })
+}

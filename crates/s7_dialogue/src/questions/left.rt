@@ -1,0 +1,134 @@
+// What is left to ask of a job.
+ghost use Rattle.std.specs.Prelude.{◌≡◌, ◌<◌, ◌≤◌, ◌∷◌, [], length, take, slice_get, IfSome, IfNone};
+ghost use Rattle.std.specs.List.{between};
+ghost use Rattle.s7_dialogue.specs.Left.{groups_in, questions_left, TakesNext};
+
+use crate::answers::answer::Asked;
+use s7_item::{Item, Items};
+use s7_split::{Groups, Parts};
+
+/// The questions that are still to be asked, in order.
+#[derive(Drop)]
+pub(crate) enum Left {
+    /// None.
+    Nothing,
+    /// The negotiation.
+    Negotiation,
+    /// Reads of these groups.
+    Reads(Grouped),
+    /// Writes of these groups.
+    Writes(Grouped),
+}
+
+/// Groups of items, in order.
+#[derive(Drop)]
+pub(crate) enum Grouped {
+    /// The parts of one item, each alone.
+    Parts(Parts),
+    /// Of these items, cut where the groups end, the groups from the one at place `next` on. It
+    /// begins at the item at place `from`.
+    Groups {
+        items: Items,
+        groups: Groups,
+        next: u8,
+        from: u8,
+    },
+}
+
+impl Left {
+    /// Takes the next question.
+    pub(crate) fn next(&mut self) -> Option<Asked>
+        ensures some { IfSome result (λ asked. TakesNext self.old asked self.new) }
+        ensures none { IfNone result ((questions_left self.old ≡ 0) × (self.new ≡ self.old)) }
+    {
+        match self {
+            Left::Nothing => None,
+            Left::Negotiation => {
+                *self = Left::Nothing;
+                Some(Asked::Negotiation)
+            }
+            Left::Reads(grouped) => match grouped.next() {
+                Some(items) => Some(Asked::Read(items)),
+                None => None,
+            },
+            Left::Writes(grouped) => match grouped.next() {
+                Some(items) => Some(Asked::Write(items)),
+                None => None,
+            },
+        }
+    }
+}
+
+impl Grouped {
+    /// Takes the next group.
+    fn next(&mut self) -> Option<Items>
+        ensures some { IfSome result (λ items. groups_in self.old ≡ items ∷ groups_in self.new) }
+        ensures none { IfNone result ((groups_in self.old ≡ []) × (self.new ≡ self.old)) }
+    {
+        match self {
+            Grouped::Parts(parts) => {
+                let Some(part) = parts.next() else {
+                    return None;
+                };
+                Some(alone(part))
+            }
+            Grouped::Groups {
+                items,
+                groups,
+                next,
+                from,
+            } => {
+                let Some(end) = end_of(groups, *next) else {
+                    return None;
+                };
+                let group = items_between(items, *from, end);
+                *next += 1;
+                *from = end;
+                Some(group)
+            }
+        }
+    }
+}
+
+/// A group of one item.
+pub(crate) fn alone(item: Item) -> Items
+    ensures { result ≡ item ∷ [] }
+{
+    let mut group = Items::new();
+    group.push(item);
+    group
+}
+
+// Where the group at a place ends.
+fn end_of(groups: &Groups, place: u8) -> Option<u8>
+    ensures end { result ≡ slice_get (take groups.now.count groups.now.ends) place }
+    ensures few { IfSome result (λ end. place < 20) }
+{
+    if place < groups.count {
+        groups.ends.get(usize::from(place)).copied()
+    } else {
+        None
+    }
+}
+
+// The items from a place on that end before another.
+fn items_between(items: &Items, from: u8, end: u8) -> Items
+    ensures { result ≡ between from end items.now }
+{
+    let all = items.as_slice();
+    let high = usize::from(end).min(all.len());
+    let low = usize::from(from).min(high);
+    items_of(&all[low..high])
+}
+
+/// The items of a slice, at most twenty.
+pub(crate) fn items_of(slice: &[Item]) -> Items
+    requires { length slice.now ≤ 20 }
+    ensures { result ≡ slice.now }
+{
+    let mut items = Items::new();
+    for item in slice {
+        items.push(*item);
+    }
+    items
+}

@@ -1,0 +1,422 @@
+// How a job goes on from answer to answer.
+ghost use Rattle.std.specs.Prelude.{◌≡◌, ℕ, ◌+◌, ◌-◌, ◌<◌, ◌≤◌, true, false, List, [], ◌++◌, length, take, drop};
+ghost use Rattle.std.specs.Prelude.{Option, None, Some, IfSome, IfNone, OnSome, IfOk, IfErr};
+ghost use Rattle.std.specs.Option.{ForSome};
+ghost use Rattle.s7_header.specs.Negotiation.{most_pdu};
+ghost use Rattle.s7_wire.specs.Sent.{sent_message, sent_messages};
+ghost use Rattle.s7_dialogue.specs.declared.config.Config.{Config};
+ghost use Rattle.s7_dialogue.specs.declared.grant.Grant.{Grant};
+ghost use Rattle.s7_dialogue.specs.Question.{Question, messages_of};
+ghost use Rattle.s7_dialogue.specs.Answer as spelled;
+ghost use Rattle.s7_dialogue.specs.Told.{IsAsked, Tells};
+ghost use Rattle.s7_dialogue.specs.Flight.{Row, answers_of, filled};
+ghost use Rattle.s7_dialogue.specs.GoesOn.{ConductsAt, RefusesAt, IsDone};
+ghost use Rattle.s7_dialogue.specs.Taking.{IsFor, Taken, answered_rows, Keeps, closed};
+ghost use Rattle.s7_dialogue.specs.Dialogue.{End, fault_end, departed_end, number_end, asked_by};
+ghost use Rattle.s7_dialogue.specs.Dialogue.{connect_request, plan_of};
+ghost use Rattle.s7_dialogue.specs.Course.{Course, asking, for_nothing};
+ghost use Rattle.s7_dialogue.specs.Stages.{octets_of, message_of, can_ask, can_fly, has_places, IsListing, IsGoodLeave};
+ghost use Rattle.s7_dialogue.specs.Stages.{question_of_single, can_ask_single};
+ghost use Rattle.s7_dialogue.specs.Singles.{message_count};
+ghost use Rattle.s7_dialogue.specs.Running.{Begins, Follows, Reached, IsOver, IsAsking, IsOpening, IsLeaving};
+ghost use Rattle.s7_dialogue.specs.Running.{awaited_in, unput_of, conduct_in, answers_left, IsResult, IsGrant};
+ghost use Rattle.s7_dialogue.specs.Stages.{LeavesLink, LeavesOpen};
+
+use crate::answers::answer::{Answer, Asked};
+use crate::answers::codes_list::Codes;
+use crate::answers::collect::{close_gaps, place_codes, place_items};
+use crate::answers::taking::{is_alone, negotiated, number_by, octets_of, refusal_of};
+use crate::codes::GOOD;
+use crate::config::Config;
+use crate::grant::{Grant, Leaves};
+use crate::job::{Job, JobResult};
+use crate::questions::checks::octet_count_of;
+use crate::questions::left::Left;
+use crate::questions::message::{write_negotiation, write_read, write_write};
+use crate::questions::requests::write_single;
+use crate::stages::asking::{Asking, Refused};
+use crate::stages::flight::Flight;
+use crate::stages::running::{Running, Stage};
+use crate::stages::single::{Ask, Single};
+use crate::stages::starting::{Start, start_of};
+use crate::transfers::download::write_closing;
+use s7_header::Negotiation;
+use s7_item::Items;
+use s7_outer::{Buffer, Octets};
+use std::alloc::Global;
+
+impl Running {
+    /// Begins a job on a client to which this was granted, or hands it back where there is no memory
+    /// for what it will bring.
+    pub fn begin(alloc: Global, granted: Option<Grant>, job: Job) -> Result<Running, Job>
+        requires granted { ForSome granted IsGrant }
+        ensures begins { IfOk result (λ r. (config : Config) → Begins r config granted) }
+        ensures job { IfOk result (λ r. r.job ≡ job) }
+        ensures handed_back { IfErr result (λ j. j ≡ job) }
+    {
+        let Start {
+            stage,
+            octets,
+            codes,
+        } = start_of(granted, &job);
+        let mut found = Vec::new(alloc);
+        if found.resize(octets, 0).is_err() {
+            return Err(job);
+        }
+        Ok(Running {
+            job,
+            stage,
+            found,
+            codes: Codes::new(codes),
+        })
+    }
+
+    /// Asks all questions that may go out, under the sequences after this one, and gives the last
+    /// sequence. The job is over where no telegram is unanswered then.
+    pub fn go_on(&mut self, sequence: u16) -> u16
+        requires { IsAsking self.old.stage }
+        ensures reached { (config : Config) (granted : Option Grant) (course : Course)
+            → Follows self.old config granted course.rows → course.sequence ≡ sequence
+            → unput_of config course.size self.old ≡ []
+            → Reached config granted course (asking (conduct_in self.old config granted) course) self.new result }
+        ensures fewer { answers_left self.new.stage ≤ answers_left self.old.stage }
+        ensures not_before { IsOpening self.new.stage → ⊥ }
+        ensures few { (config : Config) (size : ℕ) → 128 ≤ size → length (unput_of config size self.new) ≤ 16256 }
+        ensures job { self.new.job ≡ self.old.job }
+    {
+        if let Stage::Single(single) = &mut self.stage {
+            return single.ask_on(sequence);
+        }
+        let Stage::Asking(asking) = &mut self.stage else {
+            unreachable!()
+        };
+        let last = asking.ask_on(sequence);
+        if asking.flights.is_empty() {
+            let refused = asking.refused;
+            self.settle(refused);
+        }
+        last
+    }
+
+    /// Writes the message of the next telegram that is to be put, as the one that the buffer holds.
+    /// Says whether there is one; the buffer is left as it is where there is none.
+    pub fn write_next(&mut self, config: &Config, message: &mut Buffer) -> bool
+        requires room { message.old.room ≡ most_pdu }
+        ensures some { result ≡ true → (size : ℕ) → unput_of config.now size self.old
+            ≡ sent_message size message.new.octets ++ unput_of config.now size self.new }
+        ensures fits { result ≡ true → (10 ≤ length message.new.octets) × (length message.new.octets ≤ most_pdu) }
+        ensures asking { result ≡ true → IsAsking self.old.stage }
+        ensures none { result ≡ false → (self.new ≡ self.old) × (message.new ≡ message.old)
+            × ((size : ℕ) → unput_of config.now size self.old ≡ []) }
+        ensures follows { (granted : Option Grant) (rows : List Row) → Follows self.old config.now granted rows
+            → Follows self.new config.now granted rows }
+        ensures awaits { (carried : List ℕ) → awaited_in self.new carried ≡ awaited_in self.old carried }
+        ensures asking_on { IsAsking self.old.stage → IsAsking self.new.stage }
+        ensures as_many { answers_left self.new.stage ≡ answers_left self.old.stage }
+        ensures job { self.new.job ≡ self.old.job }
+        ensures room { message.new.room ≡ most_pdu }
+    {
+        match &mut self.stage {
+            Stage::Asking(asking) => {
+                if asking.unput == 0 {
+                    return false;
+                }
+                let flight = &asking.flights[asking.flights.len() - asking.unput];
+                write_flight(flight, &self.job, config, message);
+                asking.unput -= 1;
+                true
+            }
+            Stage::Single(single) => {
+                let Some(sequence) = single.unput_sequence() else {
+                    return false;
+                };
+                write_unput(single, &self.job, sequence, message);
+                single.unput -= 1;
+                true
+            }
+            Stage::Opening | Stage::Leaving | Stage::Over { .. } => false,
+        }
+    }
+
+    /// Takes a message as the answer to the first unanswered telegram that it answers, and asks on
+    /// under the sequences after this one. Gives the last sequence; `None` where it answers none.
+    pub fn take(&mut self, config: &Config, sequence: u16, message: &[u8]) -> Option<u16>
+        requires asking { IsAsking self.old.stage }
+        requires pdu { config.now.pdu ≤ most_pdu }
+        requires jobs { config.now.jobs ≤ 8 }
+        ensures some { IfSome result (λ last. (granted : Option Grant) (course : Course)
+            → Follows self.old config.now granted course.rows → course.sequence ≡ sequence
+            → unput_of config.now course.size self.old ≡ []
+            → (rows : List Row) × (filled course.rows message.now ≡ Some rows)
+            × Reached config.now granted course
+            (asking (conduct_in self.old config.now granted) (record course { rows = rows })) self.new last) }
+        ensures none { IfNone result ((granted : Option Grant) (rows : List Row)
+            → Follows self.old config.now granted rows → filled rows message.now ≡ None) }
+        ensures unchanged { IfNone result (self.new ≡ self.old) }
+        ensures fewer { OnSome result (answers_left self.new.stage + 1 ≤ answers_left self.old.stage) }
+        ensures not_before { IsOpening self.new.stage → ⊥ }
+        ensures few { (config : Config) (size : ℕ) → 128 ≤ size → length (unput_of config size self.new) ≤ 16256 }
+        ensures job { self.new.job ≡ self.old.job }
+    {
+        if let Stage::Single(_) = &self.stage {
+            return self.take_alone(sequence, message);
+        }
+        let Stage::Asking(asking) = &mut self.stage else {
+            unreachable!()
+        };
+        let Some((flight, answer)) = asking.answered(message) else {
+            return None;
+        };
+        match &flight.asked {
+            Asked::Negotiation => {
+                let (code, leaves) = negotiated(config, &answer);
+                self.end(code, leaves);
+                Some(sequence)
+            }
+            Asked::Read(items) | Asked::Write(items) => {
+                self.note(&flight, items, &answer);
+                Some(self.go_on(sequence))
+            }
+        }
+    }
+
+    // Notes what an answer to this telegram for items tells: that it refuses, or what is kept.
+    fn note(&mut self, flight: &Flight, items: &Items, answer: &Answer<'_>)
+        requires listing { IsListing self.old.stage }
+        requires asked { IsFor items.now flight.now.asked }
+        requires flies { can_fly self.old.job (length self.old.found.items) flight.now ≡ true }
+        requires told { (question : Question) → IsAsked flight.now.asked question
+            → (x : spelled.Answer) × Tells question answer.now x }
+        ensures notes { (config : Config) (granted : Option Grant) (rows : List Row)
+            (t : Taken rows flight.now answer.now)
+            → ConductsAt config granted (answered_rows t) rows self.old.job self.old.found.items self.old.codes
+            self.old.stage
+            → Follows self.new config granted (answered_rows t) }
+        ensures asking { IsAsking self.new.stage }
+        ensures as_many { answers_left self.new.stage ≡ answers_left self.old.stage }
+        ensures unput { (config : Config) (size : ℕ) → unput_of config size self.new ≡ unput_of config size self.old }
+        ensures job { self.new.job ≡ self.old.job }
+    {
+        match refusal_of(is_alone(&self.job), items, answer) {
+            Some(number) => self.refuse(flight.place, number),
+            None => self.keep(flight, items, answer),
+        }
+    }
+
+    // The question at a place was refused with this number.
+    fn refuse(&mut self, place: usize, number: u32)
+        requires listing { IsListing self.old.stage }
+        ensures refuses { RefusesAt self.old.stage place number self.new.stage }
+        ensures found { self.new.found ≡ self.old.found }
+        ensures codes { self.new.codes ≡ self.old.codes }
+        ensures job { self.new.job ≡ self.old.job }
+    {
+        let Stage::Asking(asking) = &mut self.stage else {
+            unreachable!()
+        };
+        asking.refuse(place, number);
+    }
+
+    // Keeps what an answer that doesn't refuse tells of these items.
+    fn keep(&mut self, flight: &Flight, items: &Items, answer: &Answer<'_>)
+        requires asked { IsFor items.now flight.now.asked }
+        requires flies { can_fly self.old.job (length self.old.found.items) flight.now ≡ true }
+        requires told { (question : Question) → IsAsked flight.now.asked question
+            → (x : spelled.Answer) × Tells question answer.now x }
+        ensures keeps { Keeps items.now flight.now answer.now self.old.found.items self.old.codes self.new.found.items
+            self.new.codes }
+        ensures stage { self.new.stage ≡ self.old.stage }
+        ensures job { self.new.job ≡ self.old.job }
+    {
+        match answer {
+            Answer::Items(body) => place_items(
+                items,
+                body,
+                self.found.as_mut_slice(),
+                flight.from,
+                &mut self.codes,
+                flight.item,
+            ),
+            Answer::Codes(noted) => place_codes(noted, &mut self.codes, flight.item),
+            Answer::Granted(_) | Answer::Refused(_) => {}
+        }
+    }
+
+    /// Goes on with the confirm of the connect request: the negotiation is to be asked.
+    pub fn confirm(&mut self)
+        requires { IsOpening self.old.stage }
+        ensures asking { IsAsking self.new.stage }
+        ensures follows { (config : Config) (granted : Option Grant)
+            → (plan_of self.old.job config granted).first ≡ connect_request
+            → Follows self.new config granted [] }
+        ensures none_unput { (config : Config) (size : ℕ) → unput_of config size self.new ≡ [] }
+        ensures few { (config : Config) (size : ℕ) → 128 ≤ size → length (unput_of config size self.new) ≤ 16256 }
+        ensures fewer { answers_left self.new.stage + 1 ≤ answers_left self.old.stage }
+        ensures job { self.new.job ≡ self.old.job }
+    {
+        self.stage = Stage::Asking(Asking::new(1, Left::Negotiation));
+    }
+
+    /// Ends once the disconnect request was transmitted.
+    pub fn depart(&mut self)
+        requires { IsLeaving self.old.stage }
+        ensures departs { awaited_in self.new [] ≡ for_nothing departed_end [] }
+        ensures over { IsOver self.new.stage }
+        ensures job { self.new.job ≡ self.old.job }
+    {
+        self.end(GOOD, Leaves::Disconnected);
+    }
+
+    /// Ends with a fault that closes the client.
+    pub fn fail(&mut self, code: u32)
+        ensures fails { (carried : List ℕ) → awaited_in self.new carried ≡ for_nothing (fault_end code) carried }
+        ensures over { IsOver self.new.stage }
+        ensures job { self.new.job ≡ self.old.job }
+    {
+        self.end(code, Leaves::Closed);
+    }
+
+    /// What the job, which is over, leaves.
+    pub fn leaves(&self) -> Leaves
+        requires { IsOver self.now.stage }
+        ensures leaves { (end : End) → awaited_in self.now [] ≡ for_nothing end [] → result ≡ end.leaves }
+        ensures granted { IsGoodLeave result }
+        ensures open { LeavesLink result → LeavesOpen self.now.stage }
+    {
+        match &self.stage {
+            Stage::Over { leaves, .. } => *leaves,
+            Stage::Opening | Stage::Asking(_) | Stage::Single(_) | Stage::Leaving => unreachable!(),
+        }
+    }
+
+    /// What came of the job, which is over.
+    pub fn into_result(self, carried: Octets) -> JobResult
+        requires { IsOver self.stage }
+        ensures result { (end : End) → awaited_in self [] ≡ for_nothing end []
+            → IsResult result self.job end carried }
+    {
+        let Running {
+            job,
+            stage,
+            found,
+            codes,
+        } = self;
+        match stage {
+            Stage::Over { code, .. } => JobResult {
+                job,
+                code,
+                octets: Octets::of_vec(found),
+                codes: codes.places(),
+                count: codes.len(),
+                carried,
+            },
+            Stage::Opening | Stage::Asking(_) | Stage::Single(_) | Stage::Leaving => unreachable!(),
+        }
+    }
+
+    /// Ends with this number, with nothing found.
+    pub(crate) fn end(&mut self, code: u32, leaves: Leaves)
+        requires { IsGoodLeave leaves }
+        ensures ends { (carried : List ℕ) → awaited_in self.new carried ≡ for_nothing (number_end code leaves) carried }
+        ensures over { IsOver self.new.stage }
+        ensures job { self.new.job ≡ self.old.job }
+    {
+        self.found.clear();
+        self.codes = Codes::new(0);
+        self.stage = Stage::Over { code, leaves };
+    }
+
+    // Ends the job, of which no telegram is unanswered, by the first refusal or with what was
+    // found.
+    fn settle(&mut self, refused: Option<Refused>)
+        requires listing { IsListing self.old.stage }
+        ensures settles { (config : Config) (granted : Option Grant) (rows : List Row)
+            → IsDone self.old.stage refused → Follows self.old config granted rows
+            → awaited_in self.new [] ≡ for_nothing ((conduct_in self.old config granted).ended (answers_of rows)) [] }
+        ensures over { IsOver self.new.stage }
+        ensures job { self.new.job ≡ self.old.job }
+    {
+        if let Some(refused) = refused {
+            let code = number_by(&self.job, refused);
+            self.end(code, Leaves::AsItWas);
+            return;
+        }
+        close_found(&self.job, &self.codes, &mut self.found);
+        self.stage = Stage::Over {
+            code: GOOD,
+            leaves: Leaves::AsItWas,
+        };
+    }
+}
+
+// Closes up the octets of several items that a job read.
+fn close_found(job: &Job, codes: &Codes, found: &mut Vec<u8>)
+    requires { has_places job.now (length found.old.items) ≡ true }
+    ensures { found.new.items ≡ closed job.now codes.now found.old.items }
+{
+    if let Job::ReadMany { items } = job {
+        close_gaps(items.as_slice(), codes.as_slice(), found);
+    }
+}
+
+// Writes the first message that isn't put yet of what is out under this sequence.
+fn write_unput(single: &Single, job: &Job, sequence: u16, message: &mut Buffer)
+    requires asks { (found : ℕ) × (can_ask_single job.now found single.now.ask ≡ true) }
+    requires some { 0 < single.now.unput }
+    requires room { message.old.room ≡ most_pdu }
+    ensures octets { (size : ℕ) → sent_messages size (drop (message_count single.now.ask - single.now.unput)
+        (messages_of sequence (question_of_single job.now single.now.ask [])))
+        ≡ sent_message size message.new.octets
+        ++ sent_messages size (drop (message_count single.now.ask - (single.now.unput - 1))
+        (messages_of sequence (question_of_single job.now single.now.ask []))) }
+    ensures fits { (10 ≤ length message.new.octets) × (length message.new.octets ≤ most_pdu) }
+    ensures room { message.new.room ≡ most_pdu }
+{
+    if single.unput < 2 {
+        write_single(job, &single.ask, sequence, message);
+        return;
+    }
+    // Two go out for an insertion alone.
+    let Ask::Insert { call, .. } = &single.ask else {
+        unreachable!()
+    };
+    write_closing(*call, message);
+}
+
+// Writes the message of a telegram of the job.
+fn write_flight(flight: &Flight, job: &Job, config: &Config, message: &mut Buffer)
+    requires asked { (found : ℕ) × (can_ask job.now found flight.now.from flight.now.asked ≡ true) }
+    requires room { message.old.room ≡ most_pdu }
+    ensures octets { message.new.octets ≡ message_of config.now job.now flight.now }
+    ensures room { message.new.room ≡ most_pdu }
+{
+    match &flight.asked {
+        Asked::Negotiation => write_negotiation(&asked_by(config), flight.sequence, message),
+        Asked::Read(items) => write_read(items, flight.sequence, message),
+        Asked::Write(items) => {
+            let count = octet_count_of(items.as_slice());
+            let octets = piece(octets_of(job), flight.from, count);
+            write_write(items, octets, flight.sequence, message);
+        }
+    }
+}
+
+// So many octets from a place on.
+fn piece(octets: &[u8], from: usize, count: usize) -> &[u8]
+    requires { from + count ≤ length octets.now }
+    ensures piece { result.now ≡ take count (drop from octets.now) }
+    ensures len { length result.now ≡ count }
+{
+    &octets[from..from + count]
+}
+
+// What a configuration asks for.
+fn asked_by(config: &Config) -> Negotiation
+    ensures { result ≡ asked_by config.now }
+{
+    Negotiation {
+        calling: config.jobs,
+        called: config.jobs,
+        pdu: config.pdu,
+    }
+}

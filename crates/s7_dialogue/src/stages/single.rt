@@ -1,0 +1,283 @@
+// A job that asks one question at a time.
+ghost use Rattle.std.specs.Prelude.{◌≡◌, ◌+◌, ◌<◌, ◌≤◌, true, IsSome};
+ghost use Rattle.s7_dialogue.specs.declared.questions.subject.Subject.{Subject};
+ghost use Rattle.s7_dialogue.specs.declared.transfers.data_block.DataBlock.{DataBlock};
+ghost use Rattle.s7_dialogue.specs.declared.stages.single.Ask.TheVariants as asked;
+ghost use Rattle.s7_dialogue.specs.Singles.{message_count, room_for, parts_bring};
+
+use crate::answers::collect::{keep_octets, place_octets};
+use crate::codes::GOOD;
+use crate::grant::Leaves;
+use crate::job::Job;
+use crate::questions::subject::Subject;
+use crate::refusals::number_of_error;
+use crate::stages::asking::sequence_after;
+use crate::stages::running::{Running, Stage};
+use crate::transfers::data_block::{DataBlock, Place};
+use crate::transfers::download::Pieces;
+use crate::transfers::user_data::{Told, read_single};
+use s7_clock::Control;
+
+/// What such a job asks.
+#[derive(Clone, Copy, Drop)]
+pub(crate) enum Ask {
+    /// A control.
+    Control(Control),
+    /// User data about this.
+    About(Subject),
+    /// The next octets of an answer in user data, under this sequence octet.
+    Further(Subject, u8),
+    /// That the upload of the job's block begins.
+    Upload,
+    /// The next octets of the upload of this id, an image of so many octets.
+    Slice {
+        id: u8,
+        size: u32,
+    },
+    /// That the upload of this id ends.
+    UploadEnd {
+        id: u8,
+    },
+    /// That the download of the job's image begins.
+    Announce(Pieces),
+    /// Nothing: the server is to ask for the first piece of it.
+    AwaitCall(Pieces),
+    /// That the server goes on, to whose job of this sequence the image is given from a place on.
+    Give {
+        pieces: Pieces,
+        from: u32,
+        call: u16,
+    },
+    /// That the block is inserted, once the server's job of this sequence is answered, which closes the download.
+    Insert {
+        pieces: Pieces,
+        call: u16,
+    },
+    /// The head of a data block that is read or filled whole.
+    Head(DataBlock),
+    /// The next octets of that head, under this sequence octet.
+    HeadFurther(DataBlock, u8),
+    /// The part of the data block at this place.
+    Part(DataBlock, Place),
+}
+
+/// What a job that asks one question at a time has asked and asks next.
+#[derive(Drop)]
+pub struct Single {
+    /// What its telegram asks that is out, or else what it asks next.
+    pub(crate) ask: Ask,
+    /// The sequence of the telegram, where it went out, or the last one before, where it has none of the client's own.
+    pub(crate) out: Option<u16>,
+    /// How many of its messages went out and weren't put to be sent yet.
+    pub(crate) unput: usize,
+    /// How many octets of the answer came.
+    pub(crate) len: usize,
+    ghost first: { (subject : Subject) → ask ≡ asked.About subject → len ≡ 0 },
+    ghost alone: { (block : DataBlock) → ask ≡ asked.Head block → len ≡ 0 },
+    ghost most: { len + parts_bring ask ≤ room_for ask },
+    ghost put: { 0 < unput → IsSome out },
+    ghost few: { unput ≤ message_count ask },
+}
+
+impl Single {
+    ghost use Rattle.std.specs.Prelude.{ℕ, true, length, take, Some, None, IfSome, IfNone, if◌then◌else◌};
+    ghost use Rattle.s7_dialogue.specs.Answer.{answer_of};
+    ghost use Rattle.s7_dialogue.specs.Course.{next_sequence};
+    ghost use Rattle.s7_dialogue.specs.Stages.{question_of_single, is_writable};
+    ghost use Rattle.s7_dialogue.specs.Singles.{is_numbered_ask, TellsIfSome};
+
+    /// Asks the question, under the sequence after this one where it has one of the client's own, if nothing is out.
+    /// Gives the last sequence.
+    pub(crate) fn ask_on(&mut self, sequence: u16) -> u16
+        ensures asks { self.old.out ≡ None
+            → (result ≡ (if is_numbered_ask self.old.ask then next_sequence sequence else sequence))
+            × (self.new.out ≡ Some result) × (self.new.unput ≡ message_count self.old.ask) }
+        ensures waits { IsSome self.old.out → (result ≡ sequence) × (self.new ≡ self.old) }
+        ensures ask { self.new.ask ≡ self.old.ask }
+        ensures len { self.new.len ≡ self.old.len }
+    {
+        if self.out.is_some() {
+            return sequence;
+        }
+        let next = if self.ask.is_numbered() {
+            sequence_after(sequence)
+        } else {
+            sequence
+        };
+        self.out = Some(next);
+        self.unput = self.ask.message_count();
+        next
+    }
+
+    /// The sequence of its telegram, where a message of this wasn't put yet.
+    pub(crate) fn unput_sequence(&self) -> Option<u16>
+        ensures some { IfSome result (λ number. (0 < self.now.unput) × (self.now.out ≡ Some number)) }
+        ensures none { IfNone result (self.now.unput ≡ 0) }
+    {
+        if self.unput > 0 { self.out } else { None }
+    }
+
+    /// What the message tells of the answer to the telegram that is out, behind the octets that came,
+    /// which stand at the front of these.
+    pub(crate) fn answered<'a>(
+        &self,
+        job: &Job,
+        found: &[u8],
+        message: &'a [u8],
+    ) -> Option<Told<'a>>
+        requires { is_writable job.now self.now.ask ≡ true }
+        ensures some { IfSome result (λ told. (number : ℕ) × (self.now.out ≡ Some number)
+            × TellsIfSome self.now.ask (take self.now.len found.now) told
+            (answer_of (question_of_single job.now self.now.ask (take self.now.len found.now)) number message.now)) }
+        ensures none { IfNone result ((number : ℕ) → self.now.out ≡ Some number
+            → answer_of (question_of_single job.now self.now.ask (take self.now.len found.now)) number message.now
+            ≡ None) }
+    {
+        let Some(sequence) = self.out else {
+            return None;
+        };
+        // There is no place for octets where a control is asked.
+        let len = self.len.min(found.len());
+        read_single(job, &self.ask, &found[..len], sequence, message)
+    }
+}
+
+impl Ask {
+    ghost use Rattle.std.specs.Prelude.{Some};
+    ghost use Rattle.s7_dialogue.specs.Answer.{refuses};
+    ghost use Rattle.s7_dialogue.specs.Singles.{is_numbered_ask, lead_in, refusal_to};
+
+    /// The number that the job ends with where this error word refuses what is asked.
+    pub(crate) fn refused(&self, error: u16) -> u32
+        ensures { refusal_to self.now (refuses error) ≡ Some result }
+    {
+        match self {
+            Ask::Part(block, place) => block.refused(*place, number_of_error(error)),
+            _ => number_of_error(error),
+        }
+    }
+
+    /// How many messages go out for it.
+    pub(crate) fn message_count(&self) -> usize
+        ensures { result ≡ message_count self.now }
+    {
+        match self {
+            Ask::AwaitCall(_) => 0,
+            Ask::Insert { .. } => 2,
+            _ => 1,
+        }
+    }
+
+    /// It goes out under a sequence of the client's own.
+    fn is_numbered(&self) -> bool
+        ensures { result ≡ is_numbered_ask self.now }
+    {
+        !matches!(self, Ask::AwaitCall(_) | Ask::Give { .. })
+    }
+
+    /// How many octets of a whole answer stand before what was asked for.
+    fn lead(&self) -> usize
+        ensures { result ≡ lead_in self.now }
+    {
+        match self {
+            Ask::About(subject) | Ask::Further(subject, _) => subject.lead(),
+            _ => 0,
+        }
+    }
+}
+
+impl Running {
+    ghost use Rattle.std.specs.Prelude.{ℕ, ◌+◌, true, List, length, take, drop, None, Some, Option, IfSome, IfNone};
+    ghost use Rattle.std.specs.Prelude.{OnSome};
+    ghost use Rattle.s7_dialogue.specs.declared.config.Config.{Config};
+    ghost use Rattle.s7_dialogue.specs.declared.grant.Grant.{Grant};
+    ghost use Rattle.s7_dialogue.specs.Flight.{Row, filled};
+    ghost use Rattle.s7_dialogue.specs.Dialogue.{good_end};
+    ghost use Rattle.s7_dialogue.specs.Course.{Course, asking, for_nothing};
+    ghost use Rattle.s7_dialogue.specs.Stages.{IsSingle, can_ask_single};
+    ghost use Rattle.s7_dialogue.specs.Singles.{asks_left};
+    ghost use Rattle.s7_dialogue.specs.GoesOn.{IsNextOf};
+    ghost use Rattle.s7_dialogue.specs.Running.{Follows, Reached, IsOver, IsOpening, awaited_in, unput_of};
+    ghost use Rattle.s7_dialogue.specs.Running.{conduct_in, answers_left};
+
+    /// Takes a message as the answer to the one telegram that is out, and asks on under the sequence
+    /// after this one where more is to be asked. Gives the last sequence; `None` where it is no
+    /// answer to it.
+    pub(crate) fn take_alone(&mut self, sequence: u16, message: &[u8]) -> Option<u16>
+        requires { IsSingle self.old.stage }
+        ensures some { IfSome result (λ last. (config : Config) (granted : Option Grant) (course : Course)
+            → Follows self.old config granted course.rows → course.sequence ≡ sequence
+            → (rows : List Row) × (filled course.rows message.now ≡ Some rows)
+            × Reached config granted course
+            (asking (conduct_in self.old config granted) (record course { rows = rows })) self.new last) }
+        ensures none { IfNone result ((config : Config) (granted : Option Grant) (rows : List Row)
+            → Follows self.old config granted rows → filled rows message.now ≡ None) }
+        ensures unchanged { IfNone result (self.new ≡ self.old) }
+        ensures fewer { OnSome result (answers_left self.new.stage + 1 ≤ answers_left self.old.stage) }
+        ensures not_before { IsOpening self.new.stage → ⊥ }
+        ensures few { (config : Config) (size : ℕ) → 128 ≤ size → length (unput_of config size self.new) ≤ 16256 }
+        ensures job { self.new.job ≡ self.old.job }
+    {
+        let Stage::Single(single) = &self.stage else {
+            unreachable!()
+        };
+        let Some(told) = single.answered(&self.job, self.found.as_slice(), message) else {
+            return None;
+        };
+        let (ask, len) = (single.ask, single.len);
+        match told {
+            Told::Refused(number) => {
+                self.end(number, Leaves::AsItWas);
+                Some(sequence)
+            }
+            Told::Brought { octets, next } => {
+                place_octets(octets, self.found.as_mut_slice(), len);
+                let len = len + octets.len();
+                let Some(next) = next else {
+                    self.finish(ask.lead(), len);
+                    return Some(sequence);
+                };
+                Some(self.ask_next(next, len, sequence))
+            }
+            Told::Anew(next) => Some(self.ask_next(next, 0, sequence)),
+        }
+    }
+
+    // Asks this next under the sequence after this one, once so many octets of its answer came.
+    fn ask_next(&mut self, ask: Ask, len: usize, sequence: u16) -> u16
+        requires first { (subject : Subject) → ask ≡ asked.About subject → len ≡ 0 }
+        requires alone { (block : DataBlock) → ask ≡ asked.Head block → len ≡ 0 }
+        requires most { len + parts_bring ask ≤ room_for ask }
+        requires ready { can_ask_single self.old.job (length self.old.found.items) ask ≡ true }
+        ensures reached { (config : Config) (granted : Option Grant) (course : Course)
+            → IsNextOf config granted course.rows self.old.job self.old.found.items self.old.codes ask len
+            → course.sequence ≡ sequence
+            → Reached config granted course (asking (conduct_in self.old config granted) course) self.new result }
+        ensures fewer { answers_left self.new.stage ≤ asks_left ask len }
+        ensures not_before { IsOpening self.new.stage → ⊥ }
+        ensures few { (config : Config) (size : ℕ) → 128 ≤ size → length (unput_of config size self.new) ≤ 16256 }
+        ensures job { self.new.job ≡ self.old.job }
+    {
+        self.stage = Stage::Single(Single {
+            ask,
+            out: None,
+            unput: 0,
+            len,
+        });
+        self.go_on(sequence)
+    }
+
+    // Ends the job well with the octets from one place to another.
+    fn finish(&mut self, from: usize, to: usize)
+        ensures ends { (carried : List ℕ) → awaited_in self.new carried
+            ≡ for_nothing (good_end (drop from (take to self.old.found.items)) self.old.codes) carried }
+        ensures over { IsOver self.new.stage }
+        ensures job { self.new.job ≡ self.old.job }
+    {
+        keep_octets(&mut self.found, from, to);
+        self.stage = Stage::Over {
+            code: GOOD,
+            leaves: Leaves::AsItWas,
+        };
+    }
+}

@@ -1,0 +1,4 @@
+// Rigs of clients in memory.
+
+pub(crate) mod rig_report;
+pub(crate) mod rigging;
