@@ -1,5 +1,5 @@
 -- Laws of jobs that begin: the client stands at the beginning of the course.
-use Rattle.std.proofs.Common.{◌≡◌, ℕ, ◌-◌, List, [], ◌++◌, length, drop, map, refl, ap, sym, ◌∙◌, subst, arith}
+use Rattle.std.proofs.Common.{◌≡◌, ◌⊎◌, inl, inr, ℕ, ◌-◌, List, [], ◌++◌, length, drop, map, refl, ap, sym, ◌∙◌, subst, arith}
 use Rattle.std.specs.Prelude.{Option}
 use Rattle.std.proofs.lemmas.List.{append-nil, nil_from_length, length-drop}
 use Rattle.s7_wire.specs.Sent.{sent_messages}
@@ -9,6 +9,7 @@ use Rattle.s7_dialogue.specs.declared.grant.Grant.{Grant}
 use Rattle.s7_dialogue.specs.declared.grant.Leaves.{Leaves}
 use Rattle.s7_dialogue.specs.declared.stages.asking.Asking.{Asking}
 use Rattle.s7_dialogue.specs.declared.stages.flight.Flight.{Flight}
+use Rattle.s7_dialogue.specs.declared.stages.single.Single.{Single}
 use Rattle.s7_client.specs.declared.talk.Talk.{Talk}
 use Rattle.s7_dialogue.specs.declared.stages.running.Running.{Running}
 use Rattle.s7_dialogue.specs.declared.stages.running.Stage.{Stage}
@@ -250,3 +251,45 @@ begins_asking config t t' r r' last asks reached put reader sequence done not_be
   reader = reader;
   job = done;
 }
+
+-- ---- a job that asks, or is over
+
+-- what is known of a job that went on from its first questions, if there are any
+pub begins_going : (config : Config) (t t' : Talk) (r r' : Running) (last : ℕ) (st : Stage) → r.stage ≡ st
+    → (IsOpening st → ⊥) → (IsLeaving st → ⊥)
+    → ((granted : Option Grant) (before : Course) → Follows r config granted before.rows → before.sequence ≡ t.sequence
+    → unput_of config before.size r ≡ []
+    → Reached config granted before (asking (conduct_in r config granted) before) r' last)
+    → t'.outbox.unsent ≡ [] → t'.reader ≡ t.reader → t'.sequence ≡ last → r'.job ≡ r.job
+    → (IsOpening r'.stage → IsOpening r.stage) → ((IsAsking r.stage → ⊥) → (r' ≡ r) × (last ≡ t.sequence))
+    → BeginsTalk config t r t' r'
+begins_going config t t' r r' last stage.Opening is first silent reached put reader sequence done not_before same =
+    absurd (first tt)
+begins_going config t t' r r' last (stage.Asking a) is first silent reached put reader sequence done not_before same =
+    begins_asking config t t' r r' last (subst IsAsking (sym is) tt) reached put reader sequence done
+    (λ h. subst IsOpening is (not_before h))
+begins_going config t t' r r' last (stage.Single s) is first silent reached put reader sequence done not_before same =
+    begins_asking config t t' r r' last (subst IsAsking (sym is) tt) reached put reader sequence done
+    (λ h. subst IsOpening is (not_before h))
+begins_going config t t' r r' last stage.Leaving is first silent reached put reader sequence done not_before same =
+    absurd (silent tt)
+begins_going config t t' r r' last (stage.Over code leaves) is first silent reached put reader sequence done not_before
+    same =
+    let still = same (λ asks. subst IsAsking is asks) in
+    subst (λ (x : Running). BeginsTalk config t r t' x) (sym still.0)
+    (begins_over config t t' r code leaves is put reader (sequence ∙ still.1))
+
+-- a job that asks or is over has neither a connect nor a disconnect request first
+pub is_going : (st : Stage)
+    → ((x : Asking) × (st ≡ stage.Asking x)) ⊎ (((x : Single) × (st ≡ stage.Single x))
+    ⊎ ((code : ℕ) × (leaves : Leaves) × (st ≡ stage.Over code leaves)))
+    → (IsOpening st → ⊥) × (IsLeaving st → ⊥)
+is_going stage.Opening (inl h) = absurd (let e : stage.Opening ≡ stage.Asking h.0 = h.1 in cc)
+is_going stage.Opening (inr (inl h)) = absurd (let e : stage.Opening ≡ stage.Single h.0 = h.1 in cc)
+is_going stage.Opening (inr (inr h)) = absurd (let e : stage.Opening ≡ stage.Over h.0 h.1 = h.2 in cc)
+is_going stage.Leaving (inl h) = absurd (let e : stage.Leaving ≡ stage.Asking h.0 = h.1 in cc)
+is_going stage.Leaving (inr (inl h)) = absurd (let e : stage.Leaving ≡ stage.Single h.0 = h.1 in cc)
+is_going stage.Leaving (inr (inr h)) = absurd (let e : stage.Leaving ≡ stage.Over h.0 h.1 = h.2 in cc)
+is_going (stage.Asking a) h = ((λ e. e), λ e. e)
+is_going (stage.Single s) h = ((λ e. e), λ e. e)
+is_going (stage.Over code leaves) h = ((λ e. e), λ e. e)

@@ -3,6 +3,7 @@ use Rattle.std.proofs.Common.{◌≡◌, ◌==◌, Bool, true, false, cond, ℕ,
 use Rattle.std.specs.Prelude.{Option, None, Some, nat_lt}
 use Rattle.std.proofs.lemmas.Bool.Decides.{nat_tests}
 use Rattle.std.proofs.lemmas.List.{append-nil}
+use Rattle.s7_wire.specs.Reads.{unfinished_in}
 use Rattle.s7_dialogue.specs.declared.config.Config.{Config}
 use Rattle.s7_dialogue.specs.declared.job.Job.{Job}
 use Rattle.s7_dialogue.specs.declared.grant.Grant.{Grant}
@@ -18,7 +19,7 @@ use Rattle.s7_dialogue.specs.Flight.{Row, open_count, answers_of, filled}
 use Rattle.s7_dialogue.specs.Dialogue.{Conduct, End, connect_request, fault_end, plan_of}
 use Rattle.s7_dialogue.specs.Course.{Origin, Course, Awaits, for_confirm, for_answers, for_departure, for_nothing, conduct_of, asked_on, asking, with_fault, by_rows, with_message}
 use Rattle.s7_dialogue.specs.Running.{awaited_in, awaited_by, unput_of, unput_by, conduct_in, Reached, Follows, IsOver, IsAsking, IsOpening, IsLeaving, answers_left}
-use Rattle.s7_client.specs.At.{IsAt, IsAwaiting, LeavesOpen, LeavesLink, Reaches, joiner_in, messages_left, pending, size_in, unfinished_of}
+use Rattle.s7_client.specs.At.{IsAt, IsAwaiting, LeavesOpen, LeavesLink, Reaches, joiner_in, messages_left, pending, size_in}
 use Rattle.s7_dialogue.proofs.FlightLemmas.{asks_on}
 
 pub asking_awaits : (s : Stage) → IsAsking s → IsAwaiting s
@@ -176,7 +177,7 @@ reaches_asked : (origin : Origin) (before here : Course) (t : Talk) (u : UnderWa
     → origin.config ≡ config → origin.granted ≡ granted
     → Reached config granted before (asking c here) u.running last → u.running.job ≡ origin.job → size_in t ≡ before.size
     → size_in t ≡ here.size
-    → t.sequence ≡ last → unfinished_of (joiner_in t) ≡ here.unfinished → u.carried.octets ≡ [] → t.outbox.unsent ≡ []
+    → t.sequence ≡ last → unfinished_in (joiner_in t) ≡ here.unfinished → u.carried.octets ≡ [] → t.outbox.unsent ≡ []
     → Reaches origin before (asking c here) t u
 reaches_asked origin before here t u config granted c last ec eg h done size size' sequence unfinished silent none =
     let r = u.running in
@@ -206,7 +207,7 @@ pub reached : (origin : Origin) (before here : Course) (t : Talk) (u : UnderWay)
     → origin.config ≡ config → origin.granted ≡ granted → c ≡ conduct_of origin
     → Reached config granted before (asking c here) u.running last → u.running.job ≡ origin.job → size_in t ≡ before.size
     → size_in t ≡ here.size
-    → t.sequence ≡ last → unfinished_of (joiner_in t) ≡ here.unfinished → u.carried.octets ≡ [] → t.outbox.unsent ≡ []
+    → t.sequence ≡ last → unfinished_in (joiner_in t) ≡ here.unfinished → u.carried.octets ≡ [] → t.outbox.unsent ≡ []
     → Reaches origin before (asking (conduct_of origin) here) t u
 reached origin before here t u config granted c last ec eg same h done size size' sequence unfinished silent none =
     subst (λ x. Reaches origin before (asking x here) t u) same
@@ -253,7 +254,7 @@ reached_answer origin course t t' u u' config granted message whole rows last ec
     (reached origin course (record course { rows = rows }) t' u' config granted
     (conduct_in u.running config granted) last ec eg
     (conduct_same u.running.job origin.job config origin.config granted origin.granted at.job (sym ec) (sym eg))
-    h (done ∙ at.job) (size ∙ at.size) (size ∙ at.size) sequence (ap unfinished_of joiner ∙ at.unfinished going)
+    h (done ∙ at.job) (size ∙ at.size) (size ∙ at.size) sequence (ap unfinished_in joiner ∙ at.unfinished going)
     (carried ∙ at.silent going) none)
 
 -- a message that answers nothing
@@ -309,4 +310,4 @@ reached_open origin course t t' u u' r last opening at follows asks done done' c
     (conduct_same r.job origin.job origin.config origin.config origin.granted origin.granted (done ∙ at.job) refl refl)
     (asks (opened origin course t u r opening at follows) (sym at.sequence))
     (done' ∙ (done ∙ at.job)) (size ∙ at.size) (size ∙ at.size) sequence
-    (ap unfinished_of joiner ∙ at.unfinished going) (carried ∙ at.silent going) none
+    (ap unfinished_in joiner ∙ at.unfinished going) (carried ∙ at.silent going) none

@@ -1,7 +1,15 @@
 -- Laws of polls.
-use Rattle.std.proofs.Common.{◌≡◌, ℕ, Bool, true, List, [], ◌++◌, refl, ap, sym, ◌∙◌, subst}
-use Rattle.std.specs.Prelude.{Option, None, Some, unwrap_or, IsSome, is_some, not, option_map}
+use mathlib.Core.HLevel.{is_prop→PathP}
+use Rattle.std.proofs.Props.{props}
+use Rattle.std.proofs.Common.{◌≡◌, ℕ, ◌<◌, ◌≤◌, List, [], ◌++◌, refl, ap, sym, ◌∙◌, subst}
+use Rattle.std.specs.Prelude.{Option, None, Some, unwrap_or, IsSome, is_none, option_map}
+use Rattle.std.specs.Option.{ForSome}
 use Rattle.s7_outer.specs.Shown.{Shown}
+use Rattle.s7_header.specs.Negotiation.{most_pdu}
+use Rattle.s7_dialogue.specs.Stages.{IsGrant}
+use Rattle.s7_dialogue.specs.declared.config.Config.{Config}
+use Rattle.s7_dialogue.specs.declared.grant.Ending.{Ending}
+use Rattle.s7_dialogue.specs.declared.grant.Grant.{Grant}
 use Rattle.s7_dialogue.specs.declared.job.JobResult.{JobResult}
 use Rattle.s7_client.specs.declared.job.Polled.TheVariants as polled
 use Rattle.s7_dialogue.specs.declared.grant.Leaves.{Leaves}
@@ -12,25 +20,54 @@ use Rattle.s7_dialogue.specs.Dialogue.{End}
 use Rattle.s7_dialogue.specs.Running.{awaited_in, IsResult}
 use Rattle.s7_dialogue.specs.Course.{Origin, for_nothing}
 use Rattle.s7_client.specs.At.{size_in}
-use Rattle.s7_client.specs.Standing.{Stands, unread}
-use Rattle.s7_client.specs.Polling.{StandsFor, IsPoll, IsDoneBy, WaitsOnce, RoundGoesOn, RoundEnds, grant_after, closed_after, job_of, waited_of}
+use Rattle.s7_client.specs.Standing.{Stands, Fits, IsBetween, unread, unsent}
+use Rattle.s7_client.specs.Polling.{StandsFor, IsPoll, IsDoneBy, WaitsOnce, Round, RoundGoesOn, RoundEnds, grant_after, closed_after, job_of, waited_of}
 use Rattle.s7_client.proofs.LinkLemmas.{moves_none}
-
-none_is : (o : Option UnderWay) (empty : Bool) → is_some o ≡ not empty → empty ≡ true → o ≡ None
-none_is None empty e h = refl
-none_is (Some u) empty e h = absurd (cc)
 
 none_under : (o : Option UnderWay) (u : UnderWay) → o ≡ None → o ≡ Some u → ⊥
 none_under o u none some = cc
 
-pub poll_idle : (c : Connection) (link : Shown) (empty : Bool) → is_some c.job ≡ not empty → empty ≡ true
-    → IsPoll c link c link polled.Idle
-poll_idle c link empty e h = record {
-  moves = moves_none c.channel link;
-  orderly = λ origin b w s. absurd (none_under c.job s.under_way (none_is c.job empty e h) s.is);
-  config = refl;
-  comes = (ap (option_map (λ (u : UnderWay). u.running.job)) (none_is c.job empty e h), refl, refl);
+pub poll_idle : (c c' : Connection) (link : Shown) → c.job ≡ None → c' ≡ c → IsPoll c link c' link polled.Idle
+poll_idle c c' link none same =
+    subst (λ (x : Connection). IsPoll c link x link polled.Idle) (sym same)
+    (record {
+      moves = moves_none c.channel link;
+      orderly = λ origin b w s. absurd (none_under c.job s.under_way none s.is);
+      config = refl;
+      comes = (ap (option_map (λ (u : UnderWay). u.running.job)) none, refl, refl);
+    })
+
+pub not_under : (o : Option UnderWay) → ((u : UnderWay) → o ≡ Some u → ⊥) → o ≡ None
+not_under None other = refl
+not_under (Some u) other = absurd (other u refl)
+
+-- a client whose parts are the same
+pub same_parts : (c c' : Connection) → (config : c'.config ≡ c.config) → (granted : c'.granted ≡ c.granted)
+    → (closed : c'.is_closed ≡ c.is_closed) → (channel : c'.channel ≡ c.channel) → (job : c'.job ≡ c.job) → c' ≡ c
+same_parts c c' config granted closed channel job = λ i. record {
+  config = config i;
+  granted = granted i;
+  is_closed = closed i;
+  channel = channel i;
+  job = job i;
+  fits = is_prop→PathP (λ j. ForSome (job j) (λ u. Fits (channel j) u)) (λ j. hlevel props) c'.fits c.fits i;
+  waits = is_prop→PathP (λ j. ForSome (job j) (λ u. u.waited < (config j).polls)) (λ j. hlevel props) c'.waits c.waits i;
+  grants = is_prop→PathP (λ j. ForSome (granted j) IsGrant) (λ j. hlevel props) c'.grants c.grants i;
+  between =
+      is_prop→PathP (λ j. job j ≡ None → IsSome (granted j) → IsBetween (channel j)) (λ j. hlevel props) c'.between
+      c.between i;
+  quiet = is_prop→PathP (λ j. job j ≡ None → unsent (channel j) ≡ []) (λ j. hlevel props) c'.quiet c.quiet i;
+  most_pdu = is_prop→PathP (λ j. (config j).pdu ≤ most_pdu) (λ j. hlevel props) c'.most_pdu c.most_pdu i;
+  most_jobs = is_prop→PathP (λ j. (config j).jobs ≤ 8) (λ j. hlevel props) c'.most_jobs c.most_jobs i;
+  least_polls = is_prop→PathP (λ j. 1 ≤ (config j).polls) (λ j. hlevel props) c'.least_polls c.least_polls i;
 }
+
+-- a round that doesn't say how the job is over goes on
+pub round_pending : (l l' : Channel) (u u' : UnderWay) (link link' : Shown) (config : Config) (granted : Option Grant)
+    (ended : Option Ending) → Round l u link l' u' link' config granted (is_none ended)
+    → ((ending : Ending) → ended ≡ Some ending → ⊥) → RoundGoesOn l u link l' u' link' config granted
+round_pending l l' u u' link link' config granted None round other = round
+round_pending l l' u u' link link' config granted (Some ending) round other = absurd (other ending refl)
 
 pub same_under : (u u' : UnderWay) → Some u ≡ Some u' → u ≡ u'
 same_under u u' e = ap (λ o. unwrap_or o u) e

@@ -6,7 +6,7 @@ use Rattle.s7_outer.specs.Shown.{Shown}
 use Rattle.s7_tpkt.specs.Packets.{HoldsRest}
 use Rattle.s7_cotp.specs.Pairs.{pairs_of, pairs_from, fragments_of}
 use Rattle.s7_wire.specs.Bounds.{most_packets}
-use Rattle.s7_wire.specs.Reads.{size_at, held_by}
+use Rattle.s7_wire.specs.Reads.{size_at, unfinished_in, held_by}
 use Rattle.s7_wire.specs.declared.reader.Reader.{Reader}
 use Rattle.s7_wire.specs.Sent.{fragment_octets, sent_message}
 use Rattle.s7_dialogue.specs.declared.config.Config.{Config}
@@ -21,7 +21,7 @@ use Rattle.s7_client.specs.declared.channel.Step.{Step}
 use Rattle.s7_dialogue.specs.Flight.{Row}
 use Rattle.s7_dialogue.specs.Running.{awaited_in, unput_of, Follows, IsOver, IsOpening, IsAsking, IsLeaving, answers_left}
 use Rattle.s7_dialogue.specs.Course.{Origin, Course, course, limits}
-use Rattle.s7_client.specs.At.{IsAt, IsReading, IsClear, LeavesOpen, Puts, joiner_in, messages_left, pending, size_by, size_in, unfinished_of}
+use Rattle.s7_client.specs.At.{IsAt, IsReading, IsClear, LeavesOpen, Puts, joiner_in, messages_left, pending, size_by, size_in}
 use Rattle.s7_client.specs.Standing.{Stands, Fits, IsBetween, IsStep, unsent}
 use Rattle.s7_client.proofs.PacketLemmas.{asking_awaits, one_is_none, opening_not_asking, over_not_asking}
 use Rattle.s7_client.proofs.StepLemmas.{left_over}
@@ -76,7 +76,7 @@ at_put origin c t t' u r config ec p at =
       job = p.job ∙ at.job;
       size = put_size config t t' u.running r p ∙ at.size;
       sequence = p.sequence ∙ at.sequence;
-      unfinished = λ h. ap (λ (x : Reader). unfinished_of x.transport.joiner) p.reader
+      unfinished = λ h. ap (λ (x : Reader). unfinished_in x.transport.joiner) p.reader
           ∙ at.unfinished (λ o. h (forth IsOver over_not_asking s r.stage same o));
       awaits = at.awaits ∙ sym (p.awaits u.carried.octets);
       opens = λ h. at.opens (back IsOpening opening_not_asking s r.stage same h);

@@ -1,8 +1,9 @@
 -- Laws of rounds of steps.
 use Rattle.std.proofs.Common.{◌≡◌, Bool, true, false, inl, inr, ℕ, ◌+◌, ◌≤◌, List, [], ◌++◌, refl, ap, sym, ◌∙◌, subst, append_assoc, arith}
-use Rattle.std.specs.Prelude.{Option, Some}
+use Rattle.std.specs.Prelude.{Option, None, Some, IfNone, is_none}
 use Rattle.s7_outer.specs.Shown.{Shown}
 use Rattle.s7_dialogue.specs.declared.config.Config.{Config}
+use Rattle.s7_dialogue.specs.declared.grant.Ending.{Ending}
 use Rattle.s7_dialogue.specs.declared.grant.Grant.{Grant}
 use Rattle.s7_dialogue.specs.declared.stages.running.Stage.{Stage}
 use Rattle.s7_dialogue.specs.declared.stages.running.Stage.TheVariants as stage
@@ -279,3 +280,12 @@ pub round_by : (l l' : Channel) (u u1 u' : UnderWay) (link link' : Shown) (confi
     → Waits u1 u' config.polls goes_on → Round l u link l' u' link' config granted goes_on
 round_by l l' u u1 u' link link' config granted true k v = round_goes_on l l' u u1 u' link link' config granted k v
 round_by l l' u u1 u' link link' config granted false k v = round_tires l l' u u1 u' link link' config granted k v
+
+-- ---- how a job is over
+
+-- a job that is over, and how it is
+pub round_over : (l l' : Channel) (u u' : UnderWay) (link link' : Shown) (config : Config) (granted : Option Grant)
+    (ended : Option Ending) → IsStep l u link l' u' link' config granted step.Over
+    → IfNone ended (IsOver u'.running.stage → ⊥) → Round l u link l' u' link' config granted (is_none ended)
+round_over l l' u u' link link' config granted None k going = absurd (going (k.over refl))
+round_over l l' u u' link link' config granted (Some ending) k going = round_ends l l' u u' link link' config granted k

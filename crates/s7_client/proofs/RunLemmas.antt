@@ -11,6 +11,7 @@ use Rattle.s7_dialogue.specs.declared.grant.Grant.{Grant}
 use Rattle.s7_dialogue.specs.declared.job.Job.{Job}
 use Rattle.s7_dialogue.specs.declared.job.Job.TheVariants as job
 use Rattle.s7_dialogue.specs.declared.job.JobResult.{JobResult}
+use Rattle.s7_client.specs.declared.job.Polled.{Polled}
 use Rattle.s7_client.specs.declared.job.Polled.TheVariants as polled
 use Rattle.s7_client.specs.declared.under_way.UnderWay.{UnderWay}
 use Rattle.s7_client.specs.declared.connection.Connection.{Connection}
@@ -245,5 +246,12 @@ none_some : (o : Option Job) → IsSome o → o ≡ None → ⊥
 none_some None h e = cc
 none_some (Some x) h e = cc
 
-pub none_awaited : (c : Connection) → IsSome (job_of c) → job_of c ≡ None → ⊥
+none_awaited : (c : Connection) → IsSome (job_of c) → job_of c ≡ None → ⊥
 none_awaited c some none = none_some (job_of c) some none
+
+-- a poll that isn't done leaves the job outstanding
+pub pends_still : (old c c2 : Connection) (k k1 k2 : Shown) (result : Polled) → StillWaits old k c k1
+    → ((told : JobResult) → result ≡ polled.Done told → ⊥) → IsPoll c k1 c2 k2 result → IsPoll c k1 c2 k2 polled.Pending
+pends_still old c c2 k k1 k2 (polled.Done told) m other p = absurd (other told refl)
+pends_still old c c2 k k1 k2 polled.Pending m other p = p
+pends_still old c c2 k k1 k2 polled.Idle m other p = absurd (none_awaited c m.some p.comes.0)

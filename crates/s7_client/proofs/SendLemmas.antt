@@ -7,7 +7,7 @@ use Rattle.s7_outer.specs.Shown.{Shown}
 use Rattle.s7_outer.specs.Count.{Rose}
 use Rattle.s7_outer.specs.declared.link.Sent.TheVariants as sent
 use Rattle.s7_tpkt.specs.Packets.{HoldsRest}
-use Rattle.s7_wire.specs.Reads.{size_at, held_by}
+use Rattle.s7_wire.specs.Reads.{size_at, unfinished_in, held_by}
 use Rattle.s7_wire.specs.declared.reader.Reader.{Reader}
 use Rattle.s7_dialogue.specs.declared.config.Config.{Config}
 use Rattle.s7_dialogue.specs.declared.grant.Grant.{Grant}
@@ -20,7 +20,7 @@ use Rattle.s7_dialogue.specs.Codes.{send_failed}
 use Rattle.s7_dialogue.specs.Dialogue.{End, fault_end, departed_end}
 use Rattle.s7_dialogue.specs.Running.{awaited_in, awaited_by, unput_of, IsOver, IsLeaving}
 use Rattle.s7_dialogue.specs.Course.{Origin, Course, for_departure, for_nothing, course, may_send, limits}
-use Rattle.s7_client.specs.At.{IsAt, IsReading, IsClear, budget, pending, joiner_in, size_by, size_in, unfinished_of}
+use Rattle.s7_client.specs.At.{IsAt, IsReading, IsClear, budget, pending, joiner_in, size_by, size_in}
 use Rattle.s7_client.specs.Standing.{Stands, Fits, IsStep, unread, unsent}
 use Rattle.s7_client.proofs.PlanLemmas.{plan_leaves}
 use Rattle.s7_client.proofs.PacketLemmas.{closed_stage, left_by, none_over}
@@ -46,7 +46,7 @@ at_sent origin c l l' u written k at = record {
   job = at.job;
   size = same_size l l' written k ∙ at.size;
   sequence = k.sequence ∙ at.sequence;
-  unfinished = λ h. ap (λ (r : Reader). unfinished_of r.transport.joiner) k.reader ∙ at.unfinished h;
+  unfinished = λ h. ap (λ (r : Reader). unfinished_in r.transport.joiner) k.reader ∙ at.unfinished h;
   awaits = at.awaits;
   opens = at.opens;
   follows = at.follows;

@@ -1,10 +1,9 @@
 -- Laws of jobs that are started.
 use Rattle.std.proofs.Common.{◌≡◌, ℕ, ◌<◌, Bool, true, false, List, [], ◌++◌, length, length-append, refl, ap, sym, ◌∙◌, subst, arith}
 use Rattle.std.specs.Prelude.{Option, None, Some, IsSome, if◌then◌else◌, option_map, unwrap_or}
-use Rattle.s7_cotp.specs.Gathered.{Gathered}
 use Rattle.s7_tpkt.specs.Packets.{packets_of, rest_of}
 use Rattle.s7_wire.specs.Reading.{Progress, start, reading}
-use Rattle.s7_wire.specs.Reads.{HasRead, opens_by, ended_with, size_at, held_by}
+use Rattle.s7_wire.specs.Reads.{HasRead, opens_by, ended_with, size_at, unfinished_in, held_by}
 use Rattle.s7_wire.specs.declared.found.Opening.{Opening}
 use Rattle.s7_wire.specs.declared.found.Opening.TheVariants.{Confirm}
 use Rattle.s7_wire.specs.declared.reader.Reader.{Reader}
@@ -24,14 +23,14 @@ use Rattle.s7_dialogue.specs.Codes.{not_connected}
 use Rattle.s7_dialogue.specs.Dialogue.{End, First, nothing, connect_request, disconnect_request, number_end, Plan, over, plan_of}
 use Rattle.s7_dialogue.specs.Running.{awaited_in, awaited_by, Begins, BeginsAt, IsOver, IsOpening}
 use Rattle.s7_dialogue.specs.Course.{Origin, for_nothing, begun, by_first, blank, conduct_of, limits, begins_anew, size_at as size_of_link, sequence_at, nothing_unfinished}
-use Rattle.s7_client.specs.At.{IsAt, IsReading, IsClear, LeavesOpen, StartsAt, BeginsTalk, joiner_in, size_in, unfinished_of}
+use Rattle.s7_client.specs.At.{IsAt, IsReading, IsClear, LeavesOpen, StartsAt, BeginsTalk, joiner_in, size_in}
 use Rattle.s7_client.specs.Standing.{Fits, IsBetween, unread, unsent}
 use Rattle.s7_client.specs.Polling.{IsStarted, IsNew, IsBlank, origin_at}
 use Rattle.s7_dialogue.proofs.FlightLemmas.{asks_on}
 use Rattle.s7_client.proofs.BeginLemmas.{begun_by, silent_asked}
 use Rattle.s7_client.proofs.PacketLemmas.{left_by, over_not_opening}
 use Rattle.s7_client.proofs.PlanLemmas.{plan_opens, plan_anew}
-use Rattle.s7_client.proofs.StepLemmas.{clear_as, left_over, limit_here}
+use Rattle.s7_client.proofs.StepLemmas.{clear_as, nothing_as, left_over, limit_here}
 use Rattle.s7_client.proofs.TurnLemmas.{limit_read}
 use Rattle.s7_client.proofs.CourseLemmas.{course_nothing, holds_nothing}
 
@@ -50,7 +49,7 @@ begun_unfinished origin = first_unfinished origin (plan_of origin.job origin.con
 -- the client stands at the beginning of the course
 begun_at : (origin : Origin) (l : Channel) (u : UnderWay) → u.running.job ≡ origin.job → IsBlank u
     → StartsAt origin (begun origin) l.talk u.running
-    → ((IsOver u.running.stage → ⊥) → unfinished_of (joiner_in l.talk) ≡ nothing_unfinished)
+    → ((IsOver u.running.stage → ⊥) → unfinished_in (joiner_in l.talk) ≡ nothing_unfinished)
     → IsAt origin (begun origin) l.talk u
 begun_at origin l u done blank_ starts unfinished = record {
   job = done;
@@ -75,10 +74,6 @@ pub record IsReady (t : Talk) (s : Stage) : Type 0 where
   pub unsized : IsOpening s → size_at t.reader ≡ None
   pub sized : (IsOpening s → ⊥) → IsSome (size_at t.reader)
 
-none_unfinished : (j : Gathered) → IsClear j → unfinished_of j ≡ nothing_unfinished
-none_unfinished j h = ap (λ o. record { octets = o; count = j.count }) h.octets
-    ∙ ap (λ n. record { octets = []; count = n }) h.count
-
 -- a job was started
 started : (old new : Connection) (done : Job) (u : UnderWay) → new.job ≡ Some u → u.running.job ≡ done → IsBlank u
     → StartsAt (origin_at old done) (begun (origin_at old done)) new.channel.talk u.running
@@ -90,7 +85,7 @@ started : (old new : Connection) (done : Job) (u : UnderWay) → new.job ≡ Som
 started old new done u is same blank_ starts config granted inbox closed ready =
     let origin = origin_at old done in
     let at = begun_at origin new.channel u same blank_ starts
-    (λ h. none_unfinished (joiner_in new.channel.talk) (ready h).clear) in
+    (λ h. nothing_as new.channel.talk.reader (ready h).clear) in
     let nothing_used = course_nothing origin in
     record {
       stands = record {

@@ -7,7 +7,6 @@ use Rattle.std.proofs.lemmas.List.{append-nil, length-take-le, take-append-drop}
 use Rattle.s7_tpkt.specs.Packets.{state_of}
 use Rattle.s7_tpkt.specs.declared.state.FedState.TheVariants as fed
 use Rattle.s7_wire.specs.Bounds.{size_of_code}
-use Rattle.s7_wire.specs.Reading as link
 use Rattle.s7_wire.specs.Reading.{limit_by}
 use Rattle.s7_wire.specs.Reads.{HasRead, HasFound, opens_by, size_at, message_at, unfinished_in, held_by, limit_at}
 use Rattle.s7_wire.specs.declared.found.Found.{Found}
@@ -26,12 +25,12 @@ use Rattle.s7_client.specs.declared.under_way.UnderWay.{UnderWay}
 use Rattle.s7_dialogue.specs.Codes.{link_ended}
 use Rattle.s7_dialogue.specs.Dialogue.{fault_end}
 use Rattle.s7_dialogue.specs.Running.{awaited_in, awaited_by, unput_of, IsOver, IsOpening, IsAsking}
-use Rattle.s7_dialogue.specs.Course.{Origin, Course, for_nothing, nothing_unfinished, conduct_of, asking, with_fault, with_message, course, may_send, limit_in, limit_where}
+use Rattle.s7_dialogue.specs.Course.{Origin, Course, Unfinished, for_nothing, nothing_unfinished, conduct_of, asking, with_fault, with_message, size_where, code_where, course, may_send, limit_in}
 use Rattle.s7_client.specs.At.{IsAt, IsReading, Reaches, Settles, IsAwaiting, IsClear, LeavesOpen, code_at, joiner_in, messages_left, budget, pending, size_by, size_in}
 use Rattle.s7_client.specs.Standing.{Stands, Fits, Consumes, AwaitsOctets, IsPrefixOf, unread, unsent, work}
 use Rattle.s7_client.proofs.PacketLemmas.{awaits_some, over_none, awaiting_goes_on, closed_stage, over_not_opening, over_not_asking, over_not_leaving, none_pending, none_over}
 use Rattle.s7_client.proofs.FrontLemmas.{OnlyLastShows, earliest_of, all_awaited_on, sent_first_on}
-use Rattle.s7_client.proofs.FoundLemmas.{AreAlike, after_found, as_course, code_where}
+use Rattle.s7_client.proofs.FoundLemmas.{AreAlike, after_found}
 use Rattle.s7_client.proofs.TurnLemmas.{IsAlike, Reads, Turns, held_short, limit_read, reads_octets}
 
 pub prefix_on : (front all more : List ℕ) → IsPrefixOf front all → IsPrefixOf front (all ++ more)
@@ -71,27 +70,28 @@ sent_whole origin l u b w config ec s none =
 
 -- ---- what fits a job and its reader
 
--- the limit of a packet is that of the course
-limit_alike : (size : Option ℕ) (s : Stage) (found codes carried : List ℕ) → (IsOver s → ⊥)
+-- the link is read by the size that the reader has
+size_alike : (size : Option ℕ) (s : Stage) (found codes carried : List ℕ) → (IsOver s → ⊥)
     → (IsOpening s → size ≡ None) → ((IsOpening s → ⊥) → IsSome size)
-    → limit_where (awaited_by found codes carried s) (unwrap_or size 1024) ≡ limit_by size
-limit_alike None stage.Opening found codes carried going none some = refl
-limit_alike (Some n) stage.Opening found codes carried going none some = absurd (let x = none tt in cc)
-limit_alike None (stage.Asking a) found codes carried going none some = absurd (let x = some (λ h. h) in cc)
-limit_alike (Some n) (stage.Asking a) found codes carried going none some = refl
-limit_alike None (stage.Single s) found codes carried going none some = absurd (let x = some (λ h. h) in cc)
-limit_alike (Some n) (stage.Single s) found codes carried going none some = refl
-limit_alike None stage.Leaving found codes carried going none some = absurd (let x = some (λ h. h) in cc)
-limit_alike (Some n) stage.Leaving found codes carried going none some = refl
-limit_alike size (stage.Over code leaves) found codes carried going none some = absurd (going tt)
+    → size_where (awaited_by found codes carried s) (unwrap_or size 1024) ≡ size
+size_alike None stage.Opening found codes carried going none some = refl
+size_alike (Some n) stage.Opening found codes carried going none some = absurd (let x = none tt in cc)
+size_alike None (stage.Asking a) found codes carried going none some = absurd (let x = some (λ h. h) in cc)
+size_alike (Some n) (stage.Asking a) found codes carried going none some = refl
+size_alike None (stage.Single s) found codes carried going none some = absurd (let x = some (λ h. h) in cc)
+size_alike (Some n) (stage.Single s) found codes carried going none some = refl
+size_alike None stage.Leaving found codes carried going none some = absurd (let x = some (λ h. h) in cc)
+size_alike (Some n) stage.Leaving found codes carried going none some = refl
+size_alike size (stage.Over code leaves) found codes carried going none some = absurd (going tt)
 
+-- the limit of a packet is that of the course
 pub limit_here : (c : Course) (t : Talk) (r : Running) (carried : List ℕ) → c.awaits ≡ awaited_in r carried
     → size_in t ≡ c.size → (IsOver r.stage → ⊥) → (IsOpening r.stage → size_at t.reader ≡ None)
     → ((IsOpening r.stage → ⊥) → IsSome (size_at t.reader)) → limit_in c ≡ limit_by (size_at t.reader)
 limit_here c t r carried awaits same going none some =
-    ap (λ a. limit_where a c.size) awaits
-    ∙ (ap (limit_where (awaited_in r carried)) (sym same)
-    ∙ limit_alike (size_at t.reader) r.stage r.found.items r.codes carried going none some)
+    ap limit_by (ap (λ a. size_where a c.size) awaits
+    ∙ (ap (size_where (awaited_in r carried)) (sym same)
+    ∙ size_alike (size_at t.reader) r.stage r.found.items r.codes carried going none some))
 
 -- a job that awaits octets awaits the confirm, or answers behind it
 awaits_alike : (size : Option ℕ) (s : Stage) (found codes carried : List ℕ) → IsAwaiting s
@@ -189,13 +189,13 @@ pub message_short : (l : Channel) (t : Talk) (after used : List ℕ) (found : Fo
 message_short l t after used found k is = (subst (λ x. Turns x l.talk.reader t.reader) is k.reads.turns).3
 
 -- no message is begun where nothing is unfinished
-pub clear_as : (r : Reader) → unfinished_in r.transport.joiner ≡ link.nothing_unfinished → IsClear r.transport.joiner
+pub clear_as : (r : Reader) → unfinished_in r.transport.joiner ≡ nothing_unfinished → IsClear r.transport.joiner
 clear_as r e = record {
-  octets = ap (λ (u : link.Unfinished). u.octets) e;
-  count = ap (λ (u : link.Unfinished). u.count) e;
+  octets = ap (λ (u : Unfinished). u.octets) e;
+  count = ap (λ (u : Unfinished). u.count) e;
 }
 
-nothing_as : (r : Reader) → IsClear r.transport.joiner → unfinished_in r.transport.joiner ≡ link.nothing_unfinished
+pub nothing_as : (r : Reader) → IsClear r.transport.joiner → unfinished_in r.transport.joiner ≡ nothing_unfinished
 nothing_as r h =
     ap (λ x. record { octets = x; count = r.transport.joiner.count }) h.octets
     ∙ ap (λ n. record { octets = []; count = n }) h.count
@@ -256,6 +256,23 @@ consumes l l' u u' used found config granted fits awaiting sent unput some earli
 sent_with : (all w more : List ℕ) → all ≡ w → more ≡ [] → all ≡ w ++ more
 sent_with all w more sent none = sent ∙ (sym (append-nil w) ∙ ap (λ x. w ++ x) (sym none))
 
+-- the client stands where its reader has come, with this size and this of a message that isn't whole
+at_read : (origin : Origin) (c : Course) (t t' : Talk) (u : UnderWay) (size : ℕ) (unfinished : Unfinished)
+    → IsAt origin c t u → size_in t' ≡ size → t'.sequence ≡ t.sequence
+    → unfinished_in t'.reader.transport.joiner ≡ unfinished
+    → IsAt origin (record c { size = size; unfinished = unfinished }) t' u
+at_read origin c t t' u size unfinished at size_is sequence unfinished_is = record {
+  job = at.job;
+  size = size_is;
+  sequence = sequence ∙ at.sequence;
+  unfinished = λ h. unfinished_is;
+  awaits = at.awaits;
+  opens = at.opens;
+  follows = at.follows;
+  departs = at.departs;
+  silent = at.silent;
+}
+
 -- ---- nothing was found
 
 less_more : (s : Stage) (count count' held held' out out' : ℕ) → 1 ≤ messages_left s → count' ≤ 64 → held' ≤ 8199
@@ -297,17 +314,8 @@ consumes_more l l' u used found config granted is fits awaiting sent unput front
     (λ origin c ec eg at.
     subst (λ x. Reaches origin c (after_found (conduct_of origin) c x (message_at r')
     (unfinished_in r'.transport.joiner)) l'.talk u) (sym is) (record {
-      at = record {
-        job = at.job;
-        size = size ∙ at.size;
-        sequence = ap (λ (t : Talk). t.sequence) talk ∙ at.sequence;
-        unfinished = λ h. refl;
-        awaits = at.awaits;
-        opens = at.opens;
-        follows = at.follows;
-        departs = at.departs;
-        silent = at.silent;
-      };
+      at = at_read origin c l.talk l'.talk u c.size (unfinished_in r'.transport.joiner) at (size ∙ at.size)
+          (ap (λ (t : Talk). t.sequence) talk) refl;
       out = sent_with c.out c.out _ refl
           (ap (λ (k : Config). pending k l'.talk u.running) ec ∙ none');
     }))
@@ -320,14 +328,15 @@ less_over : (s s' : Stage) (count count' held held' out out' : ℕ) → 1 ≤ me
 less_over s s' count count' held held' out out' a over most short none = omega (arith, a, over, most, short, none)
 
 -- the course ends with a fault
-fault_at : (origin : Origin) (c : Course) (t t' : Talk) (u u' : UnderWay) (code : ℕ) → IsAt origin c t u
+fault_at : (origin : Origin) (c : Course) (t t' : Talk) (u u' : UnderWay) (code : ℕ) (unfinished : Unfinished)
+    → IsAt origin c t u
     → size_in t' ≡ size_in t → t'.sequence ≡ t.sequence
     → u'.running.job ≡ u.running.job → u'.carried.octets ≡ u.carried.octets
     → (IsOver u.running.stage → ⊥)
     → ((carried : List ℕ) → awaited_in u'.running carried ≡ for_nothing (fault_end code) carried)
     → IsOver u'.running.stage
-    → IsAt origin (with_fault c code) t' u'
-fault_at origin c t t' u u' code at size sequence job carried going e over = record {
+    → IsAt origin (with_fault (record c { unfinished = unfinished }) code) t' u'
+fault_at origin c t t' u u' code unfinished at size sequence job carried going e over = record {
   job = job ∙ at.job;
   size = size ∙ at.size;
   sequence = sequence ∙ at.sequence;
@@ -346,7 +355,7 @@ consumes_end : (l l' : Channel) (u u' : UnderWay) (used : List ℕ) (found : Fou
     → size_at l'.talk.reader ≡ size_at l.talk.reader
     → ((conduct : _) (c : Course) → c.awaits ≡ awaited_in u.running u.carried.octets
     → after_found conduct c found (message_at l'.talk.reader) (unfinished_in l'.talk.reader.transport.joiner)
-    ≡ with_fault c code)
+    ≡ with_fault (record c { unfinished = unfinished_in l'.talk.reader.transport.joiner }) code)
     → ((carried : List ℕ) → awaited_in u'.running carried ≡ for_nothing (fault_end code) carried)
     → IsOver u'.running.stage → u'.running.job ≡ u.running.job
     → u'.carried ≡ u.carried → u'.waited ≡ u.waited
@@ -375,8 +384,9 @@ consumes_end l l' u u' used found config granted code fits awaiting sent unput f
     (held_short r (fits.reads going)) (ap length (none_over config l'.talk u'.running none over)))
     (λ origin c ec eg at.
     subst (λ x. Reaches origin c x l'.talk u') (sym (after (conduct_of origin) c at.awaits)) (record {
-      at = fault_at origin c l.talk l'.talk u u' code at (ap (λ o. unwrap_or o 1024) size)
-          (ap (λ (t : Talk). t.sequence) talk) job (ap (λ x. x.octets) carried) going e over;
+      at = fault_at origin c l.talk l'.talk u u' code (unfinished_in l'.talk.reader.transport.joiner) at
+          (ap (λ o. unwrap_or o 1024) size) (ap (λ (t : Talk). t.sequence) talk) job (ap (λ x. x.octets) carried) going
+          e over;
       out = sent_with c.out c.out _ refl (none_over origin.config l'.talk u'.running none over);
     }))
 
@@ -423,7 +433,8 @@ consumes_fault l l' u u' used found fault code config granted is fits awaiting s
     (subst (λ x. Turns x l.talk.reader l'.talk.reader) is front.reads.turns)
     (λ conduct c awaits. ap (λ x. after_found conduct c x (message_at l'.talk.reader)
     (unfinished_in l'.talk.reader.transport.joiner)) is
-    ∙ ap (with_fault c) (ap (λ a. code_where a fault) awaits
+    ∙ ap (with_fault (record c { unfinished = unfinished_in l'.talk.reader.transport.joiner }))
+    (ap (λ a. code_where a fault) awaits
     ∙ (code_by fault r.stage r.found.items r.codes u.carried.octets ∙ sym same)))
 
 -- ---- the confirm, and a message
@@ -449,7 +460,7 @@ consumes_settled : (l : Channel) (m : Talk) (l' : Channel) (u u' : UnderWay) (us
     → unread l ≡ used ++ unread l'
     → Reads l.talk.reader l'.talk.reader used found → Settles config m u l'.talk u'
     → IsReading l'.talk.reader → IsSome (size_at l'.talk.reader)
-    → unfinished_in l'.talk.reader.transport.joiner ≡ link.nothing_unfinished → held_by l'.talk.reader ≡ []
+    → unfinished_in l'.talk.reader.transport.joiner ≡ nothing_unfinished → held_by l'.talk.reader ≡ []
     → ((origin : Origin) (c : Course) → origin.config ≡ config → origin.granted ≡ granted → IsAt origin c l.talk u
     → Reaches origin c (after_found (conduct_of origin) c found (message_at l'.talk.reader)
     (unfinished_in l'.talk.reader.transport.joiner)) l'.talk u')
@@ -485,23 +496,6 @@ consumes_settled l m l' u u' used found config granted fits awaiting sent unput 
     (few_pending config l'.talk u'.running settles.none
     (settles.few (size_in l'.talk) (least_size (size_at r') r'.transport.least_size)))) reaches
 
--- the client stands where the confirm has come, with its size
-at_opened : (origin : Origin) (c : Course) (t t' : Talk) (u : UnderWay) → IsAt origin c t u
-    → t'.sequence ≡ t.sequence
-    → unfinished_in t'.reader.transport.joiner ≡ unfinished_in t.reader.transport.joiner
-    → IsAt origin (record c { size = size_in t' }) t' u
-at_opened origin c t t' u at sequence unfinished = record {
-  job = at.job;
-  size = refl;
-  sequence = sequence ∙ at.sequence;
-  unfinished = λ h. ap as_course unfinished ∙ at.unfinished h;
-  awaits = at.awaits;
-  opens = at.opens;
-  follows = at.follows;
-  departs = at.departs;
-  silent = at.silent;
-}
-
 -- what was allowed before is all that counts
 reaches_from : (origin : Origin) (before before' next : Course) (t : Talk) (u : UnderWay)
     → before'.out ≡ before.out → Reaches origin before' next t u → Reaches origin before next t u
@@ -532,30 +526,13 @@ consumes_open l m l' u u' used found connection config granted is fits awaiting 
     front.inbox reads' settles turns.0
     (subst IsSome (sym turns.2) refl) (turns.3 ∙ nothing_as r (fits.opening opening)) turns.4
     (λ origin c ec eg at.
-    let here : Course = record c { size = size_in m } in
-    let reached = reaches origin here (at_opened origin c l.talk m u at (ap (λ (t : Talk). t.sequence) talk)
-    (ap (λ (x : Reader). unfinished_in x.transport.joiner) (sym reader) ∙ turns.3)) in
-    subst (λ x. Reaches origin c (after_found (conduct_of origin) c x (message_at r')
-    (unfinished_in r'.transport.joiner)) l'.talk u') (sym is)
-    (subst (λ n. Reaches origin c (asking (conduct_of origin) (record c { size = n })) l'.talk u') size
-    (reaches_from origin c here (asking (conduct_of origin) here) l'.talk u' refl reached)))
-
--- the client stands where a message is whole
-at_whole : (origin : Origin) (c : Course) (t t' : Talk) (u : UnderWay) → IsAt origin c t u
-    → size_in t' ≡ size_in t → t'.sequence ≡ t.sequence
-    → unfinished_in t'.reader.transport.joiner ≡ link.nothing_unfinished
-    → IsAt origin (record c { unfinished = nothing_unfinished }) t' u
-at_whole origin c t t' u at size sequence unfinished = record {
-  job = at.job;
-  size = size ∙ at.size;
-  sequence = sequence ∙ at.sequence;
-  unfinished = λ h. ap as_course unfinished;
-  awaits = at.awaits;
-  opens = at.opens;
-  follows = at.follows;
-  departs = at.departs;
-  silent = at.silent;
-}
+    let unfinished = unfinished_in r'.transport.joiner in
+    let here : Course = record c { size = size_in m; unfinished = unfinished } in
+    let reached = reaches origin here (at_read origin c l.talk m u (size_in m) unfinished at refl
+    (ap (λ (t : Talk). t.sequence) talk) (ap (λ (x : Reader). unfinished_in x.transport.joiner) (sym reader))) in
+    subst (λ x. Reaches origin c (after_found (conduct_of origin) c x (message_at r') unfinished) l'.talk u') (sym is)
+    (subst (λ n. Reaches origin c (asking (conduct_of origin) (record c { size = n; unfinished = unfinished })) l'.talk
+    u') size (reaches_from origin c here (asking (conduct_of origin) here) l'.talk u' refl reached)))
 
 pub consumes_message : (l : Channel) (m : Talk) (l' : Channel) (u u' : UnderWay) (used : List ℕ) (found : Found)
     (config : Config) (granted : Option Grant) → found ≡ finding.Message
@@ -576,12 +553,12 @@ consumes_message l m l' u u' used found config granted is fits awaiting sent unp
     front.inbox reads' settles turns.0
     (subst IsSome (sym turns.2) turns.1) turns.4 turns.5
     (λ origin c ec eg at.
-    let here : Course = record c { unfinished = nothing_unfinished } in
-    let reached = reaches origin here ec eg (at_whole origin c l.talk m u at
-    (ap size_by (sym reader) ∙ ap (λ o. unwrap_or o 1024) turns.2) (ap (λ (t : Talk). t.sequence) talk)
-    (ap (λ (x : Reader). unfinished_in x.transport.joiner) (sym reader) ∙ turns.4)) in
-    subst (λ x. Reaches origin c (after_found (conduct_of origin) c x (message_at r')
-    (unfinished_in r'.transport.joiner)) l'.talk u') (sym is)
+    let unfinished = unfinished_in r'.transport.joiner in
+    let here : Course = record c { unfinished = unfinished } in
+    let reached = reaches origin here ec eg (at_read origin c l.talk m u c.size unfinished at
+    (ap size_by (sym reader) ∙ (ap (λ o. unwrap_or o 1024) turns.2 ∙ at.size)) (ap (λ (t : Talk). t.sequence) talk)
+    (ap (λ (x : Reader). unfinished_in x.transport.joiner) (sym reader))) in
+    subst (λ x. Reaches origin c (after_found (conduct_of origin) c x (message_at r') unfinished) l'.talk u') (sym is)
     (subst (λ (x : Reader). Reaches origin c (with_message (conduct_of origin) here (message_at x)) l'.talk u')
     (sym reader) (reaches_from origin c here (with_message (conduct_of origin) here (message_at m.reader)) l'.talk
     u' refl reached)))

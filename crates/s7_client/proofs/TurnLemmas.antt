@@ -24,14 +24,14 @@ use Rattle.s7_wire.specs.declared.found.ReadFault.TheVariants.{BadFrame, FrameTo
 use Rattle.s7_wire.specs.declared.reader.Reader.{Reader}
 use Rattle.s7_wire.specs.Reading as link
 use Rattle.s7_wire.specs.Reading.{Progress, limit_by, with_fault, with_state, with_rest, with_body, reading}
-use Rattle.s7_wire.specs.Reads.{IsAt, HasRead, HasFound, ending_by, ending_at, opens_by, ended_with, size_at, message_at, unfinished_in}
+use Rattle.s7_wire.specs.Reads.{IsAt, HasRead, HasFound, events_by, ending_by, ending_at, opens_by, ended_with, size_at, message_at, unfinished_in}
 use Rattle.s7_wire.proofs.ReadingLemmas.{reading_more, reading_whole, rest_more, rest_at, limit_is}
-use Rattle.s7_dialogue.specs.Course.{Origin, Course, conduct_of, course, limits, limit_in, by_state, by_awaits, unless_over, with_packet, Awaits}
+use Rattle.s7_dialogue.specs.Course.{Origin, Course, read_before, conduct_of, course, limits, limit_in}
 use Rattle.s7_dialogue.specs.Course as job
 use Rattle.s7_client.specs.At.{IsReading}
 use Rattle.s7_client.proofs.CourseLemmas.{course_on, course_on_more, course_ends, holds_on, limit_after, more_short, course_held}
 use Rattle.s7_client.proofs.FrontLemmas.{OnlyLastShows}
-use Rattle.s7_client.proofs.FoundLemmas.{Tells, Brings, IsLike, AreAlike, after_found, as_course, code_where, tells_more, tells_fault, makes_packet}
+use Rattle.s7_client.proofs.FoundLemmas.{Tells, Brings, IsLike, AreAlike, after_found, unless_alike, tells_more, tells_fault, makes_packet}
 
 -- ---- what it has read
 
@@ -199,7 +199,7 @@ reads_more r r' before used found reading_ opening some h f shows =
           let course_same = course_on_more origin b used r.cutter r'.cutter rest (r.more going) g cut.0 cut.1 still in
           record {
             is = λ alike. course_same ∙ ap (λ u. record (course origin b) { unfinished = u })
-                (sym (ap as_course unfinished ∙ alike.unfinished));
+                (sym (unfinished ∙ alike.unfinished));
             rest = λ e. on'.held;
             limit = λ e. ap limit_in (sym (course_held origin (b ++ used) r'.cutter on' still));
           };
@@ -209,15 +209,16 @@ reads_more r r' before used found reading_ opening some h f shows =
 reads_fault : (r r' : Reader) (before used : List ℕ) (found : Found) (s : FedState) (fault : ReadFault)
     → IsReading r → opens_by r' ≡ Confirm → HasReadAs Confirm r before → HasFound r' before used found
     → state_of r.cutter.limit (r.cutter.held ++ used) ≡ s → s ≢ fed.Whole
-    → ((p : Progress) → with_state p s ≡ with_fault p fault)
-    → ((c : Course) → by_state c s ≡ job.with_fault c (code_where c.awaits fault)) → Reads r r' used found
-reads_fault r r' before used found s fault reading_ opening h f shows not_whole by_reading by_course =
+    → ((p : Progress) → with_state p s ≡ with_fault p fault) → Reads r r' used found
+reads_fault r r' before used found s fault reading_ opening h f shows not_whole faults =
     let p = reading Confirm before in
     let none = none_as r p h.is reading_.going in
     let k = found_as Confirm r' before used found opening f in
     let on = read_on_as r before used s h reading_.going shows not_whole in
     let same : reading Confirm (before ++ used) ≡ with_fault p fault =
-    on.1 ∙ (rest_at p s none ∙ by_reading p) in
+    on.1 ∙ (rest_at p s none ∙ faults p) in
+    let unfinished : unfinished_in r'.transport.joiner ≡ unfinished_in r.transport.joiner =
+    k.read.is.unfinished ∙ (ap (λ q. q.unfinished) same ∙ sym h.is.unfinished) in
     let ended : ended_with r' ≡ None → ⊥ = λ going.
     let x : Some (link.faulted fault p.at) ≡ None =
     sym (ap (λ q. q.ending) same) ∙ none_as r' (reading Confirm (before ++ used)) k.read.is going in cc in
@@ -233,16 +234,15 @@ reads_fault r r' before used found s fault reading_ opening h f shows not_whole 
             is = λ alike.
                 course_on origin b used r.cutter cutter' rest (r.more reading_.going) g refl refl
                 ∙ (ap (job.with_rest c) shows
-                ∙ (unless_alike (size_at r) (by_state c s) c c.awaits alike.awaits ∙ by_course c));
+                ∙ (unless_alike (size_at r) (job.with_ending c (with_state (read_before c) s).ending) c c.awaits
+                alike.awaits
+                ∙ (ap (λ (q : Progress). job.with_ending c q.ending) (faults (read_before c))
+                ∙ ap (λ u. job.with_fault (record c { unfinished = u }) (job.code_where c.awaits fault))
+                (sym (unfinished ∙ alike.unfinished)))));
             rest = λ e. absurd (ended e);
             limit = λ e. absurd (ended e);
           };
     })
-  where
-    unless_alike : (o : Option ℕ) (next c : Course) (awaits : Awaits) → AreAlike o awaits
-        → unless_over next c awaits ≡ next
-    unless_alike None next c awaits h = ap (unless_over next c) h
-    unless_alike (Some size) next c awaits h = ap (unless_over next c) h
 
 -- ---- a packet ends
 
@@ -253,7 +253,7 @@ not_both (Some n) e h = absurd (cc)
 turns_whole : (found : Found) (r r' : Reader) (p q : Progress) → IsAt r.transport p → IsAt r'.transport q
     → q.ending ≡ ending_by found p.at
     → (ended_with r' ≡ None → IsReading r' × (r'.cutter.held ≡ [])) → length r.cutter.held ≤ 8199
-    → Brings found p q (message_at r') → Turns found r r'
+    → Brings (events_by found (message_at r') p.at) (ending_by found p.at) p q → Turns found r r'
 turns_whole finding.More r r' p q is is' ending going short h =
     let k = going (goes_as r' q is' ending) in
     let count : count_at r' ≡ count_at r + 1 =
@@ -273,11 +273,6 @@ turns_whole finding.Message r r' p q is is' ending going short h =
     (k.0, subst IsSome (sym is.size) h.1, is'.size ∙ (h.0 ∙ sym is.size), h.2, is'.unfinished ∙ h.3, k.1)
 turns_whole finding.Disconnected r r' p q is is' ending going short h = is'.size ∙ (h ∙ sym is.size)
 turns_whole (finding.Fault fault) r r' p q is is' ending going short h = is'.size ∙ (h ∙ sym is.size)
-
-packet_by : (origin : Origin) (c : Course) (body : List ℕ)
-    → with_packet origin c body ≡ by_awaits (conduct_of origin) c body c.awaits
-unfolding with_packet
-packet_by origin c body = refl
 
 -- what is whole at its last octet is a packet, and not more
 packet_now : (limit : ℕ) (held used : List ℕ) → 0 < length used → OnlyLastShows limit held used
@@ -324,12 +319,11 @@ reads_whole r r' before used found reading_ opening some earliest h f shows =
           record {
             is = λ alike.
                 course_ends origin b used body r.cutter rest more e
-                ∙ (packet_by origin c body
-                ∙ (made.course (conduct_of origin) c (record {
-                  unfinished = ap as_course (sym h.is.unfinished) ∙ alike.unfinished;
+                ∙ (made.course origin c (record {
+                  unfinished = sym h.is.unfinished ∙ alike.unfinished;
                   awaits = subst (λ o. AreAlike o c.awaits) h.is.size alike.awaits;
                 })
-                ∙ ap (after_found (conduct_of origin) c found (message_at r')) (sym is'.unfinished)));
+                ∙ ap (after_found (conduct_of origin) c found (message_at r')) (sym is'.unfinished));
             rest = λ going. e.rest ∙ sym (held going);
             limit = λ going. limit_after origin b used body r.cutter rest more e;
           };
@@ -347,13 +341,13 @@ reads_by r r' before used found fed.Whole reading_ opening some earliest h f sho
     reads_whole r r' before used found reading_ opening some earliest h f shows
 reads_by r r' before used found fed.BadVersion reading_ opening some earliest h f shows =
     reads_fault r r' before used found fed.BadVersion BadFrame reading_ opening h f shows (λ e. absurd (cc))
-    (λ p. refl) (λ c. refl)
+    (λ p. refl)
 reads_by r r' before used found fed.BadLength reading_ opening some earliest h f shows =
     reads_fault r r' before used found fed.BadLength BadFrame reading_ opening h f shows (λ e. absurd (cc))
-    (λ p. refl) (λ c. refl)
+    (λ p. refl)
 reads_by r r' before used found fed.TooLong reading_ opening some earliest h f shows =
     reads_fault r r' before used found fed.TooLong FrameTooLong reading_ opening h f shows (λ e. absurd (cc))
-    (λ p. refl) (λ c. refl)
+    (λ p. refl)
 
 turns_prop : (found : Found) (r r' : Reader) → IsProp (Turns found r r')
 turns_prop finding.More r r' = hlevel props

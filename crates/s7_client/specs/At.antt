@@ -3,7 +3,7 @@ use Rattle.std.specs.Prelude.{◌≡◌, ◌⊎◌, ℕ, ◌+◌, ◌-◌, ◌*�
 use Rattle.s7_cotp.specs.Gathered.{Gathered}
 use Rattle.s7_cotp.specs.Messages.{open_octets}
 use Rattle.s7_wire.specs.Bounds.{most_packets, size_of_code}
-use Rattle.s7_wire.specs.Reads.{HasRead, opens_by, ended_with, size_at}
+use Rattle.s7_wire.specs.Reads.{HasRead, opens_by, ended_with, size_at, unfinished_in}
 use Rattle.s7_wire.specs.declared.found.Opening.TheVariants.{Confirm}
 use Rattle.s7_wire.specs.declared.found.ReadFault.{ReadFault}
 use Rattle.s7_wire.specs.declared.found.ReadFault.TheVariants.{BadFrame, FrameTooLong, BadTpdu, Unexpected, TooManyFragments, TooLong}
@@ -19,12 +19,8 @@ use Rattle.s7_dialogue.specs.Codes.{not_connected, bad_packet, message_too_fragm
 use Rattle.s7_dialogue.specs.Flight.{Row}
 use Rattle.s7_dialogue.specs.Dialogue.{connect_request, disconnect_request, plan_of}
 use Rattle.s7_dialogue.specs.Running.{awaited_in, unput_of, Begins, Follows, IsOver, IsOpening, IsAsking, IsLeaving, answers_left}
-use Rattle.s7_dialogue.specs.Course.{Origin, Course, Unfinished, asked_size_code, blank, begun}
+use Rattle.s7_dialogue.specs.Course.{Origin, Course, asked_size_code, blank, begun}
 pub use Rattle.s7_dialogue.specs.Stages.{LeavesLink, LeavesOpen}
-
--- the message that isn't whole
-abbrev pub unfinished_of : Gathered → Unfinished
-unfinished_of joiner = record { octets = open_octets joiner; count = joiner.count }
 
 abbrev pub joiner_in : Talk → Gathered
 joiner_in t = t.reader.transport.joiner
@@ -47,7 +43,7 @@ pub record IsAt (origin : Origin) (course : Course) (t : Talk) (u : UnderWay) : 
   pub job : u.running.job ≡ origin.job
   pub size : size_in t ≡ course.size
   pub sequence : t.sequence ≡ course.sequence
-  pub unfinished : (IsOver u.running.stage → ⊥) → unfinished_of (joiner_in t) ≡ course.unfinished
+  pub unfinished : (IsOver u.running.stage → ⊥) → unfinished_in (joiner_in t) ≡ course.unfinished
   pub awaits : course.awaits ≡ awaited_in u.running u.carried.octets
   -- a job that isn't over goes on as its plan says, and no message came that answers nothing
   pub opens : IsOpening u.running.stage

@@ -1,7 +1,7 @@
 // What a client has of its link, and the steps of a poll.
-ghost use Rattle.std.specs.Prelude.{◌≡◌, ◌≢◌, ℕ, ◌<◌, ◌≤◌, [], length, IfOk};
+ghost use Rattle.std.specs.Prelude.{◌≡◌, ℕ, ◌<◌, ◌≤◌, [], length, is_none, IfSome, IfOk};
 ghost use Rattle.s7_header.specs.Negotiation.{most_pdu};
-ghost use Rattle.s7_dialogue.specs.Running.{unput_of};
+ghost use Rattle.s7_dialogue.specs.Running.{unput_of, IsEnding};
 ghost use Rattle.s7_client.specs.At.{IsAwaiting, code_at};
 ghost use Rattle.s7_client.specs.Polling.{IsNew, Round};
 ghost use Rattle.s7_client.specs.Standing.{Fits, IsStep, Consumes, unread, unsent};
@@ -12,7 +12,7 @@ use s7_dialogue::codes::{
     BAD_PACKET, LINK_ENDED, NOT_CONNECTED, RECEIVE_FAILED, SEND_FAILED, TOO_LONG,
     TOO_MANY_FRAGMENTS,
 };
-use s7_dialogue::{Config, Grant, MOST_MESSAGE, Stage};
+use s7_dialogue::{Config, Ending, Grant, MOST_MESSAGE, Stage};
 use s7_outer::{Buffer, Got, Link, Memory, Sent};
 use s7_wire::{Found, Inbox, Opening, Outbox, PIECE, ReadFault, Reader};
 use std::alloc::Global;
@@ -51,49 +51,28 @@ impl Channel {
         })
     }
 
-    /// Goes on with a job until the link has nothing to give, or no room, or the job is over. Says
-    /// whether the job goes on.
+    /// Goes on with a job until the link has nothing to give, or no room, or the job is over. Says how it is over, where
+    /// it is.
     pub(crate) fn round<L: Link>(
         &mut self,
         job: &mut UnderWay,
         config: &Config,
         granted: Option<Grant>,
         link: &mut L,
-    ) -> bool
+    ) -> Option<Ending>
         requires fits { Fits self.old job.old }
         requires pdu { config.now.pdu ≤ most_pdu }
         requires jobs { config.now.jobs ≤ 8 }
         requires waited { job.old.waited < config.now.polls }
-        ensures { Round self.old job.old (L.shows link.old) self.new job.new
-            (L.shows link.new) config.now granted result }
-    {
-        match self.advance(job, config, granted, link) {
-            Step::NotYet => job.wait(config.polls),
-            Step::Over => false,
-            Step::Went => unreachable!(),
-        }
-    }
-
-    // Takes steps until the link has nothing to give, or no room, or the job is over.
-    fn advance<L: Link>(
-        &mut self,
-        job: &mut UnderWay,
-        config: &Config,
-        granted: Option<Grant>,
-        link: &mut L,
-    ) -> Step
-        requires fits { Fits self.old job.old }
-        requires pdu { config.now.pdu ≤ most_pdu }
-        requires jobs { config.now.jobs ≤ 8 }
-        ensures steps { IsStep self.old job.old (L.shows link.old) self.new job.new
-            (L.shows link.new) config.now granted result }
-        ensures rests { result ≢ Step.Went }
+        ensures round { Round self.old job.old (L.shows link.old) self.new job.new
+            (L.shows link.new) config.now granted (is_none result) }
+        ensures ended { IfSome result (IsEnding job.new.running) }
     {
         loop {
             match self.step(job, config, granted, link) {
                 Step::Went => {}
-                Step::NotYet => return Step::NotYet,
-                Step::Over => return Step::Over,
+                Step::NotYet => return job.wait(config.polls),
+                Step::Over => return job.running.ending(),
             }
         }
     }

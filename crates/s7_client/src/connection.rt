@@ -4,7 +4,7 @@ ghost use Rattle.std.specs.Option.{ForSome};
 ghost use Rattle.s7_header.specs.Negotiation.{most_pdu};
 ghost use Rattle.s7_dialogue.specs.Course.{begins_anew, for_nothing};
 ghost use Rattle.s7_dialogue.specs.Dialogue.{End};
-ghost use Rattle.s7_dialogue.specs.Running.{awaited_in, Begins, IsOver, IsResult};
+ghost use Rattle.s7_dialogue.specs.Running.{awaited_in, Begins, IsResult};
 ghost use Rattle.s7_dialogue.specs.Stages.{IsGrant};
 ghost use Rattle.s7_client.specs.At.{LeavesLink};
 ghost use Rattle.s7_client.specs.Standing.{Fits, IsBetween, unsent};
@@ -111,10 +111,8 @@ impl Connection {
         ensures { Completes self.old (L.shows link.old) self.new (L.shows link.new) result }
     {
         loop {
-            match self.poll(link) {
-                Polled::Done(result) => return result,
-                Polled::Pending => {}
-                Polled::Idle => unreachable!(),
+            if let Polled::Done(result) = self.poll(link) {
+                return result;
             }
         }
     }
@@ -214,30 +212,26 @@ impl Connection {
     pub fn poll<L: Link>(&mut self, link: &mut L) -> Polled
         ensures { IsPoll self.old (L.shows link.old) self.new (L.shows link.new) result }
     {
-        if self.job.is_none() {
+        let Some(mut job) = self.job.take() else {
             return Polled::Idle;
-        }
-        let Some(job) = &mut self.job else {
-            unreachable!()
         };
-        if self.channel.round(job, &self.config, self.granted, link) {
+        let ended = self
+            .channel
+            .round(&mut job, &self.config, self.granted, link);
+        let Some(ending) = ended else {
+            self.job = Some(job);
             return Polled::Pending;
-        }
-        let leaves = job.running.leaves();
-        self.granted = grant_after(leaves, self.granted);
-        self.is_closed = closed_after(leaves, self.is_closed);
-        let_go(&mut self.channel.talk.outbox, leaves);
-        match self.job.take() {
-            Some(job) => Polled::Done(done(job)),
-            None => unreachable!(),
-        }
+        };
+        self.granted = grant_after(ending.leaves, self.granted);
+        self.is_closed = closed_after(ending.leaves, self.is_closed);
+        let_go(&mut self.channel.talk.outbox, ending.leaves);
+        Polled::Done(done(job, ending.code))
     }
 }
 
-// What came of a job that is over.
-fn done(job: UnderWay) -> JobResult
-    requires { IsOver job.running.stage }
-    ensures { (end : End) → awaited_in job.running [] ≡ for_nothing end []
+// What came of a job that is over with this number.
+fn done(job: UnderWay, code: u32) -> JobResult
+    ensures { (end : End) → awaited_in job.running [] ≡ for_nothing end [] → code ≡ end.code
         → IsResult result job.running.job end job.carried.octets }
 {
     let UnderWay {
@@ -245,7 +239,7 @@ fn done(job: UnderWay) -> JobResult
         mut carried,
         ..
     } = job;
-    running.into_result(carried.take())
+    running.into_result(code, carried.take())
 }
 
 // Nothing is left to send on a link that doesn't go on.

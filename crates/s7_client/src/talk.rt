@@ -53,10 +53,10 @@ impl Talk {
         self.outbox.clear();
         match &running.stage {
             Stage::Opening => self.put_connect(config),
-            Stage::Asking(_) => self.sequence = running.go_on(self.sequence),
-            Stage::Single(_) => self.sequence = running.go_on(self.sequence),
             Stage::Leaving => self.put_disconnect(),
-            Stage::Over { .. } => {}
+            Stage::Asking(_) | Stage::Single(_) | Stage::Over { .. } => {
+                self.sequence = running.go_on(self.sequence);
+            }
         }
     }
 

@@ -1,9 +1,10 @@
 // A job that was started and isn't done.
-ghost use Rattle.std.specs.Prelude.{◌≡◌, ◌<◌};
+ghost use Rattle.std.specs.Prelude.{◌≡◌, ◌<◌, is_none, IfSome};
+ghost use Rattle.s7_dialogue.specs.Running.{IsEnding};
 ghost use Rattle.s7_client.specs.Polling.{Waits, grant_after, closed_after};
 
 use s7_dialogue::codes::TIMED_OUT;
-use s7_dialogue::{Grant, Leaves, Running};
+use s7_dialogue::{Ending, Grant, Leaves, Running};
 use s7_outer::Buffer;
 
 /// A job with what came of it, and how many of its polls met a link that had nothing to give, or no
@@ -17,18 +18,19 @@ pub(crate) struct UnderWay {
 }
 
 impl UnderWay {
-    /// The link had nothing to give, or no room, once more. Says whether the job goes on, and else
-    /// ends it.
-    pub(crate) fn wait(&mut self, polls: u32) -> bool
+    /// The link had nothing to give, or no room, once more. Ends the job where that was as often as it may, and then
+    /// says how.
+    pub(crate) fn wait(&mut self, polls: u32) -> Option<Ending>
         requires { self.old.waited < polls }
-        ensures { Waits self.old self.new polls result }
+        ensures waits { Waits self.old self.new polls (is_none result) }
+        ensures ended { IfSome result (IsEnding self.new.running) }
     {
         self.waited += 1;
         if self.waited < polls {
-            return true;
+            return None;
         }
         self.running.fail(TIMED_OUT);
-        false
+        self.running.ending()
     }
 }
 

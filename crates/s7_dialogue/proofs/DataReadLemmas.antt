@@ -3,6 +3,7 @@ use Rattle.std.proofs.Common.{◌≡◌, ℕ, zero, suc, ◌+◌, ◌-◌, ◌<�
 use Rattle.std.specs.Prelude.{is_some, replicate, option_map, MatchOption}
 use Rattle.std.specs.Option.{option_and_then}
 use Rattle.std.proofs.Math.Path.{ap₂}
+use Rattle.std.proofs.lemmas.Option.{same_Some}
 use Rattle.std.proofs.lemmas.Bool.{and_parts, leb-true, ltb-true}
 use Rattle.std.proofs.lemmas.List.{take-replicate}
 use Rattle.s7_item.specs.declared.item.Item.{Item}
@@ -16,7 +17,7 @@ use Rattle.s7_dialogue.specs.declared.stages.single.Ask.TheVariants as ask
 use Rattle.s7_dialogue.specs.declared.transfers.user_data.Told.{Told}
 use Rattle.s7_dialogue.specs.declared.transfers.user_data.Told.TheVariants as told
 use Rattle.s7_dialogue.specs.DataBlocks.{data_item}
-use Rattle.s7_dialogue.specs.DataItems.{First, first_of, first_told}
+use Rattle.s7_dialogue.specs.DataItems.{First, first_of, first_told, answer_in}
 use Rattle.s7_dialogue.specs.Question.{reads, writes, question_octets}
 use Rattle.s7_dialogue.specs.Answer.{Answer, ItemAnswer, tells, counts_items, begins_read, begins_refused, item_answers, acknowledged}
 use Rattle.s7_dialogue.specs.Checks.{is_known}
@@ -43,12 +44,12 @@ told_part block place params body so_far value result is told =
     (sym is) told
 
 few_by : (item : Item) (read refused : Bool) (octets : List ℕ) (code : ℕ) (rest later : List ℕ) (f : First)
-    → cond read (Some (record { code = 0xFF; octets = take (octet_count item) octets; rest = rest }))
-    (cond refused (Some (record { code = code; octets = []; rest = later })) None)
-    ≡ Some f → length f.octets ≤ octet_count item
+    → cond read (Some (record { answer = record { code = 0xFF; octets = take (octet_count item) octets }; rest = rest }))
+    (cond refused (Some (record { answer = record { code = code; octets = [] }; rest = later })) None)
+    ≡ Some f → length f.answer.octets ≤ octet_count item
 few_by item true refused octets code rest later f is =
-    subst (λ (g : First). length g.octets ≤ octet_count item)
-    (let e : record { code = 0xFF; octets = take (octet_count item) octets; rest = rest } ≡ f = cc in e)
+    let g : First = record { answer = record { code = 0xFF; octets = take (octet_count item) octets }; rest = rest } in
+    subst (λ (g : First). length g.answer.octets ≤ octet_count item) (same_Some g f is)
     (most_taken (octet_count item) octets)
   where
     most_taken : (n : ℕ) (xs : List ℕ) → length (take n xs) ≤ n
@@ -56,25 +57,24 @@ few_by item true refused octets code rest later f is =
     most_taken (suc n) [] = omega arith
     most_taken (suc n) (x ∷ xs) = omega (arith, most_taken n xs)
 few_by item false true octets code rest later f is =
-    subst (λ (g : First). length g.octets ≤ octet_count item)
-    (let e : record { code = code; octets = []; rest = later } ≡ f = cc in e) (omega arith)
+    let g : First = record { answer = record { code = code; octets = [] }; rest = later } in
+    subst (λ (g : First). length g.answer.octets ≤ octet_count item) (same_Some g f is) (omega arith)
 few_by item false false octets code rest later f is = absurd (cc)
 
 -- an item has at most its octets
 first_few : (item : Item) (last : Bool) (octets : List ℕ) (f : First) → first_of item last octets ≡ Some f
-    → length f.octets ≤ octet_count item
+    → length f.answer.octets ≤ octet_count item
 first_few item last octets f is =
     few_by item (begins_read item last octets) (begins_refused octets) (drop 4 octets) (slice_index octets 0)
     (drop (4 + octet_count item + padding_of (octet_count item) last) octets) (drop 4 octets) f is
 
 alone_told : (part : Item) (body : List ℕ) (f : First) → first_of part true body ≡ Some f → length f.rest ≡ 0
-    → item_answers (part ∷ []) body ≡ Some (record { code = f.code; octets = f.octets } ∷ [])
+    → item_answers (part ∷ []) body ≡ Some (f.answer ∷ [])
 alone_told part body f is none =
     answers_first part [] body
     ∙ (ap (option_and_then (then_others [])) is
     ∙ ap
-    (λ n. option_map (λ (xs : List ItemAnswer). record { code = f.code; octets = f.octets } ∷ xs)
-    (cond (eqb n 0) (Some []) None))
+    (λ n. option_map (λ (xs : List ItemAnswer). f.answer ∷ xs) (cond (eqb n 0) (Some []) None))
     none)
 
 -- what is told of a part's one data item
@@ -93,23 +93,23 @@ pub told_read : (block : DataBlock) (place : Place) (params body so_far : List �
     → counts_items 0x04 (part_at block place ∷ []) params ≡ true
     → option_map first_told r ≡ first_of (part_at block place) true body → r ≡ Some taken
     → length taken.rest.now ≡ 0 → block.value ≡ None
-    → IsToldOf block place taken.code taken.octets.now t
+    → IsToldOf block place taken.answer.code taken.answer.octets.now t
     → TellsIfSome (ask.Part block place) so_far t (acknowledged (reads (part_at block place ∷ [])) params body)
 told_read block place params body so_far r taken t counts is some none read told =
     let part : Item = part_at block place in
     let first : first_of part true body ≡ Some (first_told taken) = sym is ∙ ap (option_map first_told) some in
     let answers : acknowledged (reads (part ∷ [])) params body
-    ≡ Some (tells (record { code = taken.code; octets = taken.octets.now } ∷ [])) =
+    ≡ Some (tells (answer_in taken.answer ∷ [])) =
     ap (λ b. cond b (option_map tells (item_answers (part ∷ []) body)) None) counts
     ∙ ap (option_map tells) (alone_told part body (first_told taken) first none) in
-    let few : length taken.octets.now ≤ part_count block place =
+    let few : length taken.answer.octets.now ≤ part_count block place =
     omega (
       arith,
       first_few part true body (first_told taken) first,
       byte_octets block.number place.from (part_count block place),
     ) in
     subst (TellsIfSome (ask.Part block place) so_far t) (sym answers)
-    (tells_item block place so_far taken.octets.now taken.code t read few told)
+    (tells_item block place so_far taken.answer.octets.now taken.answer.code t read few told)
 
 -- ---- the message of a part
 

@@ -37,6 +37,19 @@ pub conducts_at : (r : Running) (a : Asking) (config : Config) (granted : Option
 conducts_at r a config granted rows is follows =
     subst (λ st. ConductsAt config granted rows rows r.job r.found.items r.codes st) is follows.goes_on
 
+-- a job that stands the same follows the same
+pub follows_as : (r r' : Running) (st : Stage) (config : Config) (granted : Option Grant) (rows : List Row)
+    → r.stage ≡ st → r'.stage ≡ st → r'.job ≡ r.job → r'.found.items ≡ r.found.items → r'.codes ≡ r.codes
+    → Follows r config granted rows → Follows r' config granted rows
+follows_as r r' st config granted rows is is' same found codes follows = record {
+  goes_on =
+      subst (λ st. ConductsAt config granted rows rows r'.job r'.found.items r'.codes st) (sym is')
+      (subst (λ (j : Job). ConductsAt config granted rows rows j r'.found.items r'.codes st) (sym same)
+      (subst (λ (xs : List ℕ). ConductsAt config granted rows rows r.job xs r'.codes st) (sym found)
+      (subst (λ (xs : List ℕ). ConductsAt config granted rows rows r.job r.found.items xs st) (sym codes)
+      (subst (λ st. ConductsAt config granted rows rows r.job r.found.items r.codes st) is follows.goes_on))));
+}
+
 -- ---- the confirm
 
 checked_first : (b : Bool) (p q : Plan) → p.first ≡ nothing → q.first ≡ nothing → (cond b p q).first ≡ connect_request

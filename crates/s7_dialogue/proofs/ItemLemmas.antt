@@ -1,28 +1,25 @@
 -- The data items of an answer, taken one after another.
-use Rattle.std.proofs.Common.{◌≡◌, ℕ, ◌+◌, ◌-◌, ◌<◌, ◌≤◌, Bool, true, false, cond, eqb, leb, ◌&&◌, Option, Some, None, List, [], ◌∷◌, map, length, drop, get_or, slice_index, slice_set, refl, sym, ap, ◌∙◌, arith}
-use Rattle.std.specs.Prelude.{IfSome, slice_get, unwrap_or}
+use Rattle.std.proofs.Common.{◌≡◌, ◌⊎◌, inl, inr, ℕ, ◌+◌, ◌-◌, ◌<◌, ◌≤◌, Bool, true, false, cond, eqb, Option, Some, None, List, [], ◌∷◌, ◌++◌, map, length, drop, get_or, slice_set, refl, sym, ap, ◌∙◌, subst, append_assoc, arith}
+use Rattle.std.specs.Bool.{MatchBool}
 use Rattle.std.specs.Option.{option_map, option_and_then}
 use Rattle.std.proofs.lemmas.Bool.Decides.{nat_tests}
-use Rattle.std.proofs.lemmas.List.{length-drop, drop_more}
+use Rattle.std.proofs.Math.Path.{ap₂}
+use Rattle.std.proofs.lemmas.List.{append-nil, map-append, length-drop, drop_all, drop_more}
+use Rattle.std.proofs.lemmas.List.Edits.{length-paste}
 use lib.Seq.{paste}
-use Rattle.s7_header.specs.Octets.{number_at}
 use Rattle.s7_item.specs.declared.item.Item.{Item}
 use Rattle.s7_item.specs.Item.{octet_count}
-use Rattle.s7_item.specs.Word.{transport_of}
-use Rattle.s7_item.specs.DataItem.{stated_length, padding_of}
 use Rattle.s7_dialogue.specs.declared.answers.data_items.First.{First as Taken}
+use Rattle.s7_dialogue.specs.declared.answers.data_items.ItemAnswer.{ItemAnswer as Kept}
 use Rattle.s7_dialogue.specs.Answer.{ItemAnswer, begins_read, begins_refused, item_first, item_answers}
-use Rattle.s7_dialogue.specs.DataItems.{First, first_of, first_told}
+use Rattle.s7_dialogue.specs.DataItems.{First, first_of, first_told, answer_in, answers_in}
 use Rattle.s7_dialogue.specs.Checks.{octet_count_of}
+use Rattle.s7_dialogue.specs.GoesOn.{TellAll}
 use Rattle.s7_dialogue.specs.Taking.{with_codes, with_octets}
-
--- what a data item answers
-abbrev pub answer_of_first : First → ItemAnswer
-answer_of_first first = record { code = first.code; octets = first.octets }
 
 -- the answer of a data item before those for these items, which are in the rest
 abbrev pub then_others : List Item → First → Option (List ItemAnswer)
-then_others items first = option_map (item_first (answer_of_first first)) (item_answers items first.rest)
+then_others items first = option_map (item_first first.answer) (item_answers items first.rest)
 
 by_tests : {A : Type 0} (read refused : Bool) (x y : First) (f : First → Option A)
     → cond read (f x) (cond refused (f y) None) ≡ option_and_then f (cond read (Some x) (cond refused (Some y) None))
@@ -64,27 +61,6 @@ answers-some items k d octets r taken less is some =
     answers_at items k d octets r less is
     ∙ ap (λ o. option_and_then (then_others (drop (k + 1) items)) (option_map first_told o)) some
 
--- what was found, with what the answers for these items tell of them
-abbrev pub octets_with : ℕ → List Item → List ℕ → Option (List ItemAnswer) → Option (List ℕ)
-octets_with from items found told = option_map (λ answers. with_octets from items answers found) told
-
-abbrev pub codes_with : ℕ → List ℕ → Option (List ItemAnswer) → Option (List ℕ)
-codes_with place codes told =
-    option_map (λ answers. with_codes place (map (λ (item : ItemAnswer). item.code) answers) codes) told
-
-octets_first : (from : ℕ) (item : Item) (items : List Item) (found : List ℕ) (answer : ItemAnswer)
-    (told : Option (List ItemAnswer))
-    → octets_with from (item ∷ items) found (option_map (item_first answer) told)
-    ≡ octets_with (from + octet_count item) items (paste found from answer.octets (length answer.octets)) told
-octets_first from item items found answer None = refl
-octets_first from item items found answer (Some answers) = refl
-
-codes_first : (place : ℕ) (codes : List ℕ) (answer : ItemAnswer) (told : Option (List ItemAnswer))
-    → codes_with place codes (option_map (item_first answer) told) ≡ codes_with (place + 1)
-    (slice_set codes place answer.code) told
-codes_first place codes answer None = refl
-codes_first place codes answer (Some answers) = refl
-
 -- the data item of the k-th item of a slice
 found_first : (slice items : List Item) (k n : ℕ) (d : Item) (octets : List ℕ) (r : Option Taken) → slice ≡ items
     → n ≡ length items
@@ -94,113 +70,162 @@ found_first slice items k n d octets r same long is =
     is ∙ (ap (λ xs. first_of (get_or xs k d) (eqb (k + 1) n) octets) same
     ∙ ap (λ m. first_of (get_or items k d) (eqb (k + 1) m) octets) long)
 
--- the octets of the k-th item are placed
-pub octets_step : (slice items : List Item) (k n count at next : ℕ) (d : Item) (octets found now : List ℕ)
-    (r : Option Taken) (taken : Taken) (all : Option (List ℕ))
+-- ---- the answers that the octets are
+
+-- those that were read, and those that are told of the items to come
+abbrev pub read_with : List ItemAnswer → Option (List ItemAnswer) → Option (List ItemAnswer)
+read_with so_far told = option_map (λ (others : List ItemAnswer). so_far ++ others) told
+
+read_first : (so_far : List ItemAnswer) (answer : ItemAnswer) (told : Option (List ItemAnswer))
+    → read_with so_far (option_map (item_first answer) told) ≡ read_with (so_far ++ answer ∷ []) told
+read_first so_far answer None = refl
+read_first so_far answer (Some others) = ap Some (sym (append_assoc so_far (answer ∷ []) others))
+
+-- the answer of the k-th item is read
+pub read_step : (slice items : List Item) (k n : ℕ) (d : Item) (octets : List ℕ) (so_far now : List Kept)
+    (r : Option Taken) (taken : Taken) (all : Option (List ItemAnswer))
     → slice ≡ items → n ≡ length items → k < length slice
     → option_map first_told r ≡ first_of (get_or slice k d) (eqb (k + 1) n) octets
-    → r ≡ Some taken → count ≡ octet_count (get_or slice k d) → next ≡ at + count
-    → now ≡ paste found at taken.octets.now (length taken.octets.now)
-    → octets_with at (drop k items) found (item_answers (drop k items) octets) ≡ all
-    → octets_with next (drop (k + 1) items) now (item_answers (drop (k + 1) items) taken.rest.now) ≡ all
-octets_step slice items k n count at next d octets found now r taken all same long less is some counts on new inv =
-    let item = get_or items k d in
+    → r ≡ Some taken → now ≡ so_far ++ taken.answer ∷ []
+    → read_with (answers_in so_far) (item_answers (drop k items) octets) ≡ all
+    → read_with (answers_in now) (item_answers (drop (k + 1) items) taken.rest.now) ≡ all
+read_step slice items k n d octets so_far now r taken all same long less is some new inv =
     let others = drop (k + 1) items in
-    let answer = answer_of_first (first_told taken) in
     let told = item_answers others taken.rest.now in
     let within : k < length items = omega (arith, less, ap length same) in
-    let size : next ≡ at + octet_count item =
-    on ∙ ap (λ m. at + m) (counts ∙ ap (λ xs. octet_count (get_or xs k d)) same) in
-    ap (λ i. octets_with i others now told) size
-    ∙ (ap (λ xs. octets_with (at + octet_count item) others xs told) new
-    ∙ (sym (octets_first at item others found answer told)
-    ∙ (ap (λ xs. octets_with at xs found (option_map (item_first answer) told)) (sym (drop_more items k d within))
-    ∙ (ap (octets_with at (drop k items) found)
+    ap (λ xs. read_with xs told) (ap answers_in new ∙ map-append answer_in so_far (taken.answer ∷ []))
+    ∙ (sym (read_first (answers_in so_far) (answer_in taken.answer) told)
+    ∙ (ap (read_with (answers_in so_far))
     (sym (answers-some items k d octets r taken within (found_first slice items k n d octets r same long is) some))
-    ∙ inv))))
+    ∙ inv))
 
--- and its code
-pub codes_step : (slice items : List Item) (k n place : ℕ) (d : Item) (octets codes now : List ℕ) (r : Option Taken)
-    (taken : Taken) (all : Option (List ℕ))
+-- or isn't there
+pub read_stops : (slice items : List Item) (k n : ℕ) (d : Item) (octets : List ℕ) (so_far : List ItemAnswer)
+    (r : Option Taken) (all : Option (List ItemAnswer))
     → slice ≡ items → n ≡ length items → k < length slice
-    → option_map first_told r ≡ first_of (get_or slice k d) (eqb (k + 1) n) octets
-    → r ≡ Some taken → now ≡ slice_set codes (place + k) taken.code
-    → codes_with (place + k) codes (item_answers (drop k items) octets) ≡ all
-    → codes_with (place + (k + 1)) now (item_answers (drop (k + 1) items) taken.rest.now) ≡ all
-codes_step slice items k n place d octets codes now r taken all same long less is some new inv =
-    let others = drop (k + 1) items in
-    let answer = answer_of_first (first_told taken) in
-    let told = item_answers others taken.rest.now in
+    → option_map first_told r ≡ first_of (get_or slice k d) (eqb (k + 1) n) octets → r ≡ None
+    → read_with so_far (item_answers (drop k items) octets) ≡ all → None ≡ all
+read_stops slice items k n d octets so_far r all same long less is none inv =
     let within : k < length items = omega (arith, less, ap length same) in
-    let next : place + (k + 1) ≡ place + k + 1 = omega arith in
-    ap (λ i. codes_with i now told) next
-    ∙ (ap (λ xs. codes_with (place + k + 1) xs told) new
-    ∙ (sym (codes_first (place + k) codes answer told)
-    ∙ (ap (codes_with (place + k) codes)
-    (sym (answers-some items k d octets r taken within (found_first slice items k n d octets r same long is) some))
-    ∙ inv)))
+    let stops : item_answers (drop k items) octets ≡ None =
+    answers_at items k d octets r within (found_first slice items k n d octets r same long is)
+    ∙ ap (λ o. option_and_then (then_others (drop (k + 1) items)) (option_map first_told o)) none in
+    sym (ap (read_with so_far) stops) ∙ inv
 
--- there is room for the items to come
-pub room_step : (slice items : List Item) (k count at next room : ℕ) (d : Item) → slice ≡ items → k < length slice
-    → count ≡ octet_count (get_or slice k d) → next ≡ at + count → at + octet_count_of (drop k items) ≤ room
-    → next + octet_count_of (drop (k + 1) items) ≤ room
-room_step slice items k count at next room d same less counts on within =
-    let inside : k < length items = omega (arith, less, ap length same) in
-    let size : next ≡ at + octet_count (get_or items k d) =
-    on ∙ ap (λ m. at + m) (counts ∙ ap (λ xs. octet_count (get_or xs k d)) same) in
-    omega (arith, within, size, ap octet_count_of (drop_more items k d inside))
+if_empty : (empty : Bool) (so_far : List ItemAnswer)
+    → cond empty (Some so_far) None ≡ read_with so_far (cond empty (Some []) None)
+if_empty true so_far = ap Some (sym (append-nil so_far))
+if_empty false so_far = refl
 
--- where an item is read, the code is the octet that its data item begins with
-abbrev BeginsWith : ℕ → Option First → Type 0
-BeginsWith code told = IfSome told (λ first. first.code ≡ code)
+-- those of all items were read
+pub read_ends : (slice items : List Item) (k : ℕ) (rest : List ℕ) (so_far : List ItemAnswer)
+    (all : Option (List ItemAnswer))
+    → slice ≡ items → length slice ≤ k
+    → read_with so_far (item_answers (drop k items) rest) ≡ all → cond (eqb (length rest) 0) (Some so_far) None ≡ all
+read_ends slice items k rest so_far all same end inv =
+    let none : drop k items ≡ [] = drop_all k items (omega (arith, end, ap length same)) in
+    if_empty (eqb (length rest) 0) so_far
+    ∙ (sym (ap (λ xs. read_with so_far (item_answers xs rest)) none) ∙ inv)
 
-first_begins_by : (read refused : Bool) (code : ℕ) (x y : List ℕ) (rest : List ℕ) → (read ≡ true → code ≡ 0xFF)
-    → BeginsWith code
-    (cond read (Some (record { code = 0xFF; octets = x; rest = rest }))
-    (cond refused (Some (record { code = code; octets = []; rest = y })) None))
-first_begins_by true refused code x y rest is = sym (is refl)
-first_begins_by false true code x y rest is = refl
-first_begins_by false false code x y rest is = tt
+-- ---- what is placed
 
-begins_with : (a b c : Bool) (code : ℕ) → ((eqb code 0xFF && a) && (b && c)) ≡ true → code ≡ 0xFF
-begins_with a b c code is = grind (arith, nat_tests)
+-- an item has at most its octets
+few_octets : (good : Bool) (octets : List ℕ) (n : ℕ) → MatchBool good (length octets ≡ n) (octets ≡ [])
+    → length octets ≤ n
+few_octets true octets n is = omega (arith, is)
+few_octets false octets n is = omega (arith, ap length is)
 
-first_begins : (item : Item) (last : Bool) (octets : List ℕ)
-    → BeginsWith (slice_index octets 0) (first_of item last octets)
-first_begins item last octets =
-    first_begins_by (begins_read item last octets) (begins_refused octets) (slice_index octets 0) _ _ _
-    (begins_with (eqb (slice_index octets 1) (transport_of item.word))
-    (eqb (number_at octets 2) (stated_length (transport_of item.word) (octet_count item)))
-    (leb (4 + octet_count item + padding_of (octet_count item) last) (length octets)) (slice_index octets 0))
+abbrev pub codes_told : List ItemAnswer → List ℕ
+codes_told answers = map (λ (answer : ItemAnswer). answer.code) answers
 
-some_is : {A B : Type 0} (x y : A) → Some x ≡ Some y → (f : A → B) → f x ≡ f y
-some_is x y same f = ap f (cc)
+-- What was placed so far, of items and their answers, where these are to come.
+pub record IsPlaced (items : List Item) (kept : List Kept) (at next room : ℕ) (found codes found' codes' : List ℕ)
+    : Type 0 where
+  pub octets : with_octets at items (answers_in kept) found ≡ found'
+  pub noted : with_codes next (codes_told (answers_in kept)) codes ≡ codes'
+  pub told : TellAll items (answers_in kept)
+  pub within : at + octet_count_of items ≤ length found
+  pub few : next + length items ≤ room
 
-one_code_rest : (code : ℕ) (first : First) (answers : List ItemAnswer) → first.code ≡ code → (empty : Bool)
-    → option_map (item_first (answer_of_first first)) (cond empty (Some []) None) ≡ Some answers
-    → map (λ (item : ItemAnswer). item.code) answers ≡ code ∷ []
-one_code_rest code first answers begins true is =
-    sym (some_is _ _ is (λ xs. map (λ (item : ItemAnswer). item.code) xs)) ∙ ap (λ c. c ∷ []) begins
-one_code_rest code first answers begins false is = absurd (cc)
+-- nothing is placed yet
+pub place_starts : (items rest : List Item) (answers kept : List Kept) (at next room : ℕ) (found codes : List ℕ)
+    → rest ≡ items → kept ≡ answers → TellAll items (answers_in answers)
+    → at + octet_count_of items ≤ length found → next + length items ≤ room
+    → IsPlaced rest kept at next room found codes (with_octets at rest (answers_in kept) found)
+    (with_codes next (codes_told (answers_in kept)) codes)
+place_starts items rest answers kept at next room found codes is same told within few = record {
+  octets = refl;
+  noted = refl;
+  told =
+      subst (λ (xs : List Item). TellAll xs (answers_in kept)) (sym is)
+      (subst (λ (ks : List Kept). TellAll items (answers_in ks)) (sym same) told);
+  within = omega (arith, within, ap octet_count_of is);
+  few = omega (arith, few, ap length is);
+}
 
-one_code_by : (code : ℕ) (told : Option First) (answers : List ItemAnswer) → BeginsWith code told
-    → option_and_then (then_others []) told ≡ Some answers
-    → map (λ (item : ItemAnswer). item.code) answers ≡ code ∷ []
-one_code_by code None answers begins is = absurd (cc)
-one_code_by code (Some first) answers begins is =
-    one_code_rest code first answers begins (eqb (length first.rest) 0) is
+-- the first of them has room
+place_room : (items others : List Item) (kept later : List Kept) (item : Item) (answer : Kept) (at next room : ℕ)
+    (found codes found' codes' : List ℕ)
+    → items ≡ item ∷ others → kept ≡ answer ∷ later → IsPlaced items kept at next room found codes found' codes'
+    → (length answer.octets.now ≤ octet_count item) × (at + octet_count item + octet_count_of others ≤ length found)
+    × (next + 1 + length others ≤ room) × TellAll others (answers_in later)
+place_room items others kept later item answer at next room found codes found' codes' is same placed =
+    let told : TellAll (item ∷ others) (answers_in (answer ∷ later)) =
+    subst (λ (xs : List Item). TellAll xs (answers_in (answer ∷ later))) is
+    (subst (λ (ks : List Kept). TellAll items (answers_in ks)) same placed.told) in (
+      few_octets (eqb answer.code 0xFF) answer.octets.now (octet_count item) told.0,
+      omega (arith, placed.within, ap octet_count_of is),
+      omega (arith, placed.few, ap length is),
+      told.1,
+    )
 
--- the code of the answer for one item
-pub one_code : (items : List Item) (octets : List ℕ) (answers : List ItemAnswer) → length items ≡ 1
-    → item_answers items octets ≡ Some answers
-    → map (λ (item : ItemAnswer). item.code) answers ≡ slice_index octets 0 ∷ []
-one_code [] octets answers one is = absurd (omega (arith, one))
-one_code (item ∷ []) octets answers one is =
-    one_code_by (slice_index octets 0) (first_of item true octets) answers (first_begins item true octets)
-    (sym (answers_first item [] octets) ∙ is)
-one_code (item ∷ next ∷ items) octets answers one is = absurd (omega (arith, one))
+-- and is placed
+pub place_step : (items others : List Item) (kept later : List Kept) (item : Item) (answer : Kept)
+    (at next room count at' next' : ℕ) (found codes now noted found' codes' : List ℕ)
+    → items ≡ item ∷ others → kept ≡ answer ∷ later → IsPlaced items kept at next room found codes found' codes'
+    → count ≡ octet_count item → at' ≡ at + count → next' ≡ next + 1
+    → now ≡ paste found at answer.octets.now (length answer.octets.now)
+    → noted ≡ slice_set codes next answer.code
+    → IsPlaced others later at' next' room now noted found' codes'
+place_step items others kept later item answer at next room count at' next' found codes now noted found' codes' is same
+    placed counts on more new coded =
+    let first = place_room items others kept later item answer at next room found codes found' codes' is same placed in
+    let past : at' ≡ at + octet_count item = on ∙ ap (λ n. at + n) counts in
+    let long : length now ≡ length found =
+    ap length new
+    ∙ length-paste found at answer.octets.now (length answer.octets.now) (omega (arith, first.0, first.1))
+    (omega arith) in
+    record {
+      octets =
+          ap₂ (λ i xs. with_octets i others (answers_in later) xs) past new
+          ∙ (sym (ap₂ (λ (xs : List Item) (ks : List Kept). with_octets at xs (answers_in ks) found) is same)
+          ∙ placed.octets);
+      noted =
+          ap₂ (λ i xs. with_codes i (codes_told (answers_in later)) xs) more coded
+          ∙ (sym (ap (λ (ks : List Kept). with_codes next (codes_told (answers_in ks)) codes) same) ∙ placed.noted);
+      told = first.3;
+      within = omega (arith, first.1, past, long);
+      few = omega (arith, first.2, more);
+    }
 
--- the octet that octets begin with, and 0 where there are none
-pub first_octet : (octets : List ℕ) → unwrap_or (slice_get octets 0) 0 ≡ slice_index octets 0
-first_octet [] = refl
-first_octet (octet ∷ octets) = refl
+none_left : (items : List Item) (answers : List ItemAnswer) → TellAll items answers → (items ≡ []) ⊎ (answers ≡ [])
+    → (items ≡ []) × (answers ≡ [])
+none_left [] [] told end = (refl, refl)
+none_left [] (answer ∷ answers) told end = absurd told
+none_left (item ∷ items) [] told end = absurd told
+none_left (item ∷ items) (answer ∷ answers) told (inl e) = absurd (cc)
+none_left (item ∷ items) (answer ∷ answers) told (inr e) = absurd (cc)
+
+none_kept : (items : List Item) (kept : List Kept) → (items ≡ []) ⊎ (kept ≡ []) → (items ≡ []) ⊎ (answers_in kept ≡ [])
+none_kept items kept (inl e) = inl e
+none_kept items kept (inr e) = inr (ap answers_in e)
+
+-- none is left
+pub place_ends : (items : List Item) (kept : List Kept) (at next room : ℕ) (found codes found' codes' : List ℕ)
+    → (items ≡ []) ⊎ (kept ≡ []) → IsPlaced items kept at next room found codes found' codes'
+    → (found ≡ found') × (codes ≡ codes')
+place_ends items kept at next room found codes found' codes' end placed =
+    let none = none_left items (answers_in kept) placed.told (none_kept items kept end) in (
+      sym (ap (λ (xs : List Item). with_octets at xs (answers_in kept) found) none.0) ∙ placed.octets,
+      sym (ap (λ xs. with_codes next (codes_told xs) codes) none.1) ∙ placed.noted,
+    )

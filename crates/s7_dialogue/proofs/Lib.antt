@@ -38,6 +38,7 @@ pub mod SingleBehindLemmas
 pub mod DataBehindLemmas
 pub mod SingleAnswerLemmas
 pub mod SingleTakeLemmas
+pub mod PacketLemmas
 pub mod RowLemmas
 pub mod BringLemmas
 pub mod BringLastLemmas

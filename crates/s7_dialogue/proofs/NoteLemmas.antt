@@ -1,11 +1,13 @@
 -- Lemmas on answers that are noted: which refusal comes first, and what was found.
-use Rattle.std.proofs.Common.{◌≡◌, ℕ, ◌+◌, Bool, true, false, cond, eqb, Option, Some, None, List, [], ◌∷◌, ◌++◌, length, map, refl, sym, ap, ◌∙◌, subst, arith}
-use Rattle.std.specs.Prelude.{replicate}
+use Rattle.std.proofs.Common.{◌≡◌, ℕ, ◌+◌, ◌-◌, Bool, true, false, cond, eqb, Option, Some, None, List, [], ◌∷◌, ◌++◌, length, map, drop, refl, sym, ap, ◌∙◌, subst, arith}
+use Rattle.std.specs.Prelude.{◌&&◌, replicate, IfSome, IfNone}
+use Rattle.std.proofs.Math.Path.{ap₂}
 use Rattle.std.specs.Bool.{MatchBool}
-use Rattle.std.specs.List.{flat_map}
+use Rattle.std.specs.List.{flat_map, list_all}
 use Rattle.std.proofs.lemmas.List.{length-map, map-append}
 use Rattle.s7_item.specs.declared.item.Item.{Item}
 use Rattle.s7_item.specs.Item.{octet_count}
+use Rattle.s7_wire.specs.Sent.{sent_messages}
 use Rattle.s7_dialogue.specs.declared.config.Config.{Config}
 use Rattle.s7_dialogue.specs.declared.grant.Grant.{Grant}
 use Rattle.s7_dialogue.specs.declared.job.Job.{Job}
@@ -15,24 +17,24 @@ use Rattle.s7_dialogue.specs.declared.answers.answer.Answer.TheVariants as told
 use Rattle.s7_dialogue.specs.declared.stages.flight.Flight.{Flight}
 use Rattle.s7_dialogue.specs.declared.questions.left.Left.{Left}
 use Rattle.s7_dialogue.specs.declared.stages.asking.Asking.{Asking}
-use Rattle.s7_dialogue.specs.declared.stages.running.Stage.{Stage}
-use Rattle.s7_dialogue.specs.declared.stages.running.Stage.TheVariants as stage
 use Rattle.s7_dialogue.specs.declared.stages.running.Running.{Running}
+use Rattle.s7_dialogue.specs.declared.stages.running.Stage.TheVariants as stage
 use Rattle.s7_dialogue.specs.Question.{Question, reads, writes}
 use Rattle.s7_dialogue.specs.Answer.{Answer, ItemAnswer, tells, notes, refuses}
 use Rattle.s7_dialogue.specs.Refusals.{number_of_error, number_of_code, code_refusal, telegram_refusal, part_refusal}
+use Rattle.s7_dialogue.specs.DataItems.{answers_in}
 use Rattle.s7_dialogue.specs.Told.{Tells}
 use Rattle.s7_dialogue.specs.Flight.{Row, answers_of}
 use Rattle.s7_dialogue.specs.Left.{octets_left, items_left}
 use Rattle.s7_dialogue.specs.Dialogue.{first_refusal, items_told, codes_in, of_answer}
-use Rattle.s7_dialogue.specs.Stages.{is_alone, IsListing}
-use Rattle.s7_dialogue.specs.Asks.{items_of, Spot, first_spot, spot_behind, questions_behind, earlier, Refuses}
-use Rattle.s7_dialogue.specs.GoesOn.{refusal_by, refusal_of, conducted, filled_up, octets_at_places, told_of_items, octets_of_row, codes_of_row, octets_so_far, codes_so_far, brings_octets, brings_codes, TellAll, FitsQuestion, Conducts, ConductsAt, RefusesAt}
+use Rattle.s7_dialogue.specs.Stages.{is_alone, message_of, unput_by, can_fly, can_ask_all, has_places, is_ready}
+use Rattle.s7_dialogue.specs.Asks.{items_of, Spot, first_spot, spot_behind, questions_behind, earlier, IsSameToAsk, Refuses}
+use Rattle.s7_dialogue.specs.GoesOn.{refusal_by, refusal_of, conducted, filled_up, octets_at_places, told_of_items, octets_of_row, codes_of_row, octets_so_far, codes_so_far, brings_octets, brings_codes, TellAll, FitsQuestion, Conducts}
 use Rattle.s7_dialogue.specs.Taking.{question_for, TellsFor, Taken, rows_with, with_codes, with_octets, Keeps}
-use Rattle.s7_dialogue.specs.Running.{Follows}
+use Rattle.s7_dialogue.specs.Running.{Follows, unput_of}
+use Rattle.s7_dialogue.proofs.FollowLemmas.{follows_at}
 use Rattle.s7_dialogue.proofs.EndLemmas.{AsksItems, length-filled, filled_whole, length-told}
 use Rattle.s7_dialogue.proofs.KeepLemmas.{asked_by}
-use Rattle.s7_dialogue.proofs.FollowLemmas.{follows_at}
 use Rattle.s7_dialogue.proofs.RefusalLemmas.{refusal_by_job, refusal_more, refusal_same}
 use Rattle.s7_dialogue.proofs.PlaceLemmas.{codes_pasted, from_behind, group_pasted, item_behind, no_codes, parted, place_behind}
 use Rattle.s7_dialogue.proofs.KindLemmas.{MayAsk, asks_items, items_for, noted_of}
@@ -345,13 +347,12 @@ kept_by done front back row true items octets flight left found codes found' cod
     fits good keeps = absurd telling
 kept_by done front back row false items octets flight left found codes found' codes' (told.Granted n) x was may
     telling fits good keeps = absurd telling
-kept_by done front back row true items octets flight left found codes found' codes' (told.Items body) x was may
+kept_by done front back row true items octets flight left found codes found' codes' (told.Items answers) x was may
     telling fits good keeps = absurd telling
-kept_by done front back row false items octets flight left found codes found' codes' (told.Items body) x was may
+kept_by done front back row false items octets flight left found codes found' codes' (told.Items answers) x was may
     telling fits good keeps =
-    let both = keeps telling.0 telling.1 in
-    kept_items done front back row items flight left found codes found' codes' telling.0 x was may.0 telling.2
-    (subst (FitsQuestion (reads items)) telling.2 fits) both.0 both.1
+    kept_items done front back row items flight left found codes found' codes' (answers_in answers.items) x was may.0
+    telling.2 (subst (FitsQuestion (reads items)) telling.2 fits) keeps.0 keeps.1
 kept_by done front back row false items octets flight left found codes found' codes' (told.Codes told_codes) x was may
     telling fits good keeps = absurd telling
 kept_by done front back row true items octets flight left found codes found' codes' (told.Codes told_codes) x was may
@@ -410,56 +411,123 @@ notes_kept config granted rows done found codes found' codes' a flight t write i
       noted = λ asks. now.noted;
     }
 
--- ---- jobs by their stage
+-- ---- whether it refuses or not
 
-pub refused_stage : (r r' : Running) (config : Config) (granted : Option Grant) (rows : List Row) (st st' : Stage)
-    (flight : Flight) (t : kept.Answer) (write : Bool) (items : List Item) (number : ℕ)
+-- What becomes of what a job keeps, by the refusal that an answer is: it is noted, or what the answer tells is kept.
+pub record IsNotedBy (refusal : Option ℕ) (items : List Item) (flight : Flight) (t : kept.Answer) (a b : Asking)
+    (found codes found' codes' : List ℕ) : Type 0 where
+  pub refuses : IfSome refusal (λ number. Refuses a flight.place number b × (found' ≡ found) × (codes' ≡ codes))
+  pub keeps : IfNone refusal ((b ≡ a) × Keeps items flight t found codes found' codes')
+
+pub notes_by : (refusal : Option ℕ) (config : Config) (granted : Option Grant) (rows : List Row) (done : Job)
+    (found codes found' codes' : List ℕ) (a b : Asking) (flight : Flight) (t : kept.Answer) (write : Bool)
+    (items : List Item)
     → (taken : Taken rows flight t) → flight.asked ≡ asked_by write items
-    → ((w : Bool) (x : Answer) → TellsFor w items t x → Some number ≡ refusal_by (is_alone r.job) x)
-    → RefusesAt st flight.place number st' → r'.stage ≡ st' → r'.job ≡ r.job → r'.found ≡ r.found → r'.codes ≡ r.codes
-    → ConductsAt config granted (rows_with taken.front taken.row taken.back taken.answer) rows r.job r.found.items
-    r.codes st
-    → Follows r' config granted (rows_with taken.front taken.row taken.back taken.answer)
-refused_stage r r' config granted rows st stage.Opening flight t write items number taken is refusal refusing now same
-    found codes conducts = absurd refusing
-refused_stage r r' config granted rows st (stage.Asking b) flight t write items number taken is refusal refusing now
-    same found codes conducts =
+    → ((w : Bool) (is : List Item) (x : Answer) → TellsFor w is t x → refusal ≡ refusal_by (is_alone done) x)
+    → IsNotedBy refusal items flight t a b found codes found' codes'
+    → Conducts config granted (rows_with taken.front taken.row taken.back taken.answer) rows done found codes a
+    → Conducts config granted (rows_with taken.front taken.row taken.back taken.answer)
+    (rows_with taken.front taken.row taken.back taken.answer) done found' codes' b
+notes_by (Some number) config granted rows done found codes found' codes' a b flight t write items taken is refusal
+    noted h =
     let rows' = rows_with taken.front taken.row taken.back taken.answer in
-    let h : Conducts config granted rows' rows r.job r.found.items r.codes refusing.0 =
-    subst (λ (s : Stage). ConductsAt config granted rows' rows r.job r.found.items r.codes s) refusing.1 conducts in
-    follows_at r' b config granted rows' now
-    (subst (λ (j : Job). Conducts config granted rows' rows' j r'.found.items r'.codes b) (sym same)
-    (subst (λ (xs : List ℕ). Conducts config granted rows' rows' r.job xs r'.codes b) (ap (λ v. v.items) (sym found))
-    (subst (λ (xs : List ℕ). Conducts config granted rows' rows' r.job r.found.items xs b) (sym codes)
-    (notes_refusal config granted rows r.job r.found.items r.codes refusing.0 b flight t write items number taken is
-    refusal refusing.2 h))))
-refused_stage r r' config granted rows st (stage.Single single) flight t write items number taken is refusal refusing
-    now same found codes conducts = absurd refusing
-refused_stage r r' config granted rows st stage.Leaving flight t write items number taken is refusal refusing now same
-    found codes conducts = absurd refusing
-refused_stage r r' config granted rows st (stage.Over code leaves) flight t write items number taken is refusal
-    refusing now same found codes conducts = absurd refusing
+    subst (λ (xs : List ℕ). Conducts config granted rows' rows' done xs codes' b) (sym noted.refuses.1)
+    (subst (λ (xs : List ℕ). Conducts config granted rows' rows' done found xs b) (sym noted.refuses.2)
+    (notes_refusal config granted rows done found codes a b flight t write items number taken is
+    (λ w x telling. refusal w items x telling) noted.refuses.0 h))
+notes_by None config granted rows done found codes found' codes' a b flight t write items taken is refusal noted h =
+    let rows' = rows_with taken.front taken.row taken.back taken.answer in
+    subst (λ (c : Asking). Conducts config granted rows' rows' done found' codes' c) (sym noted.keeps.0)
+    (notes_kept config granted rows done found codes found' codes' a flight t write items taken is
+    (λ w x telling. refusal w items x telling) noted.keeps.1 h)
 
-pub kept_stage : (r r' : Running) (config : Config) (granted : Option Grant) (rows : List Row) (st : Stage)
-    (flight : Flight) (t : kept.Answer) (write : Bool) (items : List Item)
-    → IsListing st → (taken : Taken rows flight t) → flight.asked ≡ asked_by write items
-    → ((w : Bool) (x : Answer) → TellsFor w items t x → None ≡ refusal_by (is_alone r.job) x)
-    → Keeps items flight t r.found.items r.codes r'.found.items r'.codes → r'.stage ≡ st → r'.job ≡ r.job
-    → ConductsAt config granted (rows_with taken.front taken.row taken.back taken.answer) rows r.job r.found.items
-    r.codes st
+-- what was to be asked and to be put stays
+pub noted_same : (refusal : Option ℕ) (items : List Item) (flight : Flight) (t : kept.Answer) (a b : Asking)
+    (found codes found' codes' : List ℕ) → IsNotedBy refusal items flight t a b found codes found' codes'
+    → (b.flights.items ≡ a.flights.items) × (b.unput ≡ a.unput) × IsSameToAsk a b
+noted_same (Some number) items flight t a b found codes found' codes' noted =
+    (noted.refuses.0.flights, noted.refuses.0.unput, noted.refuses.0.same)
+noted_same None items flight t a b found codes found' codes' noted = (
+  ap (λ (c : Asking). c.flights.items) noted.keeps.0,
+  ap (λ (c : Asking). c.unput) noted.keeps.0,
+  subst (IsSameToAsk a) (sym noted.keeps.0) (record { left = refl; width = refl; spot = refl }),
+)
+
+pub ready_as : (job : Job) (found : ℕ) (a b : Asking) → b.flights.items ≡ a.flights.items → IsSameToAsk a b
+    → is_ready job found (stage.Asking b) ≡ is_ready job found (stage.Asking a)
+ready_as job found a b flights same =
+    let from : b.from ≡ a.from = ap (λ (s : Spot). s.from) same.spot in
+    ap₂
+    (λ (fs : List Flight) (l : Left). list_all (can_fly job found) fs && (can_ask_all job found b.from l && has_places job found))
+    flights same.left
+    ∙ ap (λ n. list_all (can_fly job found) a.flights.items && (can_ask_all job found n a.left && has_places job found))
+    from
+
+-- ---- what a job keeps then
+
+-- What its parts are, once the answer was noted.
+pub record HasNoted (refusal : Option ℕ) (items : List Item) (flight : Flight) (t : kept.Answer) (a : Asking)
+    (r r' : Running) : Type 0 where
+  pub b : Asking
+  pub stage : r'.stage ≡ stage.Asking b
+  pub job : r'.job ≡ r.job
+  pub noted : IsNotedBy refusal items flight t a b r.found.items r.codes r'.found.items r'.codes
+
+pub noted_refusal : (refusal : Option ℕ) (number : ℕ) (items : List Item) (flight : Flight) (t : kept.Answer)
+    (a b : Asking) (r r' : Running)
+    → refusal ≡ Some number → Refuses a flight.place number b → r'.stage ≡ stage.Asking b → r'.job ≡ r.job
+    → r'.found.items ≡ r.found.items → r'.codes ≡ r.codes → HasNoted refusal items flight t a r r'
+noted_refusal refusal number items flight t a b r r' is refusing now same found codes = record {
+  b = b;
+  stage = now;
+  job = same;
+  noted =
+      subst (λ (o : Option ℕ). IsNotedBy o items flight t a b r.found.items r.codes r'.found.items r'.codes) (sym is)
+      (record { refuses = (refusing, found, codes); keeps = tt });
+}
+
+pub noted_kept : (refusal : Option ℕ) (items : List Item) (flight : Flight) (t : kept.Answer) (a : Asking)
+    (r r' : Running) (before after codes' : List ℕ)
+    → refusal ≡ None → before ≡ r.found.items → r'.found.items ≡ after → r'.codes ≡ codes'
+    → Keeps items flight t before r.codes after codes' → r'.stage ≡ stage.Asking a → r'.job ≡ r.job
+    → HasNoted refusal items flight t a r r'
+noted_kept refusal items flight t a r r' before after codes' is was found codes keeps now same = record {
+  b = a;
+  stage = now;
+  job = same;
+  noted =
+      subst (λ (o : Option ℕ). IsNotedBy o items flight t a a r.found.items r.codes r'.found.items r'.codes) (sym is)
+      (record {
+        refuses = tt;
+        keeps = (
+          refl,
+          subst (λ xs. Keeps items flight t xs r.codes r'.found.items r'.codes) was
+              (subst (λ xs. Keeps items flight t before r.codes xs r'.codes) (sym found)
+              (subst (λ xs. Keeps items flight t before r.codes after xs) (sym codes) keeps)),
+        );
+      });
+}
+
+pub follows_noted : (refusal : Option ℕ) (config : Config) (granted : Option Grant) (rows : List Row) (a : Asking)
+    (r r' : Running) (flight : Flight) (t : kept.Answer) (write : Bool) (items : List Item)
+    → (taken : Taken rows flight t) → flight.asked ≡ asked_by write items
+    → ((w : Bool) (is : List Item) (x : Answer) → TellsFor w is t x → refusal ≡ refusal_by (is_alone r.job) x)
+    → HasNoted refusal items flight t a r r'
+    → Conducts config granted (rows_with taken.front taken.row taken.back taken.answer) rows r.job r.found.items
+    r.codes a
     → Follows r' config granted (rows_with taken.front taken.row taken.back taken.answer)
-kept_stage r r' config granted rows stage.Opening flight t write items listing taken is refusal keeps now same
-    conducts = absurd conducts
-kept_stage r r' config granted rows (stage.Asking a) flight t write items listing taken is refusal keeps now same
-    conducts =
+follows_noted refusal config granted rows a r r' flight t write items taken is refusing n conducts =
     let rows' = rows_with taken.front taken.row taken.back taken.answer in
-    follows_at r' a config granted rows' now
-    (subst (λ (j : Job). Conducts config granted rows' rows' j r'.found.items r'.codes a) (sym same)
-    (notes_kept config granted rows r.job r.found.items r.codes r'.found.items r'.codes a flight t write items taken
-    is refusal keeps conducts))
-kept_stage r r' config granted rows (stage.Single single) flight t write items listing taken is refusal keeps now same
-    conducts = absurd listing
-kept_stage r r' config granted rows stage.Leaving flight t write items listing taken is refusal keeps now same
-    conducts = absurd conducts
-kept_stage r r' config granted rows (stage.Over code leaves) flight t write items listing taken is refusal keeps now
-    same conducts = absurd conducts
+    follows_at r' n.b config granted rows' n.stage
+    (subst (λ (j : Job). Conducts config granted rows' rows' j r'.found.items r'.codes n.b) (sym n.job)
+    (notes_by refusal config granted rows r.job r.found.items r.codes r'.found.items r'.codes a n.b flight t write
+    items taken is refusing n.noted conducts))
+
+pub unput_noted : (refusal : Option ℕ) (items : List Item) (flight : Flight) (t : kept.Answer) (a : Asking)
+    (r r' : Running) (config : Config) (size : ℕ) → HasNoted refusal items flight t a r r'
+    → unput_of config size r' ≡ unput_by config size r.job (stage.Asking a)
+unput_noted refusal items flight t a r r' config size n =
+    let same = noted_same refusal items flight t a n.b r.found.items r.codes r'.found.items r'.codes n.noted in
+    ap₂ (unput_by config size) n.job n.stage
+    ∙ ap₂ (λ (fs : List Flight) k. sent_messages size (map (message_of config r.job) (drop (length fs - k) fs)))
+    same.0 same.1

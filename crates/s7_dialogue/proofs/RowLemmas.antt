@@ -5,13 +5,15 @@ use Rattle.std.specs.Prelude.{Result, slice_get}
 use Rattle.std.specs.List.{AllByRecursion}
 use Rattle.std.proofs.lemmas.List.{length-append, length-map, length-take, map-append}
 use Rattle.s7_tpkt.specs.Packets.{packets_of, rest_of, state_of}
-use Rattle.s7_tpkt.specs.declared.state.FedState.{FedState}
-use Rattle.s7_tpkt.specs.declared.state.FedState.TheVariants as fed
-use Rattle.s7_cotp.specs.Told.{Told, connect, confirm, fragment, disconnect, reject}
+use Rattle.s7_cotp.specs.Told.{Told, ConnectionTold, connect, confirm, fragment, disconnect, reject}
 use Rattle.s7_cotp.specs.Reading.{tpdu_of}
 use Rattle.s7_cotp.specs.Messages.{Step, more, whole, too_many_fragments, too_long, joined_with}
 use Rattle.s7_cotp.specs.declared.tpdu.CotpFault.{CotpFault}
 use Rattle.s7_wire.specs.Bounds.{message_limit, size_of_code}
+use Rattle.s7_wire.specs.Reading.{Ending, disconnected, faulted, opening_of, with_opening, with_joining, connected, with_told, with_tpdu, with_state}
+use Rattle.s7_wire.specs.declared.found.Opening.TheVariants.{Confirm}
+use Rattle.s7_wire.specs.declared.found.ReadFault.{ReadFault}
+use Rattle.s7_wire.specs.declared.found.ReadFault.TheVariants.{BadFrame, FrameTooLong, BadTpdu, Unexpected, TooManyFragments, TooLong}
 use Rattle.s7_dialogue.specs.declared.config.Config.{Config}
 use Rattle.s7_dialogue.specs.declared.grant.Grant.{Grant}
 use Rattle.s7_dialogue.specs.Codes.{invalid_answer}
@@ -19,8 +21,9 @@ use Rattle.s7_dialogue.specs.Question.{Question}
 use Rattle.s7_dialogue.specs.Answer.{Answer, answer_of}
 use Rattle.s7_dialogue.specs.Flight.{Row, answers_of, filled}
 use Rattle.s7_dialogue.specs.Dialogue.{End, fault_end, Conduct, First, nothing, connect_request, disconnect_request, Plan, listed, plan_of}
-use Rattle.s7_dialogue.specs.Course.{Origin, Course, Awaits, for_confirm, for_answers, for_departure, for_nothing, Unfinished, nothing_unfinished, conduct_of, asking, with_fault, by_rows, with_message, by_joining, connected, confirming, by_awaits, with_packet, blank, by_first, begun, run, by_state, unless_over, packets_run, course, limits}
+use Rattle.s7_dialogue.specs.Course.{Origin, Course, Awaits, for_confirm, for_answers, for_departure, for_nothing, Unfinished, nothing_unfinished, conduct_of, asking, with_fault, by_rows, with_message, size_where, read_before, code_where, with_ending, with_reading, unless_over, with_packet, blank, by_first, begun, run, packets_run, course, limits}
 use Rattle.s7_dialogue.proofs.FlightLemmas.{same_some, ComesNext, comes_next, asked_on_keeps, with_answer, IsFilled, filled_is, filled_map, filled_long}
+use Rattle.s7_dialogue.proofs.PacketLemmas.{packet_read}
 
 -- ---- what each step of a course keeps
 
@@ -55,54 +58,21 @@ module _ (origin : Origin) (P : Course → Type 0) (keeps : IsKept (conduct_of o
       if_kept (ltb (length message) 10) _ _ (fault_kept c _ (λ e. omega (arith, e)) p)
       (rows_kept c message (filled c.rows message) awaits refl p)
 
-  joining_kept : (c : Course) (step : Step) → c.awaits ≡ for_answers → P c → P (by_joining (conduct_of origin) c step)
-  joining_kept c (more octets count) awaits p = keeps.joined c _ p
-  joining_kept c (whole message) awaits p =
-      message_kept (record c { unfinished = nothing_unfinished }) message awaits (keeps.joined c nothing_unfinished p)
-  joining_kept c too_many_fragments awaits p = fault_kept c _ (λ e. omega (arith, e)) p
-  joining_kept c too_long awaits p = fault_kept c _ (λ e. omega (arith, e)) p
+  code_is : (awaits : Awaits) (fault : ReadFault) → code_where awaits fault ≢ 0
+  code_is awaits BadFrame e = omega (arith, e)
+  code_is awaits FrameTooLong e = omega (arith, e)
+  code_is awaits BadTpdu e = omega (arith, e)
+  code_is for_confirm Unexpected e = omega (arith, e)
+  code_is for_answers Unexpected e = omega (arith, e)
+  code_is for_departure Unexpected e = omega (arith, e)
+  code_is (for_nothing end carried) Unexpected e = omega (arith, e)
+  code_is awaits TooManyFragments e = omega (arith, e)
+  code_is awaits TooLong e = omega (arith, e)
 
-  connected_kept : (c : Course) (told : Result Told CotpFault) → c.awaits ≡ for_answers → P c
-      → P (connected (conduct_of origin) c told)
-  connected_kept c (Ok (fragment last user)) awaits p =
-      joining_kept c
-      (joined_with message_limit c.unfinished.octets c.unfinished.count (record { last = last; user = user })) awaits p
-  connected_kept c (Ok (disconnect reason)) awaits p = fault_kept c _ (λ e. omega (arith, e)) p
-  connected_kept c (Ok (connect t)) awaits p = fault_kept c _ (λ e. omega (arith, e)) p
-  connected_kept c (Ok (confirm t)) awaits p = fault_kept c _ (λ e. omega (arith, e)) p
-  connected_kept c (Ok (reject cause)) awaits p = fault_kept c _ (λ e. omega (arith, e)) p
-  connected_kept c (Err fault) awaits p = fault_kept c _ (λ e. omega (arith, e)) p
-
-  confirming_kept : (c : Course) (told : Result Told CotpFault) → c.awaits ≡ for_confirm → P c
-      → P (confirming (conduct_of origin) c told)
-  confirming_kept c (Ok (confirm t)) awaits p = keeps.confirmed c (size_of_code t.size_code) awaits p
-  confirming_kept c (Ok (connect t)) awaits p = fault_kept c _ (λ e. omega (arith, e)) p
-  confirming_kept c (Ok (fragment last user)) awaits p = fault_kept c _ (λ e. omega (arith, e)) p
-  confirming_kept c (Ok (disconnect reason)) awaits p = fault_kept c _ (λ e. omega (arith, e)) p
-  confirming_kept c (Ok (reject cause)) awaits p = fault_kept c _ (λ e. omega (arith, e)) p
-  confirming_kept c (Err fault) awaits p = fault_kept c _ (λ e. omega (arith, e)) p
-
-  awaits_kept : (c : Course) (body : List ℕ) (awaits : Awaits) → c.awaits ≡ awaits → P c
-      → P (by_awaits (conduct_of origin) c body awaits)
-  awaits_kept c body for_confirm is p = confirming_kept c (tpdu_of body) is p
-  awaits_kept c body for_answers is p = connected_kept c (tpdu_of body) is p
-  awaits_kept c body for_departure is p = p
-  awaits_kept c body (for_nothing end carried) is p = p
-
-  pub packet_kept : (c : Course) (body : List ℕ) → P c → P (with_packet origin c body)
-  unfolding with_packet
-  packet_kept c body p = awaits_kept c body c.awaits refl p
-
-  pub run_kept : (c : Course) (bodies : List (List ℕ)) → P c → P (run origin c bodies)
-  run_kept c [] p = p
-  run_kept c (body ∷ bodies) p = run_kept (with_packet origin c body) bodies (packet_kept c body p)
-
-  state_kept : (c : Course) (state : FedState) → P c → P (by_state c state)
-  state_kept c fed.BadVersion p = fault_kept c _ (λ e. omega (arith, e)) p
-  state_kept c fed.BadLength p = fault_kept c _ (λ e. omega (arith, e)) p
-  state_kept c fed.TooLong p = fault_kept c _ (λ e. omega (arith, e)) p
-  state_kept c fed.More p = p
-  state_kept c fed.Whole p = p
+  ending_kept : (c : Course) (ending : Option Ending) → P c → P (with_ending c ending)
+  ending_kept c None p = p
+  ending_kept c (Some disconnected) p = fault_kept c _ (λ e. omega (arith, e)) p
+  ending_kept c (Some (faulted fault at)) p = fault_kept c _ (code_is c.awaits fault) p
 
   unless_kept : (next c : Course) (awaits : Awaits) → P next → P c → P (unless_over next c awaits)
   unless_kept next c for_confirm p q = p
@@ -110,14 +80,58 @@ module _ (origin : Origin) (P : Course → Type 0) (keeps : IsKept (conduct_of o
   unless_kept next c for_departure p q = q
   unless_kept next c (for_nothing end carried) p q = q
 
+  opening_kept : (c : Course) (body : List ℕ) (o : Option ConnectionTold) → c.awaits ≡ for_confirm → P c
+      → P (with_reading (conduct_of origin) c (with_opening (read_before c) body o))
+  opening_kept c body None awaits p = ending_kept c (Some (faulted Unexpected 0)) p
+  opening_kept c body (Some told) awaits p = keeps.confirmed c (size_of_code told.size_code) awaits p
+
+  joining_kept : (c : Course) (body : List ℕ) (step : Step) → c.awaits ≡ for_answers → P c
+      → P (with_reading (conduct_of origin) c (with_joining (read_before c) body step))
+  joining_kept c body (more octets count) awaits p = keeps.joined c _ p
+  joining_kept c body (whole message) awaits p =
+      message_kept (record c { unfinished = nothing_unfinished }) message awaits (keeps.joined c nothing_unfinished p)
+  joining_kept c body too_many_fragments awaits p = ending_kept c (Some (faulted TooManyFragments 0)) p
+  joining_kept c body too_long awaits p = ending_kept c (Some (faulted TooLong 0)) p
+
+  connected_kept : (c : Course) (body : List ℕ) (told : Told) → c.awaits ≡ for_answers → P c
+      → P (with_reading (conduct_of origin) c (connected (read_before c) body told))
+  connected_kept c body (fragment last user) awaits p =
+      joining_kept c body
+      (joined_with message_limit c.unfinished.octets c.unfinished.count (record { last = last; user = user })) awaits p
+  connected_kept c body (disconnect reason) awaits p = ending_kept c (Some disconnected) p
+  connected_kept c body (connect t) awaits p = ending_kept c (Some (faulted Unexpected 0)) p
+  connected_kept c body (confirm t) awaits p = ending_kept c (Some (faulted Unexpected 0)) p
+  connected_kept c body (reject cause) awaits p = ending_kept c (Some (faulted Unexpected 0)) p
+
+  told_kept : (c : Course) (body : List ℕ) (told : Told) (awaits : Awaits) → c.awaits ≡ awaits → P c
+      → P (unless_over (with_reading (conduct_of origin) c
+      (with_told Confirm (read_before c) body (size_where awaits c.size) told)) c awaits)
+  told_kept c body told for_confirm is p = opening_kept c body (opening_of Confirm told) is p
+  told_kept c body told for_answers is p = connected_kept c body told is p
+  told_kept c body told for_departure is p = p
+  told_kept c body told (for_nothing end carried) is p = p
+
+  tpdu_kept : (c : Course) (body : List ℕ) (tpdu : Result Told CotpFault) → P c
+      → P (unless_over (with_reading (conduct_of origin) c (with_tpdu Confirm (read_before c) body tpdu)) c c.awaits)
+  tpdu_kept c body (Ok told) p = told_kept c body told c.awaits refl p
+  tpdu_kept c body (Err fault) p = unless_kept _ c c.awaits (ending_kept c (Some (faulted BadTpdu 0)) p) p
+
+  pub packet_kept : (c : Course) (body : List ℕ) → P c → P (with_packet origin c body)
+  packet_kept c body p = subst P (sym (packet_read origin c body)) (tpdu_kept c body (tpdu_of body) p)
+
+  pub run_kept : (c : Course) (bodies : List (List ℕ)) → P c → P (run origin c bodies)
+  run_kept c [] p = p
+  run_kept c (body ∷ bodies) p = run_kept (with_packet origin c body) bodies (packet_kept c body p)
+
   -- what holds at the start and is kept holds of the course after all octets
   pub course_kept : P (begun origin) → (b : List ℕ) → P (course origin b)
   unfolding course
   course_kept start b =
       let p = run_kept (begun origin) (packets_of (limits origin) b) start in
+      let c = packets_run origin b in
       let state = state_of (limits origin (packets_of (limits origin) b)) (rest_of (limits origin) b) in
-      unless_kept (by_state (packets_run origin b) state) (packets_run origin b) (packets_run origin b).awaits
-      (state_kept (packets_run origin b) state p) p
+      let ending = (with_state (read_before c) state).ending in
+      unless_kept (with_ending c ending) c c.awaits (ending_kept c ending p) p
 
 -- ---- what the telegrams keep
 

@@ -265,6 +265,23 @@ pub unasked_unput : (config : Config) (size : ℕ) (done : Job) (s : Single) →
 unasked_unput config size done s none =
     none_unput size done s.ask (unwrap_or s.out 0) s.unput (none_out s.unput s.out s.put none)
 
+-- two go out for an insertion alone
+pub one_unput : (asked : Ask) (n : ℕ) → n ≤ message_count asked
+    → ((pieces : Pieces) (call : ℕ) → asked ≡ ask.Insert pieces call → ⊥) → n < 2
+one_unput (ask.Insert pieces call) n most other = absurd (other pieces call refl)
+one_unput (ask.AwaitCall pieces) n most other = omega (arith, most)
+one_unput (ask.Control control) n most other = omega (arith, most)
+one_unput (ask.About subject) n most other = omega (arith, most)
+one_unput (ask.Further subject octet) n most other = omega (arith, most)
+one_unput ask.Upload n most other = omega (arith, most)
+one_unput (ask.Slice id size) n most other = omega (arith, most)
+one_unput (ask.UploadEnd id) n most other = omega (arith, most)
+one_unput (ask.Announce pieces) n most other = omega (arith, most)
+one_unput (ask.Give pieces from call) n most other = omega (arith, most)
+one_unput (ask.Head block) n most other = omega (arith, most)
+one_unput (ask.HeadFurther block octet) n most other = omega (arith, most)
+one_unput (ask.Part block place) n most other = omega (arith, most)
+
 -- the last message that isn't put yet
 pub put_last : (size : ℕ) (done : Job) (asked : Ask) (sequence n : ℕ) (message : List ℕ) → 0 < n → n < 2
     → n ≤ message_count asked → message ≡ question_octets sequence (question_of_single done asked [])

@@ -1,5 +1,5 @@
 -- Lemmas on jobs that ask one question at a time, as they take its answer.
-use Rattle.std.proofs.Common.{◌≡◌, ◌==◌, ℕ, ◌+◌, ◌-◌, ◌≤◌, true, eqb, leb, ltb, ◌&&◌, Bor, Option, Some, None, List, [], ◌∷◌, ◌++◌, length, take, drop, refl, sym, ap, ◌∙◌, subst, eq-eqb, arith}
+use Rattle.std.proofs.Common.{◌≡◌, ◌==◌, ℕ, ◌+◌, ◌≤◌, true, eqb, leb, ltb, ◌&&◌, Bor, Option, Some, None, List, [], ◌∷◌, ◌++◌, length, take, drop, refl, sym, ap, ◌∙◌, subst, eq-eqb, arith}
 use Rattle.std.specs.Prelude.{option_map}
 use Rattle.std.proofs.Math.Path.{ap₂}
 use Rattle.std.specs.List.{AllByRecursion}
@@ -16,6 +16,7 @@ use Rattle.s7_dialogue.specs.declared.questions.subject.Subject.{Subject}
 use Rattle.s7_dialogue.specs.declared.stages.single.Ask.{Ask}
 use Rattle.s7_dialogue.specs.declared.stages.single.Ask.TheVariants as ask
 use Rattle.s7_dialogue.specs.declared.stages.single.Single.{Single}
+use Rattle.s7_dialogue.specs.declared.stages.running.Stage.{Stage}
 use Rattle.s7_dialogue.specs.declared.stages.running.Stage.TheVariants as stage
 use Rattle.s7_dialogue.specs.declared.stages.running.Running.{Running}
 use Rattle.s7_dialogue.specs.declared.transfers.user_data.Told.{Told}
@@ -27,9 +28,9 @@ use Rattle.s7_dialogue.specs.Answer.{Answer, answer_of, brings}
 use Rattle.s7_dialogue.specs.Flight.{Row, answers_of, filled}
 use Rattle.s7_dialogue.specs.Dialogue.{End, Conduct, first_refusal, good_end, number_end, plan_of}
 use Rattle.s7_dialogue.specs.Course.{Course, for_nothing, asking}
-use Rattle.s7_dialogue.specs.Stages.{question_of_single, conduct_of_single, is_writable, can_ask_single, is_ready, IsOver}
+use Rattle.s7_dialogue.specs.Stages.{question_of_single, conduct_of_single, is_writable, can_ask_single, is_ready, answers_left, IsOver}
 use Rattle.s7_dialogue.specs.Singles.{room_for, parts_bring, most_brought, asks_left, lead_in, TellsHead, BringsOn, BeginsAnew, TellsSingle, TellsIfSome}
-use Rattle.s7_dialogue.specs.GoesOn.{IsAnswered, IsNextOf}
+use Rattle.s7_dialogue.specs.GoesOn.{IsAnswered, IsNextOf, IsToldTo}
 use Rattle.s7_dialogue.specs.Running.{Follows, Reached, awaited_in}
 use Rattle.s7_dialogue.proofs.FlightLemmas.{PassesBy, answered_pass, filled_first}
 use Rattle.s7_dialogue.proofs.SpotLemmas.{all_append}
@@ -98,11 +99,55 @@ none_alone r s found config granted rows message is same none follows = by_out s
 
 -- ---- what the code says of its answer
 
--- this is told of the answer to the telegram that is out
-abbrev pub IsToldTo : Running → Single → List ℕ → List ℕ → Told → Type 0
-IsToldTo r s found message t =
-    (number : ℕ) × (s.out ≡ Some number) × TellsIfSome s.ask (take s.len found) t
-    (answer_of (question_of_single r.job s.ask (take s.len found)) number message)
+pub told_alone : (r : Running) (s : Single) (found message : List ℕ) (t : Told)
+    → r.stage ≡ stage.Single s → found ≡ r.found.items
+    → ((number : ℕ) × (s.out ≡ Some number) × TellsIfSome s.ask (take s.len found) t
+    (answer_of (question_of_single r.job s.ask (take s.len found)) number message))
+    → IsToldTo r s.ask s.len message t
+told_alone r s found message t is same of = record {
+  single = s;
+  stage = is;
+  ask = refl;
+  len = refl;
+  number = of.0;
+  out = of.1;
+  tells =
+      subst (λ (xs : List ℕ). TellsIfSome s.ask (take s.len xs) t
+      (answer_of (question_of_single r.job s.ask (take s.len xs)) of.0 message)) same of.2;
+}
+
+-- how many answers are left
+pub left_alone : (r : Running) (asked : Ask) (len : ℕ) (message : List ℕ) (t : Told)
+    → IsToldTo r asked len message t → answers_left r.stage ≡ asks_left asked len
+left_alone r asked len message t of = ap answers_left of.stage ∙ ap₂ asks_left of.ask of.len
+
+some_left : (asked : Ask) (len : ℕ) → 1 ≤ asks_left asked len
+some_left (ask.Control control) len = omega arith
+some_left (ask.About subject) len = omega arith
+some_left (ask.Further subject octet) len = omega arith
+some_left ask.Upload len = omega arith
+some_left (ask.Slice id size) len = omega arith
+some_left (ask.UploadEnd id) len = omega arith
+some_left (ask.Announce pieces) len = omega arith
+some_left (ask.AwaitCall pieces) len = omega arith
+some_left (ask.Give pieces from call) len = omega arith
+some_left (ask.Insert pieces call) len = omega arith
+some_left (ask.Head block) len = omega arith
+some_left (ask.HeadFurther block octet) len = omega arith
+some_left (ask.Part block place) len = omega arith
+
+none_left : (st : Stage) → IsOver st → answers_left st ≡ 0
+none_left stage.Opening over = absurd over
+none_left (stage.Asking a) over = absurd over
+none_left (stage.Single s) over = absurd over
+none_left stage.Leaving over = absurd over
+none_left (stage.Over code leaves) over = refl
+
+-- and none, once the job is over
+pub over_fewer : (r r' : Running) (asked : Ask) (len : ℕ) (message : List ℕ) (t : Told)
+    → IsToldTo r asked len message t → IsOver r'.stage → answers_left r'.stage + 1 ≤ answers_left r.stage
+over_fewer r r' asked len message t of over =
+    omega (arith, none_left r'.stage over, left_alone r asked len message t of, some_left asked len)
 
 -- The answer is there, and this is told of it.
 record Tells (r : Running) (s : Single) (message : List ℕ) (t : Told) : Type 0 where
@@ -117,13 +162,15 @@ told_some : (asked : Ask) (so_far : List ℕ) (t : Told) (o : Option Answer) →
 told_some asked so_far t None h = absurd h
 told_some asked so_far t (Some x) h = (x, refl, h)
 
-tells_as : (r : Running) (s : Single) (found message : List ℕ) (t t' : Told) → found ≡ r.found.items
-    → IsToldTo r s found message t → t ≡ t' → Tells r s message t'
-tells_as r s found message t t' same of is =
-    let now : IsToldTo r s r.found.items message t' =
-    subst (IsToldTo r s r.found.items message) is (subst (λ (xs : List ℕ). IsToldTo r s xs message t) same of) in
-    let some = told_some s.ask (take s.len r.found.items) t' (answer_of (asked_alone r s) now.0 message) now.2 in
-    record { number = now.0; out = now.1; answer = some.0; is = some.1; tells = some.2 }
+tells_as : (r : Running) (asked : Ask) (len : ℕ) (message : List ℕ) (t t' : Told)
+    → (of : IsToldTo r asked len message t) → t ≡ t' → Tells r of.single message t'
+tells_as r asked len message t t' of is =
+    let s = of.single in
+    let answer = answer_of (asked_alone r s) of.number message in
+    let some =
+    told_some s.ask (take s.len r.found.items) t' answer
+    (subst (λ (u : Told). TellsIfSome s.ask (take s.len r.found.items) u answer) is of.tells) in
+    record { number = of.number; out = of.out; answer = some.0; is = some.1; tells = some.2 }
 
 -- ---- the job is over
 
@@ -158,15 +205,16 @@ ends_alone r r' s config granted course number last message x end h answers ends
     }
 
 -- by a refusal
-pub refused_alone : (r r' : Running) (s : Single) (found message : List ℕ) (t : Told) (number last : ℕ)
+pub refused_alone : (r r' : Running) (asked : Ask) (len : ℕ) (message : List ℕ) (t : Told) (number last : ℕ)
     (config : Config) (granted : Option Grant) (course : Course)
-    → r.stage ≡ stage.Single s → found ≡ r.found.items → IsToldTo r s found message t → t ≡ told.Refused number
+    → IsToldTo r asked len message t → t ≡ told.Refused number
     → Follows r config granted course.rows → course.sequence ≡ last
     → awaited_in r' [] ≡ for_nothing (number_end number AsItWas) [] → IsOver r'.stage
     → IsTakenBy message config granted course r.job r' last
-refused_alone r r' s found message t number last config granted course is same of told_is follows at awaits over =
-    let h = tells_as r s found message t (told.Refused number) same of told_is in
-    let stands = stands_at r s config granted course.rows (Some h.number) is h.out follows in
+refused_alone r r' asked len message t number last config granted course of told_is follows at awaits over =
+    let s = of.single in
+    let h = tells_as r asked len message t (told.Refused number) of told_is in
+    let stands = stands_at r s config granted course.rows (Some h.number) of.stage h.out follows in
     ends_alone r r' s config granted course h.number last message h.answer (number_end number AsItWas) stands h.is
     (ends_refused r.job s.ask (answers_of stands.before) h.answer number stands.unrefused stands.counted h.tells) at
     awaits over
@@ -174,10 +222,10 @@ refused_alone r r' s found message t number last config granted course is same o
 -- ---- octets came
 
 -- There is room for the octets behind those that came, and what is asked next can be asked.
-pub record Fits (r : Running) (s : Single) (octets : List ℕ) (next : Option Ask) : Type 0 where
-  pub room : s.len + length octets ≤ length r.found.items
-  pub whole : length r.found.items ≡ room_for s.ask
-  pub on : (a : Ask) → next ≡ Some a → IsNext r.job s.ask s.len octets a
+pub record Fits (r : Running) (asked : Ask) (len : ℕ) (octets : List ℕ) (next : Option Ask) : Type 0 where
+  pub room : len + length octets ≤ length r.found.items
+  pub whole : length r.found.items ≡ room_for asked
+  pub on : (a : Ask) → next ≡ Some a → IsNext r.job asked len octets a
 
 can_alone : (r : Running) (s : Single) → r.stage ≡ stage.Single s
     → (is_writable r.job s.ask ≡ true) × ((length r.found.items == room_for s.ask) ≡ true)
@@ -199,7 +247,7 @@ came_alone r s is =
     length-take-le s.len r.found.items (omega (arith, whole, s.most))
 
 fits_as : (r : Running) (s : Single) (message : List ℕ) (octets : Bor (List ℕ)) (next : Option Ask)
-    → r.stage ≡ stage.Single s → Tells r s message (told.Brought octets next) → Fits r s octets.now next
+    → r.stage ≡ stage.Single s → Tells r s message (told.Brought octets next) → Fits r s.ask s.len octets.now next
 fits_as r s message octets next is h =
     let whole = places r s is in
     let few : length octets.now ≤ most_brought s.ask s.len =
@@ -211,12 +259,14 @@ fits_as r s message octets next is h =
           is_next r.job s.ask s.len octets.now next h.answer a (writable_alone r s is) s.most few h.tells.0 some;
     }
 
-pub fits_told : (r : Running) (s : Single) (found message : List ℕ) (t : Told) (octets : Bor (List ℕ))
+pub fits_told : (r : Running) (asked : Ask) (len : ℕ) (message : List ℕ) (t : Told) (octets : Bor (List ℕ))
     (next : Option Ask)
-    → r.stage ≡ stage.Single s → found ≡ r.found.items → IsToldTo r s found message t → t ≡ told.Brought octets next
-    → Fits r s octets.now next
-fits_told r s found message t octets next is same of told_is =
-    fits_as r s message octets next is (tells_as r s found message t (told.Brought octets next) same of told_is)
+    → IsToldTo r asked len message t → t ≡ told.Brought octets next → Fits r asked len octets.now next
+fits_told r asked len message t octets next of told_is =
+    subst (λ (n : ℕ). Fits r asked n octets.now next) of.len
+    (subst (λ (a : Ask). Fits r a of.single.len octets.now next) of.ask
+    (fits_as r of.single message octets next of.stage
+    (tells_as r asked len message t (told.Brought octets next) of told_is)))
 
 -- what came then
 front_with : (n : ℕ) (octets piece rest : List ℕ) → n ≤ length octets
@@ -226,8 +276,11 @@ front_with n octets piece rest within =
     (omega (arith, length-append (take n octets) piece, length-take-le n octets within))
 
 -- the octets with these at their place
-abbrev pub placed : Running → Single → List ℕ → List ℕ
-placed r s octets = take s.len r.found.items ++ octets ++ drop (s.len + length octets) r.found.items
+abbrev pub pasted : List ℕ → ℕ → List ℕ → List ℕ
+pasted found at octets = take at found ++ octets ++ drop (at + length octets) found
+
+abbrev placed : Running → ℕ → List ℕ → List ℕ
+placed r len octets = pasted r.found.items len octets
 
 -- what is kept before the answer to the telegram that is out
 kept_before : (r : Running) (s : Single) (config : Config) (granted : Option Grant) (rows : List Row) (number : ℕ)
@@ -247,16 +300,19 @@ behind_out r s config granted rows number x octets next is h tells =
     (omega (arith, came, s.most)) h.next (kept_before r s config granted rows number h) tells
 
 -- nothing more is asked
-pub ended_alone : (r r' : Running) (s : Single) (found message found' : List ℕ) (t : Told) (octets : Bor (List ℕ))
-    (next : Option Ask) (lead last : ℕ) (config : Config) (granted : Option Grant) (course : Course)
-    → r.stage ≡ stage.Single s → found ≡ r.found.items → IsToldTo r s found message t → t ≡ told.Brought octets next
-    → next ≡ None → found' ≡ placed r s octets.now → lead ≡ lead_in s.ask → Follows r config granted course.rows
+pub ended_alone : (r r' : Running) (asked : Ask) (len : ℕ) (message found' : List ℕ) (t : Told)
+    (octets : Bor (List ℕ)) (next : Option Ask) (lead last : ℕ) (config : Config) (granted : Option Grant)
+    (course : Course)
+    → IsToldTo r asked len message t → t ≡ told.Brought octets next
+    → next ≡ None → found' ≡ placed r len octets.now → lead ≡ lead_in asked → Follows r config granted course.rows
     → course.sequence ≡ last
-    → awaited_in r' [] ≡ for_nothing (good_end (drop lead (take (s.len + length octets.now) found')) r.codes) []
+    → awaited_in r' [] ≡ for_nothing (good_end (drop lead (take (len + length octets.now) found')) r.codes) []
     → IsOver r'.stage → IsTakenBy message config granted course r.job r' last
-ended_alone r r' s found message found' t octets next lead last config granted course is same of told_is over_is put
-    leads follows at awaits over =
-    let h = tells_as r s found message t (told.Brought octets next) same of told_is in
+ended_alone r r' asked len message found' t octets next lead last config granted course of told_is over_is put leads
+    follows at awaits over =
+    let s = of.single in
+    let is = of.stage in
+    let h = tells_as r asked len message t (told.Brought octets next) of told_is in
     let fits = fits_as r s message octets next is h in
     let stands = stands_at r s config granted course.rows (Some h.number) is h.out follows in
     let came = take s.len r.found.items in
@@ -269,12 +325,15 @@ ended_alone r r' s found message found' t octets next lead last config granted c
     ends_alone r r' s config granted course h.number last message h.answer (good_end (drop n (came ++ octets.now)) [])
     stands h.is ends at
     (awaits
-    ∙ (ap (λ k. for_nothing (good_end (drop k (take (s.len + length octets.now) found')) r.codes) []) leads
-    ∙ (ap (λ xs. for_nothing (good_end (drop n (take (s.len + length octets.now) xs)) r.codes) []) put
+    ∙ (ap (λ m. for_nothing (good_end (drop lead (take (m + length octets.now) found')) r.codes) []) (sym of.len)
+    ∙ (ap (λ k. for_nothing (good_end (drop k (take (s.len + length octets.now) found')) r.codes) [])
+    (leads ∙ ap lead_in (sym of.ask))
+    ∙ (ap (λ xs. for_nothing (good_end (drop n (take (s.len + length octets.now) xs)) r.codes) [])
+    (put ∙ ap (λ m. placed r m octets.now) (sym of.len))
     ∙ (ap (λ xs. for_nothing (good_end (drop n xs) r.codes) [])
     (front_with s.len r.found.items octets.now (drop (s.len + length octets.now) r.found.items)
     (omega (arith, fits.room)))
-    ∙ ap (λ xs. for_nothing (good_end (drop n (came ++ octets.now)) xs) []) stands.no_codes))))
+    ∙ ap (λ xs. for_nothing (good_end (drop n (came ++ octets.now)) xs) []) stands.no_codes)))))
     over
 
 -- what a job keeps that asks for more
@@ -345,32 +404,36 @@ goes_alone r r' s message found' t all next a len' last config granted course h 
           };
     }
 
-pub next_alone : (r r' : Running) (s : Single) (found message found' : List ℕ) (t : Told) (octets : Bor (List ℕ))
-    (next : Option Ask) (a : Ask) (last : ℕ) (config : Config) (granted : Option Grant) (course : Course)
-    → r.stage ≡ stage.Single s → found ≡ r.found.items → IsToldTo r s found message t → t ≡ told.Brought octets next
-    → next ≡ Some a → found' ≡ placed r s octets.now → Follows r config granted course.rows
-    → ((now : Course) → IsNextOf config granted now.rows r.job found' r.codes a (s.len + length octets.now)
+pub next_alone : (r r' : Running) (asked : Ask) (len : ℕ) (message found' : List ℕ) (t : Told)
+    (octets : Bor (List ℕ)) (next : Option Ask) (a : Ask) (last : ℕ) (config : Config) (granted : Option Grant)
+    (course : Course)
+    → IsToldTo r asked len message t → t ≡ told.Brought octets next
+    → next ≡ Some a → found' ≡ placed r len octets.now → Follows r config granted course.rows
+    → ((now : Course) → IsNextOf config granted now.rows r.job found' r.codes a (len + length octets.now)
     → now.sequence ≡ course.sequence
     → Reached config granted now (asking (plan_of r.job config granted).conduct now) r' last)
     → IsTakenBy message config granted course r.job r' last
-next_alone r r' s found message found' t octets next a last config granted course is same of told_is next_is put
-    follows goes_on =
-    let h = tells_as r s found message t (told.Brought octets next) same of told_is in
+next_alone r r' asked len message found' t octets next a last config granted course of told_is next_is put follows
+    goes_on =
+    let s = of.single in
+    let is = of.stage in
+    let h = tells_as r asked len message t (told.Brought octets next) of told_is in
     let fits = fits_as r s message octets next is h in
     let stands = stands_at r s config granted course.rows (Some h.number) is h.out follows in
     let goes = behind_out r s config granted course.rows h.number h.answer octets.now next is
     stands h.tells.0 in
     goes_alone r r' s message found' (told.Brought octets next) (take s.len r.found.items ++ octets.now) next a
-    (s.len + length octets.now) last config granted course h stands goes next_is
-    (ap (take (s.len + length octets.now)) put
+    (len + length octets.now) last config granted course h stands goes next_is
+    (ap (λ m. take (m + length octets.now) found') (sym of.len)
+    ∙ ap (take (s.len + length octets.now)) (put ∙ ap (λ m. placed r m octets.now) (sym of.len))
     ∙ front_with s.len r.found.items octets.now (drop (s.len + length octets.now) r.found.items)
     (omega (arith, fits.room)))
     goes_on
 
 -- and it can be asked
-pub next_ready : (r : Running) (s : Single) (octets : List ℕ) (next : Option Ask) (a : Ask) (n : ℕ)
-    → Fits r s octets next → next ≡ Some a → n ≡ length r.found.items → can_ask_single r.job n a ≡ true
-next_ready r s octets next a n fits is same =
+pub next_ready : (r : Running) (asked : Ask) (len : ℕ) (octets : List ℕ) (next : Option Ask) (a : Ask) (n : ℕ)
+    → Fits r asked len octets next → next ≡ Some a → n ≡ length r.found.items → can_ask_single r.job n a ≡ true
+next_ready r asked len octets next a n fits is same =
     let ready = fits.on a is in
     ap₂ (λ writable all. writable && all) ready.writable
     (eq-eqb n (room_for a) (same ∙ (fits.whole ∙ sym ready.room)))
@@ -378,12 +441,12 @@ next_ready r s octets next a n fits is same =
 -- ---- octets come anew
 
 -- What is asked then has a place for each octet, can be written, and leaves fewer answers.
-pub record IsAnew (r : Running) (s : Single) (a : Ask) : Type 0 where
+pub record IsAnew (r : Running) (asked : Ask) (len : ℕ) (a : Ask) : Type 0 where
   pub later : (subject : Subject) → a ≡ ask.About subject → ⊥
   pub behind : (block : DataBlock) → a ≡ ask.Head block → ⊥
   pub most : parts_bring a ≤ room_for a
   pub ready : can_ask_single r.job (length r.found.items) a ≡ true
-  pub fewer : asks_left a 0 + 1 ≤ asks_left s.ask s.len
+  pub fewer : asks_left a 0 + 1 ≤ asks_left asked len
 
 few_data : (octets : List ℕ) → tells_data octets ≡ true → data_length octets ≤ 2097152
 few_data octets is =
@@ -397,16 +460,16 @@ comes_all : (value : Option ℕ) (left : ℕ) → left ≤ 2097152 → comes_for
 comes_all None left within = within
 comes_all (Some value) left within = omega arith
 
-head_anew : (r : Running) (s : Single) (block : DataBlock) (so_far : List ℕ) (a : Ask) (x : Answer)
+head_anew : (r : Running) (asked : Ask) (len : ℕ) (block : DataBlock) (so_far : List ℕ) (a : Ask) (x : Answer)
     → has_pdu block ≡ true → length r.found.items ≡ room_for_value block.value
-    → 2097154 ≤ asks_left s.ask s.len → TellsHead block so_far a x → IsAnew r s a
-head_anew r s block so_far a (brings octet more piece) has whole left told =
+    → 2097154 ≤ asks_left asked len → TellsHead block so_far a x → IsAnew r asked len a
+head_anew r asked len block so_far a (brings octet more piece) has whole left told =
     let size : ℕ = data_length (so_far ++ piece) in
     let place : Place = told.2.0 in
     let first = first_place size place told.2.1 in
     let few = few_data (so_far ++ piece) told.1 in
     let end : place.from + place.here + place.later ≤ 2097152 = omega (arith, few, first.0, first.2) in
-    subst (IsAnew r s) (sym told.2.2)
+    subst (IsAnew r asked len) (sym told.2.2)
     (record {
       later = λ about e. absurd (cc);
       behind = λ other e. absurd (cc);
@@ -419,35 +482,39 @@ head_anew r s block so_far a (brings octet more piece) has whole left told =
           (eq-eqb (length r.found.items) (room_for_value block.value) whole);
       fewer = omega (arith, left, few, first.2);
     })
-head_anew r s block so_far a _ has whole left told = absurd told
+head_anew r asked len block so_far a _ has whole left told = absurd told
 
-anew_by : (r : Running) (s : Single) (asked : Ask) (so_far : List ℕ) (a : Ask) (x : Answer) → s.ask ≡ asked
+anew_by : (r : Running) (asked : Ask) (len : ℕ) (so_far : List ℕ) (a : Ask) (x : Answer)
     → is_writable r.job asked ≡ true → length r.found.items ≡ room_for asked → BeginsAnew asked so_far a x
-    → IsAnew r s a
-anew_by r s (ask.Head block) so_far a x is writable whole told =
-    let left : asks_left s.ask s.len ≡ 2 + (8448 - s.len) + 2097152 = ap (λ (b : Ask). asks_left b s.len) is in
-    head_anew r s block so_far a x writable whole (omega (arith, left)) told
-anew_by r s (ask.HeadFurther block octet) so_far a x is writable whole told =
-    let left : asks_left s.ask s.len ≡ 2 + (8448 - s.len) + 2097152 = ap (λ (b : Ask). asks_left b s.len) is in
-    head_anew r s block so_far a x writable whole (omega (arith, left)) told
-anew_by r s _ so_far a x is writable whole told = absurd told
+    → IsAnew r asked len a
+anew_by r (ask.Head block) len so_far a x writable whole told =
+    head_anew r (ask.Head block) len block so_far a x writable whole (omega arith) told
+anew_by r (ask.HeadFurther block octet) len so_far a x writable whole told =
+    head_anew r (ask.HeadFurther block octet) len block so_far a x writable whole (omega arith) told
+anew_by r _ len so_far a x writable whole told = absurd told
 
-pub anew_told : (r : Running) (s : Single) (found message : List ℕ) (t : Told) (a : Ask)
-    → r.stage ≡ stage.Single s → found ≡ r.found.items → IsToldTo r s found message t → t ≡ told.Anew a → IsAnew r s a
-anew_told r s found message t a is same of told_is =
-    let h = tells_as r s found message t (told.Anew a) same of told_is in
-    anew_by r s s.ask (take s.len r.found.items) a h.answer refl (writable_alone r s is) (places r s is) h.tells
+pub anew_told : (r : Running) (asked : Ask) (len : ℕ) (message : List ℕ) (t : Told) (a : Ask)
+    → IsToldTo r asked len message t → t ≡ told.Anew a → IsAnew r asked len a
+anew_told r asked len message t a of told_is =
+    let s = of.single in
+    let h = tells_as r asked len message t (told.Anew a) of told_is in
+    subst (λ (n : ℕ). IsAnew r asked n a) of.len
+    (subst (λ (b : Ask). IsAnew r b s.len a) of.ask
+    (anew_by r s.ask s.len (take s.len r.found.items) a h.answer (writable_alone r s of.stage) (places r s of.stage)
+    h.tells))
 
-pub anew_alone : (r r' : Running) (s : Single) (found message : List ℕ) (t : Told) (a : Ask) (last : ℕ)
+pub anew_alone : (r r' : Running) (asked : Ask) (len : ℕ) (message : List ℕ) (t : Told) (a : Ask) (last : ℕ)
     (config : Config) (granted : Option Grant) (course : Course)
-    → r.stage ≡ stage.Single s → found ≡ r.found.items → IsToldTo r s found message t → t ≡ told.Anew a
+    → IsToldTo r asked len message t → t ≡ told.Anew a
     → Follows r config granted course.rows
     → ((now : Course) → IsNextOf config granted now.rows r.job r.found.items r.codes a 0
     → now.sequence ≡ course.sequence
     → Reached config granted now (asking (plan_of r.job config granted).conduct now) r' last)
     → IsTakenBy message config granted course r.job r' last
-anew_alone r r' s found message t a last config granted course is same of told_is follows goes_on =
-    let h = tells_as r s found message t (told.Anew a) same of told_is in
+anew_alone r r' asked len message t a last config granted course of told_is follows goes_on =
+    let s = of.single in
+    let is = of.stage in
+    let h = tells_as r asked len message t (told.Anew a) of told_is in
     let stands = stands_at r s config granted course.rows (Some h.number) is h.out follows in
     let goes =
     anew_behind r.job s.ask (answers_of stands.before) h.answer (take s.len r.found.items) a (writable_alone r s is)

@@ -9,6 +9,7 @@ use Rattle.s7_dialogue.specs.declared.config.Config.{Config}
 use Rattle.s7_dialogue.specs.declared.grant.Grant.{Grant}
 use Rattle.s7_dialogue.specs.declared.job.Job.{Job}
 use Rattle.s7_dialogue.specs.declared.job.Job.TheVariants as job
+use Rattle.s7_dialogue.specs.declared.answers.answer.Asked.{Asked}
 use Rattle.s7_dialogue.specs.declared.answers.answer.Asked.TheVariants as asked
 use Rattle.s7_dialogue.specs.declared.answers.answer.Answer as kept
 use Rattle.s7_dialogue.specs.declared.stages.flight.Flight.{Flight}
@@ -197,6 +198,12 @@ taken_on message config granted course r r1 r' a a' flight t write items last is
     }
 
 -- ---- the answer to a negotiation
+
+pub not_for_items : (told : Asked) → ((items : List Item) → told ≡ asked.Read items → ⊥)
+    → ((items : List Item) → told ≡ asked.Write items → ⊥) → told ≡ asked.Negotiation
+not_for_items asked.Negotiation not_read not_written = refl
+not_for_items (asked.Read items) not_read not_written = absurd (not_read items refl)
+not_for_items (asked.Write items) not_read not_written = absurd (not_written items refl)
 
 negotiates_by : (done : Job) (question : Question) → asked_of question ≡ asked.Negotiation → MayAsk done question
     → (n : Negotiation) × (question ≡ negotiates n)

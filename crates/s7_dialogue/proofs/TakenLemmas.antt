@@ -20,7 +20,7 @@ use Rattle.s7_dialogue.specs.declared.stages.flight.Flight.{Flight}
 use Rattle.s7_dialogue.specs.declared.stages.asking.Asking.{Asking}
 use Rattle.s7_dialogue.specs.Question.{Question, negotiates, reads, writes}
 use Rattle.s7_dialogue.specs.Answer.{Answer, ItemAnswer, begins_read, begins_refused, item_first, item_answers, answer_of}
-use Rattle.s7_dialogue.specs.DataItems.{First, first_of}
+use Rattle.s7_dialogue.specs.DataItems.{First, first_of, answers_in}
 use Rattle.s7_dialogue.specs.Told.{IsAsked, Tells, TellsSome}
 use Rattle.s7_dialogue.specs.Stages.{question_of}
 use Rattle.s7_dialogue.specs.Flight.{Row, filled}
@@ -30,7 +30,7 @@ use Rattle.s7_dialogue.specs.Taking.{Taken, rows_with}
 use Rattle.s7_dialogue.proofs.EndLemmas.{heads_same}
 use Rattle.s7_dialogue.proofs.FlightLemmas.{PassesBy, filled_at}
 use Rattle.s7_dialogue.proofs.SpotLemmas.{spot_append, flights_append}
-use Rattle.s7_dialogue.proofs.ItemLemmas.{answer_of_first, then_others, answers_first}
+use Rattle.s7_dialogue.proofs.ItemLemmas.{then_others, answers_first}
 
 -- ---- the first telegram that the message answers
 
@@ -149,17 +149,17 @@ find message config job spot (row ∷ rows) before flight after again silent is 
 
 -- ---- what it tells fits the question
 
-item_fits_by : (read refused : Bool) (n : ℕ) (x y : First) → (read ≡ true → x.code ≡ 0xFF)
-    → (read ≡ true → length x.octets ≡ n)
-    → (refused ≡ true → eqb y.code 0xFF ≡ false) → y.octets ≡ []
-    → IfSome (cond read (Some x) (cond refused (Some y) None))
-    (λ first. MatchBool (eqb first.code 0xFF) (length first.octets ≡ n) (first.octets ≡ []))
-item_fits_by true refused n x y code long other none =
-    subst (λ (b : Bool). MatchBool b (length x.octets ≡ n) (x.octets ≡ [])) (sym (ap (λ k. eqb k 0xFF) (code refl)))
-    (long refl)
-item_fits_by false true n x y code long other none =
-    subst (λ (b : Bool). MatchBool b (length y.octets ≡ n) (y.octets ≡ [])) (sym (other refl)) none
-item_fits_by false false n x y code long other none = tt
+item_fits_by : (read refused : Bool) (item : Item) (x y : First) → (read ≡ true → x.answer.code ≡ 0xFF)
+    → (read ≡ true → length x.answer.octets ≡ octet_count item)
+    → (refused ≡ true → eqb y.answer.code 0xFF ≡ false) → y.answer.octets ≡ []
+    → IfSome (cond read (Some x) (cond refused (Some y) None)) (λ first. TellsItem item first.answer)
+item_fits_by true refused item x y code long other none =
+    subst (λ (b : Bool). MatchBool b (length x.answer.octets ≡ octet_count item) (x.answer.octets ≡ []))
+    (sym (ap (λ k. eqb k 0xFF) (code refl))) (long refl)
+item_fits_by false true item x y code long other none =
+    subst (λ (b : Bool). MatchBool b (length y.answer.octets ≡ octet_count item) (y.answer.octets ≡ []))
+    (sym (other refl)) none
+item_fits_by false false item x y code long other none = tt
 
 read_long : (code transport stated : Bool) (n pad : ℕ) (octets : List ℕ)
     → ((code && transport) && (stated && leb (4 + n + pad) (length octets))) ≡ true
@@ -176,10 +176,9 @@ refused_code code blank rest is =
     not-true code (and_parts (not code) blank (and_parts (not code && blank) rest is).0).0
 
 item_fits : (item : Item) (last : Bool) (octets : List ℕ)
-    → IfSome (first_of item last octets)
-    (λ first. MatchBool (eqb first.code 0xFF) (length first.octets ≡ octet_count item) (first.octets ≡ []))
+    → IfSome (first_of item last octets) (λ first. TellsItem item first.answer)
 item_fits item last octets =
-    item_fits_by (begins_read item last octets) (begins_refused octets) (octet_count item) _ _ (λ read. refl)
+    item_fits_by (begins_read item last octets) (begins_refused octets) item _ _ (λ read. refl)
     (read_long (eqb (slice_index octets 0) 0xFF) (eqb (slice_index octets 1) (transport_of item.word))
     (eqb (number_at octets 2) (stated_length (transport_of item.word) (octet_count item))) (octet_count item)
     (padding_of (octet_count item) last) octets)
@@ -199,16 +198,16 @@ none_fit true answers is = subst (TellAll []) (same_Some [] answers is) tt
 none_fit false answers is = absurd (cc)
 
 answers_fit : (items : List Item) (item : Item) (found : Option First) (answers : List ItemAnswer)
-    → IfSome found
-    (λ first. MatchBool (eqb first.code 0xFF) (length first.octets ≡ octet_count item) (first.octets ≡ []))
+    → IfSome found (λ first. TellsItem item first.answer)
     → ((octets : List ℕ) (others : List ItemAnswer) → item_answers items octets ≡ Some others → TellAll items others)
     → option_and_then (then_others items) found ≡ Some answers → TellAll (item ∷ items) answers
 answers_fit items item None answers fits later is = absurd (cc)
 answers_fit items item (Some first) answers fits later is =
-    others_fit items item (answer_of_first first) (item_answers items first.rest) answers fits
+    others_fit items item first.answer (item_answers items first.rest) answers fits
     (λ others e. later first.rest others e) is
 
-tell_all : (items : List Item) (octets : List ℕ) (answers : List ItemAnswer)
+-- the answers that octets are fit their items
+pub tell_all : (items : List Item) (octets : List ℕ) (answers : List ItemAnswer)
     → item_answers items octets ≡ Some answers → TellAll items answers
 tell_all [] octets answers is = none_fit (eqb (length octets) 0) answers is
 tell_all (item ∷ items) octets answers is =
@@ -219,13 +218,13 @@ tell_all (item ∷ items) octets answers is =
 pub tells_fit : (question : Question) (t : kept.Answer) (x : Answer) → Tells question t x → FitsQuestion question x
 tells_fit (reads items) (told.Refused error) x telling = subst (FitsQuestion (reads items)) (sym telling) tt
 tells_fit (reads items) (told.Granted n) x telling = absurd telling
-tells_fit (reads items) (told.Items body) x telling =
-    subst (FitsQuestion (reads items)) (sym telling.2) (tell_all items body.now telling.0 telling.1)
+tells_fit (reads items) (told.Items answers) x telling =
+    subst (FitsQuestion (reads items)) (sym telling.2) (tell_all items telling.0 (answers_in answers.items) telling.1)
 tells_fit (reads items) (told.Codes noted) x telling = absurd telling
 tells_fit (writes items octets) (told.Refused error) x telling =
     subst (FitsQuestion (writes items octets)) (sym telling) tt
 tells_fit (writes items octets) (told.Granted n) x telling = absurd telling
-tells_fit (writes items octets) (told.Items body) x telling = absurd telling
+tells_fit (writes items octets) (told.Items answers) x telling = absurd telling
 tells_fit (writes items octets) (told.Codes noted) x telling =
     subst (FitsQuestion (writes items octets)) (sym telling.0) telling.1
 tells_fit _ t x telling = tt

@@ -1,17 +1,17 @@
--- The course of a job on its link: what the octets that were used make of it, and what may be sent. The octets are
--- packets (RFC 1006, section 6) with TPDUs of class 0 (ISO 8073, 13.3 to 13.5 and 13.7), as a server's link has them.
-use Rattle.std.specs.Prelude.{ℕ, ◌+◌, zero, suc, Bool, false, ◌==◌, ◌&&◌, nat_lt, List, [], ◌∷◌, ◌++◌, length, is_none, Option, None, Some, Result, Ok, Err, if◌then◌else◌}
+-- The course of a job on its link: what the octets that were used make of it, and what may be sent. What is read in
+-- the octets, an opening, messages and faults, is what `s7_wire` says; here stands what a job makes of it.
+use Rattle.std.specs.Prelude.{ℕ, ◌+◌, zero, suc, Bool, false, ◌==◌, ◌&&◌, nat_lt, List, [], ◌∷◌, ◌++◌, length, is_none, Option, None, Some, if◌then◌else◌}
 use Rattle.s7_outer.specs.Numbers.{two_octets}
 use Rattle.s7_tpkt.specs.Packets.{packet_of, packets_of, rest_of, state_of}
 use Rattle.s7_tpkt.specs.declared.state.FedState.{FedState}
-use Rattle.s7_tpkt.specs.declared.state.FedState.TheVariants as fed
-use Rattle.s7_cotp.specs.Told.{Told, ConnectionTold, connect, confirm, fragment, disconnect, reject}
-use Rattle.s7_cotp.specs.Reading.{tpdu_of}
+use Rattle.s7_cotp.specs.Told.{ConnectionTold}
 use Rattle.s7_cotp.specs.Spelling.{spelling_of_connect, spelling_of_disconnect}
-use Rattle.s7_cotp.specs.Messages.{Step, more, whole, too_many_fragments, too_long, joined_with}
-use Rattle.s7_cotp.specs.declared.tpdu.CotpFault.{CotpFault}
-use Rattle.s7_wire.specs.Bounds.{message_limit, first_limit, size_of_code, limit_of_size}
+use Rattle.s7_wire.specs.Bounds.{size_of_code}
 use Rattle.s7_wire.specs.Sent.{sent_messages}
+use Rattle.s7_wire.specs.Reading.{Event, opened, message, Ending, disconnected, faulted, Progress, limit_by, with_body, with_state}
+use Rattle.s7_wire.specs.declared.found.Opening.TheVariants.{Confirm}
+use Rattle.s7_wire.specs.declared.found.ReadFault.{ReadFault}
+use Rattle.s7_wire.specs.declared.found.ReadFault.TheVariants.{BadFrame, FrameTooLong, BadTpdu, Unexpected, TooManyFragments, TooLong}
 use Rattle.s7_dialogue.specs.declared.config.Config.{Config}
 use Rattle.s7_dialogue.specs.declared.job.Job.{Job}
 use Rattle.s7_dialogue.specs.declared.grant.Grant.{Grant}
@@ -19,6 +19,7 @@ use Rattle.s7_dialogue.specs.Codes.{not_connected, link_ended, bad_packet, short
 use Rattle.s7_dialogue.specs.Question.{Question, is_numbered, messages_of}
 use Rattle.s7_dialogue.specs.Flight.{Row, answers_of, open_count, filled}
 use Rattle.s7_dialogue.specs.Dialogue.{End, fault_end, Conduct, First, nothing, connect_request, disconnect_request, first_refusal, is_connect, plan_of}
+pub use Rattle.s7_wire.specs.Reading.{Unfinished, nothing_unfinished}
 
 -- where a job starts: what the client has by then
 pub record Origin : Type 0 where
@@ -41,17 +42,10 @@ pub data Awaits : Type 0 where
   -- nothing: the job is over, with a message that was no answer or none
   for_nothing : (end : End) → (carried : List ℕ) → Awaits
 
--- the fragments of a message that isn't whole (ISO 8073, 13.7): their octets, and how many they are
-pub record Unfinished : Type 0 where
-  pub octets : List ℕ
-  pub count : ℕ
-
-abbrev pub nothing_unfinished : Unfinished
-nothing_unfinished = record { octets = []; count = 0 }
-
 pub record Course : Type 0 where
   -- the questions that went out, in order, with their answers
   pub rows : List Row
+  -- the TPDU size of the link, and the message on it that isn't whole
   pub size : ℕ
   pub unfinished : Unfinished
   pub sequence : ℕ
@@ -140,51 +134,79 @@ abbrev pub with_fault : Course → ℕ → Course
 with_fault course code = record course { awaits = for_nothing (fault_end code) [] }
 
 abbrev pub by_rows : Conduct → Course → List ℕ → Option (List Row) → Course
-by_rows c course message None = record course { awaits = for_nothing (fault_end invalid_answer) message }
-by_rows c course message (Some rows) = asking c (record course { rows = rows })
+by_rows c course octets None = record course { awaits = for_nothing (fault_end invalid_answer) octets }
+by_rows c course octets (Some rows) = asking c (record course { rows = rows })
 
 -- a whole message: a header has ten octets at least (Snap7 1.4 sources, s7_types.h: TS7ReqHeader)
 abbrev pub with_message : Conduct → Course → List ℕ → Course
-with_message c course message =
-    if nat_lt (length message) 10 then with_fault course short_message
-    else by_rows c course message (filled course.rows message)
+with_message c course octets =
+    if nat_lt (length octets) 10 then with_fault course short_message
+    else by_rows c course octets (filled course.rows octets)
 
-abbrev pub by_joining : Conduct → Course → Step → Course
-by_joining c course (more octets count) =
-    record course { unfinished = record { octets = octets; count = count } }
-by_joining c course (whole message) = with_message c (record course { unfinished = nothing_unfinished }) message
-by_joining c course too_many_fragments = with_fault course message_too_fragmented
-by_joining c course too_long = with_fault course message_too_long
+-- ---- what is read
 
--- a TPDU where answers are awaited: fragments (ISO 8073, 13.7), and a disconnect request (ISO 8073, 13.5) ends the link
-abbrev pub connected : Conduct → Course → Result Told CotpFault → Course
-connected c course (Ok (fragment last user)) =
-    by_joining c course
-    (joined_with message_limit course.unfinished.octets course.unfinished.count (record { last = last; user = user }))
-connected c course (Ok (disconnect reason)) = with_fault course link_ended
-connected c course (Ok (connect told)) = with_fault course bad_packet
-connected c course (Ok (confirm told)) = with_fault course bad_packet
-connected c course (Ok (reject cause)) = with_fault course bad_packet
-connected c course (Err fault) = with_fault course bad_packet
+-- the TPDU size that the link is read by: none where its opening is awaited
+abbrev pub size_where : Awaits → ℕ → Option ℕ
+size_where for_confirm size = None
+size_where for_answers size = Some size
+size_where for_departure size = Some size
+size_where (for_nothing end carried) size = Some size
 
--- a TPDU where the confirm is awaited (ISO 8073, 13.4)
-abbrev pub confirming : Conduct → Course → Result Told CotpFault → Course
-confirming c course (Ok (confirm told)) = asking c (record course { size = size_of_code told.size_code })
-confirming c course (Ok (connect told)) = with_fault course not_connected
-confirming c course (Ok (fragment last user)) = with_fault course not_connected
-confirming c course (Ok (disconnect reason)) = with_fault course not_connected
-confirming c course (Ok (reject cause)) = with_fault course not_connected
-confirming c course (Err fault) = with_fault course bad_packet
+-- what the link is read as before its next packet
+abbrev pub read_before : Course → Progress
+read_before course = record {
+  at = 0;
+  size = size_where course.awaits course.size;
+  unfinished = course.unfinished;
+  events = [];
+  ending = None;
+}
 
--- a packet with this body: a job that awaits no octets uses none
-abbrev pub by_awaits : Conduct → Course → List ℕ → Awaits → Course
-by_awaits c course body for_confirm = confirming c course (tpdu_of body)
-by_awaits c course body for_answers = connected c course (tpdu_of body)
-by_awaits c course body for_departure = course
-by_awaits c course body (for_nothing end carried) = course
+-- the opening is the confirm: the first questions go out; a message is taken
+abbrev pub with_event : Conduct → Course → Event → Course
+with_event c course (opened connection) = asking c (record course { size = size_of_code connection.size_code })
+with_event c course (message octets at) = with_message c course octets
 
+abbrev pub with_events : Conduct → Course → List Event → Course
+with_events c course [] = course
+with_events c course (event ∷ events) = with_events c (with_event c course event) events
+
+-- the number of a fault; where the confirm is awaited, no other TPDU connects
+abbrev pub unexpected_where : Awaits → ℕ
+unexpected_where for_confirm = not_connected
+unexpected_where for_answers = bad_packet
+unexpected_where for_departure = bad_packet
+unexpected_where (for_nothing end carried) = bad_packet
+
+abbrev pub code_where : Awaits → ReadFault → ℕ
+code_where awaits BadFrame = bad_packet
+code_where awaits FrameTooLong = message_too_long
+code_where awaits BadTpdu = bad_packet
+code_where awaits Unexpected = unexpected_where awaits
+code_where awaits TooManyFragments = message_too_fragmented
+code_where awaits TooLong = message_too_long
+
+abbrev pub with_ending : Course → Option Ending → Course
+with_ending course None = course
+with_ending course (Some disconnected) = with_fault course link_ended
+with_ending course (Some (faulted fault at)) = with_fault course (code_where course.awaits fault)
+
+-- what was read of one packet more
+abbrev pub with_reading : Conduct → Course → Progress → Course
+with_reading c course p = with_ending (with_events c (record course { unfinished = p.unfinished }) p.events) p.ending
+
+-- a job that awaits no octets uses none
+abbrev pub unless_over : Course → Course → Awaits → Course
+unless_over next course for_confirm = next
+unless_over next course for_answers = next
+unless_over next course for_departure = course
+unless_over next course (for_nothing end carried) = course
+
+-- a packet with this body
 unfoldable pub with_packet : Origin → Course → List ℕ → Course
-with_packet origin course body = by_awaits (conduct_of origin) course body course.awaits
+with_packet origin course body =
+    unless_over (with_reading (conduct_of origin) course (with_body Confirm (read_before course) body)) course
+    course.awaits
 
 -- ---- whole courses
 
@@ -225,36 +247,18 @@ abbrev pub run : Origin → Course → List (List ℕ) → Course
 run origin course [] = course
 run origin course (body ∷ bodies) = run origin (with_packet origin course body) bodies
 
--- the length that no packet passes: that of the TPDU size (ISO 8073, 13.3.4), once the confirm isn't awaited
-abbrev pub limit_where : Awaits → ℕ → ℕ
-limit_where for_confirm size = first_limit
-limit_where for_answers size = limit_of_size size
-limit_where for_departure size = limit_of_size size
-limit_where (for_nothing end carried) size = limit_of_size size
-
+-- the length that no packet passes
 abbrev pub limit_in : Course → ℕ
-limit_in course = limit_where course.awaits course.size
+limit_in course = limit_by (size_where course.awaits course.size)
 
 -- that of a packet, by the bodies of those before it
 abbrev pub limits : Origin → List (List ℕ) → ℕ
 limits origin bodies = limit_in (run origin (begun origin) bodies)
 
--- a packet that can't be one (RFC 1006, section 6) ends a job that isn't over
-abbrev pub by_state : Course → FedState → Course
-by_state course fed.BadVersion = with_fault course bad_packet
-by_state course fed.BadLength = with_fault course bad_packet
-by_state course fed.TooLong = with_fault course message_too_long
-by_state course fed.More = course
-by_state course fed.Whole = course
-
-abbrev pub unless_over : Course → Course → Awaits → Course
-unless_over next course for_confirm = next
-unless_over next course for_answers = next
-unless_over next course for_departure = course
-unless_over next course (for_nothing end carried) = course
-
+-- octets that can't be a packet end a job that isn't over
 abbrev pub with_rest : Course → FedState → Course
-with_rest course state = unless_over (by_state course state) course course.awaits
+with_rest course state =
+    unless_over (with_ending course (with_state (read_before course) state).ending) course course.awaits
 
 -- after whole packets
 abbrev pub packets_run : Origin → List ℕ → Course

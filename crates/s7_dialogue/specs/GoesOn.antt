@@ -14,7 +14,7 @@ use Rattle.s7_dialogue.specs.declared.stages.running.Running.{Running}
 use Rattle.s7_dialogue.specs.declared.stages.running.Stage.{Stage}
 use Rattle.s7_dialogue.specs.declared.stages.running.Stage.TheVariants as stage
 use Rattle.s7_dialogue.specs.Question.{Question, negotiates, reads, writes}
-use Rattle.s7_dialogue.specs.Answer.{Answer, ItemAnswer, tells, notes, refuses}
+use Rattle.s7_dialogue.specs.Answer.{Answer, ItemAnswer, tells, notes, refuses, answer_of}
 use Rattle.s7_dialogue.specs.Refusals.{telegram_refusal, part_refusal}
 use Rattle.s7_dialogue.specs.Flight.{Row, answers_of}
 use Rattle.s7_dialogue.specs.Left.{joined, questions_left, items_left, octets_left}
@@ -23,11 +23,13 @@ use Rattle.s7_dialogue.specs.Course.{Course}
 use Rattle.s7_dialogue.specs.declared.stages.single.Ask.{Ask}
 use Rattle.s7_dialogue.specs.declared.stages.single.Ask.TheVariants as ask
 use Rattle.s7_dialogue.specs.declared.stages.single.Single.{Single}
+use Rattle.s7_dialogue.specs.declared.transfers.user_data.Told.{Told}
+use Rattle.s7_dialogue.specs.Singles.{TellsIfSome}
 use Rattle.s7_dialogue.specs.DataBlocks.{data_length}
 use Rattle.s7_dialogue.specs.DataPlaces.{told_for, data_questions, questions_behind as data_questions_behind}
 use Rattle.s7_dialogue.specs.Stages.{unput_by, conduct_of_single, question_of_single}
 use Rattle.s7_dialogue.specs.declared.stages.asking.Refused.{Refused}
-use Rattle.s7_dialogue.specs.Asks.{Asks, items_of, refused_at, Refuses}
+use Rattle.s7_dialogue.specs.Asks.{Asks, items_of, refused_at}
 
 -- the refusal of an answer, by whether each item is asked for alone
 abbrev pub refusal_by : Bool → Answer → Option ℕ
@@ -264,14 +266,6 @@ ConductsAt config granted rows told job found codes (stage.Single s) = AsksSingl
 ConductsAt config granted rows told job found codes stage.Leaving = ⊥
 ConductsAt config granted rows told job found codes (stage.Over code leaves) = ⊥
 
--- the question at a place was refused
-abbrev pub RefusesAt : Stage → ℕ → ℕ → Stage → Type 0
-RefusesAt before place number stage.Opening = ⊥
-RefusesAt before place number (stage.Asking b) = (a : Asking) × (before ≡ stage.Asking a) × Refuses a place number b
-RefusesAt before place number (stage.Single s) = ⊥
-RefusesAt before place number stage.Leaving = ⊥
-RefusesAt before place number (stage.Over code leaves) = ⊥
-
 -- no telegram is unanswered, and this answer is the first that refused, or nothing is left to ask
 abbrev pub IsDone : Stage → Option Refused → Type 0
 IsDone stage.Opening refused = ⊥
@@ -284,3 +278,15 @@ IsDone (stage.Over code leaves) refused = ⊥
 -- WHAT A JOB KEEPS after these telegrams and their answers
 abbrev pub GoesOn : Running → Config → Option Grant → List Row → Type 0
 GoesOn r config granted rows = ConductsAt config granted rows rows r.job r.found.items r.codes r.stage
+
+-- This is what the message tells of the answer to the one telegram of a job that is out: to what it asks, behind so many
+-- octets that came.
+pub record IsToldTo (r : Running) (asked : Ask) (came : ℕ) (message : List ℕ) (told : Told) : Type 0 where
+  pub single : Single
+  pub stage : r.stage ≡ stage.Single single
+  pub ask : single.ask ≡ asked
+  pub len : single.len ≡ came
+  pub number : ℕ
+  pub out : single.out ≡ Some number
+  pub tells : TellsIfSome single.ask (take single.len r.found.items) told
+      (answer_of (question_of_single r.job single.ask (take single.len r.found.items)) number message)

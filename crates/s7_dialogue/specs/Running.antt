@@ -2,6 +2,7 @@
 use Rattle.std.specs.Prelude.{◌≡◌, ℕ, ◌≤◌, List, [], ◌++◌, length, take, slice_index, Option, None}
 use Rattle.s7_dialogue.specs.declared.config.Config.{Config}
 use Rattle.s7_dialogue.specs.declared.grant.Grant.{Grant}
+use Rattle.s7_dialogue.specs.declared.grant.Ending.{Ending}
 use Rattle.s7_dialogue.specs.declared.job.Job.{Job}
 use Rattle.s7_dialogue.specs.declared.job.JobResult.{JobResult}
 use Rattle.s7_dialogue.specs.declared.stages.running.Running.{Running}
@@ -9,8 +10,9 @@ use Rattle.s7_dialogue.specs.declared.stages.running.Stage.{Stage}
 use Rattle.s7_dialogue.specs.declared.stages.running.Stage.TheVariants as stage
 use Rattle.s7_dialogue.specs.Flight.{Row}
 use Rattle.s7_dialogue.specs.Dialogue.{End, Conduct, nothing, connect_request, disconnect_request, over, plan_of}
-use Rattle.s7_dialogue.specs.Course.{Awaits, Course}
+use Rattle.s7_dialogue.specs.Course.{Awaits, Course, for_nothing}
 use Rattle.s7_dialogue.specs.GoesOn.{GoesOn}
+use Rattle.s7_dialogue.specs.Stages.{LeavesLink, LeavesOpen}
 pub use Rattle.s7_dialogue.specs.Stages.{octets_of, question_of, unput_by, awaited_by, IsOpening, IsAsking, IsLeaving, IsOver, IsGrant, IsGoodLeave, answers_left}
 
 -- what the job awaits, where a message that was no answer is kept
@@ -50,6 +52,14 @@ pub record Reached (config : Config) (granted : Option Grant) (before course : C
   pub follows : IsAsking r.stage → Follows r config granted course.rows
   pub sequence : last ≡ course.sequence
   pub out : course.out ≡ before.out ++ unput_of config before.size r
+
+-- The job is over so.
+pub record IsEnding (r : Running) (ending : Ending) : Type 0 where
+  pub over : IsOver r.stage
+  pub code : (end : End) → awaited_in r [] ≡ for_nothing end [] → ending.code ≡ end.code
+  pub leaves : (end : End) → awaited_in r [] ≡ for_nothing end [] → ending.leaves ≡ end.leaves
+  pub granted : IsGoodLeave ending.leaves
+  pub kept : LeavesLink ending.leaves → LeavesOpen r.stage
 
 -- what is told of a job that ended so, with the message that was no answer
 pub record IsResult (result : JobResult) (done : Job) (end : End) (message : List ℕ) : Type 0 where

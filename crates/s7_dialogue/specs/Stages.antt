@@ -237,14 +237,6 @@ IsListing (stage.Single s) = ⊥
 IsListing stage.Leaving = ⊥
 IsListing (stage.Over code leaves) = ⊥
 
--- or one alone
-abbrev pub IsSingle : Stage → Type 0
-IsSingle stage.Opening = ⊥
-IsSingle (stage.Asking a) = ⊥
-IsSingle (stage.Single s) = Unit {0}
-IsSingle stage.Leaving = ⊥
-IsSingle (stage.Over code leaves) = ⊥
-
 abbrev pub IsLeaving : Stage → Type 0
 IsLeaving stage.Opening = ⊥
 IsLeaving (stage.Asking a) = ⊥

@@ -12,6 +12,7 @@ use Rattle.s7_dialogue.specs.declared.job.Job.{Job}
 use Rattle.s7_dialogue.specs.declared.job.Job.TheVariants as job
 use Rattle.s7_dialogue.specs.Question.{Question, reads, writes}
 use Rattle.s7_dialogue.specs.Answer as spelled
+use Rattle.s7_dialogue.specs.DataItems.{answers_in}
 use Rattle.s7_dialogue.specs.Told.{Tells}
 use Rattle.s7_dialogue.specs.Flight.{Row}
 use Rattle.s7_dialogue.specs.Asks.{first_spot, spot_behind, flight_at}
@@ -43,9 +44,6 @@ pub record Taken (rows : List Row) (flight : Flight) (told : Answer) : Type 0 wh
 abbrev pub rows_with : List Row → Row → List Row → spelled.Answer → List Row
 rows_with front row back answer = front ++ record row { answer = Some answer } ∷ back
 
-abbrev pub answered_rows : {rows : List Row} {flight : Flight} {told : Answer} → Taken rows flight told → List Row
-answered_rows t = rows_with t.front t.row t.back t.answer
-
 -- ---- what is kept of an answer
 
 -- the codes with these at their places, from one on, where there are such places
@@ -64,10 +62,9 @@ with_octets from (item ∷ items) (answer ∷ answers) found =
 abbrev pub Keeps : List Item → Flight → Answer → List ℕ → List ℕ → List ℕ → List ℕ → Type 0
 Keeps items flight (told.Refused error) found codes found' codes' = (found' ≡ found) × (codes' ≡ codes)
 Keeps items flight (told.Granted n) found codes found' codes' = (found' ≡ found) × (codes' ≡ codes)
-Keeps items flight (told.Items body) found codes found' codes' =
-    (answers : List spelled.ItemAnswer) → spelled.item_answers items body.now ≡ Some answers
-    → (found' ≡ with_octets flight.from items answers found)
-    × (codes' ≡ with_codes flight.item (map (λ (item : spelled.ItemAnswer). item.code) answers) codes)
+Keeps items flight (told.Items answers) found codes found' codes' =
+    (found' ≡ with_octets flight.from items (answers_in answers.items) found)
+    × (codes' ≡ with_codes flight.item (map (λ (item : spelled.ItemAnswer). item.code) (answers_in answers.items)) codes)
 Keeps items flight (told.Codes noted) found codes found' codes' =
     (found' ≡ found) × (codes' ≡ with_codes flight.item noted.now codes)
 

@@ -7,6 +7,7 @@ use Rattle.s7_dialogue.specs.declared.answers.answer.Answer.{Answer}
 use Rattle.s7_dialogue.specs.declared.answers.answer.Answer.TheVariants as told
 use Rattle.s7_dialogue.specs.Question.{Question, negotiates, reads, writes}
 use Rattle.s7_dialogue.specs.Answer as spelled
+use Rattle.s7_dialogue.specs.DataItems.{answers_in}
 
 -- the question is of the kind that is kept, and for the same items
 abbrev pub IsAsked : Asked → Question → Type 0
@@ -15,11 +16,11 @@ IsAsked (asked.Read kept) (reads items) = items ≡ kept
 IsAsked (asked.Write kept) (writes items octets) = items ≡ kept
 IsAsked _ _ = ⊥
 
--- data items that are the answers for these items
-abbrev pub TellsItems : Question → List ℕ → spelled.Answer → Type 0
-TellsItems (reads items) body answer =
-    (answers : List spelled.ItemAnswer) × (spelled.item_answers items body ≡ Some answers) × (answer ≡ spelled.tells answers)
-TellsItems _ body answer = ⊥
+-- the answers for these items, as data of a read's answer tell them
+abbrev pub TellsItems : Question → List spelled.ItemAnswer → spelled.Answer → Type 0
+TellsItems (reads items) answers answer =
+    (body : List ℕ) × (spelled.item_answers items body ≡ Some answers) × (answer ≡ spelled.tells answers)
+TellsItems _ answers answer = ⊥
 
 abbrev pub TellsCodes : Question → List ℕ → spelled.Answer → Type 0
 TellsCodes (writes items octets) body answer = (answer ≡ spelled.notes body) × (length body ≡ length items)
@@ -33,7 +34,7 @@ TellsGrant _ n answer = ⊥
 abbrev pub Tells : Question → Answer → spelled.Answer → Type 0
 Tells question (told.Refused error) answer = answer ≡ spelled.refuses error
 Tells question (told.Granted n) answer = TellsGrant question n answer
-Tells question (told.Items body) answer = TellsItems question body.now answer
+Tells question (told.Items answers) answer = TellsItems question (answers_in answers.items) answer
 Tells question (told.Codes body) answer = TellsCodes question body.now answer
 
 abbrev pub TellsSome : Question → Answer → Option spelled.Answer → Type 0

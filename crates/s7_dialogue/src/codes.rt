@@ -1,5 +1,5 @@
-//! The numbers of errors, as in the Snap7 1.4 sources (`snap_tcpsocket.h`, `s7_isotcp.h`,
-//! `s7_micro_client.h`), where a job ends.
+//! The numbers of errors, as in the Snap7 1.4 sources (`s7_isotcp.h`, `s7_micro_client.h`, `snap7.h`), where a job
+//! ends.
 
 /// All went well.
 pub const GOOD: u32 = 0;

@@ -1,4 +1,4 @@
-// What a server granted.
+// What a server granted, and how a job is over.
 
 /// The longest telegram, in octets, and how many telegrams may be unanswered at a time (parallel jobs).
 #[derive(Clone, Copy, Debug, PartialEq, Eq)]
@@ -18,4 +18,12 @@ pub enum Leaves {
     Disconnected,
     /// A client that is closed until the next connect.
     Closed,
+}
+
+/// How a job is over.
+#[derive(Clone, Copy, Debug, PartialEq, Eq)]
+pub struct Ending {
+    /// 0, or the number of an error, one of the constants of the module `codes`.
+    pub code: u32,
+    pub leaves: Leaves,
 }

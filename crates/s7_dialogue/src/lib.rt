@@ -13,7 +13,7 @@ mod stages;
 mod transfers;
 
 pub use config::Config;
-pub use grant::{Grant, Leaves};
+pub use grant::{Ending, Grant, Leaves};
 pub use item_list::ItemList;
 pub use job::{Job, JobResult};
 pub use questions::message::MOST_MESSAGE;

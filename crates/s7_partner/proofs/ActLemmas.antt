@@ -22,6 +22,11 @@ AreTaken-append role config s [] ys t u = u
 AreTaken-append role config s (x ∷ xs) ys t u =
     (t.0, AreTaken-append role config (with_act role config s x) xs ys t.1 u)
 
+pub taken_behind : (role : Role) (config : Config) (s : State) (xs ys : List Act) → AreTaken role config s (xs ++ ys)
+    → AreTaken role config (with_acts role config s xs) ys
+taken_behind role config s [] ys t = t
+taken_behind role config s (x ∷ xs) ys t = taken_behind role config (with_act role config s x) xs ys t.1
+
 pub AreQuiet-append : (role : Role) (config : Config) (s : State) (xs ys : List Act) → AreQuiet role config s xs
     → AreQuiet role config (with_acts role config s xs) ys → AreQuiet role config s (xs ++ ys)
 AreQuiet-append role config s [] ys t u = u

@@ -14,80 +14,61 @@ use Rattle.s7_partner.specs.declared.event.PartnerEvent.{PartnerEvent}
 use Rattle.s7_partner.specs.declared.event.PartnerEvent.TheVariants as told
 use Rattle.s7_partner.specs.declared.step.Step.{Step}
 use Rattle.s7_partner.specs.declared.step.Step.TheVariants as step
-use Rattle.s7_partner.specs.States.{State, Block, Act, hands, with_act, with_acts, after, handed_out}
-use Rattle.s7_partner.specs.Acts.{MayTake, AreQuiet}
+use Rattle.s7_partner.specs.States.{State, Block, Act, gives, reads, hands, acknowledges, with_act, with_acts, after}
+use Rattle.s7_partner.specs.States.{handed_out, last_acknowledged}
+use Rattle.s7_partner.specs.Acts.{MayTake, AreTaken, AreQuiet}
 use Rattle.s7_partner.specs.Partners.{IsPrefixOf, Course, is_waiting, Tells}
 use Rattle.s7_partner.specs.Held.{closed_of, code_in, unread_of, stage_in, sending_in, receiving_in, block_in}
 use Rattle.s7_partner.specs.Held.{StandsFor}
-use Rattle.s7_partner.specs.Calls.{IsClosing, IsPolled, IsPoll}
-use Rattle.s7_partner.specs.Steps.{TellsStep, HasRun, Runs, Polls}
+use Rattle.s7_partner.specs.Calls.{IsClosing, IsPolled, IsPoll, acknowledged_first}
+use Rattle.s7_partner.specs.Steps.{TellsStep, HasRun, Runs, Acknowledges, HasPolled, Polls}
 use Rattle.s7_partner.specs.Steps as steps
 use Rattle.s7_partner.specs.At.{HoldsState, IsAt, KeepsLink}
 use Rattle.s7_partner.proofs.CourseLemmas.{course_act}
-use Rattle.s7_partner.proofs.ActLemmas.{after-append}
+use Rattle.s7_partner.proofs.ActLemmas.{after-append, taken_behind}
+use Rattle.s7_partner.proofs.GrowthLemmas.{acts_grow, prefix_both, prefix_to}
 use Rattle.s7_partner.proofs.MoveLemmas.{moves_used, moves_both}
 use Rattle.s7_partner.proofs.StandLemmas.{holds_state, stands_at, stands_open, stands_act}
-use Rattle.s7_partner.proofs.StepLemmas.{no_octets}
+use Rattle.s7_partner.proofs.StepLemmas.{no_octets, none_handed}
 use Rattle.s7_partner.proofs.RunLemmas.{subst_three, some_of_two, Behind, sent_by, received_by}
 use Rattle.s7_partner.proofs.TellLemmas.{tells_behind}
 use Rattle.s7_partner.proofs.ConsumeLemmas.{some_same, whole_by}
 
 -- a poll by lists that are equal to those of its acts and octets
-polled_at : (old new : Partner) (link link' : Shown) (acts : List Act) (b written received used more : List ℕ)
-    (result : Result PartnerEvent Memory) (further acts' : List Act) (b' w' : List ℕ)
-    → acts' ≡ acts ++ further → b' ≡ b ++ used → w' ≡ written ++ more
-    → (0 < length used → IsPrefixOf (after old.role old.config acts).out w')
-    → (0 < length received → IsPrefixOf (after old.role old.config acts).out w' × IsPrefixOf (unread_of old) used)
-    → Course old.role old.config acts' b' w'
-    → Tells old.role old.config (after old.role old.config acts) further link link' (unread_of new) b' w' result
+pub polled_at : (role : Role) (config : Config) (kept : List ℕ) (new : Partner) (link link' : Shown) (acts : List Act)
+    (b written received used more : List ℕ) (result : Result PartnerEvent Memory) (further acts' : List Act)
+    (b' w' : List ℕ) → acts' ≡ acts ++ further → b' ≡ b ++ used → w' ≡ written ++ more
+    → (0 < length used → IsPrefixOf (after role config acts).out w')
+    → (0 < length received → IsPrefixOf (after role config acts).out w' × IsPrefixOf kept used)
+    → Course role config acts' b' w'
+    → Tells role config (after role config acts) further link link' (unread_of new) b' w' result
     → ((IsClosing result → ⊥) → StandsFor new acts' b' w')
-    → IsPolled old new link link' acts b written received used more result
-polled_at old new link link' acts b written received used more result further acts' b' w' ea eb ew sent last course
-    tells stands =
+    → HasPolled role config kept new link link' acts b written received used more result
+polled_at role config kept new link link' acts b written received used more result further acts' b' w' ea eb ew sent last
+    course tells stands =
     let all = acts ++ further in
-    let out = (after old.role old.config acts).out in
+    let out = (after role config acts).out in
     let prefix : IsPrefixOf out w' → IsPrefixOf out (written ++ more) = subst (IsPrefixOf out) ew in
     record {
       further = further;
       sent_before = λ h. prefix (sent h);
       received_last = λ h. (prefix (last h).0, (last h).1);
-      course = subst_three (Course old.role old.config) all acts' (b ++ used) b' (written ++ more) w' ea eb ew course;
+      course = subst_three (Course role config) all acts' (b ++ used) b' (written ++ more) w' ea eb ew course;
       tells = subst_three
-          (λ x y z. Tells old.role old.config (after old.role old.config acts) further link link' (unread_of new) y z
-          result)
+          (λ x y z. Tells role config (after role config acts) further link link' (unread_of new) y z result)
           all acts' (b ++ used) b' (written ++ more) w' ea eb ew tells;
       stands = λ h. subst_three (StandsFor new) all acts' (b ++ used) b' (written ++ more) w' ea eb ew (stands h);
     }
 
 -- ---- a poll behind steps of which nothing is told
 
--- what a poll comes to, by the role and the configuration
-record PolledIn (role : Role) (config : Config) (kept : List ℕ) (new : Partner) (link link' : Shown) (acts : List Act)
-    (b written received used more : List ℕ) (result : Result PartnerEvent Memory) : Type 0 where
-  pub further : List Act
-  pub sent_before : 0 < length used → IsPrefixOf (after role config acts).out (written ++ more)
-  pub received_last : 0 < length received → IsPrefixOf (after role config acts).out (written ++ more)
-      × IsPrefixOf kept used
-  pub course : Course role config (acts ++ further) (b ++ used) (written ++ more)
-  pub tells : Tells role config (after role config acts) further link link' (unread_of new) (b ++ used)
-      (written ++ more) result
-  pub stands : (IsClosing result → ⊥) → StandsFor new (acts ++ further) (b ++ used) (written ++ more)
-
-polled_in : (old new : Partner) (role : Role) (config : Config) (link link' : Shown) (acts : List Act)
-    (b written received used more : List ℕ) (result : Result PartnerEvent Memory) → old.role ≡ role
-    → old.config ≡ config → IsPolled old new link link' acts b written received used more result
-    → PolledIn role config (unread_of old) new link link' acts b written received used more result
-polled_in old new role config link link' acts b written received used more result er ec p =
-    subst (λ (r : Role). PolledIn r config (unread_of old) new link link' acts b written received used more result) er
-    (subst (λ (c : Config). PolledIn old.role c (unread_of old) new link link' acts b written received used more result)
-    ec (record {
-      further = p.further;
-      sent_before = p.sent_before;
-      received_last = p.received_last;
-      course = p.course;
-      tells = p.tells;
-      stands = p.stands;
-    }))
+pub polled_in : (role role' : Role) (config config' : Config) (kept : List ℕ) (new : Partner) (link link' : Shown)
+    (acts : List Act) (b written received used more : List ℕ) (result : Result PartnerEvent Memory) → role ≡ role'
+    → config ≡ config' → HasPolled role config kept new link link' acts b written received used more result
+    → HasPolled role' config' kept new link link' acts b written received used more result
+polled_in role role' config config' kept new link link' acts b written received used more result er ec p =
+    subst (λ (r : Role). HasPolled r config' kept new link link' acts b written received used more result) er
+    (subst (λ (c : Config). HasPolled role c kept new link link' acts b written received used more result) ec p)
 
 -- steps behind which a poll goes on
 abbrev pub IsQuietStep : Step → Type 0
@@ -97,7 +78,7 @@ IsQuietStep step.Sent = ⊥
 IsQuietStep step.Whole = Unit {0}
 IsQuietStep (step.Closed code) = ⊥
 
-quiet_acts : (role : Role) (config : Config) (s : State) (acts : List Act) (link link' : Shown) (kept b w : List ℕ)
+pub quiet_acts : (role : Role) (config : Config) (s : State) (acts : List Act) (link link' : Shown) (kept b w : List ℕ)
     (result : Step) → IsQuietStep result → TellsStep role config s acts link link' kept b w result
     → AreQuiet role config s acts
 quiet_acts role config s acts link link' kept b w step.Went q t = t
@@ -106,14 +87,14 @@ quiet_acts role config s acts link link' kept b w step.Sent q t = absurd q
 quiet_acts role config s acts link link' kept b w step.Whole q t = t.0
 quiet_acts role config s acts link link' kept b w (step.Closed code) q t = absurd q
 
-quiet_open : (result : Step) → IsQuietStep result → steps.IsClosing result → ⊥
+pub quiet_open : (result : Step) → IsQuietStep result → steps.IsClosing result → ⊥
 quiet_open step.Went q h = h
 quiet_open step.NotYet q h = h
 quiet_open step.Sent q h = h
 quiet_open step.Whole q h = h
 quiet_open (step.Closed code) q h = q
 
-pub polls_behind : (a b c : Partner) (k k1 k2 : Shown) (r : Step) (result : Result PartnerEvent Memory) → IsQuietStep r
+unfoldable pub polls_behind : (a b c : Partner) (k k1 k2 : Shown) (r : Step) (result : Result PartnerEvent Memory) → IsQuietStep r
     → Runs a k b k1 r → Polls b k1 c k2 result → Polls a k c k2 result
 unfolding moves_both
 polls_behind a b c k k1 k2 r result quiet m n = record {
@@ -124,8 +105,8 @@ polls_behind a b c k k1 k2 r result quiet m n = record {
   polled = λ acts bb w stands.
       let x = m.run acts bb w stands in
       let all = after a.role a.config acts in
-      let y = polled_in b c a.role a.config k1 k2 (acts ++ x.further) (bb ++ m.moves.used) (w ++ m.moves.written)
-      n.moves.received n.moves.used n.moves.written result m.role m.config
+      let y = polled_in b.role a.role b.config a.config (unread_of b) c k1 k2 (acts ++ x.further) (bb ++ m.moves.used)
+      (w ++ m.moves.written) n.moves.received n.moves.used n.moves.written result m.role m.config
       (n.polled (acts ++ x.further) (bb ++ m.moves.used) (w ++ m.moves.written) (x.stands (quiet_open r quiet))) in
       let behind : Behind a.role a.config (unread_of a) (unread_of b) acts x.further w m.moves.written n.moves.written
       m.moves.received n.moves.received m.moves.used n.moves.used = record {
@@ -137,7 +118,7 @@ polls_behind a b c k k1 k2 r result quiet m n = record {
       } in
       let b' = (bb ++ m.moves.used) ++ n.moves.used in
       let w' = (w ++ m.moves.written) ++ n.moves.written in
-      polled_at a c k k2 acts bb w (m.moves.received ++ n.moves.received) (m.moves.used ++ n.moves.used)
+      polled_at a.role a.config (unread_of a) c k k2 acts bb w (m.moves.received ++ n.moves.received) (m.moves.used ++ n.moves.used)
       (m.moves.written ++ n.moves.written) result (x.further ++ y.further) ((acts ++ x.further) ++ y.further) b' w'
       (append_assoc acts x.further y.further) (append_assoc bb m.moves.used n.moves.used)
       (append_assoc w m.moves.written n.moves.written)
@@ -269,7 +250,7 @@ polls_kept p link memory live whole = record {
   closed = live;
   polled = λ acts b w s.
       let all = after p.role p.config acts in
-      polled_at p p link link acts b w [] [] [] (Err memory) [] acts b w (sym (append-nil acts)) (sym (append-nil b))
+      polled_at p.role p.config (unread_of p) p link link acts b w [] [] [] (Err memory) [] acts b w (sym (append-nil acts)) (sym (append-nil b))
       (sym (append-nil w)) no_octets no_octets s.course
       (tt, whole_by p.whole p.octets.octets all.whole s.holds.whole whole) (λ h. s);
 }
@@ -325,7 +306,7 @@ polls_received old new a body link live whole copied keeps none handed stage seq
           let block_is : all.whole ≡ Some block =
           sym s.holds.whole ∙ ap (option_map (block_in old.octets.octets)) whole in
           let may : MayTake all hands = (stands_open old acts b w s, ap is_some block_is) in
-          polled_at old new link link acts b w [] [] [] (Ok (told.Received a.rid body)) (hands ∷ [])
+          polled_at old.role old.config (unread_of old) new link link acts b w [] [] [] (Ok (told.Received a.rid body)) (hands ∷ [])
           (acts ++ hands ∷ []) b w refl (sym (append-nil b)) (sym (append-nil w)) no_octets no_octets
           (course_act old.role old.config acts hands b w refl may s.course)
           ([], block, refl, tt, block_is, refl, copied)
@@ -337,22 +318,71 @@ polls_received old new a body link live whole copied keeps none handed stage seq
 
 -- ---- a whole poll
 
-pub poll_is : (old new : Partner) (link link' : Shown) (result : Result PartnerEvent Memory) → closed_of old ≡ None
-    → Polls old link new link' result → IsPoll old link new link' result
-poll_is old new link link' result live p = record {
-  role = p.role;
-  config = p.config;
-  moves = p.moves;
-  closed = p.closed;
-  stays = λ code e. absurd (let x : None ≡ Some code = sym live ∙ e in cc);
-  polled = λ h acts b w s. p.polled acts b w s;
-}
+-- what was handed out is acknowledged by quiet acts behind which nothing is
+acknowledged_then : (role : Role) (config : Config) (s : State) (acts : List Act) → AreTaken role config s acts
+    → AreQuiet role config s acts → (with_acts role config s acts).handed ≡ None
+    → IsPrefixOf (acknowledged_first s).out (with_acts role config s acts).out
+unfolding with_act
+acknowledged_then role config s [] taken quiet none =
+    ([], ap (λ h. (last_acknowledged s h).out) (sym none) ∙ sym (append-nil (acknowledged_first s).out))
+acknowledged_then role config s (gives rid body ∷ acts) taken quiet none = absurd quiet.0
+acknowledged_then role config s (reads event ∷ acts) taken quiet none =
+    subst (λ h. IsPrefixOf (last_acknowledged s h).out (with_acts role config s (reads event ∷ acts)).out)
+    (sym taken.0.1.handed) (acts_grow role config s (reads event ∷ acts))
+acknowledged_then role config s (hands ∷ acts) taken quiet none = absurd quiet.0
+acknowledged_then role config s (acknowledges ∷ acts) taken quiet none =
+    acts_grow role config (acknowledged_first s) acts
+
+used_behind : (xs ys : List ℕ) → xs ≡ [] → 0 < length (xs ++ ys) → 0 < length ys
+used_behind xs ys e h = subst (λ x. 0 < length (x ++ ys)) e h
 
 -- what was handed out is acknowledged first
 pub poll_behind : (a b c : Partner) (k k' : Shown) (result : Result PartnerEvent Memory) → closed_of a ≡ None
-    → ((link : Shown) → Runs a link b link step.Went) → Polls b k c k' result → IsPoll a k c k' result
-poll_behind a b c k k' result live first p =
-    poll_is a c k k' result live (polls_behind a b c k k k' step.Went result tt (first k) p)
+    → b.handed ≡ None → ((link : Shown) → Acknowledges a b link) → Polls b k c k' result → IsPoll a k c k' result
+unfolding moves_both polls_behind
+poll_behind a b c k k' result live none first p =
+    let m = (first k).runs in
+    let whole = polls_behind a b c k k k' step.Went result tt m p in
+    record {
+      role = whole.role;
+      config = whole.config;
+      moves = whole.moves;
+      closed = whole.closed;
+      stays = λ code e. absurd (let x : None ≡ Some code = sym live ∙ e in cc);
+      polled = λ h acts bb w s.
+          let x = m.run acts bb w s in
+          let all = after a.role a.config acts in
+          let stood = x.stands (λ h. h) in
+          let held = holds_then a b acts x.further (bb ++ m.moves.used) (w ++ m.moves.written) m.role m.config stood in
+          let quiet = quiet_acts a.role a.config all x.further k k (unread_of b) (bb ++ m.moves.used)
+          (w ++ m.moves.written) step.Went tt x.tells in
+          let taken = taken_behind a.role a.config (after a.role a.config []) acts x.further x.course.taken in
+          let told = acknowledged_then a.role a.config all x.further taken quiet
+          (none_handed b.handed (with_acts a.role a.config all x.further).handed held.handed none) in
+          let y = whole.polled acts bb w s in
+          let z = polled_in b.role a.role b.config a.config (unread_of b) c k k' (acts ++ x.further)
+          (bb ++ m.moves.used) (w ++ m.moves.written) p.moves.received p.moves.used p.moves.written result m.role
+          m.config (p.polled (acts ++ x.further) (bb ++ m.moves.used) (w ++ m.moves.written) stood) in
+          let all_then = after a.role a.config (acts ++ x.further) in
+          let grown : IsPrefixOf all_then.out ((w ++ m.moves.written) ++ p.moves.written)
+          → IsPrefixOf (acknowledged_first all).out (w ++ (m.moves.written ++ p.moves.written)) =
+          λ q. subst (IsPrefixOf (acknowledged_first all).out) (append_assoc w m.moves.written p.moves.written)
+          (prefix_both (acknowledged_first all).out all_then.out ((w ++ m.moves.written) ++ p.moves.written)
+          (prefix_to (acknowledged_first all).out (with_acts a.role a.config all x.further).out all_then.out told
+          (ap (λ (st : State). st.out) (sym (after-append a.role a.config acts x.further)))) q) in
+          record {
+            further = y.further;
+            sent_before = λ g. grown (z.sent_before (used_behind m.moves.used p.moves.used (first k).unused g));
+            received_last = λ g. (
+              grown (z.received_last
+                  (used_behind m.moves.received p.moves.received (first k).unreceived g)).0,
+              (y.received_last g).1,
+            );
+            course = y.course;
+            tells = y.tells;
+            stands = y.stands;
+          };
+    }
 
 -- the end stays
 pub poll_closed : (p : Partner) (link : Shown) (code : ℕ) → closed_of p ≡ Some code

@@ -26,7 +26,7 @@ use Rattle.s7_partner.specs.Partners.{opening_by, Course, GoesOn, IsSettled, Has
 use Rattle.s7_partner.specs.Held.{closed_of, code_in, unread_of, stage_in, sending_in, receiving_in, block_in}
 use Rattle.s7_partner.specs.Held.{HoldsHanded, StandsFor}
 use Rattle.s7_partner.specs.Outboxes.{Puts}
-use Rattle.s7_partner.specs.Steps.{Runs}
+use Rattle.s7_partner.specs.Steps.{Runs, Acknowledges}
 use Rattle.s7_partner.specs.At.{HoldsState, IsAt, KeepsLink, KeepsState}
 use Rattle.s7_partner.specs.At as at
 use Rattle.s7_partner.proofs.GrowthLemmas.{prefix_same, prefix_to}
@@ -50,7 +50,7 @@ pub goes_on : (p : Partner) (acts : List Act) (b written : List ℕ) → StandsF
     → GoesOn p.role (after p.role p.config acts) b
 goes_on p acts b written s = record { opened = stands_open p acts b written s; unended = unended p acts b written s }
 
-none_handed : (o : Option Arrived) (t : Option Block) → HoldsHanded o t → o ≡ None → t ≡ None
+pub none_handed : (o : Option Arrived) (t : Option Block) → HoldsHanded o t → o ≡ None → t ≡ None
 none_handed o None h e = refl
 none_handed o (Some block) h e =
     absurd (let x : None ≡ Some block.sequence =
@@ -330,17 +330,24 @@ runs_broken old mid new link link' code k closes none_whole none_handed none non
 
 -- ---- what was handed out is acknowledged
 
-pub runs_none : (p : Partner) (link : Shown) → closed_of p ≡ None → Runs p link p link step.Went
+pub acknowledges_none : (p : Partner) (link : Shown) → closed_of p ≡ None → Acknowledges p p link
 unfolding moves_used
-runs_none p link live = record {
-  role = refl;
-  config = refl;
-  moves = moves_used (unread_of p) (unread_of p) link [] refl;
-  closed = live;
-  run = λ acts b w s.
-      run_at p.role p.config (unread_of p) p link link acts b w [] [] [] step.Went [] acts b w
-      (sym (append-nil acts)) (sym (append-nil b)) (sym (append-nil w)) no_octets no_octets s.course tt (λ h. s);
+acknowledges_none p link live = record {
+  runs = record {
+    role = refl;
+    config = refl;
+    moves = moves_used (unread_of p) (unread_of p) link [] refl;
+    closed = live;
+    run = λ acts b w s.
+        run_at p.role p.config (unread_of p) p link link acts b w [] [] [] step.Went [] acts b w
+        (sym (append-nil acts)) (sym (append-nil b)) (sym (append-nil w)) no_octets no_octets s.course tt (λ h. s);
+  };
+  unused = refl;
+  unreceived = refl;
 }
+
+pub runs_none : (p : Partner) (link : Shown) → closed_of p ≡ None → Runs p link p link step.Went
+runs_none p link live = (acknowledges_none p link live).runs
 
 -- the block that was handed out, by what is held of it
 handed_as : (a : Arrived) (o : Option Arrived) (t : Option Block) → o ≡ Some a → HoldsHanded o t
@@ -400,29 +407,33 @@ last_is : (role : Role) (config : Config) (s : State) (block : Block) → s.hand
 unfolding with_act
 last_is role config s block e = ap (last_acknowledged s) (sym e)
 
-pub runs_acknowledged : (old new : Partner) (a : Arrived) (size : ℕ) (link : Shown) → closed_of old ≡ None
+pub acknowledges_last : (old new : Partner) (a : Arrived) (size : ℕ) (link : Shown) → closed_of old ≡ None
     → old.handed ≡ Some a → new.handed ≡ None → size_at old.reader ≡ Some size
     → Puts old.outbox new.outbox (sent_message size (confirm_message a.sequence a.number)) → KeepsLink old new
     → new.stage ≡ old.stage → new.sequence ≡ old.sequence → new.number ≡ old.number → new.sending ≡ old.sending
     → new.receiving ≡ old.receiving → new.octets ≡ old.octets → new.whole ≡ old.whole
-    → Runs old link new link step.Went
+    → Acknowledges old new link
 unfolding moves_used
-runs_acknowledged old new a size link live held none sized puts keeps stage sequence number sending receiving octets
+acknowledges_last old new a size link live held none sized puts keeps stage sequence number sending receiving octets
     whole = record {
-      role = keeps.role;
-      config = keeps.config;
-      moves = moves_used (unread_of old) (unread_of new) link [] (sym keeps.inbox);
-      closed = ap code_in stage ∙ live;
-      run = λ acts b w s.
-          let all = after old.role old.config acts in
-          let k = handed_as a old.handed all.handed held s.holds.handed in
-          let is = last_is old.role old.config all k.0 k.1 in
-          let may : MayTake all acknowledges = (stands_open old acts b w s, ap is_some k.1) in
-          run_at old.role old.config (unread_of old) new link link acts b w [] [] [] step.Went (acknowledges ∷ [])
-          (acts ++ acknowledges ∷ []) b w refl (sym (append-nil b)) (sym (append-nil w)) no_octets no_octets
-          (course_act old.role old.config acts acknowledges b w refl may s.course) (tt, tt)
-          (λ h. stands_act old new acts acknowledges (with_last all k.0) b w keeps (ap code_in stage ∙ live) refl is may
-          refl
-          (last_at old new a k.0 size all w none k.2 k.3 (s.holds.size size sized) puts stage sequence number sending
-          receiving octets whole (stands_at old acts b w s)) s);
+      runs = record {
+        role = keeps.role;
+        config = keeps.config;
+        moves = moves_used (unread_of old) (unread_of new) link [] (sym keeps.inbox);
+        closed = ap code_in stage ∙ live;
+        run = λ acts b w s.
+            let all = after old.role old.config acts in
+            let k = handed_as a old.handed all.handed held s.holds.handed in
+            let is = last_is old.role old.config all k.0 k.1 in
+            let may : MayTake all acknowledges = (stands_open old acts b w s, ap is_some k.1) in
+            run_at old.role old.config (unread_of old) new link link acts b w [] [] [] step.Went (acknowledges ∷ [])
+            (acts ++ acknowledges ∷ []) b w refl (sym (append-nil b)) (sym (append-nil w)) no_octets no_octets
+            (course_act old.role old.config acts acknowledges b w refl may s.course) (tt, tt)
+            (λ h. stands_act old new acts acknowledges (with_last all k.0) b w keeps (ap code_in stage ∙ live) refl is may
+            refl
+            (last_at old new a k.0 size all w none k.2 k.3 (s.holds.size size sized) puts stage sequence number sending
+            receiving octets whole (stands_at old acts b w s)) s);
+      };
+      unused = refl;
+      unreceived = refl;
     }

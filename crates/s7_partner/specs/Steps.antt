@@ -1,5 +1,5 @@
 -- What the steps of a poll do.
-use Rattle.std.specs.Prelude.{◌≡◌, ℕ, ◌+◌, ◌*◌, ◌<◌, false, List, ◌++◌, length, is_none, Result, Ok}
+use Rattle.std.specs.Prelude.{◌≡◌, ℕ, ◌+◌, ◌*◌, ◌<◌, false, List, [], ◌++◌, length, is_none, Result, Ok}
 use Rattle.s7_outer.specs.Shown.{Shown}
 use Rattle.s7_outer.specs.declared.memory.Memory.{Memory}
 use Rattle.s7_dialogue.specs.declared.config.Config.{Config}
@@ -14,7 +14,7 @@ use Rattle.s7_partner.specs.States.{State, Act, with_acts, after}
 use Rattle.s7_partner.specs.Acts.{AreQuiet}
 use Rattle.s7_partner.specs.Partners.{IsPrefixOf, Course, IsSettled, HasMetNotYet, Tells}
 use Rattle.s7_partner.specs.Held.{role_of, config_of, unread_of, closed_of, StandsFor}
-use Rattle.s7_partner.specs.Calls.{IsPolled, closed_by}
+use Rattle.s7_partner.specs.Calls.{IsClosing as IsClosed, closed_by}
 use Rattle.s7_partner.specs.Octet.{octets_left}
 use Rattle.s7_partner.specs.At.{code_by, events_left}
 
@@ -61,11 +61,29 @@ pub record Runs (old : Partner) (link : Shown) (new : Partner) (link' : Shown) (
       → HasRun (role_of old) (config_of old) (unread_of old) new link link' acts b written moves.received moves.used
       moves.written result
 
+-- What was handed out is acknowledged: no octet is used or received.
+pub record Acknowledges (old new : Partner) (link : Shown) : Type 0 where
+  pub runs : Runs old link new link step.Went
+  pub unused : runs.moves.used ≡ []
+  pub unreceived : runs.moves.received ≡ []
+
 -- how much a partner can still do before there is something to tell: octets to use, and then octets to send
 abbrev pub work : Partner → ℕ
 work p = (events_left p * 533000 + octets_left p.reader) * 4097 + length p.outbox.unsent
 
--- a poll of a partner that isn't closed
+-- the acts of the rest of a poll, and what is told of them, since the partner stood for these acts and octets
+pub record HasPolled (role : Role) (config : Config) (kept : List ℕ) (new : Partner) (link link' : Shown)
+    (acts : List Act) (b written received used more : List ℕ) (result : Result PartnerEvent Memory) : Type 0 where
+  pub further : List Act
+  pub sent_before : 0 < length used → IsPrefixOf (after role config acts).out (written ++ more)
+  pub received_last : 0 < length received → IsPrefixOf (after role config acts).out (written ++ more)
+      × IsPrefixOf kept used
+  pub course : Course role config (acts ++ further) (b ++ used) (written ++ more)
+  pub tells : Tells role config (after role config acts) further link link' (unread_of new) (b ++ used)
+      (written ++ more) result
+  pub stands : (IsClosed result → ⊥) → StandsFor new (acts ++ further) (b ++ used) (written ++ more)
+
+-- a poll of a partner that isn't closed, behind the acknowledgement of what was handed out
 pub record Polls (old : Partner) (link : Shown) (new : Partner) (link' : Shown) (result : Result PartnerEvent Memory)
     : Type 0 where
   pub role : role_of new ≡ role_of old
@@ -73,4 +91,5 @@ pub record Polls (old : Partner) (link : Shown) (new : Partner) (link' : Shown) 
   pub moves : Moves (unread_of old) link (unread_of new) link'
   pub closed : closed_of new ≡ closed_by result
   pub polled : (acts : List Act) (b written : List ℕ) → StandsFor old acts b written
-      → IsPolled old new link link' acts b written moves.received moves.used moves.written result
+      → HasPolled (role_of old) (config_of old) (unread_of old) new link link' acts b written moves.received moves.used
+      moves.written result

@@ -23,13 +23,12 @@ impl Partner {
     ghost use Rattle.std.specs.Prelude.{◌≢◌, ◌<◌, [], None, false, length, is_none};
     ghost use Rattle.s7_outer.specs.Shown.{Shown};
     ghost use Rattle.s7_wire.specs.Reads.{HasMessage, message_at, size_at};
-    ghost use Rattle.s7_partner.specs.declared.step.Step.TheVariants.{Went};
     ghost use Rattle.s7_partner.specs.States.{State, with_message};
     ghost use Rattle.s7_partner.specs.Partners.{is_waiting};
     ghost use Rattle.s7_partner.specs.Held.{closed_of};
     ghost use Rattle.s7_partner.specs.Calls.{IsPoll};
     ghost use Rattle.s7_partner.specs.At.{Closes, Reaches, Does, IsIdle, HoldsState};
-    ghost use Rattle.s7_partner.specs.Steps.{Runs, Polls, work};
+    ghost use Rattle.s7_partner.specs.Steps.{Runs, Acknowledges, Polls, work};
 
     /// Goes on over the link until there is something to tell: a block was sent or came whole, the partner is closed,
     /// or the link had nothing to give, or no room, yet.
@@ -60,7 +59,7 @@ impl Partner {
     // Acknowledges the last fragment of the block that was handed out.
     fn acknowledge(&mut self)
         requires { closed_of self.old ≡ None }
-        ensures runs { (link : Shown) → Runs self.old link self.new link Went }
+        ensures acknowledges { (link : Shown) → Acknowledges self.old self.new link }
         ensures handed { self.new.handed ≡ None }
         ensures whole { self.new.whole ≡ self.old.whole }
     {

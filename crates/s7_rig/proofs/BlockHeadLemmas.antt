@@ -81,18 +81,18 @@ unsecured Password octets security for_head = for_head
 unsecured PasswordClearing octets security for_head = for_head
 unsecured _ octets security for_head = security
 
-pub data HeadTold (question : Question) (answer : Answer) (new : List (Ask × Said)) : Type 0 where
-  head_refused : (error : ℕ) → answer ≡ refuses error → HeadTold question answer new
+pub data HeadTold (pdu : ℕ) (question : Question) (answer : Answer) (new : List (Ask × Said)) : Type 0 where
+  head_refused : (error : ℕ) → answer ≡ refuses error → HeadTold pdu question answer new
   head_told : (subject : Subject) (octets : List ℕ) (moment : ℕ) (right : Bool) (request : Request) (reply : Said)
-      (pdu octet : ℕ) → question ≡ asks subject octets → AsksFor subject octets moment request
-      → new ≡ (asked right request, reply) ∷ [] → answer ≡ user_heard pdu octet reply → 64 ≤ pdu
-      → HeadTold question answer new
+      (octet : ℕ) → question ≡ asks subject octets → AsksFor subject octets moment request
+      → new ≡ (asked right request, reply) ∷ [] → answer ≡ user_heard pdu octet reply
+      → HeadTold pdu question answer new
   further_told : (subject : Subject) (octet : ℕ) (so_far piece : List ℕ) (more : Bool)
       → question ≡ asks_further subject octet so_far → new ≡ [] → answer ≡ brings octet more piece
-      → HeadTold question answer new
+      → HeadTold pdu question answer new
 
-pub head_answered : {vs : List Verdict} (q : Question) (a : Answer) (new : List (Ask × Said)) → IsForHead q
-    → HasTold vs q a new → HeadTold q a new
+pub head_answered : {pdu : ℕ} {own : List Verdict} (q : Question) (a : Answer) (new : List (Ask × Said))
+    → IsForHead q → HasTold pdu own q a new → HeadTold pdu q a new
 head_answered q a new for_head (is_refused error full none is) = head_refused error is
 head_answered q a new for_head (is_read items right reply is new_is told) = absurd (subst IsForHead is for_head)
 head_answered q a new for_head (is_written items octets right reply is new_is told) =
@@ -100,8 +100,8 @@ head_answered q a new for_head (is_written items octets right reply is new_is to
 head_answered q a new for_head (is_controlled control right request reply is wants new_is told) =
     absurd (subst IsForHead is for_head)
 head_answered q a new for_head
-    (is_brought subject octets moment right request reply pdu octet is wants new_is told least) =
-    head_told subject octets moment right request reply pdu octet is wants new_is told least
+    (is_brought subject octets moment right request reply octet is wants new_is told) =
+    head_told subject octets moment right request reply octet is wants new_is told
 head_answered q a new for_head (is_secured subject octets octet error is secures new_is told) =
     absurd (unsecured subject octets secures (subst IsForHead is for_head))
 head_answered q a new for_head (is_unnamed subject octets is names new_is told) = head_refused 0x8404 told
@@ -109,7 +109,7 @@ head_answered q a new for_head (is_barred kind number is barred new_is told) = a
 head_answered q a new for_head (is_started name block right reply id is names new_is told) =
     absurd (subst IsForHead is for_head)
 head_answered q a new for_head (is_no_upload name is none new_is told) = absurd (subst IsForHead is for_head)
-head_answered q a new for_head (is_sliced id size so_far octets more is new_is told) =
+head_answered q a new for_head (is_sliced id size so_far rest is whole new_is told) =
     absurd (subst IsForHead is for_head)
 head_answered q a new for_head (is_ended id is new_is told) = absurd (subst IsForHead is for_head)
 head_answered q a new for_head (is_announced image is new_is told) = absurd (subst IsForHead is for_head)
@@ -119,8 +119,8 @@ head_answered q a new for_head (is_given image room from call next is new_is tol
     absurd (subst IsForHead is for_head)
 head_answered q a new for_head (is_inserted image call right reply is new_is told) =
     absurd (subst IsForHead is for_head)
-head_answered q a new for_head (is_further subject octet so_far piece more is new_is told) =
-    further_told subject octet so_far piece more is new_is told
+head_answered {pdu} q a new for_head (is_further subject octet so_far rest is whole new_is told) =
+    further_told subject octet so_far (take (slice_room pdu) rest) (ltb (slice_room pdu) (length rest)) is new_is told
 
 no_refusal : (error : ℕ) → part_refusal (refuses error) ≡ None → ⊥
 no_refusal error none = cc
@@ -135,11 +135,11 @@ pub record PieceRead (answer : Answer) (new : List (Ask × Said)) : Type 0 where
   pub none_new : new ≡ []
   pub is : answer ≡ brings octet more piece
 
-pub piece_read : (octet : ℕ) (so_far : List ℕ) (a : Answer) (new : List (Ask × Said))
-    → HeadTold (asks_further DataHead octet so_far) a new → part_refusal a ≡ None → PieceRead a new
+pub piece_read : {pdu : ℕ} (octet : ℕ) (so_far : List ℕ) (a : Answer) (new : List (Ask × Said))
+    → HeadTold pdu (asks_further DataHead octet so_far) a new → part_refusal a ≡ None → PieceRead a new
 piece_read octet so_far a new (head_refused error is) none =
     absurd (no_refusal error (ap part_refusal (sym is) ∙ none))
-piece_read octet so_far a new (head_told subject octets moment right request reply pdu o is wants new_is told least)
+piece_read octet so_far a new (head_told subject octets moment right request reply o is wants new_is told)
     none = absurd (cc)
 piece_read octet so_far a new (further_told subject o before piece more is new_is told) none =
     record { octet = o; more = more; piece = piece; none_new = new_is; is = told }
@@ -218,16 +218,16 @@ asks_info number moment request low wants =
     same_some wants.0 name (sym wants.1 ∙ names_read.names name 0x41 (lt-ltb number 65536 low)) in
     wants.2 ∙ ap (λ (n : BlockName). Info n.kind n.number) same
 
-pub head_read : (number : ℕ) (a : Answer) (new entries : List (Ask × Said)) → number < 65536
-    → HeadTold (asks DataHead (block_octets 0x41 number)) a new → part_refusal a ≡ None → AreReplies (new ++ entries)
-    → HeadRead number a new
-head_read number a new entries low (head_refused error is) none replies =
+pub head_read : {pdu : ℕ} (number : ℕ) (a : Answer) (new entries : List (Ask × Said)) → 64 ≤ pdu → number < 65536
+    → HeadTold pdu (asks DataHead (block_octets 0x41 number)) a new → part_refusal a ≡ None
+    → AreReplies (new ++ entries) → HeadRead number a new
+head_read number a new entries least low (head_refused error is) none replies =
     absurd (no_refusal error (ap part_refusal (sym is) ∙ none))
-head_read number a new entries low
-    (head_told subject octets moment right request reply pdu octet is wants new_is told least) none replies =
+head_read {pdu} number a new entries least low
+    (head_told subject octets moment right request reply octet is wants new_is told) none replies =
     let info : request ≡ Info 0x41 number =
     asks_info number moment request low (subst (λ q. Wants q moment request) (sym is) wants) in
     first_read number right reply pdu octet a new entries
     (new_is ∙ ap (λ r. (asked right r, reply) ∷ []) info) told least none replies
-head_read number a new entries low (further_told subject octet so_far piece more is new_is told) none replies =
+head_read number a new entries least low (further_told subject octet so_far piece more is new_is told) none replies =
     absurd (cc)

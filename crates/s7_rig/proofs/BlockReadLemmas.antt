@@ -28,7 +28,6 @@ use Rattle.s7_dialogue.proofs.FlightLemmas.{same_some, nothing_left}
 use Rattle.s7_dialogue.proofs.EndLemmas.{first_none}
 use Rattle.s7_client.proofs.FitLemmas.{one_of_all}
 use Rattle.s7_client.proofs.FormLemmas.{first_positive, part_positive}
-use Rattle.s7_session.specs.Verdict.{Verdict}
 use Rattle.s7_rig.specs.Heard.{told_of}
 use Rattle.s7_rig.specs.Awaiting.{AreAsked, AreInTurn}
 use Rattle.s7_rig.specs.Dialogues.{AreReplies, ReadsParts, ReadsBlock}
@@ -123,26 +122,26 @@ abbrev row_of : Exchange → Row
 row_of x = record { question = x.question; number = x.number; answer = Some x.answer }
 
 -- Behind these telegrams the job goes by exchanges: none refuses, and then nothing is left to ask.
-record GoesBy (vs : List Verdict) (c : Conduct) (place : ℕ) (first : Row) (rows : List Row) (xs : List Exchange)
+record GoesBy (pdu : ℕ) (c : Conduct) (place : ℕ) (first : Row) (rows : List Row) (xs : List Exchange)
     : Type 0 where
   turn : AreInTurn c (first ∷ rows) (rows_of xs)
   last : (all : List Row) → all ≡ rows ++ rows_of xs → c.question_at (answers_of (first ∷ all)) ≡ None
   unrefused : first_refusal part_refusal place (answers_of (rows_of xs)) ≡ None
-  told : AreTold vs xs
+  told : AreTold pdu xs
   replies : AreReplies (entries_of xs)
 
 -- the first of them doesn't refuse
-good_here : {vs : List Verdict} {c : Conduct} {place : ℕ} {first : Row} {rows : List Row} {x : Exchange}
-    {xs : List Exchange} → GoesBy vs c place first rows (x ∷ xs) → part_refusal x.answer ≡ None
-good_here {vs} {c} {place} {first} {rows} {x} {xs} g =
+good_here : {pdu : ℕ} {c : Conduct} {place : ℕ} {first : Row} {rows : List Row} {x : Exchange}
+    {xs : List Exchange} → GoesBy pdu c place first rows (x ∷ xs) → part_refusal x.answer ≡ None
+good_here {pdu} {c} {place} {first} {rows} {x} {xs} g =
     (first_none (part_refusal x.answer) place (first_refusal part_refusal (place + 1) (answers_of (rows_of xs)))
     g.unrefused).0
 
 -- and the job goes on by the others
-goes_on : {vs : List Verdict} {c : Conduct} {place : ℕ} {first : Row} {rows : List Row} {x : Exchange}
-    {xs : List Exchange} → GoesBy vs c place first rows (x ∷ xs)
-    → GoesBy vs c (place + 1) first (rows ++ row_of x ∷ []) xs
-goes_on {vs} {c} {place} {first} {rows} {x} {xs} g = record {
+goes_on : {pdu : ℕ} {c : Conduct} {place : ℕ} {first : Row} {rows : List Row} {x : Exchange}
+    {xs : List Exchange} → GoesBy pdu c place first rows (x ∷ xs)
+    → GoesBy pdu c (place + 1) first (rows ++ row_of x ∷ []) xs
+goes_on {pdu} {c} {place} {first} {rows} {x} {xs} g = record {
   turn = g.turn.2;
   last = λ all is. g.last all (is ∙ append_assoc rows (row_of x ∷ []) (rows_of xs));
   unrefused =
@@ -186,7 +185,7 @@ record AsksParts (grant : Grant) (parts : List Item) (place : ℕ) (xs : List Ex
   asked_are : AreAsked (reading grant parts).conduct place (rows_of xs)
   last : slice_get (read_questions (alone parts)) (place + length xs) ≡ None
 
-module _ (vs : List Verdict) (grant : Grant) (number : ℕ) where
+module _ (pdu : ℕ) (grant : Grant) (number : ℕ) where
   abbrev conduct : Conduct
   conduct = getting grant.pdu (block_octets 0x41 number) number
 
@@ -206,7 +205,7 @@ module _ (vs : List Verdict) (grant : Grant) (number : ℕ) where
 
   parts_asked : (so_far : List ℕ) (last : Option Answer) (count place : ℕ) (first : Row) (rows : List Row)
       (xs : List Exchange) → behind DataHead so_far last ≡ None
-      → StandsBehind first.answer (answers_of rows) so_far last count → GoesBy vs conduct place first rows xs
+      → StandsBehind first.answer (answers_of rows) so_far last count → GoesBy pdu conduct place first rows xs
       → AsksParts grant (parts (data_length so_far)) count xs
   parts_asked so_far last count place first rows [] none h g = record {
     asked_are = tt;
@@ -218,7 +217,7 @@ module _ (vs : List Verdict) (grant : Grant) (number : ℕ) where
       let asks_it : slice_get (questions size) count ≡ Some x.question = sym (next_part none h) ∙ g.turn.0.is in
       let one = one_of_all ReadsOne (questions size) count x.question (each_one (parts size)) asks_it in
       let told = part_answered one.0 x.answer x.entries
-      (subst (λ q. HasTold vs q x.answer x.entries) one.1 g.told.0) in
+      (subst (λ q. HasTold pdu x.verdicts q x.answer x.entries) one.1 g.told.0) in
       let t = part_tells one.0 x.answer x.entries (entries_of xs) told (good_here g) g.replies in
       let a : Answer = tells (t.0 ∷ []) in
       let all : List Row = rows ++ row_of x ∷ [] in
@@ -245,12 +244,12 @@ module _ (vs : List Verdict) (grant : Grant) (number : ℕ) where
   pieces_read : (so_far : List ℕ) (octet : ℕ) (more : Bool) (piece : List ℕ) (place : ℕ) (first : Row)
       (rows : List Row) (xs : List Exchange) → 16 ≤ length so_far
       → StandsBehind first.answer (answers_of rows) so_far (Some (brings octet more piece)) 0
-      → GoesBy vs conduct place first rows xs
+      → GoesBy pdu conduct place first rows xs
       → ReadsParts (parts (data_length so_far)) (entries_of xs) (octets_told (answers_of (rows_of xs)))
   pieces_read so_far octet false piece place first rows xs long h g =
       let all : List Item = parts (data_length so_far) in
       let a = parts_asked so_far (Some (brings octet false piece)) 0 place first rows xs refl h g in
-      parts_read vs grant all [] all xs refl a.asked_are a.last
+      parts_read pdu grant all [] all xs refl a.asked_are a.last
       (place_free part_refusal place 0 (answers_of (rows_of xs)) g.unrefused) g.told g.replies
   pieces_read so_far octet true piece place first rows [] long h g =
       absurd
@@ -263,7 +262,7 @@ module _ (vs : List Verdict) (grant : Grant) (number : ℕ) where
       let is : q ≡ x.question =
       same_some q x.question (sym (next_is (block_octets 0x41 number) questions h) ∙ g.turn.0.is) in
       let told = head_answered q x.answer x.entries tt
-      (subst (λ q. HasTold vs q x.answer x.entries) (sym is) g.told.0) in
+      (subst (λ q. HasTold pdu x.verdicts q x.answer x.entries) (sym is) g.told.0) in
       let p = piece_read octet so_far x.answer x.entries told (good_here g) in
       let others = pieces_read (so_far ++ p.piece) p.octet p.more p.piece (place + 1) first (rows ++ row_of x ∷ []) xs
       (omega (arith, length-append so_far p.piece, long))
@@ -277,20 +276,21 @@ module _ (vs : List Verdict) (grant : Grant) (number : ℕ) where
 
   -- ---- all exchanges
 
-  exchanges_read : (xs : List Exchange) → number < 65536 → conduct.question_at (answers_of (rows_of xs)) ≡ None
+  exchanges_read : (xs : List Exchange) → 64 ≤ pdu → number < 65536
+      → conduct.question_at (answers_of (rows_of xs)) ≡ None
       → first_refusal part_refusal 0 (answers_of (rows_of xs)) ≡ None → AreInTurn conduct [] (rows_of xs)
-      → AreTold vs xs → AreReplies (entries_of xs)
+      → AreTold pdu xs → AreReplies (entries_of xs)
       → ReadsBlock number grant.pdu (entries_of xs) (octets_told (answers_of (rows_of xs)))
-  exchanges_read [] low last none turn told replies = absurd (cc)
-  exchanges_read (x ∷ xs) low last none turn told replies =
+  exchanges_read [] least low last none turn told replies = absurd (cc)
+  exchanges_read (x ∷ xs) least low last none turn told replies =
       let q : Question = asks DataHead (block_octets 0x41 number) in
       let answers : List (Option Answer) = answers_of (rows_of xs) in
       let is : q ≡ x.question = same_some q x.question turn.0.is in
       let both = first_none (part_refusal x.answer) 0 (first_refusal part_refusal 1 answers) none in
       let heard = head_answered q x.answer x.entries tt
-      (subst (λ q. HasTold vs q x.answer x.entries) (sym is) told.0) in
-      let head = head_read number x.answer x.entries (entries_of xs) low heard both.0 replies in
-      let goes : GoesBy vs conduct 1 (row_of x) [] xs =
+      (subst (λ q. HasTold pdu x.verdicts q x.answer x.entries) (sym is) told.0) in
+      let head = head_read number x.answer x.entries (entries_of xs) least low heard both.0 replies in
+      let goes : GoesBy pdu conduct 1 (row_of x) [] xs =
       record {
         turn = turn.2;
         last = λ all e. ap (λ rows. conduct.question_at (answers_of (row_of x ∷ rows))) e ∙ last;
@@ -307,9 +307,10 @@ module _ (vs : List Verdict) (grant : Grant) (number : ℕ) where
       subst (λ es. ReadsBlock number grant.pdu (es ++ entries_of xs) (octets_told (Some x.answer ∷ answers)))
       (sym head.new_is) (head.right, size, refl, head.stood, read)
 
-  conversed_read : (end : End) (xs : List Exchange) → number < 65536 → end.code ≡ 0 → Converses vs conduct end xs
-      → AreReplies (entries_of xs) → ReadsBlock number grant.pdu (entries_of xs) end.octets
-  conversed_read end xs low good c replies =
+  conversed_read : (end : End) (xs : List Exchange) → 64 ≤ pdu → number < 65536 → end.code ≡ 0
+      → Converses pdu conduct end xs → AreReplies (entries_of xs)
+      → ReadsBlock number grant.pdu (entries_of xs) end.octets
+  conversed_read end xs least low good c replies =
       let rows = rows_of xs in
       let answers = answers_of rows in
       let both =
@@ -317,15 +318,15 @@ module _ (vs : List Verdict) (grant : Grant) (number : ℕ) where
       (λ r e. first_positive part_refusal 0 answers r part_positive e) c.is good in
       let last = nothing_left conduct rows (omega (arith, open_none xs)) both.0 c.none_more in
       subst (ReadsBlock number grant.pdu (entries_of xs)) (sym both.1)
-      (exchanges_read xs low last both.0 (c.in_turn (omega arith)) c.told replies)
+      (exchanges_read xs least low last both.0 (c.in_turn (omega arith)) c.told replies)
 
 -- A read of a whole data block that came off has read its head and then its parts, whatever memories replied.
-pub block_read : {vs : List Verdict} (origin : Origin) (grant : Grant) (number : ℕ) (end : End) (xs : List Exchange)
-    → origin.granted ≡ Some grant → number < 65536 → origin.job ≡ job.DbGet number → end.code ≡ 0
-    → Converses vs (conduct_of origin) end xs → AreReplies (entries_of xs)
+pub block_read : {pdu : ℕ} (origin : Origin) (grant : Grant) (number : ℕ) (end : End) (xs : List Exchange)
+    → 64 ≤ pdu → origin.granted ≡ Some grant → number < 65536 → origin.job ≡ job.DbGet number → end.code ≡ 0
+    → Converses pdu (conduct_of origin) end xs → AreReplies (entries_of xs)
     → ReadsBlock number grant.pdu (entries_of xs) end.octets
-block_read {vs} origin grant number end xs granted low job_is good c replies =
+block_read {pdu} origin grant number end xs least granted low job_is good c replies =
     let same : conduct_of origin ≡ getting grant.pdu (block_octets 0x41 number) number =
     ap (λ g. (plan_of origin.job origin.config g).conduct) granted
     ∙ ap (λ j. (connected_plan j grant).conduct) job_is in
-    conversed_read vs grant number end xs low good (subst (λ k. Converses vs k end xs) same c) replies
+    conversed_read pdu grant number end xs least low good (subst (λ k. Converses pdu k end xs) same c) replies

@@ -1,5 +1,5 @@
 -- A client's turn keeps what holds of it and its session.
-use Rattle.std.proofs.Common.{◌≡◌, ◌⊎◌, inl, inr, ℕ, ◌<◌, ◌≤◌, false, List, [], ◌∷◌, ◌++◌, length, take, refl, ap, sym, ◌∙◌, subst, append_assoc, arith}
+use Rattle.std.proofs.Common.{◌≡◌, ◌⊎◌, inl, inr, ℕ, ◌<◌, ◌≤◌, false, List, [], ◌∷◌, ◌++◌, take, refl, ap, sym, ◌∙◌, subst, append_assoc, arith}
 use Rattle.std.specs.Prelude.{Bool, true, Option, None, Some, unwrap_or, map, if◌then◌else◌}
 use Rattle.std.specs.Borrow.{GName}
 use Rattle.std.proofs.lemmas.List.{append-nil, append_cancel_left, map-append}
@@ -50,14 +50,14 @@ use Rattle.s7_rig.proofs.ComeOffLemmas.{comes_off}
 use Rattle.s7_rig.proofs.RightLemmas.{own_allowed}
 use Rattle.s7_rig.proofs.ShapeLemmas.{AreAllowed}
 use Rattle.s7_rig.specs.Complete.{CanComeOff, AreWithRight, AllComeOff}
-use Rattle.s7_rig.specs.Exchanges.{entries_of, rows_of, Converses, WentBy}
-use Rattle.s7_rig.proofs.UnrefusedLemmas.{AnyUndone}
+use Rattle.s7_rig.specs.Exchanges.{entries_of, rows_of, verdicts_met, Converses, WentBy}
+use Rattle.s7_rig.proofs.UnrefusedLemmas.{AnyUndone, undone_behind}
 use Rattle.s7_session.specs.Telegrams.{AnyFull, clock_failures}
 use Rattle.s7_dialogue.specs.Answer.{Answer}
 use Rattle.s7_dialogue.specs.Codes.{timed_out}
 use Rattle.s7_dialogue.specs.Dialogue.{End, fault_end, departed_end, connected_plan, plan_of}
 use Rattle.s7_dialogue.specs.Flight.{answers_of}
-use Rattle.s7_rig.proofs.OwnLemmas.{own_replies, own_shaped, own_are_same}
+use Rattle.s7_rig.proofs.OwnLemmas.{own_replies, own_are_same}
 use Rattle.s7_rig.proofs.PlaceLemmas.{stands_at, reads_nothing, all_stand_more}
 use Rattle.s7_rig.specs.Plants.{IsPlant}
 use Rattle.s7_rig.proofs.ClientFacts.{pipes_quiet, has_job, waits_for_none, some_job, took, wrote, same_moment, given_on, taken_on, wrote_nothing}
@@ -525,12 +525,12 @@ module _ (opening : Memory) (limit : ℕ) (config : Config) (book : BookTold)
       settles : IsJobSettled first w.origin config.pdu heard sent d.end w.before w.used w.judged w.verdicts behind
       settles = job_is_settled first w.origin config.pdu heard sent d.end d.carried w.before w.used w.judged w.verdicts behind (over octets)
 
-      went : WentBy first w.origin d.end w.before sent w.judged w.verdicts
+      went : WentBy first w.origin config.pdu d.end w.before sent w.judged w.verdicts
       went = job_went first w.origin config.pdu heard sent d.end d.carried w.before w.used w.judged w.verdicts behind (over octets)
 
-      converses : Converses (w.judged ++ w.verdicts) (connected_plan w.origin.job w.grant).conduct d.end went.exchanges
+      converses : Converses config.pdu (connected_plan w.origin.job w.grant).conduct d.end went.exchanges
       converses =
-          subst (λ g. Converses (w.judged ++ w.verdicts) (plan_of w.origin.job w.origin.config g).conduct d.end went.exchanges) w.granted went.converses
+          subst (λ g. Converses config.pdu (plan_of w.origin.job w.origin.config g).conduct d.end went.exchanges) w.granted went.converses
 
       used_all : o.used ≡ w.before ++ sent
       used_all = w.used_is ∙ ap (λ x. w.before ++ x) settles.all_used
@@ -559,11 +559,16 @@ module _ (opening : Memory) (limit : ℕ) (config : Config) (book : BookTold)
       all_done none (inl any) = none (subst AnyFull (sym w.verdicts_are) any)
       all_done none (inr failed) = absurd (omega (arith, failed, j.clock, ap clock_failures w.verdicts_are))
 
+      -- so none of the job's own did
+      own_done : (AnyFull o.verdicts → ⊥) → AnyUndone (verdicts_met went.exchanges) → ⊥
+      own_done none any =
+          all_done none (undone_behind w.judged w.verdicts (subst AnyUndone went.verdicts_are any))
+
       well_done : (AnyFull o.verdicts → ⊥) → ComesOff opening (history_of book) config.pdu told (unwrap_or p.noted [])
       well_done none in_time right has can =
           d.result.code
-          ∙ comes_off opening right (w.judged ++ w.verdicts) (all_done none) w.origin.job w.grant d.end went.exchanges
-          w.job (subst (λ n. 64 ≤ n) (sym w.pdu) least) (allowed right has) converses
+          ∙ comes_off opening right config.pdu w.origin.job w.grant d.end went.exchanges w.job
+          (subst (λ n. 64 ≤ n) (sym w.pdu) least) (allowed right has, own_done none) converses
           (subst (λ n. CanComeOff opening right n w.origin.job) (sym w.pdu)
           (subst (CanComeOff opening right config.pdu) d.result.job can))
 

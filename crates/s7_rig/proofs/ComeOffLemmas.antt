@@ -41,14 +41,15 @@ use Rattle.s7_rig.specs.Awaiting.{AreAsked}
 use Rattle.s7_rig.specs.Complete.{IsThere, HasBlock, CanComeOff}
 use Rattle.s7_rig.specs.Exchanges.{IsSecurity, HasTold}
 use Rattle.s7_rig.specs.Exchanges.{NamesNone}
-use Rattle.s7_rig.specs.Exchanges.{Exchange, entries_of, rows_of, AreTold, Converses}
+use Rattle.s7_rig.specs.Exchanges.{Exchange, entries_of, rows_of, verdicts_met, AreTold, Converses}
 use Rattle.s7_rig.proofs.HoldPieces.{behind_is}
 use Rattle.s7_rig.proofs.HoldData.{IsOfItems, reads_items, writes_items}
 use Rattle.s7_rig.proofs.HoldReplies.{IsGood, counts_good, lists_good, mode_good, clock_good, setting_good}
 use Rattle.s7_rig.proofs.HoldReplies.{IsDoneAs, compress_done, copy_done}
 use Rattle.s7_rig.proofs.UploadAsksLemmas.{of_upload}
 use Rattle.s7_rig.proofs.UploadOffLemmas.{upload_good}
-use Rattle.s7_rig.proofs.UnrefusedLemmas.{AnyUndone, IsFree, FindsAll, IsControl, NamesNoBlock, IsAbout, IsUploadOf}
+use Rattle.s7_rig.proofs.UnrefusedLemmas.{AnyUndone, undone_within, undone_behind}
+use Rattle.s7_rig.proofs.UnrefusedLemmas.{IsFree, FindsAll, IsControl, NamesNoBlock, IsAbout, IsUploadOf}
 use Rattle.s7_rig.proofs.UnrefusedLemmas.{part_unrefused, items_unrefused, control_unrefused, about_unrefused}
 use Rattle.s7_rig.proofs.UnrefusedLemmas.{upload_unrefused}
 use Rattle.s7_rig.proofs.AskedItems.{AsksFor, part_reads_for, part_writes_for}
@@ -80,7 +81,11 @@ piece_about subject octets (first ∷ answers) question is =
 
 -- ---- jobs
 
-module _ (n : Memory) (right : Bool) (verdicts : List Verdict) (all_done : AnyUndone verdicts → ⊥) where
+-- what was entered for the exchanges is allowed, and none met a full history or a clock that failed
+abbrev pub AreSound : Memory → Bool → List Exchange → Type 0
+AreSound n right xs = AreAllowed n right (entries_of xs) × (AnyUndone (verdicts_met xs) → ⊥)
+
+module _ (n : Memory) (right : Bool) (pdu : ℕ) where
   shaped_front : (xs ys : List (Ask × Said)) → AreAllowed n right (xs ++ ys) → AreAllowed n right xs
   shaped_front [] ys all = tt
   shaped_front (x ∷ xs) ys all = (all.0, shaped_front xs ys all.1)
@@ -89,81 +94,89 @@ module _ (n : Memory) (right : Bool) (verdicts : List Verdict) (all_done : AnyUn
   shaped_behind [] ys all = all
   shaped_behind (x ∷ xs) ys all = shaped_behind xs ys all.1
 
-  -- then none of the answers refuses
-  unrefused : (refusal : Answer → Option ℕ) (P : Question → Type 0)
-      → ((question : Question) (answer : Answer) (new : List (Ask × Said)) → HasTold verdicts question answer new
-      → AreAllowed n right new → P question → refusal answer ≡ None)
-      → (place : ℕ) (xs : List Exchange) → AllByRecursion (λ (x : Exchange). P x.question) xs → AreTold verdicts xs
-      → AreAllowed n right (entries_of xs) → first_refusal refusal place (answers_of (rows_of xs)) ≡ None
-  unrefused refusal P each place [] asked told shaped = refl
-  unrefused refusal P each place (x ∷ xs) asked told shaped =
-      let good = each x.question x.answer x.entries told.0 (shaped_front x.entries (entries_of xs) shaped) asked.0 in
+  -- no answer to such a question refuses
+  abbrev NoneRefuses : (Answer → Option ℕ) → (Question → Type 0) → Type 0
+  NoneRefuses refusal P =
+      (own : List Verdict) → (AnyUndone own → ⊥) → (question : Question) (answer : Answer) (new : List (Ask × Said))
+      → HasTold pdu own question answer new → AreAllowed n right new → P question → refusal answer ≡ None
+
+  -- then none of the answers does
+  unrefused : (refusal : Answer → Option ℕ) (P : Question → Type 0) → NoneRefuses refusal P → (place : ℕ)
+      (xs : List Exchange) → AllByRecursion (λ (x : Exchange). P x.question) xs → AreTold pdu xs → AreSound n right xs
+      → first_refusal refusal place (answers_of (rows_of xs)) ≡ None
+  unrefused refusal P each place [] asked told sound = refl
+  unrefused refusal P each place (x ∷ xs) asked told sound =
+      let others = verdicts_met xs in
+      let good =
+      each x.verdicts (λ any. sound.1 (undone_within x.verdicts others any)) x.question x.answer x.entries told.0
+      (shaped_front x.entries (entries_of xs) sound.0) asked.0 in
       ap (λ r. first_or r place (first_refusal refusal (place + 1) (answers_of (rows_of xs)))) good
-      ∙ unrefused refusal P each (place + 1) xs asked.1 told.1 (shaped_behind x.entries (entries_of xs) shaped)
+      ∙ unrefused refusal P each (place + 1) xs asked.1 told.1
+      (shaped_behind x.entries (entries_of xs) sound.0, λ any. sound.1 (undone_behind x.verdicts others any))
 
   -- An end by answers that refuse nothing is good.
   off_by : (c : Conduct) (refusal : Answer → Option ℕ) (number : ℕ → ℕ → ℕ) (finished : List (Option Answer) → End)
       (P : Question → Type 0) (end : End) (xs : List Exchange)
-      → ((question : Question) (answer : Answer) (new : List (Ask × Said)) → HasTold verdicts question answer new
-      → AreAllowed n right new → P question → refusal answer ≡ None)
+      → NoneRefuses refusal P
       → ((answers : List (Option Answer)) (question : Question) → c.question_at answers ≡ Some question → P question)
       → ((answers : List (Option Answer))
       → c.ended answers ≡ by_refusal number (first_refusal refusal 0 answers) (finished answers))
-      → ((answers : List (Option Answer)) → (finished answers).code ≡ 0) → Converses verdicts c end xs
-      → AreAllowed n right (entries_of xs) → end.code ≡ 0
-  off_by c refusal number finished P end xs each questions ends good went shaped =
+      → ((answers : List (Option Answer)) → (finished answers).code ≡ 0) → Converses pdu c end xs
+      → AreSound n right xs → end.code ≡ 0
+  off_by c refusal number finished P end xs each questions ends good went sound =
       let answers = answers_of (rows_of xs) in
       ap (λ (e : End). e.code) (went.is ∙ ends answers)
       ∙ (ap (λ r. (by_refusal number r (finished answers)).code)
-      (unrefused refusal P each 0 xs (asked_each P c 0 xs questions went.asked) went.told shaped)
+      (unrefused refusal P each 0 xs (asked_each P c 0 xs questions went.asked) went.told sound)
       ∙ good answers)
 
   -- a job whose questions are those of a list comes off
   listed_off : (grant : Grant) (questions : List Question) (refusal : Answer → Option ℕ) (number : ℕ → ℕ → ℕ)
       (finished : List (Option Answer) → End) (P : Question → Type 0) (end : End) (xs : List Exchange)
-      → ((question : Question) (answer : Answer) (new : List (Ask × Said)) → HasTold verdicts question answer new
-      → AreAllowed n right new → P question → refusal answer ≡ None)
+      → NoneRefuses refusal P
       → AllByRecursion P questions → ((answers : List (Option Answer)) → (finished answers).code ≡ 0)
-      → Converses verdicts (listed grant questions refusal number finished).conduct end xs
-      → AreAllowed n right (entries_of xs) → end.code ≡ 0
-  listed_off grant questions refusal number finished P end xs each all good went shaped =
+      → Converses pdu (listed grant questions refusal number finished).conduct end xs
+      → AreSound n right xs → end.code ≡ 0
+  listed_off grant questions refusal number finished P end xs each all good went sound =
       off_by (listed grant questions refusal number finished).conduct refusal number finished P end xs each
       (λ answers question at. one_of_all P questions (length answers) question all at) (λ answers. refl) good went
-      shaped
+      sound
 
   -- one that calls a control
   control_off : (c : Control) (function : ℕ) (end : End) (xs : List Exchange) → NamesNoBlock c
-      → IsDoneAs n right c function → Converses verdicts (controlling c) end xs → AreAllowed n right (entries_of xs)
+      → IsDoneAs n right c function → Converses pdu (controlling c) end xs → AreSound n right xs
       → end.code ≡ 0
-  control_off c function end xs named done went shaped =
+  control_off c function end xs named done went sound =
       off_by (controlling c) (control_refusal c) plain_number (λ answers. good_end [] []) (IsControl c) end xs
-      (control_unrefused n right verdicts all_done c function named done)
+      (λ own all_done. control_unrefused n right pdu own all_done c function named done)
       (λ answers question at. one_of_all (IsControl c) (controls c ∷ []) (length answers) question (refl, tt) at)
-      (λ answers. refl) (λ answers. refl) went shaped
+      (λ answers. refl) (λ answers. refl) went sound
 
   -- and one that asks for user data
   about_off : (subject : Subject) (octets : List ℕ) (end : End) (xs : List Exchange) → (IsSecurity subject → ⊥)
       → (NamesNone subject octets → ⊥) → IsGood n right subject octets
-      → Converses verdicts (asking_about subject octets) end xs → AreAllowed n right (entries_of xs) → end.code ≡ 0
-  about_off subject octets end xs plain named good went shaped =
+      → Converses pdu (asking_about subject octets) end xs → AreSound n right xs → end.code ≡ 0
+  about_off subject octets end xs plain named good went sound =
       off_by (asking_about subject octets) telegram_refusal plain_number
       (brought_end subject) (IsAbout subject octets) end xs
-      (about_unrefused n right verdicts all_done subject octets plain named good) (piece_about subject octets)
-      (λ answers. refl) (λ answers. refl) went shaped
+      (λ own all_done. about_unrefused n right pdu own all_done subject octets plain named good)
+      (piece_about subject octets)
+      (λ answers. refl) (λ answers. refl) went sound
 
   -- one that uploads a data block
   upload_off : (number : ℕ) (end : End) (xs : List Exchange) → HasBlock n number → is_read_barred n.guard right ≡ false
-      → Converses verdicts (uploading (record { kind = 0x41; number = number })) end xs
-      → AreAllowed n right (entries_of xs) → end.code ≡ 0
-  upload_off number end xs has free went shaped =
+      → Converses pdu (uploading (record { kind = 0x41; number = number })) end xs
+      → AreSound n right xs → end.code ≡ 0
+  upload_off number end xs has free went sound =
       let name : BlockName = record { kind = 0x41; number = number } in
       off_by (uploading name) telegram_refusal plain_number (λ answers. good_end (octets_brought answers) [])
       (IsUploadOf name) end xs
-      (upload_unrefused n right verdicts all_done name (names_read.names name 0x41 (lt-ltb number 65536 has.0))
-      (λ own s same is. upload_good s own n number same (read_freed n.guard right own is free) has))
+      (λ own all_done. upload_unrefused n right pdu own all_done name
+      (names_read.names name 0x41 (lt-ltb number 65536 has.0))
+      (λ given s same is. upload_good s given n number same (read_freed n.guard right given is free) has))
       (λ answers question at. of_upload (IsUploadOf name) (λ id size so_far. tt) (λ id. tt) name answers question refl
       at)
-      (λ answers. refl) (λ answers. refl) went shaped
+      (λ answers. refl) (λ answers. refl) went sound
 
   reads_free : (groups : List (List Item)) → is_read_barred n.guard right ≡ false
       → AllByRecursion (IsFree n right) (read_questions groups)
@@ -176,68 +189,68 @@ module _ (n : Memory) (right : Bool) (verdicts : List Verdict) (all_done : AnyUn
   writes_free (group ∷ groups) octets free = (free, writes_free groups _ free)
 
   checked : (check : ℕ) (plan : Plan) (end : End) (xs : List Exchange) → check ≡ 0
-      → Converses verdicts (if_good check plan).conduct end xs → Converses verdicts plan.conduct end xs
+      → Converses pdu (if_good check plan).conduct end xs → Converses pdu plan.conduct end xs
   checked check plan end xs good c =
-      subst (λ b. Converses verdicts (cond b plan (over (number_end check AsItWas))).conduct end xs)
+      subst (λ b. Converses pdu (cond b plan (over (number_end check AsItWas))).conduct end xs)
       (eq-eqb check 0 good) c
 
   -- A job on a connected client that went by exchanges comes off, where it can.
   pub comes_off : (done : Job) (grant : Grant) (end : End) (xs : List Exchange) → IsNoConnect done → 64 ≤ grant.pdu
-      → AreAllowed n right (entries_of xs) → Converses verdicts (connected_plan done grant).conduct end xs
+      → AreSound n right xs → Converses pdu (connected_plan done grant).conduct end xs
       → CanComeOff n right grant.pdu done → end.code ≡ 0
-  comes_off job.Connect grant end xs none least shaped c can = absurd none
-  comes_off (job.ReadArea item) grant end xs none least shaped c can =
+  comes_off job.Connect grant end xs none least sound c can = absurd none
+  comes_off (job.ReadArea item) grant end xs none least sound c can =
       let parts = parts_of item grant.pdu false in
       let questions = read_questions (alone parts) in
       let there = parts_placed n item true grant.pdu false can.0 least can.1 in
       listed_off grant questions part_refusal plain_number (λ answers. good_end (octets_told answers) [])
-      (FindsAll n right) end xs (part_unrefused n right verdicts all_done)
+      (FindsAll n right) end xs (part_unrefused n right pdu)
       (both (AsksFor (IsThere n)) (IsFree n right) questions (part_reads_for (IsThere n) item grant.pdu there)
       (reads_free (alone parts) can.2))
-      (λ answers. refl) (checked (check_item item true) _ end xs can.0 c) shaped
-  comes_off (job.WriteArea item octets) grant end xs none least shaped c can =
+      (λ answers. refl) (checked (check_item item true) _ end xs can.0 c) sound
+  comes_off (job.WriteArea item octets) grant end xs none least sound c can =
       let has = eqb (length octets) (octet_count item) in
       let parts = parts_of item grant.pdu true in
       let questions = write_questions (alone parts) octets in
       let there = parts_placed n item has grant.pdu true can.0 least can.1 in
       listed_off grant questions part_refusal write_number (λ answers. good_end [] []) (FindsAll n right) end xs
-      (part_unrefused n right verdicts all_done)
+      (part_unrefused n right pdu)
       (both (AsksFor (IsThere n)) (IsFree n right) questions
       (part_writes_for (IsThere n) item octets grant.pdu least can.0 there)
       (writes_free (alone parts) octets can.2))
-      (λ answers. refl) (checked (check_item item has) _ end xs can.0 c) shaped
-  comes_off (job.ReadMany items) grant end xs none least shaped c can =
+      (λ answers. refl) (checked (check_item item has) _ end xs can.0 c) sound
+  comes_off (job.ReadMany items) grant end xs none least sound c can =
       let questions = read_questions (groups_of grant.pdu false items) in
       listed_off grant questions telegram_refusal plain_number
       (λ answers. good_end (octets_told answers) (codes_told answers)) IsOfItems end xs
-      (items_unrefused n right verdicts all_done) (reads_items (groups_of grant.pdu false items)) (λ answers. refl)
-      (checked (check_items items true grant.pdu false) _ end xs can c) shaped
-  comes_off (job.WriteMany items octets) grant end xs none least shaped c can =
+      (items_unrefused n right pdu) (reads_items (groups_of grant.pdu false items)) (λ answers. refl)
+      (checked (check_items items true grant.pdu false) _ end xs can c) sound
+  comes_off (job.WriteMany items octets) grant end xs none least sound c can =
       let has = eqb (length octets) (octet_count_of items) in
       let questions = write_questions (groups_of grant.pdu true items) octets in
       listed_off grant questions telegram_refusal plain_number (λ answers. good_end [] (codes_told answers))
-      IsOfItems end xs (items_unrefused n right verdicts all_done)
+      IsOfItems end xs (items_unrefused n right pdu)
       (writes_items (groups_of grant.pdu true items) octets) (λ answers. refl)
-      (checked (check_items items has grant.pdu true) _ end xs can c) shaped
-  comes_off job.List grant end xs none least shaped c can =
-      about_off BlockCounts [] end xs (λ secures. secures) (λ names. names) (counts_good n right) c shaped
-  comes_off (job.Upload kind number) grant end xs none least shaped c can =
+      (checked (check_items items has grant.pdu true) _ end xs can c) sound
+  comes_off job.List grant end xs none least sound c can =
+      about_off BlockCounts [] end xs (λ secures. secures) (λ names. names) (counts_good n right) c sound
+  comes_off (job.Upload kind number) grant end xs none least sound c can =
       upload_off number end xs can.1 can.2
-      (subst (λ k. Converses verdicts (uploading (record { kind = k; number = number })) end xs) can.0 c) shaped
-  comes_off (job.Szl id index) grant end xs none least shaped c can =
+      (subst (λ k. Converses pdu (uploading (record { kind = k; number = number })) end xs) can.0 c) sound
+  comes_off (job.Szl id index) grant end xs none least sound c can =
       about_off StatusList (list_octets id index) end xs (λ secures. secures) (λ names. names)
-      (lists_good n right id index can) c shaped
-  comes_off job.ClockRead grant end xs none least shaped c can =
-      about_off Clock [] end xs (λ secures. secures) (λ names. names) (clock_good n right) c shaped
-  comes_off (job.ClockSet moment) grant end xs none least shaped c can =
+      (lists_good n right id index can) c sound
+  comes_off job.ClockRead grant end xs none least sound c can =
+      about_off Clock [] end xs (λ secures. secures) (λ names. names) (clock_good n right) c sound
+  comes_off (job.ClockSet moment) grant end xs none least sound c can =
       about_off ClockSetting (moment_octets moment) end xs (λ secures. secures) (λ names. names)
-      (setting_good n right (moment_octets moment) can.1) (checked (check_moment moment) _ end xs can.0 c) shaped
-  comes_off job.Compress grant end xs none least shaped c can =
-      control_off control.Compress service_function end xs tt (compress_done n right can) c shaped
-  comes_off job.CopyRam grant end xs none least shaped c can =
-      control_off control.CopyRam service_function end xs tt (copy_done n right can) c shaped
-  comes_off job.Status grant end xs none least shaped c can =
+      (setting_good n right (moment_octets moment) can.1) (checked (check_moment moment) _ end xs can.0 c) sound
+  comes_off job.Compress grant end xs none least sound c can =
+      control_off control.Compress service_function end xs tt (compress_done n right can) c sound
+  comes_off job.CopyRam grant end xs none least sound c can =
+      control_off control.CopyRam service_function end xs tt (copy_done n right can) c sound
+  comes_off job.Status grant end xs none least sound c can =
       about_off RunState (list_octets 0x0424 0) end xs (λ secures. secures) (λ names. names) (mode_good n right) c
-      shaped
-  comes_off job.Disconnect grant end xs none least shaped c can = ap (λ (e : End). e.code) c.is
-  comes_off _ grant end xs none least shaped c can = absurd can
+      sound
+  comes_off job.Disconnect grant end xs none least sound c can = ap (λ (e : End). e.code) c.is
+  comes_off _ grant end xs none least sound c can = absurd can

@@ -3,10 +3,10 @@ use Rattle.std.proofs.Common.{◌≡◌, ℕ, ◌+◌, ◌<◌, ◌≤◌, true,
 use Rattle.std.specs.Prelude.{slice_get}
 use Rattle.s7_tpkt.specs.Packets.{packet_of}
 use Rattle.s7_cotp.specs.Told.{ConnectionTold}
-use Rattle.s7_cotp.specs.Reading.{tpdu_of}
 use Rattle.s7_cotp.specs.Spelling.{IsWritable, tsap_octets, spelling_of_confirm}
 use Rattle.s7_cotp.proofs.SpellLemmas.{confirm_again}
 use Rattle.s7_wire.specs.Bounds.{size_of_code}
+use Rattle.s7_wire.specs.Reading.{limit_by}
 use Rattle.s7_wire.specs.Sent.{sent_message}
 use Rattle.s7_header.specs.declared.negotiation.Negotiation.{Negotiation}
 use Rattle.s7_header.specs.Negotiation.{negotiation_spelling}
@@ -18,9 +18,10 @@ use Rattle.s7_dialogue.specs.Question.{negotiates, question_octets}
 use Rattle.s7_dialogue.specs.Answer.{grants}
 use Rattle.s7_dialogue.specs.Flight.{Row, answers_of, open_count, filled}
 use Rattle.s7_dialogue.specs.Dialogue.{Plan, connect_request, asked_by, taken_grant, by_grant, negotiating, connecting_plan, plan_of}
-use Rattle.s7_dialogue.specs.Course.{Origin, Course, for_confirm, for_answers, for_nothing, conduct_of, asked_on, asking}
-use Rattle.s7_dialogue.specs.Course.{begins_anew, sequence_at, by_awaits, confirming, with_packet, course, limit_in, limit_where}
+use Rattle.s7_dialogue.specs.Course.{Origin, Course, for_answers, for_nothing, conduct_of, asked_on, asking}
+use Rattle.s7_dialogue.specs.Course.{begins_anew, sequence_at, size_where, course, limit_in}
 use Rattle.s7_dialogue.proofs.FlightLemmas.{with_answer}
+use Rattle.s7_dialogue.proofs.PacketLemmas.{confirm_read}
 use Rattle.s7_rig.specs.Heard.{connected_end}
 use Rattle.s7_rig.specs.Awaiting.{telegrams_of, AreAsked, BeginsConnecting, negotiation_row, AsksNegotiation, EndsBy}
 use Rattle.s7_rig.proofs.BeginLemmas.{clear_at_first, first_course}
@@ -72,18 +73,13 @@ confirm_short c w =
 confirm_fits : (origin : Origin) (c : ConnectionTold) → BeginsConnecting origin → IsWritable c
     → length (spelling_of_confirm c) + 4 ≤ limit_in (course origin [])
 confirm_fits origin c h w =
-    omega (arith, confirm_short c w, ap (λ a. limit_where a (course origin []).size) h.awaits)
+    omega (arith, confirm_short c w, ap (λ a. limit_by (size_where a (course origin []).size)) h.awaits)
 
 -- a strict front of a confirm changes nothing
 pub confirm_front : (origin : Origin) (c : ConnectionTold) (u v : List ℕ) → BeginsConnecting origin → IsWritable c
     → u ++ v ≡ packet_of (spelling_of_confirm c) → 0 < length v → course origin u ≡ course origin []
 confirm_front origin c u v h w e some =
     front_heard origin [] (spelling_of_confirm c) u v h.rest (omega arith) (confirm_fits origin c h w) e some
-
-packet_confirming : (origin : Origin) (k : Course) (body : List ℕ) → k.awaits ≡ for_confirm
-    → with_packet origin k body ≡ confirming (conduct_of origin) k (tpdu_of body)
-unfolding with_packet
-packet_confirming origin k body h = ap (by_awaits (conduct_of origin) k body) h
 
 abbrev sized : Course → ℕ → Course
 sized k size = record k { size = size }
@@ -93,9 +89,8 @@ confirmed_course : (origin : Origin) (c : ConnectionTold) → BeginsConnecting o
 confirmed_course origin c h w size =
     let body : List ℕ = spelling_of_confirm c in
     packet_heard origin [] body h.rest (omega arith) (confirm_fits origin c h w)
-    ∙ (packet_confirming origin (course origin []) body h.awaits
-    ∙ (ap (confirming (conduct_of origin) (course origin [])) (confirm_again c w)
-    ∙ ap (λ code. asking (conduct_of origin) (sized (course origin []) (size_of_code code))) size))
+    ∙ (confirm_read origin (course origin []) body c h.awaits (confirm_again c w)
+    ∙ ap (λ code. asking (conduct_of origin) (sized (course origin []) (size_of_code code))) size)
 
 -- ---- the negotiation
 

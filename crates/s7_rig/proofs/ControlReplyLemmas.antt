@@ -1,5 +1,5 @@
 -- How a session replies to a control.
-use Rattle.std.proofs.Common.{◌≡◌, ℕ, ◌<◌, Bool, true, false, cond, List, ◌++◌, Option, None, Some, refl, arith}
+use Rattle.std.proofs.Common.{◌≡◌, ℕ, ◌<◌, Bool, true, false, cond, List, Option, None, Some, refl, arith}
 use Rattle.s7_block.specs.Names.{is_name}
 use Rattle.s7_clock.specs.declared.control.Control.{Control}
 use Rattle.s7_clock.specs.declared.control.Control.TheVariants as control
@@ -29,6 +29,7 @@ barred_replied {first} b js vs pdu s kind number served none =
     let name = is_name kind number in
     refused_replied b js vs pdu s (cond name 0x8F03 0x8404) q served
     (judged_barred (past first b js).link pdu s kind number (is_sent b js vs pdu s q served) none) (small_by name)
+    (λ answer. tt)
     (is_barred kind number refl none refl refl)
 
 -- only a deletion is one that the plant isn't asked for
@@ -51,4 +52,4 @@ control_replied {first} b js vs pdu s c (Some request) served can is =
     let link = (past first b js).link in
     asking_replied b js vs pdu s (controls c) (plainly link s request) served
     (judged_control link pdu s c request (is_sent b js vs pdu s (controls c) served) is) (λ reply. refl)
-    (control_well (js ++ vs) link s c request served.low is)
+    (λ answer. tt) (control_well pdu link s c request served.low is)

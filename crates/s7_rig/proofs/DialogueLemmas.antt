@@ -26,7 +26,8 @@ use Rattle.s7_session.proofs.PastLemmas.{with_more, past_grows}
 use Rattle.s7_rig.specs.Settled.{Settled}
 use Rattle.s7_rig.specs.Awaiting.{telegrams_of, AreAsked, Awaiting}
 use Rattle.s7_rig.specs.Dialogues.{AreReplies}
-use Rattle.s7_rig.specs.Exchanges.{IsHeard, link_past, Replies, Exchange, entries_of, rows_of, AreTold, Converses}
+use Rattle.s7_rig.specs.Exchanges.{IsHeard, link_past, Replies, Exchange, entries_of, rows_of, verdicts_met, AreTold}
+use Rattle.s7_rig.specs.Exchanges.{Converses}
 use Rattle.s7_rig.proofs.HeardLemmas.{AwaitsAnswers, heard_front}
 use Rattle.s7_rig.proofs.TelegramLemmas.{IsOut, AreOut, open_behind, awaits_more, asked_at}
 use Rattle.s7_rig.proofs.GrowthLemmas.{course_grows}
@@ -54,7 +55,8 @@ pub record Whole : Type 0 where
   pub verdicts : List Verdict
   -- what the session left of what was sent
   pub unused : List ℕ
-  -- what was owed and entered before the job, and what is owed behind what was heard
+  -- what was met, owed and entered before the job, and what is owed behind what was heard
+  pub judged : List Verdict
   pub before : List ℕ
   pub entries : List (Ask × Said)
   pub behind : List ℕ
@@ -93,7 +95,7 @@ pub record IsAt (w : Whole) (p : Place) : Type 0 where
   pub rows_are : (course w.origin p.heard).rows ≡ rows_of p.gone ++ p.rows
   pub are_out : AreOut p.rows
   pub asked : AreAsked (conduct_of w.origin) 0 (rows_of p.gone ++ p.rows)
-  pub told : AreTold w.verdicts p.gone
+  pub told : AreTold w.pdu p.gone
   pub settled : Settled w.first p.used p.verdicts (Some w.pdu)
   -- the link holds what is asked of it, and what is awaited is sent
   pub next : AreNext p.unheard (past w.first p.used p.verdicts).link p.rows
@@ -104,6 +106,7 @@ pub record IsAt (w : Whole) (p : Place) : Type 0 where
   pub verdicts_are : w.verdicts ≡ p.verdicts ++ p.left
   pub owed_is : owed w.first p.used p.verdicts ≡ (w.before ++ p.heard) ++ sent_messages 1024 p.unheard
   pub entered_is : entered w.first p.used p.verdicts ≡ w.entries ++ entries_of p.gone
+  pub met_is : p.verdicts ≡ w.judged ++ verdicts_met p.gone
 
 -- Both stand between two messages again, and the job went by exchanges.
 pub record IsDone (w : Whole) : Type 0 where
@@ -114,7 +117,8 @@ pub record IsDone (w : Whole) : Type 0 where
   pub sequence : (course w.origin w.heard).sequence < 65536
   pub exchanges : List Exchange
   pub entered_is : entered w.first w.used w.verdicts ≡ w.entries ++ entries_of exchanges
-  pub converses : Converses w.verdicts (conduct_of w.origin) w.end exchanges
+  pub met_is : w.verdicts ≡ w.judged ++ verdicts_met exchanges
+  pub converses : Converses w.pdu (conduct_of w.origin) w.end exchanges
 
 -- ---- small lemmas
 
@@ -161,6 +165,12 @@ telegrams_first q later = flat_map-append (sent_message 1024) (row_messages q) (
 abbrev pub RepliesAt : Whole → Place → Row → Type 0
 RepliesAt w p q = Replies w.first p.used p.verdicts p.left p.unheard w.pdu q.question q.number
 
+-- the verdicts that were met then
+pub verdicts_then : (w : Whole) (p : Place) (q : Row) → IsAt w p → (r : RepliesAt w p q)
+    → w.verdicts ≡ (p.verdicts ++ r.own) ++ r.left
+verdicts_then w p q h r =
+    h.verdicts_are ∙ (ap (λ (vs : List Verdict). p.verdicts ++ vs) r.split ∙ sym (append_assoc p.verdicts r.own r.left))
+
 -- The session used the question and gave this reply, and the client heard the reply whole.
 pub record IsReplied (w : Whole) (p : Place) (q : Row) : Type 0 where
   pub reply : RepliesAt w p q
@@ -169,8 +179,8 @@ pub record IsReplied (w : Whole) (p : Place) (q : Row) : Type 0 where
   pub least : 10 ≤ length reply.message
   pub most : length reply.message ≤ most_pdu
   pub heard :
-      IsHeard w.verdicts (link_past w.first p.used q.number q.question reply.met) q.question q.number reply.message
-      reply.behind reply.new
+      IsHeard w.pdu reply.own (link_past w.first p.used q.number q.question (p.verdicts ++ reply.own)) q.question
+      q.number reply.message reply.behind reply.new
   pub more : List ℕ
   pub more_is : p.more ≡ sent_message 1024 reply.message ++ more
 
@@ -181,18 +191,20 @@ used_past w p q z h is =
 
 -- what the session has after the reply, with the verdicts to come
 past_replied : (w : Whole) (p : Place) (q : Row) (r : RepliesAt w p q)
-    → past w.first (p.used ++ packet_with q) (r.met ++ r.left)
-    ≡ with_more (past w.first (p.used ++ packet_with q) r.met) r.left
-past_replied w p q r = past_with w.first (p.used ++ packet_with q) r.met r.left r.serves.settled.lives
+    → past w.first (p.used ++ packet_with q) ((p.verdicts ++ r.own) ++ r.left)
+    ≡ with_more (past w.first (p.used ++ packet_with q) (p.verdicts ++ r.own)) r.left
+past_replied w p q r =
+    past_with w.first (p.used ++ packet_with q) (p.verdicts ++ r.own) r.left r.serves.settled.lives
 
 past_whole : (w : Whole) (p : Place) (q : Row) (z : List ℕ) (r : RepliesAt w p q) → IsAt w p
     → p.taken ≡ packet_with q ++ z
-    → past w.first w.used w.verdicts ≡ past w.first ((p.used ++ packet_with q) ++ z) (r.met ++ r.left)
-past_whole w p q z r h is = ap₂ (past w.first) (used_past w p q z h is) (h.verdicts_are ∙ r.split)
+    → past w.first w.used w.verdicts
+    ≡ past w.first ((p.used ++ packet_with q) ++ z) ((p.verdicts ++ r.own) ++ r.left)
+past_whole w p q z r h is = ap₂ (past w.first) (used_past w p q z h is) (verdicts_then w p q h r)
 
 -- the first message that is unheard then, and what is owed behind it
 pub owes_then : (w : Whole) (p : Place) (q : Row) → IsAt w p → (r : RepliesAt w p q)
-    → owed w.first (p.used ++ packet_with q) r.met
+    → owed w.first (p.used ++ packet_with q) (p.verdicts ++ r.own)
     ≡ (w.before ++ p.heard) ++ (sent_message 1024 r.message ++ sent_messages 1024 r.behind)
 owes_then w p q h r =
     let before = w.before ++ p.heard in
@@ -310,7 +322,7 @@ module _ (w : Whole) (p : Place) (q : Row) (later : List Row) (i : IsWhole w) (h
 
   new_replies : (z : List ℕ) (r : RepliesAt w p q) → p.taken ≡ packet_with q ++ z → AreReplies r.new
   new_replies z r taken =
-      let g = entered_grows w.first (p.used ++ packet_with q) z (r.met ++ r.left) in
+      let g = entered_grows w.first (p.used ++ packet_with q) z ((p.verdicts ++ r.own) ++ r.left) in
       let same : entered w.first w.used w.verdicts ≡ (entered w.first p.used p.verdicts ++ r.new) ++ g.0 =
       ap (λ (k : Past). entered_of k.mets) (past_whole w p q z r h taken)
       ∙ (g.1 ∙ ap (λ x. x ++ g.0) (ap (λ (k : Past). entered_of k.mets) (past_replied w p q r) ∙ r.serves.entered)) in
@@ -319,7 +331,7 @@ module _ (w : Whole) (p : Place) (q : Row) (later : List Row) (i : IsWhole w) (h
   more_front : (z : List ℕ) (r : RepliesAt w p q) → p.taken ≡ packet_with q ++ z
       → (rest : List ℕ) × (sent_message 1024 r.message ++ rest ≡ p.more ++ w.behind)
   more_front z r taken =
-      let g = past_grows w.first (p.used ++ packet_with q) z (r.met ++ r.left) in
+      let g = past_grows w.first (p.used ++ packet_with q) z ((p.verdicts ++ r.own) ++ r.left) in
       let a = sent_message 1024 r.message in
       let others = sent_messages 1024 r.behind in
       let before = w.before ++ p.heard in
@@ -354,10 +366,7 @@ module _ (w : Whole) (p : Place) (q : Row) (later : List Row) (i : IsWhole w) (h
         taken_is = taken;
         least = r.least given;
         most = most;
-        heard = subst
-            (λ vs. IsHeard vs (link_past w.first p.used q.number q.question r.met) q.question q.number r.message
-            r.behind r.new)
-            (sym h.verdicts_are) (r.heard given);
+        heard = r.heard given;
         more = heard.0;
         more_is = heard.1;
       }

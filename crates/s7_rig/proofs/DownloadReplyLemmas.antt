@@ -1,6 +1,6 @@
 -- How a session replies to the questions of a download.
 use Rattle.std.proofs.Common.{◌≡◌, inl, ℕ, ◌+◌, ◌<◌, ◌≤◌, Bool, true, false, cond, eqb, ltb, List, [], ◌∷◌, ◌++◌}
-use Rattle.std.proofs.Common.{length, drop, refl, ap, sym, ◌∙◌, subst, arith, append_assoc, append-nil}
+use Rattle.std.proofs.Common.{length, drop, refl, ap, ap₂, sym, ◌∙◌, subst, arith, append_assoc, append-nil}
 use Rattle.std.specs.Prelude.{Option, Some, slice_index}
 use Rattle.std.proofs.lemmas.List.{length-take}
 use Rattle.s7_header.specs.Negotiation.{most_pdu}
@@ -37,7 +37,7 @@ use Rattle.s7_rig.proofs.DownloadJudgedLemmas.{judged_insertion, judged_stored, 
 use Rattle.s7_rig.proofs.DownloadJudgedLemmas.{more_follows}
 use Rattle.s7_rig.proofs.DownloadServedLemmas.{IsOfDownload, closing_served}
 use Rattle.s7_rig.proofs.JudgedLemmas.{question_is_s7, question_sequence}
-use Rattle.s7_rig.proofs.ReplyLemmas.{any_full, met_split}
+use Rattle.s7_rig.proofs.ReplyLemmas.{IsLeftOpen}
 use Rattle.s7_rig.proofs.ServedLemmas.{ServesTo, served_asking, served_own, served_refused}
 use Rattle.s7_rig.proofs.UserJudgedLemmas.{IsSent}
 
@@ -49,23 +49,26 @@ record IsAsked (first : LinkState) (b : List ℕ) (js : List Verdict) (pdu s : �
   most : pdu ≤ most_pdu
 
 -- The message is short, and heard as an answer to the question, behind which these are unheard.
-record IsHeardWell (all : List Verdict) (link : LinkState) (q : Question) (s : ℕ) (message : List ℕ)
+record IsHeardWell (pdu : ℕ) (own : List Verdict) (link : LinkState) (q : Question) (s : ℕ) (message : List ℕ)
     (behind : List (List ℕ)) (new : List (Ask × Said)) : Type 0 where
   least : 10 ≤ length message
   most : length message ≤ most_pdu
-  heard : IsHeard all link q s message behind new
+  heard : IsHeard pdu own link q s message behind new
 
 -- a question of one message that the link answers by messages of its own
 own_replied : {first : LinkState} (b : List ℕ) (js vs : List Verdict) (unheard sent behind : List (List ℕ)) (pdu s : ℕ)
     (q : Question) (m message : List ℕ) (link : LinkState) → messages_of s q ≡ m ∷ []
     → ServesTo first b js m js (Some pdu) (sent_messages 1024 sent) [] link → unheard ++ sent ≡ message ∷ behind
-    → IsHeardWell (js ++ vs) link q s message behind [] → Replies first b js vs unheard pdu q s
-own_replied {first} b js vs unheard sent behind pdu s q m message link is served order well =
+    → IsLeftOpen (past first b js).link pdu q → IsHeardWell pdu [] link q s message behind []
+    → Replies first b js vs unheard pdu q s
+own_replied {first} b js vs unheard sent behind pdu s q m message link is served order open_to well =
     let octets : sent_messages 1024 (messages_of s q) ≡ sent_message 1024 m =
     ap (sent_messages 1024) is ∙ append-nil (sent_message 1024 m) in
-    let leaves = ap (λ x. (past first (b ++ x) js).link) octets ∙ served.leaves in
+    let none = append-nil js in
+    let leaves =
+    ap (link_past first b s q) none ∙ (ap (λ x. (past first (b ++ x) js).link) octets ∙ served.leaves) in
     record {
-      met = js;
+      own = [];
       left = vs;
       split = refl;
       sent = sent;
@@ -73,16 +76,20 @@ own_replied {first} b js vs unheard sent behind pdu s q m message link is served
       behind = behind;
       in_order = order;
       new = [];
-      serves = subst (λ x. Serves first b js x js (Some pdu) (sent_messages 1024 sent) []) (sym octets) served.serves;
+      serves = subst
+          (λ met. Serves first b js (sent_messages 1024 (messages_of s q)) met (Some pdu) (sent_messages 1024 sent) [])
+          (sym none)
+          (subst (λ x. Serves first b js x js (Some pdu) (sent_messages 1024 sent) []) (sym octets) served.serves);
       least = λ h. well.least;
       most = λ h. well.most;
-      heard = λ h. subst (λ l. IsHeard (js ++ vs) l q s message behind []) (sym leaves) well.heard;
+      heard = λ h. subst (λ l. IsHeard pdu [] l q s message behind []) (sym leaves) well.heard;
+      by_link = λ answer is. open_to answer;
     }
 
-refused_well : (all : List Verdict) (link : LinkState) (q : Question) (s error : ℕ) → is_numbered q ≡ true → s < 65536
-    → error < 65536 → HasTold all q (refuses error) [] → GoesOn link q (refuses error)
-    → IsUnheard [] link q (refuses error) → IsHeardWell all link q s (refusal_octets s error) [] []
-refused_well all link q s error numbered low small told goes_on unheard = record {
+refused_well : (pdu : ℕ) (own : List Verdict) (link : LinkState) (q : Question) (s error : ℕ) → is_numbered q ≡ true
+    → s < 65536 → error < 65536 → HasTold pdu own q (refuses error) [] → GoesOn link q (refuses error)
+    → IsUnheard [] link q (refuses error) → IsHeardWell pdu own link q s (refusal_octets s error) [] []
+refused_well pdu own link q s error numbered low small told goes_on unheard = record {
   least = omega arith;
   most = omega arith;
   heard = record {
@@ -121,11 +128,11 @@ announced_sent b js pdu s image on =
       fits = omega (arith, on.least);
     }
 
-announced_well : (all : List Verdict) (link : LinkState) (s : ℕ) (image : List ℕ) → s < 65536
+announced_well : (pdu : ℕ) (link : LinkState) (s : ℕ) (image : List ℕ) → s < 65536
     → is_stored_kind (name_in image).kind ≡ true
-    → IsHeardWell all (link_behind true link image 0) (announces image) s (answer_octets s (announce_function ∷ []) [])
-    (job_behind true link image ∷ []) []
-announced_well all link s image low stored = record {
+    → IsHeardWell pdu [] (link_behind true link image 0) (announces image) s
+    (answer_octets s (announce_function ∷ []) []) (job_behind true link image ∷ []) []
+announced_well pdu link s image low stored = record {
   least = omega arith;
   most = omega arith;
   heard = record {
@@ -150,7 +157,7 @@ announced_replied {first} b js vs unheard pdu s image true on is none stored =
     own_replied b js vs unheard (answer ∷ job ∷ []) (job ∷ []) pdu s q m answer after refl
     (served_own b m js (Some pdu) (Some pdu) (answer ∷ job ∷ []) after on.settled (omega arith) refl
     (judged_stored link pdu s image (announced_sent b js pdu s image on) is stored) on.settled.grants)
-    (ap (λ u. u ++ answer ∷ job ∷ []) none) (announced_well (js ++ vs) link s image on.low stored)
+    (ap (λ u. u ++ answer ∷ job ∷ []) none) (λ answer. tt) (announced_well pdu link s image on.low stored)
 announced_replied {first} b js vs unheard pdu s image false on is none stored =
     let link = (past first b js).link in
     let q = announces image in
@@ -161,8 +168,8 @@ announced_replied {first} b js vs unheard pdu s image false on is none stored =
     (subst (λ out. ServesTo first b js m js (Some pdu) out [] link)
     (refusal_is_sent m s 0x8F03 _ (question_sequence s q refl) judged.2)
     (served_refused b m js (Some pdu) judged.0 on.settled (omega arith) refl judged.1))
-    (ap (λ u. u ++ refusal ∷ []) none)
-    (refused_well (js ++ vs) link q s 0x8F03 refl on.low (omega arith) (is_unstored image refl stored refl refl) tt
+    (ap (λ u. u ++ refusal ∷ []) none) (λ answer. tt)
+    (refused_well pdu [] link q s 0x8F03 refl on.low (omega arith) (is_unstored image refl stored refl refl) tt
     refl)
 
 -- ---- the first call
@@ -175,8 +182,9 @@ awaited_replied : {first : LinkState} (b : List ℕ) (js vs : List Verdict) (unh
 awaited_replied {first} b js vs unheard pdu s image settled held came =
     let link = (past first b js).link in
     let same = append-nil b in
+    let none = append-nil js in
     record {
-      met = js;
+      own = [];
       left = vs;
       split = refl;
       sent = [];
@@ -184,11 +192,12 @@ awaited_replied {first} b js vs unheard pdu s image settled held came =
       behind = [];
       in_order = append-nil unheard ∙ came;
       new = [];
-      serves = record {
-        settled = subst (λ x. Settled first x js (Some pdu)) (sym same) settled;
-        owed = ap (λ x. owed first x js) same ∙ sym (append-nil (owed first b js));
-        entered = ap (λ x. entered first x js) same ∙ sym (append-nil (entered first b js));
-      };
+      serves = subst (λ met. Serves first b js [] met (Some pdu) [] []) (sym none)
+          (record {
+            settled = subst (λ x. Settled first x js (Some pdu)) (sym same) settled;
+            owed = ap (λ x. owed first x js) same ∙ sym (append-nil (owed first b js));
+            entered = ap (λ x. entered first x js) same ∙ sym (append-nil (entered first b js));
+          });
       least = λ h. omega arith;
       most = λ h. omega arith;
       heard = λ h. record {
@@ -196,18 +205,19 @@ awaited_replied {first} b js vs unheard pdu s image settled held came =
         is = first_call_is_heard image s link.job_sequence;
         told = is_called image link.job_sequence refl refl refl;
         goes_on = subst (λ l. HoldsPieces l image 0 link.job_sequence)
-            (sym (ap (λ x. (past first x js).link) same)) held;
+            (sym (ap₂ (λ x met. (past first x met).link) same none)) held;
         unheard = refl;
       };
+      by_link = λ answer is. tt;
     }
 
 -- ---- pieces
 
-given_well : (all : List Verdict) (link : LinkState) (s room from call : ℕ) (image : List ℕ) (more : Bool)
+given_well : (pdu : ℕ) (link : LinkState) (s room from call : ℕ) (image : List ℕ) (more : Bool)
     → is_stored_kind (name_in image).kind ≡ true → ltb (from + room) (length image) ≡ more
-    → IsHeardWell all (link_behind more link image (from + room)) (gives image room from call) s
+    → IsHeardWell pdu [] (link_behind more link image (from + room)) (gives image room from call) s
     (job_behind more link image) [] []
-given_well all link s room from call image more stored is =
+given_well pdu link s room from call image more stored is =
     let n = next_sequence link.job_sequence in
     let after = link_behind more link image (from + room) in
     record {
@@ -242,7 +252,8 @@ given_replied {first} b js vs unheard pdu s image room from call more on is fits
     (judged_given link pdu s image room from call more on.settled.grants fits (omega (arith, fits, on.least)) is.most
     held follows)
     on.settled.grants)
-    (ap (λ u. u ++ job ∷ []) none) (given_well (js ++ vs) link s room from call image more held.stored follows)
+    (ap (λ u. u ++ job ∷ []) none) (λ answer. tt)
+    (given_well pdu link s room from call image more held.stored follows)
 
 -- ---- the insertion
 
@@ -274,10 +285,11 @@ insertion_asked right image =
     asked right (plain.Insert (name_in image).kind (name_in image).number image no_room)
 
 -- whatever state gives its reply, it is heard
-inserted_well : (all : List Verdict) (link : LinkState) (s call : ℕ) (image : List ℕ) (right : Bool) (reply : Said)
-    → s < 65536 → AreReplies ((insertion_asked right image, reply) ∷ [])
-    → IsHeardWell all link (inserts image call) s (reply_octets s reply) [] ((insertion_asked right image, reply) ∷ [])
-inserted_well all link s call image right reply low given =
+inserted_well : (pdu : ℕ) (own : List Verdict) (link : LinkState) (s call : ℕ) (image : List ℕ) (right : Bool)
+    (reply : Said) → s < 65536 → AreReplies ((insertion_asked right image, reply) ∷ [])
+    → IsHeardWell pdu own link (inserts image call) s (reply_octets s reply) []
+    ((insertion_asked right image, reply) ∷ [])
+inserted_well pdu own link s call image right reply low given =
     let name = name_in image in
     let is =
     insertion_is_heard given.0.0 right image call s name.kind name.number image no_room reply low given.0.1 in
@@ -294,20 +306,22 @@ inserted_well all link s call image right reply low given =
     }
 
 -- a question behind the answer that closes a download
-closed_replied : {first : LinkState} (b : List ℕ) (js vs met left : List Verdict) (unheard : List (List ℕ))
-    (pdu s call : ℕ) (image message : List ℕ) (new : List (Ask × Said)) → js ++ vs ≡ met ++ left → unheard ≡ []
+closed_replied : {first : LinkState} (b : List ℕ) (js vs own left : List Verdict) (unheard : List (List ℕ))
+    (pdu s call : ℕ) (image message : List ℕ) (new : List (Ask × Said)) → vs ≡ own ++ left → unheard ≡ []
     → Serves first b js (sent_message 1024 (closing_octets call)) js (Some pdu) [] []
     → Serves first (b ++ sent_message 1024 (closing_octets call)) js
-    (sent_message 1024 (question_octets s (inserts image call))) met (Some pdu) (sent_messages 1024 (message ∷ [])) new
-    → ((link : LinkState) → AreReplies new → IsHeardWell (js ++ vs) link (inserts image call) s message [] new)
+    (sent_message 1024 (question_octets s (inserts image call))) (js ++ own) (Some pdu)
+    (sent_messages 1024 (message ∷ [])) new
+    → ((link : LinkState) → AreReplies new → IsHeardWell pdu own link (inserts image call) s message [] new)
     → Replies first b js vs unheard pdu (inserts image call) s
-closed_replied {first} b js vs met left unheard pdu s call image message new split none closes serves well =
+closed_replied {first} b js vs own left unheard pdu s call image message new split none closes serves well =
     let q = inserts image call in
+    let met = js ++ own in
     let link = link_past first b s q met in
     let x = sent_message 1024 (closing_octets call) in
     let y = sent_message 1024 (question_octets s q) in
     record {
-      met = met;
+      own = own;
       left = left;
       split = split;
       sent = message ∷ [];
@@ -319,6 +333,7 @@ closed_replied {first} b js vs met left unheard pdu s call image message new spl
       least = λ h. (well link h).least;
       most = λ h. (well link h).most;
       heard = λ h. (well link h).heard;
+      by_link = λ answer is. tt;
     }
 
 inserted_replied : {first : LinkState} (b : List ℕ) (js vs : List Verdict) (unheard : List (List ℕ)) (pdu s call : ℕ)
@@ -328,20 +343,20 @@ inserted_replied : {first : LinkState} (b : List ℕ) (js vs : List Verdict) (un
     (Some pdu) (plainly link s (plain.Insert (name_in image).kind (name_in image).number image no_room))
     → Replies first b js vs unheard pdu (inserts image call) s
 inserted_replied b js vs unheard pdu s call image link low none closes (is_entered reply moment rest is serves after) =
-    closed_replied b js vs (js ++ Entered reply moment ∷ []) rest unheard pdu s call image (reply_octets s reply)
-    ((insertion_asked link.right image, reply) ∷ []) (met_split js vs rest (Entered reply moment) is) none closes serves
-    (λ after given. inserted_well (js ++ vs) after s call image link.right reply low given)
+    let own : List Verdict = Entered reply moment ∷ [] in
+    closed_replied b js vs own rest unheard pdu s call image (reply_octets s reply)
+    ((insertion_asked link.right image, reply) ∷ []) is none closes serves
+    (λ after given. inserted_well pdu own after s call image link.right reply low given)
 inserted_replied {first} b js vs unheard pdu s call image link low none closes (is_full rest is serves) =
     let q = inserts image call in
     let m = question_octets s q in
     let x = sent_message 1024 (closing_octets call) in
-    let met : List Verdict = js ++ Full ∷ [] in
-    closed_replied b js vs met rest unheard pdu s call image (refusal_octets s FULL) [] (met_split js vs rest Full is)
-    none closes
-    (subst (λ out. Serves first (b ++ x) js (sent_message 1024 m) met (Some pdu) out [])
+    let own : List Verdict = Full ∷ [] in
+    closed_replied b js vs own rest unheard pdu s call image (refusal_octets s FULL) [] is none closes
+    (subst (λ out. Serves first (b ++ x) js (sent_message 1024 m) (js ++ own) (Some pdu) out [])
     (refusal_is_sent m s FULL FULL (question_sequence s q refl) refl) serves)
-    (λ after given. refused_well (js ++ vs) after q s FULL refl low (omega arith)
-    (is_refused FULL (inl (any_full js vs rest is, refl)) refl refl) tt refl)
+    (λ after given. refused_well pdu own after q s FULL refl low (omega arith)
+    (is_refused FULL (inl (tt, refl)) refl refl) tt refl)
 inserted_replied b js vs unheard pdu s call image link low none closes (is_failed rest is timed serves) = absurd (cc)
 
 insertion_replied : {first : LinkState} (b : List ℕ) (js vs : List Verdict) (unheard : List (List ℕ)) (pdu s call : ℕ)

@@ -1,31 +1,48 @@
--- Turns that are drawn, one more in front.
-use Rattle.std.proofs.Common.{◌≡◌, ℕ, ◌+◌, ◌-◌, ◌<◌, ◌||◌, suc, Bool, false, refl, ap, ◌∙◌, subst, arith}
+-- Turns that are drawn, and those that are left to draw.
+use Rattle.std.proofs.Common.{◌≡◌, ℕ, ◌+◌, ◌-◌, ◌<◌, suc, Bool, List, [], ◌∷◌, refl, ap, sym, ◌∙◌, subst, arith}
 use Rattle.s7_draw.specs.Drawing.{drawn, next_x, actor_by}
 use Rattle.s7_rig.specs.State.{State}
+use Rattle.s7_rig.specs.Stopped.{TurnsLead, TurnsStop}
 use Rattle.s7_rig.specs.Turns.{IsTurnOf}
-use Rattle.s7_rig.specs.Runs.{Turns}
+use Rattle.s7_rig.proofs.StoppedLemmas.{leads_none, leads_turn}
 
 -- no turn is left to draw
-pub drawn-none : (x left actors : ℕ) (s : State) → left ≡ 0 → Turns (drawn x left actors) s s false
-unfolding Turns drawn
-drawn-none x left actors s e = rw e (refl, refl)
+pub drawn-none : (x left actors : ℕ) → left ≡ 0 → drawn x left actors ≡ []
+unfolding drawn
+drawn-none x left actors e = rw e refl
+
+drawn-next : (x next steps made actors actor : ℕ) → made < steps → next ≡ next_x x → actor ≡ actor_by next actors
+    → drawn x (steps - made) actors ≡ actor ∷ drawn next (steps - (made + 1)) actors
+unfolding drawn
+drawn-next x next steps made actors actor h is_next is =
+    let e : steps - made ≡ suc (steps - (made + 1)) = omega arith in
+    rw e (ap (λ y. actor_by y actors ∷ drawn y (steps - (made + 1)) actors) (sym is_next)
+    ∙ ap (λ a. a ∷ drawn next (steps - (made + 1)) actors) (sym is))
 
 -- before a turn is drawn
-pub drawn-all : (x y steps actors : ℕ) (old new : State) (stirs : Bool) → x ≡ y → Turns (drawn x (steps - 0) actors) old new stirs → Turns (drawn y steps actors) old new stirs
-drawn-all x y steps actors old new stirs e h =
-    let k : steps - 0 ≡ steps = omega arith in
-    subst (λ n. Turns (drawn y n actors) old new stirs) k (subst (λ z. Turns (drawn z (steps - 0) actors) old new stirs) e h)
+pub drawn-begin : (x y steps actors : ℕ) (s : State) → x ≡ y
+    → TurnsLead (drawn y steps actors) (drawn x (steps - 0) actors) s s
+drawn-begin x y steps actors s e =
+    let k : steps ≡ steps - 0 = omega arith in
+    subst (λ n. TurnsLead (drawn y steps actors) (drawn x n actors) s s) k
+    (subst (λ z. TurnsLead (drawn y steps actors) (drawn z steps actors) s s) (sym e)
+    (leads_none (drawn y steps actors) s))
 
-pub drawn-more : (x next steps made actors actor : ℕ) (old middle new : State) (first later : Bool) → made < steps → next ≡ next_x x → actor ≡ actor_by next actors
-    → IsTurnOf actor old middle first → Turns (drawn next (steps - (made + 1)) actors) middle new later → Turns (drawn x (steps - made) actors) old new (first || later)
-unfolding Turns drawn
-drawn-more x next steps made actors actor old middle new first later h is_next is t ts =
-    let e : steps - made ≡ suc (steps - (made + 1)) = omega arith in
-    rw e (
-      middle,
-      first,
-      later,
-      subst (λ a. IsTurnOf a old middle first) (is ∙ ap (λ y. actor_by y actors) is_next) t,
-      subst (λ y. Turns (drawn y (steps - (made + 1)) actors) middle new later) is_next ts,
-      refl,
-    )
+-- this one was drawn and made
+pub drawn-turn : (schedule : List ℕ) (x next steps made actors actor : ℕ) (old middle new : State) (stirs : Bool)
+    → made < steps → next ≡ next_x x → actor ≡ actor_by next actors
+    → TurnsLead schedule (drawn x (steps - made) actors) old middle → IsTurnOf actor middle new stirs
+    → TurnsLead schedule (drawn next (steps - (made + 1)) actors) old new
+drawn-turn schedule x next steps made actors actor old middle new stirs h is_next is led t =
+    leads_turn schedule (drawn next (steps - (made + 1)) actors) actor old middle new stirs
+    (subst (λ left. TurnsLead schedule left old middle) (drawn-next x next steps made actors actor h is_next is) led) t
+
+-- the next that would be drawn isn't
+pub drawn-stop : (schedule : List ℕ) (x steps made actors : ℕ) (old last : State) → made < steps
+    → TurnsLead schedule (drawn x (steps - made) actors) old last → TurnsStop schedule old last
+drawn-stop schedule x steps made actors old last h led = (
+  actor_by (next_x x) actors,
+  drawn (next_x x) (steps - (made + 1)) actors,
+  subst (λ left. TurnsLead schedule left old last)
+      (drawn-next x (next_x x) steps made actors (actor_by (next_x x) actors) h refl refl) led,
+)

@@ -32,7 +32,6 @@ use Rattle.s7_dialogue.proofs.FlightLemmas.{nothing_left}
 use Rattle.s7_dialogue.proofs.EndLemmas.{first_none}
 use Rattle.s7_client.proofs.FormLemmas.{first_positive, part_positive}
 use Rattle.s7_session.specs.Books.{History}
-use Rattle.s7_session.specs.Verdict.{Verdict}
 use Rattle.s7_rig.specs.Heard.{told_of}
 use Rattle.s7_rig.specs.Awaiting.{AreAsked}
 use Rattle.s7_rig.specs.Dialogues.{AreReplies, ReadsGroups}
@@ -49,18 +48,18 @@ grouping grant groups =
     listed grant (read_questions groups) telegram_refusal plain_number
     (λ answers. good_end (octets_told answers) (codes_told answers))
 
-items_conversed : {vs : List Verdict} (origin : Origin) (grant : Grant) (items : List Item) (end : End)
+items_conversed : {pdu : ℕ} (origin : Origin) (grant : Grant) (items : List Item) (end : End)
     (xs : List Exchange)
     → origin.granted ≡ Some grant → origin.job ≡ job.ReadMany items → end.code ≡ 0
-    → Converses vs (conduct_of origin) end xs
-    → Converses vs (grouping grant (groups_of grant.pdu false items)).conduct end xs
-items_conversed {vs} origin grant items end xs granted job_is good c =
+    → Converses pdu (conduct_of origin) end xs
+    → Converses pdu (grouping grant (groups_of grant.pdu false items)).conduct end xs
+items_conversed {pdu} origin grant items end xs granted job_is good c =
     let check = check_items items true grant.pdu false in
     let plan = grouping grant (groups_of grant.pdu false items) in
     let same : conduct_of origin ≡ (if_good check plan).conduct =
     ap (λ g. (plan_of origin.job origin.config g).conduct) granted
     ∙ ap (λ j. (connected_plan j grant).conduct) job_is in
-    good_by check plan end xs (eqb check 0) refl good (subst (λ k. Converses vs k end xs) same c)
+    good_by check plan end xs (eqb check 0) refl good (subst (λ k. Converses pdu k end xs) same c)
 
 -- the number of a refusal isn't 0
 telegram_positive : (answer : Answer) (n : ℕ) → telegram_refusal answer ≡ Some n → 0 < n
@@ -74,8 +73,8 @@ record CameOff (groups : List (List Item)) (end : End) (answers : List (Option A
   octets : end.octets ≡ octets_told answers
   codes : end.codes ≡ codes_told answers
 
-came_off : {vs : List Verdict} (grant : Grant) (groups : List (List Item)) (end : End) (xs : List Exchange)
-    → Converses vs (grouping grant groups).conduct end xs → end.code ≡ 0
+came_off : {pdu : ℕ} (grant : Grant) (groups : List (List Item)) (end : End) (xs : List Exchange)
+    → Converses pdu (grouping grant groups).conduct end xs → end.code ≡ 0
     → CameOff groups end (answers_of (rows_of xs))
 came_off grant groups end xs c good =
     let rows = rows_of xs in
@@ -177,15 +176,15 @@ none_read [] none = (refl, refl)
 none_read (group ∷ left) none = absurd (cc)
 
 -- the exchanges from a group on read the groups that are left
-groups_read : (vs : List Verdict) (grant : Grant) (groups done left : List (List Item)) (xs : List Exchange)
+groups_read : (pdu : ℕ) (grant : Grant) (groups done left : List (List Item)) (xs : List Exchange)
     → groups ≡ done ++ left
     → AreAsked (grouping grant groups).conduct (length done) (rows_of xs)
     → slice_get (read_questions groups) (length done + length xs) ≡ None
-    → first_refusal telegram_refusal (length done) (answers_of (rows_of xs)) ≡ None → AreTold vs xs
+    → first_refusal telegram_refusal (length done) (answers_of (rows_of xs)) ≡ None → AreTold pdu xs
     → ReadsGroups left (entries_of xs) (octets_told (answers_of (rows_of xs))) (codes_told (answers_of (rows_of xs)))
-groups_read vs grant groups done left [] whole all last none told =
+groups_read pdu grant groups done left [] whole all last none told =
     none_read left (no_group left (left_asked groups done left (length done + 0) whole (omega arith) ∙ last))
-groups_read vs grant groups done left (x ∷ xs) whole all last none told =
+groups_read pdu grant groups done left (x ∷ xs) whole all last none told =
     let first =
     first_group left x.question (left_asked groups done left (length all.0.answers) whole all.0.long ∙ all.0.asks) in
     let group = first.0 in
@@ -199,20 +198,21 @@ groups_read vs grant groups done left (x ∷ xs) whole all last none told =
     (λ ys. ReadsGroups ys (x.entries ++ entries_of xs) (octets_told (Some x.answer ∷ answers))
     (codes_told (Some x.answer ∷ answers))) (sym first.2)
     (group_by group rest x.entries (entries_of xs) x.answer answers
-    (items_answered group x.answer x.entries (subst (λ q. HasTold vs q x.answer x.entries) first.3 told.0)) unrefused.0
-    (groups_read vs grant groups (done ++ group ∷ []) rest xs
+    (items_answered group x.answer x.entries (subst (λ q. HasTold pdu x.verdicts q x.answer x.entries) first.3 told.0))
+    unrefused.0
+    (groups_read pdu grant groups (done ++ group ∷ []) rest xs
     (whole ∙ (ap (λ ys. done ++ ys) first.2 ∙ sym (append_assoc done (group ∷ []) rest)))
     (subst (λ n. AreAsked (grouping grant groups).conduct n (rows_of xs)) long all.1)
     (ap (slice_get (read_questions groups)) (omega (arith, long)) ∙ last)
     (subst (λ n. first_refusal telegram_refusal n answers ≡ None) long unrefused.1) told.1))
 
 -- A read of several items that came off has read their groups, whatever memories replied.
-pub items_read : {vs : List Verdict} (origin : Origin) (grant : Grant) (items : List Item) (end : End)
+pub items_read : {pdu : ℕ} (origin : Origin) (grant : Grant) (items : List Item) (end : End)
     (xs : List Exchange)
     → origin.granted ≡ Some grant → origin.job ≡ job.ReadMany items → end.code ≡ 0
-    → Converses vs (conduct_of origin) end xs → AreReplies (entries_of xs)
+    → Converses pdu (conduct_of origin) end xs → AreReplies (entries_of xs)
     → ReadsGroups (groups_of grant.pdu false items) (entries_of xs) end.octets end.codes
-items_read {vs} origin grant items end xs granted job_is good c replies =
+items_read {pdu} origin grant items end xs granted job_is good c replies =
     let groups = groups_of grant.pdu false items in
     let answers = answers_of (rows_of xs) in
     let read = items_conversed origin grant items end xs granted job_is good c in
@@ -220,7 +220,7 @@ items_read {vs} origin grant items end xs granted job_is good c replies =
     let long : length answers ≡ 0 + length xs = length-map (rows_of xs) _ ∙ (length-map xs _ ∙ omega arith) in
     subst (ReadsGroups groups (entries_of xs) end.octets) (sym off.codes)
     (subst (λ octets. ReadsGroups groups (entries_of xs) octets (codes_told answers)) (sym off.octets)
-    (groups_read vs grant groups [] groups xs refl read.asked
+    (groups_read pdu grant groups [] groups xs refl read.asked
     (ap (slice_get (read_questions groups)) (sym long) ∙ off.all_asked) off.unrefused c.told))
 
 -- ---- a history that grows

@@ -1,12 +1,12 @@
 -- What a client may send only grows with octets.
-use Rattle.std.proofs.Common.{◌≡◌, ℕ, List, [], ◌++◌, refl, ap, sym, ◌∙◌, append_assoc, append-nil}
+use Rattle.std.proofs.Common.{◌≡◌, ℕ, Option, None, Some, List, [], ◌++◌, refl, ap, sym, ◌∙◌, append_assoc, append-nil}
 use Rattle.s7_tpkt.specs.Packets.{packets_of, rest_of, state_of}
-use Rattle.s7_tpkt.specs.declared.state.FedState.{FedState}
-use Rattle.s7_tpkt.specs.declared.state.FedState.TheVariants as fed
 use Rattle.s7_tpkt.proofs.PacketLemmas.{goes_further}
+use Rattle.s7_wire.specs.Reading.{Ending, disconnected, faulted, with_state}
 use Rattle.s7_dialogue.specs.Dialogue.{Conduct}
 use Rattle.s7_dialogue.specs.Course.{Origin, Course, Awaits, for_confirm, for_answers, for_departure, for_nothing}
-use Rattle.s7_dialogue.specs.Course.{conduct_of, asking, begun, run, by_state, unless_over, packets_run, course, limits}
+use Rattle.s7_dialogue.specs.Course.{conduct_of, asking, read_before, with_ending, unless_over, begun, run, packets_run}
+use Rattle.s7_dialogue.specs.Course.{course, limits}
 use Rattle.s7_client.specs.Standing.{IsPrefixOf}
 use Rattle.s7_client.proofs.CourseLemmas.{run-append}
 use Rattle.s7_dialogue.proofs.FlightLemmas.{asks_on}
@@ -29,12 +29,10 @@ out_kept conduct c = record {
   answered = λ d message rows awaits is p. asking_grows conduct c (record d { rows = rows }) p;
 }
 
-state_out : (c : Course) (s : FedState) → (by_state c s).out ≡ c.out
-state_out c fed.BadVersion = refl
-state_out c fed.BadLength = refl
-state_out c fed.TooLong = refl
-state_out c fed.More = refl
-state_out c fed.Whole = refl
+ending_out : (c : Course) (ending : Option Ending) → (with_ending c ending).out ≡ c.out
+ending_out c None = refl
+ending_out c (Some disconnected) = refl
+ending_out c (Some (faulted fault at)) = refl
 
 unless_out : (n c : Course) (a : Awaits) → n.out ≡ c.out → (unless_over n c a).out ≡ c.out
 unless_out n c for_confirm e = e
@@ -47,7 +45,8 @@ unfolding course
 course_out origin b =
     let c = packets_run origin b in
     let s = state_of (limits origin (packets_of (limits origin) b)) (rest_of (limits origin) b) in
-    unless_out (by_state c s) c c.awaits (state_out c s)
+    let ending = (with_state (read_before c) s).ending in
+    unless_out (with_ending c ending) c c.awaits (ending_out c ending)
 
 -- with more octets more may be sent
 pub course_grows : (origin : Origin) (b xs : List ℕ) → OutGrows (course origin b) (course origin (b ++ xs))

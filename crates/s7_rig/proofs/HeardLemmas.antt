@@ -6,18 +6,19 @@ use Rattle.s7_tpkt.specs.Packets.{packet_of, packets_of, rest_of, state_of, Hold
 use Rattle.s7_tpkt.specs.declared.state.FedState.TheVariants.{More}
 use Rattle.s7_tpkt.proofs.PacketLemmas.{goes_on_at, ends_packet_at}
 use Rattle.s7_tpkt.proofs.WriteLemmas.{packet_written}
-use Rattle.s7_cotp.specs.Reading.{tpdu_of}
 use Rattle.s7_cotp.specs.Spelling.{spelling_of_data}
 use Rattle.s7_cotp.specs.Messages.{Step, more, whole, joined_with}
 use Rattle.s7_cotp.proofs.SpellLemmas.{data_again}
 use Rattle.s7_wire.specs.Bounds.{message_limit, limit_of_size}
+use Rattle.s7_wire.specs.Reading.{limit_by, with_joining}
 use Rattle.s7_wire.specs.Sent.{sent_message}
 use Rattle.s7_dialogue.specs.Flight.{Row, filled}
 use Rattle.s7_dialogue.specs.Dialogue.{Conduct}
 use Rattle.s7_dialogue.specs.Codes.{short_message}
 use Rattle.s7_dialogue.specs.Course.{Origin, Course, Unfinished, for_answers, nothing_unfinished, conduct_of, asking, with_fault}
-use Rattle.s7_dialogue.specs.Course.{by_awaits, by_rows, by_joining, with_message, connected, with_packet, course, limits}
-use Rattle.s7_dialogue.specs.Course.{limit_in, limit_where}
+use Rattle.s7_dialogue.specs.Course.{by_rows, with_message, size_where, read_before, with_reading, with_packet, course}
+use Rattle.s7_dialogue.specs.Course.{limits, limit_in}
+use Rattle.s7_dialogue.proofs.PacketLemmas.{fragment_read}
 use Rattle.s7_client.proofs.CourseLemmas.{course_held, course_on_more, course_ends}
 use Rattle.s7_rig.specs.Awaiting.{Awaiting}
 use Rattle.s7_rig.proofs.TelegramLemmas.{AsksAll, asks_all}
@@ -85,18 +86,13 @@ record HasMessage (origin : Origin) (k : Course) (c m : List ℕ) : Type 0 where
   rest : rest_of (limits origin) c ≡ []
   is : course origin c ≡ with_message (conduct_of origin) (with_fragments k [] 0) m
 
-packet_awaited : (origin : Origin) (k : Course) (body : List ℕ) → k.awaits ≡ for_answers
-    → with_packet origin k body ≡ connected (conduct_of origin) k (tpdu_of body)
-unfolding with_packet
-packet_awaited origin k body h = ap (by_awaits (conduct_of origin) k body) h
-
 module _ (origin : Origin) (k : Course) (size : ℕ) (least : 4 ≤ size) (awaits : k.awaits ≡ for_answers)
     (sized : k.size ≡ size) where
   fits_with : (c octets user : List ℕ) (count : ℕ) (last : Bool) → HasFragments origin k c octets count
       → length user ≤ size - 3 → length (spelling_of_data last user) + 4 ≤ limit_in (course origin c)
   fits_with c octets user count last h fits =
       let limit : limit_in (course origin c) ≡ size + 7 =
-      ap limit_in h.is ∙ (ap (λ a. limit_where a k.size) awaits ∙ ap limit_of_size sized) in
+      ap limit_in h.is ∙ (ap (λ a. limit_by (size_where a k.size)) awaits ∙ ap limit_of_size sized) in
       omega (arith, limit, least, fits)
 
   begun_with : (c octets user u v : List ℕ) (count : ℕ) (last : Bool) → HasFragments origin k c octets count
@@ -115,14 +111,13 @@ module _ (origin : Origin) (k : Course) (size : ℕ) (least : 4 ≤ size) (await
       → HasFragments origin k c octets count → length user ≤ size - 3
       → joined_with message_limit octets count (record { last = last; user = user }) ≡ step
       → course origin (c ++ packet_of (spelling_of_data last user))
-      ≡ by_joining (conduct_of origin) (with_fragments k octets count) step
+      ≡ with_reading (conduct_of origin) (with_fragments k octets count)
+      (with_joining (read_before (with_fragments k octets count)) (spelling_of_data last user) step)
   packet_joins c octets user count last step h fits is =
       let body = spelling_of_data last user in
-      let q = with_fragments k octets count in
       packet_heard origin c body h.rest (omega arith) (fits_with c octets user count last h fits)
       ∙ (ap (λ q. with_packet origin q body) h.is
-      ∙ (packet_awaited origin q body awaits
-      ∙ (ap (connected (conduct_of origin) q) (data_again last user) ∙ ap (by_joining (conduct_of origin) q) is)))
+      ∙ fragment_read origin (with_fragments k octets count) body user last step awaits (data_again last user) is)
 
   packet_rest : (c octets user : List ℕ) (count : ℕ) (last : Bool) → HasFragments origin k c octets count
       → length user ≤ size - 3 → rest_of (limits origin) (c ++ packet_of (spelling_of_data last user)) ≡ []

@@ -30,28 +30,28 @@ not_refused error answer is good =
     absurd (cc)
 
 -- an announcement that isn't refused has begun the download
-begun_by : (vs : List Verdict) (q : Question) (answer : Answer) (new : List (Ask × Said)) (image : List ℕ)
-    → q ≡ announces image → HasTold vs q answer new → download_refusal answer ≡ None → answer ≡ announced
-begun_by vs q answer new image e (is_refused error undone none is) good = absurd (not_refused error answer is good)
-begun_by vs q answer new image e (is_read items right reply asks entered is) good = absurd (cc)
-begun_by vs q answer new image e (is_written items octets right reply asks entered is) good = absurd (cc)
-begun_by vs q answer new image e (is_controlled control right request reply asks of entered is) good = absurd (cc)
-begun_by vs q answer new image e
-    (is_brought subject octets moment right request reply pdu octet asks of entered is least) good = absurd (cc)
-begun_by vs q answer new image e (is_secured subject octets octet error asks of entered is) good = absurd (cc)
-begun_by vs q answer new image e (is_unnamed subject octets asks of entered is) good = absurd (cc)
-begun_by vs q answer new image e (is_barred kind number asks of entered is) good = absurd (cc)
-begun_by vs q answer new image e (is_started name block right reply id asks of entered is) good = absurd (cc)
-begun_by vs q answer new image e (is_no_upload name asks of entered is) good = absurd (cc)
-begun_by vs q answer new image e (is_sliced id size so_far octets more asks entered is) good = absurd (cc)
-begun_by vs q answer new image e (is_ended id asks entered is) good = absurd (cc)
-begun_by vs q answer new image e (is_announced other asks entered is) good = is
-begun_by vs q answer new image e (is_unstored other asks of entered is) good =
+begun_by : (pdu : ℕ) (own : List Verdict) (q : Question) (answer : Answer) (new : List (Ask × Said)) (image : List ℕ)
+    → q ≡ announces image → HasTold pdu own q answer new → download_refusal answer ≡ None → answer ≡ announced
+begun_by pdu own q answer new image e (is_refused error undone none is) good = absurd (not_refused error answer is good)
+begun_by pdu own q answer new image e (is_read items right reply asks entered is) good = absurd (cc)
+begun_by pdu own q answer new image e (is_written items octets right reply asks entered is) good = absurd (cc)
+begun_by pdu own q answer new image e (is_controlled control right request reply asks of entered is) good = absurd (cc)
+begun_by pdu own q answer new image e
+    (is_brought subject octets moment right request reply octet asks of entered is) good = absurd (cc)
+begun_by pdu own q answer new image e (is_secured subject octets octet error asks of entered is) good = absurd (cc)
+begun_by pdu own q answer new image e (is_unnamed subject octets asks of entered is) good = absurd (cc)
+begun_by pdu own q answer new image e (is_barred kind number asks of entered is) good = absurd (cc)
+begun_by pdu own q answer new image e (is_started name block right reply id asks of entered is) good = absurd (cc)
+begun_by pdu own q answer new image e (is_no_upload name asks of entered is) good = absurd (cc)
+begun_by pdu own q answer new image e (is_sliced id size so_far rest asks of entered is) good = absurd (cc)
+begun_by pdu own q answer new image e (is_ended id asks entered is) good = absurd (cc)
+begun_by pdu own q answer new image e (is_announced other asks entered is) good = is
+begun_by pdu own q answer new image e (is_unstored other asks of entered is) good =
     absurd (not_refused 0x8F03 answer is good)
-begun_by vs q answer new image e (is_called other call asks entered is) good = absurd (cc)
-begun_by vs q answer new image e (is_given other room from call next asks entered is) good = absurd (cc)
-begun_by vs q answer new image e (is_inserted other call right reply asks entered is) good = absurd (cc)
-begun_by vs q answer new image e (is_further subject octet so_far piece more asks entered is) good = absurd (cc)
+begun_by pdu own q answer new image e (is_called other call asks entered is) good = absurd (cc)
+begun_by pdu own q answer new image e (is_given other room from call next asks entered is) good = absurd (cc)
+begun_by pdu own q answer new image e (is_inserted other call right reply asks entered is) good = absurd (cc)
+begun_by pdu own q answer new image e (is_further subject octet so_far rest asks of entered is) good = absurd (cc)
 
 begun_next : (link : LinkState) (behind : List (List ℕ)) (image : List ℕ) (answer : Answer) (next : Question)
     → answer ≡ announced → GoesOn link (announces image) answer → IsUnheard behind link (announces image) answer
@@ -127,20 +127,21 @@ given_more : (room : ℕ) (answers : List (Option Answer)) (answer : Option Answ
 given_more room answers answer = ap (λ n. room * n) (length-append answers (answer ∷ [])) ∙ omega arith
 
 -- A link that goes on from the answer to one question is ready for the next.
-pub given_next : (link : LinkState) (behind : List (List ℕ)) (image : List ℕ) (room : ℕ) (vs : List Verdict)
+pub given_next : (link : LinkState) (behind : List (List ℕ)) (image : List ℕ) (room pdu : ℕ) (own : List Verdict)
     (answers : List (Option Answer)) (q : Question) (answer : Answer) (new : List (Ask × Said)) (next : Question)
-    → 0 < length image → next_given image room answers ≡ Some q → HasTold vs q answer new
+    → 0 < length image → next_given image room answers ≡ Some q → HasTold pdu own q answer new
     → download_refusal answer ≡ None → GoesOn link q answer → IsUnheard behind link q answer
     → next_given image room (answers ++ Some answer ∷ []) ≡ Some next → IsNext behind link next
-given_next link behind image room vs [] q answer new next some asked told good goes unheard is =
+given_next link behind image room pdu own [] q answer new next some asked told good goes unheard is =
     let same = sym (same_some (announces image) q asked) in
-    begun_next link behind image answer next (begun_by vs q answer new image same told good)
+    begun_next link behind image answer next (begun_by pdu own q answer new image same told good)
     (subst (λ x. GoesOn link x answer) same goes) (subst (λ x. IsUnheard behind link x answer) same unheard) is
-given_next link behind image room vs (first ∷ []) q answer new next some asked told good goes unheard is =
+given_next link behind image room pdu own (first ∷ []) q answer new next some asked told good goes unheard is =
     let same = sym (same_some (awaits_call image) q asked) in
     first_next link behind image room (room * 0) answer next (omega arith) some
     (subst (λ x. GoesOn link x answer) same goes) (subst (λ x. IsUnheard behind link x answer) same unheard) is
-given_next link behind image room vs (first ∷ second ∷ answers) q answer new next some asked told good goes unheard is =
+given_next link behind image room pdu own (first ∷ second ∷ answers) q answer new next some asked told good goes
+    unheard is =
     last_next link behind image room (room * length answers) (last_answer second answers) q answer next asked goes
     unheard
     (ap₂ (behind_server image room) (sym (given_more room answers (Some answer)))

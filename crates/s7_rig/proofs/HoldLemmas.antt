@@ -137,10 +137,11 @@ plainly_next unheard link (row ∷ rows) plain none = (
 -- A link goes on from an answer to what was asked behind these answers, with these messages unheard.
 record IsGone (c : Conduct) (behind : List (List ℕ)) (link : LinkState) (answers : List (Option Answer))
     (question : Question) (answer : Answer) : Type 0 where
-  verdicts : List Verdict
+  pdu : ℕ
+  own : List Verdict
   new : List (Ask × Said)
   asked : c.question_at answers ≡ Some question
-  told : HasTold verdicts question answer new
+  told : HasTold pdu own question answer new
   goes : GoesOn link question answer
   unheard : IsUnheard behind link question answer
 
@@ -239,8 +240,8 @@ download_in_turn image room some = record {
   narrow = refl;
   first = λ link next is. subst (IsNext [] link) (same_some (announces image) next is) (tt, refl);
   behind = λ link unheard answers question answer next gone unrefused is.
-      given_next link unheard image room gone.verdicts answers question answer gone.new next some gone.asked gone.told
-      unrefused gone.goes gone.unheard is;
+      given_next link unheard image room gone.pdu gone.own answers question answer gone.new next some gone.asked
+      gone.told unrefused gone.goes gone.unheard is;
   last = λ link unheard answers question answer gone none.
       given_last link unheard image room answers question answer gone.asked gone.unheard none;
 }
@@ -362,8 +363,8 @@ module _ (origin : Origin) (grant : Grant) (granted : origin.granted ≡ Some gr
       (unanswered : row.answer ≡ None) (question : x.question ≡ row.question)
       (now : (course origin b').rows ≡ rows_of (gone ++ x ∷ []) ++ rows)
       (none_more : next_question (conduct_of origin) (course origin b').rows ≡ None) (out : AreOut rows)
-      (asked : AreAsked (conduct_of origin) 0 (rows_of (gone ++ x ∷ []) ++ rows)) (verdicts : List Verdict)
-      (behind : List (List ℕ)) (told : HasTold verdicts x.question x.answer x.entries)
+      (asked : AreAsked (conduct_of origin) 0 (rows_of (gone ++ x ∷ []) ++ rows)) (pdu : ℕ)
+      (behind : List (List ℕ)) (told : HasTold pdu x.verdicts x.question x.answer x.entries)
       (goes : GoesOn link x.question x.answer) (unheard : IsUnheard behind link x.question x.answer) where
     answers_more : answers_of (rows_of (gone ++ x ∷ [])) ≡ answers_of (rows_of gone) ++ Some x.answer ∷ []
     answers_more =
@@ -389,7 +390,8 @@ module _ (origin : Origin) (grant : Grant) (granted : origin.granted ≡ Some gr
     gone_on : AsksInTurn (conduct_of origin)
         → IsGone (conduct_of origin) behind link (answers_of (rows_of gone)) x.question x.answer
     gone_on turn = record {
-      verdicts = verdicts;
+      pdu = pdu;
+      own = x.verdicts;
       new = x.entries;
       asked = (due_before turn).is ∙ ap Some (sym question);
       told = told;

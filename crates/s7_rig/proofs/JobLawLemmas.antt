@@ -32,7 +32,7 @@ pub job_comes_off : (opening : Memory) (history : History) (link : ℕ) (right :
     → IsJobOver first origin pdu heard sent end carried b used js verdicts behind → IsNoConnect origin.job
     → own (begins_with opening) link history ≡ earlier ++ mine
     → entered first (b ++ used) (js ++ verdicts) ≡ entered first b js ++ map answered mine
-    → (AnyFull (js ++ verdicts) → ⊥) → clock_failures (js ++ verdicts) ≡ 0
+    → (AnyFull verdicts → ⊥) → clock_failures verdicts ≡ 0
     → (right ≡ true → AreWithRight history (map (λ (e : Entry). e.number) mine))
     → CanComeOff opening right pdu origin.job → end.code ≡ no_fault
 job_comes_off opening history link right earlier mine first origin pdu heard sent end carried b used js verdicts behind
@@ -42,10 +42,12 @@ job_comes_off opening history link right earlier mine first origin pdu heard sen
     let mine_are : map answered mine ≡ entries_of went.exchanges =
     append_cancel_left (entered first b js) (map answered mine) (entries_of went.exchanges)
     (sym entered_is ∙ (ap (λ x. entered first (b ++ x) (js ++ verdicts)) settled.all_used ∙ went.entered_is)) in
-    comes_off opening right (js ++ verdicts) (all_done (js ++ verdicts) none clock) origin.job over.grant end
-    went.exchanges job (subst (λ n. 64 ≤ n) (sym over.pdu_is) over.least)
-    (subst (AreAllowed opening right) mine_are
-    (own_allowed (begins_with opening) link history right earlier mine split has))
-    (subst (λ g. Converses (js ++ verdicts) (plan_of origin.job origin.config g).conduct end went.exchanges) over.granted
+    comes_off opening right pdu origin.job over.grant end went.exchanges job
+    (subst (λ n. 64 ≤ n) (sym over.pdu_is) over.least) (
+      subst (AreAllowed opening right) mine_are
+          (own_allowed (begins_with opening) link history right earlier mine split has),
+      λ any. all_done verdicts none clock (subst AnyUndone went.verdicts_are any),
+    )
+    (subst (λ g. Converses pdu (plan_of origin.job origin.config g).conduct end went.exchanges) over.granted
     went.converses)
     (subst (λ n. CanComeOff opening right n origin.job) (sym over.pdu_is) can)

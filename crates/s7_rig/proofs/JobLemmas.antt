@@ -15,7 +15,7 @@ use Rattle.s7_session.specs.Owed.{Past, past, owed, entered}
 use Rattle.s7_session.proofs.PastLemmas.{with_more}
 use Rattle.s7_rig.specs.Settled.{Settled}
 use Rattle.s7_rig.specs.Awaiting.{telegrams_of, AreAsked, AreInTurn}
-use Rattle.s7_rig.specs.Exchanges.{HasTold, Exchange, entries_of, rows_of}
+use Rattle.s7_rig.specs.Exchanges.{HasTold, Exchange, entries_of, rows_of, verdicts_met}
 use Rattle.s7_rig.proofs.PartedLemmas.{some_sent}
 use Rattle.s7_rig.proofs.HeardLemmas.{HearsOn, heard_answer}
 use Rattle.s7_rig.proofs.TelegramLemmas.{IsOut, AreOut, open_behind, awaits_none, filled_behind, asked_both, asked_filled}
@@ -24,7 +24,7 @@ use Rattle.s7_rig.proofs.ListFacts.{none_of}
 use Rattle.s7_rig.proofs.HoldLemmas.{AreNext, next_holds}
 use Rattle.s7_rig.proofs.HoldTurns.{course_in_turn}
 use Rattle.s7_rig.proofs.DialogueLemmas.{Whole, IsWhole, Place, IsAt, IsDone, IsReplied, packet_with, telegrams_first}
-use Rattle.s7_rig.proofs.DialogueLemmas.{owes_more, owes_then, used_past, awaits_answers, is_replied}
+use Rattle.s7_rig.proofs.DialogueLemmas.{owes_more, owes_then, used_past, verdicts_then, awaits_answers, is_replied}
 
 -- ---- lists that are grouped anew
 
@@ -43,6 +43,11 @@ telegrams-append xs ys =
 entries_more : (xs : List Exchange) (x : Exchange) → entries_of (xs ++ x ∷ []) ≡ entries_of xs ++ x.entries
 entries_more xs x =
     flat_map-append (λ (x : Exchange). x.entries) xs (x ∷ []) ∙ ap (λ es. entries_of xs ++ es) (append-nil x.entries)
+
+verdicts_more : (xs : List Exchange) (x : Exchange) → verdicts_met (xs ++ x ∷ []) ≡ verdicts_met xs ++ x.verdicts
+verdicts_more xs x =
+    flat_map-append (λ (x : Exchange). x.verdicts) xs (x ∷ [])
+    ∙ ap (λ (vs : List Verdict). verdicts_met xs ++ vs) (append-nil x.verdicts)
 
 -- ---- from a place to the next
 
@@ -66,7 +71,13 @@ module _ (w : Whole) (p : Place) (q : Row) (later : List Row) (i : IsWhole w) (h
       ∙ filled_behind p.gone q later k.reply.message k.heard.answer out.0.unanswered k.heard.is)
 
   abbrev exchange : Exchange
-  exchange = record { question = q.question; number = q.number; answer = k.heard.answer; entries = k.reply.new }
+  exchange = record {
+    question = q.question;
+    number = q.number;
+    verdicts = k.reply.own;
+    answer = k.heard.answer;
+    entries = k.reply.new;
+  }
 
   abbrev next : Place
   next = record {
@@ -77,7 +88,7 @@ module _ (w : Whole) (p : Place) (q : Row) (later : List Row) (i : IsWhole w) (h
     out = p.out ++ packet_with q;
     unheard = k.reply.behind;
     used = p.used ++ packet_with q;
-    verdicts = k.reply.met;
+    verdicts = p.verdicts ++ k.reply.own;
     taken = k.taken;
     left = k.reply.left;
   }
@@ -114,7 +125,7 @@ module _ (w : Whole) (p : Place) (q : Row) (later : List Row) (i : IsWhole w) (h
       next_holds w.origin i.grant i.granted (past w.first next.used next.verdicts).link p.heard next.heard p.gone q
       later exchange next.rows (h.rows_are ∙ ap (λ rows. rows_of p.gone ++ rows) is)
       (subst AreOut is h.are_out).0.unanswered refl (hears.asks.rows ∙ rows_next) hears.awaiting.none_more out_now
-      asked_next w.verdicts next.unheard k.heard.told k.heard.goes_on k.heard.unheard
+      asked_next w.pdu next.unheard k.heard.told k.heard.goes_on k.heard.unheard
 
   at_next : IsAt w next
   at_next = record {
@@ -122,15 +133,15 @@ module _ (w : Whole) (p : Place) (q : Row) (later : List Row) (i : IsWhole w) (h
     rows_are = hears.asks.rows ∙ rows_next;
     are_out = out_now;
     asked = asked_next;
-    told = all_append (λ (x : Exchange). HasTold w.verdicts x.question x.answer x.entries) p.gone (exchange ∷ []) h.told
-        (k.heard.told, tt);
+    told = all_append (λ (x : Exchange). HasTold w.pdu x.verdicts x.question x.answer x.entries) p.gone
+        (exchange ∷ []) h.told (k.heard.told, tt);
     settled = k.reply.serves.settled;
     next = holds_next;
     heard_is = h.heard_is ∙ (ap (λ x. p.heard ++ x) k.more_is ∙ sym (append_assoc p.heard answer_packets k.more));
     out_is = out_next;
     sent_is = h.sent_is ∙ regrouped p.out (packet_with q) k.taken w.unused p.taken k.taken_is;
     used_is = used_past w p q k.taken h k.taken_is;
-    verdicts_are = h.verdicts_are ∙ k.reply.split;
+    verdicts_are = verdicts_then w p q h k.reply;
     owed_is =
         owes_then w p q h k.reply
         ∙ (sym (append_assoc (w.before ++ p.heard) answer_packets (sent_messages 1024 next.unheard))
@@ -140,6 +151,10 @@ module _ (w : Whole) (p : Place) (q : Row) (later : List Row) (i : IsWhole w) (h
         ∙ (ap (λ x. x ++ k.reply.new) h.entered_is
         ∙ (append_assoc w.entries (entries_of p.gone) k.reply.new
         ∙ ap (λ x. w.entries ++ x) (sym (entries_more p.gone exchange))));
+    met_is =
+        ap (λ (vs : List Verdict). vs ++ k.reply.own) h.met_is
+        ∙ (append_assoc w.judged (verdicts_met p.gone) k.reply.own
+        ∙ ap (λ (vs : List Verdict). w.judged ++ vs) (sym (verdicts_more p.gone exchange)));
   }
 
   less_more : length next.more < length p.more
@@ -236,6 +251,7 @@ module _ (w : Whole) (p : Place) (i : IsWhole w) (h : IsAt w p) (none : p.rows �
     sequence = subst (λ (c : Course). c.sequence < 65536) (sym course_last) h.awaiting.sequence;
     exchanges = p.gone;
     entered_is = ap₂ (entered w.first) used_last verdicts_last ∙ h.entered_is;
+    met_is = verdicts_last ∙ h.met_is;
     converses = record {
       asked = subst (AreAsked (conduct_of w.origin) 0) (sym h.rows_are ∙ rows_last) h.asked;
       in_turn = λ narrow.

@@ -4,6 +4,7 @@ pub mod StandingLemmas
 pub mod PostsLemmas
 pub mod PollsLemmas
 pub mod TurnsLemmas
+pub mod StoppedLemmas
 pub mod DrawnLemmas
 pub mod RoundsLemmas
 pub mod FreshLemmas

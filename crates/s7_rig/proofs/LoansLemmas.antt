@@ -94,6 +94,7 @@ turn_seen old new k k' d d' result same t = record {
   uses = t.uses;
   read_fails = t.read_fails;
   write_fails = t.write_fails;
+  counts = t.counts;
   closed = t.closed;
   cause = t.cause;
 }

@@ -20,6 +20,19 @@ count_from-push n (suc more) =
     let e : n + suc more ≡ n + 1 + more = omega arith in
     rw e (ap (λ xs. n ∷ xs) (count_from-push (n + 1) more))
 
+-- so many more
+pub count_from-append : (n some more : ℕ) → count_from n (some + more) ≡ count_from n some ++ count_from (n + some) more
+unfolding count_from
+count_from-append n zero more =
+    let none : 0 + more ≡ more = omega arith in
+    let here : n + 0 ≡ n = omega arith in
+    ap (count_from n) none ∙ ap (λ k. count_from k more) (sym here)
+count_from-append n (suc some) more =
+    let count : suc some + more ≡ suc (some + more) = omega arith in
+    let next : n + 1 + some ≡ n + suc some = omega arith in
+    ap (count_from n) count ∙ ap (λ xs. n ∷ xs) (count_from-append (n + 1) some more)
+    ∙ ap (λ k. n ∷ count_from (n + 1) some ++ count_from k more) next
+
 -- after those below n the number n comes
 pub count_from-more : (first n : ℕ) → first ≤ n → count_from first (n - first) ++ n ∷ [] ≡ count_from first (n + 1 - first)
 count_from-more first n h =

@@ -51,8 +51,9 @@ pub once_replies : {first : LinkState} (b : List ℕ) (js vs : List Verdict) (un
     → Replies first b js vs unheard pdu q s
 once_replies {first} b js vs unheard pdu s q one none r =
     let same = alone_sent s q one in
+    let met = js ++ r.own in
     record {
-      met = r.met;
+      own = r.own;
       left = r.left;
       split = r.split;
       sent = r.message ∷ [];
@@ -60,18 +61,19 @@ once_replies {first} b js vs unheard pdu s q one none r =
       behind = [];
       in_order = ap (λ (messages : List (List ℕ)). messages ++ r.message ∷ []) none;
       new = r.new;
-      serves = subst (λ sent. Serves first b js sent r.met (Some pdu) (sent_messages 1024 (r.message ∷ [])) r.new) same
-          (subst (λ out. Serves first b js (sent_message 1024 (question_octets s q)) r.met (Some pdu) out r.new)
+      serves = subst (λ sent. Serves first b js sent met (Some pdu) (sent_messages 1024 (r.message ∷ [])) r.new) same
+          (subst (λ out. Serves first b js (sent_message 1024 (question_octets s q)) met (Some pdu) out r.new)
           (sym (append-nil (sent_message 1024 r.message))) r.serves);
       least = r.least;
       most = r.most;
+      by_link = r.by_link;
       heard = λ given.
           let heard = r.heard given in
           record {
             answer = heard.answer;
             is = heard.is;
             told = heard.told;
-            goes_on = subst (λ sent. GoesOn (past first (b ++ sent) r.met).link q heard.answer) same heard.goes_on;
-            unheard = none_unheard (link_past first b s q r.met) q heard.answer one;
+            goes_on = subst (λ sent. GoesOn (past first (b ++ sent) met).link q heard.answer) same heard.goes_on;
+            unheard = none_unheard (link_past first b s q met) q heard.answer one;
           };
     }

@@ -40,24 +40,25 @@ reading grant parts =
     listed grant (read_questions (alone parts)) part_refusal plain_number (λ answers. good_end (octets_told answers) [])
 
 -- what is read was checked
-pub good_by : {vs : List Verdict} (check : ℕ) (plan : Plan) (end : End) (xs : List Exchange) (good : Bool)
+pub good_by : {pdu : ℕ} (check : ℕ) (plan : Plan) (end : End) (xs : List Exchange) (good : Bool)
     → eqb check 0 ≡ good → end.code ≡ 0
-    → Converses vs (cond good plan (over (number_end check AsItWas))).conduct end xs → Converses vs plan.conduct end xs
+    → Converses pdu (cond good plan (over (number_end check AsItWas))).conduct end xs
+    → Converses pdu plan.conduct end xs
 good_by check plan end xs true good none c = c
 good_by check plan end xs false good none c =
     absurd (eqb-false check 0 good (sym (ap (λ (e : End). e.code) c.is) ∙ none))
 
-read_conversed : {vs : List Verdict} (origin : Origin) (grant : Grant) (item : Item) (end : End) (xs : List Exchange)
+read_conversed : {pdu : ℕ} (origin : Origin) (grant : Grant) (item : Item) (end : End) (xs : List Exchange)
     → origin.granted ≡ Some grant → origin.job ≡ job.ReadArea item → end.code ≡ 0
-    → Converses vs (conduct_of origin) end xs
-    → Converses vs (reading grant (parts_of item grant.pdu false)).conduct end xs
-read_conversed {vs} origin grant item end xs granted job_is good c =
+    → Converses pdu (conduct_of origin) end xs
+    → Converses pdu (reading grant (parts_of item grant.pdu false)).conduct end xs
+read_conversed {pdu} origin grant item end xs granted job_is good c =
     let check = check_item item true in
     let plan = reading grant (parts_of item grant.pdu false) in
     let same : conduct_of origin ≡ (if_good check plan).conduct =
     ap (λ g. (plan_of origin.job origin.config g).conduct) granted
     ∙ ap (λ j. (connected_plan j grant).conduct) job_is in
-    good_by check plan end xs (eqb check 0) refl good (subst (λ k. Converses vs k end xs) same c)
+    good_by check plan end xs (eqb check 0) refl good (subst (λ k. Converses pdu k end xs) same c)
 
 -- No answer refused, all parts were asked for, and the octets are what was told.
 record CameOff (parts : List Item) (end : End) (answers : List (Option Answer)) : Type 0 where
@@ -79,8 +80,8 @@ ended_by refused octets end positive is good =
     let both = finished_by refused (good_end octets []) end positive is good in
     (both.0, ap (λ (e : End). e.octets) both.1)
 
-came_off : {vs : List Verdict} (grant : Grant) (parts : List Item) (end : End) (xs : List Exchange)
-    → Converses vs (reading grant parts).conduct end xs → end.code ≡ 0 → CameOff parts end (answers_of (rows_of xs))
+came_off : {pdu : ℕ} (grant : Grant) (parts : List Item) (end : End) (xs : List Exchange)
+    → Converses pdu (reading grant parts).conduct end xs → end.code ≡ 0 → CameOff parts end (answers_of (rows_of xs))
 came_off grant parts end xs c good =
     let rows = rows_of xs in
     let answers = answers_of rows in
@@ -138,8 +139,8 @@ abbrev Reads : Question → Type 0
 Reads (reads items) = Unit {0}
 Reads _ = ⊥
 
-pub items_answered : {vs : List Verdict} (group : List Item) (a : Answer) (new : List (Ask × Said))
-    → HasTold vs (reads group) a new → ItemsTold group a new
+pub items_answered : {pdu : ℕ} {own : List Verdict} (group : List Item) (a : Answer) (new : List (Ask × Said))
+    → HasTold pdu own (reads group) a new → ItemsTold group a new
 items_answered group a new (is_refused error full none is) = group_refused error is
 items_answered group a new (is_written items octets right reply is new_is told) =
     absurd (subst Reads is tt)
@@ -150,7 +151,7 @@ items_answered group a new (is_read items right reply is new_is told) =
     ∙ ap (λ xs. tells (map (told_of s.memory right) xs)) same)
 items_answered group a new (is_controlled control right request reply is wants new_is told) =
     absurd (subst Reads is tt)
-items_answered group a new (is_brought subject octets moment right request reply pdu octet is wants new_is told least) =
+items_answered group a new (is_brought subject octets moment right request reply octet is wants new_is told) =
     absurd (subst Reads is tt)
 items_answered group a new (is_secured subject octets octet error is secures new_is told) =
     absurd (subst Reads is tt)
@@ -158,18 +159,18 @@ items_answered group a new (is_unnamed subject octets is names new_is told) = ab
 items_answered group a new (is_barred kind number is barred new_is told) = absurd (subst Reads is tt)
 items_answered group a new (is_started name block right reply id is names new_is told) = absurd (subst Reads is tt)
 items_answered group a new (is_no_upload name is none new_is told) = absurd (subst Reads is tt)
-items_answered group a new (is_sliced id size so_far octets more is new_is told) = absurd (subst Reads is tt)
+items_answered group a new (is_sliced id size so_far rest is whole new_is told) = absurd (subst Reads is tt)
 items_answered group a new (is_ended id is new_is told) = absurd (subst Reads is tt)
 items_answered group a new (is_announced image is new_is told) = absurd (subst Reads is tt)
 items_answered group a new (is_unstored image is unstored new_is told) = absurd (subst Reads is tt)
 items_answered group a new (is_called image call is new_is told) = absurd (subst Reads is tt)
 items_answered group a new (is_given image room from call next is new_is told) = absurd (subst Reads is tt)
 items_answered group a new (is_inserted image call right reply is new_is told) = absurd (subst Reads is tt)
-items_answered group a new (is_further subject octet so_far piece more is new_is told) =
+items_answered group a new (is_further subject octet so_far rest is whole new_is told) =
     absurd (subst Reads is tt)
 
-pub part_answered : {vs : List Verdict} (part : Item) (a : Answer) (new : List (Ask × Said))
-    → HasTold vs (reads (part ∷ [])) a new → PartTold part a new
+pub part_answered : {pdu : ℕ} {own : List Verdict} (part : Item) (a : Answer) (new : List (Ask × Said))
+    → HasTold pdu own (reads (part ∷ [])) a new → PartTold part a new
 part_answered part a new told = items_answered (part ∷ []) a new told
 
 -- ---- part by part
@@ -232,15 +233,15 @@ none_read [] none = refl
 none_read (part ∷ left) none = absurd (cc)
 
 -- the exchanges from a part on read the parts that are left
-pub parts_read : (vs : List Verdict) (grant : Grant) (parts done left : List Item) (xs : List Exchange)
+pub parts_read : (pdu : ℕ) (grant : Grant) (parts done left : List Item) (xs : List Exchange)
     → parts ≡ done ++ left
     → AreAsked (reading grant parts).conduct (length done) (rows_of xs)
     → slice_get (read_questions (alone parts)) (length done + length xs) ≡ None
-    → first_refusal part_refusal (length done) (answers_of (rows_of xs)) ≡ None → AreTold vs xs
+    → first_refusal part_refusal (length done) (answers_of (rows_of xs)) ≡ None → AreTold pdu xs
     → AreReplies (entries_of xs) → ReadsParts left (entries_of xs) (octets_told (answers_of (rows_of xs)))
-parts_read vs grant parts done left [] whole all last none told replies =
+parts_read pdu grant parts done left [] whole all last none told replies =
     none_read left (no_part left (left_asked parts done left (length done + 0) whole (omega arith) ∙ last))
-parts_read vs grant parts done left (x ∷ xs) whole all last none told replies =
+parts_read pdu grant parts done left (x ∷ xs) whole all last none told replies =
     let first =
     first_part left x.question (left_asked parts done left (length all.0.answers) whole all.0.long ∙ all.0.asks) in
     let part = first.0 in
@@ -251,25 +252,25 @@ parts_read vs grant parts done left (x ∷ xs) whole all last none told replies 
     first_none (part_refusal x.answer) (length done) (first_refusal part_refusal (length done + 1) answers) none in
     subst (λ ys. ReadsParts ys (x.entries ++ entries_of xs) (octets_told (Some x.answer ∷ answers))) (sym first.2)
     (part_by part rest x.entries (entries_of xs) x.answer answers
-    (part_answered part x.answer x.entries (subst (λ q. HasTold vs q x.answer x.entries) first.3 told.0)) unrefused.0
-    replies
-    (λ others. parts_read vs grant parts (done ++ part ∷ []) rest xs
+    (part_answered part x.answer x.entries (subst (λ q. HasTold pdu x.verdicts q x.answer x.entries) first.3 told.0))
+    unrefused.0 replies
+    (λ others. parts_read pdu grant parts (done ++ part ∷ []) rest xs
     (whole ∙ (ap (λ ys. done ++ ys) first.2 ∙ sym (append_assoc done (part ∷ []) rest)))
     (subst (λ n. AreAsked (reading grant parts).conduct n (rows_of xs)) long all.1)
     (ap (slice_get (read_questions (alone parts))) (omega (arith, long)) ∙ last)
     (subst (λ n. first_refusal part_refusal n answers ≡ None) long unrefused.1) told.1 others))
 
 -- A read that came off has read the parts of its item, whatever memories replied.
-pub item_read : {vs : List Verdict} (origin : Origin) (grant : Grant) (item : Item) (end : End) (xs : List Exchange)
+pub item_read : {pdu : ℕ} (origin : Origin) (grant : Grant) (item : Item) (end : End) (xs : List Exchange)
     → origin.granted ≡ Some grant → origin.job ≡ job.ReadArea item → end.code ≡ 0
-    → Converses vs (conduct_of origin) end xs → AreReplies (entries_of xs)
+    → Converses pdu (conduct_of origin) end xs → AreReplies (entries_of xs)
     → ReadsParts (parts_of item grant.pdu false) (entries_of xs) end.octets
-item_read {vs} origin grant item end xs granted job_is good c replies =
+item_read {pdu} origin grant item end xs granted job_is good c replies =
     let parts = parts_of item grant.pdu false in
     let read = read_conversed origin grant item end xs granted job_is good c in
     let off = came_off grant parts end xs read good in
     let long : length (answers_of (rows_of xs)) ≡ 0 + length xs =
     length-map (rows_of xs) _ ∙ (length-map xs _ ∙ omega arith) in
     subst (ReadsParts parts (entries_of xs)) (sym off.octets)
-    (parts_read vs grant parts [] parts xs refl read.asked
+    (parts_read pdu grant parts [] parts xs refl read.asked
     (ap (slice_get (read_questions (alone parts))) (sym long) ∙ off.all_asked) off.unrefused c.told replies)

@@ -1,4 +1,4 @@
--- Facts about what became of octets.
+-- Facts about what became of octets, and about verdicts among more.
 use Rattle.std.proofs.Common.{◌≡◌, ℕ, true, cond, List, [], ◌∷◌, ◌++◌, refl, ap, sym, ◌∙◌, append_assoc, append-nil}
 use Rattle.std.specs.Prelude.{None, Some}
 use Rattle.s7_plant.specs.declared.request.Ask.{Ask}
@@ -11,8 +11,8 @@ use Rattle.s7_session.specs.Events.{Standing, lives, stops, unjudged, closes, Ma
 use Rattle.s7_session.specs.Judgement.{judge, sequence_of}
 use Rattle.s7_session.specs.LinkState.{LinkState}
 use Rattle.s7_session.specs.Owed.{Past, start, with_made, if_lives, next, run, with_ending, past, telegrams, entered}
-use Rattle.s7_session.specs.Telegrams.{Met, entered_of}
-use Rattle.s7_session.specs.Verdict.{Verdict}
+use Rattle.s7_session.specs.Telegrams.{Met, entered_of, AnyFull}
+use Rattle.s7_session.specs.Verdict.{Verdict, Entered, Full, ClockFailed, NoMemory}
 use Rattle.s7_session.proofs.ConsumeLemmas.{entered-append}
 use Rattle.s7_session.proofs.PastLemmas.{with_more, run-append, run_with, ending_none, none_ended, past_is_run}
 
@@ -93,3 +93,19 @@ pub entered_grows : (first : LinkState) (b more : List ℕ) (js : List Verdict) 
 entered_grows first b more js =
     let h = asks_more first b more js in
     (entered_of h.0, ap entered_of h.1 ∙ entered-append (telegrams first b js) h.0)
+
+-- ---- a telegram that met a full history did so among more of them
+
+pub full_within : (xs ys : List Verdict) → AnyFull xs → AnyFull (xs ++ ys)
+full_within [] ys any = absurd any
+full_within (Full ∷ xs) ys any = any
+full_within (Entered reply at ∷ xs) ys any = full_within xs ys any
+full_within (ClockFailed ∷ xs) ys any = full_within xs ys any
+full_within (NoMemory ∷ xs) ys any = full_within xs ys any
+
+pub full_behind : (xs ys : List Verdict) → AnyFull ys → AnyFull (xs ++ ys)
+full_behind [] ys any = any
+full_behind (Full ∷ xs) ys any = tt
+full_behind (Entered reply at ∷ xs) ys any = full_behind xs ys any
+full_behind (ClockFailed ∷ xs) ys any = full_behind xs ys any
+full_behind (NoMemory ∷ xs) ys any = full_behind xs ys any

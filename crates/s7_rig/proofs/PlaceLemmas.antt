@@ -1,5 +1,5 @@
 -- Results whose jobs read what stood at their places.
-use Rattle.std.proofs.Common.{◌≡◌, ◌⊎◌, inl, inr, ℕ, ◌<◌, false, List, [], ◌∷◌, ◌++◌, length, map, take, refl, ap, sym, ◌∙◌, subst}
+use Rattle.std.proofs.Common.{◌≡◌, ◌⊎◌, inl, inr, ℕ, false, List, [], ◌∷◌, ◌++◌, length, map, take, refl, ap, sym, ◌∙◌, subst}
 use Rattle.std.specs.Prelude.{Some}
 use Rattle.s7_dialogue.specs.declared.job.Job.{Job}
 use Rattle.s7_dialogue.specs.declared.job.Job.TheVariants as job
@@ -19,7 +19,7 @@ use Rattle.s7_session.specs.Entry.{Entry, answered}
 use Rattle.s7_session.specs.Books.{History, history_of, own, GoesOnBy}
 use Rattle.s7_rig.specs.Complete.{data_block}
 use Rattle.s7_rig.specs.Dialogues.{ReadsBlock, ReadsAs}
-use Rattle.s7_rig.specs.Split.{state_at, Rise, AreReadAt, SplitRead, GroupedRead, BlockRead, ReadStands, StandsAtPlaces}
+use Rattle.s7_rig.specs.Split.{state_at, Rise, AreReadAt, BlockRead, ReadStands, StandsAtPlaces}
 use Rattle.s7_rig.specs.Split.{AllStand}
 use Rattle.s7_rig.proofs.GroupLemmas.{groups_stay}
 use Rattle.s7_rig.proofs.GroupPlaces.{groups_read_at}

@@ -4,18 +4,19 @@ use Rattle.std.proofs.Common.{◌≡◌, ℕ, ◌<◌, ◌≤◌, true, List, []
 use Rattle.s7_header.specs.Negotiation.{most_pdu}
 use Rattle.s7_wire.specs.Sent.{sent_message}
 use Rattle.s7_dialogue.specs.Question.{Question, is_numbered, question_octets}
-use Rattle.s7_dialogue.specs.Answer.{refuses}
+use Rattle.s7_dialogue.specs.Answer.{Answer, refuses, answer_of}
 use Rattle.s7_session.specs.Events.{lives, refusal_sent}
 use Rattle.s7_session.specs.LinkState.{LinkState}
 use Rattle.s7_session.specs.Owed.{past}
 use Rattle.s7_session.specs.Judgement.{Asking, own, ask, judge, refusal_octets, sequence_of}
 use Rattle.s7_session.specs.Verdict.{Verdict}
 use Rattle.s7_rig.specs.Settled.{Settled}
-use Rattle.s7_rig.specs.Exchanges.{HasTold}
+use Rattle.s7_rig.specs.Exchanges.{HasTold, IsByLink}
 use Rattle.s7_rig.proofs.ServedLemmas.{ServesTo, KeepsGrant}
 use Rattle.s7_rig.proofs.QuestionLemmas.{served_question, served_by_link, served_refusal}
 use Rattle.s7_rig.proofs.UserJudgedLemmas.{IsSent, RefusesWith}
-use Rattle.s7_rig.proofs.ReplyLemmas.{RepliesOnce, IsGood, IsAskedWell, asked_replies, own_replies, refused_as}
+use Rattle.s7_rig.proofs.ReplyLemmas.{RepliesOnce, IsLeftOpen, IsGood, IsAskedWell, asked_replies, own_replies}
+use Rattle.s7_rig.proofs.ReplyLemmas.{refused_as}
 
 -- The question is sent, under a sequence of the client's own, on a link between two messages that lives after it.
 pub record IsServed (first : LinkState) (b : List ℕ) (js vs : List Verdict) (pdu s : ℕ) (q : Question) : Type 0 where
@@ -41,32 +42,36 @@ is_sent b js vs pdu s q served =
 -- one that asks the plant
 pub asking_replied : {first : LinkState} (b : List ℕ) (js vs : List Verdict) (pdu s : ℕ) (q : Question)
     (asking : Asking) → IsServed first b js vs pdu s q → judge (past first b js).link (question_octets s q) ≡ ask asking
-    → KeepsGrant (past first b js).link asking → IsAskedWell (js ++ vs) q s asking → RepliesOnce first b js vs pdu q s
-asking_replied b js vs pdu s q asking served judged keeps well =
-    asked_replies b js vs pdu s q asking served.numbered served.low well
+    → KeepsGrant (past first b js).link asking → IsLeftOpen (past first b js).link pdu q
+    → IsAskedWell pdu q s asking → RepliesOnce first b js vs pdu q s
+asking_replied b js vs pdu s q asking served judged keeps open_to well =
+    asked_replies b js vs pdu s q asking served.numbered served.low open_to well
     (served_question b js vs pdu s q asking served.settled served.most served.fits judged keeps served.live)
 
 -- one that the link answers
 pub link_replied : {first : LinkState} (b : List ℕ) (js vs : List Verdict) (pdu s : ℕ) (q : Question)
     (message : List ℕ) (after : LinkState) → IsServed first b js vs pdu s q
     → judge (past first b js).link (question_octets s q) ≡ own (message ∷ []) after → after.granted ≡ Some pdu
-    → IsGood (js ++ vs) after q s message [] → RepliesOnce first b js vs pdu q s
-link_replied b js vs pdu s q message after served judged grants good =
-    own_replies b js vs pdu s q message after good
+    → ((answer : Answer) → answer_of q s message ≡ Some answer → IsByLink (past first b js).link pdu q answer)
+    → IsGood pdu [] after q s message [] → RepliesOnce first b js vs pdu q s
+link_replied b js vs pdu s q message after served judged grants by_link good =
+    own_replies b js vs pdu s q message after good by_link
     (served_by_link b js pdu s q message after served.settled served.most served.fits judged grants)
 
 -- and one that is refused
 pub refused_replied : {first : LinkState} (b : List ℕ) (js vs : List Verdict) (pdu s error : ℕ) (q : Question)
     → IsServed first b js vs pdu s q → RefusesWith (judge (past first b js).link (question_octets s q)) error
-    → error < 65536 → HasTold (js ++ vs) q (refuses error) [] → RepliesOnce first b js vs pdu q s
-refused_replied {first} b js vs pdu s error q served judged small told =
+    → error < 65536 → IsLeftOpen (past first b js).link pdu q → HasTold pdu [] q (refuses error) []
+    → RepliesOnce first b js vs pdu q s
+refused_replied {first} b js vs pdu s error q served judged small open_to told =
     let link = (past first b js).link in
     let m = question_octets s q in
     own_replies b js vs pdu s q (refusal_octets (sequence_of m) error) link
     (record {
       least = omega arith;
       most = omega arith;
-      heard = refused_as (js ++ vs) link q s error [] told served.numbered served.low small;
+      heard = refused_as pdu [] link q s error [] told served.numbered served.low small;
     })
+    (λ answer is. open_to answer)
     (subst (λ e. ServesTo first b js m js (Some pdu) (refusal_sent 1024 (sequence_of m) e) [] link) judged.2
     (served_refusal b js pdu s q _ served.settled served.most served.fits judged.1))

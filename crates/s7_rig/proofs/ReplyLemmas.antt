@@ -1,5 +1,5 @@
 -- How a session on a link between two messages replies to a question of a job.
-use Rattle.std.proofs.Common.{◌≡◌, ◌⊎◌, inl, inr, ℕ, ◌<◌, ◌≤◌, true, false, Bool, List, [], ◌∷◌, ◌++◌, length, Some, refl, ap, sym, ◌∙◌, subst, arith, map, length-append, append_assoc, append-nil}
+use Rattle.std.proofs.Common.{◌≡◌, ◌⊎◌, inl, inr, ℕ, ◌<◌, ◌≤◌, true, false, Bool, List, [], ◌∷◌, ◌++◌, length, Some, refl, ap, sym, ◌∙◌, subst, arith, map, length-append, append-nil}
 use Rattle.std.specs.Prelude.{Option}
 use Rattle.s7_item.specs.declared.item.Item.{Item}
 use Rattle.s7_item.specs.Sizes.{answer_size}
@@ -21,14 +21,13 @@ use Rattle.s7_session.specs.Errors.{FULL, CLOCK_FAILED}
 use Rattle.s7_session.specs.Events.{lives, by_clock, by_judgement, is_s7, refusal_sent}
 use Rattle.s7_session.specs.LinkState.{LinkState}
 use Rattle.s7_session.specs.Owed.{Past, past, owed}
-use Rattle.s7_session.specs.Telegrams.{AnyFull, clock_failures}
 use Rattle.s7_session.proofs.PastLemmas.{IsOver, standing_cases, past_over}
 use Rattle.s7_rig.specs.Settled.{Settled, Serves}
 use Rattle.s7_rig.specs.Asked.{IsAnswered, is_entered, is_full, is_failed}
 use Rattle.s7_rig.specs.Heard.{told_of}
 use Rattle.s7_rig.specs.Written.{AreKnown, own_data, own_places, own_write, own_codes}
 use Rattle.s7_rig.specs.Plants.{IsStateFor}
-use Rattle.s7_rig.specs.Exchanges.{IsUndone, GoesOn, HasTold, is_refused, is_read, is_written}
+use Rattle.s7_rig.specs.Exchanges.{IsUndone, GoesOn, HasTold, IsByLink, is_refused, is_read, is_written}
 use Rattle.s7_rig.specs.Dialogues.{AreReplies}
 use Rattle.s7_rig.proofs.ServedLemmas.{ServesTo, served_message}
 use Rattle.s7_rig.proofs.JudgedLemmas.{question_sequence}
@@ -81,11 +80,11 @@ lives_on {first} b m z more js vs granted s most is owes some =
 -- ---- one message, and its answer
 
 -- The message is an answer to the question, behind which nothing is unheard.
-pub record IsHeardOnce (verdicts : List Verdict) (link : LinkState) (question : Question) (number : ℕ)
+pub record IsHeardOnce (pdu : ℕ) (own : List Verdict) (link : LinkState) (question : Question) (number : ℕ)
     (message : List ℕ) (new : List (Ask × Said)) : Type 0 where
   pub answer : Answer
   pub is : answer_of question number message ≡ Some answer
-  pub told : HasTold verdicts question answer new
+  pub told : HasTold pdu own question answer new
   pub goes_on : GoesOn link question answer
 
 -- the state of a link that used the message of a question
@@ -96,33 +95,21 @@ link_once first b number question verdicts =
 -- The message of a question is answered by one message, of which the rest holds as of any reply.
 pub record RepliesOnce (first : LinkState) (b : List ℕ) (js vs : List Verdict) (pdu : ℕ) (question : Question)
     (number : ℕ) : Type 0 where
-  pub met : List Verdict
+  pub own : List Verdict
   pub left : List Verdict
-  pub split : js ++ vs ≡ met ++ left
+  pub split : vs ≡ own ++ left
   pub message : List ℕ
   pub new : List (Ask × Said)
-  pub serves : Serves first b js (sent_message 1024 (question_octets number question)) met (Some pdu)
+  pub serves : Serves first b js (sent_message 1024 (question_octets number question)) (js ++ own) (Some pdu)
       (sent_message 1024 message) new
   pub least : AreReplies new → 10 ≤ length message
   pub most : AreReplies new → length message ≤ most_pdu
   pub heard : AreReplies new
-      → IsHeardOnce (js ++ vs) (link_once first b number question met) question number message new
+      → IsHeardOnce pdu own (link_once first b number question (js ++ own)) question number message new
+  pub by_link : (answer : Answer) → answer_of question number message ≡ Some answer
+      → IsByLink (past first b js).link pdu question answer
 
 -- ---- a refusal
-
-pub any_full : (js vs rest : List Verdict) → vs ≡ Full ∷ rest → AnyFull (js ++ vs)
-any_full [] vs rest is = subst AnyFull (sym is) tt
-any_full (Full ∷ js) vs rest is = tt
-any_full (Entered reply moment ∷ js) vs rest is = any_full js vs rest is
-any_full (ClockFailed ∷ js) vs rest is = any_full js vs rest is
-any_full (NoMemory ∷ js) vs rest is = any_full js vs rest is
-
-any_failed : (js vs rest : List Verdict) → vs ≡ ClockFailed ∷ rest → 0 < clock_failures (js ++ vs)
-any_failed [] vs rest is = subst (λ ws. 0 < clock_failures ws) (sym is) (omega arith)
-any_failed (Full ∷ js) vs rest is = any_failed js vs rest is
-any_failed (Entered reply moment ∷ js) vs rest is = any_failed js vs rest is
-any_failed (ClockFailed ∷ js) vs rest is = omega arith
-any_failed (NoMemory ∷ js) vs rest is = any_failed js vs rest is
 
 -- nothing goes on behind a refusal
 refusal_ends : (link : LinkState) (q : Question) (error : ℕ) → GoesOn link q (refuses error)
@@ -130,10 +117,10 @@ refusal_ends link (negotiates asked) error = tt
 refusal_ends link _ error = tt
 
 -- a refusal is heard under the question's sequence
-pub refused_as : (all : List Verdict) (link : LinkState) (q : Question) (s error : ℕ) (new : List (Ask × Said))
-    → HasTold all q (refuses error) new → is_numbered q ≡ true → s < 65536 → error < 65536
-    → IsHeardOnce all link q s (refusal_octets (sequence_of (question_octets s q)) error) new
-refused_as all link q s error new told numbered low small = record {
+pub refused_as : (pdu : ℕ) (met : List Verdict) (link : LinkState) (q : Question) (s error : ℕ)
+    (new : List (Ask × Said)) → HasTold pdu met q (refuses error) new → is_numbered q ≡ true → s < 65536 → error < 65536
+    → IsHeardOnce pdu met link q s (refusal_octets (sequence_of (question_octets s q)) error) new
+refused_as pdu met link q s error new told numbered low small = record {
   answer = refuses error;
   is = ap (λ n. answer_of q s (refusal_octets n error)) (question_sequence s q numbered)
       ∙ refusal_is_heard q s error numbered (omega (arith, low)) (omega (arith, small));
@@ -141,93 +128,106 @@ refused_as all link q s error new told numbered low small = record {
   goes_on = refusal_ends link q error;
 }
 
-refused : (all : List Verdict) (link : LinkState) (q : Question) (s error : ℕ)
-    → IsUndone all error → is_numbered q ≡ true → s < 65536 → error < 65536
-    → IsHeardOnce all link q s (refusal_octets (sequence_of (question_octets s q)) error) []
-refused all link q s error undone numbered low small =
-    refused_as all link q s error [] (is_refused error undone refl refl) numbered low small
+refused : (pdu : ℕ) (met : List Verdict) (link : LinkState) (q : Question) (s error : ℕ)
+    → IsUndone met error → is_numbered q ≡ true → s < 65536 → error < 65536
+    → IsHeardOnce pdu met link q s (refusal_octets (sequence_of (question_octets s q)) error) []
+refused pdu met link q s error undone numbered low small =
+    refused_as pdu met link q s error [] (is_refused error undone refl refl) numbered low small
 
-pub met_split : (js vs rest : List Verdict) (v : Verdict) → vs ≡ v ∷ rest → js ++ vs ≡ (js ++ v ∷ []) ++ rest
-met_split js vs rest v is = ap (λ x. js ++ x) is ∙ sym (append_assoc js (v ∷ []) rest)
+-- the link alone settles nothing of the answer
+abbrev pub IsLeftOpen : LinkState → ℕ → Question → Type 0
+IsLeftOpen link pdu q = (answer : Answer) → IsByLink link pdu q answer
 
 -- a question that wasn't done is refused
 undone_replies : {first : LinkState} (b : List ℕ) (js vs rest : List Verdict) (v : Verdict) (pdu s error : ℕ)
-    (q : Question) → vs ≡ v ∷ rest → IsUndone (js ++ vs) error → is_numbered q ≡ true → s < 65536 → error < 65536
+    (q : Question) → vs ≡ v ∷ rest → IsUndone (v ∷ []) error → is_numbered q ≡ true → s < 65536 → error < 65536
+    → IsLeftOpen (past first b js).link pdu q
     → Serves first b js (sent_message 1024 (question_octets s q)) (js ++ v ∷ []) (Some pdu)
     (refusal_sent 1024 (sequence_of (question_octets s q)) error) []
     → RepliesOnce first b js vs pdu q s
-undone_replies {first} b js vs rest v pdu s error q is undone numbered low small serves = record {
-  met = js ++ v ∷ [];
+undone_replies {first} b js vs rest v pdu s error q is undone numbered low small open_to serves = record {
+  own = v ∷ [];
   left = rest;
-  split = met_split js vs rest v is;
+  split = is;
   message = refusal_octets (sequence_of (question_octets s q)) error;
   new = [];
   serves = serves;
   least = λ h. omega arith;
   most = λ h. omega arith;
-  heard = λ h. refused (js ++ vs) (link_once first b s q (js ++ v ∷ [])) q s error undone numbered low small;
+  heard = λ h. refused pdu (v ∷ []) (link_once first b s q (js ++ v ∷ [])) q s error undone numbered low small;
+  by_link = λ answer is. open_to answer;
 }
 
 -- ---- replies
 
 -- The message is short, and heard as an answer to the question.
-pub record IsGood (all : List Verdict) (link : LinkState) (q : Question) (s : ℕ) (message : List ℕ)
+pub record IsGood (pdu : ℕ) (own : List Verdict) (link : LinkState) (q : Question) (s : ℕ) (message : List ℕ)
     (new : List (Ask × Said)) : Type 0 where
   pub least : 10 ≤ length message
   pub most : length message ≤ most_pdu
-  pub heard : IsHeardOnce all link q s message new
+  pub heard : IsHeardOnce pdu own link q s message new
 
 -- Whatever state gives the reply at whatever moment, the message that is made of it is good.
-pub record IsAskedWell (all : List Verdict) (q : Question) (s : ℕ) (asking : Asking) : Type 0 where
+pub record IsAskedWell (pdu : ℕ) (q : Question) (s : ℕ) (asking : Asking) : Type 0 where
   pub message : Said → List ℕ
   pub messages : (reply : Said) → asking.messages reply ≡ message reply ∷ []
   pub good : (moment : ℕ) (reply : Said) (state : State) → reply ≡ plant.answer_of state (asking.ask moment)
       → IsStateFor (asking.ask moment).request state
-      → IsGood all (asking.link reply) q s (message reply) ((asking.ask moment, reply) ∷ [])
+      → IsGood pdu (Entered reply moment ∷ []) (asking.link reply) q s (message reply)
+      ((asking.ask moment, reply) ∷ [])
 
 -- a question that asks the plant has its reply
 pub asked_replies : {first : LinkState} (b : List ℕ) (js vs : List Verdict) (pdu s : ℕ) (q : Question)
-    (asking : Asking) → is_numbered q ≡ true → s < 65536 → IsAskedWell (js ++ vs) q s asking
-    → IsAnswered first b js (question_octets s q) vs (Some pdu) asking → RepliesOnce first b js vs pdu q s
-asked_replies {first} b js vs pdu s q asking numbered low well (is_entered reply moment rest is serves link) =
+    (asking : Asking) → is_numbered q ≡ true → s < 65536 → IsLeftOpen (past first b js).link pdu q
+    → IsAskedWell pdu q s asking → IsAnswered first b js (question_octets s q) vs (Some pdu) asking
+    → RepliesOnce first b js vs pdu q s
+asked_replies {first} b js vs pdu s q asking numbered low open_to well (is_entered reply moment rest is serves link) =
     let new : List (Ask × Said) = (asking.ask moment, reply) ∷ [] in
-    let met : List Verdict = js ++ Entered reply moment ∷ [] in
+    let met : List Verdict = Entered reply moment ∷ [] in
     record {
-      met = met;
+      own = met;
       left = rest;
-      split = met_split js vs rest (Entered reply moment) is;
+      split = is;
       message = well.message reply;
       new = new;
-      serves = subst (λ out. Serves first b js (sent_message 1024 (question_octets s q)) met (Some pdu) out new)
+      serves = subst
+          (λ out. Serves first b js (sent_message 1024 (question_octets s q)) (js ++ met) (Some pdu) out new)
           (ap (sent_messages 1024) (well.messages reply) ∙ append-nil (sent_message 1024 (well.message reply))) serves;
       least = λ h. (well.good moment reply h.0.0 h.0.1 h.0.2).least;
       most = λ h. (well.good moment reply h.0.0 h.0.1 h.0.2).most;
-      heard = λ h. subst (λ l. IsHeardOnce (js ++ vs) l q s (well.message reply) new) (sym link)
+      heard = λ h. subst (λ l. IsHeardOnce pdu met l q s (well.message reply) new) (sym link)
           (well.good moment reply h.0.0 h.0.1 h.0.2).heard;
+      by_link = λ answer is. open_to answer;
     }
-asked_replies b js vs pdu s q asking numbered low well (is_full rest is serves) =
-    undone_replies b js vs rest Full pdu s FULL q is (inl (any_full js vs rest is, refl)) numbered low (omega arith)
-    serves
-asked_replies b js vs pdu s q asking numbered low well (is_failed rest is timed serves) =
-    undone_replies b js vs rest ClockFailed pdu s CLOCK_FAILED q is (inr (any_failed js vs rest is, refl)) numbered low
-    (omega arith) serves
+asked_replies b js vs pdu s q asking numbered low open_to well (is_full rest is serves) =
+    undone_replies b js vs rest Full pdu s FULL q is (inl (tt, refl)) numbered low (omega arith) open_to serves
+asked_replies b js vs pdu s q asking numbered low open_to well (is_failed rest is timed serves) =
+    undone_replies b js vs rest ClockFailed pdu s CLOCK_FAILED q is (inr (omega arith, refl)) numbered low
+    (omega arith) open_to serves
 
 -- and one that the link itself answers has its answer
 pub own_replies : {first : LinkState} (b : List ℕ) (js vs : List Verdict) (pdu s : ℕ) (q : Question)
-    (message : List ℕ) (link : LinkState) → IsGood (js ++ vs) link q s message []
+    (message : List ℕ) (link : LinkState) → IsGood pdu [] link q s message []
+    → ((answer : Answer) → answer_of q s message ≡ Some answer → IsByLink (past first b js).link pdu q answer)
     → ServesTo first b js (question_octets s q) js (Some pdu) (sent_message 1024 message) [] link
     → RepliesOnce first b js vs pdu q s
-own_replies b js vs pdu s q message link good served = record {
-  met = js;
-  left = vs;
-  split = refl;
-  message = message;
-  new = [];
-  serves = served.serves;
-  least = λ h. good.least;
-  most = λ h. good.most;
-  heard = λ h. subst (λ l. IsHeardOnce (js ++ vs) l q s message []) (sym served.leaves) good.heard;
-}
+own_replies {first} b js vs pdu s q message link good by_link served =
+    let none = append-nil js in
+    let sent = sent_message 1024 (question_octets s q) in
+    record {
+      own = [];
+      left = vs;
+      split = refl;
+      message = message;
+      new = [];
+      serves = subst (λ met. Serves first b js sent met (Some pdu) (sent_message 1024 message) []) (sym none)
+          served.serves;
+      least = λ h. good.least;
+      most = λ h. good.most;
+      heard = λ h. subst (λ l. IsHeardOnce pdu [] l q s message [])
+          (sym (ap (link_once first b s q) none ∙ served.leaves)) good.heard;
+      by_link = by_link;
+    }
 
 -- ---- reads and writes
 
@@ -240,11 +240,11 @@ read_heard state right items s reply low room gives =
     ∙ read_is_heard state right items s (omega (arith, low)) (omega (arith, room))
 
 -- and the same answer is told by any other state that gives it
-read_told : (all : List Verdict) (link : LinkState) (state : State) (right : Bool) (items : List Item) (s : ℕ)
-    (reply : Said) → s < 65536 → answer_size items ≤ most_pdu
+read_told : (pdu : ℕ) (met : List Verdict) (link : LinkState) (state : State) (right : Bool) (items : List Item)
+    (s : ℕ) (reply : Said) → s < 65536 → answer_size items ≤ most_pdu
     → reply ≡ plant.answer_of state (asked right (Read items))
-    → IsHeardOnce all link (reads items) s (reply_octets s reply) ((asked right (Read items), reply) ∷ [])
-read_told all link state right items s reply low room gives =
+    → IsHeardOnce pdu met link (reads items) s (reply_octets s reply) ((asked right (Read items), reply) ∷ [])
+read_told pdu met link state right items s reply low room gives =
     let heard = read_heard state right items s reply low room gives in
     record {
       answer = tells (map (told_of state.memory right) items);
@@ -263,12 +263,12 @@ write_heard state right items octets s reply low few known short gives =
     ap (λ r. answer_of (writes items octets) s (reply_octets s r)) gives
     ∙ write_is_noted state right items octets s (omega (arith, low)) few known short
 
-write_told : (all : List Verdict) (link : LinkState) (state : State) (right : Bool) (items : List Item)
+write_told : (pdu : ℕ) (met : List Verdict) (link : LinkState) (state : State) (right : Bool) (items : List Item)
     (octets : List ℕ) (s : ℕ) (reply : Said) → s < 65536 → length items ≤ 20 → AreKnown items
     → IsShort s items octets → reply ≡ plant.answer_of state (asked right (own_write items octets))
-    → IsHeardOnce all link (writes items octets) s (reply_octets s reply)
+    → IsHeardOnce pdu met link (writes items octets) s (reply_octets s reply)
     ((asked right (own_write items octets), reply) ∷ [])
-write_told all link state right items octets s reply low few known short gives =
+write_told pdu met link state right items octets s reply low few known short gives =
     let heard = write_heard state right items octets s reply low few known short gives in
     record {
       answer = notes (own_codes state.memory right items octets);
@@ -288,9 +288,9 @@ most_of : (most s : ℕ) (reply given : Said) → reply ≡ given → length (re
     → length (reply_octets s reply) ≤ most
 most_of most s reply given gives few = subst (λ r. length (reply_octets s r) ≤ most) (sym gives) few
 
-pub read_well : (all : List Verdict) (link : LinkState) (s : ℕ) (items : List Item) → s < 65536
-    → answer_size items ≤ most_pdu → IsAskedWell all (reads items) s (plainly link s (Read items))
-read_well all link s items low room = record {
+pub read_well : (pdu : ℕ) (link : LinkState) (s : ℕ) (items : List Item) → s < 65536
+    → answer_size items ≤ most_pdu → IsAskedWell pdu (reads items) s (plainly link s (Read items))
+read_well pdu link s items low room = record {
   message = reply_octets s;
   messages = λ reply. refl;
   good = λ moment reply state gives for.
@@ -298,14 +298,14 @@ read_well all link s items low room = record {
       record {
         least = least_of 10 s reply given gives (omega (arith, least-read state link.right items s));
         most = most_of most_pdu s reply given gives (omega (arith, length-read state link.right items s, room));
-        heard = read_told all link state link.right items s reply low room gives;
+        heard = read_told pdu (Entered reply moment ∷ []) link state link.right items s reply low room gives;
       };
 }
 
-pub write_well : (all : List Verdict) (link : LinkState) (s : ℕ) (items : List Item) (octets : List ℕ) → s < 65536
+pub write_well : (pdu : ℕ) (link : LinkState) (s : ℕ) (items : List Item) (octets : List ℕ) → s < 65536
     → length items ≤ 20 → AreKnown items → IsShort s items octets
-    → IsAskedWell all (writes items octets) s (plainly link s (own_write items octets))
-write_well all link s items octets low few known short =
+    → IsAskedWell pdu (writes items octets) s (plainly link s (own_write items octets))
+write_well pdu link s items octets low few known short =
     let places = own_places items octets in
     let written = own_data items octets in
     let many = as_many_places s items octets known short in
@@ -319,6 +319,7 @@ write_well all link s items octets low few known short =
             least = least_of 10 s reply given gives (omega (arith, long));
             most = most_of most_pdu s reply given gives
                 (omega (arith, long, length-write_codes state.memory link.right items places written many, few));
-            heard = write_told all link state link.right items octets s reply low few known short gives;
+            heard = write_told pdu (Entered reply moment ∷ []) link state link.right items octets s reply low few known
+                short gives;
           };
     }

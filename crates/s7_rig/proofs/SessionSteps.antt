@@ -26,8 +26,8 @@ use Rattle.s7_session.specs.Events.{lives}
 use Rattle.s7_session.specs.LinkState.{LinkState, first_link}
 use Rattle.s7_session.specs.Owed.{Past, past, owed, telegrams}
 use Rattle.s7_session.specs.Stands.{Stands, unread, used_of, closed_with, closed_by, entry_count as count_of, newest}
-use Rattle.s7_session.specs.Telegrams.{Met, verdicts_of, entered_of, AnyFull, AllAt, clock_failures, last_number}
-use Rattle.s7_session.specs.Verdict.{Verdict, Entered, Full, ClockFailed, NoMemory}
+use Rattle.s7_session.specs.Telegrams.{Met, verdicts_of, entered_of, AllAt, clock_failures, last_number}
+use Rattle.s7_session.specs.Verdict.{Verdict}
 use Rattle.s7_session.proofs.ConsumeLemmas.{entered-append}
 use Rattle.s7_session.proofs.DoerLemmas.{trail-append, trail_stays}
 use Rattle.s7_session.proofs.TurnLemmas.{AllAt-append, clock_failures-append, last_number-append, map-append, verdicts-append}
@@ -38,7 +38,7 @@ use Rattle.s7_rig.specs.Split.{AllStand}
 use Rattle.s7_rig.specs.Complete.{AllComeOff}
 use Rattle.s7_rig.specs.State.{Post}
 use Rattle.s7_rig.specs.Turns.{is_full_in, lacks_in, entry_count, TakesTurn, IsSessionTurn}
-use Rattle.s7_rig.proofs.PastFacts.{past_with}
+use Rattle.s7_rig.proofs.PastFacts.{past_with, full_within}
 use Rattle.s7_rig.proofs.Joint.{Octets, IsUntouched, IsConnecting, IsConnected, IsWorking, IsFailing, IsLost, Mode, untouched, connecting, connected, working, lost, Joint}
 use Rattle.s7_rig.proofs.OwnLemmas.{own_goes_on, own_numbers, own_stays, numbers_of}
 use Rattle.s7_rig.proofs.PlaceLemmas.{all_stand_goes_on}
@@ -113,14 +113,6 @@ come_off_on : (opening : Memory) (book book' : BookTold) (link pdu : ℕ) → Go
 come_off_on opening book book' link pdu goes_on results places all =
     subst (λ h. AllComeOff opening h pdu results places) (sym goes_on.history)
     (come_off_stays opening (history_of book) goes_on.calls pdu results places all)
-
--- a telegram that met a full history did so among more of them
-full_within : (xs ys : List Verdict) → AnyFull xs → AnyFull (xs ++ ys)
-full_within [] ys any = absurd any
-full_within (Full ∷ xs) ys any = any
-full_within (Entered reply at ∷ xs) ys any = full_within xs ys any
-full_within (ClockFailed ∷ xs) ys any = full_within xs ys any
-full_within (NoMemory ∷ xs) ys any = full_within xs ys any
 
 -- octets that leave their count as it was are none
 none_used : (b used : List ℕ) (count : ℕ) → length b ≡ count → length (b ++ used) ≡ count → used ≡ []

@@ -57,6 +57,7 @@ record IsUnused (w : Whole) (b : List ℕ) (js : List Verdict) : Type 0 where
   sent_is : w.sent ≡ taken ++ w.unused
   owed_is : w.before ≡ owed w.first b js
   entered_is : w.entries ≡ entered w.first b js
+  met_is : w.judged ≡ js
 
 abbrev first_place : (w : Whole) (b : List ℕ) (js : List Verdict) → IsUnused w b js → BeginsAsking w.origin → Place
 first_place w b js u begins = record {
@@ -90,6 +91,7 @@ at_first w b js u begins i = record {
   verdicts_are = u.verdicts_are;
   owed_is = sym u.owed_is ∙ (sym (append-nil w.before) ∙ sym (append-nil (w.before ++ [])));
   entered_is = sym u.entered_is ∙ sym (append-nil w.entries);
+  met_is = sym u.met_is ∙ sym (append-nil w.judged);
 }
 
 not_departure : (a : Awaits) (end : End) (carried : List ℕ) → a ≡ for_departure → a ≡ for_nothing end carried → ⊥
@@ -136,6 +138,7 @@ whole_of first origin pdu heard sent end carried b used js verdicts behind o = r
   used = b ++ used;
   verdicts = js ++ verdicts;
   unused = o.unused;
+  judged = js;
   before = owed first b js;
   entries = entered first b js;
   behind = behind;
@@ -157,6 +160,7 @@ over_is_done first origin pdu heard sent end carried b used js verdicts behind o
       sent_is = o.taken;
       owed_is = refl;
       entered_is = refl;
+      met_is = refl;
     })
     (record {
       grant = o.grant;

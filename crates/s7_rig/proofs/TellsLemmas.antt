@@ -1,5 +1,5 @@
 -- What a completion is told of the results that a client gains.
-use Rattle.std.proofs.Common.{◌≡◌, ℕ, ◌<◌, ◌≤◌, ◌⊎◌, inl, inr, zero, suc, List, [], ◌∷◌, ◌++◌, length, map, get_or, Option, None, Some, option_map, Bool, false, ◌||◌, refl, ap, sym, ◌∙◌, subst, arith}
+use Rattle.std.proofs.Common.{◌≡◌, ℕ, ◌<◌, ◌≤◌, ◌⊎◌, inl, inr, zero, suc, List, [], ◌∷◌, ◌++◌, length, map, get_or, Option, None, Some, option_map, Bool, refl, ap, sym, ◌∙◌, subst, arith}
 use Rattle.std.proofs.Common.{Result, Ok, Err, append_assoc, append-nil}
 use Rattle.std.specs.Prelude.{IfOk, is_some, slice_set}
 use Rattle.std.specs.Result.{OnOk, OnErr}
@@ -21,10 +21,10 @@ use Rattle.s7_area.specs.Memory.{Memory}
 use Rattle.s7_plant.specs.Journals.{entries_of}
 use Rattle.s7_plant.specs.State as plant
 use Rattle.s7_rig.specs.Rigs.{RigRan, ToldWanting, Turning}
-use Rattle.s7_rig.specs.Runs.{AreFresh, IsRun, Rounds, Turns, actors_of, most_rounds}
-use Rattle.s7_rig.specs.Tells.{TurnsLead, Tells, TellsFirst, TellsWanting}
-use Rattle.s7_rig.specs.Turns.{IsClientTurn, IsSessionTurn, IsTurnOf, StartsNext, StartsNothing, with_polled}
-use Rattle.s7_rig.proofs.TurnsLemmas.{Turns-append, Turns-none, Turns-one}
+use Rattle.s7_rig.specs.Runs.{AreFresh, IsRun}
+use Rattle.s7_rig.specs.Stopped.{RunStops}
+use Rattle.s7_rig.specs.Tells.{Tells, TellsFirst, TellsWanting}
+use Rattle.s7_rig.specs.Turns.{IsClientTurn, IsSessionTurn, StartsNext, StartsNothing, with_polled}
 
 -- ---- one after another
 
@@ -175,49 +175,22 @@ err_weaker (Err e) f h = f h
 
 -- ---- where memory was wanting
 
-pub reaches_none : (s : State) → TurnsLead s s
-reaches_none s = record { actors = []; stirred = false; turned = Turns-none s }
-
-pub reaches_by : (actors : List ℕ) (old new : State) (stirs : Bool) → Turns actors old new stirs → TurnsLead old new
-reaches_by actors old new stirs t = record { actors = actors; stirred = stirs; turned = t }
-
-pub reaches_then : (old middle new : State) → TurnsLead old middle → TurnsLead middle new → TurnsLead old new
-reaches_then old middle new r q = record {
-  actors = r.actors ++ q.actors;
-  stirred = r.stirred || q.stirred;
-  turned = Turns-append r.actors q.actors old middle new r.stirred q.stirred r.turned q.turned;
-}
-
-pub reaches_turn : (actor : ℕ) (old middle new : State) (stirs : Bool) → TurnsLead old middle
-    → IsTurnOf actor middle new stirs → TurnsLead old new
-reaches_turn actor old middle new stirs r t =
-    reaches_then old middle new r (reaches_by (actor ∷ []) middle new stirs (Turns-one actor middle new stirs t))
-
-pub reaches_rounds : (n : ℕ) (old new : State) → Rounds n old new → TurnsLead old new
-unfolding Rounds
-reaches_rounds zero old new same = subst (λ s. TurnsLead old s) (sym same) (reaches_none old)
-reaches_rounds (suc n) old new (inl (over, same)) = subst (λ s. TurnsLead old s) (sym same) (reaches_none old)
-reaches_rounds (suc n) old new (inr (going, middle, stirs, turned, inl (still, same))) =
-    subst (λ s. TurnsLead old s) (sym same) (reaches_by (actors_of old) old middle stirs turned)
-reaches_rounds (suc n) old new (inr (going, middle, stirs, turned, inr (stirred, more))) =
-    reaches_then old middle new (reaches_by (actors_of old) old middle stirs turned)
-    (reaches_rounds n middle new more)
-
--- it was wanting at this turn
-pub wanting_here : (old last : State) (x y z : Option Told) → TurnsLead old last → TellsFirst old last x y → z ≡ y
-    → TellsWanting old x z
-wanting_here old last x y z reached tells same = record {
+-- at this turn
+pub wanting_here : (stops : State → State → Type 0) (old last : State) (x y z : Option Told) → stops old last
+    → TellsFirst old last x y → z ≡ y → TellsWanting stops old x z
+wanting_here stops old last x y z stopped tells same = record {
   last = last;
-  reached = reached;
+  stopped = stopped;
   tells = subst (λ t. TellsFirst old last x t) (sym same) tells;
 }
 
--- it was wanting behind these turns
-pub wanting_then : (old middle : State) (x y z : Option Told) → TurnsLead old middle → TellsFirst old middle x y
-    → TellsWanting middle y z → TellsWanting old x z
-wanting_then old middle x y z reached tells w = record {
+-- behind what was told before
+pub wanting_then : (stops later : State → State → Type 0) (old middle : State) (x y z : Option Told)
+    → ((last : State) → later middle last → stops old last) → TellsFirst old middle x y
+    → TellsWanting later middle y z → TellsWanting stops old x z
+wanting_then stops later old middle x y z behind tells w = record {
   last = w.last;
-  reached = reaches_then old middle w.last reached w.reached;
+  stopped = behind w.last w.stopped;
   tells = tells_then _ _ _ _ _ _ tells w.tells;
 }
 
@@ -227,9 +200,11 @@ module _ (opening : Memory) (limit : ℕ) (config : Config) (scripts : List (Lis
     (unchanged : plant.state_of start.book.plant ≡ plant.begins_with opening)
     (journal : start.book.journal ≡ entries_of [] limit)
     (fresh : AreFresh opening.guard config 1 scripts start.posts) (x y : Option Told) where
-  pub rig_wanting : (last : State) → TurnsLead start last → TellsFirst start last x y
-      → ToldWanting opening limit config scripts x y
-  rig_wanting last reached tells = inr (
+  pub rig_wanting : (turning : Turning) (last : State)
+      → RunStops turning.turns turning.seed turning.steps start last
+      ⊎ IsRun turning.turns turning.seed turning.steps start last
+      → TellsFirst start last x y → ToldWanting opening limit config scripts turning x y
+  rig_wanting turning last reached tells = inr (
     last,
     record {
       start = start;
@@ -242,16 +217,11 @@ module _ (opening : Memory) (limit : ℕ) (config : Config) (scripts : List (Lis
     rig_tells opening.guard config scripts start last (state_told last) x y fresh tells refl,
   )
 
--- a whole run is one of turns
-pub run_reaches : (turns : List ℕ) (seed steps : ℕ) (old new : State) → IsRun turns seed steps old new → TurnsLead old new
-run_reaches turns seed steps old new run =
-    reaches_then old run.middle new (reaches_by _ old run.middle run.stirred run.turned)
-    (reaches_rounds most_rounds run.middle new run.rounds)
-
 -- memory was wanting behind a whole run
 pub ran_wanting : (opening : Memory) (limit : ℕ) (config : Config) (scripts : List (List Job)) (turning : Turning)
     (end : EndTold) (x y : Option Told) → RigRan opening limit config scripts turning end
-    → y ≡ option_map (λ t. told_of_results t (first_results end)) x → ToldWanting opening limit config scripts x y
+    → y ≡ option_map (λ t. told_of_results t (first_results end)) x
+    → ToldWanting opening limit config scripts turning x y
 ran_wanting opening limit config scripts turning end x y ran told = inr (
   ran.last,
   record {
@@ -260,7 +230,7 @@ ran_wanting opening limit config scripts turning end x y ran told = inr (
     unchanged = ran.unchanged;
     journal = ran.journal;
     fresh = ran.fresh;
-    reached = run_reaches turning.turns turning.seed turning.steps ran.start ran.last ran.run;
+    reached = inr ran.run;
   },
   told ∙ ap (λ e. option_map (λ t. told_of_results t (first_results e)) x) ran.ends,
 )

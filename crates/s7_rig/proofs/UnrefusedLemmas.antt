@@ -1,6 +1,6 @@
 -- Answers that refuse nothing, where no history was full and no clock failed.
-use Rattle.std.proofs.Common.{◌≡◌, ◌⊎◌, ℕ, ◌<◌, Bool, true, false, Option, None, Some, List, [], ◌∷◌}
-use Rattle.std.proofs.Common.{inl, inr, map, refl, ap, sym, ◌∙◌, subst}
+use Rattle.std.proofs.Common.{◌≡◌, ◌⊎◌, ℕ, ◌<◌, Bool, true, false, Option, None, Some, List, [], ◌∷◌, ◌++◌}
+use Rattle.std.proofs.Common.{inl, inr, map, refl, ap, sym, ◌∙◌, subst, arith}
 use Rattle.std.specs.List.{AllByRecursion}
 use Rattle.s7_item.specs.declared.item.Item.{Item}
 use Rattle.s7_area.specs.Guards.{is_read_barred, is_write_barred}
@@ -22,6 +22,7 @@ use Rattle.s7_dialogue.specs.Refusals.{code_refusal, part_refusal, telegram_refu
 use Rattle.s7_dialogue.proofs.FlightLemmas.{same_some}
 use Rattle.s7_session.specs.Telegrams.{AnyFull, clock_failures}
 use Rattle.s7_session.specs.Verdict.{Verdict}
+use Rattle.s7_session.proofs.TurnLemmas.{clock_failures-append}
 use Rattle.s7_rig.specs.Heard.{told_of}
 use Rattle.s7_rig.specs.Complete.{IsThere}
 use Rattle.s7_rig.specs.Exchanges.{IsSecurity, IsUndone, HasTold, is_refused, is_read, is_written, is_controlled}
@@ -35,6 +36,7 @@ use Rattle.s7_rig.proofs.HoldReplies.{IsGood, user_good}
 use Rattle.s7_rig.proofs.HoldReplies.{IsDoneAs, control_good, start_good}
 use Rattle.s7_rig.proofs.AskedItems.{AsksFor}
 use Rattle.s7_rig.proofs.AsksLemmas.{codes_noted}
+use Rattle.s7_rig.proofs.PastFacts.{full_within, full_behind}
 use Rattle.s7_rig.proofs.PlacedLemmas.{placed_is_read, read_freed, write_freed}
 use Rattle.s7_rig.proofs.ShapeLemmas.{SameShape, AreAllowed}
 
@@ -105,13 +107,21 @@ any_undone : (verdicts : List Verdict) (error : ℕ) → IsUndone verdicts error
 any_undone verdicts error (inl h) = inl h.0
 any_undone verdicts error (inr h) = inr h.0
 
-module _ (n : Memory) (with_right : Bool) (verdicts : List Verdict) (all_done : AnyUndone verdicts → ⊥) where
+pub undone_within : (xs ys : List Verdict) → AnyUndone xs → AnyUndone (xs ++ ys)
+undone_within xs ys (inl any) = inl (full_within xs ys any)
+undone_within xs ys (inr some) = inr (omega (arith, some, clock_failures-append xs ys))
+
+pub undone_behind : (xs ys : List Verdict) → AnyUndone ys → AnyUndone (xs ++ ys)
+undone_behind xs ys (inl any) = inl (full_behind xs ys any)
+undone_behind xs ys (inr some) = inr (omega (arith, some, clock_failures-append xs ys))
+
+module _ (n : Memory) (with_right : Bool) (pdu : ℕ) (own : List Verdict) (all_done : AnyUndone own → ⊥) where
   -- the answer to a question for these doesn't refuse
   pub part_unrefused : (question : Question) (answer : Answer) (new : List (Ask × Said))
-      → HasTold verdicts question answer new → AreAllowed n with_right new → FindsAll n with_right question
+      → HasTold pdu own question answer new → AreAllowed n with_right new → FindsAll n with_right question
       → part_refusal answer ≡ None
   part_unrefused question answer new (is_refused error undone none is) shaped finds =
-      absurd (all_done (any_undone verdicts error undone))
+      absurd (all_done (any_undone own error undone))
   part_unrefused question answer new (is_read items right reply is entered told) shaped finds =
       let state = (subst (AreAllowed n with_right) entered shaped).0 in
       let can : FindsAll n with_right (reads items) = subst (FindsAll n with_right) is finds in
@@ -129,7 +139,7 @@ module _ (n : Memory) (with_right : Bool) (verdicts : List Verdict) (all_done : 
   part_unrefused question answer new (is_controlled c right request reply is wants entered told) shaped finds =
       absurd (subst (FindsAll n with_right) is finds).1
   part_unrefused question answer new
-      (is_brought subject os moment right request reply pdu octet is wants entered told least) shaped finds =
+      (is_brought subject os moment right request reply octet is wants entered told) shaped finds =
       absurd (subst (FindsAll n with_right) is finds).1
   part_unrefused question answer new (is_secured subject os octet error is secures entered told) shaped finds =
       absurd (subst (FindsAll n with_right) is finds).1
@@ -141,11 +151,11 @@ module _ (n : Memory) (with_right : Bool) (verdicts : List Verdict) (all_done : 
       absurd (subst (FindsAll n with_right) is finds).1
   part_unrefused question answer new (is_no_upload name is none entered told) shaped finds =
       absurd (subst (FindsAll n with_right) is finds).1
-  part_unrefused question answer new (is_sliced id size so_far os more is entered told) shaped finds =
+  part_unrefused question answer new (is_sliced id size so_far rest is whole entered told) shaped finds =
       absurd (subst (FindsAll n with_right) is finds).1
   part_unrefused question answer new (is_ended id is entered told) shaped finds =
       absurd (subst (FindsAll n with_right) is finds).1
-  part_unrefused question answer new (is_further subject octet so_far piece more is entered told) shaped finds =
+  part_unrefused question answer new (is_further subject octet so_far rest is whole entered told) shaped finds =
       absurd (subst (FindsAll n with_right) is finds).1
   part_unrefused question answer new (is_announced image is entered told) shaped finds =
       absurd (subst (FindsAll n with_right) is finds).1
@@ -160,10 +170,10 @@ module _ (n : Memory) (with_right : Bool) (verdicts : List Verdict) (all_done : 
 
   -- and no telegram for items is refused
   pub items_unrefused : (question : Question) (answer : Answer) (new : List (Ask × Said))
-      → HasTold verdicts question answer new → AreAllowed n with_right new → IsOfItems question
+      → HasTold pdu own question answer new → AreAllowed n with_right new → IsOfItems question
       → telegram_refusal answer ≡ None
   items_unrefused question answer new (is_refused error undone none is) shaped of =
-      absurd (all_done (any_undone verdicts error undone))
+      absurd (all_done (any_undone own error undone))
   items_unrefused question answer new (is_read items right reply is entered told) shaped of =
       let state = (subst (AreAllowed n with_right) entered shaped).0 in
       ap telegram_refusal (told state.0 state.2)
@@ -173,7 +183,7 @@ module _ (n : Memory) (with_right : Bool) (verdicts : List Verdict) (all_done : 
   items_unrefused question answer new (is_controlled c right request reply is wants entered told) shaped of =
       absurd (subst IsOfItems is of)
   items_unrefused question answer new
-      (is_brought subject os moment right request reply pdu octet is wants entered told least) shaped of =
+      (is_brought subject os moment right request reply octet is wants entered told) shaped of =
       absurd (subst IsOfItems is of)
   items_unrefused question answer new (is_secured subject os octet error is secures entered told) shaped of =
       absurd (subst IsOfItems is of)
@@ -185,11 +195,11 @@ module _ (n : Memory) (with_right : Bool) (verdicts : List Verdict) (all_done : 
       absurd (subst IsOfItems is of)
   items_unrefused question answer new (is_no_upload name is none entered told) shaped of =
       absurd (subst IsOfItems is of)
-  items_unrefused question answer new (is_sliced id size so_far os more is entered told) shaped of =
+  items_unrefused question answer new (is_sliced id size so_far rest is whole entered told) shaped of =
       absurd (subst IsOfItems is of)
   items_unrefused question answer new (is_ended id is entered told) shaped of =
       absurd (subst IsOfItems is of)
-  items_unrefused question answer new (is_further subject octet so_far piece more is entered told) shaped of =
+  items_unrefused question answer new (is_further subject octet so_far rest is whole entered told) shaped of =
       absurd (subst IsOfItems is of)
   items_unrefused question answer new (is_announced image is entered told) shaped of =
       absurd (subst IsOfItems is of)
@@ -204,10 +214,10 @@ module _ (n : Memory) (with_right : Bool) (verdicts : List Verdict) (all_done : 
 
   -- a control that is done isn't refused
   pub control_unrefused : (c : Control) (function : ℕ) → NamesNoBlock c → IsDoneAs n with_right c function
-      → (question : Question) (answer : Answer) (new : List (Ask × Said)) → HasTold verdicts question answer new
+      → (question : Question) (answer : Answer) (new : List (Ask × Said)) → HasTold pdu own question answer new
       → AreAllowed n with_right new → IsControl c question → control_refusal c answer ≡ None
   control_unrefused c function named done question answer new (is_refused error undone none is) shaped of =
-      absurd (all_done (any_undone verdicts error undone))
+      absurd (all_done (any_undone own error undone))
   control_unrefused c function named done question answer new
       (is_controlled d right request reply is wants entered told)
       shaped of =
@@ -221,7 +231,7 @@ module _ (n : Memory) (with_right : Bool) (verdicts : List Verdict) (all_done : 
       (is_written items os right reply is entered told) shaped of =
       absurd (subst (IsControl c) is of)
   control_unrefused c function named done question answer new
-      (is_brought subject os moment right request reply pdu octet is wants entered told least) shaped of =
+      (is_brought subject os moment right request reply octet is wants entered told) shaped of =
       absurd (subst (IsControl c) is of)
   control_unrefused c function named done question answer new
       (is_secured subject os octet error is secures entered told)
@@ -236,12 +246,12 @@ module _ (n : Memory) (with_right : Bool) (verdicts : List Verdict) (all_done : 
   control_unrefused c function named done question answer new (is_no_upload name is none entered told) shaped of =
       absurd (subst (IsControl c) is of)
   control_unrefused c function named done question answer new
-      (is_sliced id size so_far os more is entered told) shaped of =
+      (is_sliced id size so_far rest is whole entered told) shaped of =
       absurd (subst (IsControl c) is of)
   control_unrefused c function named done question answer new (is_ended id is entered told) shaped of =
       absurd (subst (IsControl c) is of)
   control_unrefused c function named done question answer new
-      (is_further subject octet so_far piece more is entered told) shaped of = absurd (subst (IsControl c) is of)
+      (is_further subject octet so_far rest is whole entered told) shaped of = absurd (subst (IsControl c) is of)
   control_unrefused c function named done question answer new (is_announced image is entered told) shaped of =
       absurd (subst (IsControl c) is of)
   control_unrefused c function named done question answer new (is_unstored image is unstored entered told) shaped of =
@@ -257,12 +267,12 @@ module _ (n : Memory) (with_right : Bool) (verdicts : List Verdict) (all_done : 
   pub about_unrefused : (subject : Subject) (octets : List ℕ) → (IsSecurity subject → ⊥)
       → (NamesNone subject octets → ⊥)
       → IsGood n with_right subject octets
-      → (question : Question) (answer : Answer) (new : List (Ask × Said)) → HasTold verdicts question answer new
+      → (question : Question) (answer : Answer) (new : List (Ask × Said)) → HasTold pdu own question answer new
       → AreAllowed n with_right new → IsAbout subject octets question → telegram_refusal answer ≡ None
   about_unrefused subject octets plain named good question answer new (is_refused error undone none is) shaped of =
-      absurd (all_done (any_undone verdicts error undone))
+      absurd (all_done (any_undone own error undone))
   about_unrefused subject octets plain named good question answer new
-      (is_brought other os moment right request reply pdu octet is wants entered told least) shaped of =
+      (is_brought other os moment right request reply octet is wants entered told) shaped of =
       let state = (subst (AreAllowed n with_right) entered shaped).0 in
       let same = subst (IsAbout subject octets) is of in
       let asked : exchange.AsksFor subject octets moment request =
@@ -279,7 +289,7 @@ module _ (n : Memory) (with_right : Bool) (verdicts : List Verdict) (all_done : 
       let same = subst (IsAbout subject octets) is of in
       absurd (named (subst (λ xs. NamesNone subject xs) same.1 (subst (λ s. NamesNone s os) same.0 names)))
   about_unrefused subject octets plain named good question answer new
-      (is_further other octet so_far piece more is entered told) shaped of = ap telegram_refusal told
+      (is_further other octet so_far rest is whole entered told) shaped of = ap telegram_refusal told
   about_unrefused subject octets plain named good question answer new
       (is_barred kind number is barred entered told) shaped of =
       absurd (subst (IsAbout subject octets) is of)
@@ -290,7 +300,7 @@ module _ (n : Memory) (with_right : Bool) (verdicts : List Verdict) (all_done : 
       (is_no_upload name is none entered told) shaped of =
       absurd (subst (IsAbout subject octets) is of)
   about_unrefused subject octets plain named good question answer new
-      (is_sliced id size so_far os more is entered told) shaped of =
+      (is_sliced id size so_far rest is whole entered told) shaped of =
       absurd (subst (IsAbout subject octets) is of)
   about_unrefused subject octets plain named good question answer new (is_ended id is entered told) shaped of =
       absurd (subst (IsAbout subject octets) is of)
@@ -317,10 +327,10 @@ module _ (n : Memory) (with_right : Bool) (verdicts : List Verdict) (all_done : 
   pub upload_unrefused : (name : BlockName) → uploaded_of name ≡ Some name
       → ((right : Bool) (s : State) → SameShape s.memory n → (with_right ≡ true → right ≡ true)
       → (plant.answer s right (plain.StartUpload name.kind name.number)).error ≡ 0)
-      → (question : Question) (answer : Answer) (new : List (Ask × Said)) → HasTold verdicts question answer new
+      → (question : Question) (answer : Answer) (new : List (Ask × Said)) → HasTold pdu own question answer new
       → AreAllowed n with_right new → IsUploadOf name question → telegram_refusal answer ≡ None
   upload_unrefused name named good question answer new (is_refused error undone none is) shaped of =
-      absurd (all_done (any_undone verdicts error undone))
+      absurd (all_done (any_undone own error undone))
   upload_unrefused name named good question answer new (is_started other block right reply id is names entered told)
       shaped of =
       let state = (subst (AreAllowed n with_right) entered shaped).0 in
@@ -334,7 +344,7 @@ module _ (n : Memory) (with_right : Bool) (verdicts : List Verdict) (all_done : 
   upload_unrefused name named good question answer new (is_no_upload other is none entered told) shaped of =
       let same : other ≡ name = subst (IsUploadOf name) is of in
       absurd (not_both (uploaded_of name) name (ap uploaded_of (sym same) ∙ none) named)
-  upload_unrefused name named good question answer new (is_sliced id size so_far os more is entered told) shaped of =
+  upload_unrefused name named good question answer new (is_sliced id size so_far rest is whole entered told) shaped of =
       ap telegram_refusal told
   upload_unrefused name named good question answer new
       (is_ended id is entered told) shaped of = ap telegram_refusal told
@@ -345,7 +355,7 @@ module _ (n : Memory) (with_right : Bool) (verdicts : List Verdict) (all_done : 
   upload_unrefused name named good question answer new (is_controlled c right request reply is wants entered told)
       shaped of = absurd (subst (IsUploadOf name) is of)
   upload_unrefused name named good question answer new
-      (is_brought subject os moment right request reply pdu octet is wants entered told least) shaped of =
+      (is_brought subject os moment right request reply octet is wants entered told) shaped of =
       absurd (subst (IsUploadOf name) is of)
   upload_unrefused name named good question answer new (is_secured subject os octet error is secures entered told)
       shaped of = absurd (subst (IsUploadOf name) is of)
@@ -354,7 +364,7 @@ module _ (n : Memory) (with_right : Bool) (verdicts : List Verdict) (all_done : 
   upload_unrefused name named good question answer new (is_barred kind number is barred entered told) shaped of =
       absurd (subst (IsUploadOf name) is of)
   upload_unrefused name named good question answer new
-      (is_further subject octet so_far piece more is entered told) shaped of = absurd (subst (IsUploadOf name) is of)
+      (is_further subject octet so_far rest is whole entered told) shaped of = absurd (subst (IsUploadOf name) is of)
   upload_unrefused name named good question answer new (is_announced image is entered told) shaped of =
       absurd (subst (IsUploadOf name) is of)
   upload_unrefused name named good question answer new (is_unstored image is unstored entered told) shaped of =

@@ -14,6 +14,7 @@ use Rattle.s7_plant.specs.Replies.{Said, said}
 use Rattle.s7_plant.specs.State.{State}
 use Rattle.s7_dialogue.specs.Question.{starts_upload, slices_upload, ends_upload}
 use Rattle.s7_dialogue.specs.Answer.{refuses, uploads, slices, uploaded, answer_of}
+use Rattle.s7_dialogue.proofs.FlightLemmas.{same_some}
 use Rattle.s7_session.specs.LinkState.{LinkState, next_octet}
 use Rattle.s7_session.specs.Owed.{past}
 use Rattle.s7_session.specs.Judgement.{answer_octets, by_upload, refusal_octets, slice_answer, upload_reply}
@@ -100,9 +101,9 @@ start_heard name s link reply low (is_error error bad small is) =
     subst (IsStartHeard name s link) (sym is) (error_heard name s error link low small bad)
 
 -- whatever state gives the reply, it is heard
-start_well : (all : List Verdict) (link : LinkState) (s : ℕ) (name block : BlockName) → s < 65536
-    → uploaded_of name ≡ Some block → IsAskedWell all (starts_upload name) s (by_upload link s block)
-start_well all link s name block low names = record {
+start_well : (pdu : ℕ) (link : LinkState) (s : ℕ) (name block : BlockName) → s < 65536
+    → uploaded_of name ≡ Some block → IsAskedWell pdu (starts_upload name) s (by_upload link s block)
+start_well pdu link s name block low names = record {
   message = upload_reply link s;
   messages = λ reply. refl;
   good = λ moment reply state gives for.
@@ -130,20 +131,20 @@ start_replied {first} b js vs pdu s name (Some block) served is =
     asking_replied b js vs pdu s q (by_upload link s block) served
     (judged_start link pdu s name (Some block) (is_sent b js vs pdu s q served) is)
     (λ reply. keeps_grant (eqb reply.error 0) link _ refl)
-    (start_well (js ++ vs) link s name block served.low is)
+    (λ answer. tt) (start_well pdu link s name block served.low is)
 start_replied {first} b js vs pdu s name None served is =
     let q = starts_upload name in
     refused_replied b js vs pdu s 0x8404 q served
     (_, judged_start (past first b js).link pdu s name None (is_sent b js vs pdu s q served) is, refl) (omega arith)
-    (is_no_upload name refl is refl refl)
+    (λ answer. tt) (is_no_upload name refl is refl refl)
 
 -- ---- slices
 
-slice_good : (all : List Verdict) (link : LinkState) (pdu s id size : ℕ) (so_far rest : List ℕ) → s < 65536
+slice_good : (link : LinkState) (pdu s id size : ℕ) (so_far rest : List ℕ) → s < 65536
     → 64 ≤ pdu → pdu ≤ most_pdu → length (so_far ++ rest) ≡ size → size ≤ 65572
     → link.upload ≡ Some (record { id = id; left = left_behind (image_room pdu) rest })
-    → IsGood all link (slices_upload id size so_far) s (slice_answer s (first_piece (image_room pdu) rest)) []
-slice_good all link pdu s id size so_far rest low least few whole most held =
+    → IsGood pdu [] link (slices_upload id size so_far) s (slice_answer s (first_piece (image_room pdu) rest)) []
+slice_good link pdu s id size so_far rest low least few whole most held =
     let room = image_room pdu in
     let long = length-slice s room rest in
     record {
@@ -152,7 +153,7 @@ slice_good all link pdu s id size so_far rest low least few whole most held =
       heard = record {
         answer = slices (ltb room (length rest)) (take room rest);
         is = slice_is_heard s id size room so_far rest low (omega (arith, least)) (omega (arith, few)) whole most;
-        told = is_sliced id size so_far (take room rest) (ltb room (length rest)) refl refl refl;
+        told = is_sliced id size so_far rest refl whole refl refl;
         goes_on = rest_is_held link id size room so_far rest (ltb room (length rest)) held whole most refl;
       };
     }
@@ -167,13 +168,21 @@ slice_replied {first} b js vs pdu s id size so_far served h =
     let after = record link { upload = Some (record { id = id; left = left_behind room h.rest }) } in
     link_replied b js vs pdu s q (slice_answer s (first_piece room h.rest)) after served
     (judged_slice link pdu s id size so_far (is_sent b js vs pdu s q served) h) served.settled.grants
-    (slice_good (js ++ vs) after pdu s id size so_far h.rest served.low served.least served.most h.whole h.most refl)
+    (λ answer is. (
+      h.rest,
+      h.is,
+      same_some _ _
+          (sym is
+          ∙ slice_is_heard s id size room so_far h.rest served.low (omega (arith, served.least))
+          (omega (arith, served.most)) h.whole h.most),
+    ))
+    (slice_good after pdu s id size so_far h.rest served.low served.least served.most h.whole h.most refl)
 
 -- ---- the end
 
-end_good : (all : List Verdict) (link : LinkState) (s id : ℕ) → s < 65536
-    → IsGood all link (ends_upload id) s (answer_octets s (end_function ∷ []) []) []
-end_good all link s id low = record {
+end_good : (pdu : ℕ) (link : LinkState) (s id : ℕ) → s < 65536
+    → IsGood pdu [] link (ends_upload id) s (answer_octets s (end_function ∷ []) []) []
+end_good pdu link s id low = record {
   least = omega arith;
   most = omega arith;
   heard = record {
@@ -193,4 +202,4 @@ end_replied {first} b js vs pdu s id served held =
     let after = record link { upload = None } in
     link_replied b js vs pdu s q (answer_octets s (end_function ∷ []) []) after served
     (judged_end link pdu s id (is_sent b js vs pdu s q served) held) served.settled.grants
-    (end_good (js ++ vs) after s id served.low)
+    (λ answer is. tt) (end_good pdu after s id served.low)

@@ -18,7 +18,6 @@ use Rattle.s7_dialogue.specs.Answer.{stands, function_of, answer_of}
 use Rattle.s7_dialogue.proofs.FlightLemmas.{same_some}
 use Rattle.s7_session.specs.LinkState.{LinkState}
 use Rattle.s7_session.specs.Judgement.{reply_octets, plainly}
-use Rattle.s7_session.specs.Verdict.{Verdict}
 use Rattle.s7_rig.specs.Exchanges.{control_heard, is_controlled, request_of}
 use Rattle.s7_rig.proofs.AnsweredLemmas.{answer_is_heard, refusal_is_heard}
 use Rattle.s7_rig.proofs.DeleteLemmas.{deletion}
@@ -113,9 +112,9 @@ heard_by_kind c s reply low (is_barred_from is) = subst (IsControlHeard c s) (sy
 heard_by_kind c s reply low (is_lacking is) = subst (IsControlHeard c s) (sym is) (lacking_heard c s low)
 
 -- whatever state gives the reply to a control, it is heard
-pub control_well : (all : List Verdict) (link : LinkState) (s : ℕ) (c : Control) (request : Request) → s < 65536
-    → request_of c ≡ Some request → IsAskedWell all (controls c) s (plainly link s request)
-control_well all link s c request low is = record {
+pub control_well : (pdu : ℕ) (link : LinkState) (s : ℕ) (c : Control) (request : Request) → s < 65536
+    → request_of c ≡ Some request → IsAskedWell pdu (controls c) s (plainly link s request)
+control_well pdu link s c request low is = record {
   message = reply_octets s;
   messages = λ reply. refl;
   good = λ moment reply state gives for.

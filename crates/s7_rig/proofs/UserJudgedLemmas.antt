@@ -234,9 +234,8 @@ judged_data link pdu s octets name sent eight is =
 
 -- ---- passwords
 
--- It is answered with an error word, and without octets.
-pub record IsSecured (link : LinkState) (s group subfunction : ℕ) (j : Judgement) : Type 0 where
-  pub error : ℕ
+-- It is answered with this error word, and without octets.
+pub record IsSecured (link : LinkState) (s group subfunction error : ℕ) (j : Judgement) : Type 0 where
   pub right : Bool
   pub small : error < 65536
   pub is : j
@@ -258,11 +257,12 @@ clear_small None right = omega arith
 clear_small (Some guard) right = error_small right NO_RIGHT (omega arith)
 
 pub judged_password : (link : LinkState) (pdu s : ℕ) (octets : List ℕ) → IsSent link pdu s (asks Password octets)
-    → length octets ≡ 8 → IsSecured link s 0x45 0x01 (judge link (question_octets s (asks Password octets)))
+    → length octets ≡ 8
+    → IsSecured link s 0x45 0x01 (set_error link.guard (decoded octets))
+    (judge link (question_octets s (asks Password octets)))
 judged_password link pdu s octets sent eight =
     let error = set_error link.guard (decoded octets) in
     record {
-      error = error;
       right = link.right || eqb error 0;
       small = set_small link.guard (decoded octets);
       is = judged_asks link pdu s Password octets sent
@@ -272,11 +272,11 @@ judged_password link pdu s octets sent eight =
 
 pub judged_clearing : (link : LinkState) (pdu s : ℕ) (octets : List ℕ)
     → IsSent link pdu s (asks PasswordClearing octets) → octets ≡ []
-    → IsSecured link s 0x45 0x02 (judge link (question_octets s (asks PasswordClearing octets)))
+    → IsSecured link s 0x45 0x02 (clear_error link.guard link.right)
+    (judge link (question_octets s (asks PasswordClearing octets)))
 judged_clearing link pdu s octets sent none =
     let error = clear_error link.guard link.right in
     record {
-      error = error;
       right = link.right && not (eqb error 0);
       small = clear_small link.guard link.right;
       is = judged_asks link pdu s PasswordClearing octets sent

@@ -26,17 +26,18 @@ use Rattle.s7_dialogue.proofs.FlightLemmas.{same_some}
 use Rattle.s7_dialogue.specs.Question.{Question, negotiates, reads, writes, controls, asks, asks_further, question_octets}
 use Rattle.s7_dialogue.specs.Question.{starts_upload, slices_upload, ends_upload, announces, awaits_call, gives, inserts}
 use Rattle.s7_dialogue.specs.Question.{messages_of}
-use Rattle.s7_dialogue.specs.Answer.{brings, refuses, answer_of}
+use Rattle.s7_dialogue.specs.Answer.{Answer, brings, refuses, answer_of}
 use Rattle.s7_session.specs.Events.{lives}
 use Rattle.s7_session.specs.LinkState.{LinkState, next_octet}
 use Rattle.s7_session.specs.Owed.{past}
 use Rattle.s7_session.specs.Judgement.{judge, plainly, by_user, asks_user, user_octets, secured}
 use Rattle.s7_session.specs.Judgement.{slice_room, slice_octets, slices_left, informed}
-use Rattle.s7_session.specs.Passwords.{no_data}
+use Rattle.s7_session.specs.Passwords.{decoded, no_data, set_error, clear_error}
 use Rattle.s7_session.specs.Verdict.{Verdict}
 use Rattle.s7_rig.specs.Settled.{Settled}
 use Rattle.s7_rig.specs.Written.{own_write}
 use Rattle.s7_rig.specs.Exchanges.{IsAskable, AsksFor, IsSecurity, IsReadyFor, HoldsRest, GoesOn, security_heard}
+use Rattle.s7_rig.specs.Exchanges.{IsSecuredBy}
 use Rattle.s7_rig.specs.Exchanges.{NamesNone, is_secured, is_unnamed, is_further, Replies, request_of, uploaded_of}
 use Rattle.s7_rig.specs.Plants.{IsStateFor}
 use Rattle.s7_rig.proofs.ControlReplyLemmas.{control_replied}
@@ -52,7 +53,7 @@ use Rattle.s7_rig.proofs.UserJudgedLemmas.{judged_counts, judged_kind, judged_he
 use Rattle.s7_rig.proofs.UserServedLemmas.{IsFit, user_well}
 use Rattle.s7_rig.proofs.JudgedLemmas.{judged_read}
 use Rattle.s7_rig.proofs.AsksLemmas.{write_is_asked}
-use Rattle.s7_rig.proofs.ReplyLemmas.{RepliesOnce, IsGood, read_well, write_well}
+use Rattle.s7_rig.proofs.ReplyLemmas.{RepliesOnce, IsLeftOpen, IsGood, read_well, write_well}
 use Rattle.s7_rig.proofs.OnceLemmas.{IsOne, one_numbered, alone_sent, once_replies}
 
 -- ---- passwords
@@ -71,10 +72,10 @@ secured_ends : (good : Bool) (link : LinkState) (octet error : ℕ) (subject : S
 secured_ends true link octet error subject octets = λ more. absurd (cc)
 secured_ends false link octet error subject octets = tt
 
-secured_good : (all : List Verdict) (link : LinkState) (s octet error : ℕ) (subject : Subject) (octets : List ℕ)
+secured_good : (link : LinkState) (pdu s octet error : ℕ) (subject : Subject) (octets : List ℕ)
     → s < 65536 → error < 65536 → IsSecurity subject → goes_on_with subject [] false [] ≡ true
-    → IsGood all link (asks subject octets) s (user_octets s (told_params subject octet 0 error) no_data) []
-secured_good all link s octet error subject octets low small security whole =
+    → IsGood pdu [] link (asks subject octets) s (user_octets s (told_params subject octet 0 error) no_data) []
+secured_good link pdu s octet error subject octets low small security whole =
     let long = length-told s octet 0 error subject no_data in
     record {
       least = omega (arith, long);
@@ -89,12 +90,12 @@ secured_good all link s octet error subject octets low small security whole =
 
 -- ---- further octets
 
-further_good : (all : List Verdict) (link : LinkState) (pdu s octet : ℕ) (subject : Subject) (so_far rest : List ℕ)
+further_good : (link : LinkState) (pdu s octet : ℕ) (subject : Subject) (so_far rest : List ℕ)
     → s < 65536 → 64 ≤ pdu → pdu ≤ most_pdu → IsRest subject so_far rest
     → link.sliced ≡ slices_left (group_of subject) (subfunction_of subject) octet pdu rest
-    → IsGood all link (asks_further subject octet so_far) s
+    → IsGood pdu [] link (asks_further subject octet so_far) s
     (slice_octets s (group_of subject) (subfunction_of subject) octet pdu rest) []
-further_good all link pdu s octet subject so_far rest low least most r sliced =
+further_good link pdu s octet subject so_far rest low least most r sliced =
     let long = length-slice s octet pdu subject rest least most in
     let room = slice_room pdu in
     record {
@@ -104,7 +105,7 @@ further_good all link pdu s octet subject so_far rest low least most r sliced =
         answer = brings octet (ltb room (length rest)) (take room rest);
         is = slice_is_heard (asks_further subject octet so_far) subject (Some octet) s octet pdu so_far rest
             (refl, λ params body. refl) (eq-eqb octet octet refl) low least most r;
-        told = is_further subject octet so_far (take room rest) (ltb room (length rest)) refl refl refl;
+        told = is_further subject octet so_far rest refl r.whole refl refl;
         goes_on = rest_is_held link subject octet pdu so_far rest sliced r;
       };
     }
@@ -118,7 +119,7 @@ read_replied {first} b js vs pdu s items served can =
     let link = (past first b js).link in
     asking_replied b js vs pdu s (reads items) (plainly link s (Read items)) served
     (judged_read link pdu s items served.settled.grants served.low served.most served.fits can.0.0 can.0.1 can.1)
-    (λ reply. refl) (read_well (js ++ vs) link s items served.low (omega (arith, served.most, can.1)))
+    (λ reply. refl) (λ answer. tt) (read_well pdu link s items served.low (omega (arith, served.most, can.1)))
 
 write_replied : {first : LinkState} (b : List ℕ) (js vs : List Verdict) (pdu s : ℕ) (items : List Item)
     (octets : List ℕ) → IsServed first b js vs pdu s (writes items octets) → IsAskable pdu (writes items octets)
@@ -127,23 +128,25 @@ write_replied {first} b js vs pdu s items octets served can =
     let link = (past first b js).link in
     asking_replied b js vs pdu s (writes items octets) (plainly link s (own_write items octets)) served
     (write_is_asked link pdu s items octets served.settled.grants served.low served.most served.fits can.0.0 can.0.1
-    can.1) (λ reply. refl)
-    (write_well (js ++ vs) link s items octets served.low can.0.1 can.1 (omega (arith, served.most, served.fits)))
+    can.1) (λ reply. refl) (λ answer. tt)
+    (write_well pdu link s items octets served.low can.0.1 can.1 (omega (arith, served.most, served.fits)))
 
 -- user data that asks the plant
 user_replied : {first : LinkState} (b : List ℕ) (js vs : List Verdict) (pdu s : ℕ) (subject : Subject)
     (octets : List ℕ) (timed : Bool) (request : ℕ → Request) → IsServed first b js vs pdu s (asks subject octets)
     → judge (past first b js).link (question_octets s (asks subject octets))
     ≡ asks_user (past first b js).link pdu s (group_of subject) (subfunction_of subject) timed request
+    → IsLeftOpen (past first b js).link pdu (asks subject octets)
     → ((moment : ℕ) → AsksFor subject octets moment (request moment))
     → ((moment : ℕ) (state : State) (right : Bool) → IsStateFor (request moment) state
     → IsFit subject (plant.answer state right (request moment)))
     → RepliesOnce first b js vs pdu (asks subject octets) s
-user_replied {first} b js vs pdu s subject octets timed request served judged told fits =
+user_replied {first} b js vs pdu s subject octets timed request served judged open_to told fits =
     let link = (past first b js).link in
     asking_replied b js vs pdu s (asks subject octets)
     (by_user link pdu s (group_of subject) (subfunction_of subject) timed request) served judged (λ reply. refl)
-    (user_well (js ++ vs) link pdu s subject octets timed request served.low served.least served.most told
+    open_to
+    (user_well link pdu s subject octets timed request served.low served.least served.most told
     (λ moment state for. fits moment state link.right for))
 
 state_replied : {first : LinkState} (b : List ℕ) (js vs : List Verdict) (pdu s : ℕ)
@@ -153,7 +156,7 @@ state_replied {first} b js vs pdu s served =
     let octets = list_octets 0x0424 0 in
     user_replied b js vs pdu s RunState octets false (λ moment. plain.Szl 0x0424 0) served
     (judged_state (past first b js).link pdu s octets (is_sent b js vs pdu s (asks RunState octets) served) refl)
-    (λ moment. refl) (λ moment state right for. state_fits state right)
+    (λ answer. tt) (λ moment. refl) (λ moment state right for. state_fits state right)
 
 setting_by : {first : LinkState} (b : List ℕ) (js vs : List Verdict) (pdu s : ℕ) (octets : List ℕ)
     (value : Option ℕ) → IsServed first b js vs pdu s (asks ClockSetting octets) → length octets ≡ 10
@@ -163,15 +166,16 @@ setting_by {first} b js vs pdu s octets (Some value) served ten is some =
     user_replied b js vs pdu s ClockSetting octets true (λ moment. plain.ClockSet moment value) served
     (judged_setting (past first b js).link pdu s value octets
     (is_sent b js vs pdu s (asks ClockSetting octets) served) ten is)
-    (λ moment. (value, is, refl)) (λ moment state right for. setting_fits moment value state right)
+    (λ answer. tt) (λ moment. (value, is, refl)) (λ moment state right for. setting_fits moment value state right)
 
 -- a name of no block is refused
 unnamed_replied : {first : LinkState} (b : List ℕ) (js vs : List Verdict) (pdu s : ℕ) (subject : Subject)
     (octets : List ℕ) → IsServed first b js vs pdu s (asks subject octets) → NamesNone subject octets
     → judge (past first b js).link (question_octets s (asks subject octets)) ≡ informed (past first b js).link pdu s None
+    → IsLeftOpen (past first b js).link pdu (asks subject octets)
     → RepliesOnce first b js vs pdu (asks subject octets) s
-unnamed_replied b js vs pdu s subject octets served none judged =
-    refused_replied b js vs pdu s 0x8404 (asks subject octets) served (_, judged, refl) (omega arith)
+unnamed_replied b js vs pdu s subject octets served none judged open_to =
+    refused_replied b js vs pdu s 0x8404 (asks subject octets) served (_, judged, refl) (omega arith) open_to
     (is_unnamed subject octets refl none refl refl)
 
 -- blocks of a kind
@@ -182,11 +186,11 @@ kind_replied {first} b js vs pdu s kind true served is =
     let q = asks BlocksOfKind (kind_octets kind) in
     user_replied b js vs pdu s BlocksOfKind (kind_octets kind) false (λ moment. plain.ListOf kind) served
     (judged_kind (past first b js).link pdu s kind true (is_sent b js vs pdu s q served) is)
-    (λ moment. refl) (λ moment state right plant. kind_fits kind state right plant)
+    (λ answer. tt) (λ moment. refl) (λ moment state right plant. kind_fits kind state right plant)
 kind_replied {first} b js vs pdu s kind false served is =
     let q = asks BlocksOfKind (kind_octets kind) in
     unnamed_replied b js vs pdu s BlocksOfKind (kind_octets kind) served is
-    (judged_kind (past first b js).link pdu s kind false (is_sent b js vs pdu s q served) is)
+    (judged_kind (past first b js).link pdu s kind false (is_sent b js vs pdu s q served) is) (λ answer. tt)
 
 -- the head of a block
 head_replied : {first : LinkState} (b : List ℕ) (js vs : List Verdict) (pdu s : ℕ) (octets : List ℕ)
@@ -196,11 +200,13 @@ head_replied {first} b js vs pdu s octets (Some name) served eight is =
     user_replied b js vs pdu s BlockHead octets false (λ moment. plain.Info name.kind name.number) served
     (judged_head (past first b js).link pdu s octets (Some name) (is_sent b js vs pdu s (asks BlockHead octets) served)
     eight is)
-    (λ moment. (name, is, refl)) (λ moment state right plant. head_fits name.kind name.number state right plant)
+    (λ answer. tt) (λ moment. (name, is, refl))
+    (λ moment state right plant. head_fits name.kind name.number state right plant)
 head_replied {first} b js vs pdu s octets None served eight is =
     unnamed_replied b js vs pdu s BlockHead octets served is
     (judged_head (past first b js).link pdu s octets None (is_sent b js vs pdu s (asks BlockHead octets) served) eight
     is)
+    (λ answer. tt)
 
 -- the head of a data block, which is what its octets name
 same_kind_by : (kind number : ℕ) (name : BlockName) (b : Bool)
@@ -225,7 +231,7 @@ data_replied {first} b js vs pdu s number (Some name) served is =
     user_replied b js vs pdu s DataHead octets false (λ moment. plain.Info name.kind name.number) served
     (judged_data (past first b js).link pdu s octets (Some name) (is_sent b js vs pdu s (asks DataHead octets) served)
     refl is)
-    (λ moment. (name, is, refl))
+    (λ answer. tt) (λ moment. (name, is, refl))
     (λ moment state right for.
     subst (λ (kind : ℕ). IsFit DataHead (plant.answer state right (plain.Info kind name.number)))
     (names_data number name is) (data_fits name.number state right for))
@@ -233,21 +239,26 @@ data_replied {first} b js vs pdu s number None served is =
     let octets = block_octets 0x41 number in
     unnamed_replied b js vs pdu s DataHead octets served is
     (judged_data (past first b js).link pdu s octets None (is_sent b js vs pdu s (asks DataHead octets) served) refl is)
+    (λ answer. tt)
 
 -- user data about a password
-secured_replied : {first : LinkState} (b : List ℕ) (js vs : List Verdict) (pdu s : ℕ) (subject : Subject)
+secured_replied : {first : LinkState} (b : List ℕ) (js vs : List Verdict) (pdu s error : ℕ) (subject : Subject)
     (octets : List ℕ) → IsServed first b js vs pdu s (asks subject octets) → IsSecurity subject
     → goes_on_with subject [] false [] ≡ true
-    → IsSecured (past first b js).link s (group_of subject) (subfunction_of subject)
+    → IsSecured (past first b js).link s (group_of subject) (subfunction_of subject) error
     (judge (past first b js).link (question_octets s (asks subject octets)))
+    → ((answer : Answer) → answer ≡ security_heard (next_octet (past first b js).link.user_sequence) error
+    → IsSecuredBy (past first b js).link subject octets answer)
     → RepliesOnce first b js vs pdu (asks subject octets) s
-secured_replied {first} b js vs pdu s subject octets served security whole of =
+secured_replied {first} b js vs pdu s error subject octets served security whole of same =
     let link = (past first b js).link in
     let octet = next_octet link.user_sequence in
     let after = secured link of.right in
-    let message = user_octets s (told_params subject octet 0 of.error) no_data in
+    let message = user_octets s (told_params subject octet 0 error) no_data in
+    let heard = secured_heard (eqb error 0) s octet error subject octets served.low of.small whole refl in
     link_replied b js vs pdu s (asks subject octets) message after served of.is served.settled.grants
-    (secured_good (js ++ vs) after s octet of.error subject octets served.low of.small security whole)
+    (λ answer is. same answer (same_some _ _ (sym is ∙ heard)))
+    (secured_good after pdu s octet error subject octets served.low of.small security whole)
 
 further_replied : {first : LinkState} (b : List ℕ) (js vs : List Verdict) (pdu s octet : ℕ) (subject : Subject)
     (so_far : List ℕ) → IsServed first b js vs pdu s (asks_further subject octet so_far)
@@ -261,10 +272,18 @@ further_replied {first} b js vs pdu s octet subject so_far served pieces h =
     let f = subfunction_of subject in
     let after = record link { sliced = slices_left g f octet pdu rest } in
     let message = slice_octets s g f octet pdu rest in
+    let r : IsRest subject so_far rest = record { whole = h.whole; most = h.most; short = inl pieces } in
     link_replied b js vs pdu s q message after served
     (judged_further link pdu s octet subject so_far (is_sent b js vs pdu s q served) pieces h) served.settled.grants
-    (further_good (js ++ vs) after pdu s octet subject so_far rest served.low served.least served.most
-    (record { whole = h.whole; most = h.most; short = inl pieces }) refl)
+    (λ answer is. (
+      h.held,
+      h.is,
+      same_some _ _
+          (sym is
+          ∙ slice_is_heard q subject (Some octet) s octet pdu so_far rest (refl, λ params body. refl)
+          (eq-eqb octet octet refl) served.low served.least served.most r),
+    ))
+    (further_good after pdu s octet subject so_far rest served.low served.least served.most r refl)
 
 served_replied : {first : LinkState} (b : List ℕ) (js vs : List Verdict) (pdu s : ℕ) (q : Question)
     → IsOne q → IsServed first b js vs pdu s q → IsAskable pdu q → IsReadyFor (past first b js).link q
@@ -280,14 +299,14 @@ served_replied {first} b js vs pdu s (asks StatusList octets) one served can rea
     let index = number_at octets 2 in
     user_replied b js vs pdu s StatusList octets false (λ moment. plain.Szl id index) served
     (judged_list (past first b js).link pdu s octets (is_sent b js vs pdu s (asks StatusList octets) served) can)
-    (λ moment. refl) (λ moment state right for. list_fits id index state right)
+    (λ answer. tt) (λ moment. refl) (λ moment state right for. list_fits id index state right)
 served_replied {first} b js vs pdu s (asks RunState octets) one served can ready =
     subst (λ xs. RepliesOnce first b js vs pdu (asks RunState xs) s) (sym can)
     (state_replied b js vs pdu s (subst (λ xs. IsServed first b js vs pdu s (asks RunState xs)) can served))
 served_replied {first} b js vs pdu s (asks BlockCounts octets) one served can ready =
     user_replied b js vs pdu s BlockCounts octets false (λ moment. plain.ListAll) served
     (judged_counts (past first b js).link pdu s octets (is_sent b js vs pdu s (asks BlockCounts octets) served))
-    (λ moment. refl) (λ moment state right for. counts_fit state right)
+    (λ answer. tt) (λ moment. refl) (λ moment state right for. counts_fit state right)
 served_replied {first} b js vs pdu s (asks BlocksOfKind octets) one served can ready =
     subst (λ xs. RepliesOnce first b js vs pdu (asks BlocksOfKind xs) s) (sym can.1)
     (kind_replied b js vs pdu s can.0 (is_some (head_code can.0))
@@ -301,16 +320,18 @@ served_replied {first} b js vs pdu s (asks DataHead octets) one served can ready
 served_replied {first} b js vs pdu s (asks Clock octets) one served can ready =
     user_replied b js vs pdu s Clock octets true (λ moment. plain.ClockRead moment) served
     (judged_clock (past first b js).link pdu s octets (is_sent b js vs pdu s (asks Clock octets) served))
-    (λ moment. refl) (λ moment state right for. clock_fits moment state right)
+    (λ answer. tt) (λ moment. refl) (λ moment state right for. clock_fits moment state right)
 served_replied b js vs pdu s (asks ClockSetting octets) one served can ready =
     setting_by b js vs pdu s octets (moment_in octets) served can.0 refl can.1
 served_replied {first} b js vs pdu s (asks Password octets) one served can ready =
-    secured_replied b js vs pdu s Password octets served tt refl
-    (judged_password (past first b js).link pdu s octets (is_sent b js vs pdu s (asks Password octets) served) can)
+    let link = (past first b js).link in
+    secured_replied b js vs pdu s (set_error link.guard (decoded octets)) Password octets served tt refl
+    (judged_password link pdu s octets (is_sent b js vs pdu s (asks Password octets) served) can) (λ answer is. is)
 served_replied {first} b js vs pdu s (asks PasswordClearing octets) one served can ready =
-    secured_replied b js vs pdu s PasswordClearing octets served tt refl
-    (judged_clearing (past first b js).link pdu s octets (is_sent b js vs pdu s (asks PasswordClearing octets) served)
-    can)
+    let link = (past first b js).link in
+    secured_replied b js vs pdu s (clear_error link.guard link.right) PasswordClearing octets served tt refl
+    (judged_clearing link pdu s octets (is_sent b js vs pdu s (asks PasswordClearing octets) served) can)
+    (λ answer is. is)
 served_replied b js vs pdu s (asks_further subject octet so_far) one served can ready =
     further_replied b js vs pdu s octet subject so_far served can ready
 served_replied b js vs pdu s (starts_upload name) one served can ready =

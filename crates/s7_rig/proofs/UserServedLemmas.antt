@@ -16,7 +16,6 @@ use Rattle.s7_session.specs.LinkState.{LinkState, next_octet}
 use Rattle.s7_session.specs.Judgement.{user_octets, user_reply, user_link, by_user, slice_room, slice_octets}
 use Rattle.s7_session.specs.Judgement.{slices_left}
 use Rattle.s7_session.specs.Passwords.{no_data}
-use Rattle.s7_session.specs.Verdict.{Verdict}
 use Rattle.s7_rig.specs.Exchanges.{AsksFor, GoesOn, user_heard, is_brought}
 use Rattle.s7_rig.specs.Plants.{IsStateFor}
 use Rattle.s7_rig.proofs.ReplyLemmas.{IsAskedWell}
@@ -66,14 +65,14 @@ goes_on_by true link octet pdu subject octets reply fit is sliced =
 goes_on_by false link octet pdu subject octets reply fit is sliced = tt
 
 -- whatever state gives a reply that fits, it is heard, and what is left of it is held
-pub user_well : (all : List Verdict) (link : LinkState) (pdu s : ℕ) (subject : Subject) (octets : List ℕ)
+pub user_well : (link : LinkState) (pdu s : ℕ) (subject : Subject) (octets : List ℕ)
     (timed : Bool) (request : ℕ → Request) → s < 65536 → 64 ≤ pdu → pdu ≤ most_pdu
     → ((moment : ℕ) → AsksFor subject octets moment (request moment))
     → ((moment : ℕ) (state : State) → IsStateFor (request moment) state
     → IsFit subject (plant.answer state link.right (request moment)))
-    → IsAskedWell all (asks subject octets) s
+    → IsAskedWell pdu (asks subject octets) s
     (by_user link pdu s (group_of subject) (subfunction_of subject) timed request)
-user_well all link pdu s subject octets timed request low least most told fits =
+user_well link pdu s subject octets timed request low least most told fits =
     let octet = next_octet link.user_sequence in
     record {
       message = user_reply link pdu s (group_of subject) (subfunction_of subject);
@@ -88,8 +87,8 @@ user_well all link pdu s subject octets timed request low least most told fits =
             heard = record {
               answer = user_heard pdu octet reply;
               is = is_heard_by (eqb reply.error 0) s octet pdu subject octets reply low least most fit refl;
-              told = is_brought subject octets moment link.right (request moment) reply pdu octet refl (told moment)
-                  refl refl least;
+              told = is_brought subject octets moment link.right (request moment) reply octet refl (told moment)
+                  refl refl;
               goes_on = goes_on_by (eqb reply.error 0) left octet pdu subject octets reply fit refl refl;
             };
           };

@@ -41,7 +41,8 @@ use Rattle.s7_dialogue.specs.Answer.{calls, answer_of}
 use Rattle.s7_dialogue.specs.Flight.{Row, answers_of}
 use Rattle.s7_dialogue.specs.Dialogue.{End, Conduct, list_octets, kind_octets, block_octets}
 use Rattle.s7_dialogue.specs.Course.{Origin, conduct_of, next_question}
-use Rattle.s7_session.specs.LinkState.{LinkState, Sliced}
+use Rattle.s7_session.specs.LinkState.{LinkState, Sliced, next_octet}
+use Rattle.s7_session.specs.Passwords.{decoded, set_error, clear_error}
 use Rattle.s7_session.specs.Transfers.{server_job_octets}
 use Rattle.s7_session.specs.Judgement.{slice_room}
 use Rattle.s7_session.specs.Owed.{past, entered}
@@ -256,109 +257,139 @@ abbrev pub IsUndone : List Verdict → ℕ → Type 0
 IsUndone verdicts error =
     (AnyFull verdicts × (error ≡ 0x8F01)) ⊎ ((0 < clock_failures verdicts) × (error ≡ 0x8F02))
 
--- What a question was answered, and what was entered for it. It is refused, and nothing entered, where one of the
--- verdicts is that the history was full or the clock failed. Otherwise a request was entered with a right or without: a
--- read tells what the memory has of the state that gave the reply, a write notes the codes that this memory gives, and of
--- control, of user data, of the start of an upload and of the insertion of the very image that was given the reply is
--- told. Passwords, further octets, slices and the end of an upload enter nothing, and neither do a download up to its
--- insertion, a name of no block, which is refused, a block that isn't deleted, since its kind isn't stored or its number
--- is too large, or one that isn't downloaded, since its kind isn't stored.
-pub data HasTold (verdicts : List Verdict) (question : Question) (answer : Answer) (new : List (Ask × Said))
+-- What a question was answered on a link of this PDU, by the verdicts that it met itself, and what was entered for it.
+-- It is refused, and nothing entered, where one of these is that the history was full or the clock failed. Otherwise a
+-- request was entered with a right or without: a read tells what the memory has of the state that gave the reply, a
+-- write notes the codes that this memory gives, and of control, of user data, of the start of an upload and of the
+-- insertion of the very image that was given the reply is told. Passwords, further octets, slices and the end of an
+-- upload enter nothing, and neither do a download up to its insertion, a name of no block, which is refused, a block
+-- that isn't deleted, since its kind isn't stored or its number is too large, or one that isn't downloaded, since its
+-- kind isn't stored. Further octets and slices are as many as a telegram takes of those that make them whole.
+pub data HasTold (pdu : ℕ) (own : List Verdict) (question : Question) (answer : Answer) (new : List (Ask × Said))
     : Type 0 where
-  is_refused : (error : ℕ) → IsUndone verdicts error → new ≡ [] → answer ≡ refuses error
-      → HasTold verdicts question answer new
+  is_refused : (error : ℕ) → IsUndone own error → new ≡ [] → answer ≡ refuses error
+      → HasTold pdu own question answer new
   is_read : (items : List Item) (right : Bool) (reply : Said) → question ≡ reads items
       → new ≡ (asked right (Read items), reply) ∷ []
       → ((s : State) → reply ≡ plant.answer_of s (asked right (Read items))
-      → answer ≡ tells (map (told_of s.memory right) items)) → HasTold verdicts question answer new
+      → answer ≡ tells (map (told_of s.memory right) items)) → HasTold pdu own question answer new
   is_written : (items : List Item) (octets : List ℕ) (right : Bool) (reply : Said) → question ≡ writes items octets
       → new ≡ (asked right (own_write items octets), reply) ∷ []
       → ((s : State) → reply ≡ plant.answer_of s (asked right (own_write items octets))
-      → answer ≡ notes (own_codes s.memory right items octets)) → HasTold verdicts question answer new
+      → answer ≡ notes (own_codes s.memory right items octets)) → HasTold pdu own question answer new
   is_controlled : (control : Control) (right : Bool) (request : Request) (reply : Said)
       → question ≡ controls control → request_of control ≡ Some request → new ≡ (asked right request, reply) ∷ []
-      → answer ≡ control_heard reply → HasTold verdicts question answer new
+      → answer ≡ control_heard reply → HasTold pdu own question answer new
   is_brought : (subject : Subject) (octets : List ℕ) (moment : ℕ) (right : Bool) (request : Request) (reply : Said)
-      (pdu octet : ℕ) → question ≡ asks subject octets → AsksFor subject octets moment request
-      → new ≡ (asked right request, reply) ∷ [] → answer ≡ user_heard pdu octet reply → 64 ≤ pdu
-      → HasTold verdicts question answer new
+      (octet : ℕ) → question ≡ asks subject octets → AsksFor subject octets moment request
+      → new ≡ (asked right request, reply) ∷ [] → answer ≡ user_heard pdu octet reply
+      → HasTold pdu own question answer new
   is_secured : (subject : Subject) (octets : List ℕ) (octet error : ℕ) → question ≡ asks subject octets
-      → IsSecurity subject → new ≡ [] → answer ≡ security_heard octet error → HasTold verdicts question answer new
+      → IsSecurity subject → new ≡ [] → answer ≡ security_heard octet error → HasTold pdu own question answer new
   is_unnamed : (subject : Subject) (octets : List ℕ) → question ≡ asks subject octets → NamesNone subject octets
-      → new ≡ [] → answer ≡ refuses 0x8404 → HasTold verdicts question answer new
+      → new ≡ [] → answer ≡ refuses 0x8404 → HasTold pdu own question answer new
   is_barred : (kind number : ℕ) → question ≡ controls (control.Delete kind number)
       → request_of (control.Delete kind number) ≡ None → new ≡ []
       → answer ≡ refuses (if is_name kind number then 0x8F03 else 0x8404)
-      → HasTold verdicts question answer new
+      → HasTold pdu own question answer new
   is_started : (name block : BlockName) (right : Bool) (reply : Said) (id : ℕ) → question ≡ starts_upload name
       → uploaded_of name ≡ Some block → new ≡ (asked right (plain.StartUpload block.kind block.number), reply) ∷ []
-      → answer ≡ upload_heard id reply → HasTold verdicts question answer new
+      → answer ≡ upload_heard id reply → HasTold pdu own question answer new
   is_no_upload : (name : BlockName) → question ≡ starts_upload name → uploaded_of name ≡ None → new ≡ []
-      → answer ≡ refuses 0x8404 → HasTold verdicts question answer new
-  is_sliced : (id size : ℕ) (so_far octets : List ℕ) (more : Bool) → question ≡ slices_upload id size so_far
-      → new ≡ [] → answer ≡ slices more octets → HasTold verdicts question answer new
+      → answer ≡ refuses 0x8404 → HasTold pdu own question answer new
+  is_sliced : (id size : ℕ) (so_far rest : List ℕ) → question ≡ slices_upload id size so_far
+      → length (so_far ++ rest) ≡ size → new ≡ []
+      → answer ≡ slices (nat_lt (image_room pdu) (length rest)) (take (image_room pdu) rest)
+      → HasTold pdu own question answer new
   is_ended : (id : ℕ) → question ≡ ends_upload id → new ≡ [] → answer ≡ uploaded
-      → HasTold verdicts question answer new
+      → HasTold pdu own question answer new
   is_announced : (image : List ℕ) → question ≡ announces image → new ≡ [] → answer ≡ announced
-      → HasTold verdicts question answer new
+      → HasTold pdu own question answer new
   is_unstored : (image : List ℕ) → question ≡ announces image → is_stored_kind (name_in image).kind ≡ false → new ≡ []
-      → answer ≡ refuses 0x8F03 → HasTold verdicts question answer new
+      → answer ≡ refuses 0x8F03 → HasTold pdu own question answer new
   is_called : (image : List ℕ) (call : ℕ) → question ≡ awaits_call image → new ≡ [] → answer ≡ calls call
-      → HasTold verdicts question answer new
+      → HasTold pdu own question answer new
   is_given : (image : List ℕ) (room from call next : ℕ) → question ≡ gives image room from call → new ≡ []
-      → answer ≡ calls next → HasTold verdicts question answer new
+      → answer ≡ calls next → HasTold pdu own question answer new
   is_inserted : (image : List ℕ) (call : ℕ) (right : Bool) (reply : Said) → question ≡ inserts image call
       → new
       ≡ (asked right (plain.Insert (name_in image).kind (name_in image).number image no_room), reply) ∷ []
-      → answer ≡ control_heard reply → HasTold verdicts question answer new
-  is_further : (subject : Subject) (octet : ℕ) (so_far piece : List ℕ) (more : Bool)
-      → question ≡ asks_further subject octet so_far → new ≡ [] → answer ≡ brings octet more piece
-      → HasTold verdicts question answer new
+      → answer ≡ control_heard reply → HasTold pdu own question answer new
+  is_further : (subject : Subject) (octet : ℕ) (so_far rest : List ℕ) → question ≡ asks_further subject octet so_far
+      → is_whole subject (so_far ++ rest) ≡ true → new ≡ []
+      → answer ≡ brings octet (nat_lt (slice_room pdu) (length rest)) (take (slice_room pdu) rest)
+      → HasTold pdu own question answer new
 
 -- The message is an answer to the question, behind which these messages are unheard, this was entered for it, and the link
 -- goes on with what follows it.
-pub record IsHeard (verdicts : List Verdict) (link : LinkState) (question : Question) (number : ℕ) (message : List ℕ)
-    (behind : List (List ℕ)) (new : List (Ask × Said)) : Type 0 where
+pub record IsHeard (pdu : ℕ) (own : List Verdict) (link : LinkState) (question : Question) (number : ℕ)
+    (message : List ℕ) (behind : List (List ℕ)) (new : List (Ask × Said)) : Type 0 where
   pub answer : Answer
   pub is : answer_of question number message ≡ Some answer
-  pub told : HasTold verdicts question answer new
+  pub told : HasTold pdu own question answer new
   pub goes_on : GoesOn link question answer
   pub unheard : IsUnheard behind link question answer
+
+-- a password is judged by the guard of the link, and it is given back by its right
+abbrev pub IsSecuredBy : LinkState → Subject → List ℕ → Answer → Type 0
+IsSecuredBy link Password octets answer =
+    answer ≡ security_heard (next_octet link.user_sequence) (set_error link.guard (decoded octets))
+IsSecuredBy link PasswordClearing octets answer =
+    answer ≡ security_heard (next_octet link.user_sequence) (clear_error link.guard link.right)
+IsSecuredBy link _ octets answer = Unit {0}
+
+-- what the link alone tells: what comes of passwords, and the next of the octets that it held
+abbrev pub IsByLink : LinkState → ℕ → Question → Answer → Type 0
+IsByLink link pdu (asks subject octets) answer = IsSecuredBy link subject octets answer
+IsByLink link pdu (asks_further subject octet so_far) answer =
+    (held : Sliced) × (link.sliced ≡ Some held)
+    × (answer ≡ brings octet (nat_lt (slice_room pdu) (length held.rest)) (take (slice_room pdu) held.rest))
+IsByLink link pdu (slices_upload id size so_far) answer =
+    (rest : List ℕ) × (link.upload ≡ Some (record { id = id; left = Some rest }))
+    × (answer ≡ slices (nat_lt (image_room pdu) (length rest)) (take (image_room pdu) rest))
+IsByLink link pdu _ answer = Unit {0}
 
 -- the state of a link that used a question
 abbrev pub link_past : LinkState → List ℕ → ℕ → Question → List Verdict → LinkState
 link_past first b number question verdicts =
     (past first (b ++ sent_messages 1024 (messages_of number question)) verdicts).link
 
--- A question is answered by one message, the first of those that the session sent and its client hasn't heard, with what
--- it sends for the question behind them. Where the replies are those of states, it is no longer than the greatest PDU, and
--- the client hears it as an answer.
+-- A question is answered by one message, the first of those that the session sent and its client hasn't heard, with
+-- what it sends for the question behind them. The first of the verdicts that follow are its own. Where the replies are
+-- those of states, the message is no longer than the greatest PDU, and the client hears it as an answer. What the link
+-- alone tells is by what it had before.
 pub record Replies (first : LinkState) (b : List ℕ) (js vs : List Verdict) (unheard : List (List ℕ)) (pdu : ℕ)
     (question : Question) (number : ℕ) : Type 0 where
-  pub met : List Verdict
+  pub own : List Verdict
   pub left : List Verdict
-  pub split : js ++ vs ≡ met ++ left
+  pub split : vs ≡ own ++ left
   pub sent : List (List ℕ)
   pub message : List ℕ
   pub behind : List (List ℕ)
   pub in_order : unheard ++ sent ≡ message ∷ behind
   pub new : List (Ask × Said)
-  pub serves : Serves first b js (sent_messages 1024 (messages_of number question)) met (Some pdu)
+  pub serves : Serves first b js (sent_messages 1024 (messages_of number question)) (js ++ own) (Some pdu)
       (sent_messages 1024 sent) new
   pub least : AreReplies new → 10 ≤ length message
   pub most : AreReplies new → length message ≤ most_pdu
   pub heard : AreReplies new
-      → IsHeard (js ++ vs) (link_past first b number question met) question number message behind new
+      → IsHeard pdu own (link_past first b number question (js ++ own)) question number message behind new
+  pub by_link : (answer : Answer) → answer_of question number message ≡ Some answer
+      → IsByLink (past first b js).link pdu question answer
 
--- a question, the sequence of its telegram, its answer, and what was entered for it
+-- a question, the sequence of its telegram, the verdicts that it met, its answer, and what was entered for it
 pub record Exchange : Type 0 where
   pub question : Question
   pub number : ℕ
+  pub verdicts : List Verdict
   pub answer : Answer
   pub entries : List (Ask × Said)
 
 abbrev pub entries_of : List Exchange → List (Ask × Said)
 entries_of exchanges = flat_map (λ (x : Exchange). x.entries) exchanges
+
+abbrev pub verdicts_met : List Exchange → List Verdict
+verdicts_met exchanges = flat_map (λ (x : Exchange). x.verdicts) exchanges
 
 -- the answered telegrams
 abbrev pub rows_of : List Exchange → List Row
@@ -366,24 +397,24 @@ rows_of exchanges =
     map (λ (x : Exchange). record { question = x.question; number = x.number; answer = Some x.answer }) exchanges
 
 -- each answer is what was told
-abbrev pub AreTold : List Verdict → List Exchange → Type 0
-AreTold verdicts exchanges =
-    AllByRecursion (λ (x : Exchange). HasTold verdicts x.question x.answer x.entries) exchanges
+abbrev pub AreTold : ℕ → List Exchange → Type 0
+AreTold pdu exchanges =
+    AllByRecursion (λ (x : Exchange). HasTold pdu x.verdicts x.question x.answer x.entries) exchanges
 
--- A job of this conduct went by these exchanges, with the verdicts of its link: its questions were asked in order, and
--- where one is out at a time each behind the answers to those before it; each was answered, nothing more may be asked,
--- and it ends as the conduct says.
-pub record Converses (verdicts : List Verdict) (conduct : Conduct) (end : End) (exchanges : List Exchange)
-    : Type 0 where
+-- A job of this conduct went by these exchanges, on a link of this PDU: its questions were asked in order, and where
+-- one is out at a time each behind the answers to those before it; each was answered, nothing more may be asked, and
+-- it ends as the conduct says.
+pub record Converses (pdu : ℕ) (conduct : Conduct) (end : End) (exchanges : List Exchange) : Type 0 where
   pub asked : AreAsked conduct 0 (rows_of exchanges)
   pub in_turn : conduct.width ≤ 1 → AreInTurn conduct [] (rows_of exchanges)
-  pub told : AreTold verdicts exchanges
+  pub told : AreTold pdu exchanges
   pub none_more : next_question conduct (rows_of exchanges) ≡ None
   pub is : end ≡ conduct.ended (answers_of (rows_of exchanges))
 
--- A job went by exchanges, behind octets and verdicts: what was entered since is theirs.
-pub record WentBy (first : LinkState) (origin : Origin) (end : End) (b sent : List ℕ) (js verdicts : List Verdict)
-    : Type 0 where
+-- A job went by exchanges, behind octets and verdicts: what was entered since is theirs, and so are the verdicts.
+pub record WentBy (first : LinkState) (origin : Origin) (pdu : ℕ) (end : End) (b sent : List ℕ)
+    (js verdicts : List Verdict) : Type 0 where
   pub exchanges : List Exchange
   pub entered_is : entered first (b ++ sent) (js ++ verdicts) ≡ entered first b js ++ entries_of exchanges
-  pub converses : Converses (js ++ verdicts) (conduct_of origin) end exchanges
+  pub verdicts_are : verdicts_met exchanges ≡ verdicts
+  pub converses : Converses pdu (conduct_of origin) end exchanges

@@ -29,7 +29,7 @@ pub record JobsAreSettled : Type 0 where
       → IsConnectSettled guard origin heard sent end used verdicts behind
 
 -- SUCH A JOB COMES OFF WHERE IT CAN, where the session is a link's on a book that began with this memory. Its entries are
--- the link's own calls in the history, behind the earlier ones; no telegram of the link met a full history or a clock
+-- the link's own calls in the history, behind the earlier ones; no telegram of the job met a full history or a clock
 -- that failed, and where it wants a right, all its entries have it.
 pub record JobsComeOff : Type 0 where
   pub comes_off : (opening : Memory) (history : History) (link : ℕ) (right : Bool) (earlier mine : List Entry)
@@ -38,6 +38,6 @@ pub record JobsComeOff : Type 0 where
       → IsJobOver first origin pdu heard sent end carried b used js verdicts behind → IsNoConnect origin.job
       → own (begins_with opening) link history ≡ earlier ++ mine
       → entered first (b ++ used) (js ++ verdicts) ≡ entered first b js ++ map answered mine
-      → (AnyFull (js ++ verdicts) → ⊥) → clock_failures (js ++ verdicts) ≡ 0
+      → (AnyFull verdicts → ⊥) → clock_failures verdicts ≡ 0
       → (right ≡ true → AreWithRight history (map (λ (e : Entry). e.number) mine))
       → CanComeOff opening right pdu origin.job → end.code ≡ no_fault

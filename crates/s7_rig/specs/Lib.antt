@@ -3,6 +3,7 @@ pub mod State
 pub mod Standing
 pub mod Turns
 pub mod Runs
+pub mod Stopped
 pub mod Shown
 pub mod Tells
 pub mod Rigs

@@ -16,7 +16,7 @@ use Rattle.s7_rig.specs.Sent.{sent_by, answered_by}
 use Rattle.s7_rig.specs.Split.{AllStand}
 use Rattle.s7_rig.specs.Complete.{AllComeOff}
 use Rattle.s7_rig.specs.Runs.{AreFresh, IsRun}
-use Rattle.s7_rig.specs.Tells.{TurnsLead}
+use Rattle.s7_rig.specs.Stopped.{RunStops}
 
 -- which turns are made: the stated ones, and so many drawn from a seed
 pub record Turning : Type 0 where
@@ -54,20 +54,21 @@ pub record RigRan (opening : Memory) (limit : ℕ) (config : Config) (scripts : 
 
 -- ---- a rig that memory was wanting for
 
--- such a rig came to a state by turns of its actors
-pub record CameTo (opening : Memory) (limit : ℕ) (config : Config) (scripts : List (List Job)) (last : State)
-    : Type 0 where
+-- such a rig came to a state: its run stopped there, or ended there
+pub record CameTo (opening : Memory) (limit : ℕ) (config : Config) (scripts : List (List Job)) (turning : Turning)
+    (last : State) : Type 0 where
   pub start : State
   pub opened : plant.state_of start.book.opening ≡ plant.begins_with opening
   pub unchanged : plant.state_of start.book.plant ≡ plant.begins_with opening
   pub journal : start.book.journal ≡ entries_of [] limit
   pub fresh : AreFresh opening.guard config 1 scripts start.posts
-  pub reached : TurnsLead start last
+  pub reached : RunStops turning.turns turning.seed turning.steps start last
+      ⊎ IsRun turning.turns turning.seed turning.steps start last
 
 -- MEMORY WAS WANTING: a completion was told of nothing, or of each result that the first client of such a rig had then,
 -- once and in order
-abbrev pub ToldWanting : Memory → ℕ → Config → List (List Job) → Option Told → Option Told → Type 0
-ToldWanting opening limit config scripts before after =
+abbrev pub ToldWanting : Memory → ℕ → Config → List (List Job) → Turning → Option Told → Option Told → Type 0
+ToldWanting opening limit config scripts turning before after =
     (after ≡ before)
-    ⊎ ((last : State) × CameTo opening limit config scripts last
+    ⊎ ((last : State) × CameTo opening limit config scripts turning last
     × (after ≡ option_map (λ t. told_of_results t (first_results (state_told last))) before))

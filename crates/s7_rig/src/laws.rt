@@ -16,11 +16,12 @@ pub fn rigs_are_formed()
 /// A law: a session that stands between two messages answers each question that a job of its client can ask,
 /// by one message, the first that the client hasn't heard, and the client hears it as an answer to that
 /// question. This holds whatever state gives the reply, of blocks whatever state of a plant, and where the
-/// history is full or the clock fails; a name of no block is refused, and so is the deletion or the download
-/// of a block that isn't stored. Where an answer in user data, or the image of a block, has more octets than
-/// a telegram takes, the link holds them, and further octets are answered from there; an upload is held until
-/// its end. In a download the server asks for the image from its front to its end, and what is then asked of
-/// the plant is the insertion of that very image.
+/// question itself met a full history or a clock that failed: then it is refused, and not for what an earlier
+/// one met. A name of no block is refused, and so is the deletion or the download of a block that isn't
+/// stored. A password is judged by the link's guard. Where an answer in user data, or the image of a block,
+/// has more octets than a telegram takes, the link holds them, and further octets are the next of those; an
+/// upload is held until its end. In a download the server asks for the image from its front to its end, and
+/// what is then asked of the plant is the insertion of that very image.
 pub fn questions_are_heard()
     ensures { QuestionsAreHeard }
 {}
@@ -33,8 +34,8 @@ pub fn jobs_are_settled()
     ensures { JobsAreSettled }
 {}
 
-/// A law: where the session is a link's on a book, no telegram of the link met a full history and the clock
-/// never failed, such a job of a connected client has code 0 where it can come off: so each read and write
+/// A law: where the session is a link's on a book, and no telegram of the job met a full history or a clock
+/// that failed, such a job of a connected client has code 0 where it can come off: so each read and write
 /// does that is in range, fits and wants no right that it hasn't.
 pub fn jobs_come_off()
     ensures { JobsComeOff }

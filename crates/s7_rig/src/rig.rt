@@ -7,6 +7,7 @@ ghost use Rattle.s7_plant.specs.Journals.{entries_of};
 ghost use Rattle.s7_plant.specs.State.{begins_with, state_of as plant_state};
 ghost use Rattle.s7_rig.specs.Shown.{state_of, end_told, state_told};
 ghost use Rattle.s7_rig.specs.State.{are_finished};
+ghost use Rattle.s7_rig.specs.Stopped.{RoundsStop, RunStops, TurnsStop};
 ghost use Rattle.s7_rig.specs.Tells.{TellsFirst, TellsWanting};
 ghost use Rattle.s7_rig.specs.Turns.{IsTurnOf};
 ghost use Rattle.s7_rig.specs.Runs.{Turns, actors_of, Rounds, most_rounds, AreFresh, IsRun};
@@ -89,7 +90,7 @@ impl Rig {
         ensures run { OnOk result (IsRun turns.now seed steps (state_of self.old) (state_of self.new)) }
         ensures tells { OnOk result (TellsFirst (state_of self.old) (state_of self.new)
             (option_map C.told done.old) (option_map C.told done.new)) }
-        ensures tells_wanting { OnErr result (TellsWanting (state_of self.old)
+        ensures tells_wanting { OnErr result (TellsWanting (RunStops turns.now seed steps) (state_of self.old)
             (option_map C.told done.old) (option_map C.told done.new)) }
         ensures handed { is_some done.new ≡ is_some done.old }
         ensures count { length self.new.stations.items ≡ length self.old.stations.items }
@@ -135,7 +136,7 @@ impl Rig {
         ensures turns { OnOk result ((stirs : Bool) × Turns turns.now (state_of self.old) (state_of self.new) stirs) }
         ensures tells { OnOk result (TellsFirst (state_of self.old) (state_of self.new)
             (option_map C.told done.old) (option_map C.told done.new)) }
-        ensures tells_wanting { OnErr result (TellsWanting (state_of self.old)
+        ensures tells_wanting { OnErr result (TellsWanting (TurnsStop turns.now) (state_of self.old)
             (option_map C.told done.old) (option_map C.told done.new)) }
         ensures handed { is_some done.new ≡ is_some done.old }
         ensures count { length self.new.stations.items ≡ length self.old.stations.items }
@@ -160,8 +161,9 @@ impl Rig {
             (state_of self.old) (state_of self.new) stirs) }
         ensures tells { OnOk result (TellsFirst (state_of self.old) (state_of self.new)
             (option_map C.told done.old) (option_map C.told done.new)) }
-        ensures tells_wanting { OnErr result (TellsWanting (state_of self.old)
-            (option_map C.told done.old) (option_map C.told done.new)) }
+        ensures tells_wanting { OnErr result (TellsWanting
+            (TurnsStop (seeded seed steps (2 * length self.old.stations.items)))
+            (state_of self.old) (option_map C.told done.old) (option_map C.told done.new)) }
         ensures handed { is_some done.new ≡ is_some done.old }
         ensures count { length self.new.stations.items ≡ length self.old.stations.items }
     {
@@ -182,7 +184,7 @@ impl Rig {
         ensures rounds { OnOk result (Rounds most_rounds (state_of self.old) (state_of self.new)) }
         ensures tells { OnOk result (TellsFirst (state_of self.old) (state_of self.new)
             (option_map C.told done.old) (option_map C.told done.new)) }
-        ensures tells_wanting { OnErr result (TellsWanting (state_of self.old)
+        ensures tells_wanting { OnErr result (TellsWanting (RoundsStop most_rounds) (state_of self.old)
             (option_map C.told done.old) (option_map C.told done.new)) }
         ensures handed { is_some done.new ≡ is_some done.old }
         ensures count { length self.new.stations.items ≡ length self.old.stations.items }
@@ -204,8 +206,8 @@ impl Rig {
             (λ stirs. Turns (actors_of (state_of self.old)) (state_of self.old) (state_of self.new) stirs) }
         ensures tells { OnOk result (TellsFirst (state_of self.old) (state_of self.new)
             (option_map C.told done.old) (option_map C.told done.new)) }
-        ensures tells_wanting { OnErr result (TellsWanting (state_of self.old)
-            (option_map C.told done.old) (option_map C.told done.new)) }
+        ensures tells_wanting { OnErr result (TellsWanting (TurnsStop (actors_of (state_of self.old)))
+            (state_of self.old) (option_map C.told done.old) (option_map C.told done.new)) }
         ensures handed { is_some done.new ≡ is_some done.old }
         ensures count { length self.new.stations.items ≡ length self.old.stations.items }
     {

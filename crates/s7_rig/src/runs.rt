@@ -64,6 +64,7 @@ pub fn run_rig<C: Completion>(
     ensures told { IfOk result (λ end. option_map C.told done.new
         ≡ option_map (λ t. told_of_results t (first_results (end_told end))) (option_map C.told done.old)) }
     ensures told_wanting { OnErr result (ToldWanting areas limit config (map (λ s. s.items) scripts.items)
+        (record { turns = schedule.entry.turns.now; seed = schedule.entry.seed; steps = schedule.entry.steps })
         (option_map C.told done.old) (option_map C.told done.new)) }
     ensures handed { is_some done.new ≡ is_some done.old }
 {

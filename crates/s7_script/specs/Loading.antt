@@ -39,6 +39,10 @@ IsTold (path p) files = IsTrue files.tells
 IsTold (block number octets) files = Unit {0}
 IsTold faulty files = Unit {0}
 
+-- what is named gives this over the files, where that is told
+abbrev pub NamedGives : Named → FilesShown → Result Memory LoadFault → Type 0
+NamedGives named files result = IsTold named files → named_gives named files.held ≡ result
+
 -- what was answered is what was told, unless memory ran out or the file failed
 abbrev pub Answers : Result Memory LoadFault → Result Memory LoadFault → Type 0
 Answers told (Ok m) = told ≡ Ok m

@@ -1,6 +1,6 @@
 // The lines of a text, and the fields of a line.
-ghost use Rattle.std.specs.Prelude.{◌≡◌, ◌≢◌, ◌==◌, ◌&&◌, nat_lt, nat_le, IfSome, IfNone, ◌<◌, ◌≤◌, ◌+◌, ◌-◌, ◌∷◌, ℕ};
-ghost use Rattle.std.specs.Prelude.{length, option_map, take, drop, slice_index, true};
+ghost use Rattle.std.specs.Prelude.{◌≡◌, ◌≢◌, ◌==◌, ◌&&◌, nat_lt, nat_le, IfSome, IfNone, ◌<◌, ◌≤◌, ◌∷◌, ℕ};
+ghost use Rattle.std.specs.Prelude.{length, option_map, slice_index, true};
 ghost use Rattle.std.specs.List.{list_all, position};
 ghost use Rattle.std.specs.Char.{is_ascii_digit};
 ghost use Rattle.std.specs.Str.Parse.{digits_value};
@@ -54,21 +54,9 @@ pub(crate) fn split_field(text: &[u8]) -> (&[u8], Option<&[u8]>)
     ensures rest { option_map (λ t. t.now) result.1 ≡ fields_after text.now (position is_space text.now) }
 {
     match space(text) {
-        Some(end) => {
-            if end >= text.len() {
-                unreachable!()
-            }
-            (&text[..end], Some(after(text, end)))
-        }
+        Some(end) => (&text[..end], Some(&text[end + 1..])),
         None => (text, None),
     }
-}
-
-fn after(text: &[u8], end: usize) -> &[u8]
-    requires { end < length text.now }
-    ensures { result.now ≡ drop (end + 1) text.now }
-{
-    &text[end + 1..]
 }
 
 fn space(text: &[u8]) -> Option<usize>

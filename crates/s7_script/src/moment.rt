@@ -93,9 +93,6 @@ pub(crate) fn clock_text(octets: &[u8]) -> [u8; 23]
     requires { IsSome (parts_in octets.now) }
     ensures { clock_values (parts_in octets.now) ≡ result ∷ [] }
 {
-    if octets.len() != 10 {
-        unreachable!()
-    }
     let century = if octets[2] >= 0x90 { b"19" } else { b"20" };
     [
         century[0],

@@ -60,6 +60,7 @@ served_on s limit first front history pipe served a few is = record { came = on 
     clock = is.clock;
     unasked = is.unasked;
     looks = is.looks;
+    fails = is.fails;
     end = is.end;
   }
 

@@ -48,6 +48,7 @@ served_link stands is_full may_lack s limit first history link pipe line d d' o 
       clock = run.clock;
       unasked = run.unasked;
       looks = run.looks;
+      fails = run.fails;
       end = run.end;
     }
 
@@ -84,6 +85,7 @@ shut_link s limit first history pipe line link o accepted last is = record {
   clock = is.clock;
   unasked = is.unasked;
   looks = is.looks;
+  fails = is.fails;
   end = shut_end pipe line first is.taken (verdicts_of is.mets) o is.end;
 }
 

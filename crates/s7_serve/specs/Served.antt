@@ -12,6 +12,7 @@ use Rattle.s7_session.specs.Legal.{IsLegalFor}
 use Rattle.s7_session.specs.LinkRun.{IsWritten, IsEnd}
 use Rattle.s7_session.specs.LinkState.{LinkState}
 use Rattle.s7_session.specs.Owed as octets
+use Rattle.s7_session.specs.Stands.{FailsBy}
 use Rattle.s7_session.specs.Telegrams.{Met, verdicts_of, looks_in, clock_failures, NoneTimed}
 use Rattle.s7_serve.specs.declared.served.Served.{Served}
 
@@ -51,6 +52,8 @@ pub record IsServedLink (opening : State) (limit : ℕ) (first : LinkState) (his
   pub clock : RoseExactly (clock_failures (verdicts_of mets)) pipe.clock_faults served.line.clock_faults
   pub unasked : NoneTimed mets → served.line.clock_faults ≡ pipe.clock_faults
   pub looks : RoseExactly (looks_in mets) pipe.looks served.line.looks
+  -- the link failed once where that ended it, and not else
+  pub fails : FailsBy served.outcome pipe.faults served.line.faults
   pub end : IsEnd pipe served.line first taken (verdicts_of mets) served.outcome
 
 -- memory was wanting for the link's buffers, and nothing became of it but that it was shut

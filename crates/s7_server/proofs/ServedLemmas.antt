@@ -95,6 +95,7 @@ served_link opening pipe line d d' o accepted last run none opens same goes =
       clock = run.clock;
       unasked = run.unasked;
       looks = run.looks;
+      fails = run.fails;
       end = run.end;
     }
 

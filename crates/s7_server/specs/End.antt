@@ -12,7 +12,7 @@ use Rattle.s7_plant.specs.Journals.{entries_of}
 use Rattle.s7_plant.specs.State.{begins_with, state_of}
 use Rattle.s7_serve.specs.Given.{HasFailed}
 use Rattle.s7_script.specs.Naming.{Named, path, block, faulty, naming}
-use Rattle.s7_script.specs.Loading.{IsTold, named_gives}
+use Rattle.s7_script.specs.Loading.{NamedGives}
 use Rattle.s7_script.specs.declared.areas.load.LoadFault.{LoadFault}
 use Rattle.s7_words.specs.Server.{ServerTold, pipe, serve}
 use Rattle.s7_server.specs.declared.run.Ended.{Ended}
@@ -30,7 +30,7 @@ use Rattle.s7_server.specs.Told.{RunTold, run_told}
 -- THE LINKS WERE SERVED OVER THE AREAS THAT ARE NAMED, which are those of the file where that is told
 pub record ServesNamed (asked : AskedTold) (files : FilesShown) (serves : Memory → ℕ → Type 0) : Type 0 where
   pub opening : Memory
-  pub opened : IsTold (naming asked.areas) files → named_gives (naming asked.areas) files.held ≡ Ok opening
+  pub opened : NamedGives (naming asked.areas) files (Ok opening)
   pub served : serves opening asked.journal
 
 -- what a command serves: `pipe` the one link, and `serve` those that the door gives
@@ -58,7 +58,7 @@ KeepsDoor (Some (serve areas port links save journal entry)) door door' = Unit {
 -- a book that was opened with the areas that are named, which are those of the file where that is told, and in which
 -- nothing was entered
 pub record Opens (asked : AskedTold) (files : FilesShown) (book : BookTold) : Type 0 where
-  pub opened : IsTold (naming asked.areas) files → named_gives (naming asked.areas) files.held ≡ Ok book.opening.areas
+  pub opened : NamedGives (naming asked.areas) files (Ok book.opening.areas)
   pub begins : state_of book.opening ≡ begins_with book.opening.areas
   pub plant : state_of book.plant ≡ begins_with book.opening.areas
   pub journal : book.journal ≡ entries_of [] asked.journal
@@ -70,7 +70,7 @@ pub record Opens (asked : AskedTold) (files : FilesShown) (book : BookTold) : Ty
 pub record RefusesNamed (named : Named) (files : FilesShown) (printed : List ℕ → Type 0) : Type 0 where
   pub fault : LoadFault
   pub line : List ℕ
-  pub refused : IsTold named files → named_gives named files.held ≡ Err fault
+  pub refused : NamedGives named files (Err fault)
   pub line_is : refusal_line fault ≡ Some line
   pub is_printed : printed line
 
@@ -105,7 +105,7 @@ FileFails failed files files' out out' =
 
 -- the areas that are named were read, which are those of the file where that is told
 abbrev pub ReadsNamed : Named → FilesShown → Type 0
-ReadsNamed named files = (opening : Memory) × (IsTold named files → named_gives named files.held ≡ Ok opening)
+ReadsNamed named files = (opening : Memory) × NamedGives named files (Ok opening)
 
 -- THE DOOR FAILED before a link came, after the areas were read, and the line for it was printed
 abbrev pub DoorFails : {L : Type 0} → Option ServerTold → FilesShown → DoorShown L → DoorShown L → OutShown → OutShown

@@ -159,5 +159,6 @@ link_run stands full lack first old new k k' d d' o served fresh =
       unasked = m.unasked;
       looks = m.looks;
       moments = m.moments;
+      fails = served.fails fresh.going;
       end = fin.end;
     }

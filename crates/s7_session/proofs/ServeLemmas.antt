@@ -21,6 +21,7 @@ use Rattle.s7_session.specs.Entry.{Entry}
 use Rattle.s7_session.specs.LinkState.{LinkState}
 use Rattle.s7_session.specs.Owed.{end_of, end_by, torn_or_ended}
 use Rattle.s7_session.specs.Stands.{Stands, Moves, IsTurn, IsServed, Consumes, HasCause, HasMetNotYet, IsIdle}
+use Rattle.s7_session.specs.Stands.{FailsBy, Counts}
 use Rattle.s7_session.specs.Stands.{closed_with, closed_by, unread, unsent}
 use Rattle.s7_session.specs.Telegrams.{verdicts_of}
 use Rattle.s7_session.specs.Verdict.{Verdict}
@@ -49,6 +50,48 @@ pub torn_not_write : (torn : Option ℕ) (o : Outcome) → o ≡ torn_or_ended t
 torn_not_write None o is e = absurd (cc)
 torn_not_write (Some n) o is e = absurd (cc)
 
+-- ---- how often a link failed
+
+pub fails_not : (o : Outcome) (before now : ℕ) → now ≡ before → (o ≡ outcome.ReadFault → ⊥)
+    → (o ≡ outcome.WriteFault → ⊥) → FailsBy o before now
+fails_not outcome.Ended before now e r w = e
+fails_not (outcome.Torn n) before now e r w = e
+fails_not (outcome.BadFrame at) before now e r w = e
+fails_not (outcome.FrameTooLong at) before now e r w = e
+fails_not (outcome.BadTpdu at) before now e r w = e
+fails_not (outcome.Unexpected at) before now e r w = e
+fails_not (outcome.TooManyFragments at) before now e r w = e
+fails_not (outcome.TooLong at) before now e r w = e
+fails_not (outcome.NotS7 at) before now e r w = e
+fails_not outcome.ReadFault before now e r w = absurd (r refl)
+fails_not outcome.WriteFault before now e r w = absurd (w refl)
+fails_not outcome.Spent before now e r w = e
+fails_not outcome.Memory before now e r w = e
+
+-- the end of the octets is no fault
+pub fails_torn : (torn : Option ℕ) (o : Outcome) (before now : ℕ) → o ≡ torn_or_ended torn → now ≡ before
+    → FailsBy o before now
+fails_torn None o before now is e = subst (λ x. FailsBy x before now) (sym is) e
+fails_torn (Some n) o before now is e = subst (λ x. FailsBy x before now) (sym is) e
+
+-- a turn that used octets met no fault and no wait
+counts_used : (t : Turn) (link link' : Shown) → link'.faults ≡ link.faults → link'.waits ≡ link.waits
+    → (t ≡ turn.NotYet → ⊥)
+    → ((o : Outcome) → t ≡ turn.Closed o → (o ≡ outcome.ReadFault → ⊥) × (o ≡ outcome.WriteFault → ⊥))
+    → Counts t link link'
+counts_used turn.Went link link' f w n b = (f, w)
+counts_used turn.NotYet link link' f w n b = absurd (n refl)
+counts_used (turn.Closed o) link link' f w n b =
+    (fails_not o link.faults link'.faults f (b o refl).0 (b o refl).1, w)
+
+-- none before a turn, and those of it
+pub fails_later : (o : Outcome) (k0 k1 k2 : ℕ) → k1 ≡ k0 → FailsBy o k1 k2 → FailsBy o k0 k2
+fails_later o k0 k1 k2 e h = subst (λ x. FailsBy o x k2) e h
+
+pub none_failed : (t is : Turn) (link link' : Shown) (before : ℕ) → t ≡ is → link.faults ≡ before
+    → (Counts is link link' → link'.faults ≡ link.faults) → Counts t link link' → link'.faults ≡ before
+none_failed t is link link' before e same from h = from (subst (λ x. Counts x link link') e h) ∙ same
+
 -- a turn that only received and sent
 pub turn_plain : {D : Type 0} (stands : D → List Entry → Type 0) (full lack : D → Ask → Type 0) (old new : Session) (link link' : Shown) (d : D) (written : List ℕ) (result : Turn)
     → Keeps old new → sends old.conversation ≡ written ++ sends new.conversation → old.inbox ≡ new.inbox
@@ -56,9 +99,10 @@ pub turn_plain : {D : Type 0} (stands : D → List Entry → Type 0) (full lack 
     → (result ≡ turn.Went → 0 < length written) → (result ≡ turn.NotYet → (written ≡ []) × Rose link.waits link'.waits × HasMetNotYet old link)
     → ((o : Outcome) → result ≡ turn.Closed o → (first : LinkState) (b : List ℕ) (js : List Verdict) (w : List ℕ) → Stands first old b js w → Stands first new b js (w ++ written) → HasCause link link' first new b js o)
     → (result ≡ turn.Closed outcome.ReadFault → IsIdle old) → (result ≡ turn.Closed outcome.WriteFault → 0 < length (unsent old))
+    → Counts result link link'
     → IsTurn stands full lack old link d new link' d result
 unfolding moves_plain
-turn_plain stands full lack old new link link' d written result keeps outbox inbox moved live closed went not_yet cause reads writes = record {
+turn_plain stands full lack old new link link' d written result keeps outbox inbox moved live closed went not_yet cause reads writes counts = record {
   moves = moves_plain stands full lack old new link link' d [] written keeps outbox (append-nil old.inbox ∙ inbox) (λ e. live) moved;
   one = omega arith;
   went = λ e. omega (arith, went e);
@@ -67,6 +111,7 @@ turn_plain stands full lack old new link link' d written result keeps outbox inb
   uses = λ h. absurd (omega (arith, h));
   read_fails = λ e l. (reads e, refl);
   write_fails = λ e l. (writes e, refl);
+  counts = λ l. counts;
   closed = closed;
   cause = λ o e l first b js w h.
       let P : List ℕ → Type 0 = λ x. HasCause link link' first new x (js ++ []) o in
@@ -80,15 +125,16 @@ pub turn_closing : {D : Type 0} (stands : D → List Entry → Type 0) (full lac
     → Moved link link' [] [] → closed_with old ≡ None → closed_with new ≡ Some o → result ≡ turn.Closed o
     → ((first : LinkState) (b : List ℕ) (js : List Verdict) (w : List ℕ) → Stands first old b js w → HasCause link link' first new b js o)
     → (o ≡ outcome.ReadFault → IsIdle old) → (o ≡ outcome.WriteFault → 0 < length (unsent old))
+    → Counts (turn.Closed o) link link'
     → IsTurn stands full lack old link d new link' d result
-turn_closing stands full lack old new link link' d o result keeps outbox inbox moved live closed is cause reads writes =
+turn_closing stands full lack old new link link' d o result keeps outbox inbox moved live closed is cause reads writes counts =
     let P : Turn → Type 0 = λ t. IsTurn stands full lack old link d new link' d t in
     subst P (sym is) (turn_plain stands full lack old new link link' d [] (turn.Closed o) keeps (sym outbox) (sym inbox)
     moved live closed (λ e. absurd (closed_not_went o e)) (λ e. absurd (closed_not_yet o e))
     (λ o' e first b js w h n.
     let Q : Outcome → Type 0 = λ x. HasCause link link' first new b js x in
     subst Q (same_closed o o' e) (cause first b js w h))
-    (λ e. reads (same_closed o outcome.ReadFault e)) (λ e. writes (same_closed o outcome.WriteFault e)))
+    (λ e. reads (same_closed o outcome.ReadFault e)) (λ e. writes (same_closed o outcome.WriteFault e)) counts)
 
 pub moves_used : {D : Type 0} (stands : D → List Entry → Type 0) (full lack : D → Ask → Type 0) (old new : Session) (link link' : Shown) (d d' : D) (result : Turn) → Consumes stands full lack old link d new link' d' result
     → Moves stands full lack old link d new link' d'
@@ -136,6 +182,7 @@ turn_used stands full lack old new link link' d d' result live sent k = record {
   uses = λ h. sent;
   read_fails = λ e l. absurd ((k.by_octets outcome.ReadFault e).0 refl);
   write_fails = λ e l. absurd ((k.by_octets outcome.WriteFault e).1 refl);
+  counts = λ l. counts_used result link link' (ap (λ x. x.faults) k.line) (ap (λ x. x.waits) k.line) k.waits k.by_octets;
   closed = k.closed;
   cause = λ o e l first b js w h. k.cause o e link link' first b js w h;
 }
@@ -143,9 +190,10 @@ turn_used stands full lack old new link link' d d' result live sent k = record {
 -- a turn that received octets and used some of them
 pub turn_both : {D : Type 0} (stands : D → List Entry → Type 0) (full lack : D → Ask → Type 0) (old mid new : Session) (link link' link'' : Shown) (d d' : D) (result : Turn)
     → Keeps old mid → sends mid.conversation ≡ sends old.conversation → closed_with mid ≡ closed_with old
-    → Moved link link' mid.inbox [] → closed_with old ≡ None → IsIdle old → Consumes stands full lack mid link' d new link'' d' result → IsTurn stands full lack old link d new link'' d' result
+    → Moved link link' mid.inbox [] → closed_with old ≡ None → IsIdle old → Consumes stands full lack mid link' d new link'' d' result
+    → link'.faults ≡ link.faults → link'.waits ≡ link.waits → IsTurn stands full lack old link d new link'' d' result
 unfolding moves_both moves_plain moves_used
-turn_both stands full lack old mid new link link' link'' d d' result keeps outbox closed moved live idle k =
+turn_both stands full lack old mid new link link' link'' d d' result keeps outbox closed moved live idle k faults waits =
     let same : old.inbox ++ mid.inbox ≡ mid.inbox = ap (λ x. x ++ mid.inbox) idle.1 in
     let first_moves = moves_plain stands full lack old mid link link' d mid.inbox [] keeps (sym outbox) same (λ e. live) moved in
     record {
@@ -157,6 +205,9 @@ turn_both stands full lack old mid new link link' link'' d d' result keeps outbo
       uses = λ h. idle.0;
       read_fails = λ e l. absurd ((k.by_octets outcome.ReadFault e).0 refl);
       write_fails = λ e l. absurd ((k.by_octets outcome.WriteFault e).1 refl);
+      counts = λ l.
+          counts_used result link link'' (ap (λ x. x.faults) k.line ∙ faults) (ap (λ x. x.waits) k.line ∙ waits) k.waits
+          k.by_octets;
       closed = k.closed;
       cause = λ o e l first b js w h. k.cause o e link link'' first b js (w ++ []) (stood_plain first old mid [] keeps (sym outbox) (λ x. live) b js w h);
     }
@@ -173,6 +224,7 @@ turn_closed stands full lack s link d o is = record {
   uses = λ h. absurd (omega (arith, h));
   read_fails = λ e l. absurd (none_not_some o (sym is ∙ l));
   write_fails = λ e l. absurd (none_not_some o (sym is ∙ l));
+  counts = λ l. absurd (none_not_some o (sym is ∙ l));
   closed = is;
   cause = λ o' e l first b js w h. absurd (none_not_some o (sym is ∙ l));
 }
@@ -209,12 +261,14 @@ cause_end old s link link' o live is sent read end ended first b js w h =
 
 -- turns, and then one that closes
 pub served_after : {D : Type 0} (stands : D → List Entry → Type 0) (full lack : D → Ask → Type 0) (s0 s1 s2 : Session) (k0 k1 k2 : Shown) (d0 d1 d2 : D) (o : Outcome)
-    → Moves stands full lack s0 k0 d0 s1 k1 d1 → (closed_with s0 ≡ None → closed_with s1 ≡ None) → IsTurn stands full lack s1 k1 d1 s2 k2 d2 (turn.Closed o)
+    → Moves stands full lack s0 k0 d0 s1 k1 d1 → (closed_with s0 ≡ None → closed_with s1 ≡ None) → (closed_with s0 ≡ None → k1.faults ≡ k0.faults)
+    → IsTurn stands full lack s1 k1 d1 s2 k2 d2 (turn.Closed o)
     → IsServed stands full lack s0 k0 d0 s2 k2 d2 o
 unfolding moves_both
-served_after stands full lack s0 s1 s2 k0 k1 k2 d0 d1 d2 o m live t = record {
+served_after stands full lack s0 s1 s2 k0 k1 k2 d0 d1 d2 o m live none t = record {
   moves = moves_both stands full lack s0 s1 s2 k0 k1 k2 d0 d1 d2 m t.moves;
   closed = t.closed;
+  fails = λ l. fails_later o k0.faults k1.faults k2.faults (none l) (t.counts (live l)).0;
   cause = λ l first b js w h.
       let P : List ℕ → Type 0 = λ x. HasCause k0 k2 first s2 x (js ++ verdicts_of (m.mets ++ t.moves.mets)) o in
       let Q : List Verdict → Type 0 = λ x. HasCause k0 k2 first s2 ((b ++ m.used) ++ t.moves.used) x o in

@@ -14,7 +14,7 @@ use Rattle.s7_session.specs.Entry.{Entry, answered}
 use Rattle.s7_session.specs.Events.{lives, stops}
 use Rattle.s7_session.specs.LinkState.{LinkState}
 use Rattle.s7_session.specs.Owed.{past, owed, telegrams, end_of}
-use Rattle.s7_session.specs.Stands.{Stands, AllButOne, closed_with, unread, entry_count, newest}
+use Rattle.s7_session.specs.Stands.{Stands, AllButOne, FailsBy, closed_with, unread, entry_count, newest}
 use Rattle.s7_session.specs.Telegrams.{Met, verdicts_of, entered_of, looks_in, NoneTimed, AllAt, clock_failures, last_number}
 use Rattle.s7_session.specs.Verdict.{Verdict}
 
@@ -108,4 +108,6 @@ pub record IsLinkRun {D : Type 0} (stands : D → List Entry → Type 0) (is_ful
   -- the clock was asked once for each telegram that wants the moment, and not else
   pub looks : RoseExactly (looks_in mets) link.looks link'.looks
   pub moments : AllAt link.moment entries
+  -- it failed once where that ended the run, and not else
+  pub fails : FailsBy result link.faults link'.faults
   pub end : IsEnd link link' first taken (verdicts_of mets) result

@@ -164,6 +164,18 @@ HasCause link link' first s b js outcome.Spent =
     (length b ≡ spent) × IsIdle s × ((past first b js).standing ≡ lives)
 HasCause link link' first s b js outcome.Memory = ((past first b js).standing ≡ stops) × (unsent s ≡ [])
 
+-- A link fails once where that closes it, and not else: no fault is passed over.
+abbrev pub FailsBy : Outcome → ℕ → ℕ → Type 0
+FailsBy outcome.ReadFault before now = RoseExactly 1 before now
+FailsBy outcome.WriteFault before now = RoseExactly 1 before now
+FailsBy _ before now = now ≡ before
+
+-- how often a link failed and waited in a turn
+abbrev pub Counts : Turn → Shown → Shown → Type 0
+Counts turn.Went link link' = (link'.faults ≡ link.faults) × (link'.waits ≡ link.waits)
+Counts turn.NotYet link link' = (link'.faults ≡ link.faults) × RoseExactly 1 link.waits link'.waits
+Counts (turn.Closed o) link link' = FailsBy o link.faults link'.faults × (link'.waits ≡ link.waits)
+
 abbrev pub closed_by : Turn → Option Outcome
 closed_by turn.Went = None
 closed_by turn.NotYet = None
@@ -193,6 +205,7 @@ pub record IsTurn {D : Type 0} (stands : D → List Entry → Type 0) (is_full m
   pub read_fails : result ≡ turn.Closed outcome.ReadFault → closed_with old ≡ None → IsIdle old × (moves.used ≡ [])
   pub write_fails : result ≡ turn.Closed outcome.WriteFault → closed_with old ≡ None
       → (0 < length (unsent old)) × (moves.used ≡ [])
+  pub counts : closed_with old ≡ None → Counts result link link'
   pub closed : closed_with new ≡ closed_by result
   pub cause : (o : Outcome) → result ≡ turn.Closed o → closed_with old ≡ None
       → (first : LinkState) (b : List ℕ) (js : List Verdict) (w : List ℕ) → Stands first old b js w
@@ -204,6 +217,7 @@ pub record IsServed {D : Type 0} (stands : D → List Entry → Type 0) (is_full
     : Type 0 where
   pub moves : Moves stands is_full may_lack old link d new link' d'
   pub closed : closed_with new ≡ Some result
+  pub fails : closed_with old ≡ None → FailsBy result link.faults link'.faults
   pub cause : closed_with old ≡ None
       → (first : LinkState) (b : List ℕ) (js : List Verdict) (w : List ℕ) → Stands first old b js w
       → HasCause link link' first new (b ++ moves.used) (js ++ verdicts_of moves.mets) result

@@ -12,6 +12,7 @@ use Rattle.s7_rig.specs.Formed.{AreFormed, IsFormed, RigsAreFormed}
 use Rattle.s7_rig.specs.Rigs.{RigRan, Turning}
 use Rattle.s7_rig.specs.Shown.{EndTold, end_told}
 use Rattle.s7_script.specs.Laws.{EndsPrint}
+use Rattle.s7_script.specs.Loading.{NamedGives}
 use Rattle.s7_script.specs.Naming.{naming}
 use Rattle.s7_script.specs.Printing.{IsPrintable}
 use Rattle.s7_script.specs.Script.{script}
@@ -28,7 +29,7 @@ use Rattle.s7_tool.specs.GenText.{are_made_good, made_text}
 use Rattle.s7_tool.specs.Loading.{IsRefusedFor, RefusesText, refusal_line}
 use Rattle.s7_tool.specs.Report.{Printed, PrintsText, TellsFault}
 use Rattle.s7_tool.specs.RigText.{ArePrintable, are_clients_good, rig_text}
-use Rattle.s7_tool.specs.Rigging.{ComesTo, Opens, RanJobs, RanRig, RigEnds}
+use Rattle.s7_tool.specs.Rigging.{ComesTo, RanJobs, RanRig, RigEnds}
 use Rattle.s7_tool.specs.Run.{jobs_of}
 use Rattle.s7_tool.specs.Scripts.{ReadsScripts, StopsAt}
 
@@ -59,13 +60,14 @@ refuses_text reader p (fault.Line k) files P h printed =
 refuses_text reader p fault.Memory files P h printed = absurd printed
 
 module _ (told : RigTold) (old new : FilesShown) (out out' : OutShown) where
-  comes_to : (m : Memory) (p : List ℕ) (f : LoadFault) → Opens (naming told.areas) old m
+  comes_to : (m : Memory) (p : List ℕ) (f : LoadFault) → NamedGives (naming told.areas) old (Ok m)
       → StopsAt told.scripts old new p f → ComesTo told old p
   comes_to m p f opened h = record { opening = m; opened = opened; next = h.next }
 
   -- a script wasn't loaded
-  pub script_unloaded : (m : Memory) (p : List ℕ) (f : LoadFault) (how : Ended) → Opens (naming told.areas) old m
-      → StopsAt told.scripts old new p f → TellsFault (refusal_line f) (f ≡ fault.Failed) p out out' how
+  pub script_unloaded : (m : Memory) (p : List ℕ) (f : LoadFault) (how : Ended)
+      → NamedGives (naming told.areas) old (Ok m) → StopsAt told.scripts old new p f
+      → TellsFault (refusal_line f) (f ≡ fault.Failed) p out out' how
       → RigEnds told old new out out' None how
   script_unloaded m p f ended.Refused opened h t = (
     refl,
@@ -91,14 +93,14 @@ module _ (told : RigTold) (old new : FilesShown) (out out' : OutShown) where
 
   -- a rig ran
   module _ (m : Memory) (scripts : List (List ScriptLine)) (rig : RigEnd) where
-    rig_ran : (how : Ended) → Opens (naming told.areas) old m → ReadsScripts told.scripts old scripts
+    rig_ran : (how : Ended) → NamedGives (naming told.areas) old (Ok m) → ReadsScripts told.scripts old scripts
         → RanJobs told m (map jobs_of scripts) (end_told rig)
         → PrintsText (rig_text scripts (end_told rig)) (are_clients_good scripts (end_told rig).clients) out out' how
         → RanRig told old out out' (end_told rig) how
     rig_ran how opened read ran printed =
         record { opening = m; opened = opened; scripts = scripts; read = read; ran = ran; printed = printed }
 
-    pub rigged : (how : Ended) → Opens (naming told.areas) old m → ReadsScripts told.scripts old scripts
+    pub rigged : (how : Ended) → NamedGives (naming told.areas) old (Ok m) → ReadsScripts told.scripts old scripts
         → RanJobs told m (map jobs_of scripts) (end_told rig)
         → PrintsText (rig_text scripts (end_told rig)) (are_clients_good scripts (end_told rig).clients) out out' how
         → RigEnds told old new out out' (Some rig) how

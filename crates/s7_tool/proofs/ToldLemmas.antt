@@ -1,5 +1,5 @@
 -- What a completion is told of.
-use Rattle.std.proofs.Common.{◌≡◌, ℕ, Bool, List, [], ◌∷◌, ◌++◌, Option, None, Some, Result, option_map, inl, inr, map, refl, sym, subst}
+use Rattle.std.proofs.Common.{◌≡◌, ℕ, Bool, List, [], ◌∷◌, ◌++◌, Option, None, Some, Result, Ok, option_map, inl, inr, map, sym, subst}
 use Rattle.std.specs.Result.{OnErr}
 use Rattle.std.proofs.lemmas.Iterator.Adapters.{option_map_id}
 use Rattle.s7_area.specs.Memory.{Memory}
@@ -8,18 +8,19 @@ use Rattle.s7_dialogue.specs.declared.job.Job.{Job}
 use Rattle.s7_dialogue.specs.declared.job.JobResult.{JobResult}
 use Rattle.s7_outer.specs.FilesShown.{FilesShown}
 use Rattle.s7_outer.specs.OutShown.{OutShown}
+use Rattle.s7_script.specs.Loading.{NamedGives}
 use Rattle.s7_script.specs.Naming.{naming}
 use Rattle.s7_script.specs.declared.scripts.script_list.ScriptLine.{ScriptLine}
 use Rattle.s7_words.specs.Tool.{RigTold, ToolTold, gen, partner, rig, run}
 use Rattle.s7_client.specs.Completions.{Told, told_of_result, told_of_results}
-use Rattle.s7_rig.specs.Rigs.{ToldWanting}
+use Rattle.s7_rig.specs.Rigs.{ToldWanting, Turning}
 use Rattle.s7_rig.specs.Tells.{Tells}
 use Rattle.s7_rig.proofs.TellsLemmas.{tells_none}
 use Rattle.s7_tool.specs.declared.ended.Ended.{Ended}
 use Rattle.s7_tool.specs.declared.ended.Ended.TheVariants as ended
 use Rattle.s7_tool.specs.End.{HeardWanting}
 use Rattle.s7_tool.specs.Report.{PrintsText}
-use Rattle.s7_tool.specs.Rigging.{JobsWanting, Opens, RigWanting}
+use Rattle.s7_tool.specs.Rigging.{JobsWanting, RigWanting}
 use Rattle.s7_tool.specs.Run.{jobs_of}
 use Rattle.s7_tool.specs.Scripts.{ReadsScripts}
 
@@ -58,16 +59,20 @@ not_wanting text good old new how printed is = subst (λ h. PrintsText text good
 
 -- a rig of the same, by other words
 pub wanting_same : {T E : Type 0} (r : Result T E) (areas areas' : Memory) (limit : ℕ) (config config' : Config)
-    (jobs jobs' : List (List Job)) (x y : Option Told) → areas ≡ areas' → config ≡ config' → jobs ≡ jobs'
-    → OnErr r (ToldWanting areas limit config jobs x y) → OnErr r (ToldWanting areas' limit config' jobs' x y)
-wanting_same r areas areas' limit config config' jobs jobs' x y a c j h =
-    subst (λ z. OnErr r (ToldWanting z limit config' jobs' x y)) a
-    (subst (λ z. OnErr r (ToldWanting areas limit z jobs' x y)) c
-    (subst (λ z. OnErr r (ToldWanting areas limit config z x y)) j h))
+    (jobs jobs' : List (List Job)) (turns turns' : List ℕ) (seed steps : ℕ) (x y : Option Told) → areas ≡ areas'
+    → config ≡ config' → jobs ≡ jobs' → turns ≡ turns'
+    → OnErr r (ToldWanting areas limit config jobs (record { turns = turns; seed = seed; steps = steps }) x y)
+    → OnErr r (ToldWanting areas' limit config' jobs' (record { turns = turns'; seed = seed; steps = steps }) x y)
+wanting_same r areas areas' limit config config' jobs jobs' turns turns' seed steps x y a c j t h =
+    let turning : List ℕ → Turning = λ ts. record { turns = ts; seed = seed; steps = steps } in
+    subst (λ z. OnErr r (ToldWanting z limit config' jobs' (turning turns') x y)) a
+    (subst (λ z. OnErr r (ToldWanting areas limit z jobs' (turning turns') x y)) c
+    (subst (λ z. OnErr r (ToldWanting areas limit config z (turning turns') x y)) j
+    (subst (λ z. OnErr r (ToldWanting areas limit config jobs (turning z) x y)) t h)))
 
 -- a rig over the files that were read
 pub rig_wanting : (told : RigTold) (files : FilesShown) (opening : Memory) (scripts : List (List ScriptLine))
-    (x y : Option Told) → Opens (naming told.areas) files opening → ReadsScripts told.scripts files scripts
+    (x y : Option Told) → NamedGives (naming told.areas) files (Ok opening) → ReadsScripts told.scripts files scripts
     → JobsWanting told opening (map jobs_of scripts) x y → RigWanting told files x y
 rig_wanting told files opening scripts x y opened read wanting =
     inr (record { opening = opening; opened = opened; scripts = scripts; read = read; wanting = wanting })

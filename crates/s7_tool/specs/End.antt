@@ -14,7 +14,7 @@ use Rattle.s7_tool.specs.declared.ended.Ended.{Ended}
 use Rattle.s7_tool.specs.declared.ended.RunEnd.{RunEnd}
 use Rattle.s7_tool.specs.declared.ended.ToolEnd.{ToolEnd}
 use Rattle.s7_tool.specs.Drawn.{made_scripts}
-use Rattle.s7_tool.specs.Gen.{RanGen, made_areas, made_config}
+use Rattle.s7_tool.specs.Gen.{RanGen, made_areas, made_config, made_turning}
 use Rattle.s7_tool.specs.Loading.{PathFails, RefusesScript}
 use Rattle.s7_tool.specs.Partners.{CallFailsFor, FailsOne, PartnersLack, RanPartners, RefusesOne}
 use Rattle.s7_tool.specs.Ran.{CallFails, RanScript, RunLacksMemory}
@@ -124,5 +124,5 @@ HeardWanting None files before after = after ≡ before
 HeardWanting (Some (run told)) files before after = after ≡ before
 HeardWanting (Some (rig told)) files before after = RigWanting told files before after
 HeardWanting (Some (gen seed)) files before after =
-    ToldWanting made_areas 65536 made_config (made_scripts seed) before after
+    ToldWanting made_areas 65536 made_config (made_scripts seed) (made_turning seed) before after
 HeardWanting (Some (partner told)) files before after = after ≡ before

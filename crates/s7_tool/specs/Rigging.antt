@@ -9,7 +9,7 @@ use Rattle.s7_rig.specs.declared.end.RigEnd.{RigEnd}
 use Rattle.s7_rig.specs.Shown.{EndTold, end_told}
 use Rattle.s7_rig.specs.Rigs.{RigRan, ToldWanting}
 use Rattle.s7_script.specs.Naming.{Named, naming, path, block, faulty}
-use Rattle.s7_script.specs.Loading.{IsTold, named_gives}
+use Rattle.s7_script.specs.Loading.{NamedGives}
 use Rattle.s7_script.specs.declared.areas.load.LoadFault.{LoadFault}
 use Rattle.s7_script.specs.declared.areas.load.LoadFault.TheVariants as fault
 use Rattle.s7_script.specs.declared.scripts.script_list.ScriptLine.{ScriptLine}
@@ -25,10 +25,6 @@ use Rattle.s7_tool.specs.Scripts.{ReadsBefore, ReadsScripts}
 
 -- ---- files
 
--- the areas were read: those that are named, where that is told
-abbrev pub Opens : Named → FilesShown → Memory → Type 0
-Opens named files opening = IsTold named files → named_gives named files.held ≡ Ok opening
-
 -- the line for areas that can't be read; there is none for a file that failed, nor for want of memory
 abbrev pub areas_refusal_line : LoadFault → Option (List ℕ)
 areas_refusal_line (fault.Line n) = Some (areas_line n)
@@ -40,14 +36,14 @@ areas_refusal_line fault.Memory = None
 pub record RefusesAreas (named : Named) (files : FilesShown) (printed : List ℕ → Type 0) : Type 0 where
   pub fault : LoadFault
   pub line : List ℕ
-  pub refused : IsTold named files → named_gives named files.held ≡ Err fault
+  pub refused : NamedGives named files (Err fault)
   pub line_is : areas_refusal_line fault ≡ Some line
   pub is_printed : printed line
 
 -- this script is the next: the areas and the scripts before it were read
 pub record ComesTo (told : RigTold) (files : FilesShown) (path : List ℕ) : Type 0 where
   pub opening : Memory
-  pub opened : Opens (naming told.areas) files opening
+  pub opened : NamedGives (naming told.areas) files (Ok opening)
   pub next : ReadsBefore told.scripts files path
 
 pub record RefusesOneScript (told : RigTold) (files : FilesShown) (printed : List ℕ → Type 0) : Type 0 where
@@ -79,14 +75,14 @@ RanJobs told opening jobs end = RigRan opening told.journal (rig_config told.pdu
 -- memory was wanting for such a rig
 abbrev pub JobsWanting : RigTold → Memory → List (List Job) → Option Told → Option Told → Type 0
 JobsWanting told opening jobs before after =
-    ToldWanting opening told.journal (rig_config told.pdu told.jobs) jobs before after
+    ToldWanting opening told.journal (rig_config told.pdu told.jobs) jobs (turning_of told) before after
 
 -- A RIG RAN over the areas and the scripts that the words name, which are those of the files where that is told, and
 -- its text was printed
 pub record RanRig (told : RigTold) (files : FilesShown) (out out' : OutShown) (end : EndTold)
     (how : Ended) : Type 0 where
   pub opening : Memory
-  pub opened : Opens (naming told.areas) files opening
+  pub opened : NamedGives (naming told.areas) files (Ok opening)
   pub scripts : List (List ScriptLine)
   pub read : ReadsScripts told.scripts files scripts
   pub ran : RanJobs told opening (map jobs_of scripts) end
@@ -110,7 +106,7 @@ RigEnds told files files' out out' rig ended.Dial = ⊥
 -- memory was wanting for a rig over the areas and the scripts that the words name
 pub record BreaksOffRig (told : RigTold) (files : FilesShown) (before after : Option Told) : Type 0 where
   pub opening : Memory
-  pub opened : Opens (naming told.areas) files opening
+  pub opened : NamedGives (naming told.areas) files (Ok opening)
   pub scripts : List (List ScriptLine)
   pub read : ReadsScripts told.scripts files scripts
   pub wanting : JobsWanting told opening (map jobs_of scripts) before after

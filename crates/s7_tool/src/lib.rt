@@ -10,6 +10,7 @@ mod scripts;
 mod tool;
 
 pub use ended::{RunEnd, ToolEnd};
+pub use made::made_scripts::made_scripts;
 pub use output::print_line;
 pub use rigs::rig_report::{are_good, rig_text};
 pub use tool::{MEMORY, tool_main};

@@ -2,7 +2,7 @@
 use crate::calls::{Call, ROOM, agree, all_hold, text};
 use s7_client::Job;
 use s7_script::{Script, read_script};
-use s7_tool::made_scripts::made_scripts;
+use s7_tool::made_scripts;
 use std::alloc::Global;
 use std::test::Fail;
 

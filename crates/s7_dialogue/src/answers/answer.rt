@@ -6,7 +6,7 @@ ghost use Rattle.s7_dialogue.specs.Answer.{answer_of, acknowledged, counts_items
 ghost use Rattle.s7_dialogue.specs.Answered.{IsTold};
 ghost use Rattle.s7_dialogue.specs.Told.{IsAsked, TellsSome};
 
-use crate::answers::data_items::are_answers;
+use crate::answers::data_items::{ItemAnswers, read_item_answers};
 use s7_header::{Header, Kind, Negotiation, parts, read_header, read_negotiate};
 use s7_item::Items;
 use s7_item::codes::{READ_FUNCTION, WRITE_FUNCTION};
@@ -24,14 +24,14 @@ pub(crate) enum Asked {
 }
 
 /// What a message answers, with the data that it carries.
-#[derive(Clone, Copy, Debug)]
+#[derive(Drop)]
 pub(crate) enum Answer<'a> {
     /// The telegram was refused with this error word.
     Refused(u16),
     /// This was granted.
     Granted(Negotiation),
-    /// The data items of a read.
-    Items(&'a [u8]),
+    /// What a read's answer tells of its items.
+    Items(ItemAnswers<'a>),
     /// The return codes of a write.
     Codes(&'a [u8]),
 }
@@ -106,15 +106,15 @@ fn read_grant<'a>(params: &[u8], body: &[u8]) -> Option<Answer<'a>>
     }
 }
 
-// The data items of a read of these items.
+// What the answer to a read of these items tells of them.
 fn read_data<'a>(items: &Items, params: &[u8], body: &'a [u8]) -> Option<Answer<'a>>
     ensures { IsTold (reads items.now) result (acknowledged (reads items.now) params.now body.now) }
 {
-    if counts_items(READ_FUNCTION, items, params) && are_answers(items, body) {
-        Some(Answer::Items(body))
-    } else {
-        None
+    if !counts_items(READ_FUNCTION, items, params) {
+        return None;
     }
+    let answers = read_item_answers(items, body)?;
+    Some(Answer::Items(answers))
 }
 
 // The return codes of a write of these items.

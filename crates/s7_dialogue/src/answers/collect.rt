@@ -1,40 +1,39 @@
 // What the data items of a read's answer tell.
-ghost use Rattle.std.specs.Prelude.{◌≡◌, ◌+◌, ◌≤◌, [], ◌∷◌, ◌++◌, List, length, map, take, drop, slice_index, Some};
-ghost use Rattle.s7_dialogue.specs.Answer.{ItemAnswer, item_answers};
+ghost use Rattle.std.specs.Prelude.{◌≡◌, ◌+◌, ◌≤◌, ◌++◌, length, map, take, drop, slice_index};
+ghost use Rattle.s7_dialogue.specs.Answer as spelled;
 ghost use Rattle.s7_dialogue.specs.Checks.{octet_count_of};
+ghost use Rattle.s7_dialogue.specs.DataItems.{answers_in};
+ghost use Rattle.s7_dialogue.specs.GoesOn.{TellAll};
 ghost use Rattle.s7_dialogue.specs.Taking.{with_codes, with_octets, without_gaps};
 
 use crate::answers::codes_list::Codes;
-use crate::answers::data_items::first_item;
+use crate::answers::data_items::ItemAnswer;
 use s7_item::{Item, Items, is_good};
 
 /// Puts the return codes of the items at their places, and the octets of those that were read at
 /// theirs.
 pub(crate) fn place_items(
     items: &Items,
-    body: &[u8],
+    answers: &[ItemAnswer<'_>],
     found: &mut [u8],
     from: usize,
     codes: &mut Codes,
     place: usize,
 )
+    requires told { TellAll items.now (answers_in answers.now) }
     requires octets { from + octet_count_of items.now ≤ length found.old }
     requires codes { place + length items.now ≤ usize.MAX }
-    ensures octets { (answers : List ItemAnswer) → item_answers items.now body.now ≡ Some answers
-        → found.new ≡ with_octets from items.now answers found.old }
-    ensures codes { (answers : List ItemAnswer) → item_answers items.now body.now ≡ Some answers
-        → codes.new ≡ with_codes place (map (λ (item : ItemAnswer). item.code) answers) codes.old }
+    ensures octets { found.new ≡ with_octets from items.now (answers_in answers.now) found.old }
+    ensures codes { codes.new
+        ≡ with_codes place (map (λ (item : spelled.ItemAnswer). item.code) (answers_in answers.now)) codes.old }
 {
-    let mut rest = body;
     let mut at = from;
-    for (k, item) in items.as_slice().iter().enumerate() {
-        let Some(first) = first_item(item, k + 1 == items.len(), rest) else {
-            return;
-        };
-        codes.set(place + k, first.code);
-        found[at..at + first.octets.len()].copy_from_slice(first.octets);
+    let mut next = place;
+    for (item, answer) in items.as_slice().iter().zip(answers) {
+        codes.set(next, answer.code);
+        found[at..at + answer.octets.len()].copy_from_slice(answer.octets);
         at += item.octet_count();
-        rest = first.rest;
+        next += 1;
     }
 }
 
@@ -91,13 +90,4 @@ fn code_at(codes: &[u8], place: usize) -> u8
     ensures { result ≡ slice_index codes.now place }
 {
     codes.get(place).copied().unwrap_or(0)
-}
-
-/// The return code of the one item.
-pub(crate) fn code_of(items: &Items, body: &[u8]) -> u8
-    requires { length items.now ≡ 1 }
-    ensures { (answers : List ItemAnswer) → item_answers items.now body.now ≡ Some answers
-        → map (λ (item : ItemAnswer). item.code) answers ≡ result ∷ [] }
-{
-    body.first().copied().unwrap_or(0)
 }

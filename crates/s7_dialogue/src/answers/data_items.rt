@@ -1,40 +1,49 @@
 // The data items of a read's answer.
-ghost use Rattle.std.specs.Prelude.{◌≡◌, ◌+◌, ◌≤◌, IsTrue, length, is_some, option_map};
+ghost use Rattle.std.specs.Prelude.{◌≡◌, ◌+◌, ◌≤◌, IsTrue, length, option_map};
 ghost use Rattle.s7_item.specs.Item.{octet_count};
 ghost use Rattle.s7_header.specs.Octets.{number_at};
 ghost use Rattle.s7_item.specs.DataItem.{padding_of};
 ghost use Rattle.s7_dialogue.specs.Answer.{begins_read, begins_refused, item_answers};
-ghost use Rattle.s7_dialogue.specs.DataItems.{first_of, first_told};
+ghost use Rattle.s7_dialogue.specs.DataItems.{first_of, first_told, answers_in};
 
+use arrayvec::ArrayVec;
 use s7_item::codes::GOOD;
 use s7_item::{Item, Items, is_good, padding_of, stated_length, transport_of};
 
 /// The octets before those of an item: code, transport size and length.
 const HEAD: usize = 4;
 
-/// A data item and what follows it.
-#[derive(Clone, Copy)]
-pub(crate) struct First<'a> {
+/// What a read's answer tells of one item.
+#[derive(Clone, Copy, Default)]
+pub(crate) struct ItemAnswer<'a> {
     /// FF where the item was read.
     pub(crate) code: u8,
     /// The item's octets, none where it was refused.
     pub(crate) octets: &'a [u8],
-    /// The octets of the data items that follow.
+}
+
+/// What it tells of its items, in order.
+pub(crate) type ItemAnswers<'a> = ArrayVec<ItemAnswer<'a>, 20>;
+
+/// What a data item tells, and the octets of those that follow it.
+#[derive(Clone, Copy)]
+pub(crate) struct First<'a> {
+    pub(crate) answer: ItemAnswer<'a>,
     pub(crate) rest: &'a [u8],
 }
 
-/// The octets are the answers for these items and nothing more.
-pub(crate) fn are_answers(items: &Items, octets: &[u8]) -> bool
-    ensures { result ≡ is_some (item_answers items.now octets.now) }
+/// The answers for these items that the octets are; `None` exactly where they are none.
+pub(crate) fn read_item_answers<'a>(items: &Items, octets: &'a [u8]) -> Option<ItemAnswers<'a>>
+    ensures { option_map (λ answers. answers_in answers.items) result ≡ item_answers items.now octets.now }
 {
+    let mut answers = ItemAnswers::new();
     let mut rest = octets;
     for (k, item) in items.as_slice().iter().enumerate() {
-        match first_item(item, k + 1 == items.len(), rest) {
-            Some(first) => rest = first.rest,
-            None => return false,
-        }
+        let first = first_item(item, k + 1 == items.len(), rest)?;
+        answers.push(first.answer);
+        rest = first.rest;
     }
-    rest.is_empty()
+    if rest.is_empty() { Some(answers) } else { None }
 }
 
 /// The data item for this item, the last one or not, that the octets begin with; `None` exactly
@@ -44,18 +53,20 @@ pub(crate) fn first_item<'a>(item: &Item, last: bool, octets: &'a [u8]) -> Optio
 {
     if begins_read(item, last, octets) {
         let count = item.octet_count();
-        return Some(First {
+        let answer = ItemAnswer {
             code: GOOD,
             octets: &octets[HEAD..HEAD + count],
-            rest: &octets[HEAD + count + padding_of(count, last)..],
-        });
+        };
+        let rest = &octets[HEAD + count + padding_of(count, last)..];
+        return Some(First { answer, rest });
     }
     if begins_refused(octets) {
-        return Some(First {
+        let answer = ItemAnswer {
             code: octets[0],
             octets: &[],
-            rest: &octets[HEAD..],
-        });
+        };
+        let rest = &octets[HEAD..];
+        return Some(First { answer, rest });
     }
     None
 }

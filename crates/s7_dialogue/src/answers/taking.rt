@@ -1,9 +1,11 @@
 // What an answer comes to.
-ghost use Rattle.std.specs.Prelude.{◌≡◌, ◌≤◌, IfSome, length, true};
+ghost use Rattle.std.specs.Prelude.{◌≡◌, ◌≤◌, Bool, IfSome, List, true};
+ghost use Rattle.s7_item.specs.declared.item.Item.{Item};
 ghost use Rattle.s7_header.specs.declared.negotiation.Negotiation.{Negotiation};
 ghost use Rattle.s7_header.specs.Negotiation.{most_pdu};
 ghost use Rattle.s7_dialogue.specs.Question.{negotiates};
 ghost use Rattle.s7_dialogue.specs.Answer as spelled;
+ghost use Rattle.s7_dialogue.specs.DataItems.{answers_in};
 ghost use Rattle.s7_dialogue.specs.Told.{Tells};
 ghost use Rattle.s7_dialogue.specs.Dialogue.{number_end, negotiated_by, taken_grant};
 ghost use Rattle.s7_dialogue.specs.GoesOn.{refusal_by, number_of};
@@ -11,8 +13,8 @@ ghost use Rattle.s7_dialogue.specs.Taking.{TellsFor};
 ghost use Rattle.s7_dialogue.specs.Stages.{is_alone, octets_of, IsGoodLeave, IsGrant};
 ghost use Rattle.s7_dialogue.specs.Refusals.{code_refusal};
 
-use crate::answers::answer::{Answer, Asked};
-use crate::answers::collect::code_of;
+use crate::answers::answer::Answer;
+use crate::answers::data_items::ItemAnswer;
 use crate::codes::{GOOD, NEGOTIATION_FAILED, PARTLY_WRITTEN};
 use crate::config::Config;
 use crate::grant::{Grant, Leaves};
@@ -20,7 +22,6 @@ use crate::job::Job;
 use crate::refusals::{number_of_code, number_of_error};
 use crate::stages::asking::Refused;
 use s7_header::Negotiation;
-use s7_item::Items;
 
 const LEAST_PDU: u16 = 64;
 
@@ -46,16 +47,16 @@ pub(crate) fn octets_of(job: &Job) -> &[u8]
 }
 
 /// The number of the refusal that the answer is, for one item or for all of its telegram.
-pub(crate) fn refusal_of(alone: bool, items: &Items, answer: &Answer<'_>) -> Option<u32>
-    requires { alone ≡ true → length items.now ≡ 1 }
-    ensures { (write : _) (x : spelled.Answer) → TellsFor write items.now answer.now x → result ≡ refusal_by alone x }
+pub(crate) fn refusal_of(alone: bool, answer: &Answer<'_>) -> Option<u32>
+    ensures { (write : Bool) (items : List Item) (x : spelled.Answer) → TellsFor write items answer.now x
+        → result ≡ refusal_by alone x }
 {
     match answer {
         Answer::Refused(error) => Some(number_of_error(*error)),
         Answer::Granted(_) => None,
-        Answer::Items(body) => {
+        Answer::Items(answers) => {
             if alone {
-                code_refusal(code_of(items, body))
+                item_refusal(answers.as_slice())
             } else {
                 None
             }
@@ -72,6 +73,16 @@ fn code_refusal(code: u8) -> Option<u32>
         None
     } else {
         Some(number_of_code(code))
+    }
+}
+
+// The number of the one item's code.
+fn item_refusal(answers: &[ItemAnswer<'_>]) -> Option<u32>
+    ensures { result ≡ refusal_by true (spelled.tells (answers_in answers.now)) }
+{
+    match answers {
+        [answer] => code_refusal(answer.code),
+        _ => None,
     }
 }
 

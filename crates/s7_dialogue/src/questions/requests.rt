@@ -39,13 +39,16 @@ const AT_A: u8 = 0x41;
 /// The kind of data blocks.
 const DATA_BLOCK: u8 = 0x41;
 
-/// Writes the message of what the job asks as the one message that the buffer holds.
+/// Writes the message of what the job asks as the one message that the buffer holds, which is empty where none goes
+/// out for it.
 pub(crate) fn write_single(job: &Job, ask: &Ask, sequence: u16, message: &mut Buffer)
     requires asks { (found : ℕ) × (can_ask_single job.now found ask.now ≡ true) }
-    requires some { 0 < message_count ask.now }
     requires room { message.old.room ≡ most_pdu }
-    ensures octets { message.new.octets ≡ question_octets sequence (question_of_single job.now ask.now []) }
-    ensures fits { (10 ≤ length message.new.octets) × (length message.new.octets ≤ most_pdu) }
+    ensures octets { 0 < message_count ask.now
+        → message.new.octets ≡ question_octets sequence (question_of_single job.now ask.now []) }
+    ensures fits { 0 < message_count ask.now
+        → (10 ≤ length message.new.octets) × (length message.new.octets ≤ most_pdu) }
+    ensures none { message_count ask.now ≡ 0 → message.new.octets ≡ [] }
     ensures room { message.new.room ≡ most_pdu }
 {
     match ask {
@@ -56,8 +59,7 @@ pub(crate) fn write_single(job: &Job, ask: &Ask, sequence: u16, message: &mut Bu
         Ask::Slice { id, .. } => write_by_id(SLICE, *id, sequence, message),
         Ask::UploadEnd { id } => write_by_id(END, *id, sequence, message),
         Ask::Announce(_) => write_announce(image_of(job), sequence, message),
-        // Nothing goes out for it.
-        Ask::AwaitCall(_) => unreachable!(),
+        Ask::AwaitCall(_) => message.clear(),
         Ask::Give { pieces, from, call } => {
             write_given(image_of(job), *pieces, *from, *call, message)
         }

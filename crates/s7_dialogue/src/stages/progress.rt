@@ -10,8 +10,8 @@ ghost use Rattle.s7_dialogue.specs.Question.{Question, messages_of};
 ghost use Rattle.s7_dialogue.specs.Answer as spelled;
 ghost use Rattle.s7_dialogue.specs.Told.{IsAsked, Tells};
 ghost use Rattle.s7_dialogue.specs.Flight.{Row, answers_of, filled};
-ghost use Rattle.s7_dialogue.specs.GoesOn.{ConductsAt, RefusesAt, IsDone};
-ghost use Rattle.s7_dialogue.specs.Taking.{IsFor, Taken, answered_rows, Keeps, closed};
+ghost use Rattle.s7_dialogue.specs.GoesOn.{IsDone};
+ghost use Rattle.s7_dialogue.specs.Taking.{IsFor, Keeps, closed};
 ghost use Rattle.s7_dialogue.specs.Dialogue.{End, fault_end, departed_end, number_end, asked_by};
 ghost use Rattle.s7_dialogue.specs.Dialogue.{connect_request, plan_of};
 ghost use Rattle.s7_dialogue.specs.Course.{Course, asking, for_nothing};
@@ -19,8 +19,7 @@ ghost use Rattle.s7_dialogue.specs.Stages.{octets_of, message_of, can_ask, can_f
 ghost use Rattle.s7_dialogue.specs.Stages.{question_of_single, can_ask_single};
 ghost use Rattle.s7_dialogue.specs.Singles.{message_count};
 ghost use Rattle.s7_dialogue.specs.Running.{Begins, Follows, Reached, IsOver, IsAsking, IsOpening, IsLeaving};
-ghost use Rattle.s7_dialogue.specs.Running.{awaited_in, unput_of, conduct_in, answers_left, IsResult, IsGrant};
-ghost use Rattle.s7_dialogue.specs.Stages.{LeavesLink, LeavesOpen};
+ghost use Rattle.s7_dialogue.specs.Running.{awaited_in, unput_of, conduct_in, answers_left, IsEnding, IsResult, IsGrant};
 
 use crate::answers::answer::{Answer, Asked};
 use crate::answers::codes_list::Codes;
@@ -28,7 +27,7 @@ use crate::answers::collect::{close_gaps, place_codes, place_items};
 use crate::answers::taking::{is_alone, negotiated, number_by, octets_of, refusal_of};
 use crate::codes::GOOD;
 use crate::config::Config;
-use crate::grant::{Grant, Leaves};
+use crate::grant::{Ending, Grant, Leaves};
 use crate::job::{Job, JobResult};
 use crate::questions::checks::octet_count_of;
 use crate::questions::left::Left;
@@ -72,30 +71,30 @@ impl Running {
     }
 
     /// Asks all questions that may go out, under the sequences after this one, and gives the last
-    /// sequence. The job is over where no telegram is unanswered then.
+    /// sequence. The job is over where no telegram is unanswered then. Where it asks nothing, all stays as it is.
     pub fn go_on(&mut self, sequence: u16) -> u16
-        requires { IsAsking self.old.stage }
         ensures reached { (config : Config) (granted : Option Grant) (course : Course)
             → Follows self.old config granted course.rows → course.sequence ≡ sequence
             → unput_of config course.size self.old ≡ []
             → Reached config granted course (asking (conduct_in self.old config granted) course) self.new result }
+        ensures unchanged { (IsAsking self.old.stage → ⊥) → (self.new ≡ self.old) × (result ≡ sequence) }
         ensures fewer { answers_left self.new.stage ≤ answers_left self.old.stage }
-        ensures not_before { IsOpening self.new.stage → ⊥ }
+        ensures not_before { IsOpening self.new.stage → IsOpening self.old.stage }
         ensures few { (config : Config) (size : ℕ) → 128 ≤ size → length (unput_of config size self.new) ≤ 16256 }
         ensures job { self.new.job ≡ self.old.job }
     {
-        if let Stage::Single(single) = &mut self.stage {
-            return single.ask_on(sequence);
+        match &mut self.stage {
+            Stage::Single(single) => single.ask_on(sequence),
+            Stage::Asking(asking) => {
+                let last = asking.ask_on(sequence);
+                if asking.flights.is_empty() {
+                    let refused = asking.refused;
+                    self.settle(refused);
+                }
+                last
+            }
+            Stage::Opening | Stage::Leaving | Stage::Over { .. } => sequence,
         }
-        let Stage::Asking(asking) = &mut self.stage else {
-            unreachable!()
-        };
-        let last = asking.ask_on(sequence);
-        if asking.flights.is_empty() {
-            let refused = asking.refused;
-            self.settle(refused);
-        }
-        last
     }
 
     /// Writes the message of the next telegram that is to be put, as the one that the buffer holds.
@@ -141,7 +140,6 @@ impl Running {
     /// Takes a message as the answer to the first unanswered telegram that it answers, and asks on
     /// under the sequences after this one. Gives the last sequence; `None` where it answers none.
     pub fn take(&mut self, config: &Config, sequence: u16, message: &[u8]) -> Option<u16>
-        requires asking { IsAsking self.old.stage }
         requires pdu { config.now.pdu ≤ most_pdu }
         requires jobs { config.now.jobs ≤ 8 }
         ensures some { IfSome result (λ last. (granted : Option Grant) (course : Course)
@@ -153,92 +151,38 @@ impl Running {
         ensures none { IfNone result ((granted : Option Grant) (rows : List Row)
             → Follows self.old config.now granted rows → filled rows message.now ≡ None) }
         ensures unchanged { IfNone result (self.new ≡ self.old) }
+        ensures asking { OnSome result (IsAsking self.old.stage) }
         ensures fewer { OnSome result (answers_left self.new.stage + 1 ≤ answers_left self.old.stage) }
-        ensures not_before { IsOpening self.new.stage → ⊥ }
+        ensures not_before { IsOpening self.new.stage → IsOpening self.old.stage }
         ensures few { (config : Config) (size : ℕ) → 128 ≤ size → length (unput_of config size self.new) ≤ 16256 }
         ensures job { self.new.job ≡ self.old.job }
     {
-        if let Stage::Single(_) = &self.stage {
-            return self.take_alone(sequence, message);
-        }
-        let Stage::Asking(asking) = &mut self.stage else {
-            unreachable!()
-        };
-        let Some((flight, answer)) = asking.answered(message) else {
-            return None;
-        };
-        match &flight.asked {
-            Asked::Negotiation => {
-                let (code, leaves) = negotiated(config, &answer);
-                self.end(code, leaves);
-                Some(sequence)
+        match &mut self.stage {
+            Stage::Single(single) => {
+                let told = single.answered(&self.job, self.found.as_slice(), message)?;
+                let (ask, len) = (single.ask, single.len);
+                Some(self.bring(ask, len, told, sequence))
             }
-            Asked::Read(items) | Asked::Write(items) => {
-                self.note(&flight, items, &answer);
+            Stage::Asking(asking) => {
+                let (flight, answer) = asking.answered(message)?;
+                let (Asked::Read(items) | Asked::Write(items)) = &flight.asked else {
+                    let (code, leaves) = negotiated(config, &answer);
+                    self.end(code, leaves);
+                    return Some(sequence);
+                };
+                match refusal_of(is_alone(&self.job), &answer) {
+                    Some(number) => asking.refuse(flight.place, number),
+                    None => keep(
+                        &flight,
+                        items,
+                        &answer,
+                        self.found.as_mut_slice(),
+                        &mut self.codes,
+                    ),
+                }
                 Some(self.go_on(sequence))
             }
-        }
-    }
-
-    // Notes what an answer to this telegram for items tells: that it refuses, or what is kept.
-    fn note(&mut self, flight: &Flight, items: &Items, answer: &Answer<'_>)
-        requires listing { IsListing self.old.stage }
-        requires asked { IsFor items.now flight.now.asked }
-        requires flies { can_fly self.old.job (length self.old.found.items) flight.now ≡ true }
-        requires told { (question : Question) → IsAsked flight.now.asked question
-            → (x : spelled.Answer) × Tells question answer.now x }
-        ensures notes { (config : Config) (granted : Option Grant) (rows : List Row)
-            (t : Taken rows flight.now answer.now)
-            → ConductsAt config granted (answered_rows t) rows self.old.job self.old.found.items self.old.codes
-            self.old.stage
-            → Follows self.new config granted (answered_rows t) }
-        ensures asking { IsAsking self.new.stage }
-        ensures as_many { answers_left self.new.stage ≡ answers_left self.old.stage }
-        ensures unput { (config : Config) (size : ℕ) → unput_of config size self.new ≡ unput_of config size self.old }
-        ensures job { self.new.job ≡ self.old.job }
-    {
-        match refusal_of(is_alone(&self.job), items, answer) {
-            Some(number) => self.refuse(flight.place, number),
-            None => self.keep(flight, items, answer),
-        }
-    }
-
-    // The question at a place was refused with this number.
-    fn refuse(&mut self, place: usize, number: u32)
-        requires listing { IsListing self.old.stage }
-        ensures refuses { RefusesAt self.old.stage place number self.new.stage }
-        ensures found { self.new.found ≡ self.old.found }
-        ensures codes { self.new.codes ≡ self.old.codes }
-        ensures job { self.new.job ≡ self.old.job }
-    {
-        let Stage::Asking(asking) = &mut self.stage else {
-            unreachable!()
-        };
-        asking.refuse(place, number);
-    }
-
-    // Keeps what an answer that doesn't refuse tells of these items.
-    fn keep(&mut self, flight: &Flight, items: &Items, answer: &Answer<'_>)
-        requires asked { IsFor items.now flight.now.asked }
-        requires flies { can_fly self.old.job (length self.old.found.items) flight.now ≡ true }
-        requires told { (question : Question) → IsAsked flight.now.asked question
-            → (x : spelled.Answer) × Tells question answer.now x }
-        ensures keeps { Keeps items.now flight.now answer.now self.old.found.items self.old.codes self.new.found.items
-            self.new.codes }
-        ensures stage { self.new.stage ≡ self.old.stage }
-        ensures job { self.new.job ≡ self.old.job }
-    {
-        match answer {
-            Answer::Items(body) => place_items(
-                items,
-                body,
-                self.found.as_mut_slice(),
-                flight.from,
-                &mut self.codes,
-                flight.item,
-            ),
-            Answer::Codes(noted) => place_codes(noted, &mut self.codes, flight.item),
-            Answer::Granted(_) | Answer::Refused(_) => {}
+            Stage::Opening | Stage::Leaving | Stage::Over { .. } => None,
         }
     }
 
@@ -276,41 +220,38 @@ impl Running {
         self.end(code, Leaves::Closed);
     }
 
-    /// What the job, which is over, leaves.
-    pub fn leaves(&self) -> Leaves
-        requires { IsOver self.now.stage }
-        ensures leaves { (end : End) → awaited_in self.now [] ≡ for_nothing end [] → result ≡ end.leaves }
-        ensures granted { IsGoodLeave result }
-        ensures open { LeavesLink result → LeavesOpen self.now.stage }
+    /// How the job is over; `None` exactly where it isn't.
+    pub fn ending(&self) -> Option<Ending>
+        ensures some { IfSome result (IsEnding self.now) }
+        ensures none { IfNone result (IsOver self.now.stage → ⊥) }
     {
         match &self.stage {
-            Stage::Over { leaves, .. } => *leaves,
-            Stage::Opening | Stage::Asking(_) | Stage::Single(_) | Stage::Leaving => unreachable!(),
+            Stage::Over { code, leaves } => Some(Ending {
+                code: *code,
+                leaves: *leaves,
+            }),
+            Stage::Opening | Stage::Asking(_) | Stage::Single(_) | Stage::Leaving => None,
         }
     }
 
-    /// What came of the job, which is over.
-    pub fn into_result(self, carried: Octets) -> JobResult
-        requires { IsOver self.stage }
-        ensures result { (end : End) → awaited_in self [] ≡ for_nothing end []
+    /// What came of the job, which is over with this number, and with the message that is no answer, if one came.
+    pub fn into_result(self, code: u32, carried: Octets) -> JobResult
+        ensures { (end : End) → awaited_in self [] ≡ for_nothing end [] → code ≡ end.code
             → IsResult result self.job end carried }
     {
         let Running {
             job,
-            stage,
             found,
             codes,
+            ..
         } = self;
-        match stage {
-            Stage::Over { code, .. } => JobResult {
-                job,
-                code,
-                octets: Octets::of_vec(found),
-                codes: codes.places(),
-                count: codes.len(),
-                carried,
-            },
-            Stage::Opening | Stage::Asking(_) | Stage::Single(_) | Stage::Leaving => unreachable!(),
+        JobResult {
+            job,
+            code,
+            octets: Octets::of_vec(found),
+            codes: codes.places(),
+            count: codes.len(),
+            carried,
         }
     }
 
@@ -349,6 +290,28 @@ impl Running {
     }
 }
 
+// Keeps what an answer that doesn't refuse tells of these items.
+fn keep(flight: &Flight, items: &Items, answer: &Answer<'_>, found: &mut [u8], codes: &mut Codes)
+    requires asked { IsFor items.now flight.now.asked }
+    requires flies { (job : Job) × (can_fly job (length found.old) flight.now ≡ true) }
+    requires told { (question : Question) → IsAsked flight.now.asked question
+        → (x : spelled.Answer) × Tells question answer.now x }
+    ensures { Keeps items.now flight.now answer.now found.old codes.old found.new codes.new }
+{
+    match answer {
+        Answer::Items(answers) => place_items(
+            items,
+            answers.as_slice(),
+            found,
+            flight.from,
+            codes,
+            flight.item,
+        ),
+        Answer::Codes(noted) => place_codes(noted, codes, flight.item),
+        Answer::Granted(_) | Answer::Refused(_) => {}
+    }
+}
+
 // Closes up the octets of several items that a job read.
 fn close_found(job: &Job, codes: &Codes, found: &mut Vec<u8>)
     requires { has_places job.now (length found.old.items) ≡ true }
@@ -372,15 +335,13 @@ fn write_unput(single: &Single, job: &Job, sequence: u16, message: &mut Buffer)
     ensures fits { (10 ≤ length message.new.octets) × (length message.new.octets ≤ most_pdu) }
     ensures room { message.new.room ≡ most_pdu }
 {
-    if single.unput < 2 {
-        write_single(job, &single.ask, sequence, message);
-        return;
+    if let Ask::Insert { call, .. } = &single.ask {
+        if single.unput > 1 {
+            write_closing(*call, message);
+            return;
+        }
     }
-    // Two go out for an insertion alone.
-    let Ask::Insert { call, .. } = &single.ask else {
-        unreachable!()
-    };
-    write_closing(*call, message);
+    write_single(job, &single.ask, sequence, message);
 }
 
 // Writes the message of a telegram of the job.

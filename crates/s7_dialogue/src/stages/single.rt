@@ -187,59 +187,48 @@ impl Ask {
 }
 
 impl Running {
-    ghost use Rattle.std.specs.Prelude.{ℕ, ◌+◌, true, List, length, take, drop, None, Some, Option, IfSome, IfNone};
-    ghost use Rattle.std.specs.Prelude.{OnSome};
+    ghost use Rattle.std.specs.Prelude.{ℕ, ◌+◌, true, List, length, take, drop, None, Some, Option};
     ghost use Rattle.s7_dialogue.specs.declared.config.Config.{Config};
     ghost use Rattle.s7_dialogue.specs.declared.grant.Grant.{Grant};
     ghost use Rattle.s7_dialogue.specs.Flight.{Row, filled};
     ghost use Rattle.s7_dialogue.specs.Dialogue.{good_end};
     ghost use Rattle.s7_dialogue.specs.Course.{Course, asking, for_nothing};
-    ghost use Rattle.s7_dialogue.specs.Stages.{IsSingle, can_ask_single};
+    ghost use Rattle.s7_dialogue.specs.Stages.{can_ask_single};
     ghost use Rattle.s7_dialogue.specs.Singles.{asks_left};
-    ghost use Rattle.s7_dialogue.specs.GoesOn.{IsNextOf};
+    ghost use Rattle.s7_dialogue.specs.GoesOn.{IsNextOf, IsToldTo};
     ghost use Rattle.s7_dialogue.specs.Running.{Follows, Reached, IsOver, IsOpening, awaited_in, unput_of};
     ghost use Rattle.s7_dialogue.specs.Running.{conduct_in, answers_left};
 
-    /// Takes a message as the answer to the one telegram that is out, and asks on under the sequence
-    /// after this one where more is to be asked. Gives the last sequence; `None` where it is no
-    /// answer to it.
-    pub(crate) fn take_alone(&mut self, sequence: u16, message: &[u8]) -> Option<u16>
-        requires { IsSingle self.old.stage }
-        ensures some { IfSome result (λ last. (config : Config) (granted : Option Grant) (course : Course)
+    /// Goes on with what a message told of the answer to this question, behind so many octets that came, and asks on
+    /// under the sequence after this one where more is to be asked. Gives the last sequence.
+    pub(crate) fn bring(&mut self, ask: Ask, len: usize, told: Told<'_>, sequence: u16) -> u16
+        requires { (message : List ℕ) × IsToldTo self.old ask len message told }
+        ensures reached { (message : List ℕ) → IsToldTo self.old ask len message told.entry
+            → (config : Config) (granted : Option Grant) (course : Course)
             → Follows self.old config granted course.rows → course.sequence ≡ sequence
-            → (rows : List Row) × (filled course.rows message.now ≡ Some rows)
+            → (rows : List Row) × (filled course.rows message ≡ Some rows)
             × Reached config granted course
-            (asking (conduct_in self.old config granted) (record course { rows = rows })) self.new last) }
-        ensures none { IfNone result ((config : Config) (granted : Option Grant) (rows : List Row)
-            → Follows self.old config granted rows → filled rows message.now ≡ None) }
-        ensures unchanged { IfNone result (self.new ≡ self.old) }
-        ensures fewer { OnSome result (answers_left self.new.stage + 1 ≤ answers_left self.old.stage) }
+            (asking (conduct_in self.old config granted) (record course { rows = rows })) self.new result }
+        ensures fewer { answers_left self.new.stage + 1 ≤ answers_left self.old.stage }
         ensures not_before { IsOpening self.new.stage → ⊥ }
         ensures few { (config : Config) (size : ℕ) → 128 ≤ size → length (unput_of config size self.new) ≤ 16256 }
         ensures job { self.new.job ≡ self.old.job }
     {
-        let Stage::Single(single) = &self.stage else {
-            unreachable!()
-        };
-        let Some(told) = single.answered(&self.job, self.found.as_slice(), message) else {
-            return None;
-        };
-        let (ask, len) = (single.ask, single.len);
         match told {
             Told::Refused(number) => {
                 self.end(number, Leaves::AsItWas);
-                Some(sequence)
+                sequence
             }
             Told::Brought { octets, next } => {
                 place_octets(octets, self.found.as_mut_slice(), len);
                 let len = len + octets.len();
                 let Some(next) = next else {
                     self.finish(ask.lead(), len);
-                    return Some(sequence);
+                    return sequence;
                 };
-                Some(self.ask_next(next, len, sequence))
+                self.ask_next(next, len, sequence)
             }
-            Told::Anew(next) => Some(self.ask_next(next, 0, sequence)),
+            Told::Anew(next) => self.ask_next(next, 0, sequence),
         }
     }
 

@@ -130,19 +130,17 @@ impl DataBlock {
 }
 
 impl Place {
-    // The place where so many octets are left from one on.
-    fn first(from: u32, left: u32) -> Option<Place>
-        ensures { result ≡ place_from from left }
+    // The place where so many octets, which are some, are left from one on.
+    fn first(from: u32, left: u32) -> Place
+        requires { 0 < left }
+        ensures { place_from from left ≡ Some result }
     {
-        if left == 0 {
-            return None;
-        }
         let here = left.min(MOST_ITEM);
-        Some(Place {
+        Place {
             from,
             here: here as u16,
             later: left - here,
-        })
+        }
     }
 
     // The place behind so many octets of this one's item.
@@ -153,13 +151,16 @@ impl Place {
     {
         let from = self.from + u32::from(count);
         if count < self.here {
-            Some(Place {
+            return Some(Place {
                 from,
                 here: self.here - count,
                 later: self.later,
-            })
+            });
+        }
+        if self.later > 0 {
+            Some(Place::first(from, self.later))
         } else {
-            Place::first(from, self.later)
+            None
         }
     }
 }
@@ -228,7 +229,7 @@ fn read_octets<'a>(
     if !first.rest.is_empty() {
         return None;
     }
-    Some(block.told(place, first.code, first.octets))
+    Some(block.told(place, first.answer.code, first.answer.octets))
 }
 
 // What its write is answered.
@@ -270,10 +271,7 @@ fn first_part(block: DataBlock, size: u32) -> Ask
     requires { 0 < size }
     ensures { (place : Place) × (place_from 0 size ≡ Some place) × (result ≡ asked.Part block place) }
 {
-    match Place::first(0, size) {
-        Some(place) => Ask::Part(block, place),
-        None => unreachable!(),
-    }
+    Ask::Part(block, Place::first(0, size))
 }
 
 // How many octets the data block has of whose head these pieces tell.

@@ -35,7 +35,7 @@ pub(crate) fn run_gen<O: Out, C: Completion>(
     ensures told { result.0 ≢ Ended.Memory → option_map C.told done.new
         ≡ option_map (λ t. told_of_results t (results_in_rig result.1)) (option_map C.told done.old) }
     ensures told_wanting { result.0 ≡ Ended.Memory → ToldWanting made_areas 65536 made_config (made_scripts seed)
-        (option_map C.told done.old) (option_map C.told done.new) }
+        (made_turning seed) (option_map C.told done.old) (option_map C.told done.new) }
     ensures handed { is_some done.new ≡ is_some done.old }
 {
     match rig_made(alloc, seed, done) {
@@ -56,7 +56,7 @@ fn rig_made<C: Completion>(alloc: Global, seed: u32, done: &mut Option<C>) -> Re
     ensures told { IfOk result (λ r. option_map C.told done.new
         ≡ option_map (λ t. told_of_results t (first_results (end_told r.end))) (option_map C.told done.old)) }
     ensures told_wanting { OnErr result (ToldWanting made_areas 65536 made_config (made_scripts seed)
-        (option_map C.told done.old) (option_map C.told done.new)) }
+        (made_turning seed) (option_map C.told done.old) (option_map C.told done.new)) }
     ensures handed { is_some done.new ≡ is_some done.old }
 {
     let end = run_made(alloc, seed, done)?;
@@ -74,7 +74,7 @@ fn run_made<C: Completion>(alloc: Global, seed: u32, done: &mut Option<C>) -> Re
     ensures told { IfOk result (λ end. option_map C.told done.new
         ≡ option_map (λ t. told_of_results t (first_results (end_told end))) (option_map C.told done.old)) }
     ensures told_wanting { OnErr result (ToldWanting made_areas 65536 made_config (made_scripts seed)
-        (option_map C.told done.old) (option_map C.told done.new)) }
+        (made_turning seed) (option_map C.told done.old) (option_map C.told done.new)) }
     ensures handed { is_some done.new ≡ is_some done.old }
 {
     let areas = made_areas(alloc)?;

@@ -3,6 +3,6 @@ use Rattle.s7_dialogue.specs.Running.{IsResult}
 use Rattle.s7_client.proofs.connection.done.Goals as goal
 
 pub returns : goal.returns
-returns c = λ end e.
+returns c = λ end e code.
     subst (λ (x : List ℕ). IsResult c.into_result.result c.args.job.running.job end x) c.take.ensures.taken
-    (c.into_result.ensures.result end e)
+    (c.into_result.ensures end e code)

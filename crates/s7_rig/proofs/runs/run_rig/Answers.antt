@@ -1,7 +1,7 @@
-use Rattle.std.proofs.Common.{◌≡◌, inl, map, refl}
+use Rattle.std.proofs.Common.{◌≡◌, inl, inr, map, refl}
 use Rattle.s7_rig.specs.Shown.{end_told, state_told, state_of}
 use Rattle.s7_rig.proofs.RigLemmas.{rig_ran, if_ok}
-use Rattle.s7_rig.proofs.TellsLemmas.{any_err, rig_tells, rig_wanting, run_reaches}
+use Rattle.s7_rig.proofs.TellsLemmas.{any_err, rig_tells, rig_wanting}
 use Rattle.s7_rig.proofs.runs.run_rig.Goals as goal
 
 pub returns-clause-ran : goal.returns-clause-ran
@@ -26,16 +26,21 @@ returns-in_err-rig-clause-told_wanting g c = any_err _ (inl refl)
 
 pub returns-in_err-run-clause-told_wanting : goal.returns-in_err-run-clause-told_wanting
 returns-in_err-run-clause-told_wanting g c =
+    let a = c.args in
     let b = c.in_ok-rig.ensures in
     let w = c.in_err-run.ensures.tells_wanting in
-    any_err _ (rig_wanting _ _ c.args.config (map (λ s. s.items) c.args.scripts.items) (state_of c.in_ok-rig.rig)
-    b.opening b.plant b.journal b.clients _ _ w.last w.reached w.tells)
+    any_err _ (rig_wanting _ _ a.config (map (λ s. s.items) a.scripts.items) (state_of c.in_ok-rig.rig)
+    b.opening b.plant b.journal b.clients _ _
+    (record { turns = a.schedule.turns.now; seed = a.schedule.seed; steps = a.schedule.steps }) w.last (inl w.stopped)
+    w.tells)
 
 pub returns-clause-told_wanting : goal.returns-clause-told_wanting
 returns-clause-told_wanting g c =
+    let a = c.args in
     let b = c.in_ok-rig.ensures in
     let ran = c.in_ok-run.ensures in
     any_err c.into_end.result
-    (rig_wanting _ _ c.args.config (map (λ s. s.items) c.args.scripts.items) (state_of c.in_ok-rig.rig) b.opening b.plant
-    b.journal b.clients _ _ (state_of c.run.new.self)
-    (run_reaches c.args.schedule.turns.now c.args.schedule.seed c.args.schedule.steps _ _ ran.run) ran.tells)
+    (rig_wanting _ _ a.config (map (λ s. s.items) a.scripts.items) (state_of c.in_ok-rig.rig) b.opening b.plant
+    b.journal b.clients _ _
+    (record { turns = a.schedule.turns.now; seed = a.schedule.seed; steps = a.schedule.steps }) (state_of c.run.new.self)
+    (inr ran.run) ran.tells)

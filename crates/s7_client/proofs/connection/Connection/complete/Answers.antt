@@ -1,4 +1,4 @@
-use Rattle.s7_client.proofs.RunLemmas.{awaits_none, awaits_on, completes_now, fewer_polls, none_awaited}
+use Rattle.s7_client.proofs.RunLemmas.{awaits_none, awaits_on, completes_now, pends_still, fewer_polls}
 use Rattle.s7_client.proofs.connection.Connection.complete.Goals as goal
 
 pub loop-result-init : goal.loop-result-init
@@ -12,13 +12,17 @@ returns-in-Done g c =
 
 pub loop-result-smaller : goal.loop-result-smaller
 loop-result-smaller g c =
+    let pends =
+    pends_still c.args.self.now c.loop-result.self c.poll.new.self (g.L.Link.shows c.args.link.now)
+    (g.L.Link.shows c.loop-result.link) (g.L.Link.shows c.poll.new.link) c.poll.result c.loop-result.invariant
+    c.in_default.not-Done c.poll.ensures in
     fewer_polls c.loop-result.self c.poll.new.self c.loop-result.invariant.polls c.loop-result.invariant.waited
-    c.poll.ensures.config c.in-Pending.ensures.comes.0.waited
+    c.poll.ensures.config pends.comes.0.waited
 
 pub loop-result-preserved : goal.loop-result-preserved
 loop-result-preserved g c =
     awaits_on c.args.self.now c.loop-result.self c.poll.new.self (g.L.Link.shows c.args.link.now)
-    (g.L.Link.shows c.loop-result.link) (g.L.Link.shows c.poll.new.link) c.loop-result.invariant c.in-Pending.ensures
-
-pub unreachable-requires : goal.unreachable-requires
-unreachable-requires g c = none_awaited c.loop-result.self c.loop-result.invariant.some c.in-Idle.ensures.comes.0
+    (g.L.Link.shows c.loop-result.link) (g.L.Link.shows c.poll.new.link) c.loop-result.invariant
+    (pends_still c.args.self.now c.loop-result.self c.poll.new.self (g.L.Link.shows c.args.link.now)
+    (g.L.Link.shows c.loop-result.link) (g.L.Link.shows c.poll.new.link) c.poll.result c.loop-result.invariant
+    c.in_default.not-Done c.poll.ensures)

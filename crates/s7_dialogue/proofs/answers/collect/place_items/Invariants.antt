@@ -1,15 +1,15 @@
-use Rattle.std.proofs.Common.{◌≡◌, ◌+◌, ◌≤◌, length, drop}
-use Rattle.s7_dialogue.specs.Answer.{item_answers}
-use Rattle.s7_dialogue.specs.Checks.{octet_count_of}
-use Rattle.s7_dialogue.proofs.ItemLemmas.{octets_with, codes_with}
+use Rattle.std.specs.Iterator.Adapters.{zip_first, zip_second}
+use Rattle.std.specs.Slice.Iter.{iter_rest}
+use Rattle.s7_dialogue.specs.DataItems.{answers_in}
+use Rattle.s7_dialogue.specs.Taking.{with_codes, with_octets}
+use Rattle.s7_dialogue.proofs.ItemLemmas.{IsPlaced, codes_told}
 use Rattle.s7_dialogue.proofs.answers.collect.place_items.Given as goal
 
--- what was placed so far, with what the answers for the items to come tell, is what those for all tell
-abbrev pub invariant-loop-k : goal.invariant-loop-k
-invariant-loop-k l = record {
-  octets : octets_with l.at (drop l.k l.items) l.found (item_answers (drop l.k l.items) l.rest)
-      ≡ octets_with l.from l.items l.fn.found (item_answers l.items l.body);
-  codes : codes_with (l.place + l.k) l.codes (item_answers (drop l.k l.items) l.rest)
-      ≡ codes_with l.place l.fn.codes (item_answers l.items l.body);
-  within : l.at + octet_count_of (drop l.k l.items) ≤ length l.fn.found;
-}
+-- what was placed so far, with what is to come, is all
+abbrev pub invariant-loop-item : goal.invariant-loop-item
+invariant-loop-item l =
+    let items = iter_rest (zip_first l.initial.item-iterator) in
+    let answers = answers_in (iter_rest (zip_second l.initial.item-iterator)) in
+    IsPlaced (iter_rest (zip_first l.item-iterator)) (iter_rest (zip_second l.item-iterator)) l.at l.next
+    18446744073709551615 l.found l.codes (with_octets l.initial.at items answers l.initial.found)
+    (with_codes l.initial.next (codes_told answers) l.initial.codes)

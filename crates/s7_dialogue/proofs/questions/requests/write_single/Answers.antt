@@ -23,7 +23,7 @@ write_insert-requires-clause-least c =
     omega (arith, given.least, ap length c.image_of-in-Insert.ensures)
 
 pub returns-in-Give-clause-octets : goal.returns-in-Give-clause-octets
-returns-in-Give-clause-octets c =
+returns-in-Give-clause-octets c = λ some.
     let n = c.args.sequence in
     let give = c.in-Give in
     c.write_given.ensures.octets n
@@ -31,7 +31,7 @@ returns-in-Give-clause-octets c =
     ∙ ap (λ asked. question_octets n (question_of_single c.args.job.now asked [])) (sym give.is))
 
 pub returns-in-Insert-clause-octets : goal.returns-in-Insert-clause-octets
-returns-in-Insert-clause-octets c =
+returns-in-Insert-clause-octets c = λ some.
     let n = c.args.sequence in
     let insert = c.in-Insert in
     c.write_insert.ensures.octets insert.call

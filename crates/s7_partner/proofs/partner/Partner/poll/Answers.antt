@@ -11,7 +11,7 @@ returns-in-Closed g c =
 
 pub hand_out-requires : goal.hand_out-requires
 hand_out-requires g c = record {
-  live = (c.acknowledge.ensures.runs (g.L.Link.shows c.args.link.now)).closed;
+  live = (c.acknowledge.ensures.acknowledges (g.L.Link.shows c.args.link.now)).runs.closed;
   whole = search rules;
 }
 
@@ -19,12 +19,12 @@ pub returns-then-is_some : goal.returns-then-is_some
 returns-then-is_some g c =
     let k = g.L.Link.shows c.args.link.now in
     let live : closed_of c.args.self.now ≡ None = search rules in
-    poll_behind c.args.self.now c.acknowledge.new.self c.hand_out.new.self k k c.hand_out.result live
-    c.acknowledge.ensures.runs (c.hand_out.ensures k)
+    poll_behind c.args.self.now c.acknowledge.new.self c.hand_out.new.self k k c.hand_out.result live c.acknowledge.ensures.handed
+    c.acknowledge.ensures.acknowledges (c.hand_out.ensures k)
 
 pub advance-requires : goal.advance-requires
 advance-requires g c = record {
-  live = (c.acknowledge.ensures.runs (g.L.Link.shows c.args.link.now)).closed;
+  live = (c.acknowledge.ensures.acknowledges (g.L.Link.shows c.args.link.now)).runs.closed;
   none_whole = search rules;
   none_handed = c.acknowledge.ensures.handed;
 }
@@ -34,7 +34,8 @@ returns-in-NotYet g c =
     let k = g.L.Link.shows c.args.link.now in
     let k' = g.L.Link.shows c.advance.new.link in
     let live : closed_of c.args.self.now ≡ None = search rules in
-    poll_behind c.args.self.now c.acknowledge.new.self c.advance.new.self k k' _ live c.acknowledge.ensures.runs
+    poll_behind c.args.self.now c.acknowledge.new.self c.advance.new.self k k' _ live c.acknowledge.ensures.handed
+    c.acknowledge.ensures.acknowledges
     (polls_pending c.acknowledge.new.self c.advance.new.self k k'
     (λ s holds. sym (c.is_waiting.ensures s holds) ∙ c.if-is_waiting.true) c.in-NotYet.ensures.runs)
 
@@ -43,7 +44,8 @@ returns-in-NotYet-2 g c =
     let k = g.L.Link.shows c.args.link.now in
     let k' = g.L.Link.shows c.advance.new.link in
     let live : closed_of c.args.self.now ≡ None = search rules in
-    poll_behind c.args.self.now c.acknowledge.new.self c.advance.new.self k k' _ live c.acknowledge.ensures.runs
+    poll_behind c.args.self.now c.acknowledge.new.self c.advance.new.self k k' _ live c.acknowledge.ensures.handed
+    c.acknowledge.ensures.acknowledges
     (polls_idle c.acknowledge.new.self c.advance.new.self k k'
     (λ s holds. sym (c.is_waiting.ensures s holds) ∙ c.if-is_waiting.false) c.in-NotYet-2.ensures.runs)
 
@@ -52,7 +54,8 @@ returns-in-Sent g c =
     let k = g.L.Link.shows c.args.link.now in
     let k' = g.L.Link.shows c.advance.new.link in
     let live : closed_of c.args.self.now ≡ None = search rules in
-    poll_behind c.args.self.now c.acknowledge.new.self c.advance.new.self k k' _ live c.acknowledge.ensures.runs
+    poll_behind c.args.self.now c.acknowledge.new.self c.advance.new.self k k' _ live c.acknowledge.ensures.handed
+    c.acknowledge.ensures.acknowledges
     (polls_sent c.acknowledge.new.self c.advance.new.self k k' c.in-Sent.ensures.runs)
 
 pub returns-in-Whole : goal.returns-in-Whole
@@ -61,8 +64,8 @@ returns-in-Whole g c =
     let k' = g.L.Link.shows c.advance.new.link in
     let told = c.hand_out-in-Whole.result in
     let live : closed_of c.args.self.now ≡ None = search rules in
-    poll_behind c.args.self.now c.acknowledge.new.self c.hand_out-in-Whole.new.self k k' told live
-    c.acknowledge.ensures.runs
+    poll_behind c.args.self.now c.acknowledge.new.self c.hand_out-in-Whole.new.self k k' told live c.acknowledge.ensures.handed
+    c.acknowledge.ensures.acknowledges
     (polls_behind c.acknowledge.new.self c.advance.new.self c.hand_out-in-Whole.new.self k k' k' Whole told tt
     c.in-Whole.ensures.runs (c.hand_out-in-Whole.ensures k'))
 
@@ -71,6 +74,7 @@ returns-in-Closed-advance g c =
     let k = g.L.Link.shows c.args.link.now in
     let k' = g.L.Link.shows c.advance.new.link in
     let live : closed_of c.args.self.now ≡ None = search rules in
-    poll_behind c.args.self.now c.acknowledge.new.self c.advance.new.self k k' _ live c.acknowledge.ensures.runs
+    poll_behind c.args.self.now c.acknowledge.new.self c.advance.new.self k k' _ live c.acknowledge.ensures.handed
+    c.acknowledge.ensures.acknowledges
     (polls_closed c.acknowledge.new.self c.advance.new.self k k' c.in-Closed-advance.code
     c.in-Closed-advance.ensures.runs)

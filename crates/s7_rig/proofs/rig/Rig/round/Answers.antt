@@ -1,11 +1,13 @@
-use Rattle.std.proofs.Common.{◌≡◌, ◌*◌, length, map, refl, ◌∙◌, subst, arith}
+use Rattle.std.proofs.Common.{◌≡◌, ◌*◌, ◌<◌, length, map, refl, ◌∙◌, subst, arith}
 use Rattle.std.specs.Prelude.{option_map}
 use Rattle.std.proofs.lemmas.List.{length-map}
 use Rattle.s7_rig.specs.Numbers.{count_from}
 use Rattle.s7_rig.specs.Shown.{first_results, state_told, post_of, state_of}
-use Rattle.s7_rig.specs.Runs.{Turns}
+use Rattle.s7_rig.specs.Runs.{Turns, actors_of}
+use Rattle.s7_rig.specs.Stopped.{TurnsStop}
+use Rattle.s7_rig.proofs.StoppedLemmas.{stops_count}
 use Rattle.s7_rig.proofs.TurnsLemmas.{Turns-none, Turns-count}
-use Rattle.s7_rig.proofs.TellsLemmas.{any_err, reaches_by, tells_none, tells_then, wanting_here}
+use Rattle.s7_rig.proofs.TellsLemmas.{any_err, tells_none, tells_then, wanting_here}
 use Rattle.s7_rig.proofs.rig.Rig.round.Goals as goal
 
 pub loop-actor-init : goal.loop-actor-init
@@ -35,5 +37,8 @@ returns-clause-turns g c =
 
 pub returns-in_err-stirred-clause-tells_wanting : goal.returns-in_err-stirred-clause-tells_wanting
 returns-in_err-stirred-clause-tells_wanting g c =
-    any_err _ (wanting_here _ _ _ _ _ (reaches_by _ _ _ _ c.loop-actor.invariant.turns) c.loop-actor.invariant.tells
+    let n = 2 * length (map post_of c.args.self.now.stations.items) in
+    let below : c.loop-actor.actor < n = omega (arith, length-map c.args.self.now.stations.items post_of) in
+    any_err _ (wanting_here (TurnsStop (actors_of (state_of c.args.self.now))) _ _ _ _ _
+    (stops_count c.loop-actor.actor n _ _ _ below c.loop-actor.invariant.turns) c.loop-actor.invariant.tells
     c.in_err-stirred.ensures.untold)

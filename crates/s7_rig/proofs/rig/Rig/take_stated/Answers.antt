@@ -1,8 +1,10 @@
 use Rattle.std.proofs.Common.{◌||◌, refl, ◌∙◌, false}
 use Rattle.std.specs.Prelude.{option_map}
 use Rattle.s7_rig.specs.Shown.{first_results, state_told, state_of}
+use Rattle.s7_rig.specs.Stopped.{TurnsStop}
+use Rattle.s7_rig.proofs.StoppedLemmas.{stops_at}
 use Rattle.s7_rig.proofs.TurnsLemmas.{Turns-none, Turns-take}
-use Rattle.s7_rig.proofs.TellsLemmas.{any_err, reaches_by, tells_none, tells_then, wanting_here}
+use Rattle.s7_rig.proofs.TellsLemmas.{any_err, tells_none, tells_then, wanting_here}
 use Rattle.s7_rig.proofs.rig.Rig.take_stated.Goals as goal
 
 pub loop-actor-init : goal.loop-actor-init
@@ -22,6 +24,8 @@ loop-actor-preserved g c =
 
 pub returns-in_err-turn-clause-tells_wanting : goal.returns-in_err-turn-clause-tells_wanting
 returns-in_err-turn-clause-tells_wanting g c =
+    let turns = c.args.turns.now in
     let before = c.loop-actor.invariant.turns in
-    any_err _ (wanting_here _ _ _ _ _ (reaches_by _ _ _ _ before.1) c.loop-actor.invariant.tells
+    any_err _ (wanting_here (TurnsStop turns) _ _ _ _ _
+    (stops_at turns c.loop-actor.actor-index _ _ before.0 c.loop-actor-test.true before.1) c.loop-actor.invariant.tells
     c.in_err-turn.ensures.untold)

@@ -10,5 +10,6 @@ invariant-loop g l = record {
   number : number_of l.self ≡ number_of l.fn.self;
   kept : g.D.Doer.keeps l.fn.doer l.doer;
   going : closed_with l.fn.self ≡ None → closed_with l.self ≡ None;
+  fails : closed_with l.fn.self ≡ None → (g.L.Link.shows l.line).faults ≡ (g.L.Link.shows l.fn.line).faults;
   same : (o : Outcome) → closed_with l.fn.self ≡ Some o → (l.self ≡ l.fn.self) × (g.L.Link.shows l.line ≡ g.L.Link.shows l.fn.line) × (l.doer ≡ l.fn.doer);
 }

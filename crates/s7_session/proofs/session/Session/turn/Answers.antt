@@ -5,7 +5,7 @@ use Rattle.s7_session.specs.declared.outcome.Turn.TheVariants as turn
 use Rattle.s7_session.specs.declared.outcome.Outcome.TheVariants as outcome
 use Rattle.s7_session.proofs.ConsumeLemmas.{went_not_yet, went_not_closed}
 use Rattle.s7_session.proofs.TurnLemmas.{moved_nothing, moved_by_receive, moved_by_transmit}
-use Rattle.s7_session.proofs.ServeLemmas.{turn_closed, turn_plain, turn_closing, turn_used, turn_both, empty_of, some_of, none_from_not, not_yet_not_went, not_yet_not_closed, read_not_write, write_not_read, torn_not_write, cause_end, closed_keeps, met_full, met_empty, not_empty, if_some, is_some_from}
+use Rattle.s7_session.proofs.ServeLemmas.{turn_closed, turn_plain, turn_closing, turn_used, turn_both, empty_of, some_of, none_from_not, not_yet_not_went, not_yet_not_closed, read_not_write, write_not_read, torn_not_write, fails_torn, cause_end, closed_keeps, met_full, met_empty, not_empty, if_some, is_some_from}
 use Rattle.s7_session.proofs.session.Session.turn.Goals as goal
 
 pub returns-in-Some-clause-turn : goal.returns-in-Some-clause-turn
@@ -19,6 +19,7 @@ returns-in-Bytes-clause-turn g c =
     (moved_by_transmit (g.L.Link.shows c.args.line.now) (g.L.Link.shows c.flush.new.line) _ c.in-Bytes.ensures.wrote c.in-Bytes.ensures.fits c.in-Bytes.ensures.space c.flush.ensures.faults c.flush.ensures.waits c.flush.ensures.same) live live
     (λ e. (c.in-Bytes.ensures.some c.in-Bytes.field-0 refl).1) (λ e. absurd (went_not_yet e)) (λ o e. absurd (went_not_closed o e))
     (λ e. absurd (went_not_closed outcome.ReadFault e)) (λ e. absurd (went_not_closed outcome.WriteFault e))
+    (c.in-Bytes.ensures.failed_no_other (λ e. cc), c.in-Bytes.ensures.waited_no_other (λ e. cc))
 
 pub returns-in-NotYet-clause-turn : goal.returns-in-NotYet-clause-turn
 returns-in-NotYet-clause-turn g c =
@@ -31,6 +32,7 @@ returns-in-NotYet-clause-turn g c =
     (λ e. (refl, c.in-NotYet.ensures.not_yet refl, met_full c.args.self.now (g.L.Link.shows c.args.line.now) (λ n h. (if_some _ _ c.in-NotYet.ensures.no_space n h).0 refl) (not_empty _ some)))
     (λ o e. absurd (not_yet_not_closed o e))
     (λ e. absurd (not_yet_not_closed outcome.ReadFault e)) (λ e. absurd (not_yet_not_closed outcome.WriteFault e))
+    (c.in-NotYet.ensures.failed_no_other (λ e. cc), (c.in-NotYet.ensures.not_yet refl, c.flush.ensures.waits_once))
 
 pub returns-in-Failed-clause-turn : goal.returns-in-Failed-clause-turn
 returns-in-Failed-clause-turn g c =
@@ -44,6 +46,7 @@ returns-in-Failed-clause-turn g c =
     live k.closed k.result
     (λ first b js w h. (c.in-Failed.ensures.failed refl, rw same some, h.lives live))
     (λ e. absurd (write_not_read e)) (λ e. some)
+    ((c.in-Failed.ensures.failed refl, c.flush.ensures.faults_once), c.in-Failed.ensures.waited_no_other (λ e. cc))
 
 pub returns-then-not-is_empty-2-clause-turn : goal.returns-then-not-is_empty-2-clause-turn
 returns-then-not-is_empty-2-clause-turn g c =
@@ -60,7 +63,7 @@ returns-then-self-eq-SPENT-clause-turn g c =
     outcome.Spent c.close-then-self-eq-SPENT.result (closed_keeps _ _ k.reader k.conversation k.used k.count k.newest) (ap (λ x. x.sender.outbox.unsent) k.conversation) k.inbox
     (moved_nothing (g.L.Link.shows c.args.line.now)) live k.closed k.result
     (λ first b js w h. (h.used ∙ c.if-self-eq-SPENT.true, (ap (λ x. x.sender.outbox.unsent) k.conversation ∙ none, k.inbox ∙ read), h.lives live))
-    (λ e. absurd (cc)) (λ e. absurd (cc))
+    (λ e. absurd (cc)) (λ e. absurd (cc)) (refl, refl)
 
 pub returns-in-Bytes-refill-clause-turn : goal.returns-in-Bytes-refill-clause-turn
 returns-in-Bytes-refill-clause-turn g c =
@@ -72,6 +75,7 @@ returns-in-Bytes-refill-clause-turn g c =
       empty_of c.args.self.now.inbox c.is_empty-2.result c.is_empty-2.ensures c.if-not-is_empty-2.false,
     )
     k.ensures.consumes
+    (c.in-Bytes-refill.ensures.failed_no_other (λ e. cc)) (c.in-Bytes-refill.ensures.waited_no_other (λ e. cc))
 
 pub returns-in-NotYet-refill-clause-turn : goal.returns-in-NotYet-refill-clause-turn
 returns-in-NotYet-refill-clause-turn g c =
@@ -85,7 +89,10 @@ returns-in-NotYet-refill-clause-turn g c =
     (λ e. absurd (not_yet_not_went e))
     (λ e. (refl, (c.in-NotYet-refill.ensures.not_yet refl).1, met_empty c.args.self.now (g.L.Link.shows c.args.line.now) (λ n h. (c.in-NotYet-refill.ensures.nothing_left (is_some_from _ n h)).0 refl) (sent, old_none)))
     (λ o e. absurd (not_yet_not_closed o e))
-    (λ e. absurd (not_yet_not_closed outcome.ReadFault e)) (λ e. absurd (not_yet_not_closed outcome.WriteFault e))
+    (λ e. absurd (not_yet_not_closed outcome.ReadFault e)) (λ e. absurd (not_yet_not_closed outcome.WriteFault e)) (
+      c.in-NotYet-refill.ensures.failed_no_other (λ e. cc),
+      ((c.in-NotYet-refill.ensures.not_yet refl).1, c.refill.ensures.waits_once),
+    )
 
 pub returns-in-Failed-refill-clause-turn : goal.returns-in-Failed-refill-clause-turn
 returns-in-Failed-refill-clause-turn g c =
@@ -103,7 +110,10 @@ returns-in-Failed-refill-clause-turn g c =
       (ap (λ x. x.sender.outbox.unsent) k.conversation ∙ sent, k.inbox ∙ none),
       h.lives live,
     ))
-    (λ e. (sent, old_none)) (λ e. absurd (read_not_write e))
+    (λ e. (sent, old_none)) (λ e. absurd (read_not_write e)) (
+      ((c.in-Failed-refill.ensures.failed refl).1, c.refill.ensures.faults_once),
+      c.in-Failed-refill.ensures.waited_no_other (λ e. cc),
+    )
 
 pub returns-in-End-clause-turn : goal.returns-in-End-clause-turn
 returns-in-End-clause-turn g c =
@@ -118,4 +128,8 @@ returns-in-End-clause-turn g c =
     live k.closed k.result
     (cause_end c.args.self.now c.close-in-End.new.self (g.L.Link.shows c.args.line.now) (g.L.Link.shows c.refill.new.line) c.end-outcome.result live c.end-outcome.ensures.torn
     (ap (λ x. x.sender.outbox.unsent) k.conversation ∙ sent) (k.inbox ∙ ended.0) ended.1 ended.2)
-    (λ e. (sent, old_none)) (λ e. absurd (torn_not_write c.end-outcome.ensures.octets.0 c.end-outcome.result c.end-outcome.ensures.octets.1 e))
+    (λ e. (sent, old_none)) (λ e. absurd (torn_not_write c.end-outcome.ensures.octets.0 c.end-outcome.result c.end-outcome.ensures.octets.1 e)) (
+      fails_torn c.end-outcome.ensures.octets.0 c.end-outcome.result _ _ c.end-outcome.ensures.octets.1
+          (c.in-End.ensures.failed_no_other (λ e. cc)),
+      c.in-End.ensures.waited_no_other (λ e. cc),
+    )

@@ -29,6 +29,6 @@ returns-in_err-scripts-clause-told_wanting g c = any_err _ (inl refl)
 
 pub returns-clause-told_wanting : goal.returns-clause-told_wanting
 returns-clause-told_wanting g c =
-    wanting_same c.run_rig.result _ _ _ _ _ _ _ (option_map g.C.Completion.told c.args.done.now)
+    wanting_same c.run_rig.result _ _ _ _ _ _ _ _ _ _ _ (option_map g.C.Completion.told c.args.done.now)
     (option_map g.C.Completion.told c.run_rig.new.done) c.in_ok-areas.ensures c.rig_config.ensures
-    c.in_ok-scripts.ensures.scripts c.run_rig.ensures.told_wanting
+    c.in_ok-scripts.ensures.scripts refl c.run_rig.ensures.told_wanting

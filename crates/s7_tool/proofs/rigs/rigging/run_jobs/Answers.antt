@@ -10,6 +10,6 @@ returns-clause-printable g c =
 
 pub returns-clause-told_wanting : goal.returns-clause-told_wanting
 returns-clause-told_wanting g c =
-    wanting_same c.run_rig.result _ _ _ _ _ _ _ (option_map g.C.Completion.told c.args.done.now)
+    wanting_same c.run_rig.result _ _ _ _ _ _ _ _ _ _ _ (option_map g.C.Completion.told c.args.done.now)
     (option_map g.C.Completion.told c.run_rig.new.done) refl c.rig_config-config.ensures refl
-    c.run_rig.ensures.told_wanting
+    c.as_slice.ensures.value c.run_rig.ensures.told_wanting
