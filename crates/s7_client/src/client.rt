@@ -29,8 +29,6 @@ impl<C: Completion> Client<C> {
     /// 8, the polls at least 1. `Memory` comes where there is none for its buffers; the completion is
     /// dropped then.
     pub fn new(alloc: Global, config: Config, done: Option<C>) -> Result<Client<C>, Memory>
-    where
-        C: Drop,
         requires least_pdu { 64 ≤ config.pdu }
         requires most_pdu { config.pdu ≤ most_pdu }
         requires least_jobs { 1 ≤ config.jobs }

@@ -3,7 +3,7 @@ ghost use Rattle.std.specs.Prelude.{◌≡◌};
 ghost use Rattle.s7_client.specs.Completions.{Told, told_one};
 
 /// Is told of each job that is done.
-pub trait Completion {
+pub trait Completion: Drop {
     /// How often it was told, held at 2^64 - 1, and what it was told last.
     ghost told: { Self → Told };
 
@@ -11,4 +11,12 @@ pub trait Completion {
     /// of jobs are those of `op_of`.
     fn finished(&mut self, op: u8, code: u32)
         ensures { told self.new ≡ told_one (told self.old) op code };
+}
+
+impl Completion for Box<dyn Completion> {
+    ghost told = { λ b. (Completion-box b).told b.value };
+
+    fn finished(&mut self, op: u8, code: u32) {
+        (**self).finished(op, code);
+    }
 }

@@ -75,7 +75,7 @@ pub const MEMORY: u8 = 9;
 ///
 /// The completion is handed back. It was told of each job of `run`, or of the first client of `rig` or `gen`, when
 /// the job was done, once, in order, and of nothing else: with 9 too, where no rig is left.
-pub fn tool_main<F: Files, L: Link + Drop, K: Dial<L>, O: Out, C: Completion + Drop>(
+pub fn tool_main<F: Files, L: Link + Drop, K: Dial<L>, O: Out, C: Completion>(
     alloc: Global,
     words: &[&str],
     files: &mut F,

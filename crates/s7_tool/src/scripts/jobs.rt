@@ -36,7 +36,7 @@ pub(crate) struct ScriptRun<L: Link + Drop, C> {
     pub results: Vec<JobResult>,
 }
 
-impl<L: Link + Drop, C: Completion + Drop> ScriptRun<L, C> {
+impl<L: Link + Drop, C: Completion> ScriptRun<L, C> {
     ghost use Rattle.s7_tool.specs.Run.{DoesAll, DoesJob, DoesLines, EndsEarly, FailsOutput, PrintsNothing, place};
 
     /// A connect, the jobs of these lines, and a disconnect. Each result is kept, and all but the

@@ -27,7 +27,7 @@ use std::alloc::{AllocError, Global};
 /// Reads the script that the words name, dials the controller, and runs the script over the link. All
 /// room is taken before the dial, so a link that came is never dropped. The completion is lent to the client
 /// for the run.
-pub(crate) fn run_script<F: Files, L: Link + Drop, K: Dial<L>, O: Out, C: Completion + Drop>(
+pub(crate) fn run_script<F: Files, L: Link + Drop, K: Dial<L>, O: Out, C: Completion>(
     alloc: Global,
     words: RunWords<'_>,
     files: &mut F,
@@ -101,7 +101,7 @@ fn config_of(words: &RunWords<'_>) -> Config
 
 // Runs the jobs of these lines from the first on, and says how that went and what it leaves. The client has the
 // completion meanwhile.
-fn run_over<L: Link + Drop, O: Out, C: Completion + Drop>(
+fn run_over<L: Link + Drop, O: Out, C: Completion>(
     alloc: Global,
     lines: Vec<ScriptLine>,
     run: ScriptRun<L, C>,
@@ -125,7 +125,7 @@ fn run_over<L: Link + Drop, O: Out, C: Completion + Drop>(
 }
 
 // Runs the jobs of these lines, and says how that went.
-fn run_jobs<L: Link + Drop, O: Out, C: Completion + Drop>(
+fn run_jobs<L: Link + Drop, O: Out, C: Completion>(
     alloc: Global,
     lines: Vec<ScriptLine>,
     run: &mut ScriptRun<L, C>,
