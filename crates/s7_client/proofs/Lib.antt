@@ -6,6 +6,7 @@ pub mod TurnLemmas
 pub mod PacketLemmas
 pub mod StepLemmas
 pub mod OrderLemmas
+pub mod CountLemmas
 pub mod LinkLemmas
 pub mod SendLemmas
 pub mod RoundLemmas

@@ -5,7 +5,6 @@ use Rattle.std.specs.Prelude.{Option, None, Some, option_map, IsSome}
 use Rattle.std.proofs.lemmas.List.{append-nil, nil_from_length}
 use Rattle.std.specs.Io.KnownBytes.{prepend_known, append_known}
 use Rattle.s7_outer.specs.Shown.{Shown}
-use Rattle.s7_outer.specs.Count.{Rose}
 use Rattle.s7_dialogue.specs.declared.config.Config.{Config}
 use Rattle.s7_dialogue.specs.declared.grant.Grant.{Grant}
 use Rattle.s7_client.specs.declared.channel.Channel.{Channel}
@@ -168,7 +167,6 @@ step_used l l' u u' link config granted sent k = record {
   orderly = λ origin b w ec eg s. orderly_used origin (unread l) b w _
       (sym (sent_whole origin l u b w config ec s sent)) k.some k.inbox refl refl;
   less = λ e. k.less;
-  not_yet = λ e. absurd (went_not_yet e);
   met = λ origin b w ec eg s e. absurd (went_not_yet e);
   over = λ e. absurd (went_not_over e);
   cause = λ origin b w ec eg s e. absurd (went_not_over e);
@@ -176,13 +174,13 @@ step_used l l' u u' link config granted sent k = record {
 
 -- octets came, and are used
 pub step_taken : (l l' : Channel) (u u' : UnderWay) (link link' : Shown) (received : List ℕ) (config : Config)
-    (granted : Option Grant) → pending config l.talk u.running ≡ [] → unread l ≡ []
+    (granted : Option Grant) → IsAwaiting u.running.stage → pending config l.talk u.running ≡ [] → unread l ≡ []
     → Consumes (record l { inbox = received }) u l' u' config granted → link.left ≡ prepend_known received link'.left
     → link' ≡ record link { left = link'.left; has_ended = link'.has_ended; faults = link'.faults; waits = link'.waits }
     → link.faults ≤ link'.faults → link.waits ≤ link'.waits
     → IsStep l u link l' u' link' config granted step.Went
 unfolding moves_received
-step_taken l l' u u' link link' received config granted sent none k took same faults waits = record {
+step_taken l l' u u' link link' received config granted awaiting sent none k took same faults waits = record {
   moves = moves_received l l' link link' received k.used (ap (λ x. x ++ received) none ∙ k.inbox) took
       same faults waits;
   fits = λ h. k.fits;
@@ -191,9 +189,9 @@ step_taken l l' u u' link link' received config granted sent none k took same fa
   stood = λ origin b w ec eg s h. subst (λ x. Stands origin l' u' (b ++ k.used) x) (sym (append-nil w))
       (k.stood origin b w ec eg (stands_with origin l received u b w s));
   orderly = λ origin b w ec eg s. orderly_taken origin (unread l) b w _
-      (sym (sent_whole origin l u b w config ec s sent)) none k.some k.inbox refl;
+      (sym (sent_whole origin l u b w config ec s sent)) none (awaits_here (course origin b) u awaiting s.at.awaits)
+      k.some k.inbox refl;
   less = λ e. k.less;
-  not_yet = λ e. absurd (went_not_yet e);
   met = λ origin b w ec eg s e. absurd (went_not_yet e);
   over = λ e. absurd (went_not_over e);
   cause = λ origin b w ec eg s e. absurd (went_not_over e);
@@ -266,11 +264,11 @@ pub step_waiting : (l : Channel) (octets : _) (u : UnderWay) (link link' : Shown
     → unread (record l { inbox = octets }) ≡ []
     → link.left ≡ prepend_known (unread (record l { inbox = octets })) link'.left
     → link' ≡ record link { left = link'.left; has_ended = link'.has_ended; faults = link'.faults; waits = link'.waits }
-    → link.faults ≤ link'.faults → link.waits ≤ link'.waits → Rose link.waits link'.waits
+    → link.faults ≤ link'.faults → link.waits ≤ link'.waits
     → (IsSome link.space → link.left ≡ Some [])
     → IsStep l u link (record l { inbox = octets }) u link' config granted step.NotYet
 unfolding moves_received
-step_waiting l octets u link link' config granted fits awaiting sent none none' took same faults waits rose none_left =
+step_waiting l octets u link link' config granted fits awaiting sent none none' took same faults waits none_left =
     let l' : Channel = record l { inbox = octets } in
     let took' : link.left ≡ link'.left = took_none link.left link'.left (unread l') none' took in
     record {
@@ -282,7 +280,6 @@ step_waiting l octets u link link' config granted fits awaiting sent none none' 
       stood = λ origin b w ec eg s h. same_stands origin l' u b w (stands_with origin l octets u b w s);
       orderly = λ origin b w ec eg s. orderly_none origin (unread l) b w _ refl refl refl;
       less = λ e. absurd (not_yet_not_went e);
-      not_yet = λ e. rose;
       met = λ origin b w ec eg s e. same_met origin (unread l') link' b w (record {
         full = λ rest space e some h. absurd
             (all_sent (may_send origin b) w rest (sent_whole origin l u b w config ec s sent) e some);
@@ -321,7 +318,6 @@ step_broken l octets u u' link link' config granted code awaiting sent none none
       stood = λ origin b w ec eg s h. absurd (h refl);
       orderly = λ origin b w ec eg s. orderly_none origin (unread l) b w _ refl refl refl;
       less = λ h. absurd (over_not_went h);
-      not_yet = λ h. absurd (over_not_yet h);
       met = λ origin b w ec eg s h. absurd (over_not_yet h);
       over = λ h. over;
       cause = λ origin b w ec eg s h. same_cause origin link link' l' u' b w (record {

@@ -2,8 +2,8 @@
 use Rattle.std.proofs.Common.{◌≡◌, ℕ, ◌<◌, List, [], ◌∷◌, ◌++◌, length, refl, ap, sym, ◌∙◌, subst, append_assoc, arith, length-append}
 use Rattle.std.proofs.lemmas.List.{append-nil, append_cancel_left}
 use Rattle.s7_outer.specs.Shown.{Shown}
-use Rattle.s7_dialogue.specs.Course.{Origin, may_send}
-use Rattle.s7_client.specs.Order.{Deed, transmits, uses, receives, transmitted_in, used_in, received_in, AreInOrder}
+use Rattle.s7_dialogue.specs.Course.{Origin, course, may_send}
+use Rattle.s7_client.specs.Order.{Deed, transmits, uses, receives, transmitted_in, used_in, received_in, AwaitsOctets, AreInOrder}
 use Rattle.s7_client.specs.Standing.{Moves, IsOrderly}
 
 -- ---- deeds after deeds
@@ -65,7 +65,7 @@ order_both origin kept kept' b w (uses o ∷ ds) es inbox h k =
 order_both origin kept kept' b w (receives o ∷ ds) es inbox h k =
     let inbox' : o ++ received_in ds ≡ used_in ds ++ kept' =
     ap (λ x. x ++ (o ++ received_in ds)) (sym h.2) ∙ inbox in
-    (h.0, h.1, h.2, order_both origin o kept' b w ds es inbox' h.3 k)
+    (h.0, h.1, h.2, h.3, order_both origin o kept' b w ds es inbox' h.4 k)
 
 -- ---- what one step did
 
@@ -108,15 +108,15 @@ some_whole all used rest e some = omega (arith, ap length e, length-append used 
 
 -- octets came, and some were used at once
 pub orderly_taken : (origin : Origin) (kept b w : List ℕ) {link : Shown} {kept' : List ℕ} {link' : Shown}
-    (moves : Moves kept link kept' link') → w ≡ may_send origin b → kept ≡ [] → 0 < length moves.used
-    → moves.received ≡ moves.used ++ kept' → moves.written ≡ []
+    (moves : Moves kept link kept' link') → w ≡ may_send origin b → kept ≡ [] → AwaitsOctets (course origin b).awaits
+    → 0 < length moves.used → moves.received ≡ moves.used ++ kept' → moves.written ≡ []
     → IsOrderly origin kept b w moves
-orderly_taken origin kept b w {link} {kept'} moves sent none some inbox written = record {
+orderly_taken origin kept b w {link} {kept'} moves sent none awaits some inbox written = record {
   deeds = receives moves.received ∷ uses moves.used ∷ [];
   written = sym written;
   used = append-nil moves.used;
   received = append-nil moves.received;
-  order = (some_whole moves.received moves.used kept' inbox some, sent, none, (some, sent, kept', inbox, tt));
+  order = (some_whole moves.received moves.used kept' inbox some, sent, none, awaits, (some, sent, kept', inbox, tt));
 }
 
 -- ---- one step after another

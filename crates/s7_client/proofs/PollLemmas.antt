@@ -17,12 +17,14 @@ use Rattle.s7_client.specs.declared.channel.Channel.{Channel}
 use Rattle.s7_client.specs.declared.under_way.UnderWay.{UnderWay}
 use Rattle.s7_client.specs.declared.connection.Connection.{Connection}
 use Rattle.s7_dialogue.specs.Dialogue.{End}
-use Rattle.s7_dialogue.specs.Running.{awaited_in, IsResult}
+use Rattle.s7_dialogue.specs.Running.{awaited_in, IsOver, IsResult}
 use Rattle.s7_dialogue.specs.Course.{Origin, for_nothing}
 use Rattle.s7_client.specs.At.{size_in}
+use Rattle.s7_client.specs.Counts.{FailedAsTold, WaitedAsTold}
 use Rattle.s7_client.specs.Standing.{Stands, Fits, IsBetween, unread, unsent}
 use Rattle.s7_client.specs.Polling.{StandsFor, IsPoll, IsDoneBy, WaitsOnce, Round, RoundGoesOn, RoundEnds, grant_after, closed_after, job_of, waited_of}
 use Rattle.s7_client.proofs.LinkLemmas.{moves_none}
+use Rattle.s7_client.proofs.SendLemmas.{end_at, ends_at}
 
 none_under : (o : Option UnderWay) (u : UnderWay) → o ≡ None → o ≡ Some u → ⊥
 none_under o u none some = cc
@@ -34,6 +36,7 @@ poll_idle c c' link none same =
       moves = moves_none c.channel link;
       orderly = λ origin b w s. absurd (none_under c.job s.under_way none s.is);
       config = refl;
+      counts = (refl, refl);
       comes = (ap (option_map (λ (u : UnderWay). u.running.job)) none, refl, refl);
     })
 
@@ -85,9 +88,10 @@ poll_pending old new u u' link link' is is' config granted closed r = record {
   moves = r.moves;
   orderly = λ origin b w s. r.orderly origin b w s.config s.granted (stands_at old u origin b w is s);
   config = config;
+  counts = r.counts;
   comes = (
     record {
-      rose = r.rose;
+      rose = r.counts.1.0;
       waited =
           subst (λ o. WaitsOnce o (waited_of new) old.config.polls)
           (sym (ap (option_map (λ (x : UnderWay). x.waited)) is))
@@ -121,6 +125,18 @@ done_by : (origin : Origin) (link link' : Shown) (kept : List ℕ) (end : End) (
 done_by origin link link' kept end carried b w waited n is h =
     subst (IsDoneBy origin link link' kept end carried b w) (sym is) h
 
+-- the counts of a link by what is told of the job
+told_counts : (u : UnderWay) (link link' : Shown) (told : JobResult) → IsOver u.running.stage
+    → ((end : End) → awaited_in u.running [] ≡ for_nothing end [] → told.code ≡ end.code)
+    → ((end : End) → awaited_in u.running [] ≡ for_nothing end []
+    → FailedAsTold end.code link link' × WaitedAsTold 1 end.code link link')
+    → FailedAsTold told.code link link' × WaitedAsTold 1 told.code link link'
+told_counts u link link' told over code counts =
+    let r = u.running in
+    let end = end_at r.stage r.found.items r.codes in
+    let is = ends_at r.found.items r.codes [] r.stage over in
+    subst (λ n. FailedAsTold n link link' × WaitedAsTold 1 n link link') (sym (code end is)) (counts end is)
+
 pub poll_done : (old new : Connection) (u u' : UnderWay) (channel : Channel) (link link' : Shown) (leaves : Leaves)
     (told : JobResult) → old.job ≡ Some u → new.job ≡ None → new.config ≡ old.config
     → new.granted ≡ grant_after leaves old.granted → new.is_closed ≡ closed_after leaves old.is_closed
@@ -151,6 +167,7 @@ poll_done old new u u' channel link link' leaves told is none config granted clo
           let o = r.orderly origin b w s.config s.granted (stands_at old u origin b w is s) in
           record { deeds = o.deeds; written = o.written; used = o.used; received = o.received; order = o.order };
       config = config;
+      counts = told_counts u' link link' told r.over (λ end is. (result end is).code) r.counts;
       comes = (
         some_of old u is,
         ap (option_map (λ (x : UnderWay). x.running.job)) none,

@@ -167,7 +167,6 @@ step_put l l' t u u' r link link' config granted result p k = record {
       (same_messages u.running.stage r.stage (alike config l.talk t u.running r p) p.as_many)
       (ap (λ (x : Reader). x.transport.joiner.count) p.reader) (ap (λ (x : Reader). length (held_by x)) p.reader)
       (ap length p.pending) (k.less e);
-  not_yet = k.not_yet;
   met = λ origin b w ec eg s e. k.met origin b w ec eg (stands_put origin l t u r b w config ec p s) e;
   over = k.over;
   cause = λ origin b w ec eg s e. k.cause origin b w ec eg (stands_put origin l t u r b w config ec p s) e;

@@ -16,11 +16,13 @@ use Rattle.s7_dialogue.specs.Dialogue.{End, fault_end}
 use Rattle.s7_dialogue.specs.Running.{awaited_by, IsOver}
 use Rattle.s7_dialogue.specs.Course.{Origin, for_nothing, course}
 use Rattle.s7_client.specs.At.{pending}
-use Rattle.s7_client.specs.Standing.{Stands, Fits, Moves, IsOrderly, IsStep, HasMetNotYet, IsUnderWay, HasCause, AwaitsOctets, unread}
+use Rattle.s7_client.specs.Counts.{MetNothing, MetNotYetOnce}
+use Rattle.s7_client.specs.Standing.{Stands, Fits, Moves, IsOrderly, IsStep, CountsStep, HasMetNotYet, IsUnderWay, HasCause, AwaitsOctets, unread}
 use Rattle.s7_client.specs.Polling.{Waits, Round, RoundGoesOn, RoundEnds}
 use Rattle.s7_client.proofs.PacketLemmas.{closed_stage, none_over}
 use Rattle.s7_client.proofs.StepLemmas.{sent_whole}
 use Rattle.s7_client.proofs.OrderLemmas.{orderly_none, orderly_both}
+use Rattle.s7_client.proofs.CountLemmas.{same_code, counts_behind, waited_none}
 use Rattle.s7_client.proofs.LinkLemmas.{went_not_over, not_yet_not_over, moves_received, moves_none, moves_both, same_stands}
 use Rattle.s7_client.proofs.SendLemmas.{ends_at}
 
@@ -50,6 +52,7 @@ pub record Walks (l : Channel) (u : UnderWay) (link : Shown) (l' : Channel) (u' 
   pub moves : Moves (unread l) link (unread l') link'
   pub fits : Fits l' u'
   pub waited : u'.waited ≡ u.waited
+  pub counts : MetNothing link link'
   pub stood : (origin : Origin) (b w : List ℕ) → origin.config ≡ config → origin.granted ≡ granted
       → Stands origin l u b w
       → Stands origin l' u' (b ++ moves.used) (w ++ moves.written)
@@ -64,6 +67,7 @@ walks_none l u link config granted fits = record {
   moves = moves_none l link;
   fits = fits;
   waited = refl;
+  counts = (refl, refl);
   stood = λ origin b w ec eg s. same_stands origin l u b w s;
   orderly = λ origin b w ec eg s. orderly_none origin (unread l) b w _ refl refl refl;
 }
@@ -87,12 +91,14 @@ walk_orderly origin l l1 l2 u u1 u2 k k1 k2 b w config granted result ec eg m n 
 
 pub walks_on : (l l1 l2 : Channel) (u u1 u2 : UnderWay) (k k1 k2 : Shown) (config : Config) (granted : Option Grant)
     → Walks l u k l1 u1 k1 config granted → IsStep l1 u1 k1 l2 u2 k2 config granted step.Went
+    → CountsStep step.Went u2.running k1 k2
     → Walks l u k l2 u2 k2 config granted
 unfolding moves_both
-walks_on l l1 l2 u u1 u2 k k1 k2 config granted m n = record {
+walks_on l l1 l2 u u1 u2 k k1 k2 config granted m n counts = record {
   moves = moves_both l l1 l2 k k1 k2 m.moves n.moves;
   fits = n.fits went_not_over;
   waited = n.waited ∙ m.waited;
+  counts = counts_behind step.Went u2.running k k1 k2 m.counts counts;
   stood = λ origin b w ec eg s. stands_on origin l2 u2 b w m.moves.used m.moves.written n.moves.used n.moves.written
       (n.stood origin (b ++ m.moves.used) (w ++ m.moves.written) ec eg (m.stood origin b w ec eg s) went_not_over);
   orderly = λ origin b w ec eg s. walk_orderly origin l l1 l2 u u1 u2 k k1 k2 b w config granted step.Went ec eg m n s;
@@ -113,7 +119,6 @@ ends_walk l l1 l2 u u1 u2 k k1 k2 config granted result rests m n = record {
       (n.stood origin (b ++ m.moves.used) (w ++ m.moves.written) ec eg (m.stood origin b w ec eg s) h);
   orderly = λ origin b w ec eg s. walk_orderly origin l l1 l2 u u1 u2 k k1 k2 b w config granted result ec eg m n s;
   less = λ e. absurd (rests e);
-  not_yet = λ e. omega (arith, n.not_yet e, m.moves.waits);
   met = λ origin b w ec eg s e.
       subst (λ z. HasMetNotYet origin (unread l2) k2 z (w ++ (m.moves.written ++ n.moves.written)))
       (append_assoc b m.moves.used n.moves.used)
@@ -205,14 +210,14 @@ stands_waited origin l u n b w s = record {
 }
 
 pub round_goes_on : (l l' : Channel) (u u1 u' : UnderWay) (link link' : Shown) (config : Config) (granted : Option Grant)
-    → IsStep l u link l' u1 link' config granted step.NotYet
+    → IsStep l u link l' u1 link' config granted step.NotYet → MetNotYetOnce link link'
     → Waits u1 u' config.polls true → RoundGoesOn l u link l' u' link' config granted
-round_goes_on l l' u u1 u' link link' config granted k v =
+round_goes_on l l' u u1 u' link link' config granted k counts v =
     let same = v.same refl in
     record {
       moves = k.moves;
       fits = subst (Fits l') (sym same) (fits_waited l' u1 _ (k.fits not_yet_not_over));
-      rose = k.not_yet refl;
+      counts = counts;
       waited = ap (λ x. x.waited) same ∙ ap (λ n. n + 1) k.waited;
       patient = omega (arith, ap (λ x. x.waited) same, v.patient refl);
       orderly = k.orderly;
@@ -224,12 +229,16 @@ round_goes_on l l' u u1 u' link link' config granted k v =
     }
 
 pub round_tires : (l l' : Channel) (u u1 u' : UnderWay) (link link' : Shown) (config : Config) (granted : Option Grant)
-    → IsStep l u link l' u1 link' config granted step.NotYet
+    → IsStep l u link l' u1 link' config granted step.NotYet → MetNotYetOnce link link'
     → Waits u1 u' config.polls false → RoundEnds l u link l' u' link' config granted
-round_tires l l' u u1 u' link link' config granted k v = record {
+round_tires l l' u u1 u' link link' config granted k counts v = record {
   moves = k.moves;
   over = v.over refl;
   left = λ h. absurd (closed_stage u'.running timed_out (v.fails refl) h);
+  counts = λ end is. (
+    inl counts.0,
+    (1, counts.1, inr (refl, same_code _ (fault_end timed_out) end (v.fails refl) is)),
+  );
   orderly = k.orderly;
   ends_by = λ origin b w ec eg s.
       let s' = k.stood origin b w ec eg s not_yet_not_over in
@@ -246,7 +255,7 @@ round_tires l l' u u1 u' link link' config granted k v = record {
         job = v.job ∙ s'.at.job;
         cause = inr (record {
           last = ap Some (omega (arith, v.last refl, k.waited, ap (λ (x : Config). x.polls) ec));
-          rose = k.not_yet refl;
+          rose = counts.1.0;
           met = met;
           under_way = still_under_way origin l' u1 (b ++ k.moves.used) (w ++ k.moves.written) s' going;
           fault = (refl, refl);
@@ -255,11 +264,13 @@ round_tires l l' u u1 u' link link' config granted k v = record {
 }
 
 pub round_ends : (l l' : Channel) (u u' : UnderWay) (link link' : Shown) (config : Config) (granted : Option Grant)
-    → IsStep l u link l' u' link' config granted step.Over → RoundEnds l u link l' u' link' config granted
-round_ends l l' u u' link link' config granted k = record {
+    → IsStep l u link l' u' link' config granted step.Over → CountsStep step.Over u'.running link link'
+    → RoundEnds l u link l' u' link' config granted
+round_ends l l' u u' link link' config granted k counts = record {
   moves = k.moves;
   over = k.over refl;
   left = k.left;
+  counts = λ end is. (counts.1 end is, waited_none end.code link link' counts.0);
   orderly = k.orderly;
   ends_by = λ origin b w ec eg s.
       let h = k.cause origin b w ec eg s refl in
@@ -276,16 +287,20 @@ round_ends l l' u u' link link' config granted k = record {
 }
 
 pub round_by : (l l' : Channel) (u u1 u' : UnderWay) (link link' : Shown) (config : Config) (granted : Option Grant)
-    (goes_on : Bool) → IsStep l u link l' u1 link' config granted step.NotYet
+    (goes_on : Bool) → IsStep l u link l' u1 link' config granted step.NotYet → MetNotYetOnce link link'
     → Waits u1 u' config.polls goes_on → Round l u link l' u' link' config granted goes_on
-round_by l l' u u1 u' link link' config granted true k v = round_goes_on l l' u u1 u' link link' config granted k v
-round_by l l' u u1 u' link link' config granted false k v = round_tires l l' u u1 u' link link' config granted k v
+round_by l l' u u1 u' link link' config granted true k counts v =
+    round_goes_on l l' u u1 u' link link' config granted k counts v
+round_by l l' u u1 u' link link' config granted false k counts v =
+    round_tires l l' u u1 u' link link' config granted k counts v
 
 -- ---- how a job is over
 
 -- a job that is over, and how it is
 pub round_over : (l l' : Channel) (u u' : UnderWay) (link link' : Shown) (config : Config) (granted : Option Grant)
     (ended : Option Ending) → IsStep l u link l' u' link' config granted step.Over
+    → CountsStep step.Over u'.running link link'
     → IfNone ended (IsOver u'.running.stage → ⊥) → Round l u link l' u' link' config granted (is_none ended)
-round_over l l' u u' link link' config granted None k going = absurd (going (k.over refl))
-round_over l l' u u' link link' config granted (Some ending) k going = round_ends l l' u u' link link' config granted k
+round_over l l' u u' link link' config granted None k counts going = absurd (going (k.over refl))
+round_over l l' u u' link link' config granted (Some ending) k counts going =
+    round_ends l l' u u' link link' config granted k counts

@@ -4,7 +4,7 @@ use Rattle.std.specs.Prelude.{Option, None, Some, unwrap_or, option_map, IsSome}
 use Rattle.std.specs.Option.{ForSome}
 use Rattle.std.proofs.lemmas.List.{append-nil}
 use Rattle.s7_outer.specs.Shown.{Shown}
-use Rattle.s7_outer.specs.Count.{Rose, RoseBy}
+use Rattle.s7_outer.specs.Count.{RoseExactly}
 use Rattle.s7_dialogue.specs.declared.config.Config.{Config}
 use Rattle.s7_dialogue.specs.Codes.{link_ended, receive_failed, send_failed, timed_out}
 use Rattle.s7_dialogue.specs.declared.grant.Grant.{Grant}
@@ -19,11 +19,13 @@ use Rattle.s7_dialogue.specs.Dialogue.{End, fault_end}
 use Rattle.s7_client.specs.Form.{HasForm, IsWhole}
 use Rattle.s7_dialogue.specs.Running.{IsGrant}
 use Rattle.s7_dialogue.specs.Course.{Origin, conduct_of}
+use Rattle.s7_client.specs.Counts.{WaitedAsTold}
 use Rattle.s7_client.specs.Order.{AreInOrder}
 use Rattle.s7_client.specs.Standing.{HasCause}
 use Rattle.s7_client.specs.Polling.{IsDoneBy, StandsFor, IsStarted, IsPoll, IsDone, WaitsOnce, job_of, waited_of, config_of, grant_of, closed_of, unread_of, grant_after, closed_after, origin_at}
 use Rattle.s7_client.specs.Runs.{IsTired, between_of, JobRun, StillWaits, IsOverNow, Completes}
 use Rattle.s7_client.proofs.FormLemmas.{octets_have_form, octets_are_whole, departure_has_form, fault_has_form}
+use Rattle.s7_client.proofs.CountLemmas.{failed_behind, waited_behind, waited_once, rises}
 use Rattle.s7_client.proofs.LinkLemmas.{moves_received, moves_none, moves_both}
 use Rattle.s7_client.proofs.RoundLemmas.{cause_earlier}
 use Rattle.s7_client.proofs.OrderLemmas.{orderly_none, orderly_both}
@@ -34,6 +36,11 @@ job_waits : (o : Option UnderWay) (n : ℕ) → option_map (λ (u : UnderWay). u
     → IsSome (option_map (λ (u : UnderWay). u.running.job) o)
 job_waits None n e = absurd (cc)
 job_waits (Some u) n e = refl
+
+waits_few : (o : Option UnderWay) (n polls : ℕ) → ForSome o (λ (u : UnderWay). u.waited < polls)
+    → option_map (λ (u : UnderWay). u.waited) o ≡ Some n → n < polls
+waits_few None n polls few e = absurd (cc)
+waits_few (Some u) n polls few e = omega (arith, few u refl, ap (λ x. unwrap_or x 0) e)
 
 waits_more : (o o' : Option ℕ) (n polls : ℕ) → o ≡ Some n → WaitsOnce o o' polls → (o' ≡ Some (n + 1)) × (n + 1 < polls)
 waits_more None o' n polls e h = absurd (cc)
@@ -66,13 +73,11 @@ awaits_none c link e = record {
   some = job_waits c.job 0 e;
   polls = 0;
   waited = e;
-  rose = omega arith;
+  rose = (omega arith, omega arith);
+  faults = refl;
   stood = λ origin b w s. subst (λ x. StandsFor c origin x (w ++ [])) (sym (append-nil b))
       (subst (λ x. StandsFor c origin b x) (sym (append-nil w)) s);
 }
-
-rises : (n a b c : ℕ) → RoseBy n a b → Rose b c → RoseBy (n + 1) a c
-rises n a b c h k = omega (arith, h, k)
 
 pub awaits_on : (old c c2 : Connection) (k k1 k2 : Shown) → StillWaits old k c k1 → IsPoll c k1 c2 k2 polled.Pending
     → StillWaits old k c2 k2
@@ -91,7 +96,8 @@ awaits_on old c c2 k k1 k2 m p =
       some = job_waits c2.job (m.polls + 1) more.0;
       polls = m.polls + 1;
       waited = more.0;
-      rose = rises m.polls k.waits k1.waits k2.waits m.rose pends.rose;
+      rose = rises m.polls 1 k.waits k1.waits k2.waits m.rose p.counts.1;
+      faults = p.counts.0 ∙ m.faults;
       stood = λ origin b w s. stands_joined c2 origin b w m.moves.used m.moves.written p.moves.used p.moves.written
           (p.comes.1 origin (b ++ m.moves.used) (w ++ m.moves.written) (m.stood origin b w s)).stands;
     }
@@ -104,15 +110,16 @@ over_joined origin k k2 old new told b w x y x' y' s =
     (subst (λ z. IsOverNow origin k k2 old new told ((b ++ x) ++ x') z) (append_assoc w y y') s)
 
 cause_now : (origin : Origin) (k k1 k2 : Shown) (c c2 : Connection) (end : End) (carried b w : List ℕ) (n : ℕ)
-    → k.faults ≤ k1.faults → RoseBy n k.waits k1.waits → waited_of c ≡ Some n → 1 ≤ origin.config.polls
+    → k.faults ≤ k1.faults → RoseExactly n k.waits k1.waits → k2.waits ≤ k1.waits + 1 → waited_of c ≡ Some n
+    → 1 ≤ origin.config.polls
     → IsDoneBy origin k1 k2 (unread_of c2) end carried b w (waited_of c)
     → HasCause origin k k2 (unread_of c2) end carried b w ⊎ IsTired origin k k2 (unread_of c2) end carried b w
-cause_now origin k k1 k2 c c2 end carried b w n faults rose waited least (inl h) =
+cause_now origin k k1 k2 c c2 end carried b w n faults rose once waited least (inl h) =
     inl (cause_earlier origin k k1 k2 (unread_of c2) end carried b w faults h)
-cause_now origin k k1 k2 c c2 end carried b w n faults rose waited least (inr h) =
+cause_now origin k k1 k2 c c2 end carried b w n faults rose once waited least (inr h) =
     let last : n ≡ origin.config.polls - 1 = ap (λ x. unwrap_or x 0) (sym waited ∙ h.last) in
     inr (record {
-      rose = omega (arith, rose, h.rose, last, least);
+      rose = (omega (arith, rose.0, h.rose, last, least), omega (arith, rose.1, once, last, least));
       met = h.met;
       under_way = h.under_way;
       fault = h.fault;
@@ -120,16 +127,16 @@ cause_now origin k k1 k2 c c2 end carried b w n faults rose waited least (inr h)
 
 -- the last poll, after polls that raised the waits so often
 done_now : (origin : Origin) (k k1 k2 : Shown) (old c c2 : Connection) (told : JobResult) (b w : List ℕ) (n : ℕ)
-    → k.faults ≤ k1.faults → RoseBy n k.waits k1.waits → waited_of c ≡ Some n
+    → k.faults ≤ k1.faults → RoseExactly n k.waits k1.waits → k2.waits ≤ k1.waits + 1 → waited_of c ≡ Some n
     → grant_of c ≡ grant_of old → closed_of c ≡ closed_of old → 1 ≤ origin.config.polls
     → IsDone origin k1 k2 c c2 told b w → IsOverNow origin k k2 old c2 told b w
-done_now origin k k1 k2 old c c2 told b w n faults rose waited granted closed least h = record {
+done_now origin k k1 k2 old c c2 told b w n faults rose once waited granted closed least h = record {
   end = h.end;
   carried = h.carried;
   result = h.result;
   granted = h.granted ∙ ap (grant_after h.end.leaves) granted;
   closed = h.closed ∙ ap (closed_after h.end.leaves) closed;
-  cause = cause_now origin k k1 k2 c c2 h.end h.carried b w n faults rose waited least h.cause;
+  cause = cause_now origin k k1 k2 c c2 h.end h.carried b w n faults rose once waited least h.cause;
   size = h.size;
   sequence = h.sequence;
 }
@@ -144,10 +151,15 @@ completes_now old c c2 k k1 k2 told m p = record {
       (p.orderly origin (b ++ m.moves.used) (w ++ m.moves.written) (m.stood origin b w s));
   config = p.config ∙ m.config;
   idle = p.comes.1;
+  faults = failed_behind told.code k k1 k2 m.faults p.counts.0;
+  waits = subst (λ (x : Config). WaitedAsTold x.polls told.code k k2) m.config
+      (waited_behind m.polls c.config.polls told.code k k1 k2 (waits_few c.job m.polls c.config.polls c.waits m.waited)
+      m.rose p.counts.1);
   over = λ origin b w s.
       let there = m.stood origin b w s in
       over_joined origin k k2 old c2 told b w m.moves.used m.moves.written p.moves.used p.moves.written
-      (done_now origin k k1 k2 old c c2 told _ _ m.polls m.moves.faults m.rose m.waited m.granted m.closed
+      (done_now origin k k1 k2 old c c2 told _ _ m.polls m.moves.faults m.rose
+      (waited_once told.code k1 k2 p.counts.1) m.waited m.granted m.closed
       (subst (λ (x : Config). 1 ≤ x.polls) (sym there.config) c.least_polls)
       (p.comes.2 origin (b ++ m.moves.used) (w ++ m.moves.written) there));
 }
@@ -230,6 +242,8 @@ runs_whole old mid new link link' asked told s k =
         received = ordered.received;
         order = subst (λ kept. AreInOrder (origin_at old asked) kept [] [] ordered.deeds) s.unread ordered.order;
       };
+      faults = k.faults;
+      waits = subst (λ (x : Config). WaitedAsTold x.polls told.code link link') s.config k.waits;
       end = h.end;
       carried = h.carried;
       result = h.result;

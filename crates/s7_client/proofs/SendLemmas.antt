@@ -117,7 +117,6 @@ step_sent l l' u link link' written config granted fits some k sent wrote space 
       (ap (λ (r : Reader). r.transport.joiner.count) k.reader) (ap (λ (r : Reader). length (held_by r)) k.reader)
       (ap length (pending_sent config l l' u written k) ∙ length-append written (pending config l'.talk u.running))
       sent;
-  not_yet = λ e. absurd (went_not_yet e);
   met = λ origin b w ec eg s e. absurd (went_not_yet e);
   over = λ e. absurd (went_not_over e);
   cause = λ origin b w ec eg s e. absurd (went_not_over e);
@@ -133,11 +132,11 @@ pub step_full : (l l' : Channel) (u : UnderWay) (link link' : Shown) (config : C
     → link'.written ≡ append_known link.written []
     → link'.space ≡ option_map (λ space. space - length {A = ℕ} []) link.space
     → link' ≡ record link { written = link'.written; faults = link'.faults; waits = link'.waits; space = link'.space }
-    → link.faults ≤ link'.faults → link.waits ≤ link'.waits → Rose link.waits link'.waits
+    → link.faults ≤ link'.faults → link.waits ≤ link'.waits
     → IfSome link.space (λ space. space ≡ 0)
     → IsStep l u link l' u link' config granted step.NotYet
 unfolding moves_sent
-step_full l l' u link link' config granted fits some k wrote space same faults waits rose none =
+step_full l l' u link link' config granted fits some k wrote space same faults waits none =
     let left : 0 < length (unsent l') = omega (arith, some, ap length k.out) in
     record {
       moves = moves_sent l l' link link' [] k.inbox wrote space same faults waits;
@@ -148,7 +147,6 @@ step_full l l' u link link' config granted fits some k wrote space same faults w
           (stands_sent origin l l' u b w [] k s);
       orderly = λ origin b w ec eg s. orderly_none origin (unread l) b w _ refl refl refl;
       less = λ e. absurd (not_yet_not_went e);
-      not_yet = λ e. rose;
       met = λ origin b w ec eg s e. same_met origin (unread l') link' b w (record {
         full = λ rest n e' some' h. no_room link.space none n (sym space ∙ h);
         empty = λ n e' h. absurd (not_all_sent (may_send origin b) w (pending origin.config l.talk u.running) s.owed e'
@@ -180,7 +178,6 @@ step_unsent l l' u u' link link' config granted fits some k wrote space same fau
       stood = λ origin b w ec eg s h. absurd (h refl);
       orderly = λ origin b w ec eg s. orderly_none origin (unread l) b w _ refl refl refl;
       less = λ h. absurd (over_not_went h);
-      not_yet = λ h. absurd (over_not_yet h);
       met = λ origin b w ec eg s h. absurd (over_not_yet h);
       over = λ h. over;
       cause = λ origin b w ec eg s h. same_cause origin link link' l' u' b w (record {
@@ -235,7 +232,6 @@ step_over l u link config granted fits sent over =
       stood = λ origin b w ec eg s h. absurd (h refl);
       orderly = λ origin b w ec eg s. orderly_none origin (unread l) b w _ refl refl refl;
       less = λ h. absurd (over_not_went h);
-      not_yet = λ h. absurd (over_not_yet h);
       met = λ origin b w ec eg s h. absurd (over_not_yet h);
       over = λ h. over;
       cause = λ origin b w ec eg s h.
@@ -289,7 +285,6 @@ step_departed l u u' link config granted sent leaving e over job carried waited 
       stood = λ origin b w ec eg s h. absurd (h refl);
       orderly = λ origin b w ec eg s. orderly_none origin (unread l) b w _ refl refl refl;
       less = λ h. absurd (over_not_went h);
-      not_yet = λ h. absurd (over_not_yet h);
       met = λ origin b w ec eg s h. absurd (over_not_yet h);
       over = λ h. over;
       cause = λ origin b w ec eg s h.

@@ -1,5 +1,6 @@
 pub mod At
 pub mod Order
+pub mod Counts
 pub mod Standing
 pub mod Polling
 pub mod Form

@@ -1,6 +1,13 @@
 -- The order of what a poll does on its link.
 use Rattle.std.specs.Prelude.{◌≡◌, ℕ, ◌<◌, List, [], ◌∷◌, ◌++◌, length}
-use Rattle.s7_dialogue.specs.Course.{Origin, may_send}
+use Rattle.s7_dialogue.specs.Course.{Origin, Awaits, for_confirm, for_answers, for_departure, for_nothing, course, may_send}
+
+-- octets are awaited
+abbrev pub AwaitsOctets : Awaits → Type 0
+AwaitsOctets for_confirm = Unit {0}
+AwaitsOctets for_answers = Unit {0}
+AwaitsOctets for_departure = ⊥
+AwaitsOctets (for_nothing end carried) = ⊥
 
 -- one thing that a poll did
 pub data Deed : Type 0 where
@@ -27,7 +34,7 @@ received_in (uses octets ∷ deeds) = received_in deeds
 received_in (receives octets ∷ deeds) = octets ++ received_in deeds
 
 -- A job that used b and transmitted w did these, with kept octets unused: octets are used only where all was sent that
--- may be, and received only where none is unused besides.
+-- may be, and received only where none is unused besides and octets are awaited.
 abbrev pub AreInOrder : Origin → List ℕ → List ℕ → List ℕ → List Deed → Type 0
 AreInOrder origin kept b w [] = Unit {0}
 AreInOrder origin kept b w (transmits octets ∷ deeds) =
@@ -36,4 +43,5 @@ AreInOrder origin kept b w (uses octets ∷ deeds) =
     (0 < length octets) × (w ≡ may_send origin b)
     × (rest : List ℕ) × (kept ≡ octets ++ rest) × AreInOrder origin rest (b ++ octets) w deeds
 AreInOrder origin kept b w (receives octets ∷ deeds) =
-    (0 < length octets) × (w ≡ may_send origin b) × (kept ≡ []) × AreInOrder origin octets b w deeds
+    (0 < length octets) × (w ≡ may_send origin b) × (kept ≡ []) × AwaitsOctets (course origin b).awaits
+    × AreInOrder origin octets b w deeds

@@ -20,6 +20,7 @@ use Rattle.s7_dialogue.specs.Dialogue.{End, fault_end}
 use Rattle.s7_dialogue.specs.Running.{IsResult, IsOver, awaited_in}
 use Rattle.s7_dialogue.specs.Course.{Origin, begins_anew, course, for_nothing, asked_size_code}
 use Rattle.s7_client.specs.At.{LeavesOpen, IsReading, IsClear, joiner_in, size_in}
+use Rattle.s7_client.specs.Counts.{MetNotYetOnce, FailedAsTold, WaitedAsTold, CountsPoll}
 use Rattle.s7_client.specs.Standing.{Stands, Fits, IsBetween, Moves, IsOrderly, HasCause, HasMetNotYet, IsUnderWay, IsFault, unread, unsent}
 
 -- the job that is outstanding
@@ -176,6 +177,8 @@ pub record IsPoll (old : Connection) (link : Shown) (new : Connection) (link' : 
   pub orderly : (origin : Origin) (b w : List ℕ) → StandsFor old origin b w
       → IsOrderly origin (unread_of old) b w moves
   pub config : config_of new ≡ config_of old
+  -- the link was called on only until it failed, or had nothing to give, or no room
+  pub counts : CountsPoll result link link'
   pub comes : Comes old link new link' moves.used moves.written result
 
 -- ---- the channel
@@ -207,7 +210,7 @@ pub record RoundGoesOn (l : Channel) (u : UnderWay) (link : Shown) (l' : Channel
     (config : Config) (granted : Option Grant) : Type 0 where
   pub moves : Moves (unread l) link (unread l') link'
   pub fits : Fits l' u'
-  pub rose : Rose link.waits link'.waits
+  pub counts : MetNotYetOnce link link'
   pub waited : u'.waited ≡ u.waited + 1
   pub patient : u'.waited < config.polls
   pub orderly : (origin : Origin) (b w : List ℕ) → origin.config ≡ config → origin.granted ≡ granted
@@ -236,6 +239,8 @@ pub record RoundEnds (l : Channel) (u : UnderWay) (link : Shown) (l' : Channel) 
   pub moves : Moves (unread l) link (unread l') link'
   pub over : IsOver u'.running.stage
   pub left : LeavesOpen u'.running.stage → IsBetween l'
+  pub counts : (end : End) → awaited_in u'.running [] ≡ for_nothing end []
+      → FailedAsTold end.code link link' × WaitedAsTold 1 end.code link link'
   pub orderly : (origin : Origin) (b w : List ℕ) → origin.config ≡ config → origin.granted ≡ granted
       → Stands origin l u b w
       → IsOrderly origin (unread l) b w moves

@@ -1,7 +1,7 @@
 -- Jobs that are carried out whole, one after another, on one client.
 use Rattle.std.specs.Prelude.{◌≡◌, ◌⊎◌, ℕ, Bool, false, List, [], ◌++◌, Option, None, Some, IsSome, if◌then◌else◌}
 use Rattle.s7_outer.specs.Shown.{Shown}
-use Rattle.s7_outer.specs.Count.{RoseBy}
+use Rattle.s7_outer.specs.Count.{RoseExactly}
 use Rattle.s7_wire.specs.Bounds.{size_of_code}
 use Rattle.s7_dialogue.specs.declared.config.Config.{Config}
 use Rattle.s7_dialogue.specs.declared.job.Job.{Job}
@@ -13,6 +13,7 @@ use Rattle.s7_dialogue.specs.Dialogue.{End}
 use Rattle.s7_dialogue.specs.Running.{IsResult}
 use Rattle.s7_client.specs.Form.{HasForm, IsWhole}
 use Rattle.s7_dialogue.specs.Course.{Origin, begins_anew, asked_size_code, course}
+use Rattle.s7_client.specs.Counts.{FailedAsTold, WaitedAsTold}
 use Rattle.s7_client.specs.Standing.{Moves, IsOrderly, HasCause, HasMetNotYet, IsUnderWay, IsFault}
 use Rattle.s7_client.specs.Polling.{StandsFor, grant_of, closed_of, tpdu_size_of, sequence_of, unread_of, config_of, waited_of, job_of, grant_after, closed_after}
 
@@ -57,7 +58,7 @@ unread_at before job = if begins_anew before.granted job then [] else before.unr
 -- the job met a link that had nothing to give, or no room, in as many polls as it may
 pub record IsTired (origin : Origin) (link link' : Shown) (kept : List ℕ) (end : End)
     (carried b written : List ℕ) : Type 0 where
-  pub rose : RoseBy origin.config.polls link.waits link'.waits
+  pub rose : RoseExactly origin.config.polls link.waits link'.waits
   pub met : HasMetNotYet origin kept link' b written
   pub under_way : IsUnderWay origin b written
   pub fault : IsFault timed_out end carried
@@ -69,6 +70,9 @@ pub record JobRun (config : Config) (before : Between) (asked : Job) (link link'
   -- what it moved falls into deeds in order: octets were used only where all was sent, and received only where none was
   -- unused
   pub orderly : IsOrderly (origin_from config before asked) (unread_at before asked) [] [] moves
+  -- no failure was passed over, and none of its polls went on behind one that had nothing to give, or no room
+  pub faults : FailedAsTold told.code link link'
+  pub waits : WaitedAsTold config.polls told.code link link'
   pub end : End
   pub carried : List ℕ
   pub result : IsResult told asked end carried
@@ -96,7 +100,8 @@ pub record StillWaits (old : Connection) (link : Shown) (c : Connection) (link' 
   pub some : IsSome (job_of c)
   pub polls : ℕ
   pub waited : waited_of c ≡ Some polls
-  pub rose : RoseBy polls link.waits link'.waits
+  pub rose : RoseExactly polls link.waits link'.waits
+  pub faults : link'.faults ≡ link.faults
   pub stood : (origin : Origin) (b w : List ℕ) → StandsFor old origin b w
       → StandsFor c origin (b ++ moves.used) (w ++ moves.written)
 
@@ -120,5 +125,7 @@ pub record Completes (old : Connection) (link : Shown) (new : Connection) (link'
       → IsOrderly origin (unread_of old) b w moves
   pub config : config_of new ≡ config_of old
   pub idle : job_of new ≡ None
+  pub faults : FailedAsTold told.code link link'
+  pub waits : WaitedAsTold (config_of old).polls told.code link link'
   pub over : (origin : Origin) (b w : List ℕ) → StandsFor old origin b w
       → IsOverNow origin link link' old new told (b ++ moves.used) (w ++ moves.written)

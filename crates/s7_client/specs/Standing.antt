@@ -9,14 +9,17 @@ use Rattle.s7_wire.specs.Reads.{size_at, held_by}
 use Rattle.s7_dialogue.specs.declared.config.Config.{Config}
 use Rattle.s7_dialogue.specs.declared.grant.Grant.{Grant}
 use Rattle.s7_dialogue.specs.Codes.{link_ended, send_failed, receive_failed}
+use Rattle.s7_dialogue.specs.declared.stages.running.Running.{Running}
 use Rattle.s7_client.specs.declared.channel.Channel.{Channel}
 use Rattle.s7_client.specs.declared.under_way.UnderWay.{UnderWay}
 use Rattle.s7_client.specs.declared.channel.Step.{Step}
 use Rattle.s7_client.specs.declared.channel.Step.TheVariants as step
 use Rattle.s7_dialogue.specs.Dialogue.{End, fault_end}
 use Rattle.s7_dialogue.specs.Running.{awaited_in, IsOver, IsOpening}
-use Rattle.s7_dialogue.specs.Course.{Origin, Awaits, for_confirm, for_answers, for_departure, for_nothing, conduct_of, course, may_send, limits}
+use Rattle.s7_dialogue.specs.Course.{Origin, for_departure, for_nothing, conduct_of, course, may_send, limits}
 use Rattle.s7_client.specs.At.{IsAt, IsReading, IsClear, LeavesOpen, budget, pending, joiner_in, size_in}
+pub use Rattle.s7_client.specs.Order.{AwaitsOctets}
+use Rattle.s7_client.specs.Counts.{MetNothing, MetNotYetOnce, FailedAsTold}
 use Rattle.s7_client.specs.Order.{Deed, transmitted_in, used_in, received_in, AreInOrder}
 
 abbrev pub unread : Channel → List ℕ
@@ -27,13 +30,6 @@ unsent l = l.talk.outbox.unsent
 
 abbrev pub IsPrefixOf : List ℕ → List ℕ → Type 0
 IsPrefixOf front all = (rest : List ℕ) × (all ≡ front ++ rest)
-
--- octets are awaited
-abbrev pub AwaitsOctets : Awaits → Type 0
-AwaitsOctets for_confirm = Unit {0}
-AwaitsOctets for_answers = Unit {0}
-AwaitsOctets for_departure = ⊥
-AwaitsOctets (for_nothing end carried) = ⊥
 
 -- all that could be sent was transmitted before the next octet was used
 abbrev pub SentFirst : Origin → List ℕ → List ℕ → Type 0
@@ -199,6 +195,17 @@ work config l u =
     budget u.running.stage (joiner_in l.talk).count (length (held_by l.talk.reader)) * 16384
     + length (pending config l.talk u.running)
 
+-- what the faults of a link tell of how a job is over, by its end
+abbrev pub EndsAsTold : Running → Shown → Shown → Type 0
+EndsAsTold r link link' =
+    (end : End) → awaited_in r [] ≡ for_nothing end [] → FailedAsTold end.code link link'
+
+-- what the counts of a link tell of a step: it was called once at the most
+abbrev pub CountsStep : Step → Running → Shown → Shown → Type 0
+CountsStep step.Went r link link' = MetNothing link link'
+CountsStep step.NotYet r link link' = MetNotYetOnce link link'
+CountsStep step.Over r link link' = (link'.waits ≡ link.waits) × EndsAsTold r link link'
+
 -- what one step comes to
 pub record IsStep (l : Channel) (u : UnderWay) (link : Shown) (l' : Channel) (u' : UnderWay) (link' : Shown)
     (config : Config) (granted : Option Grant) (result : Step) : Type 0 where
@@ -213,7 +220,6 @@ pub record IsStep (l : Channel) (u : UnderWay) (link : Shown) (l' : Channel) (u'
       → Stands origin l u b w
       → IsOrderly origin (unread l) b w moves
   pub less : result ≡ step.Went → work config l' u' < work config l u
-  pub not_yet : result ≡ step.NotYet → Rose link.waits link'.waits
   pub met : (origin : Origin) (b w : List ℕ) → origin.config ≡ config → origin.granted ≡ granted → Stands origin l u b w
       → result ≡ step.NotYet → HasMetNotYet origin (unread l') link' (b ++ moves.used) (w ++ moves.written)
   pub over : result ≡ step.Over → IsOver u'.running.stage

@@ -4,7 +4,7 @@ ghost use Rattle.s7_header.specs.Negotiation.{most_pdu};
 ghost use Rattle.s7_dialogue.specs.Running.{unput_of, IsEnding};
 ghost use Rattle.s7_client.specs.At.{IsAwaiting, code_at};
 ghost use Rattle.s7_client.specs.Polling.{IsNew, Round};
-ghost use Rattle.s7_client.specs.Standing.{Fits, IsStep, Consumes, unread, unsent};
+ghost use Rattle.s7_client.specs.Standing.{Fits, IsStep, CountsStep, Consumes, unread, unsent};
 
 use crate::talk::Talk;
 use crate::under_way::UnderWay;
@@ -89,7 +89,8 @@ impl Channel {
         requires fits { Fits self.old job.old }
         requires pdu { config.now.pdu ≤ most_pdu }
         requires jobs { config.now.jobs ≤ 8 }
-        ensures { IsStep self.old job.old (L.shows link.old) self.new job.new
+        ensures counts { CountsStep result job.new.running (L.shows link.old) (L.shows link.new) }
+        ensures step { IsStep self.old job.old (L.shows link.old) self.new job.new
             (L.shows link.new) config.now granted result }
     {
         self.talk.put_next(&mut job.running, config);
@@ -129,7 +130,8 @@ impl Channel {
         requires sent { unsent self.old ≡ [] }
         requires unput { (size : ℕ) → unput_of config.now size job.old.running ≡ [] }
         requires awaiting { IsAwaiting job.old.running.stage }
-        ensures { IsStep self.old job.old (L.shows link.old) self.new job.new
+        ensures counts { CountsStep result job.new.running (L.shows link.old) (L.shows link.new) }
+        ensures step { IsStep self.old job.old (L.shows link.old) self.new job.new
             (L.shows link.new) config.now granted result }
     {
         if !self.inbox.is_empty() {
