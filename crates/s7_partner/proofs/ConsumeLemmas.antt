@@ -1,5 +1,5 @@
 -- Steps that use an octet.
-use Rattle.std.proofs.Common.{◌≡◌, ℕ, Bool, true, false, not, List, [], ◌∷◌, ◌++◌, refl, ap, sym, ◌∙◌, subst}
+use Rattle.std.proofs.Common.{◌≡◌, inl, ℕ, Bool, true, false, not, List, [], ◌∷◌, ◌++◌, refl, ap, sym, ◌∙◌, subst}
 use Rattle.std.proofs.Common.{append-nil}
 use Rattle.std.specs.Prelude.{Option, None, Some, option_map, is_none}
 use Rattle.s7_outer.specs.Held.{Held as Room}
@@ -37,6 +37,7 @@ use Rattle.s7_partner.specs.At as at
 use Rattle.s7_partner.proofs.GrowthLemmas.{prefix_same, prefix_to, message_grows}
 use Rattle.s7_partner.proofs.CourseLemmas.{course_used, course_read}
 use Rattle.s7_partner.proofs.MoveLemmas.{moves_used}
+use Rattle.s7_partner.proofs.MeetLemmas.{counts_here}
 use Rattle.s7_partner.proofs.StandLemmas.{holds_state, stands_open, stands_by, after_act}
 use Rattle.s7_partner.proofs.StepLemmas.{settled, all_sent, no_octets}
 use Rattle.s7_partner.proofs.RunLemmas.{run_at}
@@ -133,6 +134,7 @@ runs_more old new link live r stage = record {
   role = r.role;
   config = r.config;
   moves = moves_used (unread_of old) (unread_of new) link r.octet.used r.octet.inbox;
+  counts = (refl, refl);
   closed = ap code_in stage ∙ live;
   run = λ acts b w s.
       let all = after old.role old.config acts in
@@ -197,6 +199,7 @@ runs_opened old mid new c link none_whole none_handed r stage keeps opens rest =
   config = keeps.config ∙ r.config;
   moves = moves_used (unread_of old) (unread_of new) link r.octet.used
       (r.octet.inbox ∙ ap (λ (x : List ℕ). r.octet.used ++ x) (sym keeps.inbox));
+  counts = (refl, refl);
   closed = ap code_in (rest.stage ∙ stage);
   run = λ acts b w s.
       let all = after old.role old.config acts in
@@ -270,12 +273,8 @@ message_tells old mid new s event step.Sent link link' kept b w role config send
         before = is_sending_by old s h ∙ ap not (ap is_none (sym sending) ∙ sent.0);
         after = is_sending_by new (with_act role config s (reads event)) h' ∙ ap not sent.1;
       },
-      settled new (with_act role config s (reads event)) h' (does.none_whole (λ x. cc)) does.handed,
+      settled new (with_act role config s (reads event)) h' (does.none_whole refl) does.handed,
     )
-message_tells old mid new s event step.Whole link link' kept b w role config sending h h' does = (
-  (quiet_by old new s _ h h' (λ e. does.quiet (λ x. cc) (ap is_none sending ∙ e)), tt),
-  whole_by new.whole new.octets.octets _ h'.whole (does.whole refl),
-)
 message_tells old mid new s event (step.Closed code) link link' kept b w role config sending h h' does = (
   (quiet_by old new s _ h h' (λ e. does.quiet (λ x. cc) (ap is_none sending ∙ e)), tt),
   by_message (closed_stage new.stage _ code does.closed h'.stage),
@@ -285,7 +284,6 @@ not_closed : (p : Partner) (result : Step) → closed_of p ≡ code_by result �
 not_closed p step.Went e n = e
 not_closed p step.NotYet e n = e
 not_closed p step.Sent e n = e
-not_closed p step.Whole e n = e
 not_closed p (step.Closed code) e n = absurd (n tt)
 
 some_is : (o : Option ℕ) (size : ℕ) → is_none o ≡ false → ((n : ℕ) → o ≡ Some n → n ≡ size) → o ≡ Some size
@@ -304,6 +302,7 @@ runs_message old mid new link result none_whole none_handed r stage reached does
       config = keeps.config ∙ r.config;
       moves = moves_used (unread_of old) (unread_of new) link r.octet.used
           (r.octet.inbox ∙ ap (λ (x : List ℕ). r.octet.used ++ x) (sym keeps.inbox));
+      counts = counts_here result link does.some;
       closed = does.closed;
       run = λ acts b w s.
           let all = after old.role old.config acts in
@@ -369,6 +368,7 @@ runs_ended old mid new found code link none_whole none_handed r closes ends =
       config = keeps.config ∙ r.config;
       moves = moves_used (unread_of old) (unread_of new) link r.octet.used
           (r.octet.inbox ∙ ap (λ (x : List ℕ). r.octet.used ++ x) (sym keeps.inbox));
+      counts = (inl refl, refl);
       closed = ap code_in closes.stage;
       run = λ acts b w s.
           let all = after old.role old.config acts in

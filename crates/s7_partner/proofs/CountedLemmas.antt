@@ -1,6 +1,6 @@
 -- As many blocks as were given were ended, but for one that is being sent.
-use Rattle.std.proofs.Common.{◌≡◌, ℕ, ◌+◌, ◌&&◌, not, Bool, true, false, List, [], ◌∷◌, ◌++◌, length, refl, ap, sym, ◌∙◌}
-use Rattle.std.proofs.Common.{subst, arith, if◌then◌else◌, nat_lt, nat_le, length-append}
+use Rattle.std.proofs.Common.{◌≡◌, ℕ, ◌+◌, ◌&&◌, not, Bool, true, false, List, [], ◌∷◌, length, refl}
+use Rattle.std.proofs.Common.{arith, if◌then◌else◌, length-append}
 use Rattle.std.specs.Prelude.{Option, None, Some, Result, Ok, Err, is_none}
 use Rattle.s7_header.specs.declared.header.Header.{Header}
 use Rattle.s7_header.specs.declared.header.Kind.{Kind}
@@ -20,11 +20,11 @@ use Rattle.s7_partner.specs.declared.role.Role.{Role}
 use Rattle.s7_partner.specs.declared.role.Role.TheVariants.{Active, Passive}
 use Rattle.s7_partner.specs.Telegrams.{Piece, piece_in, sequence_of}
 use Rattle.s7_partner.specs.States.{Stage, opening, negotiating, going, closed, State, Sending, Receiving, Act, gives}
-use Rattle.s7_partner.specs.States.{reads, hands, acknowledges, with_act, with_acts, start, given_by, given_in, is_sending}
-use Rattle.s7_partner.specs.States.{with_code, if_going, goes, by_grant, by_answer, by_negotiation, by_kind, by_header}
+use Rattle.s7_partner.specs.States.{reads, hands, acknowledges, with_act, with_acts, given_by, given_in, is_sending}
+use Rattle.s7_partner.specs.States.{if_going, goes, by_grant, by_answer, by_negotiation, by_kind, by_header}
 use Rattle.s7_partner.specs.States.{negotiated, granting, kept, if_goes_on, begun, by_piece, exchanged, by_stage}
 use Rattle.s7_partner.specs.States.{Block, handed_out, last_acknowledged}
-use Rattle.s7_partner.specs.States.{with_message, with_event, is_acknowledged, acknowledged, goes_on_with, is_of}
+use Rattle.s7_partner.specs.States.{with_event, is_acknowledged, acknowledged}
 use Rattle.s7_partner.specs.Acts.{MayTake, AreTaken}
 use Rattle.s7_partner.specs.Pairs.{ends_send, sends_ended}
 

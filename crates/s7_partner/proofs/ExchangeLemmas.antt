@@ -11,7 +11,6 @@ use Rattle.s7_partner.specs.declared.partner.Partner.{Partner}
 use Rattle.s7_partner.specs.declared.partner.Sending.{Sending as HeldSending}
 use Rattle.s7_partner.specs.declared.partner.Receiving.{Receiving as HeldReceiving}
 use Rattle.s7_partner.specs.declared.partner.Arrived.{Arrived}
-use Rattle.s7_partner.specs.declared.step.Step.{Step}
 use Rattle.s7_partner.specs.declared.step.Step.TheVariants as step
 use Rattle.s7_partner.specs.Telegrams.{Piece, room, piece_in, sequence_of}
 use Rattle.s7_partner.specs.States.{State, Sending, Receiving, with_code, with_piece, if_sending, is_acknowledged}
@@ -126,7 +125,7 @@ none_same None octets t e = ap is_none e
 none_same (Some r) octets t e = ap is_none e
 
 pub takes_piece : (old mid new : Partner) (octets : List ℕ) (p : Piece) (block : HeldReceiving) (sequence : ℕ)
-    (more : Bool) (result : Step)
+    (more : Bool)
     → piece_in (is_none old.receiving) octets ≡ Some p
     → block_for (option_map (receiving_in old.octets.octets) old.receiving) p
     ≡ Some (receiving_in (came_of old.receiving old.octets.octets) block)
@@ -134,11 +133,11 @@ pub takes_piece : (old mid new : Partner) (octets : List ℕ) (p : Piece) (block
     → mid.octets.octets ≡ came_of old.receiving old.octets.octets ++ p.octets
     → p.more ≡ more → KeepsLink old mid → mid.stage ≡ old.stage → mid.sequence ≡ old.sequence → mid.number ≡ old.number
     → mid.sending ≡ old.sending → old.whole ≡ None → mid.handed ≡ old.handed → mid.outbox ≡ old.outbox
-    → sequence ≡ sequence_of octets → KeepsPiece mid new block sequence p.number more result
+    → sequence ≡ sequence_of octets → KeepsPiece mid new block sequence p.number more
     → Reaches old new (λ s. with_piece_read s octets)
-takes_piece old mid new octets p block numbered more result piece block_is goes came more_is keeps stage sequence number
+takes_piece old mid new octets p block numbered more piece block_is goes came more_is keeps stage sequence number
     sending whole handed outbox sequence_is l =
-    let k = subst (λ (n : ℕ). KeepsPiece mid new block n p.number more result) sequence_is l in
+    let k = subst (λ (n : ℕ). KeepsPiece mid new block n p.number more) sequence_is l in
     let r = receiving_in (came_of old.receiving old.octets.octets) block in
     record {
       keeps = record {
@@ -169,10 +168,6 @@ takes_piece old mid new octets p block numbered more result piece block_is goes 
 
 -- ---- what is told of it
 
-none_of : (o : Option Arrived) → is_none o ≡ true → o ≡ None
-none_of None e = refl
-none_of (Some a) e = cc
-
 total_for : (o : Option HeldReceiving) (octets : List ℕ) (p : Piece) (block : HeldReceiving)
     → block_for (option_map (receiving_in octets) o) p ≡ Some (receiving_in (came_of o octets) block)
     → block.total < 65536 → length (came_of o octets) < block.total
@@ -200,8 +195,8 @@ does_more : (old new : Partner) (octets : List ℕ) (p : Piece) (block : HeldRec
     → goes_on_with block.total (came_of old.receiving old.octets.octets) p ≡ true
     → new.octets.octets ≡ came_of old.receiving old.octets.octets ++ p.octets → p.more ≡ true → block.total < 65536
     → closed_of old ≡ None → new.stage ≡ old.stage → new.sending ≡ old.sending → new.receiving ≡ Some block
-    → is_none new.whole ≡ true → new.handed ≡ None → Does old new step.Went
-does_more old new octets p block block_is goes came more most live stage sending receiving whole handed =
+    → new.handed ≡ None → Does old new step.Went
+does_more old new octets p block block_is goes came more most live stage sending receiving handed =
     let some = some_more block.total (length (came_of old.receiving old.octets.octets)) (length p.octets) p.more goes
     more in
     let len : length new.octets.octets ≡ length (came_of old.receiving old.octets.octets) + length p.octets =
@@ -211,10 +206,9 @@ does_more old new octets p block block_is goes came more most live stage sending
       closed = ap code_in stage ∙ live;
       quiet = λ n e. ap is_none sending ∙ e;
       sent = λ e. cc;
-      whole = λ e. cc;
-      none_whole = λ n. none_of new.whole whole;
+      none_whole = λ e. cc;
       handed = handed;
-      less = λ e.
+      less = λ e none.
           omega (
             arith,
             ap stage_left stage,
@@ -229,30 +223,26 @@ does_more old new octets p block block_is goes came more most live stage sending
 
 -- the last fragment
 does_whole : (old new : Partner) → closed_of old ≡ None → new.stage ≡ old.stage → new.sending ≡ old.sending
-    → is_none new.whole ≡ false → new.handed ≡ None → Does old new step.Whole
+    → is_none new.whole ≡ false → new.handed ≡ None → Does old new step.Went
 does_whole old new live stage sending whole handed = record {
   some = λ e. cc;
   closed = ap code_in stage ∙ live;
   quiet = λ n e. ap is_none sending ∙ e;
   sent = λ e. cc;
-  whole = λ e. whole;
-  none_whole = λ n. absurd (n refl);
+  none_whole = λ e. cc;
   handed = handed;
-  less = λ e. cc;
+  less = λ e none. absurd (let x : true ≡ false = sym (ap is_none none) ∙ whole in cc);
 }
 
-pub does_piece : (old new : Partner) (octets : List ℕ) (p : Piece) (block : HeldReceiving) (result : Step) (more : Bool)
+pub does_piece : (old new : Partner) (octets : List ℕ) (p : Piece) (block : HeldReceiving) (more : Bool)
     → block_for (option_map (receiving_in old.octets.octets) old.receiving) p
     ≡ Some (receiving_in (came_of old.receiving old.octets.octets) block)
     → goes_on_with block.total (came_of old.receiving old.octets.octets) p ≡ true
     → new.octets.octets ≡ came_of old.receiving old.octets.octets ++ p.octets → p.more ≡ more → block.total < 65536
     → closed_of old ≡ None → new.stage ≡ old.stage → new.sending ≡ old.sending
     → new.receiving ≡ (if more then Some block else None)
-    → is_none new.whole ≡ more → new.handed ≡ None → result ≡ (if more then step.Went else step.Whole)
-    → Does old new result
-does_piece old new octets p block result true block_is goes came more most live stage sending receiving whole handed e =
-    subst (λ (r : Step). Does old new r) (sym e)
-    (does_more old new octets p block block_is goes came more most live stage sending receiving whole handed)
-does_piece old new octets p block result false block_is goes came more most live stage sending receiving whole handed
-    e =
-    subst (λ (r : Step). Does old new r) (sym e) (does_whole old new live stage sending whole handed)
+    → is_none new.whole ≡ more → new.handed ≡ None → Does old new step.Went
+does_piece old new octets p block true block_is goes came more most live stage sending receiving whole handed =
+    does_more old new octets p block block_is goes came more most live stage sending receiving handed
+does_piece old new octets p block false block_is goes came more most live stage sending receiving whole handed =
+    does_whole old new live stage sending whole handed

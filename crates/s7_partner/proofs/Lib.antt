@@ -14,6 +14,7 @@ pub mod OctetLemmas
 pub mod ReachLemmas
 pub mod ExchangeLemmas
 pub mod MoveLemmas
+pub mod MeetLemmas
 pub mod TellLemmas
 pub mod RunLemmas
 pub mod StepLemmas

@@ -1,24 +1,22 @@
 -- The acts of a partner on a link that was negotiated have a trace.
-use Rattle.std.proofs.Common.{◌≡◌, ℕ, suc, ◌+◌, ◌&&◌, not, Bool, true, false, List, [], ◌∷◌, ◌++◌, length, refl, ap}
-use Rattle.std.proofs.Common.{sym, ◌∙◌, subst, arith, if◌then◌else◌, nat_lt, append_assoc, append-nil}
+use Rattle.std.proofs.Common.{◌≡◌, ℕ, Bool, true, false, List, [], ◌∷◌, length, refl, ap}
+use Rattle.std.proofs.Common.{arith, if◌then◌else◌, nat_lt}
 use Rattle.std.specs.Prelude.{Option, None, Some, is_none, option_map}
 use Rattle.s7_wire.specs.Reading.{Event, opened, message}
-use Rattle.s7_wire.specs.Sent.{sent_message, sent_messages}
 use Rattle.s7_dialogue.specs.declared.config.Config.{Config}
 use Rattle.s7_dialogue.specs.Course.{next_sequence}
 use Rattle.s7_dialogue.specs.Codes.{short_message, invalid_answer}
 use Rattle.s7_partner.specs.declared.role.Role.{Role}
 use Rattle.s7_partner.specs.Telegrams.{Piece, piece_in, confirms, sequence_of}
-use Rattle.s7_partner.specs.States.{Receiving, closed, State, Act, gives, reads, hands, acknowledges, next_number}
+use Rattle.s7_partner.specs.States.{Receiving, State, Act, gives, reads, hands, acknowledges, next_number}
 use Rattle.s7_partner.specs.States.{with_code, acknowledged, goes_on_with, kept, if_goes_on, begun, is_of, by_piece}
-use Rattle.s7_partner.specs.States.{exchanged, with_act, with_acts, Parcel, given_by, given_in, read_by, read_in}
-use Rattle.s7_partner.specs.States.{handed_by, handed_from, is_sending}
-use Rattle.s7_partner.specs.Acts.{IsOpen, MayTake, AreTaken}
-use Rattle.s7_partner.specs.Pairs.{sends_ended}
+use Rattle.s7_partner.specs.States.{exchanged, with_act, read_in}
+use Rattle.s7_partner.specs.States.{is_sending}
+use Rattle.s7_partner.specs.Acts.{MayTake, AreTaken}
 use Rattle.s7_partner.specs.Pieces.{block_for}
-use Rattle.s7_partner.proofs.PairFronts.{AreMessages, none, one}
+use Rattle.s7_partner.proofs.PairFronts.{none}
 use Rattle.s7_partner.proofs.PairOpening.{OnlyMessages, one_more}
-use Rattle.s7_partner.proofs.PairTelegrams.{Said, piece, receipt, octets_of, messages_of}
+use Rattle.s7_partner.proofs.PairTelegrams.{Said, piece, receipt}
 use Rattle.s7_partner.proofs.PairTraces.{Out, Sender, idle, busy, Pending, nothing, whole, handed, at, piece_out}
 use Rattle.s7_partner.proofs.PairTraces.{first_out, next_out, has_more, with_octets, block_of, parcel_in, Trace, ends}
 use Rattle.s7_partner.proofs.PairTraces.{closes, gave, went_on, was_sent, kept_on, came_whole, hands_out, confirms_it}

@@ -1,33 +1,29 @@
 -- What is read of a packet that opens a link, of octets behind it, and of any front of them.
-use Rattle.std.proofs.Common.{◌≡◌, inl, inr, ℕ, ◌+◌, ◌-◌, ◌<◌, ◌≤◌, Bool, true, false, List, [], ◌∷◌, ◌++◌, length}
-use Rattle.std.proofs.Common.{refl, ap, sym, ◌∙◌, subst, arith, Ok, append_assoc, append-nil}
+use Rattle.std.proofs.Common.{◌≡◌, inl, inr, ℕ, ◌+◌, ◌<◌, ◌≤◌, List, [], ◌∷◌, ◌++◌, length}
+use Rattle.std.proofs.Common.{refl, ap, sym, ◌∙◌, subst, Ok, append_assoc, append-nil}
 use Rattle.std.specs.Prelude.{Option, None, Some, Result, Err}
-use Rattle.s7_tpkt.specs.Packets.{packet_of, packets_of, rest_of, state_of, GoesOn, EndsPacket}
+use Rattle.s7_tpkt.specs.Packets.{packet_of, packets_of, rest_of, state_of}
 use Rattle.s7_tpkt.specs.declared.state.FedState.TheVariants.{More}
-use Rattle.s7_tpkt.proofs.PacketLemmas.{goes_on_at, ends_packet_at}
-use Rattle.s7_tpkt.proofs.WriteLemmas.{packet_written, one_written}
+use Rattle.s7_tpkt.proofs.WriteLemmas.{one_written}
 use Rattle.s7_cotp.specs.Messages.{Step, more, whole, too_many_fragments, too_long, joined_with}
 use Rattle.s7_cotp.specs.Reading.{tpdu_of}
-use Rattle.s7_cotp.specs.Spelling.{spelling_of_data}
 use Rattle.s7_cotp.specs.Told.{Told, ConnectionTold, connect, confirm, fragment, disconnect, reject}
 use Rattle.s7_cotp.specs.declared.tpdu.CotpFault.{CotpFault}
-use Rattle.s7_cotp.proofs.SpellLemmas.{data_again}
 use Rattle.s7_wire.specs.Bounds.{message_limit, size_of_code}
 use Rattle.s7_wire.specs.declared.found.Opening.{Opening}
-use Rattle.s7_wire.specs.Reading.{Event, opened, message, Ending, Progress, Unfinished, start, nothing_unfinished}
-use Rattle.s7_wire.specs.Reading.{after_packet, limits, limit_by, with_opening, with_joining, connected, with_told}
+use Rattle.s7_wire.specs.Reading.{Event, opened, message, Ending, Progress, start, nothing_unfinished}
+use Rattle.s7_wire.specs.Reading.{after_packet, limits, with_opening, with_joining, connected, with_told}
 use Rattle.s7_wire.specs.Reading.{with_tpdu, unless_ended, with_body, with_bodies, with_state, with_rest}
 use Rattle.s7_wire.specs.Reading.{state_behind, reading, Opens}
-use Rattle.s7_wire.specs.Sent.{sent_message, sent_messages}
+use Rattle.s7_wire.specs.Sent.{sent_messages}
 use Rattle.s7_wire.proofs.GrowthLemmas.{reads_on}
-use Rattle.s7_wire.proofs.ReadingLemmas.{limit_is, reading_is, reading_more, reading_whole, rest_more, body_at}
+use Rattle.s7_wire.proofs.ReadingLemmas.{reading_is, rest_more, body_at}
 use Rattle.s7_wire.proofs.ReadingLemmas.{body_keeps}
 use Rattle.s7_tpkt.specs.declared.state.FedState.{FedState}
 use Rattle.s7_tpkt.specs.declared.state.FedState.TheVariants as fed
 use Rattle.s7_partner.proofs.NewLemmas.{reading_none}
-use Rattle.s7_partner.proofs.PairParts.{parts, front_more, few_fragments, joined_by, Joins, message_whole}
-use Rattle.s7_partner.proofs.PairParts.{message_front}
-use Rattle.s7_partner.proofs.PairFronts.{still_read, Settled, AreMessages, AreShort, ReadsFront, reads_front}
+use Rattle.s7_partner.proofs.PairParts.{parts, front_more}
+use Rattle.s7_partner.proofs.PairFronts.{still_read, Settled, AreMessages, AreShort, reads_front}
 
 -- ---- the packet that opens
 

@@ -1,7 +1,7 @@
 -- What a poll comes to.
-use Rattle.std.proofs.Common.{◌≡◌, ℕ, ◌<◌, true, false, List, [], ◌∷◌, ◌++◌, length, refl, ap, sym, ◌∙◌, subst}
-use Rattle.std.proofs.Common.{append-nil, append_assoc}
-use Rattle.std.specs.Prelude.{None, Some, option_map, is_none, is_some, Result, Ok, Err}
+use Rattle.std.proofs.Common.{◌≡◌, inl, ℕ, ◌+◌, ◌<◌, true, false, List, [], ◌∷◌, ◌++◌, length, refl, ap, sym, ◌∙◌, subst}
+use Rattle.std.proofs.Common.{append-nil, append_assoc, arith}
+use Rattle.std.specs.Prelude.{Option, None, Some, option_map, is_none, is_some, Result, Ok, Err}
 use Rattle.s7_outer.specs.Held.{Held as Room}
 use Rattle.s7_outer.specs.Shown.{Shown}
 use Rattle.s7_outer.specs.declared.memory.Memory.{Memory}
@@ -12,7 +12,6 @@ use Rattle.s7_partner.specs.declared.partner.Partner.{Partner}
 use Rattle.s7_partner.specs.declared.partner.Arrived.{Arrived}
 use Rattle.s7_partner.specs.declared.event.PartnerEvent.{PartnerEvent}
 use Rattle.s7_partner.specs.declared.event.PartnerEvent.TheVariants as told
-use Rattle.s7_partner.specs.declared.step.Step.{Step}
 use Rattle.s7_partner.specs.declared.step.Step.TheVariants as step
 use Rattle.s7_partner.specs.States.{State, Block, Act, gives, reads, hands, acknowledges, with_act, with_acts, after}
 use Rattle.s7_partner.specs.States.{handed_out, last_acknowledged}
@@ -20,14 +19,14 @@ use Rattle.s7_partner.specs.Acts.{MayTake, AreTaken, AreQuiet}
 use Rattle.s7_partner.specs.Partners.{IsPrefixOf, Course, is_waiting, Tells}
 use Rattle.s7_partner.specs.Held.{closed_of, code_in, unread_of, stage_in, sending_in, receiving_in, block_in}
 use Rattle.s7_partner.specs.Held.{StandsFor}
-use Rattle.s7_partner.specs.Calls.{IsClosing, IsPolled, IsPoll, acknowledged_first}
-use Rattle.s7_partner.specs.Steps.{TellsStep, HasRun, Runs, Acknowledges, HasPolled, Polls}
-use Rattle.s7_partner.specs.Steps as steps
+use Rattle.s7_partner.specs.Calls.{IsClosing, IsPoll, acknowledged_first}
+use Rattle.s7_partner.specs.Steps.{Runs, Acknowledges, HasPolled, Polls, unless_whole}
 use Rattle.s7_partner.specs.At.{HoldsState, IsAt, KeepsLink}
 use Rattle.s7_partner.proofs.CourseLemmas.{course_act}
 use Rattle.s7_partner.proofs.ActLemmas.{after-append, taken_behind}
 use Rattle.s7_partner.proofs.GrowthLemmas.{acts_grow, prefix_both, prefix_to}
 use Rattle.s7_partner.proofs.MoveLemmas.{moves_used, moves_both}
+use Rattle.s7_partner.proofs.MeetLemmas.{event_counts}
 use Rattle.s7_partner.proofs.StandLemmas.{holds_state, stands_at, stands_open, stands_act}
 use Rattle.s7_partner.proofs.StepLemmas.{no_octets, none_handed}
 use Rattle.s7_partner.proofs.RunLemmas.{subst_three, some_of_two, Behind, sent_by, received_by}
@@ -44,8 +43,8 @@ pub polled_at : (role : Role) (config : Config) (kept : List ℕ) (new : Partner
     → Tells role config (after role config acts) further link link' (unread_of new) b' w' result
     → ((IsClosing result → ⊥) → StandsFor new acts' b' w')
     → HasPolled role config kept new link link' acts b written received used more result
-polled_at role config kept new link link' acts b written received used more result further acts' b' w' ea eb ew sent last
-    course tells stands =
+polled_at role config kept new link link' acts b written received used more result further acts' b' w' ea eb ew sent
+    last course tells stands =
     let all = acts ++ further in
     let out = (after role config acts).out in
     let prefix : IsPrefixOf out w' → IsPrefixOf out (written ++ more) = subst (IsPrefixOf out) ew in
@@ -70,44 +69,21 @@ polled_in role role' config config' kept new link link' acts b written received 
     subst (λ (r : Role). HasPolled r config' kept new link link' acts b written received used more result) er
     (subst (λ (c : Config). HasPolled role c kept new link link' acts b written received used more result) ec p)
 
--- steps behind which a poll goes on
-abbrev pub IsQuietStep : Step → Type 0
-IsQuietStep step.Went = Unit {0}
-IsQuietStep step.NotYet = ⊥
-IsQuietStep step.Sent = ⊥
-IsQuietStep step.Whole = Unit {0}
-IsQuietStep (step.Closed code) = ⊥
-
-pub quiet_acts : (role : Role) (config : Config) (s : State) (acts : List Act) (link link' : Shown) (kept b w : List ℕ)
-    (result : Step) → IsQuietStep result → TellsStep role config s acts link link' kept b w result
-    → AreQuiet role config s acts
-quiet_acts role config s acts link link' kept b w step.Went q t = t
-quiet_acts role config s acts link link' kept b w step.NotYet q t = absurd q
-quiet_acts role config s acts link link' kept b w step.Sent q t = absurd q
-quiet_acts role config s acts link link' kept b w step.Whole q t = t.0
-quiet_acts role config s acts link link' kept b w (step.Closed code) q t = absurd q
-
-pub quiet_open : (result : Step) → IsQuietStep result → steps.IsClosing result → ⊥
-quiet_open step.Went q h = h
-quiet_open step.NotYet q h = h
-quiet_open step.Sent q h = h
-quiet_open step.Whole q h = h
-quiet_open (step.Closed code) q h = q
-
-unfoldable pub polls_behind : (a b c : Partner) (k k1 k2 : Shown) (r : Step) (result : Result PartnerEvent Memory) → IsQuietStep r
-    → Runs a k b k1 r → Polls b k1 c k2 result → Polls a k c k2 result
+unfoldable pub polls_behind : (a b c : Partner) (k k1 k2 : Shown) (result : Result PartnerEvent Memory)
+    → Runs a k b k1 step.Went → Polls b k1 c k2 result → Polls a k c k2 result
 unfolding moves_both
-polls_behind a b c k k1 k2 r result quiet m n = record {
+polls_behind a b c k k1 k2 result m n = record {
   role = n.role ∙ m.role;
   config = n.config ∙ m.config;
   moves = moves_both (unread_of a) (unread_of b) (unread_of c) k k1 k2 m.moves n.moves;
+  counts = event_counts result k k1 k2 m.counts n.counts;
   closed = n.closed;
   polled = λ acts bb w stands.
       let x = m.run acts bb w stands in
       let all = after a.role a.config acts in
       let y = polled_in b.role a.role b.config a.config (unread_of b) c k1 k2 (acts ++ x.further) (bb ++ m.moves.used)
       (w ++ m.moves.written) n.moves.received n.moves.used n.moves.written result m.role m.config
-      (n.polled (acts ++ x.further) (bb ++ m.moves.used) (w ++ m.moves.written) (x.stands (quiet_open r quiet))) in
+      (n.polled (acts ++ x.further) (bb ++ m.moves.used) (w ++ m.moves.written) (x.stands (λ h. h))) in
       let behind : Behind a.role a.config (unread_of a) (unread_of b) acts x.further w m.moves.written n.moves.written
       m.moves.received n.moves.received m.moves.used n.moves.used = record {
         inbox = m.moves.inbox;
@@ -118,8 +94,9 @@ polls_behind a b c k k1 k2 r result quiet m n = record {
       } in
       let b' = (bb ++ m.moves.used) ++ n.moves.used in
       let w' = (w ++ m.moves.written) ++ n.moves.written in
-      polled_at a.role a.config (unread_of a) c k k2 acts bb w (m.moves.received ++ n.moves.received) (m.moves.used ++ n.moves.used)
-      (m.moves.written ++ n.moves.written) result (x.further ++ y.further) ((acts ++ x.further) ++ y.further) b' w'
+      polled_at a.role a.config (unread_of a) c k k2 acts bb w (m.moves.received ++ n.moves.received)
+      (m.moves.used ++ n.moves.used) (m.moves.written ++ n.moves.written) result (x.further ++ y.further)
+      ((acts ++ x.further) ++ y.further) b' w'
       (append_assoc acts x.further y.further) (append_assoc bb m.moves.used n.moves.used)
       (append_assoc w m.moves.written n.moves.written)
       (λ h. sent_by a.role a.config (unread_of a) (unread_of b) acts x.further w m.moves.written n.moves.written
@@ -128,9 +105,8 @@ polls_behind a b c k k1 k2 r result quiet m n = record {
       m.moves.received n.moves.received m.moves.used n.moves.used behind
       (some_of_two m.moves.received n.moves.received h))
       y.course
-      (tells_behind a.role a.config all x.further y.further k k1 k2 (unread_of c) b' w' result
-      (quiet_acts a.role a.config all x.further k k1 (unread_of b) (bb ++ m.moves.used) (w ++ m.moves.written) r quiet
-      x.tells) m.moves.faults m.moves.waits
+      (tells_behind a.role a.config all x.further y.further k k1 k2 (unread_of c) b' w' result x.tells
+      m.moves.faults m.moves.waits
       (subst (λ (s : State). Tells a.role a.config s y.further k1 k2 (unread_of c) b' w' result)
       (after-append a.role a.config acts x.further) y.tells))
       y.stands;
@@ -143,6 +119,7 @@ polls_sent a b k k' m = record {
   role = m.role;
   config = m.config;
   moves = m.moves;
+  counts = m.counts;
   closed = m.closed;
   polled = λ acts bb w stands.
       let x = m.run acts bb w stands in
@@ -162,6 +139,7 @@ polls_closed a b k k' code m = record {
   role = m.role;
   config = m.config;
   moves = m.moves;
+  counts = m.counts;
   closed = m.closed;
   polled = λ acts bb w stands.
       let x = m.run acts bb w stands in
@@ -191,6 +169,7 @@ polls_pending a b k k' waits m = record {
   role = m.role;
   config = m.config;
   moves = m.moves;
+  counts = m.counts;
   closed = m.closed;
   polled = λ acts bb w stands.
       let x = m.run acts bb w stands in
@@ -217,6 +196,7 @@ polls_idle a b k k' waits m = record {
   role = m.role;
   config = m.config;
   moves = m.moves;
+  counts = m.counts;
   closed = m.closed;
   polled = λ acts bb w stands.
       let x = m.run acts bb w stands in
@@ -247,11 +227,12 @@ polls_kept p link memory live whole = record {
   role = refl;
   config = refl;
   moves = moves_used (unread_of p) (unread_of p) link [] refl;
+  counts = (refl, refl);
   closed = live;
   polled = λ acts b w s.
       let all = after p.role p.config acts in
-      polled_at p.role p.config (unread_of p) p link link acts b w [] [] [] (Err memory) [] acts b w (sym (append-nil acts)) (sym (append-nil b))
-      (sym (append-nil w)) no_octets no_octets s.course
+      polled_at p.role p.config (unread_of p) p link link acts b w [] [] [] (Err memory) [] acts b w
+      (sym (append-nil acts)) (sym (append-nil b)) (sym (append-nil w)) no_octets no_octets s.course
       (tt, whole_by p.whole p.octets.octets all.whole s.holds.whole whole) (λ h. s);
 }
 
@@ -299,6 +280,7 @@ polls_received old new a body link live whole copied keeps none handed stage seq
       role = keeps.role;
       config = keeps.config;
       moves = moves_used (unread_of old) (unread_of new) link [] (sym keeps.inbox);
+      counts = (refl, refl);
       closed = ap code_in stage ∙ live;
       polled = λ acts b w s.
           let all = after old.role old.config acts in
@@ -306,8 +288,9 @@ polls_received old new a body link live whole copied keeps none handed stage seq
           let block_is : all.whole ≡ Some block =
           sym s.holds.whole ∙ ap (option_map (block_in old.octets.octets)) whole in
           let may : MayTake all hands = (stands_open old acts b w s, ap is_some block_is) in
-          polled_at old.role old.config (unread_of old) new link link acts b w [] [] [] (Ok (told.Received a.rid body)) (hands ∷ [])
-          (acts ++ hands ∷ []) b w refl (sym (append-nil b)) (sym (append-nil w)) no_octets no_octets
+          polled_at old.role old.config (unread_of old) new link link acts b w [] [] []
+          (Ok (told.Received a.rid body)) (hands ∷ []) (acts ++ hands ∷ []) b w refl (sym (append-nil b))
+          (sym (append-nil w)) no_octets no_octets
           (course_act old.role old.config acts hands b w refl may s.course)
           ([], block, refl, tt, block_is, refl, copied)
           (λ h. stands_act old new acts hands (with_handed all block) b w keeps (ap code_in stage ∙ live) refl
@@ -315,6 +298,13 @@ polls_received old new a body link live whole copied keeps none handed stage seq
           (handed_at old new a all w none handed stage sequence number sending receiving octets outbox
           (stands_at old acts b w s)) s);
     }
+
+-- ---- how much is to be done
+
+pub less_behind : (o o' : Option Arrived) (m n : ℕ) → o' ≡ None → (o ≡ None → m < n)
+    → unless_whole o m < unless_whole o' n
+less_behind None o' m n none less = subst (λ x. m + 1 < unless_whole x n) (sym none) (omega (arith, less refl))
+less_behind (Some a) o' m n none less = subst (λ x. 0 < unless_whole x n) (sym none) (omega arith)
 
 -- ---- a whole poll
 
@@ -342,11 +332,12 @@ pub poll_behind : (a b c : Partner) (k k' : Shown) (result : Result PartnerEvent
 unfolding moves_both polls_behind
 poll_behind a b c k k' result live none first p =
     let m = (first k).runs in
-    let whole = polls_behind a b c k k k' step.Went result tt m p in
+    let whole = polls_behind a b c k k k' result m p in
     record {
       role = whole.role;
       config = whole.config;
       moves = whole.moves;
+      counts = whole.counts;
       closed = whole.closed;
       stays = λ code e. absurd (let x : None ≡ Some code = sym live ∙ e in cc);
       polled = λ h acts bb w s.
@@ -354,10 +345,8 @@ poll_behind a b c k k' result live none first p =
           let all = after a.role a.config acts in
           let stood = x.stands (λ h. h) in
           let held = holds_then a b acts x.further (bb ++ m.moves.used) (w ++ m.moves.written) m.role m.config stood in
-          let quiet = quiet_acts a.role a.config all x.further k k (unread_of b) (bb ++ m.moves.used)
-          (w ++ m.moves.written) step.Went tt x.tells in
           let taken = taken_behind a.role a.config (after a.role a.config []) acts x.further x.course.taken in
-          let told = acknowledged_then a.role a.config all x.further taken quiet
+          let told = acknowledged_then a.role a.config all x.further taken x.tells
           (none_handed b.handed (with_acts a.role a.config all x.further).handed held.handed none) in
           let y = whole.polled acts bb w s in
           let z = polled_in b.role a.role b.config a.config (unread_of b) c k k' (acts ++ x.further)
@@ -392,6 +381,7 @@ poll_closed p link code closed = record {
   role = refl;
   config = refl;
   moves = moves_used (unread_of p) (unread_of p) link [] refl;
+  counts = (inl refl, refl);
   closed = closed;
   stays = λ n e. (ap (λ (m : ℕ). Ok (told.Closed m)) (some_same code n (sym closed ∙ e)), refl, refl);
   polled = λ h acts b w s. absurd (let x : None ≡ Some code = sym h ∙ closed in cc);

@@ -14,6 +14,7 @@ use Rattle.s7_partner.specs.Steps.{TellsStep, IsClosing, HasRun, Runs}
 use Rattle.s7_partner.proofs.GrowthLemmas.{prefix_more, prefix_both}
 use Rattle.s7_partner.proofs.ActLemmas.{after-append, after_grows}
 use Rattle.s7_partner.proofs.MoveLemmas.{moves_both}
+use Rattle.s7_partner.proofs.MeetLemmas.{step_counts}
 use Rattle.s7_partner.proofs.TellLemmas.{step_behind}
 
 pub subst_three : (P : List Act → List ℕ → List ℕ → Type 0) (acts acts' : List Act) (b b' w w' : List ℕ) → acts' ≡ acts
@@ -103,6 +104,7 @@ runs_both a b c k k1 k2 result m n = record {
   role = n.role ∙ m.role;
   config = n.config ∙ m.config;
   moves = moves_both (unread_of a) (unread_of b) (unread_of c) k k1 k2 m.moves n.moves;
+  counts = step_counts result k k1 k2 m.counts n.counts;
   closed = n.closed;
   run = λ acts bb w stands.
       let x = m.run acts bb w stands in

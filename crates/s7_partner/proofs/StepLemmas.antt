@@ -1,11 +1,11 @@
 -- Steps that use no octet: what is sent, received or acknowledged, and what fails.
-use Rattle.std.proofs.Common.{◌≡◌, ◌↔◌, ℕ, ◌-◌, ◌<◌, ◌≤◌, List, [], ◌∷◌, ◌++◌, length, refl, ap, sym, ◌∙◌, subst}
-use Rattle.std.proofs.Common.{append-nil, append_assoc, arith, length-append}
+use Rattle.std.proofs.Common.{◌≡◌, ◌↔◌, inl, inr, ℕ, ◌-◌, ◌<◌, ◌≤◌, List, [], ◌∷◌, ◌++◌, length, refl, ap, sym, ◌∙◌}
+use Rattle.std.proofs.Common.{subst, append-nil, append_assoc, arith, length-append}
 use Rattle.std.specs.Prelude.{Option, None, Some, option_map, is_some, IsSome, IfSome}
 use Rattle.std.specs.Io.KnownBytes.{prepend_known, append_known}
 use Rattle.s7_outer.specs.Held.{Held as Room}
 use Rattle.s7_outer.specs.Shown.{Shown}
-use Rattle.s7_outer.specs.Count.{Rose}
+use Rattle.s7_outer.specs.Count.{RoseExactly}
 use Rattle.s7_wire.specs.Sent.{sent_message}
 use Rattle.s7_wire.specs.Outgoing.{Outgoing}
 use Rattle.s7_wire.specs.Reading.{reading}
@@ -15,6 +15,7 @@ use Rattle.s7_wire.specs.declared.reader.Reader.{Reader}
 use Rattle.s7_wire.proofs.ReaderLemmas.{going_on}
 use Rattle.s7_dialogue.specs.declared.config.Config.{Config}
 use Rattle.s7_dialogue.specs.Codes.{send_failed}
+use Rattle.s7_client.specs.Counts.{MetNothing, MetNotYetOnce}
 use Rattle.s7_partner.specs.declared.role.Role.{Role}
 use Rattle.s7_partner.specs.declared.partner.Partner.{Partner}
 use Rattle.s7_partner.specs.declared.partner.Arrived.{Arrived}
@@ -26,7 +27,7 @@ use Rattle.s7_partner.specs.Partners.{opening_by, Course, GoesOn, IsSettled, Has
 use Rattle.s7_partner.specs.Held.{closed_of, code_in, unread_of, stage_in, sending_in, receiving_in, block_in}
 use Rattle.s7_partner.specs.Held.{HoldsHanded, StandsFor}
 use Rattle.s7_partner.specs.Outboxes.{Puts}
-use Rattle.s7_partner.specs.Steps.{Runs, Acknowledges}
+use Rattle.s7_partner.specs.Steps.{CountsStep, Runs, Acknowledges}
 use Rattle.s7_partner.specs.At.{HoldsState, IsAt, KeepsLink, KeepsState}
 use Rattle.s7_partner.specs.At as at
 use Rattle.s7_partner.proofs.GrowthLemmas.{prefix_same, prefix_to}
@@ -114,13 +115,14 @@ out_behind all written old more new e f =
 
 pub runs_sent : (old new : Partner) (link link' : Shown) (more : List ℕ) → closed_of old ≡ None → KeepsLink old new
     → KeepsState old new → old.outbox.unsent ≡ more ++ new.outbox.unsent → Flushed link link' more
-    → Runs old link new link' step.Went
+    → MetNothing link link' → Runs old link new link' step.Went
 unfolding moves_sent
-runs_sent old new link link' more live keeps k sent f = record {
+runs_sent old new link link' more live keeps k sent f met = record {
   role = keeps.role;
   config = keeps.config;
   moves = moves_sent (unread_of old) (unread_of new) link link' more (sym keeps.inbox) f.wrote f.space f.same f.faults
       f.waits;
+  counts = met;
   closed = ap code_in k.stage ∙ live;
   run = λ acts b w s.
       let out = out_behind (after old.role old.config acts).out w old.outbox.unsent more new.outbox.unsent s.owed
@@ -144,13 +146,14 @@ pub runs_full : {P : Type 0} (old new : Partner) (link link' : Shown) → closed
     → KeepsState old new
     → old.whole ≡ None → old.handed ≡ None → old.outbox.unsent ≡ [] ++ new.outbox.unsent
     → 0 < length old.outbox.unsent → Flushed link link' [] → IfSome link.space (λ n. P ↔ (n ≡ 0)) → P
-    → Rose link.waits link'.waits → Runs old link new link' step.NotYet
+    → MetNotYetOnce link link' → Runs old link new link' step.NotYet
 unfolding moves_sent
-runs_full old new link link' live keeps k none_whole none sent some f no_space p rose = record {
+runs_full old new link link' live keeps k none_whole none sent some f no_space p met = record {
   role = keeps.role;
   config = keeps.config;
   moves = moves_sent (unread_of old) (unread_of new) link link' [] (sym keeps.inbox) f.wrote f.space f.same f.faults
       f.waits;
+  counts = met;
   closed = ap code_in k.stage ∙ live;
   run = λ acts b w s.
       let all = after old.role old.config acts in
@@ -161,7 +164,7 @@ runs_full old new link link' live keeps k none_whole none sent some f no_space p
         tt,
         settled old all (holds_state old all s.holds) none_whole none,
         record {
-          rose = rose;
+          rose = met.1.0;
           full = λ rest n e g h. full_of link.space no_space p n (sym f.space ∙ h);
           empty = λ n e h. absurd (not_all all.out w old.outbox.unsent s.owed (sym (append-nil w) ∙ e) some);
           waiting = λ e. absurd (not_all all.out w old.outbox.unsent s.owed (sym (append-nil w) ∙ e) some);
@@ -173,14 +176,15 @@ runs_full old new link link' live keeps k none_whole none sent some f no_space p
 -- the link failed
 pub runs_unsent : (old mid new : Partner) (link link' : Shown) → closed_of old ≡ None → KeepsLink old mid
     → mid.outbox.unsent ≡ old.outbox.unsent → at.Closes mid new send_failed → old.whole ≡ None
-    → 0 < length old.outbox.unsent → Flushed link link' [] → Rose link.faults link'.faults
-    → Runs old link new link' (step.Closed send_failed)
+    → 0 < length old.outbox.unsent → Flushed link link' [] → RoseExactly 1 link.faults link'.faults
+    → link'.waits ≡ link.waits → Runs old link new link' (step.Closed send_failed)
 unfolding moves_sent
-runs_unsent old mid new link link' live keeps same closes none_whole some f rose = record {
+runs_unsent old mid new link link' live keeps same closes none_whole some f once unwaited = record {
   role = closes.keeps.role ∙ keeps.role;
   config = closes.keeps.config ∙ keeps.config;
   moves = moves_sent (unread_of old) (unread_of new) link link' [] (sym (closes.keeps.inbox ∙ keeps.inbox)) f.wrote
       f.space f.same f.faults f.waits;
+  counts = (inr (once, inl refl), unwaited);
   closed = ap code_in closes.stage;
   run = λ acts b w s.
       let all = after old.role old.config acts in
@@ -191,7 +195,7 @@ runs_unsent old mid new link link' live keeps same closes none_whole some f rose
       (course_sent old.role old.config acts b w [] old.outbox.unsent out s.course) (
         tt,
         by_transmit old.outbox.unsent (goes_on old acts b w s)
-            (sym s.holds.whole ∙ ap (option_map (block_in old.octets.octets)) none_whole) out some rose refl,
+            (sym s.holds.whole ∙ ap (option_map (block_in old.octets.octets)) none_whole) out some once.0 refl,
       )
       (λ h. absurd (h tt));
 }
@@ -235,14 +239,15 @@ stands_all old new acts b written k s =
     (ap ended_with k.reader ∙ s.going) s.course
 
 pub runs_received : (old new : Partner) (link link' : Shown) → closed_of old ≡ None → KeepsAll old new
-    → unread_of old ≡ [] → old.outbox.unsent ≡ [] → Refilled link link' (unread_of new)
+    → unread_of old ≡ [] → old.outbox.unsent ≡ [] → Refilled link link' (unread_of new) → MetNothing link link'
     → Runs old link new link' step.Went
 unfolding moves_received
-runs_received old new link link' live k none sent f = record {
+runs_received old new link link' live k none sent f met = record {
   role = k.role;
   config = k.config;
   moves = moves_received (unread_of old) (unread_of new) link link' (unread_of new) []
       (ap (λ (x : List ℕ). x ++ unread_of new) none) f.took f.same f.faults f.waits;
+  counts = met;
   closed = ap code_in k.state.stage ∙ live;
   run = λ acts b w s.
       let all = after old.role old.config acts in
@@ -268,15 +273,16 @@ is_some_of (Some m) n e = refl
 pub runs_empty : (old new : Partner) (link link' : Shown) → closed_of old ≡ None → KeepsAll old new
     → old.whole ≡ None → old.handed ≡ None → unread_of old ≡ [] → unread_of new ≡ [] → old.outbox.unsent ≡ []
     → Refilled link link' (unread_of new) → (IsSome link.space → link.left ≡ Some [])
-    → Rose link.waits link'.waits → Runs old link new link' step.NotYet
+    → MetNotYetOnce link link' → Runs old link new link' step.NotYet
 unfolding moves_received
-runs_empty old new link link' live k none_whole none_handed none none' sent f nothing rose =
+runs_empty old new link link' live k none_whole none_handed none none' sent f nothing met =
     let left : link.left ≡ link'.left = none_came link.left link'.left (unread_of new) none' f.took in
     record {
       role = k.role;
       config = k.config;
       moves = moves_received (unread_of old) (unread_of new) link link' [] []
           (append-nil (unread_of old) ∙ (none ∙ sym none')) (left ∙ prepend_none link'.left) f.same f.faults f.waits;
+      counts = met;
       closed = ap code_in k.state.stage ∙ live;
       run = λ acts b w s.
           let all = after old.role old.config acts in
@@ -286,7 +292,7 @@ runs_empty old new link link' live k none_whole none_handed none none' sent f no
             tt,
             settled old all (holds_state old all s.holds) none_whole none_handed,
             record {
-              rose = rose;
+              rose = met.1.0;
               full = λ rest n e g h. absurd (not_all all.out w rest e sent_all g);
               empty = λ n e h.
                   sym left ∙ nothing (is_some_of link.space n (sym (ap (λ (x : Shown). x.space) f.same) ∙ h));
@@ -299,12 +305,12 @@ runs_empty old new link link' live k none_whole none_handed none none' sent f no
 -- nothing is received any more: the link failed, or has ended
 pub runs_broken : (old mid new : Partner) (link link' : Shown) (code : ℕ) → KeepsAll old mid → at.Closes mid new code
     → old.whole ≡ None → old.handed ≡ None → unread_of old ≡ [] → unread_of mid ≡ [] → old.outbox.unsent ≡ []
-    → Refilled link link' (unread_of mid)
+    → Refilled link link' (unread_of mid) → CountsStep (step.Closed code) link link'
     → ((s : State) (b w : List ℕ) → HasRest old.role s (unread_of new) b w
     → Closes old.role s link link' (unread_of new) b w code)
     → Runs old link new link' (step.Closed code)
 unfolding moves_received
-runs_broken old mid new link link' code k closes none_whole none_handed none none' sent f cause =
+runs_broken old mid new link link' code k closes none_whole none_handed none none' sent f met cause =
     let left : link.left ≡ link'.left = none_came link.left link'.left (unread_of mid) none' f.took in
     let empty : unread_of new ≡ [] = closes.keeps.inbox ∙ none' in
     record {
@@ -312,6 +318,7 @@ runs_broken old mid new link link' code k closes none_whole none_handed none non
       config = closes.keeps.config ∙ k.config;
       moves = moves_received (unread_of old) (unread_of new) link link' [] []
           (append-nil (unread_of old) ∙ (none ∙ sym empty)) (left ∙ prepend_none link'.left) f.same f.faults f.waits;
+      counts = met;
       closed = ap code_in closes.stage;
       run = λ acts b w s.
           let all = after old.role old.config acts in
@@ -337,6 +344,7 @@ acknowledges_none p link live = record {
     role = refl;
     config = refl;
     moves = moves_used (unread_of p) (unread_of p) link [] refl;
+    counts = (refl, refl);
     closed = live;
     run = λ acts b w s.
         run_at p.role p.config (unread_of p) p link link acts b w [] [] [] step.Went [] acts b w
@@ -420,6 +428,7 @@ acknowledges_last old new a size link live held none sized puts keeps stage sequ
         role = keeps.role;
         config = keeps.config;
         moves = moves_used (unread_of old) (unread_of new) link [] (sym keeps.inbox);
+        counts = (refl, refl);
         closed = ap code_in stage ∙ live;
         run = λ acts b w s.
             let all = after old.role old.config acts in
@@ -429,8 +438,8 @@ acknowledges_last old new a size link live held none sized puts keeps stage sequ
             run_at old.role old.config (unread_of old) new link link acts b w [] [] [] step.Went (acknowledges ∷ [])
             (acts ++ acknowledges ∷ []) b w refl (sym (append-nil b)) (sym (append-nil w)) no_octets no_octets
             (course_act old.role old.config acts acknowledges b w refl may s.course) (tt, tt)
-            (λ h. stands_act old new acts acknowledges (with_last all k.0) b w keeps (ap code_in stage ∙ live) refl is may
-            refl
+            (λ h. stands_act old new acts acknowledges (with_last all k.0) b w keeps (ap code_in stage ∙ live) refl is
+            may refl
             (last_at old new a k.0 size all w none k.2 k.3 (s.holds.size size sized) puts stage sequence number sending
             receiving octets whole (stands_at old acts b w s)) s);
       };

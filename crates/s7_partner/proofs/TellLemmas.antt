@@ -111,9 +111,5 @@ step_behind role config s xs ys k link link' kept b written step.NotYet quiet fa
 )
 step_behind role config s xs ys k link link' kept b written step.Sent quiet faults waits t =
     tells_behind role config s xs ys k link link' kept b written (Ok told.Sent) quiet faults waits t
-step_behind role config s xs ys k link link' kept b written step.Whole quiet faults waits t = (
-  AreQuiet-append role config s xs ys quiet t.0,
-  at_both role config s xs ys (λ (x : State). is_none x.whole ≡ false) t.1,
-)
 step_behind role config s xs ys k link link' kept b written (step.Closed code) quiet faults waits t =
     tells_behind role config s xs ys k link link' kept b written (Ok (told.Closed code)) quiet faults waits t

@@ -113,7 +113,6 @@ abbrev pub code_by : Step → Option ℕ
 code_by step.Went = None
 code_by step.NotYet = None
 code_by step.Sent = None
-code_by step.Whole = None
 code_by (step.Closed code) = Some code
 
 -- What is told of a message that was taken is what the partner then holds.
@@ -122,10 +121,9 @@ pub record Does (old new : Partner) (result : Step) : Type 0 where
   pub closed : closed_of new ≡ code_by result
   pub quiet : result ≢ step.Sent → is_none old.sending ≡ false → is_none new.sending ≡ false
   pub sent : result ≡ step.Sent → (is_none old.sending ≡ false) × (is_none new.sending ≡ true)
-  pub whole : result ≡ step.Whole → is_none new.whole ≡ false
-  pub none_whole : result ≢ step.Whole → new.whole ≡ None
+  pub none_whole : result ≡ step.Sent → new.whole ≡ None
   pub handed : new.handed ≡ None
-  pub less : result ≡ step.Went → events_left new < events_left old
+  pub less : result ≡ step.Went → new.whole ≡ None → events_left new < events_left old
 
 -- A put changes nothing else of a partner.
 pub record KeepsRest (old new : Partner) : Type 0 where
@@ -140,7 +138,7 @@ pub record KeepsRest (old new : Partner) : Type 0 where
 
 -- Whatever state the partner holds but for the block that is being received, with the octets of a fragment behind those
 -- that came before, it keeps the fragment.
-pub record KeepsPiece (old new : Partner) (block : HeldReceiving) (sequence number : ℕ) (more : Bool) (result : Step)
+pub record KeepsPiece (old new : Partner) (block : HeldReceiving) (sequence number : ℕ) (more : Bool)
     : Type 0 where
   pub keeps : KeepsLink old new
   pub reaches : (s : State) (written came : List ℕ) (p : Piece) → size_at old.reader ≡ Some s.size
@@ -155,4 +153,3 @@ pub record KeepsPiece (old new : Partner) (block : HeldReceiving) (sequence numb
   pub handed : new.handed ≡ old.handed
   pub receiving : new.receiving ≡ (if more then Some block else None)
   pub whole : is_none new.whole ≡ more
-  pub result_is : result ≡ (if more then step.Went else step.Whole)

@@ -1,11 +1,13 @@
 -- What the steps of a poll do.
-use Rattle.std.specs.Prelude.{◌≡◌, ℕ, ◌+◌, ◌*◌, ◌<◌, false, List, [], ◌++◌, length, is_none, Result, Ok}
+use Rattle.std.specs.Prelude.{◌≡◌, ℕ, ◌+◌, ◌*◌, ◌<◌, List, [], ◌++◌, length, Option, None, Some, Result, Ok}
 use Rattle.s7_outer.specs.Shown.{Shown}
 use Rattle.s7_outer.specs.declared.memory.Memory.{Memory}
 use Rattle.s7_dialogue.specs.declared.config.Config.{Config}
+use Rattle.s7_client.specs.Counts.{MetNothing, MetNotYetOnce, FailedAsTold}
 use Rattle.s7_client.specs.Standing.{Moves}
 use Rattle.s7_partner.specs.declared.role.Role.{Role}
 use Rattle.s7_partner.specs.declared.partner.Partner.{Partner}
+use Rattle.s7_partner.specs.declared.partner.Arrived.{Arrived}
 use Rattle.s7_partner.specs.declared.step.Step.{Step}
 use Rattle.s7_partner.specs.declared.step.Step.TheVariants as step
 use Rattle.s7_partner.specs.declared.event.PartnerEvent.{PartnerEvent}
@@ -14,7 +16,7 @@ use Rattle.s7_partner.specs.States.{State, Act, with_acts, after}
 use Rattle.s7_partner.specs.Acts.{AreQuiet}
 use Rattle.s7_partner.specs.Partners.{IsPrefixOf, Course, IsSettled, HasMetNotYet, Tells}
 use Rattle.s7_partner.specs.Held.{role_of, config_of, unread_of, closed_of, StandsFor}
-use Rattle.s7_partner.specs.Calls.{IsClosing as IsClosed, closed_by}
+use Rattle.s7_partner.specs.Calls.{IsClosing as IsClosed, CountsEvent, closed_by}
 use Rattle.s7_partner.specs.Octet.{octets_left}
 use Rattle.s7_partner.specs.At.{code_by, events_left}
 
@@ -26,8 +28,6 @@ TellsStep role config s acts link link' kept b written step.NotYet =
     × HasMetNotYet (with_acts role config s acts) kept link link' written
 TellsStep role config s acts link link' kept b written step.Sent =
     Tells role config s acts link link' kept b written (Ok told.Sent)
-TellsStep role config s acts link link' kept b written step.Whole =
-    AreQuiet role config s acts × (is_none (with_acts role config s acts).whole ≡ false)
 TellsStep role config s acts link link' kept b written (step.Closed code) =
     Tells role config s acts link link' kept b written (Ok (told.Closed code))
 
@@ -35,7 +35,6 @@ abbrev pub IsClosing : Step → Type 0
 IsClosing step.Went = ⊥
 IsClosing step.NotYet = ⊥
 IsClosing step.Sent = ⊥
-IsClosing step.Whole = ⊥
 IsClosing (step.Closed code) = Unit {0}
 
 -- its acts, and what is told of them, since a partner with this role and configuration, and with these octets unread,
@@ -51,11 +50,19 @@ pub record HasRun (role : Role) (config : Config) (kept : List ℕ) (new : Partn
       (written ++ more) result
   pub stands : (IsClosing result → ⊥) → StandsFor new (acts ++ further) (b ++ used) (written ++ more)
 
+-- what the counts of a link tell of it
+abbrev pub CountsStep : Step → Shown → Shown → Type 0
+CountsStep step.Went link link' = MetNothing link link'
+CountsStep step.NotYet link link' = MetNotYetOnce link link'
+CountsStep step.Sent link link' = MetNothing link link'
+CountsStep (step.Closed code) link link' = FailedAsTold code link link' × (link'.waits ≡ link.waits)
+
 -- A STEP over a link, or several
 pub record Runs (old : Partner) (link : Shown) (new : Partner) (link' : Shown) (result : Step) : Type 0 where
   pub role : role_of new ≡ role_of old
   pub config : config_of new ≡ config_of old
   pub moves : Moves (unread_of old) link (unread_of new) link'
+  pub counts : CountsStep result link link'
   pub closed : closed_of new ≡ code_by result
   pub run : (acts : List Act) (b written : List ℕ) → StandsFor old acts b written
       → HasRun (role_of old) (config_of old) (unread_of old) new link link' acts b written moves.received moves.used
@@ -70,6 +77,11 @@ pub record Acknowledges (old new : Partner) (link : Shown) : Type 0 where
 -- how much a partner can still do before there is something to tell: octets to use, and then octets to send
 abbrev pub work : Partner → ℕ
 work p = (events_left p * 533000 + octets_left p.reader) * 4097 + length p.outbox.unsent
+
+-- nothing is to be done any more where a block is whole
+abbrev pub unless_whole : Option Arrived → ℕ → ℕ
+unless_whole None work = work + 1
+unless_whole (Some block) work = 0
 
 -- the acts of the rest of a poll, and what is told of them, since the partner stood for these acts and octets
 pub record HasPolled (role : Role) (config : Config) (kept : List ℕ) (new : Partner) (link link' : Shown)
@@ -89,6 +101,7 @@ pub record Polls (old : Partner) (link : Shown) (new : Partner) (link' : Shown) 
   pub role : role_of new ≡ role_of old
   pub config : config_of new ≡ config_of old
   pub moves : Moves (unread_of old) link (unread_of new) link'
+  pub counts : CountsEvent result link link'
   pub closed : closed_of new ≡ closed_by result
   pub polled : (acts : List Act) (b written : List ℕ) → StandsFor old acts b written
       → HasPolled (role_of old) (config_of old) (unread_of old) new link link' acts b written moves.received moves.used

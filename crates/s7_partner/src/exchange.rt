@@ -82,22 +82,23 @@ impl Partner {
         if !take_octets(&mut self.octets, first, block.total, &piece) {
             return self.close(INVALID_ANSWER);
         }
-        self.keep(block, sequence, number, more)
+        self.keep(block, sequence, number, more);
+        Step::Went
     }
 
     // The block has the octets of a fragment of this sequence and number, which is acknowledged where more follow.
-    fn keep(&mut self, block: Receiving, sequence: u16, number: u8, more: bool) -> Step
+    fn keep(&mut self, block: Receiving, sequence: u16, number: u8, more: bool)
         requires idle { IsIdle self.old }
         requires sized { is_none (size_at self.old.reader) ≡ false }
         requires negotiated { is_early self.old.stage ≡ false }
         requires fits { length self.old.octets.octets ≤ block.total }
-        ensures { KeepsPiece self.old self.new block sequence number more result }
+        ensures { KeepsPiece self.old self.new block sequence number more }
     {
         if more {
             let size = self.size();
             self.receiving = Some(block);
             put_confirm(&mut self.outbox, &mut self.message, size, sequence, number);
-            return Step::Went;
+            return;
         }
         self.receiving = None;
         self.whole = Some(Arrived {
@@ -105,7 +106,6 @@ impl Partner {
             sequence,
             number,
         });
-        Step::Whole
     }
 }
 

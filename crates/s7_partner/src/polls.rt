@@ -4,7 +4,7 @@ ghost use Rattle.s7_partner.specs.Partners.{code_of_fault, is_opened};
 ghost use Rattle.s7_partner.specs.Held.{stage_in};
 
 use crate::event::PartnerEvent;
-use crate::partner::{Partner, Stage};
+use crate::partner::{Arrived, Partner, Stage};
 use crate::reading::read_octet;
 use crate::step::Step;
 use crate::telegrams::put_confirm;
@@ -20,7 +20,7 @@ use std::alloc::Global;
 const LEAST_MESSAGE: usize = 10;
 
 impl Partner {
-    ghost use Rattle.std.specs.Prelude.{◌≢◌, ◌<◌, [], None, false, length, is_none};
+    ghost use Rattle.std.specs.Prelude.{◌<◌, [], None, Some, false, length, is_none};
     ghost use Rattle.s7_outer.specs.Shown.{Shown};
     ghost use Rattle.s7_wire.specs.Reads.{HasMessage, message_at, size_at};
     ghost use Rattle.s7_partner.specs.States.{State, with_message};
@@ -43,17 +43,7 @@ impl Partner {
             return Ok(PartnerEvent::Closed(code));
         }
         self.acknowledge();
-        if self.whole.is_some() {
-            return self.hand_out(alloc);
-        }
-        match self.advance(link) {
-            Step::NotYet if self.is_waiting() => Ok(PartnerEvent::Pending),
-            Step::NotYet => Ok(PartnerEvent::Idle),
-            Step::Sent => Ok(PartnerEvent::Sent),
-            Step::Whole => self.hand_out(alloc),
-            Step::Closed(code) => Ok(PartnerEvent::Closed(code)),
-            Step::Went => unreachable!(),
-        }
+        self.advance(alloc, link)
     }
 
     // Acknowledges the last fragment of the block that was handed out.
@@ -61,7 +51,6 @@ impl Partner {
         requires { closed_of self.old ≡ None }
         ensures acknowledges { (link : Shown) → Acknowledges self.old self.new link }
         ensures handed { self.new.handed ≡ None }
-        ensures whole { self.new.whole ≡ self.old.whole }
     {
         let Some(block) = self.handed else {
             return;
@@ -78,14 +67,11 @@ impl Partner {
     }
 
     // Hands out the block that came whole. It stays where memory is wanting.
-    fn hand_out(&mut self, alloc: Global) -> Result<PartnerEvent, Memory>
+    fn hand_out(&mut self, alloc: Global, block: Arrived) -> Result<PartnerEvent, Memory>
         requires live { closed_of self.old ≡ None }
-        requires whole { is_none self.old.whole ≡ false }
+        requires whole { self.old.whole ≡ Some block }
         ensures { (link : Shown) → Polls self.old link self.new link result }
     {
-        let Some(block) = self.whole else {
-            unreachable!()
-        };
         let Ok(body) = Octets::copy_of(alloc, self.octets.as_slice()) else {
             return Err(Memory);
         };
@@ -107,19 +93,22 @@ impl Partner {
         }
     }
 
-    // Takes steps until there is something to tell.
-    fn advance<L: Link>(&mut self, link: &mut L) -> Step
+    // Takes steps until there is something to tell. A block that is whole is handed out.
+    fn advance<L: Link>(&mut self, alloc: Global, link: &mut L) -> Result<PartnerEvent, Memory>
         requires live { closed_of self.old ≡ None }
-        requires none_whole { self.old.whole ≡ None }
         requires none_handed { self.old.handed ≡ None }
-        ensures runs { Runs self.old (L.shows link.old) self.new (L.shows link.new) result }
-        ensures whole { result ≡ Step.Whole → is_none self.new.whole ≡ false }
-        ensures rests { result ≢ Step.Went }
+        ensures { Polls self.old (L.shows link.old) self.new (L.shows link.new) result }
     {
         loop {
+            if let Some(block) = self.whole {
+                return self.hand_out(alloc, block);
+            }
             match self.step(link) {
                 Step::Went => {}
-                told => return told,
+                Step::NotYet if self.is_waiting() => return Ok(PartnerEvent::Pending),
+                Step::NotYet => return Ok(PartnerEvent::Idle),
+                Step::Sent => return Ok(PartnerEvent::Sent),
+                Step::Closed(code) => return Ok(PartnerEvent::Closed(code)),
             }
         }
     }
@@ -130,10 +119,8 @@ impl Partner {
         requires none_whole { self.old.whole ≡ None }
         requires none_handed { self.old.handed ≡ None }
         ensures runs { Runs self.old (L.shows link.old) self.new (L.shows link.new) result }
-        ensures whole { result ≡ Step.Whole → is_none self.new.whole ≡ false }
-        ensures none_whole { result ≡ Step.Went → self.new.whole ≡ None }
         ensures none_handed { result ≡ Step.Went → self.new.handed ≡ None }
-        ensures less { result ≡ Step.Went → work self.new < work self.old }
+        ensures less { result ≡ Step.Went → self.new.whole ≡ None → work self.new < work self.old }
     {
         if !self.outbox.is_empty() {
             return match self.outbox.flush(link) {
@@ -161,10 +148,8 @@ impl Partner {
         requires sent { self.old.outbox.unsent ≡ [] }
         requires read { 0 < length self.old.inbox }
         ensures runs { (link : Shown) → Runs self.old link self.new link result }
-        ensures whole { result ≡ Step.Whole → is_none self.new.whole ≡ false }
-        ensures none_whole { result ≡ Step.Went → self.new.whole ≡ None }
         ensures none_handed { result ≡ Step.Went → self.new.handed ≡ None }
-        ensures less { result ≡ Step.Went → work self.new < work self.old }
+        ensures less { result ≡ Step.Went → self.new.whole ≡ None → work self.new < work self.old }
     {
         self.outbox.clear();
         match read_octet(&mut self.reader, &mut self.inbox) {

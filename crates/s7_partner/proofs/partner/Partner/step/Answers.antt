@@ -1,4 +1,4 @@
-use Rattle.std.proofs.Common.{refl, take, subst, sym}
+use Rattle.std.proofs.Common.{inl, inr, refl, take, subst, sym}
 use Rattle.s7_dialogue.specs.Codes.{link_ended, receive_failed}
 use Rattle.s7_partner.specs.Steps.{Runs}
 use Rattle.s7_partner.specs.Partners.{by_end, by_receive}
@@ -31,6 +31,7 @@ returns-in-Bytes-clause-runs g c =
       faults = c.flush.ensures.faults;
       waits = c.flush.ensures.waits;
     })
+    (c.in-Bytes.ensures.failed_no_other (λ e. cc), c.in-Bytes.ensures.waited_no_other (λ e. cc))
 
 pub returns-in-NotYet-clause-runs : goal.returns-in-NotYet-clause-runs
 returns-in-NotYet-clause-runs g c =
@@ -57,7 +58,8 @@ returns-in-NotYet-clause-runs g c =
       faults = c.flush.ensures.faults;
       waits = c.flush.ensures.waits;
     })
-    c.in-NotYet.ensures.no_space refl (c.in-NotYet.ensures.not_yet refl)
+    c.in-NotYet.ensures.no_space refl
+    (c.in-NotYet.ensures.failed_no_other (λ e. cc), (c.in-NotYet.ensures.not_yet refl, c.flush.ensures.waits_once))
 
 pub returns-in-Failed-clause-runs : goal.returns-in-Failed-clause-runs
 returns-in-Failed-clause-runs g c =
@@ -74,7 +76,8 @@ returns-in-Failed-clause-runs g c =
       same = c.flush.ensures.same;
       faults = c.flush.ensures.faults;
       waits = c.flush.ensures.waits;
-    }) (c.in-Failed.ensures.failed refl))
+    })
+    (c.in-Failed.ensures.failed refl, c.flush.ensures.faults_once) (c.in-Failed.ensures.waited_no_other (λ e. cc)))
 
 pub returns-then-not-is_empty-2-clause-runs : goal.returns-then-not-is_empty-2-clause-runs
 returns-then-not-is_empty-2-clause-runs g c = c.consume.ensures.runs (g.L.Link.shows c.args.link.now)
@@ -108,7 +111,8 @@ returns-in-Bytes-refill-clause-runs g c =
       same = c.refill.ensures.same;
       faults = c.refill.ensures.faults;
       waits = c.refill.ensures.waits;
-    }))
+    })
+    (c.in-Bytes-refill.ensures.failed_no_other (λ e. cc), c.in-Bytes-refill.ensures.waited_no_other (λ e. cc)))
     (c.consume-in-Bytes-refill.ensures.runs k')
 
 pub returns-in-NotYet-refill-clause-runs : goal.returns-in-NotYet-refill-clause-runs
@@ -142,7 +146,8 @@ returns-in-NotYet-refill-clause-runs g c =
       faults = c.refill.ensures.faults;
       waits = c.refill.ensures.waits;
     })
-    (λ h. (c.in-NotYet-refill.ensures.nothing_left h).0 refl) met.1
+    (λ h. (c.in-NotYet-refill.ensures.nothing_left h).0 refl)
+    (c.in-NotYet-refill.ensures.failed_no_other (λ e. cc), (met.1, c.refill.ensures.waits_once))
 
 pub returns-in-Failed-refill-clause-runs : goal.returns-in-Failed-refill-clause-runs
 returns-in-Failed-refill-clause-runs g c =
@@ -175,7 +180,10 @@ returns-in-Failed-refill-clause-runs g c =
       same = c.refill.ensures.same;
       faults = c.refill.ensures.faults;
       waits = c.refill.ensures.waits;
-    })
+    }) (
+      inr ((met.1, c.refill.ensures.faults_once), inr refl),
+      c.in-Failed-refill.ensures.waited_no_other (λ e. cc),
+    )
     (λ s b w rest. by_receive met.1 rest refl))
 
 pub returns-in-End-clause-runs : goal.returns-in-End-clause-runs
@@ -210,4 +218,5 @@ returns-in-End-clause-runs g c =
       faults = c.refill.ensures.faults;
       waits = c.refill.ensures.waits;
     })
+    (inl (c.in-End.ensures.failed_no_other (λ e. cc)), c.in-End.ensures.waited_no_other (λ e. cc))
     (λ s b w rest. by_end met.1 met.2 rest refl))

@@ -15,7 +15,6 @@ returns-clause-reaches c =
     let block = c.in-Some-block_of.block in
     let p : Piece = piece_held c.in-Some.piece in
     takes_piece old _ c.keep.new.self (message_at old.reader) p block c.sequence_of-sequence.result c.in-Some.piece.more
-    c.keep.result
     (ap (λ (b : Bool). piece_in b (message_at old.reader)) (sym first)
     ∙ (ap (piece_in c.is_none-first.result) (sym c.message-message.ensures) ∙ sym c.in-Some.ensures))
     (sym (c.in-Some-block_of.ensures old.octets.octets))
@@ -36,10 +35,10 @@ returns-clause-does c =
     let p : Piece = piece_held c.in-Some.piece in
     let most : block.total < 65536 = search rules in
     let live : closed_of old ≡ None = c.requires.live in
-    does_piece old c.keep.new.self (message_at old.reader) p block c.keep.result c.in-Some.piece.more
+    does_piece old c.keep.new.self (message_at old.reader) p block c.in-Some.piece.more
     (sym (c.in-Some-block_of.ensures old.octets.octets))
     (ap (λ (b : Bool). goes_on_with block.total (if b then [] else old.octets.octets) p) (sym first)
     ∙ (sym c.take_octets.ensures.goes_on ∙ c.if-not-take_octets.false))
     (ap (λ o. o.octets) k.octets ∙ (c.if-not-take_octets.ensures.taken
     ∙ ap (λ (b : Bool). (if b then [] else old.octets.octets) ++ p.octets) first))
-    refl most live k.stage k.sending k.receiving k.whole (k.handed ∙ c.requires.idle.handed) k.result_is
+    refl most live k.stage k.sending k.receiving k.whole (k.handed ∙ c.requires.idle.handed)
