@@ -50,12 +50,12 @@ flat_each P (group ∷ groups) all =
 
 -- ---- their questions
 
-reads_for : (P : Item → Type 0) (groups : List (List Item)) → InEach P groups
+pub reads_for : (P : Item → Type 0) (groups : List (List Item)) → InEach P groups
     → AllByRecursion (AsksFor P) (read_questions groups)
 reads_for P [] each = tt
 reads_for P (group ∷ groups) each = (each.0, reads_for P groups each.1)
 
-writes_for : (P : Item → Type 0) (groups : List (List Item)) (octets : List ℕ) → InEach P groups
+pub writes_for : (P : Item → Type 0) (groups : List (List Item)) (octets : List ℕ) → InEach P groups
     → length octets ≡ octet_count_of (flat groups) → AllByRecursion (AsksFor P) (write_questions groups octets)
 writes_for P [] octets each whole = tt
 writes_for P (group ∷ groups) octets each whole =

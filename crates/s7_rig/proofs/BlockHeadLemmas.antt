@@ -51,7 +51,7 @@ length_kept xs ys long = ap (λ n. n - 36) (four_front xs ys 12 (omega arith))
 without_head : (n : ℕ) → 36 + n - 36 ≡ n
 without_head n = omega arith
 
-length_told : (number : ℕ) (stood : List ℕ) → data_length (data_told number stood) ≡ length stood
+pub length_told : (number : ℕ) (stood : List ℕ) → data_length (data_told number stood) ≡ length stood
 length_told number stood = ap (λ n. n - 36) (load_told number stood) ∙ without_head (length stood)
 
 -- ---- what is replied
@@ -71,7 +71,7 @@ told_by number (Some stood) reply is good =
 -- ---- what the questions for it are answered
 
 -- what the head of a data block is asked for by, or further octets of it
-abbrev IsForHead : Question → Type 0
+abbrev pub IsForHead : Question → Type 0
 IsForHead (asks DataHead octets) = Unit {0}
 IsForHead (asks_further subject octet so_far) = Unit {0}
 IsForHead _ = ⊥
@@ -122,7 +122,7 @@ head_answered q a new for_head (is_inserted image call right reply is new_is tol
 head_answered {pdu} q a new for_head (is_further subject octet so_far rest is whole new_is told) =
     further_told subject octet so_far (take (slice_room pdu) rest) (ltb (slice_room pdu) (length rest)) is new_is told
 
-no_refusal : (error : ℕ) → part_refusal (refuses error) ≡ None → ⊥
+pub no_refusal : (error : ℕ) → part_refusal (refuses error) ≡ None → ⊥
 no_refusal error none = cc
 
 -- ---- further octets
@@ -166,7 +166,7 @@ good_by true error octet more piece none = refl
 good_by false error octet more piece none = absurd (no_refusal error none)
 
 -- the first piece has at least 38 octets, or all of them
-first_long : (pdu : ℕ) (body : List ℕ) → 64 ≤ pdu → 16 ≤ length body → 16 ≤ length (take (slice_room pdu) body)
+pub first_long : (pdu : ℕ) (body : List ℕ) → 64 ≤ pdu → 16 ≤ length body → 16 ≤ length (take (slice_room pdu) body)
 first_long pdu body least long = omega (arith, length-take (slice_room pdu) body)
 
 first_read : (number : ℕ) (right : Bool) (reply : Said) (pdu octet : ℕ) (a : Answer) (new entries : List (Ask × Said))
@@ -205,12 +205,12 @@ first_read number right reply pdu octet a new entries new_is told least none rep
     }
 
 -- what user data that is asked for asks of a plant
-abbrev Wants : Question → ℕ → Request → Type 0
+abbrev pub Wants : Question → ℕ → Request → Type 0
 Wants (asks subject octets) moment request = AsksFor subject octets moment request
 Wants _ moment request = Unit {0}
 
 -- the octets of its name name the data block
-asks_info : (number moment : ℕ) (request : Request) → number < 65536
+pub asks_info : (number moment : ℕ) (request : Request) → number < 65536
     → AsksFor DataHead (block_octets 0x41 number) moment request → request ≡ Info 0x41 number
 asks_info number moment request low wants =
     let name : BlockName = record { kind = 0x41; number = number } in

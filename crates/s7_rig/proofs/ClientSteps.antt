@@ -568,7 +568,7 @@ module _ (opening : Memory) (limit : ℕ) (config : Config) (book : BookTold)
       well_done none in_time right has can =
           d.result.code
           ∙ comes_off opening right config.pdu w.origin.job w.grant d.end went.exchanges w.job
-          (subst (λ n. 64 ≤ n) (sym w.pdu) least) (allowed right has, own_done none) converses
+          (subst (λ n. 64 ≤ n) (sym w.pdu) least) least (allowed right has, own_done none) converses
           (subst (λ n. CanComeOff opening right n w.origin.job) (sym w.pdu)
           (subst (CanComeOff opening right config.pdu) d.result.job can))
 

@@ -1,7 +1,9 @@
 -- A job that can come off does, where no history was full and no clock failed.
-use Rattle.std.proofs.Common.{◌≡◌, ℕ, ◌+◌, ◌≤◌, Bool, true, false, cond, eqb, Option, None, Some, List, [], ◌∷◌, ◌++◌}
-use Rattle.std.proofs.Common.{length, refl, ap, sym, ◌∙◌, subst}
+use Rattle.std.proofs.Common.{◌≡◌, ℕ, ◌+◌, ◌≤◌, Bool, true, false, cond, eqb, Option, Some, List, [], ◌∷◌}
+use Rattle.std.proofs.Common.{length, refl, ap, sym, ◌∙◌, subst, arith}
+use Rattle.std.specs.Prelude.{replicate}
 use Rattle.std.specs.List.{AllByRecursion}
+use Rattle.std.proofs.lemmas.List.{length-replicate}
 use Rattle.std.proofs.lemmas.Bool.{eq-eqb, lt-ltb}
 use Rattle.s7_item.specs.declared.item.Item.{Item}
 use Rattle.s7_item.specs.Item.{octet_count}
@@ -9,8 +11,6 @@ use Rattle.s7_area.specs.Guards.{is_read_barred, is_write_barred}
 use Rattle.s7_area.specs.Memory.{Memory}
 use Rattle.s7_split.specs.Parts.{parts_of}
 use Rattle.s7_split.specs.Groups.{groups_of}
-use Rattle.s7_plant.specs.declared.request.Ask.{Ask}
-use Rattle.s7_plant.specs.Replies.{Said}
 use Rattle.s7_plant.specs.Answers.{service_function}
 use Rattle.s7_block.specs.declared.block.BlockName.{BlockName}
 use Rattle.s7_block.proofs.DigitLemmas.{names_read}
@@ -23,38 +23,43 @@ use Rattle.s7_dialogue.specs.declared.job.Job.{Job}
 use Rattle.s7_dialogue.specs.declared.job.Job.TheVariants as job
 use Rattle.s7_dialogue.specs.declared.questions.subject.Subject.{Subject}
 use Rattle.s7_dialogue.specs.declared.questions.subject.Subject.TheVariants.{StatusList, RunState, BlockCounts, Clock, ClockSetting}
+use Rattle.s7_dialogue.specs.declared.questions.subject.Subject.TheVariants.{BlocksOfKind, BlockHead}
 use Rattle.s7_dialogue.specs.Question.{Question, controls, asks}
 use Rattle.s7_dialogue.specs.Answer.{Answer}
 use Rattle.s7_dialogue.specs.Refusals.{part_refusal, telegram_refusal, control_refusal}
 use Rattle.s7_dialogue.specs.Checks.{check_item, check_items, check_moment, octet_count_of}
 use Rattle.s7_dialogue.specs.Flight.{answers_of}
-use Rattle.s7_dialogue.specs.Dialogue.{End, Conduct, Plan, number_end, over, read_questions, write_questions, first_or}
+use Rattle.s7_dialogue.specs.Dialogue.{End, Conduct, Plan, number_end, over, read_questions, write_questions}
 use Rattle.s7_dialogue.specs.Dialogue.{first_refusal}
 use Rattle.s7_dialogue.specs.Dialogue.{plain_number, write_number, by_refusal, octets_told, codes_told, good_end, alone}
 use Rattle.s7_dialogue.specs.Dialogue.{listed, if_good, connected_plan}
+use Rattle.s7_dialogue.specs.Dialogue.{getting, filling, fill_number, block_octets, kind_octets}
+use Rattle.s7_dialogue.specs.DataBlocks.{data_parts}
+use Rattle.s7_dialogue.specs.Stages.{joined}
+use Rattle.s7_dialogue.proofs.GroupLemmas.{joined_alone}
 use Rattle.s7_dialogue.specs.Dialogue.{controlling, uploading, octets_brought, brought_end, last_answer, next_piece, asking_about, list_octets}
 use Rattle.s7_dialogue.proofs.FlightLemmas.{same_some}
 use Rattle.s7_client.proofs.FitLemmas.{one_of_all}
-use Rattle.s7_session.specs.Verdict.{Verdict}
 use Rattle.s7_rig.specs.Scripts.{IsNoConnect}
 use Rattle.s7_rig.specs.Awaiting.{AreAsked}
-use Rattle.s7_rig.specs.Complete.{IsThere, HasBlock, CanComeOff}
-use Rattle.s7_rig.specs.Exchanges.{IsSecurity, HasTold}
+use Rattle.s7_rig.specs.Complete.{IsThere, IsBlock, HasBlock, data_block, CanComeOff}
+use Rattle.s7_rig.specs.Exchanges.{IsSecurity}
 use Rattle.s7_rig.specs.Exchanges.{NamesNone}
-use Rattle.s7_rig.specs.Exchanges.{Exchange, entries_of, rows_of, verdicts_met, AreTold, Converses}
+use Rattle.s7_rig.specs.Exchanges.{Exchange, rows_of, Converses}
 use Rattle.s7_rig.proofs.HoldPieces.{behind_is}
 use Rattle.s7_rig.proofs.HoldData.{IsOfItems, reads_items, writes_items}
 use Rattle.s7_rig.proofs.HoldReplies.{IsGood, counts_good, lists_good, mode_good, clock_good, setting_good}
 use Rattle.s7_rig.proofs.HoldReplies.{IsDoneAs, compress_done, copy_done}
 use Rattle.s7_rig.proofs.UploadAsksLemmas.{of_upload}
 use Rattle.s7_rig.proofs.UploadOffLemmas.{upload_good}
-use Rattle.s7_rig.proofs.UnrefusedLemmas.{AnyUndone, undone_within, undone_behind}
+use Rattle.s7_rig.proofs.OffLemmas.{AreSound, NoneRefuses, unrefused}
+use Rattle.s7_rig.proofs.BlockOffLemmas.{some_is, data_there, data_octets, head_good, list_good, names_block, names_kind}
+use Rattle.s7_rig.proofs.DataOffLemmas.{data_off}
 use Rattle.s7_rig.proofs.UnrefusedLemmas.{IsFree, FindsAll, IsControl, NamesNoBlock, IsAbout, IsUploadOf}
 use Rattle.s7_rig.proofs.UnrefusedLemmas.{part_unrefused, items_unrefused, control_unrefused, about_unrefused}
 use Rattle.s7_rig.proofs.UnrefusedLemmas.{upload_unrefused}
-use Rattle.s7_rig.proofs.AskedItems.{AsksFor, part_reads_for, part_writes_for}
+use Rattle.s7_rig.proofs.AskedItems.{AsksFor, alone_each, reads_for, writes_for, part_reads_for, part_writes_for}
 use Rattle.s7_rig.proofs.PlacedLemmas.{parts_placed, read_freed}
-use Rattle.s7_rig.proofs.ShapeLemmas.{AreAllowed}
 
 -- ---- questions of a list
 
@@ -81,43 +86,11 @@ piece_about subject octets (first ∷ answers) question is =
 
 -- ---- jobs
 
--- what was entered for the exchanges is allowed, and none met a full history or a clock that failed
-abbrev pub AreSound : Memory → Bool → List Exchange → Type 0
-AreSound n right xs = AreAllowed n right (entries_of xs) × (AnyUndone (verdicts_met xs) → ⊥)
-
 module _ (n : Memory) (right : Bool) (pdu : ℕ) where
-  shaped_front : (xs ys : List (Ask × Said)) → AreAllowed n right (xs ++ ys) → AreAllowed n right xs
-  shaped_front [] ys all = tt
-  shaped_front (x ∷ xs) ys all = (all.0, shaped_front xs ys all.1)
-
-  shaped_behind : (xs ys : List (Ask × Said)) → AreAllowed n right (xs ++ ys) → AreAllowed n right ys
-  shaped_behind [] ys all = all
-  shaped_behind (x ∷ xs) ys all = shaped_behind xs ys all.1
-
-  -- no answer to such a question refuses
-  abbrev NoneRefuses : (Answer → Option ℕ) → (Question → Type 0) → Type 0
-  NoneRefuses refusal P =
-      (own : List Verdict) → (AnyUndone own → ⊥) → (question : Question) (answer : Answer) (new : List (Ask × Said))
-      → HasTold pdu own question answer new → AreAllowed n right new → P question → refusal answer ≡ None
-
-  -- then none of the answers does
-  unrefused : (refusal : Answer → Option ℕ) (P : Question → Type 0) → NoneRefuses refusal P → (place : ℕ)
-      (xs : List Exchange) → AllByRecursion (λ (x : Exchange). P x.question) xs → AreTold pdu xs → AreSound n right xs
-      → first_refusal refusal place (answers_of (rows_of xs)) ≡ None
-  unrefused refusal P each place [] asked told sound = refl
-  unrefused refusal P each place (x ∷ xs) asked told sound =
-      let others = verdicts_met xs in
-      let good =
-      each x.verdicts (λ any. sound.1 (undone_within x.verdicts others any)) x.question x.answer x.entries told.0
-      (shaped_front x.entries (entries_of xs) sound.0) asked.0 in
-      ap (λ r. first_or r place (first_refusal refusal (place + 1) (answers_of (rows_of xs)))) good
-      ∙ unrefused refusal P each (place + 1) xs asked.1 told.1
-      (shaped_behind x.entries (entries_of xs) sound.0, λ any. sound.1 (undone_behind x.verdicts others any))
-
   -- An end by answers that refuse nothing is good.
   off_by : (c : Conduct) (refusal : Answer → Option ℕ) (number : ℕ → ℕ → ℕ) (finished : List (Option Answer) → End)
       (P : Question → Type 0) (end : End) (xs : List Exchange)
-      → NoneRefuses refusal P
+      → NoneRefuses n right pdu refusal P
       → ((answers : List (Option Answer)) (question : Question) → c.question_at answers ≡ Some question → P question)
       → ((answers : List (Option Answer))
       → c.ended answers ≡ by_refusal number (first_refusal refusal 0 answers) (finished answers))
@@ -127,13 +100,13 @@ module _ (n : Memory) (right : Bool) (pdu : ℕ) where
       let answers = answers_of (rows_of xs) in
       ap (λ (e : End). e.code) (went.is ∙ ends answers)
       ∙ (ap (λ r. (by_refusal number r (finished answers)).code)
-      (unrefused refusal P each 0 xs (asked_each P c 0 xs questions went.asked) went.told sound)
+      (unrefused n right pdu refusal P each 0 xs (asked_each P c 0 xs questions went.asked) went.told sound)
       ∙ good answers)
 
   -- a job whose questions are those of a list comes off
   listed_off : (grant : Grant) (questions : List Question) (refusal : Answer → Option ℕ) (number : ℕ → ℕ → ℕ)
       (finished : List (Option Answer) → End) (P : Question → Type 0) (end : End) (xs : List Exchange)
-      → NoneRefuses refusal P
+      → NoneRefuses n right pdu refusal P
       → AllByRecursion P questions → ((answers : List (Option Answer)) → (finished answers).code ≡ 0)
       → Converses pdu (listed grant questions refusal number finished).conduct end xs
       → AreSound n right xs → end.code ≡ 0
@@ -188,6 +161,48 @@ module _ (n : Memory) (right : Bool) (pdu : ℕ) where
   writes_free [] octets free = tt
   writes_free (group ∷ groups) octets free = (free, writes_free groups _ free)
 
+  -- a job that reads a whole data block comes off
+  get_off : (number : ℕ) (grant : Grant) (end : End) (xs : List Exchange) → IsBlock n number
+      → is_read_barred n.guard right ≡ false → 64 ≤ grant.pdu → 64 ≤ pdu
+      → Converses pdu (getting grant.pdu (block_octets 0x41 number) number) end xs → AreSound n right xs
+      → end.code ≡ 0
+  get_off number grant end xs block free least room went sound =
+      let found = some_is (data_block n number) block.1 in
+      let parts = data_parts number (length found.0) grant.pdu false in
+      let there = data_there n number found.0 found.1 grant.pdu false least in
+      let answers = answers_of (rows_of xs) in
+      let each = both (AsksFor (IsThere n)) (IsFree n right) (read_questions (alone parts))
+      (reads_for (IsThere n) (alone parts) (alone_each (IsThere n) parts there)) (reads_free (alone parts) free) in
+      ap (λ (e : End). e.code) went.is
+      ∙ ap (λ r. (by_refusal plain_number r (good_end (octets_told answers) [])).code)
+      (data_off n right pdu number block room (getting grant.pdu (block_octets 0x41 number) number)
+      (λ size. read_questions (alone (data_parts number size grant.pdu false))) (λ others. refl) each end xs
+      (omega arith) went sound)
+
+  -- and one that fills it
+  fill_off : (number value : ℕ) (grant : Grant) (end : End) (xs : List Exchange) → IsBlock n number
+      → is_write_barred n.guard right ≡ false → 64 ≤ grant.pdu → 64 ≤ pdu
+      → Converses pdu (filling grant.pdu (block_octets 0x41 number) number value) end xs → AreSound n right xs
+      → end.code ≡ 0
+  fill_off number value grant end xs block free least room went sound =
+      let found = some_is (data_block n number) block.1 in
+      let size : ℕ = length found.0 in
+      let parts = data_parts number size grant.pdu true in
+      let octets : List ℕ = replicate size value in
+      let there = data_there n number found.0 found.1 grant.pdu true least in
+      let whole : length octets ≡ octet_count_of (joined (alone parts)) =
+      length-replicate size value
+      ∙ sym (ap octet_count_of (joined_alone parts) ∙ data_octets number size grant.pdu least) in
+      let answers = answers_of (rows_of xs) in
+      let each = both (AsksFor (IsThere n)) (IsFree n right) (write_questions (alone parts) octets)
+      (writes_for (IsThere n) (alone parts) octets (alone_each (IsThere n) parts there) whole)
+      (writes_free (alone parts) octets free) in
+      ap (λ (e : End). e.code) went.is
+      ∙ ap (λ r. (by_refusal (fill_number answers) r (good_end [] [])).code)
+      (data_off n right pdu number block room (filling grant.pdu (block_octets 0x41 number) number value)
+      (λ k. write_questions (alone (data_parts number k grant.pdu true)) (replicate k value)) (λ others. refl) each
+      end xs (omega arith) went sound)
+
   checked : (check : ℕ) (plan : Plan) (end : End) (xs : List Exchange) → check ≡ 0
       → Converses pdu (if_good check plan).conduct end xs → Converses pdu plan.conduct end xs
   checked check plan end xs good c =
@@ -196,10 +211,10 @@ module _ (n : Memory) (right : Bool) (pdu : ℕ) where
 
   -- A job on a connected client that went by exchanges comes off, where it can.
   pub comes_off : (done : Job) (grant : Grant) (end : End) (xs : List Exchange) → IsNoConnect done → 64 ≤ grant.pdu
-      → AreSound n right xs → Converses pdu (connected_plan done grant).conduct end xs
+      → 64 ≤ pdu → AreSound n right xs → Converses pdu (connected_plan done grant).conduct end xs
       → CanComeOff n right grant.pdu done → end.code ≡ 0
-  comes_off job.Connect grant end xs none least sound c can = absurd none
-  comes_off (job.ReadArea item) grant end xs none least sound c can =
+  comes_off job.Connect grant end xs none least room sound c can = absurd none
+  comes_off (job.ReadArea item) grant end xs none least room sound c can =
       let parts = parts_of item grant.pdu false in
       let questions = read_questions (alone parts) in
       let there = parts_placed n item true grant.pdu false can.0 least can.1 in
@@ -208,7 +223,7 @@ module _ (n : Memory) (right : Bool) (pdu : ℕ) where
       (both (AsksFor (IsThere n)) (IsFree n right) questions (part_reads_for (IsThere n) item grant.pdu there)
       (reads_free (alone parts) can.2))
       (λ answers. refl) (checked (check_item item true) _ end xs can.0 c) sound
-  comes_off (job.WriteArea item octets) grant end xs none least sound c can =
+  comes_off (job.WriteArea item octets) grant end xs none least room sound c can =
       let has = eqb (length octets) (octet_count item) in
       let parts = parts_of item grant.pdu true in
       let questions = write_questions (alone parts) octets in
@@ -219,38 +234,50 @@ module _ (n : Memory) (right : Bool) (pdu : ℕ) where
       (part_writes_for (IsThere n) item octets grant.pdu least can.0 there)
       (writes_free (alone parts) octets can.2))
       (λ answers. refl) (checked (check_item item has) _ end xs can.0 c) sound
-  comes_off (job.ReadMany items) grant end xs none least sound c can =
+  comes_off (job.ReadMany items) grant end xs none least room sound c can =
       let questions = read_questions (groups_of grant.pdu false items) in
       listed_off grant questions telegram_refusal plain_number
       (λ answers. good_end (octets_told answers) (codes_told answers)) IsOfItems end xs
       (items_unrefused n right pdu) (reads_items (groups_of grant.pdu false items)) (λ answers. refl)
       (checked (check_items items true grant.pdu false) _ end xs can c) sound
-  comes_off (job.WriteMany items octets) grant end xs none least sound c can =
+  comes_off (job.WriteMany items octets) grant end xs none least room sound c can =
       let has = eqb (length octets) (octet_count_of items) in
       let questions = write_questions (groups_of grant.pdu true items) octets in
       listed_off grant questions telegram_refusal plain_number (λ answers. good_end [] (codes_told answers))
       IsOfItems end xs (items_unrefused n right pdu)
       (writes_items (groups_of grant.pdu true items) octets) (λ answers. refl)
       (checked (check_items items has grant.pdu true) _ end xs can c) sound
-  comes_off job.List grant end xs none least sound c can =
+  comes_off job.List grant end xs none least room sound c can =
       about_off BlockCounts [] end xs (λ secures. secures) (λ names. names) (counts_good n right) c sound
-  comes_off (job.Upload kind number) grant end xs none least sound c can =
+  comes_off (job.ListOf kind) grant end xs none least room sound c can =
+      about_off BlocksOfKind (kind_octets 0x41) end xs (λ secures. secures) names_kind
+      (list_good n right can.1.0 can.1.1)
+      (subst (λ k. Converses pdu (asking_about BlocksOfKind (kind_octets k)) end xs) can.0 c) sound
+  comes_off (job.Info kind number) grant end xs none least room sound c can =
+      about_off BlockHead (block_octets 0x41 number) end xs (λ secures. secures) (names_block number can.1.0)
+      (head_good n right number can.1)
+      (subst (λ k. Converses pdu (asking_about BlockHead (block_octets k number)) end xs) can.0 c) sound
+  comes_off (job.Upload kind number) grant end xs none least room sound c can =
       upload_off number end xs can.1 can.2
       (subst (λ k. Converses pdu (uploading (record { kind = k; number = number })) end xs) can.0 c) sound
-  comes_off (job.Szl id index) grant end xs none least sound c can =
+  comes_off (job.DbGet number) grant end xs none least room sound c can =
+      get_off number grant end xs can.0 can.1 least room c sound
+  comes_off (job.DbFill number value) grant end xs none least room sound c can =
+      fill_off number value grant end xs can.0 can.1 least room c sound
+  comes_off (job.Szl id index) grant end xs none least room sound c can =
       about_off StatusList (list_octets id index) end xs (λ secures. secures) (λ names. names)
       (lists_good n right id index can) c sound
-  comes_off job.ClockRead grant end xs none least sound c can =
+  comes_off job.ClockRead grant end xs none least room sound c can =
       about_off Clock [] end xs (λ secures. secures) (λ names. names) (clock_good n right) c sound
-  comes_off (job.ClockSet moment) grant end xs none least sound c can =
+  comes_off (job.ClockSet moment) grant end xs none least room sound c can =
       about_off ClockSetting (moment_octets moment) end xs (λ secures. secures) (λ names. names)
       (setting_good n right (moment_octets moment) can.1) (checked (check_moment moment) _ end xs can.0 c) sound
-  comes_off job.Compress grant end xs none least sound c can =
+  comes_off job.Compress grant end xs none least room sound c can =
       control_off control.Compress service_function end xs tt (compress_done n right can) c sound
-  comes_off job.CopyRam grant end xs none least sound c can =
+  comes_off job.CopyRam grant end xs none least room sound c can =
       control_off control.CopyRam service_function end xs tt (copy_done n right can) c sound
-  comes_off job.Status grant end xs none least sound c can =
+  comes_off job.Status grant end xs none least room sound c can =
       about_off RunState (list_octets 0x0424 0) end xs (λ secures. secures) (λ names. names) (mode_good n right) c
       sound
-  comes_off job.Disconnect grant end xs none least sound c can = ap (λ (e : End). e.code) c.is
-  comes_off _ grant end xs none least sound c can = absurd can
+  comes_off job.Disconnect grant end xs none least room sound c can = ap (λ (e : End). e.code) c.is
+  comes_off _ grant end xs none least room sound c can = absurd can

@@ -72,6 +72,9 @@ pub mod ResultLemmas
 pub mod RightLemmas
 pub mod UploadOffLemmas
 pub mod UnrefusedLemmas
+pub mod OffLemmas
+pub mod BlockOffLemmas
+pub mod DataOffLemmas
 pub mod ComeOffLemmas
 pub mod UserPasswordLemmas
 pub mod UserClockLemmas

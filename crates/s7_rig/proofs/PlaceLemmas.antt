@@ -52,7 +52,8 @@ module _ (s : State) (history : History) (link pdu : ℕ) where
       }
 
   -- a back part of the own entries that a job read
-  read_stands : (done : Job) (before mine : List Entry) (octets codes : List ℕ) → own s link history ≡ before ++ mine
+  pub read_stands : (done : Job) (before mine : List Entry) (octets codes : List ℕ)
+      → own s link history ≡ before ++ mine
       → ReadsAs done pdu (map answered mine) octets codes
       → ReadStands s history link pdu done (numbers_of mine) octets codes
   read_stands (job.ReadArea item) before mine octets codes split reads =

@@ -1,55 +1,34 @@
 -- The upload of a data block that is there comes off.
-use Rattle.std.proofs.Common.{◌≡◌, ℕ, ◌≤◌, Bool, true, false, cond, leb, ltb, Option, None, Some, List, length, refl}
-use Rattle.std.proofs.Common.{sym, ap, ◌∙◌, arith}
+use Rattle.std.proofs.Common.{◌≡◌, ℕ, ◌≤◌, Bool, false, cond, ltb, Option, None, Some, List, length, refl}
+use Rattle.std.proofs.Common.{sym, ap, ◌∙◌, subst, arith}
 use Rattle.std.specs.Prelude.{MatchOption, option_map}
-use Rattle.std.proofs.lemmas.Bool.{le-ltb, leb-false, lt-leb}
-use Rattle.s7_item.specs.declared.item.Item.{Item}
-use Rattle.s7_item.specs.Word.{size_of}
+use Rattle.std.proofs.lemmas.Bool.{le-ltb}
 use Rattle.s7_area.specs.Guards.{is_read_barred}
-use Rattle.s7_area.specs.Memory.{Memory, code_in, place_code}
-use Rattle.s7_area.specs.Places.{is_misfit}
+use Rattle.s7_area.specs.Memory.{Memory}
 use Rattle.s7_plant.specs.Answers.{answer, db_image, refused, upload_params, upload_told}
 use Rattle.s7_plant.specs.declared.request.Request.TheVariants as plain
 use Rattle.s7_plant.specs.Replies.{said}
 use Rattle.s7_plant.specs.State.{State}
 use Rattle.s7_rig.specs.Complete.{data_block, HasBlock}
+use Rattle.s7_rig.proofs.BlockOffLemmas.{same_block}
 use Rattle.s7_rig.proofs.ShapeLemmas.{SameShape}
 
 -- ---- a data block that is there stays there
 
--- the byte of a data block behind the 65,536 that an upload has room for
-abbrev beyond : ℕ → Item
-beyond number = record { area = 0x84; db = number; word = 0x02; count = 1; address = 524288 }
-
-beyond_code : (m : Memory) (number : ℕ) → place_code m (beyond number) ≡ code_in (data_block m number) (beyond number)
-unfolding is_misfit size_of
-beyond_code m number = refl
-
 abbrev IsFew : Option (List ℕ) → Type 0
 IsFew found = MatchOption found ⊥ (λ octets. length octets ≤ 65536)
 
-few_by : (b : Bool) (octets : List ℕ) → leb 65537 (length octets) ≡ b → ◌≡◌ {A = ℕ} (cond b 0xFF 0x05) 0x05
-    → length octets ≤ 65536
-few_by true octets long is = absurd (omega (arith, is))
-few_by false octets long is = omega (arith, leb-false 65537 (length octets) long)
-
-few_of : (found : Option (List ℕ)) (number : ℕ) → code_in found (beyond number) ≡ 0x05 → IsFew found
-unfolding size_of
-few_of None number is = absurd (omega (arith, is))
-few_of (Some octets) number is = few_by (leb 65537 (length octets)) octets refl is
-
-code_of : (found : Option (List ℕ)) (number : ℕ) → IsFew found → code_in found (beyond number) ≡ 0x05
-unfolding size_of
-code_of None number few = absurd few
-code_of (Some octets) number few =
-    ap (λ b. cond b 0xFF 0x05) (lt-leb 65537 (length octets) (omega (arith, few)))
+few_found : (found : Option (List ℕ)) → IsFew found
+    → (octets : List ℕ) × (found ≡ Some octets) × (length octets ≤ 65536)
+few_found None few = absurd few
+few_found (Some octets) few = (octets, refl, few)
 
 -- it has its octets in every memory of the same shape
 has_block : (m n : Memory) (number : ℕ) → SameShape m n → IsFew (data_block n number) → IsFew (data_block m number)
 has_block m n number same few =
-    few_of (data_block m number) number
-    (sym (beyond_code m number)
-    ∙ (same.places (beyond number) ∙ (beyond_code n number ∙ code_of (data_block n number) number few)))
+    let known = few_found (data_block n number) few in
+    let found = same_block m n number known.0 same known.1 in
+    let short : length found.stood ≤ 65536 = omega (arith, found.long, known.2) in subst IsFew (sym found.is) short
 
 -- ---- what is replied
 

@@ -25,7 +25,11 @@ IsThere m item = place_code m item ≡ 0xFF
 abbrev pub data_block : Memory → ℕ → Option (List ℕ)
 data_block m number = area_octets m (record { area = data_blocks; number = number })
 
--- a data block with a number of two octets stands in the areas, with no more octets than an upload has room for
+-- a data block with a number of two octets stands in the areas
+abbrev pub IsBlock : Memory → ℕ → Type 0
+IsBlock m number = (number < 65536) × IsSome (data_block m number)
+
+-- and has no more octets than an upload has room for
 abbrev pub HasBlock : Memory → ℕ → Type 0
 HasBlock m number = (number < 65536) × MatchOption (data_block m number) ⊥ (λ octets. length octets ≤ 65536)
 
@@ -34,11 +38,13 @@ abbrev pub IsAllowed : Memory → Bool → Type 0
 IsAllowed m right = (m.guard ≡ None) ⊎ (right ≡ true)
 
 -- The job, whose telegrams have a right or not, can be asked with telegrams of this PDU, and where it reads or writes
--- one item, that stands in the areas and wants no right that it hasn't. Of several items each has a code of its own, and
--- the job comes off whatever these are. A status list comes off that there is, and blocks are counted, and the clock and
--- the run state tell, always; the clock is set, and the memory is tidied and copied, where no guard is, or with the
--- right. A data block that stands in the areas is uploaded, where it may be read. Of the other jobs nothing is said here:
--- they hang on what was done before, or on which blocks there are.
+-- one item, that stands in the areas and wants no right that it hasn't. Of several items each has a code of its own,
+-- and the job comes off whatever these are. A status list comes off that there is, and blocks are counted, and the
+-- clock and the run state tell, always; the clock is set, and the memory is tidied and copied, where no guard is, or
+-- with the right. The head of a data block that stands in the areas is told, and the data blocks are listed where
+-- there is one, always; such a block is read whole and uploaded where it may be read, the latter if it isn't too long,
+-- and filled where it may be written. Of the other jobs nothing is said here: they hang on what was done before, or on
+-- which blocks there are.
 abbrev pub CanComeOff : Memory → Bool → ℕ → Job → Type 0
 CanComeOff m right pdu job.Connect = Unit {0}
 CanComeOff m right pdu (job.ReadArea item) =
@@ -50,8 +56,12 @@ CanComeOff m right pdu (job.ReadMany items) = check_items items true pdu false �
 CanComeOff m right pdu (job.WriteMany items octets) =
     check_items items (length octets == octet_count_of items) pdu true ≡ no_fault
 CanComeOff m right pdu job.List = Unit {0}
+CanComeOff m right pdu (job.ListOf kind) = (kind ≡ 0x41) × ((number : ℕ) × IsSome (data_block m number))
+CanComeOff m right pdu (job.Info kind number) = (kind ≡ 0x41) × IsBlock m number
 CanComeOff m right pdu (job.Upload kind number) =
     (kind ≡ 0x41) × HasBlock m number × (is_read_barred m.guard right ≡ false)
+CanComeOff m right pdu (job.DbGet number) = IsBlock m number × (is_read_barred m.guard right ≡ false)
+CanComeOff m right pdu (job.DbFill number value) = IsBlock m number × (is_write_barred m.guard right ≡ false)
 CanComeOff m right pdu (job.Szl id index) = IsSome (table_of id index true)
 CanComeOff m right pdu job.ClockRead = Unit {0}
 CanComeOff m right pdu (job.ClockSet moment) = (check_moment moment ≡ no_fault) × IsAllowed m right

@@ -15,14 +15,27 @@ use Rattle.s7_session.specs.Verdict.{Verdict}
 use Rattle.s7_rig.specs.Complete.{AreWithRight, CanComeOff}
 use Rattle.s7_rig.specs.Dialogues.{IsJobOver, IsJobSettled, IsConnectOver, IsConnectSettled}
 use Rattle.s7_rig.specs.Scripts.{IsNoConnect}
+use Rattle.s7_rig.specs.Split.{ReadStands}
 
 -- EACH JOB IS SETTLED that the octets end of which its client heard a front of what a session owes for what the client
--- sent: a read with code 0 reads what its entries read, in their order, and a first connect comes off.
+-- sent: a read with code 0 reads what its entries read, in their order, it stood at rising places of a history, and a
+-- first connect comes off.
 pub record JobsAreSettled : Type 0 where
   pub settled : (first : LinkState) (origin : Origin) (pdu : ℕ) (heard sent : List ℕ) (end : End)
       (carried b used : List ℕ) (js verdicts : List Verdict) (behind : List ℕ)
       → IsJobOver first origin pdu heard sent end carried b used js verdicts behind
       → IsJobSettled first origin pdu heard sent end b used js verdicts behind
+  -- and where the session is a link's on a book that began with this memory, what a read with code 0 told stood at the
+  -- numbers of its entries, which rise: they are the link's own calls in the history, behind the earlier ones
+  pub stands : (opening : Memory) (history : History) (link : ℕ) (earlier mine : List Entry)
+      (first : LinkState) (origin : Origin) (pdu : ℕ) (heard sent : List ℕ) (end : End) (carried b used : List ℕ)
+      (js verdicts : List Verdict) (behind : List ℕ)
+      → IsJobOver first origin pdu heard sent end carried b used js verdicts behind
+      → own (begins_with opening) link history ≡ earlier ++ mine
+      → entered first (b ++ used) (js ++ verdicts) ≡ entered first b js ++ map answered mine
+      → end.code ≡ no_fault
+      → ReadStands (begins_with opening) history link pdu origin.job (map (λ (e : Entry). e.number) mine) end.octets
+      end.codes
   pub connected : (guard : Option Guard) (origin : Origin) (heard sent : List ℕ) (end : End) (carried used : List ℕ)
       (verdicts : List Verdict) (behind : List ℕ)
       → IsConnectOver guard origin heard sent end carried used verdicts behind

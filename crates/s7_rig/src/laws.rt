@@ -28,8 +28,9 @@ pub fn questions_are_heard()
 
 /// A law: octets that are a front of what a session owes for what its client sent, and that end a job of this
 /// client, leave both between two messages. A read of one item, of several or of a whole data block with code
-/// 0 is then what its entries read, in their order, each of one of the parts or groups; and the first connect
-/// of a client comes off.
+/// 0 is then what its entries read, in their order, each of one of the parts or groups. Where the session is a
+/// link's on a book, those entries are calls of the link at rising places of the history, and what was read is
+/// what stood there. The first connect of a client comes off.
 pub fn jobs_are_settled()
     ensures { JobsAreSettled }
 {}
