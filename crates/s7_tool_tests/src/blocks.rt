@@ -114,16 +114,10 @@ fn whole_data_blocks_are_read_and_filled(rt: HostRuntime) -> Result<(), Fail> {
     all_hold(rt.alloc(), "", "", WHOLE, ROOM)
 }
 
-/// Rigs that load blocks.
-const LOADING: &str = "\
+/// A block that is loaded, listed, uploaded and deleted, and is not there then.
+const FUNCTION: &str = "\
 files areas.txt script.txt
-areas.txt s7 areas 2
-clients 1";
-
-/// A block that is loaded, listed, uploaded and deleted; images that aren't sent, and one of a kind that isn't loaded;
-/// a guard; the longest image at the least PDU and at the greatest; and one image after another under a name.
-const LOADED: &str = "\
-call rig areas.txt script.txt
+clients 1
 areas.txt s7 areas 2
 areas.txt DB 1 4
 areas.txt 4*00
@@ -139,8 +133,30 @@ prints client 1 line 3 upload 00000000 70700101050c000500000026~22 x 00~0002aabb
 prints client 1 line 4 delete 00000000 -
 prints client 1 line 5 upload 00C00000 -
 prints journal 5
-status 6
+status 6";
 
+/// However many jobs are asked for, such telegrams go one at a time.
+const EACH_NUMBER: &str = "\
+call rig areas.txt script.txt
+
+call rig areas.txt script.txt --jobs 2
+
+call rig areas.txt script.txt --jobs 8";
+
+#[test]
+fn a_block_comes_and_goes(rt: HostRuntime) -> Result<(), Fail> {
+    all_hold(rt.alloc(), "", FUNCTION, EACH_NUMBER, ROOM)
+}
+
+/// Rigs that load blocks.
+const LOADING: &str = "\
+files areas.txt script.txt
+areas.txt s7 areas 2
+clients 1";
+
+/// Images that aren't sent, and one of a kind that isn't loaded; a guard; the longest image at the least PDU and at the
+/// greatest; and one image after another under a name.
+const LOADED: &str = "\
 call rig areas.txt script.txt
 script.txt download 7070
 script.txt download 70700101050C000500000027~22 x 00~0002aabb

@@ -20,7 +20,8 @@
 //   told WORDS       what the completion was told: how often, and the number of the last job with its code in hex
 //
 // The completion comes back after each call, and was told as often as there are results of the run or of a rig's first
-// client.
+// client. The dial was called once where a link came or the status is 4, and else not at all.
+use crate::dials::CountedDial;
 use s7_area::AreaKey;
 use s7_client::Counter;
 use s7_outer::{FailingLink, Fate, MemoryDial, MemoryFiles, MemoryLink, MemoryOut, Octets};
@@ -176,26 +177,29 @@ fn line_of(alloc: Global, call: &Call<'_>, most: usize) -> Result<Line, Fail> {
     Ok(FailingLink::new(inner, fates))
 }
 
-fn dial_of(alloc: Global, call: &Call<'_>, most: usize) -> Result<MemoryDial<Line>, Fail> {
+type LineDial = CountedDial<MemoryDial<Line>>;
+
+fn dial_of(alloc: Global, call: &Call<'_>, most: usize) -> Result<LineDial, Fail> {
     if call.words("came").is_empty() {
-        return Ok(MemoryDial::new(None));
+        return Ok(CountedDial::new(MemoryDial::new(None)));
     }
     let line = line_of(alloc, call, most)?;
-    Ok(MemoryDial::new(Some(line)))
+    Ok(CountedDial::new(MemoryDial::new(Some(line))))
 }
 
-/// What is left of a call: its end and its output.
+/// What is left of a call: its end, its output, and how often the dial was called.
 #[derive(Drop)]
 struct Left {
     end: ToolEnd<Line, Counter>,
     out: MemoryOut,
+    dialled: u64,
 }
 
 fn called(
     alloc: Global,
     words: &[&str],
     files: &mut MemoryFiles,
-    dial: &mut MemoryDial<Line>,
+    dial: &mut LineDial,
     out: &mut MemoryOut,
 ) -> ToolEnd<Line, Counter> {
     tool_main(alloc, words, files, dial, out, Some(Counter::new()))
@@ -205,13 +209,17 @@ fn left_over(
     alloc: Global,
     call: &Call<'_>,
     files: &mut MemoryFiles,
-    dial: &mut MemoryDial<Line>,
+    dial: &mut LineDial,
 ) -> Result<Left, Fail> {
     let room = call.number("room")?;
     let words = words_of(alloc, call.words("call"))?;
     let mut out = MemoryOut::new(alloc, room)?;
     let end = called(alloc, words.as_slice(), files, dial, &mut out);
-    Ok(Left { end, out })
+    Ok(Left {
+        end,
+        out,
+        dialled: dial.calls(),
+    })
 }
 
 fn left_of(alloc: Global, call: &Call<'_>, most: usize) -> Result<Left, Fail> {
@@ -319,8 +327,17 @@ fn is_told(alloc: Global, call: &Call<'_>, end: &ToolEnd<Line, Counter>) -> Resu
     Ok(last.as_str() == words)
 }
 
+// How often the call dials.
+fn dials_of(call: &Call<'_>) -> Result<u64, Fail> {
+    let has_link = !call.words("came").is_empty();
+    Ok(u64::from(has_link || call.number("status")? == 4))
+}
+
 fn is_left(alloc: Global, call: &Call<'_>, left: &Left) -> Result<bool, Fail> {
     if left.end.status as usize != call.number("status")? || !is_rig(alloc, call, &left.end)? {
+        return Ok(false);
+    }
+    if left.dialled != dials_of(call)? {
         return Ok(false);
     }
     if !is_told(alloc, call, &left.end)? {

@@ -7,6 +7,8 @@ mod blocks;
 #[cfg(test)]
 mod calls;
 #[cfg(test)]
+mod dials;
+#[cfg(test)]
 mod made;
 #[cfg(test)]
 mod over_tcp;

@@ -4,13 +4,19 @@ use std::test::Fail;
 
 /// A rig of one client whose jobs don't all come off.
 const RIG: &str = "\
-call rig areas.txt script.txt
 files areas.txt script.txt
 status 6
 clients 1
 areas.txt s7 areas 2
 areas.txt DB 1 2
 areas.txt 1122";
+
+/// However many jobs are asked for, such telegrams go one at a time.
+const CALLS: [&str; 3] = [
+    "call rig areas.txt script.txt",
+    "call rig areas.txt script.txt --jobs 2",
+    "call rig areas.txt script.txt --jobs 8",
+];
 
 const PASSWORDS: &str = "\
 areas.txt s7 areas 2
@@ -51,7 +57,10 @@ prints journal 4";
 
 #[test]
 fn a_password_gives_the_right(rt: HostRuntime) -> Result<(), Fail> {
-    all_hold(rt.alloc(), "", RIG, PASSWORDS, ROOM)
+    for call in CALLS {
+        all_hold(rt.alloc(), call, RIG, PASSWORDS, ROOM)?;
+    }
+    Ok(())
 }
 
 const CONTROL: &str = "\
