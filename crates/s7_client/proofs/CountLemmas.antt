@@ -1,4 +1,4 @@
--- Laws of how often a link failed, or had nothing to give, or no room, yet.
+-- Laws of how often a link failed, or had nothing to give, or no room, yet, and whether its stream ended.
 use Rattle.std.proofs.Common.{◌≡◌, ◌⊎◌, inl, inr, ⊎_elim, ℕ, ◌+◌, ◌<◌, ◌≤◌, [], ap, sym, ◌∙◌, subst, arith}
 use Rattle.std.proofs.lemmas.Bool.{cases_lt}
 use Rattle.s7_outer.specs.Shown.{Shown}
@@ -10,7 +10,7 @@ use Rattle.s7_dialogue.specs.Codes.{timed_out}
 use Rattle.s7_dialogue.specs.Dialogue.{End}
 use Rattle.s7_dialogue.specs.Running.{awaited_in}
 use Rattle.s7_dialogue.specs.Course.{Awaits, for_confirm, for_answers, for_departure, for_nothing}
-use Rattle.s7_client.specs.Counts.{MetNothing, FailedAsTold, WaitedAsTold}
+use Rattle.s7_client.specs.Counts.{MetNothing, FailedAsTold, EndedAsTold, MetAsTold, WaitedAsTold}
 use Rattle.s7_client.specs.Standing.{EndsAsTold, CountsStep}
 
 -- ---- the link failed, or it didn't
@@ -27,9 +27,9 @@ pub same_code : (awaits : Awaits) (end end' : End) → awaits ≡ for_nothing en
 same_code awaits end end' is is' = ap code_of (sym is' ∙ is)
 
 pub ends_as_told : (r : Running) (link link' : Shown) (end : End) → awaited_in r [] ≡ for_nothing end []
-    → FailedAsTold end.code link link' → EndsAsTold r link link'
+    → MetAsTold end.code link link' → EndsAsTold r link link'
 ends_as_told r link link' end is told = λ end' is'.
-    subst (λ code. FailedAsTold code link link') (sym (same_code (awaited_in r []) end end' is is')) told
+    subst (λ code. MetAsTold code link link') (sym (same_code (awaited_in r []) end end' is is')) told
 
 -- behind calls that met no failure
 pub failed_behind : (code : ℕ) (k k1 k2 : Shown) → k1.faults ≡ k.faults → FailedAsTold code k1 k2
@@ -37,14 +37,28 @@ pub failed_behind : (code : ℕ) (k k1 k2 : Shown) → k1.faults ≡ k.faults �
 failed_behind code k k1 k2 same (inl none) = inl (none ∙ same)
 failed_behind code k k1 k2 same (inr h) = inr (subst (λ n. RoseExactly 1 n k2.faults) same h.0, h.1)
 
+-- behind calls that met no end
+pub ended_behind : (code : ℕ) (k k1 k2 : Shown) → k1.has_ended ≡ k.has_ended → EndedAsTold code k1 k2
+    → EndedAsTold code k k2
+ended_behind code k k1 k2 same (inl none) = inl (none ∙ same)
+ended_behind code k k1 k2 same (inr h) = inr h
+
+-- behind calls that met nothing
+pub met_behind : (code : ℕ) (k k1 k2 : Shown) → MetNothing k k1 → MetAsTold code k1 k2 → MetAsTold code k k2
+met_behind code k k1 k2 none h = (failed_behind code k k1 k2 none.0 h.0, ended_behind code k k1 k2 none.2 h.1)
+
 -- a step behind steps that met nothing
 pub counts_behind : (result : Step) (r : Running) (k k1 k2 : Shown) → MetNothing k k1 → CountsStep result r k1 k2
     → CountsStep result r k k2
-counts_behind step.Went r k k1 k2 none h = (h.0 ∙ none.0, h.1 ∙ none.1)
-counts_behind step.NotYet r k k1 k2 none h = (h.0 ∙ none.0, subst (λ n. RoseExactly 1 n k2.waits) none.1 h.1)
+counts_behind step.Went r k k1 k2 none h = (h.0 ∙ none.0, h.1 ∙ none.1, h.2 ∙ none.2)
+counts_behind step.NotYet r k k1 k2 none h = (
+  h.0 ∙ none.0,
+  subst (λ n. RoseExactly 1 n k2.waits) none.1 h.1,
+  h.2 ∙ none.2,
+)
 counts_behind step.Over r k k1 k2 none h = (
   h.0 ∙ none.1,
-  λ end is. failed_behind end.code k k1 k2 none.0 (h.1 end is),
+  λ end is. met_behind end.code k k1 k2 none (h.1 end is),
 )
 
 -- ---- the link had nothing to give, or no room

@@ -20,7 +20,7 @@ use Rattle.s7_dialogue.specs.Dialogue.{End}
 use Rattle.s7_dialogue.specs.Running.{awaited_in, IsOver, IsResult}
 use Rattle.s7_dialogue.specs.Course.{Origin, for_nothing}
 use Rattle.s7_client.specs.At.{size_in}
-use Rattle.s7_client.specs.Counts.{FailedAsTold, WaitedAsTold}
+use Rattle.s7_client.specs.Counts.{MetAsTold, WaitedAsTold}
 use Rattle.s7_client.specs.Standing.{Stands, Fits, IsBetween, unread, unsent}
 use Rattle.s7_client.specs.Polling.{StandsFor, IsPoll, IsDoneBy, WaitsOnce, Round, RoundGoesOn, RoundEnds, grant_after, closed_after, job_of, waited_of}
 use Rattle.s7_client.proofs.LinkLemmas.{moves_none}
@@ -36,7 +36,7 @@ poll_idle c c' link none same =
       moves = moves_none c.channel link;
       orderly = λ origin b w s. absurd (none_under c.job s.under_way none s.is);
       config = refl;
-      counts = (refl, refl);
+      counts = (refl, refl, refl);
       comes = (ap (option_map (λ (u : UnderWay). u.running.job)) none, refl, refl);
     })
 
@@ -129,13 +129,13 @@ done_by origin link link' kept end carried b w waited n is h =
 told_counts : (u : UnderWay) (link link' : Shown) (told : JobResult) → IsOver u.running.stage
     → ((end : End) → awaited_in u.running [] ≡ for_nothing end [] → told.code ≡ end.code)
     → ((end : End) → awaited_in u.running [] ≡ for_nothing end []
-    → FailedAsTold end.code link link' × WaitedAsTold 1 end.code link link')
-    → FailedAsTold told.code link link' × WaitedAsTold 1 told.code link link'
+    → MetAsTold end.code link link' × WaitedAsTold 1 end.code link link')
+    → MetAsTold told.code link link' × WaitedAsTold 1 told.code link link'
 told_counts u link link' told over code counts =
     let r = u.running in
     let end = end_at r.stage r.found.items r.codes in
     let is = ends_at r.found.items r.codes [] r.stage over in
-    subst (λ n. FailedAsTold n link link' × WaitedAsTold 1 n link link') (sym (code end is)) (counts end is)
+    subst (λ n. MetAsTold n link link' × WaitedAsTold 1 n link link') (sym (code end is)) (counts end is)
 
 pub poll_done : (old new : Connection) (u u' : UnderWay) (channel : Channel) (link link' : Shown) (leaves : Leaves)
     (told : JobResult) → old.job ≡ Some u → new.job ≡ None → new.config ≡ old.config

@@ -67,7 +67,7 @@ walks_none l u link config granted fits = record {
   moves = moves_none l link;
   fits = fits;
   waited = refl;
-  counts = (refl, refl);
+  counts = (refl, refl, refl);
   stood = λ origin b w ec eg s. same_stands origin l u b w s;
   orderly = λ origin b w ec eg s. orderly_none origin (unread l) b w _ refl refl refl;
 }
@@ -236,7 +236,7 @@ round_tires l l' u u1 u' link link' config granted k counts v = record {
   over = v.over refl;
   left = λ h. absurd (closed_stage u'.running timed_out (v.fails refl) h);
   counts = λ end is. (
-    inl counts.0,
+    (inl counts.0, inl counts.2),
     (1, counts.1, inr (refl, same_code _ (fault_end timed_out) end (v.fails refl) is)),
   );
   orderly = k.orderly;

@@ -25,7 +25,7 @@ use Rattle.s7_client.specs.Standing.{HasCause}
 use Rattle.s7_client.specs.Polling.{IsDoneBy, StandsFor, IsStarted, IsPoll, IsDone, WaitsOnce, job_of, waited_of, config_of, grant_of, closed_of, unread_of, grant_after, closed_after, origin_at}
 use Rattle.s7_client.specs.Runs.{IsTired, between_of, JobRun, StillWaits, IsOverNow, Completes}
 use Rattle.s7_client.proofs.FormLemmas.{octets_have_form, octets_are_whole, departure_has_form, fault_has_form}
-use Rattle.s7_client.proofs.CountLemmas.{failed_behind, waited_behind, waited_once, rises}
+use Rattle.s7_client.proofs.CountLemmas.{failed_behind, ended_behind, waited_behind, waited_once, rises}
 use Rattle.s7_client.proofs.LinkLemmas.{moves_received, moves_none, moves_both}
 use Rattle.s7_client.proofs.RoundLemmas.{cause_earlier}
 use Rattle.s7_client.proofs.OrderLemmas.{orderly_none, orderly_both}
@@ -75,6 +75,7 @@ awaits_none c link e = record {
   waited = e;
   rose = (omega arith, omega arith);
   faults = refl;
+  ended = refl;
   stood = λ origin b w s. subst (λ x. StandsFor c origin x (w ++ [])) (sym (append-nil b))
       (subst (λ x. StandsFor c origin b x) (sym (append-nil w)) s);
 }
@@ -98,6 +99,7 @@ awaits_on old c c2 k k1 k2 m p =
       waited = more.0;
       rose = rises m.polls 1 k.waits k1.waits k2.waits m.rose p.counts.1;
       faults = p.counts.0 ∙ m.faults;
+      ended = p.counts.2 ∙ m.ended;
       stood = λ origin b w s. stands_joined c2 origin b w m.moves.used m.moves.written p.moves.used p.moves.written
           (p.comes.1 origin (b ++ m.moves.used) (w ++ m.moves.written) (m.stood origin b w s)).stands;
     }
@@ -151,7 +153,8 @@ completes_now old c c2 k k1 k2 told m p = record {
       (p.orderly origin (b ++ m.moves.used) (w ++ m.moves.written) (m.stood origin b w s));
   config = p.config ∙ m.config;
   idle = p.comes.1;
-  faults = failed_behind told.code k k1 k2 m.faults p.counts.0;
+  faults = failed_behind told.code k k1 k2 m.faults p.counts.0.0;
+  ended = ended_behind told.code k k1 k2 m.ended p.counts.0.1;
   waits = subst (λ (x : Config). WaitedAsTold x.polls told.code k k2) m.config
       (waited_behind m.polls c.config.polls told.code k k1 k2 (waits_few c.job m.polls c.config.polls c.waits m.waited)
       m.rose p.counts.1);
@@ -243,6 +246,7 @@ runs_whole old mid new link link' asked told s k =
         order = subst (λ kept. AreInOrder (origin_at old asked) kept [] [] ordered.deeds) s.unread ordered.order;
       };
       faults = k.faults;
+      ended = k.ended;
       waits = subst (λ (x : Config). WaitedAsTold x.polls told.code link link') s.config k.waits;
       end = h.end;
       carried = h.carried;

@@ -20,7 +20,7 @@ use Rattle.s7_dialogue.specs.Dialogue.{End, fault_end}
 use Rattle.s7_dialogue.specs.Running.{IsResult, IsOver, awaited_in}
 use Rattle.s7_dialogue.specs.Course.{Origin, begins_anew, course, for_nothing, asked_size_code}
 use Rattle.s7_client.specs.At.{LeavesOpen, IsReading, IsClear, joiner_in, size_in}
-use Rattle.s7_client.specs.Counts.{MetNotYetOnce, FailedAsTold, WaitedAsTold, CountsPoll}
+use Rattle.s7_client.specs.Counts.{MetNotYetOnce, MetAsTold, WaitedAsTold, CountsPoll}
 use Rattle.s7_client.specs.Standing.{Stands, Fits, IsBetween, Moves, IsOrderly, HasCause, HasMetNotYet, IsUnderWay, IsFault, unread, unsent}
 
 -- the job that is outstanding
@@ -177,7 +177,7 @@ pub record IsPoll (old : Connection) (link : Shown) (new : Connection) (link' : 
   pub orderly : (origin : Origin) (b w : List ℕ) → StandsFor old origin b w
       → IsOrderly origin (unread_of old) b w moves
   pub config : config_of new ≡ config_of old
-  -- the link was called on only until it failed, or had nothing to give, or no room
+  -- the link was called on only until it failed, or had nothing to give, or no room, or its stream had ended
   pub counts : CountsPoll result link link'
   pub comes : Comes old link new link' moves.used moves.written result
 
@@ -240,7 +240,7 @@ pub record RoundEnds (l : Channel) (u : UnderWay) (link : Shown) (l' : Channel) 
   pub over : IsOver u'.running.stage
   pub left : LeavesOpen u'.running.stage → IsBetween l'
   pub counts : (end : End) → awaited_in u'.running [] ≡ for_nothing end []
-      → FailedAsTold end.code link link' × WaitedAsTold 1 end.code link link'
+      → MetAsTold end.code link link' × WaitedAsTold 1 end.code link link'
   pub orderly : (origin : Origin) (b w : List ℕ) → origin.config ≡ config → origin.granted ≡ granted
       → Stands origin l u b w
       → IsOrderly origin (unread l) b w moves

@@ -13,7 +13,7 @@ use Rattle.s7_dialogue.specs.Dialogue.{End}
 use Rattle.s7_dialogue.specs.Running.{IsResult}
 use Rattle.s7_client.specs.Form.{HasForm, IsWhole}
 use Rattle.s7_dialogue.specs.Course.{Origin, begins_anew, asked_size_code, course}
-use Rattle.s7_client.specs.Counts.{FailedAsTold, WaitedAsTold}
+use Rattle.s7_client.specs.Counts.{FailedAsTold, EndedAsTold, WaitedAsTold}
 use Rattle.s7_client.specs.Standing.{Moves, IsOrderly, HasCause, HasMetNotYet, IsUnderWay, IsFault}
 use Rattle.s7_client.specs.Polling.{StandsFor, grant_of, closed_of, tpdu_size_of, sequence_of, unread_of, config_of, waited_of, job_of, grant_after, closed_after}
 
@@ -70,8 +70,9 @@ pub record JobRun (config : Config) (before : Between) (asked : Job) (link link'
   -- what it moved falls into deeds in order: octets were used only where all was sent, and received only where none was
   -- unused
   pub orderly : IsOrderly (origin_from config before asked) (unread_at before asked) [] [] moves
-  -- no failure was passed over, and none of its polls went on behind one that had nothing to give, or no room
+  -- no failure and no end was passed over, and none of its polls went on behind one that had nothing to give, or no room
   pub faults : FailedAsTold told.code link link'
+  pub ended : EndedAsTold told.code link link'
   pub waits : WaitedAsTold config.polls told.code link link'
   pub end : End
   pub carried : List ℕ
@@ -102,6 +103,7 @@ pub record StillWaits (old : Connection) (link : Shown) (c : Connection) (link' 
   pub waited : waited_of c ≡ Some polls
   pub rose : RoseExactly polls link.waits link'.waits
   pub faults : link'.faults ≡ link.faults
+  pub ended : link'.has_ended ≡ link.has_ended
   pub stood : (origin : Origin) (b w : List ℕ) → StandsFor old origin b w
       → StandsFor c origin (b ++ moves.used) (w ++ moves.written)
 
@@ -126,6 +128,7 @@ pub record Completes (old : Connection) (link : Shown) (new : Connection) (link'
   pub config : config_of new ≡ config_of old
   pub idle : job_of new ≡ None
   pub faults : FailedAsTold told.code link link'
+  pub ended : EndedAsTold told.code link link'
   pub waits : WaitedAsTold (config_of old).polls told.code link link'
   pub over : (origin : Origin) (b w : List ℕ) → StandsFor old origin b w
       → IsOverNow origin link link' old new told (b ++ moves.used) (w ++ moves.written)

@@ -19,7 +19,7 @@ use Rattle.s7_dialogue.specs.Running.{awaited_in, IsOver, IsOpening}
 use Rattle.s7_dialogue.specs.Course.{Origin, for_departure, for_nothing, conduct_of, course, may_send, limits}
 use Rattle.s7_client.specs.At.{IsAt, IsReading, IsClear, LeavesOpen, budget, pending, joiner_in, size_in}
 pub use Rattle.s7_client.specs.Order.{AwaitsOctets}
-use Rattle.s7_client.specs.Counts.{MetNothing, MetNotYetOnce, FailedAsTold}
+use Rattle.s7_client.specs.Counts.{MetNothing, MetNotYetOnce, MetAsTold}
 use Rattle.s7_client.specs.Order.{Deed, transmitted_in, used_in, received_in, AreInOrder}
 
 abbrev pub unread : Channel → List ℕ
@@ -195,10 +195,10 @@ work config l u =
     budget u.running.stage (joiner_in l.talk).count (length (held_by l.talk.reader)) * 16384
     + length (pending config l.talk u.running)
 
--- what the faults of a link tell of how a job is over, by its end
+-- what the faults of a link and the end of its stream tell of how a job is over, by its end
 abbrev pub EndsAsTold : Running → Shown → Shown → Type 0
 EndsAsTold r link link' =
-    (end : End) → awaited_in r [] ≡ for_nothing end [] → FailedAsTold end.code link link'
+    (end : End) → awaited_in r [] ≡ for_nothing end [] → MetAsTold end.code link link'
 
 -- what the counts of a link tell of a step: it was called once at the most
 abbrev pub CountsStep : Step → Running → Shown → Shown → Type 0

@@ -19,8 +19,7 @@ pub record IsReceive (old new : Shown) (before after : List ℕ) (result : Got) 
   pub wrote : new.written ≡ old.written
   pub end : result ≡ got.End → IsAtEnd old.left × IsTrue new.has_ended
   pub ended : IsTrue old.has_ended → IsTrue new.has_ended × (octets_got result after ≡ [])
-  pub waits_open : result ≡ got.NotYet → new.has_ended ≡ old.has_ended
-  pub fails_open : result ≡ got.Failed → new.has_ended ≡ old.has_ended
+  pub stays_open : result ≢ got.End → new.has_ended ≡ old.has_ended
   pub failed : result ≡ got.Failed → Rose old.faults new.faults
   pub not_yet : result ≡ got.NotYet → Rose old.waits new.waits
   pub nothing_left : IsSome old.space → (result ≡ got.NotYet) ↔ (old.left ≡ Some [])

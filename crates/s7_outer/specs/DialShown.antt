@@ -7,3 +7,5 @@ pub record DialShown (L : Type 0) : Type 0 where
   pub next : List ℕ → ℕ → Option L
   -- how often a call to a host and a port has failed
   pub faults : List ℕ → ℕ → ℕ
+  -- how often it was called, whatever the host
+  pub calls : ℕ

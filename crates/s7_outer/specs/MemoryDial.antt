@@ -6,11 +6,11 @@ use Rattle.s7_outer.specs.declared.dial.Dialled.TheVariants as dialled
 use Rattle.s7_outer.specs.declared.memory_dial.MemoryDial.{MemoryDial}
 
 abbrev pub dial_of : {L : Type 0} → MemoryDial L → DialShown L
-dial_of d = record { next = λ _ _. d.link; faults = λ _ _. d.faults }
+dial_of d = record { next = λ _ _. d.link; faults = λ _ _. d.faults; calls = d.calls }
 
 -- a dial that has not been used
 abbrev pub unused_dial : {L : Type 0} → Option L → DialShown L
-unused_dial link = record { next = λ _ _. link; faults = λ _ _. 0 }
+unused_dial link = record { next = λ _ _. link; faults = λ _ _. 0; calls = 0 }
 
 -- the link that the dial has
 abbrev pub link_of : {L : Type 0} → MemoryDial L → Option L

@@ -1,11 +1,7 @@
 -- What a link in memory shows.
-use Rattle.std.specs.Prelude.{ℕ, ◌-◌, min, List, [], ◌∷◌, length, drop, Bool, true, false, None, Some}
+use Rattle.std.specs.Prelude.{ℕ, ◌-◌, min, List, [], length, drop, false, None, Some}
 use Rattle.s7_outer.specs.Shown.{Shown}
 use Rattle.s7_outer.specs.declared.memory_link.MemoryLink.{MemoryLink}
-
-abbrev pub is_empty : List ℕ → Bool
-is_empty [] = true
-is_empty (x ∷ xs) = false
 
 -- the octets that are left to receive
 abbrev pub unread_of : MemoryLink → List ℕ
@@ -35,7 +31,7 @@ abbrev pub shown_of : MemoryLink → Shown
 shown_of m = record {
   left = Some (unread_of m);
   written = Some m.output.octets;
-  has_ended = is_empty (unread_of m);
+  has_ended = m.ended;
   faults = m.faults;
   waits = 0;
   moment = Some m.moment;
@@ -51,7 +47,7 @@ abbrev pub unused : List ℕ → ℕ → Shown
 unused input moment = record {
   left = Some input;
   written = Some [];
-  has_ended = is_empty input;
+  has_ended = false;
   faults = 0;
   waits = 0;
   moment = Some moment;

@@ -1,6 +1,6 @@
 // A dial: it calls a host and gives a link.
 ghost use Rattle.std.specs.Prelude.{◌≡◌, ◌≤◌};
-ghost use Rattle.s7_outer.specs.Count.{Rose};
+ghost use Rattle.s7_outer.specs.Count.{Rose, RoseExactly};
 ghost use Rattle.s7_outer.specs.DialShown.{DialShown};
 ghost use Rattle.s7_outer.specs.Dial.{GivesTold, NoHostFell};
 
@@ -18,12 +18,13 @@ pub trait Dial<L> {
     /// What the dial shows to contracts. No count in it ever falls.
     ghost shows: { Self → DialShown L };
 
-    /// A link to the host's port. `Failed` comes only where the count of this host and port rose
-    /// in this call, and takes no link.
+    /// A link to the host's port. Each call is one more of `calls`. `Failed` comes only where the
+    /// count of this host and port rose in this call, and takes no link.
     fn call(&mut self, host: &str, port: u16) -> Dialled<L>
         ensures gives { GivesTold ((shows self.old).next host.now port) result }
         ensures failed { result ≡ Dialled.Failed
             → Rose ((shows self.old).faults host.now port) ((shows self.new).faults host.now port) }
         ensures kept { result ≡ Dialled.Failed → (shows self.new).next ≡ (shows self.old).next }
-        ensures faults { NoHostFell (shows self.old).faults (shows self.new).faults };
+        ensures faults { NoHostFell (shows self.old).faults (shows self.new).faults }
+        ensures called { RoseExactly 1 (shows self.old).calls (shows self.new).calls };
 }

@@ -51,7 +51,7 @@ pub trait Link {
     ///
     /// `End` comes only where nothing is left, and no octet comes after it. `NotYet` comes only
     /// where `waits` rose in this call, `Failed` only where `faults` did; none of the three moves
-    /// an octet, and `NotYet` and `Failed` don't end the stream. A link that tells its space answers `NotYet`
+    /// an octet, and nothing but `End` ends the stream. A link that tells its space answers `NotYet`
     /// exactly where nothing is left. What lies in `into` behind the octets that came is undefined.
     fn receive(&mut self, into: &mut [u8]) -> Got
         requires { 0 < length into.old }
@@ -63,8 +63,7 @@ pub trait Link {
         ensures end { result ≡ Got.End → IsAtEnd (shows self.old).left × IsTrue (shows self.new).has_ended }
         ensures ended { IsTrue (shows self.old).has_ended
             → IsTrue (shows self.new).has_ended × (octets_got result into.new ≡ []) }
-        ensures waits_open { result ≡ Got.NotYet → (shows self.new).has_ended ≡ (shows self.old).has_ended }
-        ensures fails_open { result ≡ Got.Failed → (shows self.new).has_ended ≡ (shows self.old).has_ended }
+        ensures stays_open { result ≢ Got.End → (shows self.new).has_ended ≡ (shows self.old).has_ended }
 
         ensures failed { result ≡ Got.Failed → Rose (shows self.old).faults (shows self.new).faults }
         ensures not_yet { result ≡ Got.NotYet → Rose (shows self.old).waits (shows self.new).waits }

@@ -1,6 +1,6 @@
 // A dial in memory.
 ghost use Rattle.std.specs.Prelude.{◌≡◌, ◌≢◌, None};
-ghost use Rattle.s7_outer.specs.Count.{raised};
+ghost use Rattle.s7_outer.specs.Count.{RoseExactly, raised};
 ghost use Rattle.s7_outer.specs.Dial.{NoHostFell};
 
 use crate::count::raise;
@@ -11,6 +11,7 @@ use crate::{Dial, Dialled};
 pub struct MemoryDial<L> {
     link: Option<L>,
     faults: u64,
+    calls: u64,
 }
 
 impl<L: Drop> MemoryDial<L> {
@@ -20,7 +21,11 @@ impl<L: Drop> MemoryDial<L> {
     pub fn new(link: Option<L>) -> MemoryDial<L>
         ensures { dial_of result ≡ unused_dial link }
     {
-        MemoryDial { link, faults: 0 }
+        MemoryDial {
+            link,
+            faults: 0,
+            calls: 0,
+        }
     }
 }
 
@@ -38,7 +43,9 @@ impl<L: Drop> Dial<L> for MemoryDial<L> {
         ensures counted { result ≡ Dialled.Failed → fault_count self.new ≡ raised (fault_count self.old) }
         ensures counted_no_other { result ≢ Dialled.Failed → fault_count self.new ≡ fault_count self.old }
         ensures faults { NoHostFell (dial_of self.old).faults (dial_of self.new).faults }
+        ensures called { RoseExactly 1 (dial_of self.old).calls (dial_of self.new).calls }
     {
+        raise(&mut self.calls);
         match self.link.take() {
             Some(link) => Dialled::Link(link),
             None => {

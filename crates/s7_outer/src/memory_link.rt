@@ -1,5 +1,5 @@
 // A link over octets in memory.
-ghost use Rattle.std.specs.Prelude.{◌≡◌, ◌≢◌, ◌+◌, ◌<◌, ◌≤◌, [], IsTrue, Some, length, IfOk, option_map};
+ghost use Rattle.std.specs.Prelude.{◌≡◌, ◌≢◌, ◌+◌, ◌<◌, ◌≤◌, [], IsTrue, Some, drop, length, IfOk, option_map};
 ghost use Rattle.std.specs.Io.KnownBytes.{prepend_known, append_known, IsAtEnd};
 ghost use Rattle.s7_outer.specs.Calls.{shut_down};
 ghost use Rattle.s7_outer.specs.Count.{RoseExactly, raised};
@@ -21,9 +21,11 @@ pub struct MemoryLink {
     faults: u64,
     looks: u64,
     shut: bool,
+    ended: bool,
     ghost in_range: { at ≤ length input },
     ghost some: { 0 < most },
     ghost fits: { length output.octets ≤ output.room },
+    ghost ends: { IsTrue ended → drop at input ≡ [] },
 }
 
 impl MemoryLink {
@@ -54,6 +56,7 @@ impl MemoryLink {
             faults: 0,
             looks: 0,
             shut: false,
+            ended: false,
         })
     }
 
@@ -88,6 +91,7 @@ impl Link for MemoryLink {
         ensures end { result ≡ Got.End → IsAtEnd (shown_of self.old).left × IsTrue (shown_of self.new).has_ended }
         ensures ended { IsTrue (shown_of self.old).has_ended
             → IsTrue (shown_of self.new).has_ended × (octets_got result into.new ≡ []) }
+        ensures stays_open { result ≢ Got.End → (shown_of self.new).has_ended ≡ (shown_of self.old).has_ended }
         ensures same { shown_of self.new
             ≡ record (shown_of self.old) {
               left = (shown_of self.new).left;
@@ -99,6 +103,7 @@ impl Link for MemoryLink {
         let rest = &self.input.as_slice()[self.at..];
         let count = rest.len().min(self.most).min(into.len());
         if count == 0 {
+            self.ended = true;
             return Got::End;
         }
         into[..count].copy_from_slice(&rest[..count]);

@@ -18,16 +18,22 @@ const WAIT_MILLISECONDS: u64 = 100;
 pub struct TcpDial<R> {
     rt: R,
     faults: u64,
+    calls: u64,
 }
 
 impl<R: Net<Stream = TcpStream> + Drop> TcpDial<R> {
-    ghost use Rattle.s7_outer.specs.TcpDial.{fault_count};
+    ghost use Rattle.s7_outer.specs.TcpDial.{call_count, fault_count};
 
     /// A dial over this runtime.
     pub fn new(rt: R) -> TcpDial<R>
-        ensures { fault_count result ≡ 0 }
+        ensures faultless { fault_count result ≡ 0 }
+        ensures uncalled { call_count result ≡ 0 }
     {
-        TcpDial { rt, faults: 0 }
+        TcpDial {
+            rt,
+            faults: 0,
+            calls: 0,
+        }
     }
 }
 
@@ -40,6 +46,7 @@ where
     ghost shows = { tcp_dial_of };
 
     fn call(&mut self, host: &str, port: u16) -> Dialled<RealLink<R>> {
+        raise(&mut self.calls);
         match connect(&self.rt, host, port) {
             Ok(link) => Dialled::Link(link),
             Err(_) => {

@@ -134,7 +134,7 @@ runs_more old new link live r stage = record {
   role = r.role;
   config = r.config;
   moves = moves_used (unread_of old) (unread_of new) link r.octet.used r.octet.inbox;
-  counts = (refl, refl);
+  counts = (refl, refl, refl);
   closed = ap code_in stage ∙ live;
   run = λ acts b w s.
       let all = after old.role old.config acts in
@@ -199,7 +199,7 @@ runs_opened old mid new c link none_whole none_handed r stage keeps opens rest =
   config = keeps.config ∙ r.config;
   moves = moves_used (unread_of old) (unread_of new) link r.octet.used
       (r.octet.inbox ∙ ap (λ (x : List ℕ). r.octet.used ++ x) (sym keeps.inbox));
-  counts = (refl, refl);
+  counts = (refl, refl, refl);
   closed = ap code_in (rest.stage ∙ stage);
   run = λ acts b w s.
       let all = after old.role old.config acts in
@@ -368,7 +368,7 @@ runs_ended old mid new found code link none_whole none_handed r closes ends =
       config = keeps.config ∙ r.config;
       moves = moves_used (unread_of old) (unread_of new) link r.octet.used
           (r.octet.inbox ∙ ap (λ (x : List ℕ). r.octet.used ++ x) (sym keeps.inbox));
-      counts = (inl refl, refl);
+      counts = ((inl refl, inl refl), refl);
       closed = ap code_in closes.stage;
       run = λ acts b w s.
           let all = after old.role old.config acts in

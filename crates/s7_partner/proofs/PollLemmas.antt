@@ -227,7 +227,7 @@ polls_kept p link memory live whole = record {
   role = refl;
   config = refl;
   moves = moves_used (unread_of p) (unread_of p) link [] refl;
-  counts = (refl, refl);
+  counts = (refl, refl, refl);
   closed = live;
   polled = λ acts b w s.
       let all = after p.role p.config acts in
@@ -280,7 +280,7 @@ polls_received old new a body link live whole copied keeps none handed stage seq
       role = keeps.role;
       config = keeps.config;
       moves = moves_used (unread_of old) (unread_of new) link [] (sym keeps.inbox);
-      counts = (refl, refl);
+      counts = (refl, refl, refl);
       closed = ap code_in stage ∙ live;
       polled = λ acts b w s.
           let all = after old.role old.config acts in
@@ -381,7 +381,7 @@ poll_closed p link code closed = record {
   role = refl;
   config = refl;
   moves = moves_used (unread_of p) (unread_of p) link [] refl;
-  counts = (inl refl, refl);
+  counts = ((inl refl, inl refl), refl);
   closed = closed;
   stays = λ n e. (ap (λ (m : ℕ). Ok (told.Closed m)) (some_same code n (sym closed ∙ e)), refl, refl);
   polled = λ h acts b w s. absurd (let x : None ≡ Some code = sym h ∙ closed in cc);

@@ -108,6 +108,12 @@ pub record Flushed (link link' : Shown) (more : List ℕ) : Type 0 where
   pub faults : link.faults ≤ link'.faults
   pub waits : link.waits ≤ link'.waits
 
+-- a flush meets no end
+pub same_end : (link link' : Shown)
+    → link' ≡ record link { written = link'.written; faults = link'.faults; waits = link'.waits; space = link'.space }
+    → link'.has_ended ≡ link.has_ended
+same_end link link' same = ap (λ (x : Shown). x.has_ended) same
+
 out_behind : (all written old more new : List ℕ) → all ≡ written ++ old → old ≡ more ++ new
     → all ≡ (written ++ more) ++ new
 out_behind all written old more new e f =
@@ -184,7 +190,7 @@ runs_unsent old mid new link link' live keeps same closes none_whole some f once
   config = closes.keeps.config ∙ keeps.config;
   moves = moves_sent (unread_of old) (unread_of new) link link' [] (sym (closes.keeps.inbox ∙ keeps.inbox)) f.wrote
       f.space f.same f.faults f.waits;
-  counts = (inr (once, inl refl), unwaited);
+  counts = ((inr (once, inl refl), inl (same_end link link' f.same)), unwaited);
   closed = ap code_in closes.stage;
   run = λ acts b w s.
       let all = after old.role old.config acts in
@@ -344,7 +350,7 @@ acknowledges_none p link live = record {
     role = refl;
     config = refl;
     moves = moves_used (unread_of p) (unread_of p) link [] refl;
-    counts = (refl, refl);
+    counts = (refl, refl, refl);
     closed = live;
     run = λ acts b w s.
         run_at p.role p.config (unread_of p) p link link acts b w [] [] [] step.Went [] acts b w
@@ -428,7 +434,7 @@ acknowledges_last old new a size link live held none sized puts keeps stage sequ
         role = keeps.role;
         config = keeps.config;
         moves = moves_used (unread_of old) (unread_of new) link [] (sym keeps.inbox);
-        counts = (refl, refl);
+        counts = (refl, refl, refl);
         closed = ap code_in stage ∙ live;
         run = λ acts b w s.
             let all = after old.role old.config acts in

@@ -4,7 +4,7 @@ use Rattle.std.specs.Prelude.{Ok, Err}
 use Rattle.s7_outer.specs.Shown.{Shown}
 use Rattle.s7_outer.specs.declared.memory.Memory.{Memory}
 use Rattle.s7_dialogue.specs.declared.config.Config.{Config}
-use Rattle.s7_client.specs.Counts.{MetNothing, MetNotYetOnce, FailedAsTold}
+use Rattle.s7_client.specs.Counts.{MetNothing, MetNotYetOnce, MetAsTold}
 use Rattle.s7_client.specs.Standing.{Moves}
 use Rattle.s7_partner.specs.declared.role.Role.{Role}
 use Rattle.s7_partner.specs.declared.event.PartnerEvent.{PartnerEvent}
@@ -85,14 +85,14 @@ closed_by (Ok told.Idle) = None
 closed_by (Ok (told.Closed code)) = Some code
 closed_by (Err memory) = None
 
--- What the counts of a link tell of a poll: it went on until the link failed, or had nothing to give, or no room, and
--- called no more on it then.
+-- What the link tells of a poll: it went on until the link failed, or had nothing to give, or no room, or its stream had
+-- ended, and called no more on it then.
 abbrev pub CountsEvent : Result PartnerEvent Memory → Shown → Shown → Type 0
 CountsEvent (Ok told.Sent) link link' = MetNothing link link'
 CountsEvent (Ok (told.Received rid body)) link link' = MetNothing link link'
 CountsEvent (Ok told.Pending) link link' = MetNotYetOnce link link'
 CountsEvent (Ok told.Idle) link link' = MetNotYetOnce link link'
-CountsEvent (Ok (told.Closed code)) link link' = FailedAsTold code link link' × (link'.waits ≡ link.waits)
+CountsEvent (Ok (told.Closed code)) link link' = MetAsTold code link link' × (link'.waits ≡ link.waits)
 CountsEvent (Err memory) link link' = MetNothing link link'
 
 -- A POLL over a link

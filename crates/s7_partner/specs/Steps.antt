@@ -3,7 +3,7 @@ use Rattle.std.specs.Prelude.{◌≡◌, ℕ, ◌+◌, ◌*◌, ◌<◌, List, [
 use Rattle.s7_outer.specs.Shown.{Shown}
 use Rattle.s7_outer.specs.declared.memory.Memory.{Memory}
 use Rattle.s7_dialogue.specs.declared.config.Config.{Config}
-use Rattle.s7_client.specs.Counts.{MetNothing, MetNotYetOnce, FailedAsTold}
+use Rattle.s7_client.specs.Counts.{MetNothing, MetNotYetOnce, MetAsTold}
 use Rattle.s7_client.specs.Standing.{Moves}
 use Rattle.s7_partner.specs.declared.role.Role.{Role}
 use Rattle.s7_partner.specs.declared.partner.Partner.{Partner}
@@ -55,7 +55,7 @@ abbrev pub CountsStep : Step → Shown → Shown → Type 0
 CountsStep step.Went link link' = MetNothing link link'
 CountsStep step.NotYet link link' = MetNotYetOnce link link'
 CountsStep step.Sent link link' = MetNothing link link'
-CountsStep (step.Closed code) link link' = FailedAsTold code link link' × (link'.waits ≡ link.waits)
+CountsStep (step.Closed code) link link' = MetAsTold code link link' × (link'.waits ≡ link.waits)
 
 -- A STEP over a link, or several
 pub record Runs (old : Partner) (link : Shown) (new : Partner) (link' : Shown) (result : Step) : Type 0 where

@@ -1,7 +1,7 @@
 // The whole of what the program does, over files, a dial and an output that are handed in.
 ghost use Rattle.std.specs.Prelude.{◌≡◌, ◌≢◌, ◌⊎◌, IsNone, IsSome, None, is_some, option_map};
 ghost use Rattle.s7_client.specs.Completions.{told_of_results};
-ghost use Rattle.s7_outer.specs.Count.{Rose};
+ghost use Rattle.s7_outer.specs.Count.{Rose, RoseExactly};
 ghost use Rattle.s7_outer.specs.Dial.{NoHostFell};
 ghost use Rattle.s7_tool.specs.Asked.{command_of};
 ghost use Rattle.s7_tool.specs.End.{CarriesOut, DialFails, FileFails, IsUnrun, LacksMemory, LeavesOnly};
@@ -68,7 +68,7 @@ pub const MEMORY: u8 = 9;
 /// can't be read decides. For 1 to 4 and 9 one line is printed, with 9 after what was printed before, and its failure
 /// changes nothing.
 ///
-/// No path changes. A run is there exactly where a link was dialled. With status 0 or 6 it has the
+/// No path changes. A run is there exactly where a link was dialled, by one call. With status 0 or 6 it has the
 /// result of each job, and with 5 or 9 those of the jobs that were done. Where none is there the dial is
 /// as it was, but for status 4. A rig is there exactly for `rig` and `gen` with status 0, 5 or 6; these
 /// dial nothing, `gen` reads no file, and a run of `partner` has no results.
@@ -116,11 +116,13 @@ pub fn tool_main<F: Files, L: Link + Drop, K: Dial<L>, O: Out, C: Completion>(
     // What else was printed.
     ensures usage_line { result.status ≡ status.usage → Printed (O.shows out.old) (O.shows out.new) usage_line }
 
-    // No path changes, no count falls, and nothing is dialled but for a run.
+    // No path changes, no count falls, and nothing is dialled but for a run, and that once.
     ensures paths { KeepsPaths (F.shows files.old) (F.shows files.new) }
     ensures unread { ReadsNone (command_of words.now) → F.shows files.new ≡ F.shows files.old }
     ensures dial_faults { NoHostFell (K.shows dial.old).faults (K.shows dial.new).faults }
     ensures undialled { IsNone result.run → result.status ≢ status.dial → dial.new ≡ dial.old }
+    ensures dialled_once { IsSome result.run ⊎ (result.status ≡ status.dial)
+        → RoseExactly 1 (K.shows dial.old).calls (K.shows dial.new).calls }
     ensures undropped { result.status ≡ status.dial → (K.shows dial.new).next ≡ (K.shows dial.old).next }
 
     // The completion comes back, told of the results that are left. A rig that memory was wanting for leaves none, and

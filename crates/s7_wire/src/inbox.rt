@@ -79,6 +79,7 @@ impl Inbox {
         ensures end { result ≡ Got.End
             → (self.new ≡ []) × IsAtEnd (L.shows line.new).left × IsTrue (L.shows line.new).has_ended }
         ensures ended { IsTrue (L.shows line.old).has_ended → (self.new ≡ []) × IsTrue (L.shows line.new).has_ended }
+        ensures stays_open { result ≢ Got.End → (L.shows line.new).has_ended ≡ (L.shows line.old).has_ended }
         ensures failed { result ≡ Got.Failed
             → (self.new ≡ []) × Rose (L.shows line.old).faults (L.shows line.new).faults }
         ensures not_yet { result ≡ Got.NotYet

@@ -235,16 +235,18 @@ impl Running {
     }
 
     /// What came of the job, which is over with this number, and with the message that is no answer, if one came.
+    /// It keeps no room that was taken for octets which didn't come.
     pub fn into_result(self, code: u32, carried: Octets) -> JobResult
         ensures { (end : End) → awaited_in self [] ≡ for_nothing end [] → code ≡ end.code
             → IsResult result self.job end carried }
     {
         let Running {
             job,
-            found,
+            mut found,
             codes,
             ..
         } = self;
+        found.shrink_to_fit();
         JobResult {
             job,
             code,

@@ -1,5 +1,6 @@
 // The command of partners.
-ghost use Rattle.std.specs.Prelude.{◌≡◌, ◌≢◌, [], All, IfOk, None};
+ghost use Rattle.std.specs.Prelude.{◌≡◌, ◌≢◌, ◌⊎◌, [], All, IfOk, IsSome, None};
+ghost use Rattle.s7_outer.specs.Count.{RoseExactly};
 ghost use Rattle.s7_outer.specs.Dial.{NoHostFell};
 ghost use Rattle.s7_script.specs.Sends.{IsSized};
 ghost use Rattle.s7_pair.specs.Talking.{post_of};
@@ -41,6 +42,8 @@ pub(crate) fn run_partner<F: Files, L: Link + Drop, K: Dial<L>, O: Out>(
     ensures paths { KeepsPaths (F.shows files.old) (F.shows files.new) }
     ensures dial_faults { NoHostFell (K.shows dial.old).faults (K.shows dial.new).faults }
     ensures undialled { result.1 ≡ None → result.0 ≢ Ended.Dial → dial.new ≡ dial.old }
+    ensures dialled_once { IsSome result.1 ⊎ (result.0 ≡ Ended.Dial)
+        → RoseExactly 1 (K.shows dial.old).calls (K.shows dial.new).calls }
     ensures undropped { result.0 ≡ Ended.Dial → (K.shows dial.new).next ≡ (K.shows dial.old).next }
     ensures unheard { results_in result.1 ≡ [] }
 {
@@ -105,6 +108,8 @@ fn run_alone<L: Link + Drop, K: Dial<L>, O: Out>(
         (O.shows out.old) (O.shows out.new) result.1 result.0 }
     ensures dial_faults { NoHostFell (K.shows dial.old).faults (K.shows dial.new).faults }
     ensures undialled { result.1 ≡ None → result.0 ≢ Ended.Dial → dial.new ≡ dial.old }
+    ensures dialled_once { IsSome result.1 ⊎ (result.0 ≡ Ended.Dial)
+        → RoseExactly 1 (K.shows dial.old).calls (K.shows dial.new).calls }
     ensures undropped { result.0 ≡ Ended.Dial → (K.shows dial.new).next ≡ (K.shows dial.old).next }
     ensures unheard { results_in result.1 ≡ [] }
 {

@@ -1,7 +1,9 @@
 // The command that runs a script.
-ghost use Rattle.std.specs.Prelude.{◌≡◌, ◌≢◌, ◌≤◌, ◌+◌, [], IfOk, None, is_some, option_map, vec_len, if◌then◌else◌};
+ghost use Rattle.std.specs.Prelude.{◌≡◌, ◌≢◌, ◌⊎◌, ◌≤◌, ◌+◌, [], IfOk, IsSome, None, is_some, option_map, vec_len};
+ghost use Rattle.std.specs.Prelude.{if◌then◌else◌};
 ghost use Rattle.std.specs.Vec.{vec_capacity};
 ghost use Rattle.std.specs.List.{list_all};
+ghost use Rattle.s7_outer.specs.Count.{RoseExactly};
 ghost use Rattle.s7_outer.specs.Dial.{NoHostFell};
 ghost use Rattle.s7_client.specs.Completions.{completion_of, connection_of, told_of_results};
 ghost use Rattle.s7_client.specs.Polling.{config_of, job_of};
@@ -40,6 +42,8 @@ pub(crate) fn run_script<F: Files, L: Link + Drop, K: Dial<L>, O: Out, C: Comple
     ensures paths { KeepsPaths (F.shows files.old) (F.shows files.new) }
     ensures dial_faults { NoHostFell (K.shows dial.old).faults (K.shows dial.new).faults }
     ensures undialled { result.1 ≡ None → result.0 ≢ Ended.Dial → dial.new ≡ dial.old }
+    ensures dialled_once { IsSome result.1 ⊎ (result.0 ≡ Ended.Dial)
+        → RoseExactly 1 (K.shows dial.old).calls (K.shows dial.new).calls }
     ensures undropped { result.0 ≡ Ended.Dial → (K.shows dial.new).next ≡ (K.shows dial.old).next }
     ensures told { option_map C.told done.new
         ≡ option_map (λ t. told_of_results t (results_in result.1)) (option_map C.told done.old) }

@@ -61,8 +61,10 @@ returns-in-Failed-clause-counts g c = (
   c.in-Failed.ensures.waited_no_other (λ e. cc),
   ends_as_told c.fail.new.self (g.L.Link.shows c.args.link.now) (g.L.Link.shows c.refill.new.line)
       (fault_end receive_failed)
-      (c.fail.ensures.fails [])
-      (inr (((c.in-Failed.ensures.failed refl).1, c.refill.ensures.faults_once), inr refl)),
+      (c.fail.ensures.fails []) (
+        inr (((c.in-Failed.ensures.failed refl).1, c.refill.ensures.faults_once), inr refl),
+        inl (c.in-Failed.ensures.stays_open (λ e. cc)),
+      ),
 )
 
 pub returns-in-End-clause-counts : goal.returns-in-End-clause-counts
@@ -70,5 +72,5 @@ returns-in-End-clause-counts g c = (
   c.in-End.ensures.waited_no_other (λ e. cc),
   ends_as_told c.fail-in-End.new.self (g.L.Link.shows c.args.link.now) (g.L.Link.shows c.refill.new.line)
       (fault_end link_ended)
-      (c.fail-in-End.ensures.fails []) (inl (c.in-End.ensures.failed_no_other (λ e. cc))),
+      (c.fail-in-End.ensures.fails []) (inl (c.in-End.ensures.failed_no_other (λ e. cc)), inr refl),
 )

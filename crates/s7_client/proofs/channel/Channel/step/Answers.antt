@@ -1,4 +1,5 @@
-use Rattle.std.proofs.Common.{[], refl, inl, inr, sym, subst, take}
+use Rattle.std.proofs.Common.{[], refl, inl, inr, ap, sym, subst, take}
+use Rattle.s7_outer.specs.Shown.{Shown}
 use Rattle.s7_client.specs.declared.channel.Channel.{Channel}
 use Rattle.s7_client.specs.declared.under_way.UnderWay.{UnderWay}
 use Rattle.s7_dialogue.specs.Codes.{send_failed}
@@ -140,5 +141,8 @@ returns-in-Failed-clause-counts g c = (
   c.in-Failed.ensures.waited_no_other (λ e. cc),
   ends_as_told c.fail.new.self (g.L.Link.shows c.args.link.now) (g.L.Link.shows c.flush.new.line)
       (fault_end send_failed)
-      (c.fail.ensures.fails []) (inr ((c.in-Failed.ensures.failed refl, c.flush.ensures.faults_once), inl refl)),
+      (c.fail.ensures.fails []) (
+        inr ((c.in-Failed.ensures.failed refl, c.flush.ensures.faults_once), inl refl),
+        inl (ap (λ (x : Shown). x.has_ended) c.flush.ensures.same),
+      ),
 )

@@ -3,7 +3,7 @@ use Rattle.s7_dialogue.specs.Codes.{link_ended, receive_failed}
 use Rattle.s7_partner.specs.Steps.{Runs}
 use Rattle.s7_partner.specs.Partners.{by_end, by_receive}
 use Rattle.s7_partner.proofs.ListLemmas.{some_of, empty_of}
-use Rattle.s7_partner.proofs.StepLemmas.{runs_sent, runs_full, runs_unsent, runs_received, runs_empty, runs_broken}
+use Rattle.s7_partner.proofs.StepLemmas.{same_end, runs_sent, runs_full, runs_unsent, runs_received, runs_empty, runs_broken}
 use Rattle.s7_partner.proofs.RunLemmas.{runs_both}
 use Rattle.s7_partner.proofs.partner.Partner.step.Goals as goal
 
@@ -30,8 +30,11 @@ returns-in-Bytes-clause-runs g c =
       same = c.flush.ensures.same;
       faults = c.flush.ensures.faults;
       waits = c.flush.ensures.waits;
-    })
-    (c.in-Bytes.ensures.failed_no_other (λ e. cc), c.in-Bytes.ensures.waited_no_other (λ e. cc))
+    }) (
+      c.in-Bytes.ensures.failed_no_other (λ e. cc),
+      c.in-Bytes.ensures.waited_no_other (λ e. cc),
+      same_end k k' c.flush.ensures.same,
+    )
 
 pub returns-in-NotYet-clause-runs : goal.returns-in-NotYet-clause-runs
 returns-in-NotYet-clause-runs g c =
@@ -58,8 +61,11 @@ returns-in-NotYet-clause-runs g c =
       faults = c.flush.ensures.faults;
       waits = c.flush.ensures.waits;
     })
-    c.in-NotYet.ensures.no_space refl
-    (c.in-NotYet.ensures.failed_no_other (λ e. cc), (c.in-NotYet.ensures.not_yet refl, c.flush.ensures.waits_once))
+    c.in-NotYet.ensures.no_space refl (
+      c.in-NotYet.ensures.failed_no_other (λ e. cc),
+      (c.in-NotYet.ensures.not_yet refl, c.flush.ensures.waits_once),
+      same_end k k' c.flush.ensures.same,
+    )
 
 pub returns-in-Failed-clause-runs : goal.returns-in-Failed-clause-runs
 returns-in-Failed-clause-runs g c =
@@ -111,8 +117,11 @@ returns-in-Bytes-refill-clause-runs g c =
       same = c.refill.ensures.same;
       faults = c.refill.ensures.faults;
       waits = c.refill.ensures.waits;
-    })
-    (c.in-Bytes-refill.ensures.failed_no_other (λ e. cc), c.in-Bytes-refill.ensures.waited_no_other (λ e. cc)))
+    }) (
+      c.in-Bytes-refill.ensures.failed_no_other (λ e. cc),
+      c.in-Bytes-refill.ensures.waited_no_other (λ e. cc),
+      c.in-Bytes-refill.ensures.stays_open (λ e. cc),
+    ))
     (c.consume-in-Bytes-refill.ensures.runs k')
 
 pub returns-in-NotYet-refill-clause-runs : goal.returns-in-NotYet-refill-clause-runs
@@ -146,8 +155,11 @@ returns-in-NotYet-refill-clause-runs g c =
       faults = c.refill.ensures.faults;
       waits = c.refill.ensures.waits;
     })
-    (λ h. (c.in-NotYet-refill.ensures.nothing_left h).0 refl)
-    (c.in-NotYet-refill.ensures.failed_no_other (λ e. cc), (met.1, c.refill.ensures.waits_once))
+    (λ h. (c.in-NotYet-refill.ensures.nothing_left h).0 refl) (
+      c.in-NotYet-refill.ensures.failed_no_other (λ e. cc),
+      (met.1, c.refill.ensures.waits_once),
+      c.in-NotYet-refill.ensures.stays_open (λ e. cc),
+    )
 
 pub returns-in-Failed-refill-clause-runs : goal.returns-in-Failed-refill-clause-runs
 returns-in-Failed-refill-clause-runs g c =
@@ -181,7 +193,10 @@ returns-in-Failed-refill-clause-runs g c =
       faults = c.refill.ensures.faults;
       waits = c.refill.ensures.waits;
     }) (
-      inr ((met.1, c.refill.ensures.faults_once), inr refl),
+      (
+        inr ((met.1, c.refill.ensures.faults_once), inr refl),
+        inl (c.in-Failed-refill.ensures.stays_open (λ e. cc)),
+      ),
       c.in-Failed-refill.ensures.waited_no_other (λ e. cc),
     )
     (λ s b w rest. by_receive met.1 rest refl))
@@ -218,5 +233,5 @@ returns-in-End-clause-runs g c =
       faults = c.refill.ensures.faults;
       waits = c.refill.ensures.waits;
     })
-    (inl (c.in-End.ensures.failed_no_other (λ e. cc)), c.in-End.ensures.waited_no_other (λ e. cc))
+    ((inl (c.in-End.ensures.failed_no_other (λ e. cc)), inr refl), c.in-End.ensures.waited_no_other (λ e. cc))
     (λ s b w rest. by_end met.1 met.2 rest refl))
