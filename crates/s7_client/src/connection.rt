@@ -13,7 +13,7 @@ use crate::channel::Channel;
 use crate::job::{Polled, StartCause, StartFault};
 use crate::under_way::{UnderWay, closed_after, grant_after};
 use s7_dialogue::{Config, Grant, Job, JobResult, Leaves, Running};
-use s7_outer::{Buffer, Link, Memory};
+use s7_outer::{Buffer, Link, Memory, Octets};
 use s7_wire::{MESSAGE_LIMIT, Outbox};
 use std::alloc::Global;
 
@@ -239,7 +239,10 @@ fn done(job: UnderWay, code: u32) -> JobResult
         mut carried,
         ..
     } = job;
-    running.into_result(code, carried.take())
+    let mut carried = carried.take().into_vec();
+    // a result keeps no room for octets that weren't carried
+    carried.shrink_to_fit();
+    running.into_result(code, Octets::of_vec(carried))
 }
 
 // Nothing is left to send on a link that doesn't go on.

@@ -5,7 +5,8 @@ ghost use Rattle.s7_client.specs.Completions.{op_of, told_of_result};
 use crate::completion::Completion;
 use s7_dialogue::{Job, JobResult};
 
-/// The number of a job: 1 of `Connect`, then in the order of `Job`, and 25 of `Disconnect`.
+/// The number of a job: from 1 of `Connect` to 25 of `Disconnect` in the order of `Job`, but that
+/// `DbGet` and `DbFill` come behind `PasswordClear`, as 23 and 24.
 pub fn op_of(job: &Job) -> u8
     ensures { result ≡ op_of job.now }
 {

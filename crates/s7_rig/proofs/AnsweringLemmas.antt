@@ -15,8 +15,9 @@ use Rattle.s7_session.specs.LinkState.{LinkState}
 use Rattle.s7_session.specs.Owed.{past}
 use Rattle.s7_session.specs.Verdict.{Verdict}
 use Rattle.s7_rig.specs.Settled.{Settled}
-use Rattle.s7_rig.specs.Exchanges.{IsAskable, IsReadyFor, IsAwaited, Replies}
+use Rattle.s7_rig.specs.Exchanges.{IsReadyFor, IsAwaited, Replies}
 use Rattle.s7_rig.specs.Questions.{IsNegotiated}
+use Rattle.s7_rig.proofs.Askable.{IsAskable}
 use Rattle.s7_rig.proofs.JudgedLemmas.{is_granted}
 use Rattle.s7_rig.proofs.QuestionLemmas.{served_negotiation}
 use Rattle.s7_rig.proofs.AnsweredLemmas.{negotiation_is_heard}

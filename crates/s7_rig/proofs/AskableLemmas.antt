@@ -34,8 +34,7 @@ use Rattle.s7_client.proofs.DataFitLemmas.{data_fit}
 use Rattle.s7_dialogue.proofs.GroupLemmas.{groups_right}
 use Rattle.s7_client.proofs.FitLemmas.{one_of_all, good_sent}
 use Rattle.s7_dialogue.proofs.FlightLemmas.{same_some}
-use Rattle.s7_rig.specs.Exchanges.{AreSome, CanGoWith, IsAskable}
-use Rattle.s7_rig.specs.Written.{AreKnown}
+use Rattle.s7_rig.proofs.Askable.{AreSome, CanGoWith, IsAskable, AreKnown}
 use Rattle.s7_rig.proofs.PlacedLemmas.{parts_known}
 use Rattle.s7_rig.proofs.UserClockLemmas.{clock_read, length-clock}
 use Rattle.s7_rig.proofs.UserPasswordLemmas.{length-password}

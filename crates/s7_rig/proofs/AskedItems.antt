@@ -13,7 +13,7 @@ use Rattle.s7_dialogue.specs.Dialogue.{read_questions, write_questions, alone}
 use Rattle.s7_dialogue.proofs.CheckLemmas.{item_checked, items_checked, can_split}
 use Rattle.s7_dialogue.proofs.GroupLemmas.{octet_count_append}
 use Rattle.s7_dialogue.proofs.GroupLemmas.{groups_right, parts_together}
-use Rattle.s7_rig.specs.Written.{AreKnown}
+use Rattle.s7_rig.proofs.Askable.{AreKnown}
 
 -- this holds of each item that is read or written, and a write has as many octets as its items
 abbrev pub AsksFor : (Item → Type 0) → Question → Type 0

@@ -28,7 +28,8 @@ use Rattle.s7_session.specs.LinkState.{LinkState}
 use Rattle.s7_session.specs.Judgement.{judge, asks_plainly, reply_octets}
 use Rattle.s7_session.proofs.SpelledLemmas.{writes_are_asked}
 use Rattle.s7_rig.specs.Heard.{told_of}
-use Rattle.s7_rig.specs.Written.{AreKnown, own_data, own_places, own_write, own_codes}
+use Rattle.s7_rig.specs.Written.{own_data, own_places, own_write, own_codes}
+use Rattle.s7_rig.proofs.Askable.{AreKnown}
 use Rattle.s7_rig.proofs.AnsweredLemmas.{write_is_heard}
 use Rattle.s7_rig.proofs.ShapeLemmas.{SameShape, read_code_same, write_code_same, write_code_placed}
 

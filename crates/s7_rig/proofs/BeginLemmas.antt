@@ -6,7 +6,7 @@ use Rattle.s7_dialogue.specs.Dialogue.{First, nothing, plan_of}
 use Rattle.s7_dialogue.specs.Course.{Origin, begins_anew, size_at, sequence_at, conduct_of, blank, by_first}
 use Rattle.s7_dialogue.specs.Course.{begun, course, limits}
 use Rattle.s7_client.proofs.CourseLemmas.{course_nothing}
-use Rattle.s7_rig.specs.Awaiting.{Awaiting}
+use Rattle.s7_rig.proofs.Awaiting.{Awaiting}
 use Rattle.s7_rig.proofs.TelegramLemmas.{AsksAll, asks_all}
 
 pub clear_at_first : (origin : Origin) → rest_of (limits origin) [] ≡ []

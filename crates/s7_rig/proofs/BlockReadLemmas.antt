@@ -29,9 +29,10 @@ use Rattle.s7_dialogue.proofs.EndLemmas.{first_none}
 use Rattle.s7_client.proofs.FitLemmas.{one_of_all}
 use Rattle.s7_client.proofs.FormLemmas.{first_positive, part_positive}
 use Rattle.s7_rig.specs.Heard.{told_of}
-use Rattle.s7_rig.specs.Awaiting.{AreAsked, AreInTurn}
 use Rattle.s7_rig.specs.Dialogues.{AreReplies, ReadsParts, ReadsBlock}
-use Rattle.s7_rig.specs.Exchanges.{HasTold, Exchange, entries_of, rows_of, AreTold, Converses}
+use Rattle.s7_rig.specs.Exchanges.{HasTold}
+use Rattle.s7_rig.proofs.Awaiting.{AreAsked, AreInTurn}
+use Rattle.s7_rig.proofs.Conversing.{Exchange, entries_of, rows_of, AreTold, Converses}
 use Rattle.s7_rig.proofs.HoldPieces.{brought_more, last_more}
 use Rattle.s7_rig.proofs.TelegramLemmas.{open_none}
 use Rattle.s7_rig.proofs.PartLemmas.{reading, ended_by, PartTold, group_refused, group_told, part_answered, parts_read}

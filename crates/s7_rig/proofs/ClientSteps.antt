@@ -35,6 +35,7 @@ use Rattle.s7_rig.specs.State.{Post}
 use Rattle.s7_rig.specs.Turns.{StartsNext, StartsNothing, with_polled, IsClientTurn}
 use Rattle.s7_rig.specs.Scripts.{IsNoConnect, NoneConnects, ConnectsFirst}
 use Rattle.s7_rig.specs.Split.{AllStand, state_at}
+use Rattle.s7_rig.proofs.Conversing.{entries_of, rows_of, verdicts_met, Converses, WentBy}
 use Rattle.s7_rig.proofs.Joint.{Octets, IsConnecting, IsWorking, IsFailing, IsLost, Mode, untouched, connecting, connected, working, lost, Joint}
 use Rattle.s7_session.specs.Verdict.{Verdict}
 use Rattle.s7_session.specs.Owed.{past, owed, entered}
@@ -50,7 +51,6 @@ use Rattle.s7_rig.proofs.ComeOffLemmas.{comes_off}
 use Rattle.s7_rig.proofs.RightLemmas.{own_allowed}
 use Rattle.s7_rig.proofs.ShapeLemmas.{AreAllowed}
 use Rattle.s7_rig.specs.Complete.{CanComeOff, AreWithRight, AllComeOff}
-use Rattle.s7_rig.specs.Exchanges.{entries_of, rows_of, verdicts_met, Converses, WentBy}
 use Rattle.s7_rig.proofs.UnrefusedLemmas.{AnyUndone, undone_behind}
 use Rattle.s7_session.specs.Telegrams.{AnyFull, clock_failures}
 use Rattle.s7_dialogue.specs.Answer.{Answer}

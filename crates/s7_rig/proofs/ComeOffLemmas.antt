@@ -41,11 +41,11 @@ use Rattle.s7_dialogue.specs.Dialogue.{controlling, uploading, octets_brought, b
 use Rattle.s7_dialogue.proofs.FlightLemmas.{same_some}
 use Rattle.s7_client.proofs.FitLemmas.{one_of_all}
 use Rattle.s7_rig.specs.Scripts.{IsNoConnect}
-use Rattle.s7_rig.specs.Awaiting.{AreAsked}
 use Rattle.s7_rig.specs.Complete.{IsThere, IsBlock, HasBlock, data_block, CanComeOff}
 use Rattle.s7_rig.specs.Exchanges.{IsSecurity}
 use Rattle.s7_rig.specs.Exchanges.{NamesNone}
-use Rattle.s7_rig.specs.Exchanges.{Exchange, rows_of, Converses}
+use Rattle.s7_rig.proofs.Awaiting.{AreAsked}
+use Rattle.s7_rig.proofs.Conversing.{Exchange, rows_of, Converses}
 use Rattle.s7_rig.proofs.HoldPieces.{behind_is}
 use Rattle.s7_rig.proofs.HoldData.{IsOfItems, reads_items, writes_items}
 use Rattle.s7_rig.proofs.HoldReplies.{IsGood, counts_good, lists_good, mode_good, clock_good, setting_good}

@@ -23,7 +23,7 @@ use Rattle.s7_dialogue.specs.Course.{begins_anew, sequence_at, size_where, cours
 use Rattle.s7_dialogue.proofs.FlightLemmas.{with_answer}
 use Rattle.s7_dialogue.proofs.PacketLemmas.{confirm_read}
 use Rattle.s7_rig.specs.Heard.{connected_end}
-use Rattle.s7_rig.specs.Awaiting.{telegrams_of, AreAsked, BeginsConnecting, negotiation_row, AsksNegotiation, EndsBy}
+use Rattle.s7_rig.proofs.Awaiting.{telegrams_of, AreAsked, BeginsConnecting, negotiation_row, AsksNegotiation, EndsBy}
 use Rattle.s7_rig.proofs.BeginLemmas.{clear_at_first, first_course}
 use Rattle.s7_rig.proofs.AnsweredLemmas.{length-grant, negotiation_is_heard}
 use Rattle.s7_rig.proofs.TelegramLemmas.{awaits_none, filled_behind, AsksAll, asks_all}

@@ -9,7 +9,8 @@ use Rattle.s7_session.specs.Judgement.{plainly}
 use Rattle.s7_session.specs.LinkState.{LinkState}
 use Rattle.s7_session.specs.Owed.{past}
 use Rattle.s7_session.specs.Verdict.{Verdict}
-use Rattle.s7_rig.specs.Exchanges.{CanCall, is_barred, request_of}
+use Rattle.s7_rig.specs.Exchanges.{is_barred, request_of}
+use Rattle.s7_rig.proofs.Askable.{CanCall}
 use Rattle.s7_rig.proofs.RepliedLemmas.{IsServed, is_sent, asking_replied, refused_replied}
 use Rattle.s7_rig.proofs.ReplyLemmas.{RepliesOnce}
 use Rattle.s7_rig.proofs.UserControlLemmas.{control_well}

@@ -24,9 +24,10 @@ use Rattle.s7_dialogue.specs.Refusals.{part_refusal, telegram_refusal}
 use Rattle.s7_dialogue.proofs.FlightLemmas.{same_some}
 use Rattle.s7_client.proofs.FitLemmas.{one_of_all}
 use Rattle.s7_session.specs.Judgement.{slice_room}
-use Rattle.s7_rig.specs.Awaiting.{AreInTurn}
 use Rattle.s7_rig.specs.Complete.{IsBlock, data_block}
-use Rattle.s7_rig.specs.Exchanges.{HasTold, Exchange, user_heard, rows_of, AreTold, Converses}
+use Rattle.s7_rig.specs.Exchanges.{HasTold, user_heard}
+use Rattle.s7_rig.proofs.Awaiting.{AreInTurn}
+use Rattle.s7_rig.proofs.Conversing.{Exchange, rows_of, AreTold, Converses}
 use Rattle.s7_rig.proofs.BlockFitLemmas.{data_told}
 use Rattle.s7_rig.proofs.BlockHeadLemmas.{IsForHead, HeadTold, head_refused, head_told, further_told, Wants}
 use Rattle.s7_rig.proofs.BlockHeadLemmas.{head_answered, asks_info, first_long, length_kept, length_told, no_refusal}

@@ -24,10 +24,10 @@ use Rattle.s7_session.specs.Verdict.{Verdict}
 use Rattle.s7_session.specs.Owed.{Past, past, owed, entered}
 use Rattle.s7_session.proofs.PastLemmas.{with_more, past_grows}
 use Rattle.s7_rig.specs.Settled.{Settled}
-use Rattle.s7_rig.specs.Awaiting.{telegrams_of, AreAsked, Awaiting}
 use Rattle.s7_rig.specs.Dialogues.{AreReplies}
-use Rattle.s7_rig.specs.Exchanges.{IsHeard, link_past, Replies, Exchange, entries_of, rows_of, verdicts_met, AreTold}
-use Rattle.s7_rig.specs.Exchanges.{Converses}
+use Rattle.s7_rig.specs.Exchanges.{IsHeard, link_past, Replies}
+use Rattle.s7_rig.proofs.Awaiting.{telegrams_of, AreAsked, Awaiting}
+use Rattle.s7_rig.proofs.Conversing.{Exchange, entries_of, rows_of, verdicts_met, AreTold, Converses}
 use Rattle.s7_rig.proofs.HeardLemmas.{AwaitsAnswers, heard_front}
 use Rattle.s7_rig.proofs.TelegramLemmas.{IsOut, AreOut, open_behind, awaits_more, asked_at}
 use Rattle.s7_rig.proofs.GrowthLemmas.{course_grows}

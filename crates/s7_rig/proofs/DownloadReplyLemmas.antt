@@ -24,11 +24,12 @@ use Rattle.s7_session.specs.Owed.{past, owed, entered}
 use Rattle.s7_session.specs.Transfers.{finished}
 use Rattle.s7_session.specs.Verdict.{Verdict, Entered, Full}
 use Rattle.s7_rig.specs.Dialogues.{AreReplies}
-use Rattle.s7_rig.specs.Asked.{IsAnswered, is_entered, is_full, is_failed}
-use Rattle.s7_rig.specs.Exchanges.{GoesOn, HasTold, HoldsGiven, HoldsPieces, HoldsWhole, IsAskable, IsAwaited, IsHeard}
+use Rattle.s7_rig.specs.Exchanges.{GoesOn, HasTold, HoldsGiven, HoldsPieces, HoldsWhole, IsAwaited, IsHeard}
 use Rattle.s7_rig.specs.Exchanges.{IsReadyFor, IsUnheard, Replies, control_heard, first_call, is_announced, is_called}
 use Rattle.s7_rig.specs.Exchanges.{link_past, is_given, is_inserted, is_refused, is_unstored}
 use Rattle.s7_rig.specs.Settled.{Settled, Serves}
+use Rattle.s7_rig.proofs.Asked.{IsAnswered, is_entered, is_full, is_failed}
+use Rattle.s7_rig.proofs.Askable.{IsAskable}
 use Rattle.s7_rig.proofs.AnsweredLemmas.{refusal_is_heard}
 use Rattle.s7_rig.proofs.DownloadHeardLemmas.{announcement_is_heard, first_call_is_heard, insertion_is_heard}
 use Rattle.s7_rig.proofs.DownloadHeardLemmas.{next_call_is_heard}

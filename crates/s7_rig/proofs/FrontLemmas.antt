@@ -18,7 +18,8 @@ use Rattle.s7_session.specs.LinkState.{LinkState}
 use Rattle.s7_session.specs.Owed.{Past}
 use Rattle.s7_session.specs.Telegrams.{entered_of}
 use Rattle.s7_session.specs.Verdict.{Verdict}
-use Rattle.s7_rig.specs.Settled.{Settled, Waits}
+use Rattle.s7_rig.specs.Settled.{Settled}
+use Rattle.s7_rig.proofs.Waiting.{Waits}
 use Rattle.s7_rig.proofs.PacketFronts.{front_more}
 use Rattle.s7_rig.proofs.PartedLemmas.{few_fragments, joined_by, Joins, message_whole, message_front}
 use Rattle.s7_rig.proofs.PastFacts.{past_alike, past_with}

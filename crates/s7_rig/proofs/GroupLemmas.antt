@@ -33,10 +33,11 @@ use Rattle.s7_dialogue.proofs.EndLemmas.{first_none}
 use Rattle.s7_client.proofs.FormLemmas.{first_positive, part_positive}
 use Rattle.s7_session.specs.Books.{History}
 use Rattle.s7_rig.specs.Heard.{told_of}
-use Rattle.s7_rig.specs.Awaiting.{AreAsked}
 use Rattle.s7_rig.specs.Dialogues.{AreReplies, ReadsGroups}
-use Rattle.s7_rig.specs.Exchanges.{HasTold, Exchange, entries_of, rows_of, AreTold, Converses}
+use Rattle.s7_rig.specs.Exchanges.{HasTold}
 use Rattle.s7_rig.specs.Split.{state_at, IsGroupReadAt, AreGroupsReadAt}
+use Rattle.s7_rig.proofs.Awaiting.{AreAsked}
+use Rattle.s7_rig.proofs.Conversing.{Exchange, entries_of, rows_of, AreTold, Converses}
 use Rattle.s7_rig.proofs.TelegramLemmas.{open_none}
 use Rattle.s7_rig.proofs.PartLemmas.{good_by, finished_by, ItemsTold, group_refused, group_told, items_answered}
 

@@ -20,7 +20,7 @@ use Rattle.s7_dialogue.specs.Course.{by_rows, with_message, size_where, read_bef
 use Rattle.s7_dialogue.specs.Course.{limits, limit_in}
 use Rattle.s7_dialogue.proofs.PacketLemmas.{fragment_read}
 use Rattle.s7_client.proofs.CourseLemmas.{course_held, course_on_more, course_ends}
-use Rattle.s7_rig.specs.Awaiting.{Awaiting}
+use Rattle.s7_rig.proofs.Awaiting.{Awaiting}
 use Rattle.s7_rig.proofs.TelegramLemmas.{AsksAll, asks_all}
 use Rattle.s7_rig.proofs.PacketFronts.{front_more}
 use Rattle.s7_rig.proofs.PartedLemmas.{few_fragments, joined_by, Joins, message_whole, message_front}

@@ -38,8 +38,9 @@ use Rattle.s7_dialogue.proofs.FlightLemmas.{same_some, nothing_left}
 use Rattle.s7_client.proofs.FitLemmas.{one_of_all}
 use Rattle.s7_session.specs.LinkState.{LinkState}
 use Rattle.s7_session.specs.Verdict.{Verdict}
-use Rattle.s7_rig.specs.Awaiting.{AreAsked, IsDue, AreInTurn}
-use Rattle.s7_rig.specs.Exchanges.{IsReadyFor, IsAwaited, IsUnheard, GoesOn, HasTold, Exchange, rows_of}
+use Rattle.s7_rig.specs.Exchanges.{IsReadyFor, IsAwaited, IsUnheard, GoesOn, HasTold}
+use Rattle.s7_rig.proofs.Awaiting.{AreAsked, IsDue, AreInTurn}
+use Rattle.s7_rig.proofs.Conversing.{Exchange, rows_of}
 use Rattle.s7_rig.proofs.DownloadJudgedLemmas.{checked}
 use Rattle.s7_rig.proofs.UploadAsksLemmas.{of_upload}
 use Rattle.s7_rig.proofs.DataAsksLemmas.{of_data}

@@ -7,7 +7,7 @@ use Rattle.s7_dialogue.specs.Dialogue.{Conduct, first_or, refusal_in, first_refu
 use Rattle.s7_dialogue.specs.Course.{Origin, conduct_of, course}
 use Rattle.s7_dialogue.proofs.FlightLemmas.{IsAnswered, all_answered, with_answer}
 use Rattle.s7_dialogue.proofs.RowLemmas.{RowsKept, course_rows}
-use Rattle.s7_rig.specs.Awaiting.{IsDue, AreInTurn}
+use Rattle.s7_rig.proofs.Awaiting.{IsDue, AreInTurn}
 
 not_none : (row : Row) → IsAnswered row → row.answer ≡ None → ⊥
 not_none row known none = let answered = known.1 in absurd (cc)

@@ -14,9 +14,9 @@ use Rattle.s7_session.specs.Telegrams.{AnyFull, clock_failures}
 use Rattle.s7_session.specs.Verdict.{Verdict}
 use Rattle.s7_rig.specs.Complete.{AreWithRight, CanComeOff}
 use Rattle.s7_rig.specs.Dialogues.{ReadsAs, IsJobOver}
-use Rattle.s7_rig.specs.Exchanges.{entries_of, Converses}
 use Rattle.s7_rig.specs.Scripts.{IsNoConnect}
 use Rattle.s7_rig.specs.Split.{ReadStands}
+use Rattle.s7_rig.proofs.Conversing.{entries_of, Converses}
 use Rattle.s7_rig.proofs.ComeOffLemmas.{comes_off}
 use Rattle.s7_rig.proofs.OverLemmas.{job_is_settled, job_went}
 use Rattle.s7_rig.proofs.PlaceLemmas.{read_stands}

@@ -14,8 +14,9 @@ use Rattle.s7_session.specs.Verdict.{Verdict}
 use Rattle.s7_session.specs.Owed.{Past, past, owed, entered}
 use Rattle.s7_session.proofs.PastLemmas.{with_more}
 use Rattle.s7_rig.specs.Settled.{Settled}
-use Rattle.s7_rig.specs.Awaiting.{telegrams_of, AreAsked, AreInTurn}
-use Rattle.s7_rig.specs.Exchanges.{HasTold, Exchange, entries_of, rows_of, verdicts_met}
+use Rattle.s7_rig.specs.Exchanges.{HasTold}
+use Rattle.s7_rig.proofs.Awaiting.{telegrams_of, AreAsked, AreInTurn}
+use Rattle.s7_rig.proofs.Conversing.{Exchange, entries_of, rows_of, verdicts_met}
 use Rattle.s7_rig.proofs.PartedLemmas.{some_sent}
 use Rattle.s7_rig.proofs.HeardLemmas.{HearsOn, heard_answer}
 use Rattle.s7_rig.proofs.TelegramLemmas.{IsOut, AreOut, open_behind, awaits_none, filled_behind, asked_both, asked_filled}

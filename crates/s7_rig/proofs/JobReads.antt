@@ -7,7 +7,7 @@ use Rattle.s7_dialogue.specs.declared.job.Job.TheVariants as job
 use Rattle.s7_dialogue.specs.Course.{Origin, conduct_of}
 use Rattle.s7_dialogue.specs.Dialogue.{End}
 use Rattle.s7_rig.specs.Dialogues.{AreReplies, ReadsAs}
-use Rattle.s7_rig.specs.Exchanges.{Exchange, entries_of, Converses}
+use Rattle.s7_rig.proofs.Conversing.{Exchange, entries_of, Converses}
 use Rattle.s7_rig.proofs.BlockReadLemmas.{block_read}
 use Rattle.s7_rig.proofs.GroupLemmas.{items_read}
 use Rattle.s7_rig.proofs.PartLemmas.{item_read}

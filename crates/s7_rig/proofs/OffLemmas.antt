@@ -9,7 +9,8 @@ use Rattle.s7_dialogue.specs.Answer.{Answer}
 use Rattle.s7_dialogue.specs.Flight.{answers_of}
 use Rattle.s7_dialogue.specs.Dialogue.{first_or, first_refusal}
 use Rattle.s7_session.specs.Verdict.{Verdict}
-use Rattle.s7_rig.specs.Exchanges.{HasTold, Exchange, entries_of, rows_of, verdicts_met, AreTold}
+use Rattle.s7_rig.specs.Exchanges.{HasTold}
+use Rattle.s7_rig.proofs.Conversing.{Exchange, entries_of, rows_of, verdicts_met, AreTold}
 use Rattle.s7_rig.proofs.UnrefusedLemmas.{AnyUndone, undone_within, undone_behind}
 use Rattle.s7_rig.proofs.ShapeLemmas.{AreAllowed}
 

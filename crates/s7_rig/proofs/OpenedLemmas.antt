@@ -20,7 +20,7 @@ use Rattle.s7_session.specs.Owed.{Past, past, with_made}
 use Rattle.s7_session.specs.Owed as owed
 use Rattle.s7_session.specs.Telegrams.{entered_of}
 use Rattle.s7_session.proofs.PastLemmas.{past_nothing, past_event}
-use Rattle.s7_rig.specs.Settled.{Waits, Opens}
+use Rattle.s7_rig.proofs.Waiting.{Waits, Opens}
 use Rattle.s7_rig.proofs.FrontLemmas.{still_read}
 use Rattle.s7_rig.proofs.PacketFronts.{front_more}
 use Rattle.s7_rig.proofs.PastFacts.{past_same}

@@ -24,9 +24,9 @@ use Rattle.s7_client.specs.Standing.{AwaitsOctets}
 use Rattle.s7_dialogue.specs.Course.{Origin, Course, Awaits, for_nothing, request_of, connect_octets, course}
 use Rattle.s7_client.proofs.FrontLemmas.{IsSplit, split_front}
 use Rattle.s7_rig.specs.Settled.{Settled, Serves}
-use Rattle.s7_rig.specs.Awaiting.{BeginsConnecting, AsksNegotiation, EndsBy}
 use Rattle.s7_rig.specs.Heard.{connected_end}
 use Rattle.s7_rig.specs.Dialogues.{IsConnectOver, IsConnectSettled}
+use Rattle.s7_rig.proofs.Awaiting.{BeginsConnecting, AsksNegotiation, EndsBy}
 use Rattle.s7_rig.proofs.FrontLemmas.{served_front}
 use Rattle.s7_rig.proofs.OpenedLemmas.{opened, opening_front}
 use Rattle.s7_rig.proofs.JudgedLemmas.{is_granted}

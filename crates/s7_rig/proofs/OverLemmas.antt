@@ -11,7 +11,7 @@ use Rattle.s7_session.specs.Verdict.{Verdict}
 use Rattle.s7_session.specs.Owed.{owed, entered}
 use Rattle.s7_rig.specs.Settled.{Settled}
 use Rattle.s7_rig.specs.Dialogues.{AreReplies, ReadsAs, IsJobOver, IsJobSettled}
-use Rattle.s7_rig.specs.Exchanges.{entries_of, verdicts_met, WentBy}
+use Rattle.s7_rig.proofs.Conversing.{entries_of, verdicts_met, WentBy}
 use Rattle.s7_rig.proofs.SettledLemmas.{over_is_done}
 use Rattle.s7_rig.proofs.JobReads.{job_read}
 

@@ -27,9 +27,10 @@ use Rattle.s7_dialogue.proofs.EndLemmas.{first_none}
 use Rattle.s7_client.proofs.FormLemmas.{first_positive, part_positive}
 use Rattle.s7_session.specs.Verdict.{Verdict}
 use Rattle.s7_rig.specs.Heard.{told_of}
-use Rattle.s7_rig.specs.Awaiting.{AreAsked}
 use Rattle.s7_rig.specs.Dialogues.{AreReplies, ReadsParts}
-use Rattle.s7_rig.specs.Exchanges.{HasTold, is_refused, is_read, is_written, is_controlled, is_brought, is_secured, is_unnamed, is_barred, is_started, is_no_upload, is_sliced, is_ended, is_announced, is_unstored, is_called, is_given, is_inserted, is_further, Exchange, entries_of, rows_of, AreTold, Converses}
+use Rattle.s7_rig.specs.Exchanges.{HasTold, is_refused, is_read, is_written, is_controlled, is_brought, is_secured, is_unnamed, is_barred, is_started, is_no_upload, is_sliced, is_ended, is_announced, is_unstored, is_called, is_given, is_inserted, is_further}
+use Rattle.s7_rig.proofs.Awaiting.{AreAsked}
+use Rattle.s7_rig.proofs.Conversing.{Exchange, entries_of, rows_of, AreTold, Converses}
 use Rattle.s7_rig.proofs.TelegramLemmas.{open_none}
 
 -- ---- a read that came off

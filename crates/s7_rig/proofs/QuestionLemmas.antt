@@ -12,7 +12,7 @@ use Rattle.s7_session.specs.Events.{lives, refusal_sent}
 use Rattle.s7_session.specs.LinkState.{LinkState}
 use Rattle.s7_session.specs.Owed.{past}
 use Rattle.s7_rig.specs.Settled.{Settled, Serves}
-use Rattle.s7_rig.specs.Asked.{IsAnswered}
+use Rattle.s7_rig.proofs.Asked.{IsAnswered}
 use Rattle.s7_rig.proofs.ServedLemmas.{ServesTo, KeepsGrant, served_own, served_refused, served_asking}
 use Rattle.s7_rig.proofs.JudgedLemmas.{question_is_s7, judged_negotiation}
 

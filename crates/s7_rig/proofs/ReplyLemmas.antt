@@ -23,12 +23,13 @@ use Rattle.s7_session.specs.LinkState.{LinkState}
 use Rattle.s7_session.specs.Owed.{Past, past, owed}
 use Rattle.s7_session.proofs.PastLemmas.{IsOver, standing_cases, past_over}
 use Rattle.s7_rig.specs.Settled.{Settled, Serves}
-use Rattle.s7_rig.specs.Asked.{IsAnswered, is_entered, is_full, is_failed}
 use Rattle.s7_rig.specs.Heard.{told_of}
-use Rattle.s7_rig.specs.Written.{AreKnown, own_data, own_places, own_write, own_codes}
+use Rattle.s7_rig.specs.Written.{own_data, own_places, own_write, own_codes}
 use Rattle.s7_rig.specs.Plants.{IsStateFor}
 use Rattle.s7_rig.specs.Exchanges.{IsUndone, GoesOn, HasTold, IsByLink, is_refused, is_read, is_written}
 use Rattle.s7_rig.specs.Dialogues.{AreReplies}
+use Rattle.s7_rig.proofs.Asked.{IsAnswered, is_entered, is_full, is_failed}
+use Rattle.s7_rig.proofs.Askable.{AreKnown}
 use Rattle.s7_rig.proofs.ServedLemmas.{ServesTo, served_message}
 use Rattle.s7_rig.proofs.JudgedLemmas.{question_sequence}
 use Rattle.s7_rig.proofs.AnsweredLemmas.{refusal_is_heard, read_is_heard, length-read, least-read, length-write_codes, length-write}

@@ -22,7 +22,7 @@ use Rattle.s7_session.specs.Owed.{Past, past, owed, telegrams}
 use Rattle.s7_session.specs.Stands.{unread, unsent}
 use Rattle.s7_session.specs.Telegrams.{verdicts_of, AnyFull, MemoryIsLast, AllAt, clock_failures, last_number}
 use Rattle.s7_session.proofs.BookLemmas.{replay-calls}
-use Rattle.s7_session.proofs.DoerLemmas.{full_end, full_stays}
+use Rattle.s7_session.proofs.DoerLemmas.{full_end, full_stays, are_caused}
 use Rattle.s7_session.proofs.PastLemmas.{past_nothing, memory_is_last}
 use Rattle.s7_session.proofs.SumLemmas.{all_different, all_served, counts_add_up}
 use Rattle.s7_rig.specs.State.{Post, State}
@@ -134,12 +134,14 @@ module _ (opening : Memory) (limit : ℕ) (config : Config) where
         coming = sym h.answered_are ∙ j.given;
         mets = o.mets;
         asked = asks;
+        judged = λ is. subst IsSound is (subst (λ vs. IsSound (past first o.used vs).standing) (sym j.met) j.sound);
         owed_is = ap (owed first o.used) j.met ∙ (j.stands.owed ∙ ap (λ x. x ++ unsent p.session) h.answered_are);
         legal = record {
           calls = sym j.legal;
           full = λ any. (full_end is_full_in lacks_in j.begun book o.mets j.trail any).1 ∙ j.limited;
           full_stays = full_stays is_full_in lacks_in j.begun book o.mets (λ b ask other full. full) j.trail;
           memory = subst (λ ms. MemoryIsLast (verdicts_of ms)) asks (memory_is_last first o.used (verdicts_of o.mets));
+          causes = are_caused is_full_in lacks_in j.begun book o.mets (λ b a h. h) j.trail;
           moments = j.moments;
           count = j.count;
           last = j.last;

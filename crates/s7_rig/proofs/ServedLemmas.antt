@@ -17,7 +17,7 @@ use Rattle.s7_session.specs.Telegrams.{Met, met, entered_of}
 use Rattle.s7_session.proofs.ConsumeLemmas.{entered-append}
 use Rattle.s7_session.proofs.PastLemmas.{past_event}
 use Rattle.s7_rig.specs.Settled.{Settled, Serves}
-use Rattle.s7_rig.specs.Asked.{IsAnswered, is_entered, is_full, is_failed}
+use Rattle.s7_rig.proofs.Asked.{IsAnswered, is_entered, is_full, is_failed}
 use Rattle.s7_rig.proofs.FrontLemmas.{message_read}
 use Rattle.s7_rig.proofs.PastFacts.{made_message}
 

@@ -10,8 +10,8 @@ use Rattle.s7_dialogue.specs.Dialogue.{Conduct}
 use Rattle.s7_dialogue.specs.Course.{Course, for_answers, for_nothing, next_question, next_sequence, asking}
 use Rattle.s7_dialogue.specs.Question.{is_numbered}
 use Rattle.s7_dialogue.proofs.FlightLemmas.{IsOpen, IsAnswered, none_open, all_open, open_append, comes_next, AreNext, last_number, asks_on, nothing_more, row_messages, with_answer, filled_first}
-use Rattle.s7_rig.specs.Awaiting.{telegrams_of, AreAsked, awaits_with}
-use Rattle.s7_rig.specs.Exchanges.{Exchange, rows_of}
+use Rattle.s7_rig.proofs.Awaiting.{telegrams_of, AreAsked, awaits_with}
+use Rattle.s7_rig.proofs.Conversing.{Exchange, rows_of}
 
 -- ---- questions that are out
 

@@ -29,8 +29,8 @@ use Rattle.s7_rig.specs.Exchanges.{IsSecurity, IsUndone, HasTold, is_refused, is
 use Rattle.s7_rig.specs.Exchanges.{is_brought, is_secured, is_unnamed, is_further, NamesNone, request_of}
 use Rattle.s7_rig.specs.Exchanges.{is_barred, is_started, is_no_upload, is_sliced, is_ended, uploaded_of}
 use Rattle.s7_rig.specs.Exchanges.{is_announced, is_unstored, is_called, is_given, is_inserted}
-use Rattle.s7_rig.specs.Exchanges.{Exchange, entries_of, rows_of, AreTold, Converses}
 use Rattle.s7_rig.specs.Exchanges as exchange
+use Rattle.s7_rig.proofs.Conversing.{Exchange, entries_of, rows_of, AreTold, Converses}
 use Rattle.s7_rig.proofs.HoldData.{IsOfItems}
 use Rattle.s7_rig.proofs.HoldReplies.{IsGood, user_good}
 use Rattle.s7_rig.proofs.HoldReplies.{IsDoneAs, control_good, start_good}

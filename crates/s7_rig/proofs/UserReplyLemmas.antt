@@ -36,10 +36,11 @@ use Rattle.s7_session.specs.Passwords.{decoded, no_data, set_error, clear_error}
 use Rattle.s7_session.specs.Verdict.{Verdict}
 use Rattle.s7_rig.specs.Settled.{Settled}
 use Rattle.s7_rig.specs.Written.{own_write}
-use Rattle.s7_rig.specs.Exchanges.{IsAskable, AsksFor, IsSecurity, IsReadyFor, HoldsRest, GoesOn, security_heard}
+use Rattle.s7_rig.specs.Exchanges.{AsksFor, IsSecurity, IsReadyFor, HoldsRest, GoesOn, security_heard}
 use Rattle.s7_rig.specs.Exchanges.{IsSecuredBy}
 use Rattle.s7_rig.specs.Exchanges.{NamesNone, is_secured, is_unnamed, is_further, Replies, request_of, uploaded_of}
 use Rattle.s7_rig.specs.Plants.{IsStateFor}
+use Rattle.s7_rig.proofs.Askable.{IsAskable}
 use Rattle.s7_rig.proofs.ControlReplyLemmas.{control_replied}
 use Rattle.s7_rig.proofs.UploadReplyLemmas.{start_replied, slice_replied, end_replied}
 use Rattle.s7_rig.proofs.RepliedLemmas.{IsServed, is_sent, asking_replied, link_replied, refused_replied}

@@ -1,9 +1,7 @@
 -- The questions of a job on a connected client, and what a session answers to each.
 use Rattle.std.specs.Prelude.{◌≡◌, ◌⊎◌, ℕ, ◌+◌, ◌<◌, ◌≤◌, Bool, true, false, ◌==◌, ◌&&◌, nat_lt, if◌then◌else◌, List, []}
-use Rattle.std.specs.Prelude.{◌∷◌, ◌++◌, length, take, slice_index, map, IsSome, is_some, Option, None, Some}
-use Rattle.std.specs.List.{AllByRecursion, flat_map}
+use Rattle.std.specs.Prelude.{◌∷◌, ◌++◌, length, take, slice_index, map, is_some, Option, None, Some}
 use Rattle.s7_item.specs.declared.item.Item.{Item}
-use Rattle.s7_item.specs.Sizes.{answer_size}
 use Rattle.s7_plant.specs.Answers as plant
 use Rattle.s7_plant.specs.declared.request.Ask.{Ask}
 use Rattle.s7_plant.specs.declared.request.Request.{Request}
@@ -28,48 +26,25 @@ use Rattle.s7_dialogue.specs.declared.questions.subject.Subject.{Subject}
 use Rattle.s7_dialogue.specs.declared.questions.subject.Subject.TheVariants.{StatusList, RunState, Clock, ClockSetting, Password}
 use Rattle.s7_dialogue.specs.declared.questions.subject.Subject.TheVariants.{PasswordClearing, BlockCounts, BlocksOfKind, BlockHead}
 use Rattle.s7_dialogue.specs.declared.questions.subject.Subject.TheVariants.{DataHead}
-use Rattle.s7_dialogue.specs.UserData.{group_of, subfunction_of, comes_in_pieces, is_whole}
-use Rattle.s7_dialogue.specs.Question.{Question, negotiates, reads, writes, controls, asks, asks_further, messages_of}
+use Rattle.s7_dialogue.specs.UserData.{group_of, subfunction_of, is_whole}
+use Rattle.s7_dialogue.specs.Question.{Question, reads, writes, controls, asks, asks_further, messages_of}
 use Rattle.s7_dialogue.specs.Question.{starts_upload, slices_upload, ends_upload}
 use Rattle.s7_dialogue.specs.Question.{announces, awaits_call, gives, inserts}
 use Rattle.s7_dialogue.specs.Downloads.{name_in}
 use Rattle.s7_block.specs.Slices.{image_room}
-use Rattle.s7_dialogue.specs.Checks.{check_image}
-use Rattle.s7_dialogue.specs.Codes.{no_fault}
 use Rattle.s7_dialogue.specs.Answer.{Answer, refuses, tells, notes, stands, brings, uploads, slices, uploaded, announced}
 use Rattle.s7_dialogue.specs.Answer.{calls, answer_of}
-use Rattle.s7_dialogue.specs.Flight.{Row, answers_of}
-use Rattle.s7_dialogue.specs.Dialogue.{End, Conduct, list_octets, kind_octets, block_octets}
-use Rattle.s7_dialogue.specs.Course.{Origin, conduct_of, next_question}
 use Rattle.s7_session.specs.LinkState.{LinkState, Sliced, next_octet}
 use Rattle.s7_session.specs.Passwords.{decoded, set_error, clear_error}
 use Rattle.s7_session.specs.Transfers.{server_job_octets}
 use Rattle.s7_session.specs.Judgement.{slice_room}
-use Rattle.s7_session.specs.Owed.{past, entered}
+use Rattle.s7_session.specs.Owed.{past}
 use Rattle.s7_session.specs.Telegrams.{AnyFull, clock_failures}
 use Rattle.s7_session.specs.Verdict.{Verdict}
-use Rattle.s7_rig.specs.Awaiting.{AreAsked, AreInTurn}
 use Rattle.s7_rig.specs.Heard.{told_of}
 use Rattle.s7_rig.specs.Settled.{Serves}
 use Rattle.s7_rig.specs.Dialogues.{AreReplies}
-use Rattle.s7_rig.specs.Written.{AreKnown, own_write, own_codes}
-
--- from one to twenty items
-abbrev pub AreSome : List Item → Type 0
-AreSome items = (0 < length items) × (length items ≤ 20)
-
--- the octets that go with user data about something
-abbrev pub CanGoWith : Subject → List ℕ → Type 0
-CanGoWith StatusList octets = length octets ≡ 4
-CanGoWith RunState octets = octets ≡ list_octets 0x0424 0
-CanGoWith BlockCounts octets = octets ≡ []
-CanGoWith BlocksOfKind octets = (kind : ℕ) × (octets ≡ kind_octets kind)
-CanGoWith BlockHead octets = length octets ≡ 8
-CanGoWith DataHead octets = (number : ℕ) × (octets ≡ block_octets 0x41 number)
-CanGoWith Clock octets = octets ≡ []
-CanGoWith ClockSetting octets = (length octets ≡ 10) × IsSome (moment_in octets)
-CanGoWith Password octets = length octets ≡ 8
-CanGoWith PasswordClearing octets = octets ≡ []
+use Rattle.s7_rig.specs.Written.{own_write, own_codes}
 
 -- what a control asks of the plant: of blocks only those of a kind that is stored and with a number of two octets are
 -- deleted, and none is inserted by a question alone
@@ -82,30 +57,6 @@ request_of control.CopyRam = Some plain.CopyRam
 request_of (control.Insert kind number) = None
 request_of (control.Delete kind number) =
     if is_stored_kind kind && nat_lt number 65536 then Some (plain.Delete kind number) else None
-
--- a control that inserts no block
-abbrev pub CanCall : Control → Type 0
-CanCall (control.Insert kind number) = ⊥
-CanCall _ = Unit {0}
-
--- A question that reads items, whose answer has room in the PDU, or writes items of known words; a control; user data
--- with its octets; further octets of an answer that comes in pieces; the start of an upload, a slice or the end of one; or
--- what a download of an image with its own head goes by, in pieces that fit the PDU.
-abbrev pub IsAskable : ℕ → Question → Type 0
-IsAskable pdu (negotiates n) = ⊥
-IsAskable pdu (reads items) = AreSome items × (answer_size items ≤ pdu)
-IsAskable pdu (writes items octets) = AreSome items × AreKnown items
-IsAskable pdu (controls control) = CanCall control
-IsAskable pdu (asks subject octets) = CanGoWith subject octets
-IsAskable pdu (asks_further subject octet so_far) = comes_in_pieces subject ≡ true
-IsAskable pdu (starts_upload name) = Unit {0}
-IsAskable pdu (slices_upload id size so_far) = Unit {0}
-IsAskable pdu (ends_upload id) = Unit {0}
-IsAskable pdu (announces image) = check_image image ≡ no_fault
-IsAskable pdu (awaits_call image) = check_image image ≡ no_fault
-IsAskable pdu (gives image room from call) =
-    (check_image image ≡ no_fault) × (room ≡ image_room pdu) × (from < length image)
-IsAskable pdu (inserts image call) = check_image image ≡ no_fault
 
 -- ---- further octets
 
@@ -376,45 +327,3 @@ pub record Replies (first : LinkState) (b : List ℕ) (js vs : List Verdict) (un
       → IsHeard pdu own (link_past first b number question (js ++ own)) question number message behind new
   pub by_link : (answer : Answer) → answer_of question number message ≡ Some answer
       → IsByLink (past first b js).link pdu question answer
-
--- a question, the sequence of its telegram, the verdicts that it met, its answer, and what was entered for it
-pub record Exchange : Type 0 where
-  pub question : Question
-  pub number : ℕ
-  pub verdicts : List Verdict
-  pub answer : Answer
-  pub entries : List (Ask × Said)
-
-abbrev pub entries_of : List Exchange → List (Ask × Said)
-entries_of exchanges = flat_map (λ (x : Exchange). x.entries) exchanges
-
-abbrev pub verdicts_met : List Exchange → List Verdict
-verdicts_met exchanges = flat_map (λ (x : Exchange). x.verdicts) exchanges
-
--- the answered telegrams
-abbrev pub rows_of : List Exchange → List Row
-rows_of exchanges =
-    map (λ (x : Exchange). record { question = x.question; number = x.number; answer = Some x.answer }) exchanges
-
--- each answer is what was told
-abbrev pub AreTold : ℕ → List Exchange → Type 0
-AreTold pdu exchanges =
-    AllByRecursion (λ (x : Exchange). HasTold pdu x.verdicts x.question x.answer x.entries) exchanges
-
--- A job of this conduct went by these exchanges, on a link of this PDU: its questions were asked in order, and where
--- one is out at a time each behind the answers to those before it; each was answered, nothing more may be asked, and
--- it ends as the conduct says.
-pub record Converses (pdu : ℕ) (conduct : Conduct) (end : End) (exchanges : List Exchange) : Type 0 where
-  pub asked : AreAsked conduct 0 (rows_of exchanges)
-  pub in_turn : conduct.width ≤ 1 → AreInTurn conduct [] (rows_of exchanges)
-  pub told : AreTold pdu exchanges
-  pub none_more : next_question conduct (rows_of exchanges) ≡ None
-  pub is : end ≡ conduct.ended (answers_of (rows_of exchanges))
-
--- A job went by exchanges, behind octets and verdicts: what was entered since is theirs, and so are the verdicts.
-pub record WentBy (first : LinkState) (origin : Origin) (pdu : ℕ) (end : End) (b sent : List ℕ)
-    (js verdicts : List Verdict) : Type 0 where
-  pub exchanges : List Exchange
-  pub entered_is : entered first (b ++ sent) (js ++ verdicts) ≡ entered first b js ++ entries_of exchanges
-  pub verdicts_are : verdicts_met exchanges ≡ verdicts
-  pub converses : Converses pdu (conduct_of origin) end exchanges

@@ -7,7 +7,7 @@ use Rattle.s7_plant.specs.State.{begins_with}
 use Rattle.s7_session.specs.Books.{History}
 use Rattle.s7_session.specs.Legal.{IsLegalFor, Links}
 use Rattle.s7_session.specs.LinkState.{first_link}
-use Rattle.s7_session.specs.Events.{lives}
+use Rattle.s7_session.specs.Events.{lives, unjudged}
 use Rattle.s7_session.specs.Owed.{past, owed, telegrams}
 use Rattle.s7_session.specs.Stands.{unread, unsent, entry_count, newest, closed_with}
 use Rattle.s7_session.specs.Telegrams.{Met, verdicts_of, clock_failures, AnyFull}
@@ -25,9 +25,10 @@ pub record IsLegalPost (opening : Memory) (limit pdu : ℕ) (history : History) 
   -- and the client those that it used of the session's
   pub heard : List ℕ
   pub coming : answered ≡ heard ++ (client.unread_of p.client ++ p.pipes.to_client)
-  -- the telegrams in the octets that were used asked this, and each met its verdict
+  -- the telegrams in the octets that were used asked this, and each met its verdict, the last one too
   pub mets : List Met
   pub asked : telegrams (first_link opening.guard) used (verdicts_of mets) ≡ mets
+  pub judged : (past (first_link opening.guard) used (verdicts_of mets)).standing ≢ unjudged
   -- the session transmitted what is owed for what it used, but for what it has still to send
   pub owed_is : owed (first_link opening.guard) used (verdicts_of mets) ≡ answered ++ unsent p.session
   -- the history has it, and nothing else of this link

@@ -9,8 +9,6 @@ pub mod Tells
 pub mod Rigs
 pub mod Sent
 pub mod Settled
-pub mod Asked
-pub mod Awaiting
 pub mod Heard
 pub mod Written
 pub mod Plants

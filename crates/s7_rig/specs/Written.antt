@@ -1,20 +1,14 @@
 -- What a client's write of items asks of the plant, and the codes that it is answered with.
-use Rattle.std.specs.Prelude.{ℕ, Bool, List, [], ◌∷◌, take, drop, IsSome}
-use Rattle.std.specs.List.{AllByRecursion}
+use Rattle.std.specs.Prelude.{ℕ, Bool, List, [], ◌∷◌, take, drop}
 use Rattle.s7_item.specs.declared.item.Item.{Item}
 use Rattle.s7_item.specs.declared.places.DataPlace.{DataPlace}
 use Rattle.s7_item.specs.Item.{octet_count}
-use Rattle.s7_item.specs.Word.{size_of}
 use Rattle.s7_item.specs.DataItem.{data_octets}
 use Rattle.s7_item.specs.DataLaws.{places_of}
 use Rattle.s7_area.specs.Memory.{Memory, write_code}
 use Rattle.s7_plant.specs.declared.request.Request.{Request}
 use Rattle.s7_plant.specs.declared.request.Request.TheVariants.{Write}
 use Rattle.s7_dialogue.specs.Question.{written}
-
--- the words of these items are known
-abbrev pub AreKnown : List Item → Type 0
-AreKnown items = AllByRecursion (λ (item : Item). IsSome (size_of item.word)) items
 
 -- the data of a write, the places of the items' octets there, and what it asks
 abbrev pub own_data : List Item → List ℕ → List ℕ

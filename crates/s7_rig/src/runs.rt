@@ -37,7 +37,7 @@ pub struct Schedule<'a> {
 /// 16,777,216 rounds. `Memory` comes where there is none for the rig, for a job or for a session.
 ///
 /// The completion is told of each job of the first client when it is done, once, in order, and of nothing else: with
-/// `Memory` of those that were done till then.
+/// `Memory` of those that a front of the run did, or of none.
 pub fn run_rig<C: Completion>(
     alloc: Global,
     areas: Areas,

@@ -31,12 +31,12 @@ const NUMBER_AT: usize = 0;
 /// The line that tells what came of the job of a line: the line's number, the job's word, its code in
 /// eight upper-case hexadecimal digits, and the value, with one space between them and LF at the end.
 ///
-/// The value of `read`, `info` and `szl` is their octets in lower case, that of `list` the seven counts, that
-/// of `listof` the blocks' numbers, in decimal. That of `readmany` is of each item its code in two upper-case
-/// digits, a colon, and its octets where the code is FF; that of `writemany` the codes; with one space
-/// between two. That of `clock` is its date and time, `YYYY-MM-DDThh:mm:ss.mmm`, and that of `status` `run`
-/// or `stop`. The value is `-` where there is none, as after other jobs and where the code isn't 0. `Memory`
-/// comes where there is none.
+/// The value of `read`, `info`, `upload`, `dbget` and `szl` is their octets in lower case, that of `list` the
+/// seven counts, that of `listof` the blocks' numbers, in decimal. That of `readmany` is of each item its
+/// code in two upper-case digits, a colon, and its octets where the code is FF; that of `writemany` the
+/// codes; with one space between two. That of `clock` is its date and time, `YYYY-MM-DDThh:mm:ss.mmm`, and
+/// that of `status` `run` or `stop`. The value is `-` where there is none, as after other jobs and where the
+/// code isn't 0. `Memory` comes where there is none.
 pub fn print_result(alloc: Global, line: u32, done: &JobResult) -> Result<Octets, Memory>
     requires { IsPrintable done.now }
     ensures { IfOk result (λ text. text ≡ print line done.now) }

@@ -36,6 +36,7 @@ legal_on s limit front history link mets moment entries newest a few l =
       full = λ any. full_goes_on limit front history (link ∷ []) a few (l.full any);
       full_stays = l.full_stays;
       memory = l.memory;
+      causes = l.causes;
       moments = subst (AllAt moment) (sym same) l.moments;
       count = l.count ∙ ap length (sym same);
       last = l.last ∙ ap (last_number None) (sym same);

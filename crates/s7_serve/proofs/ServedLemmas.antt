@@ -11,7 +11,7 @@ use Rattle.s7_session.specs.Entry.{Entry, answered}
 use Rattle.s7_session.specs.LinkRun.{IsLinkRun, IsEnd}
 use Rattle.s7_session.specs.LinkState.{LinkState}
 use Rattle.s7_session.specs.Telegrams.{verdicts_of, MemoryIsLast, AllAt, last_number}
-use Rattle.s7_session.proofs.DoerLemmas.{full_end, full_stays}
+use Rattle.s7_session.proofs.DoerLemmas.{full_end, full_stays, are_caused}
 use Rattle.s7_session.proofs.PastLemmas.{memory_is_last}
 use Rattle.s7_session.specs.Verdict.{Verdict}
 use Rattle.s7_serve.specs.Served.{IsServedLink, IsServed, IsShut, served_told}
@@ -25,8 +25,9 @@ pub served_link : {D : Type 0} (stands : D → List Entry → Type 0) (is_full m
     → ((entries : List Entry) → stands d' entries → entries ≡ own s link history)
     → ((e : D) (a b : Ask) → is_full e a → is_full e b)
     → ((a : Ask) → is_full d' a → length history ≡ limit)
+    → ((e : D) (a : Ask) → may_lack e a → ⊥)
     → IsServedLink s limit first history pipe (served_told link line o accepted last)
-served_link stands is_full may_lack s limit first history link pipe line d d' o accepted last run begins mine_of alike full_of =
+served_link stands is_full may_lack s limit first history link pipe line d d' o accepted last run begins mine_of alike full_of none =
     let mine : run.entries ≡ own s link history = mine_of run.entries (run.doer [] begins) in
     record {
       taken = run.taken;
@@ -41,6 +42,7 @@ served_link stands is_full may_lack s limit first history link pipe line d d' o 
         full = λ any. let found = full_end is_full may_lack d d' run.mets run.trail any in full_of found.0 found.1;
         full_stays = full_stays is_full may_lack d d' run.mets alike run.trail;
         memory = subst (λ ms. MemoryIsLast (verdicts_of ms)) run.asked (memory_is_last first run.taken (verdicts_of run.mets));
+        causes = are_caused is_full may_lack d d' run.mets none run.trail;
         moments = subst (AllAt pipe.moment) mine run.moments;
         count = run.count ∙ ap length mine;
         last = run.last_is ∙ ap (last_number None) mine;

@@ -21,7 +21,7 @@ use Rattle.s7_session.specs.LinkRun.{IsLinkRun}
 use Rattle.s7_session.specs.LinkState.{LinkState}
 use Rattle.s7_session.specs.Telegrams.{verdicts_of, MemoryIsLast, AllAt, last_number}
 use Rattle.s7_session.proofs.BookLemmas.{replay-calls}
-use Rattle.s7_session.proofs.DoerLemmas.{full_end, full_stays}
+use Rattle.s7_session.proofs.DoerLemmas.{full_end, full_stays, are_caused}
 use Rattle.s7_session.proofs.PastLemmas.{memory_is_last}
 use Rattle.s7_outer.specs.Calls.{shut_down}
 use Rattle.s7_serve.specs.Served.{IsServedLink, IsShut, ServedTold, served_told}
@@ -88,6 +88,7 @@ served_link opening pipe line d d' o accepted last run none opens same goes =
         full = λ any. (full_end is_full lacks d d' run.mets run.trail any).1 ∙ goes.limit;
         full_stays = full_stays is_full lacks d d' run.mets (λ e a b h. h) run.trail;
         memory = subst (λ ms. MemoryIsLast (verdicts_of ms)) run.asked (memory_is_last (first_of opening) run.taken (verdicts_of run.mets));
+        causes = are_caused is_full lacks d d' run.mets (λ e a h. h) run.trail;
         moments = subst (AllAt pipe.moment) mine run.moments;
         count = run.count ∙ ap length mine;
         last = run.last_is ∙ ap (last_number None) mine;

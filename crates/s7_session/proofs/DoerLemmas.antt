@@ -3,7 +3,7 @@ use Rattle.std.proofs.Common.{◌⊎◌, inl, inr, ℕ, List, [], ◌∷◌, ◌
 use Rattle.s7_plant.specs.declared.request.Ask.{Ask}
 use Rattle.s7_session.specs.Doers.{StaysFull, Meets, Trail}
 use Rattle.s7_session.specs.Judgement.{Asking}
-use Rattle.s7_session.specs.Telegrams.{Met, verdicts_of, AnyFull, NoneEntered, FullStays}
+use Rattle.s7_session.specs.Telegrams.{Met, verdicts_of, AnyFull, NoneEntered, FullStays, IsCaused, AreCaused}
 use Rattle.s7_session.specs.Verdict.{Verdict, Entered, Full, ClockFailed, NoMemory}
 
 pub stays_same : {D : Type 0} (full : D → Ask → Type 0) (d : D) → StaysFull full d d
@@ -72,6 +72,23 @@ pub full_end : {D : Type 0} (full lack : D → Ask → Type 0) (d e : D) (ms : L
 full_end full lack d e [] t any = absurd any
 full_end full lack d e (m ∷ ms) t any =
     full_end_by full lack m.asking m.verdict t.0 t.1 e ms t.4 (trail_stays full lack t.1 e ms t.5) (full_end full lack t.1 e ms t.5) any
+
+-- ---- doers that never lack memory
+
+caused : {D : Type 0} (full lack : D → Ask → Type 0) (asking : Asking) (v : Verdict) (d e : D)
+    → ((d : D) (a : Ask) → lack d a → ⊥) → Meets full lack asking v d e → IsCaused asking v
+caused full lack asking (Entered reply moment) d e none m = tt
+caused full lack asking Full d e none m = tt
+caused full lack asking ClockFailed d e none m = m
+caused full lack asking NoMemory d e none (inl copied) = copied
+caused full lack asking NoMemory d e none (inr lacks) = absurd (none d (asking.ask lacks.0) lacks.1)
+
+-- each verdict has its cause
+pub are_caused : {D : Type 0} (full lack : D → Ask → Type 0) (d e : D) (ms : List Met)
+    → ((d : D) (a : Ask) → lack d a → ⊥) → Trail full lack d ms e → AreCaused ms
+are_caused full lack d e [] none t = tt
+are_caused full lack d e (m ∷ ms) none t =
+    (caused full lack m.asking m.verdict t.0 t.1 none t.4, are_caused full lack t.1 e ms none t.5)
 
 -- ---- the same doers, seen otherwise
 

@@ -10,7 +10,7 @@ use Rattle.s7_plant.specs.State.{State, state_of}
 use Rattle.s7_session.specs.Books.{History, history_of, own}
 use Rattle.s7_session.specs.Entry.{answered}
 use Rattle.s7_session.specs.Telegrams.{Met, verdicts_of, entered_of, AnyFull, FullStays}
-use Rattle.s7_session.specs.Telegrams.{MemoryIsLast, AllAt, last_number}
+use Rattle.s7_session.specs.Telegrams.{MemoryIsLast, AreCaused, AllAt, last_number}
 
 -- ---- of a link
 
@@ -26,8 +26,10 @@ pub record IsLegalFor (opening : State) (limit : ℕ) (history : History) (link 
   -- a telegram was refused for want of room only where the history is full, and none was entered afterwards
   pub full : AnyFull (verdicts_of mets) → length history ≡ limit
   pub full_stays : FullStays (verdicts_of mets)
-  -- memory was wanting for the last one at most
+  -- memory was wanting for the last one at most, where octets of it are copied, and the clock failed only for what asks
+  -- for a moment
   pub memory : MemoryIsLast (verdicts_of mets)
+  pub causes : AreCaused mets
   -- what asks for a moment has the one that the clock told
   pub moments : AllAt moment (own opening link history)
   pub count : entries ≡ length (own opening link history)

@@ -1,5 +1,5 @@
 -- The telegrams of a link that asked the plant, and what became of them.
-use Rattle.std.specs.Prelude.{◌≡◌, ℕ, ◌+◌, Bool, true, false, List, [], ◌∷◌, ◌++◌, map, Option, None, Some}
+use Rattle.std.specs.Prelude.{◌≡◌, ℕ, ◌+◌, Bool, true, false, IsTrue, List, [], ◌∷◌, ◌++◌, map, Option, None, Some}
 use Rattle.std.specs.List.{AllByRecursion}
 use Rattle.s7_plant.specs.declared.request.Ask.{Ask}
 use Rattle.s7_plant.specs.declared.request.Request.{Request}
@@ -80,6 +80,17 @@ MemoryIsLast (Full ∷ verdicts) = MemoryIsLast verdicts
 MemoryIsLast (Entered reply moment ∷ verdicts) = MemoryIsLast verdicts
 MemoryIsLast (ClockFailed ∷ verdicts) = MemoryIsLast verdicts
 MemoryIsLast (NoMemory ∷ verdicts) = verdicts ≡ []
+
+-- A verdict has its cause: the clock failed only where a moment is asked for, and memory was wanting only where octets
+-- of the telegram are copied.
+abbrev pub IsCaused : Asking → Verdict → Type 0
+IsCaused asking (Entered reply moment) = Unit {0}
+IsCaused asking Full = Unit {0}
+IsCaused asking ClockFailed = IsTrue asking.is_timed
+IsCaused asking NoMemory = IsTrue asking.is_copied
+
+abbrev pub AreCaused : List Met → Type 0
+AreCaused mets = AllByRecursion (λ (m : Met). IsCaused m.asking m.verdict) mets
 
 -- for how many the clock failed
 abbrev pub clock_failures : List Verdict → ℕ

@@ -74,7 +74,7 @@ pub const MEMORY: u8 = 9;
 /// dial nothing, `gen` reads no file, and a run of `partner` has no results.
 ///
 /// The completion is handed back. It was told of each job of `run`, or of the first client of `rig` or `gen`, when
-/// the job was done, once, in order, and of nothing else: with 9 too, where no rig is left.
+/// the job was done, once, in order, and of nothing else: with 9 of a rig of those that a front of it did, or of none.
 pub fn tool_main<F: Files, L: Link + Drop, K: Dial<L>, O: Out, C: Completion>(
     alloc: Global,
     words: &[&str],

@@ -180,10 +180,7 @@ fn keep(results: &mut Vec<JobResult>, told: JobResult)
     ensures len { vec_len results.new ≡ vec_len results.old + 1 }
     ensures capacity { vec_capacity results.old ≤ vec_capacity results.new }
 {
-    match results.push(told) {
-        Ok(()) => {}
-        Err(_) => unreachable!(),
-    }
+    results.push_reserved(told);
 }
 
 // Prints what came of the job of a line.

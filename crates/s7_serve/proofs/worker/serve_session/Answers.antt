@@ -19,4 +19,5 @@ returns-clause-served g c =
     (own_of_none s (caller seat) (seen seat) c.requires.new)
     (λ entries e. e ∙ (λ i. own (g.M.Keeper.opened (made (kept.0 i))) (kept.2.same_caller i) (seen new)))
     (λ e a b full. full)
-    (λ a full. full ∙ ap (λ hall. g.M.Machine.limit (made hall)) kept.0))
+    (λ a full. full ∙ ap (λ hall. g.M.Machine.limit (made hall)) kept.0)
+    (λ e a lacks. lacks))
