@@ -1,86 +1,84 @@
 //! Serves areas as a controller would, on standard input and output or over TCP.
 #![tactic(auto)]
 
-use s7_outer::{OpenGate, Out, RealLink, StdFiles, StdOut, TcpDoor};
+use s7_outer::{Memory, OpenGate, Out, RealLink, StdFiles, StdOut, TcpDoor};
 use s7_plant::Tail;
 use s7_server::{MEMORY, server_main};
 use std::alloc::{AllocError, Global};
+use std::env;
+use std::io::ErrorKind;
+use std::net::{Net, TcpListener, TcpStream};
 use std::process::ExitCode;
-use std::{env, io};
+use std::rt::{Env, Runtime};
+use std::sync::Wait;
+use std::thread::Threads;
 
-fn main(rt: HostRuntime) -> io::Result<ExitCode> {
-    let alloc = rt.alloc();
-    let streams: Result<_, _> = rt.clone();
-    let files: Result<_, _> = rt.clone();
-    let door: Result<_, _> = rt.clone();
-    let (Ok(owned), Ok(streams), Ok(files), Ok(door)) = (
-        own_words(&rt, alloc),
-        streams,
-        files,
-        door,
-    ) else {
-        return Ok(no_memory(&mut StdOut::new(rt.stderr())));
-    };
-    let Ok(words) = lent_words(alloc, owned.as_slice()) else {
-        return Ok(no_memory(&mut StdOut::new(rt.stderr())));
-    };
-    let words = words.as_slice();
-    let Ok(pipe) = RealLink::standard(alloc, streams) else {
-        return Ok(no_memory(&mut StdOut::new(rt.stderr())));
-    };
-    let mut files = StdFiles::new(files);
-    let mut door = TcpDoor::new(door);
-    let observers: Vec<Tail> = Vec::new(alloc);
-    let status = if words.first() == Some(&"pipe") {
-        server_main(
-            &rt,
-            alloc,
-            words,
-            &mut files,
-            pipe,
-            &mut door,
-            &OpenGate,
-            &mut StdOut::new(rt.stderr()),
-            observers,
-        )
-        .status
+fn main(rt: HostRuntime) -> ExitCode {
+    if is_pipe(&rt) {
+        let mut out = StdOut::new(rt.stderr());
+        ended(run(&rt, &mut out), &mut out)
     } else {
-        server_main(
-            &rt,
-            alloc,
-            words,
-            &mut files,
-            pipe,
-            &mut door,
-            &OpenGate,
-            &mut StdOut::new(rt.stdout()),
-            observers,
-        )
-        .status
-    };
-    Ok(ExitCode::from(status))
+        let mut out = StdOut::new(rt.stdout());
+        ended(run(&rt, &mut out), &mut out)
+    }
 }
 
-// The words of the command line.
-fn own_words(rt: &HostRuntime, alloc: Global) -> io::Result<Vec<String>> {
-    let mut words = Vec::new(alloc);
-    for word in env::args(rt)?.skip(1) {
-        words.push(word)?;
+// The first word is `pipe`, whose link has the standard output. No memory is taken, so that want of it is told
+// on the right stream too.
+fn is_pipe<E: Env>(rt: &E) -> bool {
+    let mut word = [0u8; 4];
+    rt.arg(1, &mut word).is_ok() && word == *b"pipe"
+}
+
+// The status of what the words ask for.
+fn run<R, O>(rt: &R, out: &mut O) -> Result<u8, Memory>
+where
+    R: Runtime + AllocGlobal + Net<Listener = TcpListener, Stream = TcpStream>,
+    R: Threads + Wait + Send + Sync,
+    R::Reader: Send,
+    O: Out,
+{
+    let alloc = rt.alloc();
+    let owned = own_words(rt)?;
+    let words = lent_words(alloc, owned.as_slice())?;
+    let mut files = StdFiles::new(rt.clone()?);
+    let pipe = RealLink::standard(alloc, rt.clone()?)?;
+    let mut door = TcpDoor::new(rt.clone()?);
+    let observers: Vec<Tail> = Vec::new(alloc);
+    let end = server_main(
+        rt,
+        alloc,
+        words.as_slice(),
+        &mut files,
+        pipe,
+        &mut door,
+        &OpenGate,
+        out,
+        observers,
+    );
+    Ok(end.status)
+}
+
+// The words of the command line. Where one isn't UTF-8 there are none, which is no command either.
+fn own_words<R: Env + AllocGlobal>(rt: &R) -> Result<Vec<String>, AllocError> {
+    match env::args(rt) {
+        Ok(words) => words.skip(1).collect(rt.alloc()),
+        Err(error) if error.kind() == ErrorKind::OutOfMemory => Err(AllocError),
+        Err(_) => Ok(Vec::new(rt.alloc())),
     }
-    Ok(words)
 }
 
 fn lent_words(alloc: Global, owned: &[String]) -> Result<Vec<&str>, AllocError> {
-    let mut words = Vec::new(alloc);
-    for word in owned {
-        words.push(word.as_str())?;
-    }
-    Ok(words)
+    owned.iter().map(|word| word.as_str()).collect(alloc)
 }
 
-// Memory was wanting before the words were read. The line's own failure changes nothing.
-fn no_memory<O: Out>(out: &mut O) -> ExitCode {
-    match out.put(b"memory\n") {
-        Ok(()) | Err(_) => ExitCode::from(MEMORY),
+// Says that memory was wanting where no status came. The line's own failure changes nothing.
+fn ended<O: Out>(status: Result<u8, Memory>, out: &mut O) -> ExitCode {
+    match status {
+        Ok(status) => ExitCode::from(status),
+        Err(_) => {
+            let _ = out.put(b"memory\n");
+            ExitCode::from(MEMORY)
+        }
     }
 }

@@ -5,54 +5,49 @@ use s7_client::Counter;
 use s7_outer::{Out, StdFiles, StdOut, TcpDial};
 use s7_tool::{MEMORY, print_line, tool_main};
 use std::alloc::{AllocError, Global};
+use std::env;
+use std::io::ErrorKind;
+use std::net::{Net, TcpStream};
 use std::process::ExitCode;
-use std::{env, io};
+use std::rt::{Env, Runtime};
 
-fn main(rt: HostRuntime) -> io::Result<ExitCode> {
-    let alloc = rt.alloc();
+fn main(rt: HostRuntime) -> ExitCode {
     let mut out = StdOut::new(rt.stdout());
-    let nets: Result<_, _> = rt.clone();
-    let files: Result<_, _> = rt.clone();
-    let (Ok(owned), Ok(nets), Ok(files)) = (own_words(&rt, alloc), nets, files) else {
-        return Ok(no_memory(&mut out));
-    };
-    let Ok(words) = lent_words(alloc, owned.as_slice()) else {
-        return Ok(no_memory(&mut out));
-    };
-    let mut files = StdFiles::new(files);
-    let mut dial = TcpDial::new(nets);
-    // nobody is told of jobs but by what is printed
-    let done: Option<Counter> = None;
-    let end = tool_main(
-        alloc,
-        words.as_slice(),
-        &mut files,
-        &mut dial,
-        &mut out,
-        done,
-    );
-    Ok(ExitCode::from(end.status))
+    match run(&rt, &mut out) {
+        Ok(status) => ExitCode::from(status),
+        Err(_) => {
+            print_line(b"memory\n", &mut out);
+            ExitCode::from(MEMORY)
+        }
+    }
 }
 
-// The words of the command line.
-fn own_words(rt: &HostRuntime, alloc: Global) -> io::Result<Vec<String>> {
-    let mut words = Vec::new(alloc);
-    for word in env::args(rt)?.skip(1) {
-        words.push(word)?;
+// The status of what the words ask for.
+fn run<R, O>(rt: &R, out: &mut O) -> Result<u8, AllocError>
+where
+    R: Runtime + AllocGlobal + Net<Stream = TcpStream>,
+    O: Out,
+{
+    let alloc = rt.alloc();
+    let owned = own_words(rt)?;
+    let words = lent_words(alloc, owned.as_slice())?;
+    let mut files = StdFiles::new(rt.clone()?);
+    let mut dial = TcpDial::new(rt.clone()?);
+    // nobody is told of jobs but by what is printed
+    let done: Option<Counter> = None;
+    let end = tool_main(alloc, words.as_slice(), &mut files, &mut dial, out, done);
+    Ok(end.status)
+}
+
+// The words of the command line. Where one isn't UTF-8 there are none, which is no command either.
+fn own_words<R: Env + AllocGlobal>(rt: &R) -> Result<Vec<String>, AllocError> {
+    match env::args(rt) {
+        Ok(words) => words.skip(1).collect(rt.alloc()),
+        Err(error) if error.kind() == ErrorKind::OutOfMemory => Err(AllocError),
+        Err(_) => Ok(Vec::new(rt.alloc())),
     }
-    Ok(words)
 }
 
 fn lent_words(alloc: Global, owned: &[String]) -> Result<Vec<&str>, AllocError> {
-    let mut words = Vec::new(alloc);
-    for word in owned {
-        words.push(word.as_str())?;
-    }
-    Ok(words)
-}
-
-// Memory was wanting before the words were read.
-fn no_memory<O: Out>(out: &mut O) -> ExitCode {
-    print_line(b"memory\n", out);
-    ExitCode::from(MEMORY)
+    owned.iter().map(|word| word.as_str()).collect(alloc)
 }
