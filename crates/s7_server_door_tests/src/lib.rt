@@ -1,6 +1,6 @@
 //! Tests of `server_main` with doors, in memory and over TCP on this machine: links that wait and fail, a journal that
-//! is full, and who watches. They stand in a crate of their own, so that the server is proved once and not once more
-//! together with them.
+//! is full, who watches, and a client of `s7_client`. They stand in a crate of their own, so that the server is proved
+//! once and not once more together with them.
 #![tactic(auto)]
 
 #[cfg(test)]
@@ -11,5 +11,7 @@ mod faults;
 mod full;
 #[cfg(test)]
 mod helpers;
+#[cfg(test)]
+mod over_tcp;
 #[cfg(test)]
 mod watched;
