@@ -19,19 +19,19 @@ use std::test::Fail;
 use std::thread::Threads;
 use std::time::Clock;
 
-const CONNECT: &[u8] =
+pub(crate) const CONNECT: &[u8] =
     b"\x03\x00\x00\x16\x11\xE0\x00\x00\x00\x01\x00\xC0\x01\x0A\xC1\x02\x01\x00\xC2\x02\x01\x02";
 
 const CONFIRM: &[u8] =
     b"\x03\x00\x00\x16\x11\xD0\x00\x01\x00\x01\x00\xC0\x01\x0A\xC1\x02\x01\x00\xC2\x02\x01\x02";
 
-const SETUP: &[u8] =
+pub(crate) const SETUP: &[u8] =
     b"\x03\x00\x00\x19\x02\xF0\x80\x32\x01\x00\x00\x00\x04\x00\x08\x00\x00\xF0\x00\x00\x01\x00\x01\x01\xE0";
 
 const GRANTED: &[u8] =
     b"\x03\x00\x00\x1B\x02\xF0\x80\x32\x03\x00\x00\x00\x04\x00\x08\x00\x00\x00\x00\xF0\x00\x00\x01\x00\x01\x01\xE0";
 
-const READ: &[u8] =
+pub(crate) const READ: &[u8] =
     b"\x03\x00\x00\x1F\x02\xF0\x80\x32\x01\x00\x00\x00\x05\x00\x0E\x00\x00\x04\x01\x12\x0A\x10\x02\
     \x00\x04\x00\x01\x84\x00\x00\x00";
 
@@ -67,7 +67,7 @@ fn joined(alloc: Global, parts: &[&[u8]]) -> Result<Vec<u8>, Memory> {
 }
 
 /// A link that gives these telegrams.
-fn a_link(alloc: Global, parts: &[&[u8]]) -> Result<MemoryLink, Memory> {
+pub(crate) fn a_link(alloc: Global, parts: &[&[u8]]) -> Result<MemoryLink, Memory> {
     let input = Octets::of_vec(joined(alloc, parts)?);
     MemoryLink::new(alloc, input, 8_192, 4_096, 7)
 }
@@ -103,7 +103,7 @@ fn is_answered(
 }
 
 /// A book of data block 1, whose journal takes so many entries.
-fn a_book(alloc: Global, limit: u64) -> Result<Book<Tail>, Memory>
+pub(crate) fn a_book(alloc: Global, limit: u64) -> Result<Book<Tail>, Memory>
     requires some { 1 ≤ limit }
     requires few { limit ≤ 262144 }
     ensures journal { IfOk result (λ book. book.journal ≡ entries_of [] limit) }

@@ -16,3 +16,5 @@ mod ports;
 mod shared;
 #[cfg(test)]
 mod walk;
+#[cfg(test)]
+mod watched;
