@@ -17,6 +17,3 @@ pub use guard::Guard;
 pub use key::AreaKey;
 pub use laws::{areas_join, bits_stand_alone, writes_keep_the_shape, written_is_read};
 pub use register::{RegisterFault, Unknown};
-
-#[cfg(test)]
-mod tests;

@@ -26,8 +26,3 @@ pub use marks::{Mark, Marks};
 pub use name::{NAME, read_digits, read_name, write_digits, write_name};
 pub use numbers::Numbers;
 pub use upload::{Slice, UploadSide};
-
-#[cfg(test)]
-mod name_tests;
-#[cfg(test)]
-mod tests;

@@ -67,7 +67,7 @@ moves_received l l' link link' received used inbox took same faults waits = reco
   clock_faults = ap (λ x. x.clock_faults) same;
   looks = ap (λ x. x.looks) same;
   lent = ap (λ x. x.lent) same;
-  shut = ap (λ x. x.is_shut) same;
+  shut = ap (λ x. x.shut) same;
   space = ap (λ x. x.space) same ∙ space_none link.space;
 }
 
@@ -90,7 +90,7 @@ moves_sent l l' link link' written inbox wrote space same faults waits = record 
   clock_faults = ap (λ x. x.clock_faults) same;
   looks = ap (λ x. x.looks) same;
   lent = ap (λ x. x.lent) same;
-  shut = ap (λ x. x.is_shut) same;
+  shut = ap (λ x. x.shut) same;
   space = space;
 }
 

@@ -160,7 +160,7 @@ pub record Moves (kept : List ℕ) (link : Shown) (kept' : List ℕ) (link' : Sh
   pub clock_faults : link'.clock_faults ≡ link.clock_faults
   pub looks : link'.looks ≡ link.looks
   pub lent : link'.lent ≡ link.lent
-  pub shut : link'.is_shut ≡ link.is_shut
+  pub shut : link'.shut ≡ link.shut
   pub space : link'.space ≡ option_map (λ space. space - length written) link.space
 
 -- What they moved falls into deeds that come in order, where a job that used b and transmitted w kept octets unused.

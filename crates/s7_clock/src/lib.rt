@@ -14,6 +14,3 @@ pub use control::{Control, read_control, write_control};
 pub use faults::{BadParams, NotDate};
 pub use laws::{clock_reading, control_reading, moment_reading};
 pub use moment::{FIRST_MOMENT, LAST_MOMENT, date_of, hold, moment_of};
-
-#[cfg(test)]
-mod tests;

@@ -18,6 +18,3 @@ pub use pairs::Fragments;
 pub use reading::read_tpdu;
 pub use tpdu::{Connection, CotpFault, Tpdu, Tsap};
 pub use writing::{write_confirm, write_connect, write_data, write_disconnect};
-
-#[cfg(test)]
-mod tests;

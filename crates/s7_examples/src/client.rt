@@ -2,7 +2,8 @@
 use s7_client::{Config, Connection, Job, JobResult};
 use s7_item::Item;
 use s7_item::codes::{BYTE, DATA_BLOCKS};
-use s7_outer::{Link, MemoryLink, Octets};
+use s7_memory::MemoryLink;
+use s7_outer::{Link, Octets};
 use std::alloc::Global;
 use std::test::Fail;
 

@@ -1,6 +1,7 @@
 // Two partners, of which one sends the other a block.
 use s7_client::Config;
-use s7_outer::{Memory, Octets, PipeEnd, Pipes, Side};
+use s7_memory::{PipeEnd, Pipes, Side};
+use s7_outer::{Memory, Octets};
 use s7_partner::{Partner, PartnerEvent, Role};
 use std::alloc::Global;
 use std::test::Fail;

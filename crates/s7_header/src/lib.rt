@@ -16,6 +16,3 @@ pub use negotiation::{
     LEAST_PDU, MOST_JOBS, MOST_PDU, Negotiation, grant, read_negotiate, write_negotiate,
 };
 pub use user_params::{UserParams, read_user, write_user};
-
-#[cfg(test)]
-mod tests;

@@ -27,6 +27,3 @@ pub use read_data::{DataFault, read_data_items};
 pub use sizes::{answer_size, request_size};
 pub use word::{size_of, transport_of};
 pub use write_data::write_data_item;
-
-#[cfg(test)]
-mod tests;

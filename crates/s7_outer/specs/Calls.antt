@@ -1,10 +1,10 @@
 -- What one call of a link and of its clock does to what the link shows: the clauses of the traits.
 use Rattle.std.specs.Prelude.{◌≡◌, ◌≢◌, ℕ, ◌+◌, ◌-◌, ◌≤◌, ◌↔◌, List, [], length, IsTrue, IsSome, IfSome, Some}
-use Rattle.std.specs.Prelude.{option_map, true}
+use Rattle.std.specs.Prelude.{Option, None, option_map}
 use Rattle.std.specs.Io.KnownBytes.{prepend_known, append_known, IsAtEnd}
 use Rattle.s7_outer.specs.Count.{Rose, RoseExactly}
 use Rattle.s7_outer.specs.Link.{octets_got, octets_sent, GotWithin, SentWithin, TellsMoment}
-use Rattle.s7_outer.specs.Shown.{Shown}
+use Rattle.s7_outer.specs.Shown.{Moved, Shown}
 use Rattle.s7_outer.specs.declared.link.Got.{Got}
 use Rattle.s7_outer.specs.declared.link.Got.TheVariants as got
 use Rattle.s7_outer.specs.declared.link.Sent.{Sent}
@@ -33,7 +33,7 @@ pub record IsReceive (old new : Shown) (before after : List ℕ) (result : Got) 
   pub clock_faults : new.clock_faults ≡ old.clock_faults
   pub looks : new.looks ≡ old.looks
   pub space : new.space ≡ old.space
-  pub shut : new.is_shut ≡ old.is_shut
+  pub shut : new.shut ≡ old.shut
   pub lent : new.lent ≡ old.lent
 
 -- a transmit of these octets
@@ -56,12 +56,17 @@ pub record IsTransmit (old new : Shown) (piece : List ℕ) (result : Sent) : Typ
   pub looks : new.looks ≡ old.looks
   pub fits : IfSome old.space (λ space. length (octets_sent result piece) ≤ space)
   pub space : new.space ≡ option_map (λ space. space - length (octets_sent result piece)) old.space
-  pub shut : new.is_shut ≡ old.is_shut
+  pub shut : new.shut ≡ old.shut
   pub lent : new.lent ≡ old.lent
+
+-- how far a link had come when its stream was shut from this side first, if it is shut now
+abbrev pub shut_behind : Shown → Option Moved → Moved
+shut_behind now None = record { left = now.left; written = now.written }
+shut_behind now (Some before) = before
 
 -- what the link shows once its stream is shut from this side
 abbrev pub shut_down : Shown → Shown
-shut_down old = record old { is_shut = option_map (λ _. true) old.is_shut }
+shut_down old = record old { shut = option_map (λ before. Some (shut_behind old before)) old.shut }
 
 -- a look at the clock
 pub record IsLook (old new : Shown) (result : Tick) : Type 0 where

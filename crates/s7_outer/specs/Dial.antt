@@ -1,5 +1,5 @@
 -- What a dial gives.
-use Rattle.std.specs.Prelude.{◌≡◌, ℕ, ◌≤◌, List, Option, Some, None}
+use Rattle.std.specs.Prelude.{◌≡◌, ℕ, ◌+◌, ◌≤◌, List, Option, Some, None}
 use Rattle.s7_outer.specs.declared.dial.Dialled.{Dialled}
 use Rattle.s7_outer.specs.declared.dial.Dialled.TheVariants as dialled
 
@@ -12,3 +12,7 @@ GivesTold (Some told) dialled.Failed = Unit {0}
 -- no count of a host and a port fell
 abbrev pub NoHostFell : (List ℕ → ℕ → ℕ) → (List ℕ → ℕ → ℕ) → Type 0
 NoHostFell old new = (host : List ℕ) (port : ℕ) → old host port ≤ new host port
+
+-- and none rose by more than one
+abbrev pub NoHostRoseTwice : (List ℕ → ℕ → ℕ) → (List ℕ → ℕ → ℕ) → Type 0
+NoHostRoseTwice old new = (host : List ℕ) (port : ℕ) → new host port ≤ old host port + 1

@@ -1,5 +1,6 @@
 -- What a door gives.
-use Rattle.std.specs.Prelude.{◌≡◌, ℕ, ◌≤◌, List, [], ◌∷◌, Option, Some, None}
+use Rattle.std.specs.Prelude.{◌≡◌, ℕ, ◌+◌, ◌≤◌, List, [], ◌∷◌, Option, Some, None}
+use Rattle.s7_outer.specs.Count.{Rose}
 use Rattle.s7_outer.specs.declared.door.Arrival.{Arrival}
 use Rattle.s7_outer.specs.declared.door.Arrival.TheVariants as arrival
 
@@ -11,6 +12,7 @@ GivesNext (Some links) new (arrival.Link link) = (rest : List _) × (links ≡ l
 GivesNext (Some links) new arrival.End = (links ≡ []) × (new ≡ Some [])
 GivesNext (Some links) new arrival.Failed = new ≡ Some links
 
--- no count of a port fell
-abbrev pub NoPortFell : (ℕ → ℕ) → (ℕ → ℕ) → Type 0
-NoPortFell old new = (port : ℕ) → old port ≤ new port
+-- one call for a port failed: its count rose, and none fell or rose twice
+abbrev pub PortFailed : ℕ → (ℕ → ℕ) → (ℕ → ℕ) → Type 0
+PortFailed port old new =
+    Rose (old port) (new port) × ((other : ℕ) → (old other ≤ new other) × (new other ≤ old other + 1))

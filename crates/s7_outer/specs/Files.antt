@@ -16,3 +16,7 @@ KeepsOtherPaths path old new = (other : List ℕ) → other ≢ path → new oth
 -- no count of a path fell
 abbrev pub NonePathFell : (List ℕ → ℕ) → (List ℕ → ℕ) → Type 0
 NonePathFell old new = (path : List ℕ) → old path ≤ new path
+
+-- and none rose by more than one
+abbrev pub NoPathRoseTwice : (List ℕ → ℕ) → (List ℕ → ℕ) → Type 0
+NoPathRoseTwice old new = (path : List ℕ) → new path ≤ old path + 1

@@ -11,6 +11,13 @@ pub record Lent : Type 0 where
   -- how many octets there may be in each direction
   pub room : ℕ
 
+-- how far a link has come, as far as it tells that
+pub record Moved : Type 0 where
+  -- the octets that are left to receive
+  pub left : Option (List ℕ)
+  -- the octets that were written
+  pub written : Option (List ℕ)
+
 pub record Shown : Type 0 where
   -- the octets that are left to receive, where the link tells them
   pub left : Option (List ℕ)
@@ -30,7 +37,7 @@ pub record Shown : Type 0 where
   pub looks : ℕ
   -- how many octets it can still take, where it tells that
   pub space : Option ℕ
-  -- this side has shut the stream, where the link tells that
-  pub is_shut : Option Bool
+  -- where the link tells whether this side shut the stream: how far it had come then, if it did
+  pub shut : Option (Option Moved)
   -- what the link works on that was lent to it, where there is such a thing; no call changes it
   pub lent : Option Lent

@@ -2,8 +2,8 @@
 ghost use Rattle.std.specs.Prelude.{◌≡◌, ◌+◌, ◌≤◌};
 ghost use Rattle.s7_outer.specs.Count.{Rose, raised};
 
-/// One more, up to the last value.
-pub(crate) fn raise(count: &mut u64)
+/// Raises a counter by one. A counter at 18,446,744,073,709,551,615 stays as it is.
+pub fn raise(count: &mut u64)
     ensures raised { count.new ≡ raised count.old }
     ensures rose { Rose count.old count.new }
     ensures kept { count.old ≤ count.new }

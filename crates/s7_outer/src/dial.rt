@@ -1,8 +1,8 @@
 // A dial: it calls a host and gives a link.
-ghost use Rattle.std.specs.Prelude.{◌≡◌, ◌≤◌};
+ghost use Rattle.std.specs.Prelude.{◌≡◌, ◌≢◌};
 ghost use Rattle.s7_outer.specs.Count.{Rose, RoseExactly};
 ghost use Rattle.s7_outer.specs.DialShown.{DialShown};
-ghost use Rattle.s7_outer.specs.Dial.{GivesTold, NoHostFell};
+ghost use Rattle.s7_outer.specs.Dial.{GivesTold, NoHostFell, NoHostRoseTwice};
 
 /// What a call gives.
 #[derive(Drop)]
@@ -26,5 +26,7 @@ pub trait Dial<L> {
             → Rose ((shows self.old).faults host.now port) ((shows self.new).faults host.now port) }
         ensures kept { result ≡ Dialled.Failed → (shows self.new).next ≡ (shows self.old).next }
         ensures faults { NoHostFell (shows self.old).faults (shows self.new).faults }
+        ensures faults_once { NoHostRoseTwice (shows self.old).faults (shows self.new).faults }
+        ensures failed_no_other { result ≢ Dialled.Failed → (shows self.new).faults ≡ (shows self.old).faults }
         ensures called { RoseExactly 1 (shows self.old).calls (shows self.new).calls };
 }

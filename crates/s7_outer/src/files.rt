@@ -2,12 +2,12 @@
 ghost use Rattle.std.specs.Prelude.{◌≡◌, ◌≢◌, ◌+◌, ◌≤◌, [], Some, None, IsTrue, IsErrOf, OnOk, vec_len};
 ghost use Rattle.s7_outer.specs.Count.{Rose};
 ghost use Rattle.s7_outer.specs.FilesShown.{FilesShown};
-ghost use Rattle.s7_outer.specs.Files.{file_limit, IsCutFrom, KeepsOtherPaths, NonePathFell};
+ghost use Rattle.s7_outer.specs.Files.{file_limit, IsCutFrom, KeepsOtherPaths, NonePathFell, NoPathRoseTwice};
 
 use std::alloc::Global;
 
-// The longest file that is read whole, in octets.
-pub(crate) const FILE_LIMIT: usize = 67_108_864;
+/// The longest file that is read whole, in octets.
+pub const FILE_LIMIT: usize = 67_108_864;
 
 /// Why a file was not read or not written.
 #[derive(Clone, Copy, Debug, PartialEq, Eq)]
@@ -49,6 +49,8 @@ pub trait Files {
         ensures failed { IsErrOf result FileFault.Failed
             → Rose ((shows self.old).faults path.now) ((shows self.new).faults path.now) }
         ensures faults { NonePathFell (shows self.old).faults (shows self.new).faults }
+        ensures faults_once { NoPathRoseTwice (shows self.old).faults (shows self.new).faults }
+        ensures failed_no_other { result ≢ Err FileFault.Failed → (shows self.new).faults ≡ (shows self.old).faults }
         ensures same { shows self.new ≡ record (shows self.old) { faults = (shows self.new).faults } };
 
     /// Replaces the file under the path, or makes it. No other path changes.
@@ -65,5 +67,7 @@ pub trait Files {
 
         ensures failed { IsErrOf result FileFault.Failed
             → Rose ((shows self.old).faults path.now) ((shows self.new).faults path.now) }
-        ensures faults { NonePathFell (shows self.old).faults (shows self.new).faults };
+        ensures faults { NonePathFell (shows self.old).faults (shows self.new).faults }
+        ensures faults_once { NoPathRoseTwice (shows self.old).faults (shows self.new).faults }
+        ensures failed_no_other { result ≢ Err FileFault.Failed → (shows self.new).faults ≡ (shows self.old).faults };
 }

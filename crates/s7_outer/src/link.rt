@@ -82,7 +82,7 @@ pub trait Link {
         ensures clock_faults { (shows self.new).clock_faults ≡ (shows self.old).clock_faults }
         ensures looks { (shows self.new).looks ≡ (shows self.old).looks }
         ensures space { (shows self.new).space ≡ (shows self.old).space }
-        ensures shut { (shows self.new).is_shut ≡ (shows self.old).is_shut }
+        ensures shut { (shows self.new).shut ≡ (shows self.old).shut }
         ensures lent { (shows self.new).lent ≡ (shows self.old).lent };
 
     /// Hands on the first octets of the piece, at least one.
@@ -116,12 +116,12 @@ pub trait Link {
         ensures fits { IfSome (shows self.old).space (λ space. length (octets_sent result piece.now) ≤ space) }
         ensures space { (shows self.new).space
             ≡ option_map (λ space. space - length (octets_sent result piece.now)) (shows self.old).space }
-        ensures shut { (shows self.new).is_shut ≡ (shows self.old).is_shut }
+        ensures shut { (shows self.new).shut ≡ (shows self.old).shut }
         ensures lent { (shows self.new).lent ≡ (shows self.old).lent };
 
-    /// Shuts the stream in both directions, once nothing more is to be sent: the peer gets what was
-    /// transmitted and then the end. Where the peer is gone already nothing comes of it. No octet
-    /// moves, and nothing else of the link changes.
+    /// Shuts the stream, once nothing more is to be sent: the peer gets what was transmitted and then the
+    /// end, also where it sends on. Where it is gone already nothing comes of it. No octet moves; what had
+    /// moved when the stream was shut first is shown, and nothing else of the link changes.
     fn shutdown(&mut self)
         ensures shut { shows self.new ≡ shut_down (shows self.old) };
 }

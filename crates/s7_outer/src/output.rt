@@ -1,5 +1,5 @@
 // Where text goes.
-ghost use Rattle.std.specs.Prelude.{◌≡◌, ◌≤◌, OnOk, OnErr};
+ghost use Rattle.std.specs.Prelude.{◌≡◌, ◌+◌, ◌≤◌, OnOk, OnErr};
 ghost use Rattle.std.specs.Io.KnownBytes.{append_known};
 ghost use Rattle.s7_outer.specs.Count.{Rose};
 ghost use Rattle.s7_outer.specs.Out.{AppendsPrefix};
@@ -20,5 +20,7 @@ pub trait Out {
         ensures ok { OnOk result ((shows self.new).text ≡ append_known (shows self.old).text piece.now) }
         ensures err { OnErr result (AppendsPrefix (shows self.old).text (shows self.new).text piece.now) }
         ensures failed { OnErr result (Rose (shows self.old).faults (shows self.new).faults) }
-        ensures faults { (shows self.old).faults ≤ (shows self.new).faults };
+        ensures faults { (shows self.old).faults ≤ (shows self.new).faults }
+        ensures faults_once { (shows self.new).faults ≤ (shows self.old).faults + 1 }
+        ensures failed_no_other { OnOk result ((shows self.new).faults ≡ (shows self.old).faults) };
 }

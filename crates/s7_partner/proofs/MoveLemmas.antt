@@ -37,7 +37,7 @@ moves_received kept kept' link link' received used inbox took same faults waits 
   clock_faults = ap (λ (x : Shown). x.clock_faults) same;
   looks = ap (λ (x : Shown). x.looks) same;
   lent = ap (λ (x : Shown). x.lent) same;
-  shut = ap (λ (x : Shown). x.is_shut) same;
+  shut = ap (λ (x : Shown). x.shut) same;
   space = ap (λ (x : Shown). x.space) same ∙ space_none link.space;
 }
 
@@ -60,7 +60,7 @@ moves_sent kept kept' link link' written inbox wrote space same faults waits = r
   clock_faults = ap (λ (x : Shown). x.clock_faults) same;
   looks = ap (λ (x : Shown). x.looks) same;
   lent = ap (λ (x : Shown). x.lent) same;
-  shut = ap (λ (x : Shown). x.is_shut) same;
+  shut = ap (λ (x : Shown). x.shut) same;
   space = space;
 }
 

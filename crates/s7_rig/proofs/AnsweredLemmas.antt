@@ -53,7 +53,7 @@ refusal_is_heard q s error numbered fits small =
     heard_by q s (refusal_octets s error) h numbered
     (spelled 0 0 h [] [] (record { sequence = fits; param_len = omega arith; body_len = omega arith; error = small; no_error = tt }) refl refl) refl
 
-abbrev header_with : ℕ → List ℕ → List ℕ → Header
+abbrev pub header_with : ℕ → List ℕ → List ℕ → Header
 header_with s params body = record { kind = AckData; sequence = s; param_len = length params; body_len = length body; error = 0 }
 
 -- an answer with parameters and data is heard as these

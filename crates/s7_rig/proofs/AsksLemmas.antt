@@ -75,52 +75,46 @@ have_octets (item ∷ items) octets known short =
       have_octets items rest known.1 (omega (arith, long, short)),
     )
 
--- a telegram has ten octets of header, two of parameters and twelve for each item, and its data
-length_question : (number : ℕ) (items : List Item) (octets : List ℕ)
-    → length (question_octets number (writes items octets)) ≡ 12 + 12 * length items + length (own_data items octets)
-length_question number items octets =
-    omega (arith, reads_sized 0x05 items, length-append (items_params 0x05 items) (own_data items octets))
+module _ (number : ℕ) (items : List Item) (octets : List ℕ) where
+  -- a telegram has ten octets of header, two of parameters and twelve for each item, and its data
+  length_question :
+      length (question_octets number (writes items octets)) ≡ 12 + 12 * length items + length (own_data items octets)
+  length_question =
+      omega (arith, reads_sized 0x05 items, length-append (items_params 0x05 items) (own_data items octets))
 
-have_own : (number : ℕ) (items : List Item) (octets : List ℕ) → AreKnown items → IsShort number items octets
-    → AllByRecursion HasOctets (written items octets)
-have_own number items octets known short =
-    have_octets items octets known (omega (arith, length_question number items octets, short))
+  have_own : AreKnown items → IsShort number items octets → AllByRecursion HasOctets (written items octets)
+  have_own known short = have_octets items octets known (omega (arith, length_question, short))
 
--- each item has a place
-pub as_many_places : (number : ℕ) (items : List Item) (octets : List ℕ) → AreKnown items → IsShort number items octets
-    → length (own_places items octets) ≡ length items
-as_many_places number items octets known short =
-    are_as_many (length (written items octets)) (own_data items octets) (own_places items octets)
-    (data_reads_back (written items octets) (have_own number items octets known short)).places
-    ∙ length-written items octets
+  -- each item has a place
+  pub as_many_places : AreKnown items → IsShort number items octets → length (own_places items octets) ≡ length items
+  as_many_places known short =
+      are_as_many (length (written items octets)) (own_data items octets) (own_places items octets)
+      (data_reads_back (written items octets) (have_own known short)).places
+      ∙ length-written items octets
 
--- and its own of the octets there
-pub own_octets : (number : ℕ) (items : List Item) (octets : List ℕ) → AreKnown items → IsShort number items octets
-    → map (octets_at (own_data items octets)) (own_places items octets)
-    ≡ map (λ (item : DataItem). item.octets) (written items octets)
-own_octets number items octets known short =
-    (data_reads_back (written items octets) (have_own number items octets known short)).octets
+  -- and its own of the octets there
+  pub own_octets : AreKnown items → IsShort number items octets
+      → map (octets_at (own_data items octets)) (own_places items octets)
+      ≡ map (λ (item : DataItem). item.octets) (written items octets)
+  own_octets known short = (data_reads_back (written items octets) (have_own known short)).octets
 
--- ---- what a write asks
+  -- ---- what a write asks
 
--- new octets for items are asked of the plant, and never refused
-pub write_is_asked : (link : LinkState) (pdu number : ℕ) (items : List Item) (octets : List ℕ)
-    → link.granted ≡ Some pdu → number < 65536 → pdu ≤ most_pdu
-    → length (question_octets number (writes items octets)) ≤ pdu
-    → 0 < length items → length items ≤ 20 → AreKnown items
-    → judge link (question_octets number (writes items octets)) ≡ asks_plainly link number (own_write items octets)
-write_is_asked link pdu number items octets granted low most fits some few known =
-    writes_are_asked link pdu number items (written items octets)
-    (record {
-      granted = granted;
-      pdu_is = omega (arith, most);
-      numbered = low;
-      some = some;
-      most = few;
-      fits = fits;
-    })
-    (length-written items octets) (have_own number items octets known (omega (arith, most, fits)))
-    (omega (arith, length_question number items octets, fits, some))
+  -- new octets for items are asked of the plant, and never refused
+  pub write_is_asked : (link : LinkState) (pdu : ℕ) → link.granted ≡ Some pdu → number < 65536 → pdu ≤ most_pdu
+      → length (question_octets number (writes items octets)) ≤ pdu → 0 < length items → length items ≤ 20
+      → AreKnown items
+      → judge link (question_octets number (writes items octets)) ≡ asks_plainly link number (own_write items octets)
+  write_is_asked link pdu granted low most fits some few known =
+      writes_are_asked link pdu number items (written items octets) (record {
+        granted = granted;
+        pdu_is = omega (arith, most);
+        numbered = low;
+        some = some;
+        most = few;
+        fits = fits;
+      }) (length-written items octets) (have_own known (omega (arith, most, fits)))
+      (omega (arith, length_question, fits, some))
 
 -- ---- what is heard of it
 

@@ -1,6 +1,6 @@
 -- What a plant tells of the head of a data block, and what a client hears of it, piece by piece.
 use Rattle.std.proofs.Common.{◌≡◌, ℕ, ◌+◌, ◌-◌, ◌<◌, ◌≤◌, Bool, true, false, cond, eqb, ltb, Option, None, Some, List}
-use Rattle.std.proofs.Common.{[], ◌∷◌, ◌++◌}
+use Rattle.std.proofs.Common.{[], ◌∷◌, ◌++◌, inl, inr}
 use Rattle.std.proofs.Common.{length, take, drop, refl, ap, sym, ◌∙◌, subst, arith, length-take, take-append-drop}
 use Rattle.std.specs.Prelude.{option_map}
 use Rattle.std.proofs.lemmas.Bool.{eqb-true, lt-ltb}
@@ -16,23 +16,20 @@ use Rattle.s7_plant.specs.declared.request.Request.TheVariants.{Info}
 use Rattle.s7_plant.specs.Requests.{asked}
 use Rattle.s7_plant.specs.Replies.{Said}
 use Rattle.s7_plant.specs.State.{State}
-use Rattle.s7_dialogue.specs.declared.questions.subject.Subject.{Subject}
-use Rattle.s7_dialogue.specs.declared.questions.subject.Subject.TheVariants.{DataHead, Password, PasswordClearing}
+use Rattle.s7_dialogue.specs.declared.questions.subject.Subject.TheVariants.{DataHead}
 use Rattle.s7_dialogue.specs.Answer.{Answer, refuses, brings}
 use Rattle.s7_dialogue.specs.DataBlocks.{data_length}
 use Rattle.s7_dialogue.specs.Dialogue.{block_octets}
-use Rattle.s7_dialogue.specs.Question.{Question, asks, asks_further}
+use Rattle.s7_dialogue.specs.Question.{asks, asks_further}
 use Rattle.s7_dialogue.specs.Refusals.{part_refusal}
 use Rattle.s7_dialogue.proofs.FlightLemmas.{same_some}
 use Rattle.s7_session.specs.Judgement.{slice_room}
 use Rattle.s7_session.specs.Verdict.{Verdict}
 use Rattle.s7_rig.specs.Complete.{data_block}
 use Rattle.s7_rig.specs.Dialogues.{AreReplies}
-use Rattle.s7_rig.specs.Exchanges.{AsksFor, IsSecurity, user_heard, HasTold, is_refused, is_read, is_written}
-use Rattle.s7_rig.specs.Exchanges.{is_controlled, is_brought, is_secured, is_unnamed, is_barred, is_started}
-use Rattle.s7_rig.specs.Exchanges.{is_no_upload, is_sliced, is_ended, is_announced, is_unstored, is_called, is_given}
-use Rattle.s7_rig.specs.Exchanges.{is_inserted, is_further}
+use Rattle.s7_rig.specs.Exchanges.{AsksFor, user_heard, HasTold, is_refused, is_told}
 use Rattle.s7_rig.proofs.BlockFitLemmas.{data_told, load_told}
+use Rattle.s7_rig.proofs.PartLemmas.{no_refusal}
 
 -- ---- how many octets a head says that there are
 
@@ -57,73 +54,16 @@ length_told number stood = ap (λ n. n - 36) (load_told number stood) ∙ withou
 -- ---- what is replied
 
 -- the data block is there, and its head is told
-record IsTold (number : ℕ) (found : Option (List ℕ)) (reply : Said) : Type 0 where
+record IsHeadTold (number : ℕ) (found : Option (List ℕ)) (reply : Said) : Type 0 where
   stood : List ℕ
   there : found ≡ Some stood
   body : reply.body ≡ data_told number stood
 
 told_by : (number : ℕ) (found : Option (List ℕ)) (reply : Said)
-    → reply ≡ info_told 0x41 (option_map (db_image number) found) → reply.error ≡ 0 → IsTold number found reply
+    → reply ≡ info_told 0x41 (option_map (db_image number) found) → reply.error ≡ 0 → IsHeadTold number found reply
 told_by number None reply is good = absurd (omega (arith, ap (λ (r : Said). r.error) is, good))
 told_by number (Some stood) reply is good =
     record { stood = stood; there = refl; body = ap (λ (r : Said). r.body) is }
-
--- ---- what the questions for it are answered
-
--- what the head of a data block is asked for by, or further octets of it
-abbrev pub IsForHead : Question → Type 0
-IsForHead (asks DataHead octets) = Unit {0}
-IsForHead (asks_further subject octet so_far) = Unit {0}
-IsForHead _ = ⊥
-
-unsecured : (subject : Subject) (octets : List ℕ) → IsSecurity subject → IsForHead (asks subject octets) → ⊥
-unsecured Password octets security for_head = for_head
-unsecured PasswordClearing octets security for_head = for_head
-unsecured _ octets security for_head = security
-
-pub data HeadTold (pdu : ℕ) (question : Question) (answer : Answer) (new : List (Ask × Said)) : Type 0 where
-  head_refused : (error : ℕ) → answer ≡ refuses error → HeadTold pdu question answer new
-  head_told : (subject : Subject) (octets : List ℕ) (moment : ℕ) (right : Bool) (request : Request) (reply : Said)
-      (octet : ℕ) → question ≡ asks subject octets → AsksFor subject octets moment request
-      → new ≡ (asked right request, reply) ∷ [] → answer ≡ user_heard pdu octet reply
-      → HeadTold pdu question answer new
-  further_told : (subject : Subject) (octet : ℕ) (so_far piece : List ℕ) (more : Bool)
-      → question ≡ asks_further subject octet so_far → new ≡ [] → answer ≡ brings octet more piece
-      → HeadTold pdu question answer new
-
-pub head_answered : {pdu : ℕ} {own : List Verdict} (q : Question) (a : Answer) (new : List (Ask × Said))
-    → IsForHead q → HasTold pdu own q a new → HeadTold pdu q a new
-head_answered q a new for_head (is_refused error full none is) = head_refused error is
-head_answered q a new for_head (is_read items right reply is new_is told) = absurd (subst IsForHead is for_head)
-head_answered q a new for_head (is_written items octets right reply is new_is told) =
-    absurd (subst IsForHead is for_head)
-head_answered q a new for_head (is_controlled control right request reply is wants new_is told) =
-    absurd (subst IsForHead is for_head)
-head_answered q a new for_head
-    (is_brought subject octets moment right request reply octet is wants new_is told) =
-    head_told subject octets moment right request reply octet is wants new_is told
-head_answered q a new for_head (is_secured subject octets octet error is secures new_is told) =
-    absurd (unsecured subject octets secures (subst IsForHead is for_head))
-head_answered q a new for_head (is_unnamed subject octets is names new_is told) = head_refused 0x8404 told
-head_answered q a new for_head (is_barred kind number is barred new_is told) = absurd (subst IsForHead is for_head)
-head_answered q a new for_head (is_started name block right reply id is names new_is told) =
-    absurd (subst IsForHead is for_head)
-head_answered q a new for_head (is_no_upload name is none new_is told) = absurd (subst IsForHead is for_head)
-head_answered q a new for_head (is_sliced id size so_far rest is whole new_is told) =
-    absurd (subst IsForHead is for_head)
-head_answered q a new for_head (is_ended id is new_is told) = absurd (subst IsForHead is for_head)
-head_answered q a new for_head (is_announced image is new_is told) = absurd (subst IsForHead is for_head)
-head_answered q a new for_head (is_unstored image is unstored new_is told) = absurd (subst IsForHead is for_head)
-head_answered q a new for_head (is_called image call is new_is told) = absurd (subst IsForHead is for_head)
-head_answered q a new for_head (is_given image room from call next is new_is told) =
-    absurd (subst IsForHead is for_head)
-head_answered q a new for_head (is_inserted image call right reply is new_is told) =
-    absurd (subst IsForHead is for_head)
-head_answered {pdu} q a new for_head (is_further subject octet so_far rest is whole new_is told) =
-    further_told subject octet so_far (take (slice_room pdu) rest) (ltb (slice_room pdu) (length rest)) is new_is told
-
-pub no_refusal : (error : ℕ) → part_refusal (refuses error) ≡ None → ⊥
-no_refusal error none = cc
 
 -- ---- further octets
 
@@ -135,14 +75,18 @@ pub record PieceRead (answer : Answer) (new : List (Ask × Said)) : Type 0 where
   pub none_new : new ≡ []
   pub is : answer ≡ brings octet more piece
 
-pub piece_read : {pdu : ℕ} (octet : ℕ) (so_far : List ℕ) (a : Answer) (new : List (Ask × Said))
-    → HeadTold pdu (asks_further DataHead octet so_far) a new → part_refusal a ≡ None → PieceRead a new
-piece_read octet so_far a new (head_refused error is) none =
+pub piece_read : {pdu : ℕ} {own : List Verdict} (octet : ℕ) (so_far : List ℕ) (a : Answer) (new : List (Ask × Said))
+    → HasTold pdu own (asks_further DataHead octet so_far) a new → part_refusal a ≡ None → PieceRead a new
+piece_read octet so_far a new (is_refused error undone entered is) none =
     absurd (no_refusal error (ap part_refusal (sym is) ∙ none))
-piece_read octet so_far a new (head_told subject octets moment right request reply o is wants new_is told)
-    none = absurd (cc)
-piece_read octet so_far a new (further_told subject o before piece more is new_is told) none =
-    record { octet = o; more = more; piece = piece; none_new = new_is; is = told }
+piece_read {pdu} octet so_far a new (is_told t) none =
+    record {
+      octet = octet;
+      more = ltb (slice_room pdu) (length t.1);
+      piece = take (slice_room pdu) t.1;
+      none_new = t.0;
+      is = t.3;
+    }
 
 -- ---- the head
 
@@ -204,11 +148,6 @@ first_read number right reply pdu octet a new entries new_is told least none rep
           );
     }
 
--- what user data that is asked for asks of a plant
-abbrev pub Wants : Question → ℕ → Request → Type 0
-Wants (asks subject octets) moment request = AsksFor subject octets moment request
-Wants _ moment request = Unit {0}
-
 -- the octets of its name name the data block
 pub asks_info : (number moment : ℕ) (request : Request) → number < 65536
     → AsksFor DataHead (block_octets 0x41 number) moment request → request ≡ Info 0x41 number
@@ -218,16 +157,16 @@ asks_info number moment request low wants =
     same_some wants.0 name (sym wants.1 ∙ names_read.names name 0x41 (lt-ltb number 65536 low)) in
     wants.2 ∙ ap (λ (n : BlockName). Info n.kind n.number) same
 
-pub head_read : {pdu : ℕ} (number : ℕ) (a : Answer) (new entries : List (Ask × Said)) → 64 ≤ pdu → number < 65536
-    → HeadTold pdu (asks DataHead (block_octets 0x41 number)) a new → part_refusal a ≡ None
-    → AreReplies (new ++ entries) → HeadRead number a new
-head_read number a new entries least low (head_refused error is) none replies =
+pub head_read : {pdu : ℕ} {own : List Verdict} (number : ℕ) (a : Answer) (new entries : List (Ask × Said))
+    → 64 ≤ pdu → number < 65536 → HasTold pdu own (asks DataHead (block_octets 0x41 number)) a new
+    → part_refusal a ≡ None → AreReplies (new ++ entries) → HeadRead number a new
+head_read number a new entries least low (is_refused error undone entered is) none replies =
     absurd (no_refusal error (ap part_refusal (sym is) ∙ none))
 head_read {pdu} number a new entries least low
-    (head_told subject octets moment right request reply octet is wants new_is told) none replies =
-    let info : request ≡ Info 0x41 number =
-    asks_info number moment request low (subst (λ q. Wants q moment request) (sym is) wants) in
+    (is_told (inl (moment, request, octet, wants, (right, reply, entered, told)))) none replies =
+    let info : request ≡ Info 0x41 number = asks_info number moment request low wants in
     first_read number right reply pdu octet a new entries
-    (new_is ∙ ap (λ r. (asked right r, reply) ∷ []) info) told least none replies
-head_read number a new entries least low (further_told subject octet so_far piece more is new_is told) none replies =
-    absurd (cc)
+    (entered ∙ ap (λ r. (asked right r, reply) ∷ []) info) told least none replies
+head_read number a new entries least low (is_told (inr (inl security))) none replies = absurd security.0
+head_read number a new entries least low (is_told (inr (inr unnamed))) none replies =
+    absurd (no_refusal 0x8404 (ap part_refusal (sym unnamed.2) ∙ none))

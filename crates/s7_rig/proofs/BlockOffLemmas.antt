@@ -11,7 +11,6 @@ use Rattle.std.specs.declared.cmp.Ordering.{Ordering}
 use Rattle.std.specs.declared.cmp.Ordering.TheVariants.{Less, Equal, Greater}
 use Rattle.std.specs.Ordering.{is_eq, nat_cmp, ordering_then}
 use Rattle.std.proofs.lemmas.Bool.{and_from, eq-eqb, le-leb, lt-leb, leb-false, lt-ltb}
-use Rattle.std.proofs.lemmas.Bool.Decides.{nat_tests}
 use Rattle.std.proofs.lemmas.Map.Lookups.{exact_unsigned}
 use Rattle.s7_item.specs.Codes.{data_blocks}
 use Rattle.s7_item.specs.Item.{octet_count}
@@ -40,6 +39,8 @@ use Rattle.s7_rig.specs.Complete.{IsThere, IsBlock, data_block}
 use Rattle.s7_rig.specs.Exchanges.{NamesNone}
 use Rattle.s7_rig.proofs.BlockHeadLemmas.{asks_info}
 use Rattle.s7_rig.proofs.HoldReplies.{IsGood}
+use Rattle.s7_rig.proofs.ListFacts.{not_both}
+use Rattle.s7_rig.proofs.PlacedLemmas.{not_none}
 use Rattle.s7_rig.proofs.ShapeLemmas.{SameShape}
 
 pub some_is : {A : Type 0} (o : Option A) → IsSome o → (x : A) × (o ≡ Some x)
@@ -52,9 +53,6 @@ byte_code : (m : Memory) (number from count : ℕ)
     → place_code m (data_item number from count) ≡ code_in (data_block m number) (data_item number from count)
 unfolding is_misfit size_of
 byte_code m number from count = refl
-
-not_none : (count : ℕ) → 0 < count → not (eqb count 0) ≡ true
-not_none count some = grind (arith, nat_tests)
 
 byte_inside : (number from count len : ℕ) → 0 < count → from + count ≤ len
     → is_inside (data_item number from count) len ≡ true
@@ -204,9 +202,6 @@ same_block m n number octets same found =
     ∙ (byte_code n number k 1 ∙ (ap (λ f. code_at f number k) found ∙ code_inside octets number k))))
 
 -- ---- its head is told
-
-not_both : (found : Option BlockName) (name : BlockName) → found ≡ None → found ≡ Some name → ⊥
-not_both found name none is = cc
 
 pub names_block : (number : ℕ) → number < 65536 → NamesNone BlockHead (block_octets 0x41 number) → ⊥
 names_block number low none =

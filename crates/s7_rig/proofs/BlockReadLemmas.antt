@@ -4,39 +4,35 @@ use Rattle.std.proofs.Common.{◌++◌}
 use Rattle.std.proofs.Common.{length, replicate, refl, ap, ap₂, sym, ◌∙◌, subst, arith, length-append, append_assoc}
 use Rattle.std.proofs.Common.{append-nil}
 use Rattle.std.specs.Prelude.{slice_get}
-use Rattle.std.specs.List.{AllByRecursion}
 use Rattle.std.proofs.lemmas.List.{length-replicate, map-append}
 use Rattle.s7_item.specs.declared.item.Item.{Item}
-use Rattle.s7_plant.specs.declared.request.Ask.{Ask}
-use Rattle.s7_plant.specs.declared.request.Request.TheVariants.{Read}
-use Rattle.s7_plant.specs.Requests.{asked}
-use Rattle.s7_plant.specs.Replies.{Said}
 use Rattle.s7_dialogue.specs.declared.grant.Grant.{Grant}
 use Rattle.s7_dialogue.specs.declared.job.Job.TheVariants as job
 use Rattle.s7_dialogue.specs.declared.questions.subject.Subject.TheVariants.{DataHead}
-use Rattle.s7_dialogue.specs.Question.{Question, reads, asks, asks_further}
-use Rattle.s7_dialogue.specs.Answer.{Answer, ItemAnswer, refuses, tells, brings}
+use Rattle.s7_dialogue.specs.Question.{Question, asks, asks_further}
+use Rattle.s7_dialogue.specs.Answer.{Answer, tells, brings}
 use Rattle.s7_dialogue.specs.DataBlocks.{data_length, data_parts}
 use Rattle.s7_dialogue.specs.Refusals.{part_refusal}
 use Rattle.s7_dialogue.specs.Flight.{Row, answers_of}
 use Rattle.s7_dialogue.specs.Dialogue.{End, Conduct, read_questions, alone, block_octets, octets_in, octets_brought}
 use Rattle.s7_dialogue.specs.Dialogue.{octets_told, last_answer, behind, or_later, is_of_data, count_of_data}
 use Rattle.s7_dialogue.specs.Dialogue.{next_of_data, getting, first_or, refusal_in, first_refusal, connected_plan}
-use Rattle.s7_dialogue.specs.Dialogue.{plan_of}
+use Rattle.s7_dialogue.specs.Dialogue.{good_end, plan_of}
 use Rattle.s7_dialogue.specs.Course.{Origin, conduct_of}
 use Rattle.s7_dialogue.proofs.FlightLemmas.{same_some, nothing_left}
 use Rattle.s7_dialogue.proofs.EndLemmas.{first_none}
 use Rattle.s7_client.proofs.FitLemmas.{one_of_all}
 use Rattle.s7_client.proofs.FormLemmas.{first_positive, part_positive}
-use Rattle.s7_rig.specs.Heard.{told_of}
 use Rattle.s7_rig.specs.Dialogues.{AreReplies, ReadsParts, ReadsBlock}
 use Rattle.s7_rig.specs.Exchanges.{HasTold}
 use Rattle.s7_rig.proofs.Awaiting.{AreAsked, AreInTurn}
 use Rattle.s7_rig.proofs.Conversing.{Exchange, entries_of, rows_of, AreTold, Converses}
 use Rattle.s7_rig.proofs.HoldPieces.{brought_more, last_more}
+use Rattle.s7_rig.proofs.ListFacts.{not_both}
 use Rattle.s7_rig.proofs.TelegramLemmas.{open_none}
-use Rattle.s7_rig.proofs.PartLemmas.{reading, ended_by, PartTold, group_refused, group_told, part_answered, parts_read}
-use Rattle.s7_rig.proofs.BlockHeadLemmas.{length_kept, head_answered, piece_read, head_read}
+use Rattle.s7_rig.proofs.GroupLemmas.{finished_by}
+use Rattle.s7_rig.proofs.PartLemmas.{reading, ReadsOne, each_one, part_tells, parts_read, replies_behind}
+use Rattle.s7_rig.proofs.BlockHeadLemmas.{length_kept, piece_read, head_read}
 
 -- ---- small lemmas
 
@@ -51,13 +47,6 @@ plus_more k n = omega arith
 
 counted_on : (a b c n : ℕ) → n ≡ b + c → a + n ≡ a + b + c
 counted_on a b c n is = omega (arith, is)
-
-not_both : {A : Type 0} (o : Option A) (x : A) → o ≡ Some x → o ≡ None → ⊥
-not_both o x some none = cc
-
-replies_behind : (xs ys : List (Ask × Said)) → AreReplies (xs ++ ys) → AreReplies ys
-replies_behind [] ys h = h
-replies_behind (x ∷ xs) ys h = replies_behind xs ys h.1
 
 -- where no answer refuses, it doesn't matter from which place on they are counted
 place_free : (refusal : Answer → Option ℕ) (p q : ℕ) (answers : List (Option Answer))
@@ -161,26 +150,6 @@ stands_on {first} {so_far} {last} {count} rows x a same h =
 
 -- ---- the parts
 
--- the question reads one item
-abbrev ReadsOne : Question → Type 0
-ReadsOne q = (part : Item) × (q ≡ reads (part ∷ []))
-
-each_one : (parts : List Item) → AllByRecursion ReadsOne (read_questions (alone parts))
-each_one [] = tt
-each_one (part ∷ parts) = ((part, refl), each_one parts)
-
-part_tells : (part : Item) (a : Answer) (new entries : List (Ask × Said)) → PartTold part a new
-    → part_refusal a ≡ None → AreReplies (new ++ entries) → (t : ItemAnswer) × (a ≡ tells (t ∷ []))
-part_tells part a new entries (group_refused error is) none replies =
-    absurd (refused error (ap part_refusal (sym is) ∙ none))
-  where
-    refused : (error : ℕ) → part_refusal (refuses error) ≡ None → ⊥
-    refused error e = cc
-part_tells part a new entries (group_told right reply is told) none replies =
-    let given : AreReplies ((asked right (Read (part ∷ [])), reply) ∷ entries) =
-    subst (λ es. AreReplies (es ++ entries)) is replies in
-    (told_of given.0.0.memory right part, told given.0.0 given.0.1)
-
 -- The exchanges ask for the parts from a place on, and for all of them.
 record AsksParts (grant : Grant) (parts : List Item) (place : ℕ) (xs : List Exchange) : Type 0 where
   asked_are : AreAsked (reading grant parts).conduct place (rows_of xs)
@@ -217,8 +186,7 @@ module _ (pdu : ℕ) (grant : Grant) (number : ℕ) where
       let size : ℕ = data_length so_far in
       let asks_it : slice_get (questions size) count ≡ Some x.question = sym (next_part none h) ∙ g.turn.0.is in
       let one = one_of_all ReadsOne (questions size) count x.question (each_one (parts size)) asks_it in
-      let told = part_answered one.0 x.answer x.entries
-      (subst (λ q. HasTold pdu x.verdicts q x.answer x.entries) one.1 g.told.0) in
+      let told = subst (λ q. HasTold pdu x.verdicts q x.answer x.entries) one.1 g.told.0 in
       let t = part_tells one.0 x.answer x.entries (entries_of xs) told (good_here g) g.replies in
       let a : Answer = tells (t.0 ∷ []) in
       let all : List Row = rows ++ row_of x ∷ [] in
@@ -250,20 +218,19 @@ module _ (pdu : ℕ) (grant : Grant) (number : ℕ) where
   pieces_read so_far octet false piece place first rows xs long h g =
       let all : List Item = parts (data_length so_far) in
       let a = parts_asked so_far (Some (brings octet false piece)) 0 place first rows xs refl h g in
-      parts_read pdu grant all [] all xs refl a.asked_are a.last
+      parts_read pdu grant all xs a.asked_are a.last
       (place_free part_refusal place 0 (answers_of (rows_of xs)) g.unrefused) g.told g.replies
   pieces_read so_far octet true piece place first rows [] long h g =
       absurd
       (not_both (conduct.question_at (answers_of (first ∷ rows))) (asks_further DataHead octet so_far)
-      (next_is (block_octets 0x41 number) questions h) (g.last rows (sym (append-nil rows))))
+      (g.last rows (sym (append-nil rows))) (next_is (block_octets 0x41 number) questions h))
   pieces_read so_far octet true piece place first rows (x ∷ xs) long h g =
       let q : Question = asks_further DataHead octet so_far in
       let size : ℕ = data_length so_far in
       let answers : List (Option Answer) = answers_of (rows_of xs) in
       let is : q ≡ x.question =
       same_some q x.question (sym (next_is (block_octets 0x41 number) questions h) ∙ g.turn.0.is) in
-      let told = head_answered q x.answer x.entries tt
-      (subst (λ q. HasTold pdu x.verdicts q x.answer x.entries) (sym is) g.told.0) in
+      let told = subst (λ q. HasTold pdu x.verdicts q x.answer x.entries) (sym is) g.told.0 in
       let p = piece_read octet so_far x.answer x.entries told (good_here g) in
       let others = pieces_read (so_far ++ p.piece) p.octet p.more p.piece (place + 1) first (rows ++ row_of x ∷ []) xs
       (omega (arith, length-append so_far p.piece, long))
@@ -288,8 +255,7 @@ module _ (pdu : ℕ) (grant : Grant) (number : ℕ) where
       let answers : List (Option Answer) = answers_of (rows_of xs) in
       let is : q ≡ x.question = same_some q x.question turn.0.is in
       let both = first_none (part_refusal x.answer) 0 (first_refusal part_refusal 1 answers) none in
-      let heard = head_answered q x.answer x.entries tt
-      (subst (λ q. HasTold pdu x.verdicts q x.answer x.entries) (sym is) told.0) in
+      let heard = subst (λ q. HasTold pdu x.verdicts q x.answer x.entries) (sym is) told.0 in
       let head = head_read number x.answer x.entries (entries_of xs) least low heard both.0 replies in
       let goes : GoesBy pdu conduct 1 (row_of x) [] xs =
       record {
@@ -315,10 +281,10 @@ module _ (pdu : ℕ) (grant : Grant) (number : ℕ) where
       let rows = rows_of xs in
       let answers = answers_of rows in
       let both =
-      ended_by (first_refusal part_refusal 0 answers) (octets_told answers) end
+      finished_by (first_refusal part_refusal 0 answers) (good_end (octets_told answers) []) end
       (λ r e. first_positive part_refusal 0 answers r part_positive e) c.is good in
       let last = nothing_left conduct rows (omega (arith, open_none xs)) both.0 c.none_more in
-      subst (ReadsBlock number grant.pdu (entries_of xs)) (sym both.1)
+      subst (λ (e : End). ReadsBlock number grant.pdu (entries_of xs) e.octets) (sym both.1)
       (exchanges_read xs least low last both.0 (c.in_turn (omega arith)) c.told replies)
 
 -- A read of a whole data block that came off has read its head and then its parts, whatever memories replied.

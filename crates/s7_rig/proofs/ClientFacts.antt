@@ -3,15 +3,14 @@ use Rattle.std.proofs.Common.{◌≡◌, ℕ, List, [], ◌∷◌, ◌++◌, len
 use Rattle.std.specs.Prelude.{Option, None, Some, unwrap_or, option_map, IsSome}
 use Rattle.std.specs.Borrow.{GName}
 use Rattle.std.specs.Io.KnownBytes.{prepend_known, append_known}
-use Rattle.s7_outer.specs.PipesHeld.{PipesHeld}
-use Rattle.s7_outer.specs.Pipes.{end_of}
-use Rattle.s7_outer.specs.declared.pipes.Side.TheVariants as side
+use Rattle.s7_memory.specs.PipesHeld.{PipesHeld}
+use Rattle.s7_memory.specs.Pipes.{end_of}
+use Rattle.s7_memory.specs.declared.pipes.Side.TheVariants as side
 use Rattle.s7_client.specs.declared.connection.Connection.{Connection}
 use Rattle.s7_dialogue.specs.declared.job.Job.{Job}
 use Rattle.s7_dialogue.specs.Course.{Origin}
 use Rattle.s7_client.specs.Polling.{StandsFor, job_of, waited_of, WaitsOnce}
 use Rattle.std.proofs.lemmas.List.{append-nil}
-use Rattle.s7_rig.proofs.ListFacts.{tail_of}
 use Rattle.s7_rig.proofs.EndLemmas.{IsQuiet}
 
 -- a client that stands for octets has a job
@@ -80,7 +79,3 @@ pub used_nothing : (unread received used : List ℕ) (to_client : List ℕ) → 
 used_nothing unread received used to_client took inbox =
     let none : received ≡ [] = no_octets received to_client (ap length (sym took)) in
     no_octets used unread (ap length (sym inbox ∙ ap (λ x. unread ++ x) none ∙ append-nil unread))
-
-pub wrote_nothing : (to_server written : List ℕ) → to_server ≡ to_server ++ written → written ≡ []
-wrote_nothing [] written e = sym e
-wrote_nothing (x ∷ xs) written e = wrote_nothing xs written (ap tail_of e)

@@ -3,10 +3,10 @@ use Rattle.std.proofs.Common.{◌≡◌, ◌⊎◌, inl, inr, ℕ, ◌<◌, ◌�
 use Rattle.std.specs.Prelude.{Bool, true, Option, None, Some, unwrap_or, map, if◌then◌else◌}
 use Rattle.std.specs.Borrow.{GName}
 use Rattle.std.proofs.lemmas.List.{append-nil, append_cancel_left, map-append}
-use Rattle.s7_outer.specs.PipesHeld.{PipesHeld}
-use Rattle.s7_outer.specs.Pipes.{end_of}
+use Rattle.s7_memory.specs.PipesHeld.{PipesHeld}
+use Rattle.s7_memory.specs.Pipes.{end_of}
 use Rattle.s7_outer.specs.Shown.{Shown}
-use Rattle.s7_outer.specs.declared.pipes.Side.TheVariants as side
+use Rattle.s7_memory.specs.declared.pipes.Side.TheVariants as side
 use Rattle.s7_area.specs.Memory.{Memory}
 use Rattle.s7_header.specs.Negotiation.{most_pdu}
 use Rattle.s7_client.specs.declared.connection.Connection.{Connection}
@@ -36,7 +36,7 @@ use Rattle.s7_rig.specs.Turns.{StartsNext, StartsNothing, with_polled, IsClientT
 use Rattle.s7_rig.specs.Scripts.{IsNoConnect, NoneConnects, ConnectsFirst}
 use Rattle.s7_rig.specs.Split.{AllStand, state_at}
 use Rattle.s7_rig.proofs.Conversing.{entries_of, rows_of, verdicts_met, Converses, WentBy}
-use Rattle.s7_rig.proofs.Joint.{Octets, IsConnecting, IsWorking, IsFailing, IsLost, Mode, untouched, connecting, connected, working, lost, Joint}
+use Rattle.s7_rig.proofs.Joint.{Octets, IsConnecting, IsWorking, IsFailing, IsLost, ModeOf, own_in, untouched, connecting, connected, working, lost, Joint}
 use Rattle.s7_session.specs.Verdict.{Verdict}
 use Rattle.s7_session.specs.Owed.{past, owed, entered}
 use Rattle.s7_session.specs.Stands.{unsent}
@@ -60,7 +60,8 @@ use Rattle.s7_dialogue.specs.Flight.{answers_of}
 use Rattle.s7_rig.proofs.OwnLemmas.{own_replies, own_are_same}
 use Rattle.s7_rig.proofs.PlaceLemmas.{stands_at, reads_nothing, all_stand_more}
 use Rattle.s7_rig.specs.Plants.{IsPlant}
-use Rattle.s7_rig.proofs.ClientFacts.{pipes_quiet, has_job, waits_for_none, some_job, took, wrote, same_moment, given_on, taken_on, wrote_nothing}
+use Rattle.s7_rig.proofs.ClientFacts.{pipes_quiet, has_job, waits_for_none, some_job, took, wrote, same_moment, given_on, taken_on}
+use Rattle.s7_rig.proofs.ListFacts.{none_behind}
 
 -- ---- the first job and the others
 
@@ -103,25 +104,13 @@ module _ (opening : Memory) (limit : ℕ) (config : Config) (book : BookTold)
   -- the client alone is another, with the same octets unread
   joint_started : (p : Post) (rest : List Job) (c : Connection) (o : Octets) → Joint opening limit config book p o
       → client.unread_of c ≡ client.unread_of p.client → client.config_of c ≡ config
-      → Mode opening config book (record p { rest = rest; client = c; noted = Some [] }) o
+      → ModeOf opening config book (record p { rest = rest; client = c; noted = Some [] }) o
       → Joint opening limit config book (record p { rest = rest; client = c; noted = Some [] }) o
   joint_started p rest c o j unread conf mode = record {
-    opened = j.opened;
-    limited = j.limited;
-    stands = j.stands;
+    serving = j.serving;
     taken = j.taken;
     given = j.given ∙ ap (λ x. o.heard ++ (x ++ p.pipes.to_client)) (sym unread);
-    asked = j.asked;
-    met = j.met;
-    legal = j.legal;
-    begun = j.begun;
-    trail = j.trail;
-    sound = j.sound;
-    clock = j.clock;
     moment_is = j.moment_is;
-    moments = j.moments;
-    count = j.count;
-    last = j.last;
     config_is = conf;
     done = j.done;
     comes_off = j.comes_off;
@@ -132,7 +121,7 @@ module _ (opening : Memory) (limit : ℕ) (config : Config) (book : BookTold)
   unread_kept p c j s calm = s.unread ∙ ap (λ b. if b then [] else client.unread_of p.client) (not_anew (client.grant_of p.client) j calm)
 
   start_mode : (p : Post) (j : Job) (rest : List Job) (c : Connection) (o : Octets) → Joint opening limit config book p o
-      → client.job_of p.client ≡ None → p.rest ≡ j ∷ rest → client.IsStarted p.client c j → Mode opening config book p o
+      → client.job_of p.client ≡ None → p.rest ≡ j ∷ rest → client.IsStarted p.client c j → ModeOf opening config book p o
       → Joint opening limit config book (record p { rest = rest; client = c; noted = Some [] }) o
   start_mode p j rest c o joint idle left s (untouched u) =
       let jobs = connects_first j rest (subst ConnectsFirst left u.jobs) in
@@ -140,7 +129,7 @@ module _ (opening : Memory) (limit : ℕ) (config : Config) (book : BookTold)
       s.unread ∙ ap (λ x. if begins_anew x j then [] else client.unread_of p.client) u.fresh.granted ∙ ap (λ x. if begins_anew None x then [] else client.unread_of p.client) jobs.0 in
       joint_started p rest c o joint (none ∙ sym u.fresh.unread) (s.config ∙ joint.config_is) (connecting (record {
         origin = client.origin_at p.client j;
-        stands = subst (λ x. client.StandsFor c (client.origin_at p.client j) x o.sent) (sym u.heard) (subst (λ x. client.StandsFor c (client.origin_at p.client j) [] x) (sym u.sent) s.stands);
+        stands = subst (λ x. client.StandsFor c (client.origin_at p.client j) x o.sent) (sym u.none_heard) (subst (λ x. client.StandsFor c (client.origin_at p.client j) [] x) (sym u.none_sent) s.stands);
         job = jobs.0;
         config_is = u.fresh.config;
         granted = u.fresh.granted;
@@ -150,29 +139,31 @@ module _ (opening : Memory) (limit : ℕ) (config : Config) (book : BookTold)
   start_mode p j rest c o joint idle left s (connected k) =
       let jobs : NoneConnects (j ∷ rest) = subst NoneConnects left k.jobs in
       joint_started p rest c o joint (unread_kept p c j s jobs.0) (s.config ∙ joint.config_is) (working (record {
-        origin = client.origin_at p.client j;
+        begun = record {
+          origin = client.origin_at p.client j;
+          job = jobs.0;
+          grant = k.grant;
+          granted = k.granted;
+          pdu = k.pdu;
+          size = k.size;
+          sequence = k.sequence;
+          before = o.used;
+          judged = o.verdicts;
+          settled = k.settled;
+          earlier = own_in opening book p.link;
+          earlier_are = entered_is p o joint;
+        };
         heard = [];
         sent = [];
         stands = s.stands;
-        job = jobs.0;
-        grant = k.grant;
-        granted = k.granted;
-        pdu = k.pdu;
-        size = k.size;
-        sequence = k.sequence;
-        before = o.used;
-        judged = o.verdicts;
         used = [];
         verdicts = [];
-        settled = k.settled;
         sent_is = sym k.all_used ∙ sym (append-nil o.used);
         heard_is = sym k.all_heard ∙ sym (append-nil _);
         used_is = sym (append-nil o.used);
         verdicts_are = sym (append-nil o.verdicts);
-        earlier = own (begins_with opening) p.link (history_of book);
         mine = [];
         entries_are = sym (append-nil _);
-        earlier_are = entered_is p o joint;
         noted = refl;
         jobs = jobs.1;
       }))
@@ -213,25 +204,13 @@ module _ (opening : Memory) (limit : ℕ) (config : Config) (book : BookTold)
       → client.config_of c ≡ client.config_of p.client
       → AllStand (begins_with opening) (history_of book) p.link config.pdu results places
       → ((AnyFull o.verdicts → ⊥) → AllComeOff opening (history_of book) config.pdu results places)
-      → Mode opening config book (polled_post p c pipes results places noted) (after o m.used m.written)
+      → ModeOf opening config book (polled_post p c pipes results places noted) (after o m.used m.written)
       → Joint opening limit config book (polled_post p c pipes results places noted) (after o m.used m.written)
   joint_polled p c pipes results places noted loan o j m same done comes_off mode = record {
-    opened = j.opened;
-    limited = j.limited;
-    stands = j.stands;
+    serving = j.serving;
     taken = taken_on o.sent o.used (unread p.session) p.pipes.to_server m.written pipes.to_server j.taken (wrote loan p.pipes pipes m.written m.wrote);
     given = given_on o.answered o.heard (client.unread_of p.client) p.pipes.to_client m.received m.used (client.unread_of c) pipes.to_client j.given (took loan p.pipes pipes m.received m.took) m.inbox;
-    asked = j.asked;
-    met = j.met;
-    legal = j.legal;
-    begun = j.begun;
-    trail = j.trail;
-    sound = j.sound;
-    clock = j.clock;
     moment_is = same_moment loan p.pipes pipes m.moment ∙ j.moment_is;
-    moments = j.moments;
-    count = j.count;
-    last = j.last;
     config_is = same ∙ j.config_is;
     done = done;
     comes_off = comes_off;
@@ -242,7 +221,7 @@ module _ (opening : Memory) (limit : ℕ) (config : Config) (book : BookTold)
   moved p c pipes = record p { client = c; pipes = pipes }
 
   pending_mode : (p : Post) (c : Connection) (pipes : PipesHeld) (link link' : Shown) (used written : List ℕ) (o : Octets)
-      → client.Comes p.client link c link' used written polled.Pending → Mode opening config book p o → Mode opening config book (moved p c pipes) (after o used written)
+      → client.Comes p.client link c link' used written polled.Pending → ModeOf opening config book p o → ModeOf opening config book (moved p c pipes) (after o used written)
   pending_mode p c pipes link link' used written o comes (untouched u) = absurd (waits_for_none p.client c (client.config_of p.client).polls u.fresh.job comes.0.waited)
   pending_mode p c pipes link link' used written o comes (connecting k) = connecting (record {
     origin = k.origin;
@@ -254,29 +233,18 @@ module _ (opening : Memory) (limit : ℕ) (config : Config) (book : BookTold)
   })
   pending_mode p c pipes link link' used written o comes (connected k) = absurd (waits_for_none p.client c (client.config_of p.client).polls k.idle comes.0.waited)
   pending_mode p c pipes link link' used written o comes (working w) = working (record {
-    origin = w.origin;
+    begun = w.begun;
     heard = w.heard ++ used;
     sent = w.sent ++ written;
     stands = (comes.1 w.origin w.heard w.sent w.stands).stands;
-    job = w.job;
-    grant = w.grant;
-    granted = w.granted;
-    pdu = w.pdu;
-    size = w.size;
-    sequence = w.sequence;
-    before = w.before;
-    judged = w.judged;
     used = w.used;
     verdicts = w.verdicts;
-    settled = w.settled;
     sent_is = ap (λ x. x ++ written) w.sent_is ∙ append_assoc w.before w.sent written;
     heard_is = ap (λ x. x ++ used) w.heard_is ∙ append_assoc _ w.heard used;
     used_is = w.used_is;
     verdicts_are = w.verdicts_are;
-    earlier = w.earlier;
     mine = w.mine;
     entries_are = w.entries_are;
-    earlier_are = w.earlier_are;
     noted = w.noted;
     jobs = w.jobs;
   })
@@ -287,7 +255,7 @@ module _ (opening : Memory) (limit : ℕ) (config : Config) (book : BookTold)
     jobs = l.jobs;
   })
     where
-      still : (client.job_of p.client ≡ None) ⊎ IsFailing p → (client.job_of c ≡ None) ⊎ IsFailing (moved p c pipes)
+      still : (client.job_of p.client ≡ None) ⊎ IsFailing p.client → (client.job_of c ≡ None) ⊎ IsFailing c
       still (inl idle) = absurd (waits_for_none p.client c (client.config_of p.client).polls idle comes.0.waited)
       still (inr f) = inr (record {
         origin = f.origin;
@@ -299,24 +267,6 @@ module _ (opening : Memory) (limit : ℕ) (config : Config) (book : BookTold)
       })
 
   -- a client without a job changes nothing
-  idle_mode : (p : Post) (pipes : PipesHeld) (o : Octets) → client.job_of p.client ≡ None → Mode opening config book p o → Mode opening config book (record p { pipes = pipes }) o
-  idle_mode p pipes o idle (untouched u) = untouched (record { fresh = u.fresh; jobs = u.jobs; noted = u.noted; sent = u.sent; heard = u.heard })
-  idle_mode p pipes o idle (connecting k) = absurd (has_job p.client k.origin o.heard o.sent k.stands idle)
-  idle_mode p pipes o idle (connected k) = connected (record {
-    idle = k.idle;
-    grant = k.grant;
-    granted = k.granted;
-    pdu = k.pdu;
-    size = k.size;
-    sequence = k.sequence;
-    settled = k.settled;
-    all_used = k.all_used;
-    all_heard = k.all_heard;
-    jobs = k.jobs;
-  })
-  idle_mode p pipes o idle (working w) = absurd (has_job p.client w.origin w.heard w.sent w.stands idle)
-  idle_mode p pipes o idle (lost l) = lost (record { ungranted = l.ungranted; gone = l.gone; job = inl idle; jobs = l.jobs })
-
   same_octets : (o : Octets) (written : List ℕ) → written ≡ [] → o.sent ≡ o.sent ++ written
   same_octets o written none = sym (append-nil o.sent) ∙ ap (λ x. o.sent ++ x) (sym none)
 
@@ -328,29 +278,17 @@ module _ (opening : Memory) (limit : ℕ) (config : Config) (book : BookTold)
       let to_client : p.pipes.to_client ≡ pipes.to_client = ap (λ (k : Shown). unwrap_or k.left []) (sym comes.2) in
       let to_server : p.pipes.to_server ≡ pipes.to_server = ap (λ (k : Shown). unwrap_or k.written []) (sym comes.2) in
       let base : Joint opening limit config book (record p { pipes = pipes }) o = record {
-        opened = j.opened;
-        limited = j.limited;
-        stands = j.stands;
+        serving = j.serving;
         taken = j.taken ∙ ap (λ x. o.used ++ (unread p.session ++ x)) to_server;
         given = j.given ∙ ap (λ x. o.heard ++ (client.unread_of p.client ++ x)) to_client;
-        asked = j.asked;
-        met = j.met;
-        legal = j.legal;
-        begun = j.begun;
-        trail = j.trail;
-        sound = j.sound;
-        clock = j.clock;
         moment_is = ap (λ (k : Shown). unwrap_or k.moment 0) comes.2 ∙ j.moment_is;
-        moments = j.moments;
-        count = j.count;
-        last = j.last;
         config_is = j.config_is;
         done = j.done;
         comes_off = j.comes_off;
-        mode = idle_mode p pipes o comes.0 j.mode;
+        mode = j.mode;
       } in (
         o,
-        same_octets o written (wrote_nothing p.pipes.to_server written (to_server ∙ wrote_is)),
+        same_octets o written (none_behind p.pipes.to_server written (to_server ∙ wrote_is)),
         refl,
         subst (λ x. Joint opening limit config book (moved p x pipes) o) (sym comes.1) base,
       )
@@ -362,7 +300,7 @@ module _ (opening : Memory) (limit : ℕ) (config : Config) (book : BookTold)
     pub comes_off : (AnyFull o'.verdicts → ⊥) → AllComeOff opening (history_of book) config.pdu p.results p.places
         → AllComeOff opening (history_of book) config.pdu (p.results ++ told ∷ [])
         (p.places ++ unwrap_or p.noted [] ∷ [])
-    pub mode : Mode opening config book (polled_post p c pipes (p.results ++ told ∷ []) (p.places ++ unwrap_or p.noted [] ∷ []) None) o'
+    pub mode : ModeOf opening config book (polled_post p c pipes (p.results ++ told ∷ []) (p.places ++ unwrap_or p.noted [] ∷ []) None) o'
 
   -- the session owes what the client used, and more that is on its way
   owes : (p : Post) (c : Connection) (pipes : PipesHeld) (o : Octets) (heard : List ℕ) → Joint opening limit config book p o
@@ -375,7 +313,7 @@ module _ (opening : Memory) (limit : ℕ) (config : Config) (book : BookTold)
       → Joint opening limit config book p o
       → o.sent ++ written ≡ o.used ++ (unread p.session ++ pipes.to_server)
       → o.answered ≡ (o.heard ++ used) ++ (client.unread_of c ++ pipes.to_client)
-      → client.job_of c ≡ None → (k : IsConnecting config p o) → IsQuiet link link'
+      → client.job_of c ≡ None → (k : IsConnecting config p.client p.rest o.sent o.heard) → IsQuiet link link'
       → client.IsDone k.origin link link' p.client c told (o.heard ++ used) (o.sent ++ written)
       → Ends p c pipes told (after o used written)
   connect_done least most p c pipes link link' used written o told j taken given idle k quiet d =
@@ -440,7 +378,7 @@ module _ (opening : Memory) (limit : ℕ) (config : Config) (book : BookTold)
       (j : Joint opening limit config book p o)
       (taken : o.sent ++ written ≡ o.used ++ (unread p.session ++ pipes.to_server))
       (given : o.answered ≡ (o.heard ++ used) ++ (client.unread_of c ++ pipes.to_client))
-      (idle : client.job_of c ≡ None) (w : IsWorking opening config book p o) (quiet : IsQuiet link link')
+      (idle : client.job_of c ≡ None) (w : IsWorking first config (own_in opening book p.link) p.client p.rest p.noted o) (quiet : IsQuiet link link')
       (d : client.IsDone w.origin link link' p.client c told (w.heard ++ used) (w.sent ++ written)) where
     abbrev heard : List ℕ
     heard = w.heard ++ used
@@ -487,7 +425,7 @@ module _ (opening : Memory) (limit : ℕ) (config : Config) (book : BookTold)
 
     -- the client isn't connected after it
     lost_by : (leaves : Leaves) → d.end.leaves ≡ leaves → client.grant_after leaves (Some w.grant) ≡ None → IsGone told
-        → Mode opening config book (polled_post p c pipes (p.results ++ told ∷ []) (p.places ++ unwrap_or p.noted [] ∷ []) None) (after o used written)
+        → ModeOf opening config book (polled_post p c pipes (p.results ++ told ∷ []) (p.places ++ unwrap_or p.noted [] ∷ []) None) (after o used written)
     lost_by leaves is none gone = lost (record {
       ungranted = d.granted ∙ ap (client.grant_after d.end.leaves) granted ∙ ap (λ l. client.grant_after l (Some w.grant)) is ∙ none;
       gone = gone_now p.results told gone;
@@ -616,7 +554,7 @@ module _ (opening : Memory) (limit : ℕ) (config : Config) (book : BookTold)
     job_done = job_ends (working_ends w.origin link link' (client.unread_of c) d.end d.carried heard sent (client.waited_of p.client) w.grant w.granted quiet d.cause)
 
   failed_done : (p : Post) (c : Connection) (pipes : PipesHeld) (link link' : Shown) (used written : List ℕ) (o : Octets) (told : JobResult)
-      → client.job_of c ≡ None → (l : IsLost p) (f : IsFailing p)
+      → client.job_of c ≡ None → (l : IsLost p.client p.rest p.results) (f : IsFailing p.client)
       → client.IsDone f.origin link link' p.client c told (f.heard ++ used) (f.sent ++ written)
       → Ends p c pipes told (after o used written)
   failed_done p c pipes link link' used written o told idle l f d = record {
@@ -638,7 +576,7 @@ module _ (opening : Memory) (limit : ℕ) (config : Config) (book : BookTold)
       → o.sent ++ written ≡ o.used ++ (unread p.session ++ pipes.to_server)
       → o.answered ≡ (o.heard ++ used) ++ (client.unread_of c ++ pipes.to_client)
       → IsQuiet link link' → client.Comes p.client link c link' used written (polled.Done told)
-      → Mode opening config book p o
+      → ModeOf opening config book p o
       → Ends p c pipes told (after o used written)
   done_by least most p c pipes link link' used written o told j taken given quiet comes (untouched u) = absurd (some_job (client.job_of p.client) comes.0 u.fresh.job)
   done_by least most p c pipes link link' used written o told j taken given quiet comes (connecting k) =
@@ -648,7 +586,7 @@ module _ (opening : Memory) (limit : ℕ) (config : Config) (book : BookTold)
       job_done least most p c pipes link link' used written o told j taken given comes.1 w quiet (comes.2 w.origin w.heard w.sent w.stands)
   done_by least most p c pipes link link' used written o told j taken given quiet comes (lost l) = by l.job
     where
-      by : (client.job_of p.client ≡ None) ⊎ IsFailing p → Ends p c pipes told (after o used written)
+      by : (client.job_of p.client ≡ None) ⊎ IsFailing p.client → Ends p c pipes told (after o used written)
       by (inl idle) = absurd (some_job (client.job_of p.client) comes.0 idle)
       by (inr f) = failed_done p c pipes link link' used written o told comes.1 l f (comes.2 f.origin f.heard f.sent f.stands)
 

@@ -1,5 +1,5 @@
 -- A job that can come off does, where no history was full and no clock failed.
-use Rattle.std.proofs.Common.{◌≡◌, ℕ, ◌+◌, ◌≤◌, Bool, true, false, cond, eqb, Option, Some, List, [], ◌∷◌}
+use Rattle.std.proofs.Common.{◌≡◌, ℕ, ◌≤◌, Bool, true, false, cond, eqb, Option, Some, List, [], ◌∷◌}
 use Rattle.std.proofs.Common.{length, refl, ap, sym, ◌∙◌, subst, arith}
 use Rattle.std.specs.Prelude.{replicate}
 use Rattle.std.specs.List.{AllByRecursion}
@@ -44,7 +44,6 @@ use Rattle.s7_rig.specs.Scripts.{IsNoConnect}
 use Rattle.s7_rig.specs.Complete.{IsThere, IsBlock, HasBlock, data_block, CanComeOff}
 use Rattle.s7_rig.specs.Exchanges.{IsSecurity}
 use Rattle.s7_rig.specs.Exchanges.{NamesNone}
-use Rattle.s7_rig.proofs.Awaiting.{AreAsked}
 use Rattle.s7_rig.proofs.Conversing.{Exchange, rows_of, Converses}
 use Rattle.s7_rig.proofs.HoldPieces.{behind_is}
 use Rattle.s7_rig.proofs.HoldData.{IsOfItems, reads_items, writes_items}
@@ -52,6 +51,7 @@ use Rattle.s7_rig.proofs.HoldReplies.{IsGood, counts_good, lists_good, mode_good
 use Rattle.s7_rig.proofs.HoldReplies.{IsDoneAs, compress_done, copy_done}
 use Rattle.s7_rig.proofs.UploadAsksLemmas.{of_upload}
 use Rattle.s7_rig.proofs.UploadOffLemmas.{upload_good}
+use Rattle.s7_rig.proofs.PartLemmas.{asked_each}
 use Rattle.s7_rig.proofs.OffLemmas.{AreSound, NoneRefuses, unrefused}
 use Rattle.s7_rig.proofs.BlockOffLemmas.{some_is, data_there, data_octets, head_good, list_good, names_block, names_kind}
 use Rattle.s7_rig.proofs.DataOffLemmas.{data_off}
@@ -62,13 +62,6 @@ use Rattle.s7_rig.proofs.AskedItems.{AsksFor, alone_each, reads_for, writes_for,
 use Rattle.s7_rig.proofs.PlacedLemmas.{parts_placed, read_freed}
 
 -- ---- questions of a list
-
-asked_each : (P : Question → Type 0) (c : Conduct) (place : ℕ) (xs : List Exchange)
-    → ((answers : List (Option Answer)) (question : Question) → c.question_at answers ≡ Some question → P question)
-    → AreAsked c place (rows_of xs) → AllByRecursion (λ (x : Exchange). P x.question) xs
-asked_each P c place [] each asked = tt
-asked_each P c place (x ∷ xs) each asked =
-    (each asked.0.answers x.question asked.0.asks, asked_each P c (place + 1) xs each asked.1)
 
 both : (P Q : Question → Type 0) (questions : List Question) → AllByRecursion P questions
     → AllByRecursion Q questions → AllByRecursion (λ (q : Question). P q × Q q) questions

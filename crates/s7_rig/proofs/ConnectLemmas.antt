@@ -79,7 +79,7 @@ confirm_fits origin c h w =
 pub confirm_front : (origin : Origin) (c : ConnectionTold) (u v : List ℕ) → BeginsConnecting origin → IsWritable c
     → u ++ v ≡ packet_of (spelling_of_confirm c) → 0 < length v → course origin u ≡ course origin []
 confirm_front origin c u v h w e some =
-    front_heard origin [] (spelling_of_confirm c) u v h.rest (omega arith) (confirm_fits origin c h w) e some
+    front_heard origin [] h.rest (spelling_of_confirm c) u v (omega arith) (confirm_fits origin c h w) e some
 
 abbrev sized : Course → ℕ → Course
 sized k size = record k { size = size }
@@ -88,7 +88,7 @@ confirmed_course : (origin : Origin) (c : ConnectionTold) → BeginsConnecting o
     → course origin (packet_of (spelling_of_confirm c)) ≡ asking (conduct_of origin) (sized (course origin []) 1024)
 confirmed_course origin c h w size =
     let body : List ℕ = spelling_of_confirm c in
-    packet_heard origin [] body h.rest (omega arith) (confirm_fits origin c h w)
+    packet_heard origin [] h.rest body (omega arith) (confirm_fits origin c h w)
     ∙ (confirm_read origin (course origin []) body c h.awaits (confirm_again c w)
     ∙ ap (λ code. asking (conduct_of origin) (sized (course origin []) (size_of_code code))) size)
 
@@ -138,7 +138,7 @@ confirm_heard origin c fresh connect w size =
     ∙ negotiates_alone origin.config before)) in
     record {
       awaiting = record {
-        rest = packet_whole origin [] (spelling_of_confirm c) h.rest (omega arith) (confirm_fits origin c h w);
+        rest = packet_whole origin [] h.rest (spelling_of_confirm c) (omega arith) (confirm_fits origin c h w);
         unfinished = asks.unfinished ∙ h.unfinished;
         size = asks.size;
         sequence = asks.sequence;

@@ -1,5 +1,5 @@
 -- How a session replies to a control.
-use Rattle.std.proofs.Common.{◌≡◌, ℕ, ◌<◌, Bool, true, false, cond, List, Option, None, Some, refl, arith}
+use Rattle.std.proofs.Common.{◌≡◌, inr, ℕ, ◌<◌, Bool, true, false, cond, List, Option, None, Some, refl, arith}
 use Rattle.s7_block.specs.Names.{is_name}
 use Rattle.s7_clock.specs.declared.control.Control.{Control}
 use Rattle.s7_clock.specs.declared.control.Control.TheVariants as control
@@ -9,7 +9,7 @@ use Rattle.s7_session.specs.Judgement.{plainly}
 use Rattle.s7_session.specs.LinkState.{LinkState}
 use Rattle.s7_session.specs.Owed.{past}
 use Rattle.s7_session.specs.Verdict.{Verdict}
-use Rattle.s7_rig.specs.Exchanges.{is_barred, request_of}
+use Rattle.s7_rig.specs.Exchanges.{is_told, request_of}
 use Rattle.s7_rig.proofs.Askable.{CanCall}
 use Rattle.s7_rig.proofs.RepliedLemmas.{IsServed, is_sent, asking_replied, refused_replied}
 use Rattle.s7_rig.proofs.ReplyLemmas.{RepliesOnce}
@@ -26,12 +26,11 @@ barred_replied : {first : LinkState} (b : List ℕ) (js vs : List Verdict) (pdu 
     → request_of (control.Delete kind number) ≡ None
     → RepliesOnce first b js vs pdu (controls (control.Delete kind number)) s
 barred_replied {first} b js vs pdu s kind number served none =
-    let q = controls (control.Delete kind number) in
     let name = is_name kind number in
-    refused_replied b js vs pdu s (cond name 0x8F03 0x8404) q served
-    (judged_barred (past first b js).link pdu s kind number (is_sent b js vs pdu s q served) none) (small_by name)
+    refused_replied served (cond name 0x8F03 0x8404)
+    (judged_barred (past first b js).link pdu s kind number (is_sent served) none) (small_by name)
     (λ answer. tt)
-    (is_barred kind number refl none refl refl)
+    (is_told (inr (refl, (none, refl))))
 
 -- only a deletion is one that the plant isn't asked for
 unasked_replied : {first : LinkState} (b : List ℕ) (js vs : List Verdict) (pdu s : ℕ) (c : Control) → CanCall c
@@ -51,6 +50,6 @@ pub control_replied : {first : LinkState} (b : List ℕ) (js vs : List Verdict) 
 control_replied b js vs pdu s c None served can is = unasked_replied b js vs pdu s c can served is
 control_replied {first} b js vs pdu s c (Some request) served can is =
     let link = (past first b js).link in
-    asking_replied b js vs pdu s (controls c) (plainly link s request) served
-    (judged_control link pdu s c request (is_sent b js vs pdu s (controls c) served) is) (λ reply. refl)
+    asking_replied served (plainly link s request)
+    (judged_control link pdu s c request (is_sent served) is) (λ reply. refl)
     (λ answer. tt) (control_well pdu link s c request served.low is)

@@ -25,12 +25,13 @@ use Rattle.s7_dialogue.proofs.FlightLemmas.{same_some}
 use Rattle.s7_client.proofs.FitLemmas.{one_of_all}
 use Rattle.s7_session.specs.Judgement.{slice_room}
 use Rattle.s7_rig.specs.Complete.{IsBlock, data_block}
-use Rattle.s7_rig.specs.Exchanges.{HasTold, user_heard}
+use Rattle.s7_session.specs.Verdict.{Verdict}
+use Rattle.s7_rig.specs.Exchanges.{HasTold, IsSecurity, is_refused, is_told, user_heard}
 use Rattle.s7_rig.proofs.Awaiting.{AreInTurn}
 use Rattle.s7_rig.proofs.Conversing.{Exchange, rows_of, AreTold, Converses}
 use Rattle.s7_rig.proofs.BlockFitLemmas.{data_told}
-use Rattle.s7_rig.proofs.BlockHeadLemmas.{IsForHead, HeadTold, head_refused, head_told, further_told, Wants}
-use Rattle.s7_rig.proofs.BlockHeadLemmas.{head_answered, asks_info, first_long, length_kept, length_told, no_refusal}
+use Rattle.s7_rig.proofs.BlockHeadLemmas.{asks_info, first_long, length_kept, length_told}
+use Rattle.s7_rig.proofs.PartLemmas.{no_refusal}
 use Rattle.s7_rig.proofs.BlockOffLemmas.{same_block, head_good, names_block, some_is}
 use Rattle.s7_rig.proofs.DataAsksLemmas.{of_either}
 use Rattle.s7_rig.proofs.HoldPieces.{behind_is, brought_more}
@@ -72,19 +73,22 @@ told_refusal true more octet error octets none = refl
 told_refusal false more octet error octets none = absurd (cc)
 
 -- none of the head that isn't refused as a telegram is refused
-head_unrefused : {pdu : ℕ} (q : Question) (a : Answer) (new : List (Ask × Said)) → HeadTold pdu q a new
-    → telegram_refusal a ≡ None → part_refusal a ≡ None
-head_unrefused q a new (head_refused error is) none = ap part_refusal is ∙ (sym (ap telegram_refusal is) ∙ none)
-head_unrefused {pdu} q a new (head_told subject octets moment right request reply octet is wants new_is told) none =
+head_unrefused : {pdu : ℕ} {own : List Verdict} (octets : List ℕ) (q : Question) (a : Answer)
+    (new : List (Ask × Said)) → IsAbout DataHead octets q → HasTold pdu own q a new → telegram_refusal a ≡ None
+    → part_refusal a ≡ None
+head_unrefused octets q a new about (is_refused error undone entered is) none =
+    ap part_refusal is ∙ (sym (ap telegram_refusal is) ∙ none)
+head_unrefused {pdu} octets (asks subject others) a new about
+    (is_told (inl (moment, request, octet, wants, (right, reply, entered, told)))) none =
     ap part_refusal told
     ∙ told_refusal (eqb reply.error 0) (ltb (slice_room pdu) (length reply.body)) octet reply.error
     (take (slice_room pdu) reply.body) (ap telegram_refusal (sym told) ∙ none)
-head_unrefused q a new (further_told subject octet so_far piece more is new_is told) none = ap part_refusal told
-
-for_head : (octets : List ℕ) (q : Question) → IsAbout DataHead octets q → IsForHead q
-for_head octets (asks other others) about = subst (λ s. IsForHead (asks s others)) (sym about.0) tt
-for_head octets (asks_further other octet so_far) about = tt
-for_head octets _ about = absurd about
+head_unrefused octets (asks subject others) a new about (is_told (inr (inl security))) none =
+    absurd (subst IsSecurity about.0 security.0)
+head_unrefused octets (asks subject others) a new about (is_told (inr (inr unnamed))) none =
+    ap part_refusal unnamed.2 ∙ (sym (ap telegram_refusal unnamed.2) ∙ none)
+head_unrefused octets (asks_further subject octet so_far) a new about (is_told t) none = ap part_refusal t.3
+head_unrefused octets _ a new about (is_told t) none = absurd about
 
 module _ (n : Memory) (right : Bool) (pdu number : ℕ) (block : IsBlock n number) (least : 64 ≤ pdu) where
   -- the octets of its name, and its own
@@ -106,17 +110,19 @@ module _ (n : Memory) (right : Bool) (pdu number : ℕ) (block : IsBlock n numbe
       (subst (λ k. IsHead k (take (slice_room pdu) (data_told number there.stood))) there.long
       (head_first pdu number there.stood least))
 
-  answer_head : (a : Answer) (new : List (Ask × Said)) → HeadTold pdu (asks DataHead name) a new
+  answer_head : {own : List Verdict} (a : Answer) (new : List (Ask × Said)) → HasTold pdu own (asks DataHead name) a new
       → part_refusal a ≡ None → AreAllowed n right new → IsHead size (octets_in a)
-  answer_head a new (head_refused error is) none shaped = absurd (no_refusal error (ap part_refusal (sym is) ∙ none))
-  answer_head a new (head_told subject octets moment own request reply octet is wants new_is told) none shaped =
-      let info : request ≡ Info 0x41 number =
-      asks_info number moment request block.0 (subst (λ q. Wants q moment request) (sym is) wants) in
-      let state = (subst (AreAllowed n right) new_is shaped).0 in
+  answer_head a new (is_refused error undone entered is) none shaped =
+      absurd (no_refusal error (ap part_refusal (sym is) ∙ none))
+  answer_head a new (is_told (inl (moment, request, octet, wants, (own, reply, entered, told)))) none shaped =
+      let info : request ≡ Info 0x41 number = asks_info number moment request block.0 wants in
+      let state = (subst (AreAllowed n right) entered shaped).0 in
       subst (λ (x : Answer). IsHead size (octets_in x)) (sym told)
       (reply_head own reply octet state.0 state.1
       (state.2 ∙ ap (λ r. plant.answer_of state.0 (asked own r)) info))
-  answer_head a new (further_told subject octet so_far piece more is new_is told) none shaped = absurd (cc)
+  answer_head a new (is_told (inr (inl security))) none shaped = absurd security.0
+  answer_head a new (is_told (inr (inr unnamed))) none shaped =
+      absurd (no_refusal 0x8404 (ap part_refusal (sym unnamed.2) ∙ none))
 
   -- ---- what is asked
 
@@ -126,7 +132,7 @@ module _ (n : Memory) (right : Bool) (pdu number : ℕ) (block : IsBlock n numbe
 
   data_unrefused : NoneRefuses n right pdu part_refusal AsksData
   data_unrefused own all_done q a new told shaped (inl about) =
-      head_unrefused q a new (head_answered q a new (for_head name q about) told)
+      head_unrefused name q a new about told
       (about_unrefused n right pdu own all_done DataHead name (λ secures. secures) (names_block number block.0)
       (head_good n right number block) q a new told shaped about)
   data_unrefused own all_done q a new told shaped (inr finds) =
@@ -181,8 +187,7 @@ module _ (n : Memory) (right : Bool) (pdu number : ℕ) (block : IsBlock n numbe
         let about : IsAbout DataHead name x.question = subst (IsAbout DataHead name) is (refl, refl) in
         let first = sound_first n right pdu x xs sound in
         let none = data_unrefused x.verdicts first.1 x.question x.answer x.entries told.0 first.0 (inl about) in
-        let heard = head_answered q x.answer x.entries tt
-        (subst (λ k. HasTold pdu x.verdicts k x.answer x.entries) (sym is) told.0) in
+        let heard = subst (λ k. HasTold pdu x.verdicts k x.answer x.entries) (sym is) told.0 in
         let head = answer_head x.answer x.entries heard none first.0 in (
           inl about,
           asked_behind row [] xs (subst (IsHead size) (sym (append-nil (octets_in x.answer))) head) turn.2,

@@ -351,7 +351,7 @@ module _ (w : Whole) (p : Place) (q : Row) (later : List Row) (i : IsWhole w) (h
       → (more : List ℕ) × (p.more ≡ sent_message 1024 m ++ more)
   heard_by m rest most (inr k) = (k.0, k.1)
   heard_by m rest most (inl k) =
-      absurd (not_over (heard_front w.origin p.heard m p.more k.0 awaits_answers most k.1 k.2))
+      absurd (not_over (heard_front awaits_answers m p.more k.0 most k.1 k.2))
 
   reply_heard : (z : List ℕ) (r : RepliesAt w p q) → p.taken ≡ packet_with q ++ z → AreReplies r.new → IsReplied w p q
   reply_heard z r taken given =

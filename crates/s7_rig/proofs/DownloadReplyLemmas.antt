@@ -1,6 +1,6 @@
 -- How a session replies to the questions of a download.
-use Rattle.std.proofs.Common.{◌≡◌, inl, ℕ, ◌+◌, ◌<◌, ◌≤◌, Bool, true, false, cond, eqb, ltb, List, [], ◌∷◌, ◌++◌}
-use Rattle.std.proofs.Common.{length, drop, refl, ap, ap₂, sym, ◌∙◌, subst, arith, append_assoc, append-nil}
+use Rattle.std.proofs.Common.{◌≡◌, inl, inr, ℕ, ◌+◌, ◌<◌, ◌≤◌, Bool, true, false, cond, eqb, ltb, List, [], ◌∷◌, ◌++◌}
+use Rattle.std.proofs.Common.{length, drop, refl, ap, ap₂, sym, ◌∙◌, subst, arith, append-nil}
 use Rattle.std.specs.Prelude.{Option, Some, slice_index}
 use Rattle.std.proofs.lemmas.List.{length-take}
 use Rattle.s7_header.specs.Negotiation.{most_pdu}
@@ -25,8 +25,8 @@ use Rattle.s7_session.specs.Transfers.{finished}
 use Rattle.s7_session.specs.Verdict.{Verdict, Entered, Full}
 use Rattle.s7_rig.specs.Dialogues.{AreReplies}
 use Rattle.s7_rig.specs.Exchanges.{GoesOn, HasTold, HoldsGiven, HoldsPieces, HoldsWhole, IsAwaited, IsHeard}
-use Rattle.s7_rig.specs.Exchanges.{IsReadyFor, IsUnheard, Replies, control_heard, first_call, is_announced, is_called}
-use Rattle.s7_rig.specs.Exchanges.{link_past, is_given, is_inserted, is_refused, is_unstored}
+use Rattle.s7_rig.specs.Exchanges.{IsReadyFor, IsUnheard, Replies, control_heard, first_call, is_told}
+use Rattle.s7_rig.specs.Exchanges.{link_past, is_refused}
 use Rattle.s7_rig.specs.Settled.{Settled, Serves}
 use Rattle.s7_rig.proofs.Asked.{IsAnswered, is_entered, is_full, is_failed}
 use Rattle.s7_rig.proofs.Askable.{IsAskable}
@@ -38,6 +38,7 @@ use Rattle.s7_rig.proofs.DownloadJudgedLemmas.{judged_insertion, judged_stored, 
 use Rattle.s7_rig.proofs.DownloadJudgedLemmas.{more_follows}
 use Rattle.s7_rig.proofs.DownloadServedLemmas.{IsOfDownload, closing_served}
 use Rattle.s7_rig.proofs.JudgedLemmas.{question_is_s7, question_sequence}
+use Rattle.s7_rig.proofs.ListFacts.{two_behind}
 use Rattle.s7_rig.proofs.ReplyLemmas.{IsLeftOpen}
 use Rattle.s7_rig.proofs.ServedLemmas.{ServesTo, served_asking, served_own, served_refused}
 use Rattle.s7_rig.proofs.UserJudgedLemmas.{IsSent}
@@ -139,7 +140,7 @@ announced_well pdu link s image low stored = record {
   heard = record {
     answer = announced;
     is = announcement_is_heard image s low;
-    told = is_announced image refl refl refl;
+    told = is_told (refl, inl refl);
     goes_on = holds_given true link image 0 stored;
     unheard = refl;
   };
@@ -156,7 +157,7 @@ announced_replied {first} b js vs unheard pdu s image true on is none stored =
     let job = job_behind true link image in
     let after = link_behind true link image 0 in
     own_replied b js vs unheard (answer ∷ job ∷ []) (job ∷ []) pdu s q m answer after refl
-    (served_own b m js (Some pdu) (Some pdu) (answer ∷ job ∷ []) after on.settled (omega arith) refl
+    (served_own m on.settled (omega arith) (Some pdu) (answer ∷ job ∷ []) after refl
     (judged_stored link pdu s image (announced_sent b js pdu s image on) is stored) on.settled.grants)
     (ap (λ u. u ++ answer ∷ job ∷ []) none) (λ answer. tt) (announced_well pdu link s image on.low stored)
 announced_replied {first} b js vs unheard pdu s image false on is none stored =
@@ -168,9 +169,9 @@ announced_replied {first} b js vs unheard pdu s image false on is none stored =
     own_replied b js vs unheard (refusal ∷ []) [] pdu s q m refusal link refl
     (subst (λ out. ServesTo first b js m js (Some pdu) out [] link)
     (refusal_is_sent m s 0x8F03 _ (question_sequence s q refl) judged.2)
-    (served_refused b m js (Some pdu) judged.0 on.settled (omega arith) refl judged.1))
+    (served_refused m on.settled (omega arith) judged.0 refl judged.1))
     (ap (λ u. u ++ refusal ∷ []) none) (λ answer. tt)
-    (refused_well pdu [] link q s 0x8F03 refl on.low (omega arith) (is_unstored image refl stored refl refl) tt
+    (refused_well pdu [] link q s 0x8F03 refl on.low (omega arith) (is_told (refl, inr (stored, refl))) tt
     refl)
 
 -- ---- the first call
@@ -204,7 +205,7 @@ awaited_replied {first} b js vs unheard pdu s image settled held came =
       heard = λ h. record {
         answer = calls link.job_sequence;
         is = first_call_is_heard image s link.job_sequence;
-        told = is_called image link.job_sequence refl refl refl;
+        told = is_told (refl, link.job_sequence, refl);
         goes_on = subst (λ l. HoldsPieces l image 0 link.job_sequence)
             (sym (ap₂ (λ x met. (past first x met).link) same none)) held;
         unheard = refl;
@@ -229,7 +230,7 @@ given_well pdu link s room from call image more stored is =
         is = ap (λ t. answer_of (gives image room from call) s (job_behind t link image))
             (sym (more_follows image room from ∙ is))
             ∙ next_call_is_heard image s n room from call;
-        told = is_given image room from call n refl refl refl;
+        told = is_told (refl, n, refl);
         goes_on = subst (λ t. HoldsGiven t after image (from + room) n) (sym is)
             (holds_given more link image (from + room) stored);
         unheard = refl;
@@ -248,8 +249,8 @@ given_replied {first} b js vs unheard pdu s image room from call more on is fits
     let after = link_behind more link image (from + room) in
     let few = length-take room (drop from image) in
     own_replied b js vs unheard (job ∷ []) [] pdu s q m job after refl
-    (served_own b m js (Some pdu) (Some pdu) (job ∷ []) after on.settled
-    (omega (arith, few, fits, on.least, on.most)) (question_is_s7 s q)
+    (served_own m on.settled (omega (arith, few, fits, on.least, on.most)) (Some pdu) (job ∷ []) after
+    (question_is_s7 s q)
     (judged_given link pdu s image room from call more on.settled.grants fits (omega (arith, fits, on.least)) is.most
     held follows)
     on.settled.grants)
@@ -258,15 +259,12 @@ given_replied {first} b js vs unheard pdu s image room from call more on is fits
 
 -- ---- the insertion
 
-joined : (b x y : List ℕ) → b ++ (x ++ (y ++ [])) ≡ (b ++ x) ++ y
-joined b x y = ap (λ z. b ++ (x ++ z)) (append-nil y) ∙ sym (append_assoc b x y)
-
 -- what is served behind a message that nothing is owed for
 served_behind : {first : LinkState} (b x y : List ℕ) (js js' : List Verdict) (granted granted' : Option ℕ)
     (out : List ℕ) (new : List (Ask × Said)) → Serves first b js x js granted [] []
     → Serves first (b ++ x) js y js' granted' out new → Serves first b js (x ++ (y ++ [])) js' granted' out new
 served_behind {first} b x y js js' granted granted' out new before behind =
-    let same = joined b x y in
+    let same = two_behind b x y in
     record {
       settled = subst (λ o. Settled first o js' granted') (sym same) behind.settled;
       owed = ap (λ o. owed first o js') same
@@ -300,7 +298,7 @@ inserted_well pdu own link s call image right reply low given =
       heard = record {
         answer = control_heard reply;
         is = is.is;
-        told = is_inserted image call right reply refl refl refl;
+        told = is_told (right, reply, refl, refl);
         goes_on = insertion_ends (eqb reply.error 0) link image call (slice_index reply.params 1) reply.error;
         unheard = refl;
       };
@@ -384,9 +382,9 @@ insertion_replied {first} b js vs unheard pdu s call image on is held none live 
     })
     is held.stored holds in
     inserted_replied b js vs unheard pdu s call image link on.low none closing.0
-    (served_asking (b ++ x) m js vs (Some pdu) (plainly link s (plain.Insert name.kind name.number image no_room))
-    closing.0.settled (omega arith) refl judged (λ reply. refl)
-    (ap (λ o. (past first o (js ++ vs)).standing) (sym (joined b x (sent_message 1024 m))) ∙ live))
+    (served_asking m closing.0.settled (omega arith) vs
+    (plainly link s (plain.Insert name.kind name.number image no_room)) refl judged (λ reply. refl)
+    (ap (λ o. (past first o (js ++ vs)).standing) (sym (two_behind b x (sent_message 1024 m))) ∙ live))
 
 -- ---- all of them
 

@@ -5,7 +5,6 @@ use Rattle.std.specs.Prelude.{None}
 use Rattle.std.proofs.Math.Seq.{take-append_seam, drop-append_seam}
 use Rattle.std.proofs.lemmas.Bool.{eq-eqb, le-ltb}
 use Rattle.s7_header.specs.declared.header.Kind.TheVariants.{AckData}
-use Rattle.s7_header.specs.declared.header.Header.{Header}
 use Rattle.s7_header.specs.declared.faults.HeaderFault.TheVariants.{Short, Lengths}
 use Rattle.s7_header.specs.Header.{fields_of, header_of, if_adds_up, whole_len}
 use Rattle.s7_header.proofs.OctetLemmas.{two_of_number}
@@ -19,6 +18,7 @@ use Rattle.s7_session.specs.Owed.{past}
 use Rattle.s7_session.specs.Verdict.{Verdict}
 use Rattle.s7_rig.specs.Exchanges.{HoldsWhole}
 use Rattle.s7_rig.specs.Settled.{Settled, Serves}
+use Rattle.s7_rig.proofs.AnsweredLemmas.{header_with}
 use Rattle.s7_rig.proofs.JudgedLemmas.{chosen}
 use Rattle.s7_rig.proofs.ServedLemmas.{served_own}
 
@@ -32,12 +32,8 @@ IsOfDownload _ = ⊥
 
 -- ---- answers to the server's jobs
 
-abbrev answer_header : ℕ → List ℕ → List ℕ → Header
-answer_header call params body =
-    record { kind = AckData; sequence = call; param_len = length params; body_len = length body; error = 0 }
-
 answer_fields : (call : ℕ) (params body : List ℕ)
-    → fields_of AckData (message_octets AckData call params body) ≡ answer_header call params body
+    → fields_of AckData (message_octets AckData call params body) ≡ header_with call params body
 answer_fields call params body =
     let sequence = two_of_number call in
     let param_len = two_of_number (length params) in
@@ -46,11 +42,11 @@ answer_fields call params body =
 
 -- it is read whatever its sequence is
 answer_read : (call : ℕ) (params body : List ℕ)
-    → header_of (message_octets AckData call params body) ≡ Ok (answer_header call params body)
+    → header_of (message_octets AckData call params body) ≡ Ok (header_with call params body)
 unfolding header_of
 answer_read call params body =
     let m = message_octets AckData call params body in
-    let h = answer_header call params body in
+    let h = header_with call params body in
     ap (λ t. cond t (Err Short) (cond (ltb (length m) 12) (Err Short) (if_adds_up (fields_of AckData m) (length m))))
     (le-ltb (length m) 10 (omega arith))
     ∙ (ap (λ t. cond t (Err Short) (if_adds_up (fields_of AckData m) (length m))) (le-ltb (length m) 12 (omega arith))
@@ -81,6 +77,7 @@ pub closing_served : {first : LinkState} (b : List ℕ) (js : List Verdict) (pdu
     ≡ record (past first b js).link { server_job = None })
 closing_served {first} b js pdu call image s held =
     let link = (past first b js).link in
-    let served = served_own b (closing_octets call) js (Some pdu) (Some pdu) [] (record link { server_job = None }) s
-    (omega arith) refl (judged_answer link call close_function close_params [] held.job) s.grants in
+    let served = served_own (closing_octets call) s (omega arith) (Some pdu) []
+    (record link { server_job = None }) refl
+    (judged_answer link call close_function close_params [] held.job) s.grants in
     (served.serves, served.leaves)

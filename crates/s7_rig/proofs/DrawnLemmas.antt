@@ -1,6 +1,6 @@
 -- Turns that are drawn, and those that are left to draw.
 use Rattle.std.proofs.Common.{◌≡◌, ℕ, ◌+◌, ◌-◌, ◌<◌, suc, Bool, List, [], ◌∷◌, refl, ap, sym, ◌∙◌, subst, arith}
-use Rattle.s7_draw.specs.Drawing.{drawn, next_x, actor_by}
+use Rattle.s7_schedule.specs.Drawing.{drawn, next_x, actor_by}
 use Rattle.s7_rig.specs.State.{State}
 use Rattle.s7_rig.specs.Stopped.{TurnsLead, TurnsStop}
 use Rattle.s7_rig.specs.Turns.{IsTurnOf}

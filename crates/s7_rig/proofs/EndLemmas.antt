@@ -282,46 +282,7 @@ module _ (origin : Origin) where
   course_holds : (b : List ℕ) → Holds (course origin b)
   course_holds b = course_kept origin Holds all_kept begun_holds b
 
--- ---- the causes of an end
-
--- the octets that were used
-octets_leave : (origin : Origin) (b : List ℕ) (end : End) (carried : List ℕ)
-    → (course origin b).awaits ≡ for_nothing end carried → LeavesAs origin.job origin.granted end
-octets_leave origin b end carried over =
-    subst (OverAs origin.job origin.granted (conduct_of origin)) over (course_holds origin b)
-
--- the end of a disconnect request that was transmitted
-departure_leaves : (origin : Origin) (end : End) (carried b written : List ℕ)
-    → IsByDeparture origin end carried b written → end.leaves ≡ Disconnected
-departure_leaves origin end carried b written left =
-    subst (λ (e : End). e.leaves ≡ Disconnected) (sym left.is)
-    (subst (OverAs origin.job origin.granted (conduct_of origin)) left.awaited (course_holds origin b))
-
-departure_as : (origin : Origin) (end : End) (carried b written : List ℕ)
-    → IsByDeparture origin end carried b written → LeavesAs origin.job origin.granted end
-departure_as origin end carried b written left =
-    subst (LeavesAs origin.job origin.granted) (sym left.is)
-    ((plan_leaves origin.job origin.config origin.granted).ends [])
-
--- faults close the client
-fault_leaves : (origin : Origin) (code : ℕ) (end : End) (carried : List ℕ) → code ≢ 0 → IsFault code end carried
-    → LeavesAs origin.job origin.granted end
-fault_leaves origin code end carried bad fault = subst (LeavesAs origin.job origin.granted) (sym fault.0) bad
-
-ended : (origin : Origin) (link link' : Shown) (kept : List ℕ) (end : End) (carried b written : List ℕ) (waited : Option ℕ)
-    → IsDoneBy origin link link' kept end carried b written waited → LeavesAs origin.job origin.granted end
-ended origin link link' kept end carried b written waited (inl (inl octets)) = octets_leave origin b end carried octets.over
-ended origin link link' kept end carried b written waited (inl (inr (inl departure))) = departure_as origin end carried b written departure
-ended origin link link' kept end carried b written waited (inl (inr (inr (inl by_end)))) =
-    fault_leaves origin _ end carried (λ e. absurd (omega (arith, e))) by_end.fault
-ended origin link link' kept end carried b written waited (inl (inr (inr (inr (inl by_receive))))) =
-    fault_leaves origin _ end carried (λ e. absurd (omega (arith, e))) by_receive.fault
-ended origin link link' kept end carried b written waited (inl (inr (inr (inr (inr by_send))))) =
-    fault_leaves origin _ end carried (λ e. absurd (omega (arith, e))) by_send.fault
-ended origin link link' kept end carried b written waited (inr patience) =
-    fault_leaves origin _ end carried (λ e. absurd (omega (arith, e))) patience.fault
-
--- ---- jobs that don't connect
+-- ---- jobs that don't connect, and links that neither fail nor end
 
 no_connect : (done : Job) → IsNoConnect done → done ≢ job.Connect
 no_connect done none = λ is. absurd (subst IsNoConnect is none)
@@ -333,86 +294,118 @@ no_connect_by done granted code (Connected now) none left = absurd (no_connect d
 no_connect_by done granted code Disconnected none left = refl
 no_connect_by done granted code Closed none left = refl
 
--- a job that doesn't connect grants nothing
-pub no_connect_leaves : (origin : Origin) (link link' : Shown) (kept : List ℕ) (end : End) (carried b written : List ℕ) (waited : Option ℕ)
-    → IsDoneBy origin link link' kept end carried b written waited → IsNoConnect origin.job → grant_after end.leaves None ≡ None
-no_connect_leaves origin link link' kept end carried b written waited cause none =
-    no_connect_by origin.job origin.granted end.code end.leaves none (ended origin link link' kept end carried b written waited cause)
-
 unconnected_by : (done : Job) (code : ℕ) (leaves : Leaves) → IsNoConnect done → Leaving done None code leaves → code ≢ 0
 unconnected_by done code AsItWas none left = absurd (left refl)
 unconnected_by done code (Connected now) none left = absurd (no_connect done none left.0)
 unconnected_by done code Disconnected none left = λ good. absurd ((left good).1 refl)
 unconnected_by done code Closed none left = left
 
--- on a client that isn't connected such a job ends with a number
-pub unconnected_fails : (origin : Origin) (link link' : Shown) (kept : List ℕ) (end : End) (carried b written : List ℕ) (waited : Option ℕ)
-    → origin.granted ≡ None → IsNoConnect origin.job → IsDoneBy origin link link' kept end carried b written waited → end.code ≢ 0
-unconnected_fails origin link link' kept end carried b written waited fresh none cause =
-    unconnected_by origin.job end.code end.leaves none
-    (subst (λ g. LeavesAs origin.job g end) fresh (ended origin link link' kept end carried b written waited cause))
-
--- ---- over links that neither fail nor end
-
 abbrev pub IsQuiet : Shown → Shown → Type 0
 IsQuiet link link' = (Rose link.faults link'.faults → ⊥) × (IsTrue link'.has_ended → ⊥)
-
--- a job ends by the octets that it used, by its departure, or because it met too many polls
-quiet_ends : (origin : Origin) (link link' : Shown) (kept : List ℕ) (end : End) (carried b written : List ℕ) (waited : Option ℕ)
-    → IsQuiet link link' → IsDoneBy origin link link' kept end carried b written waited
-    → IsByOctets origin end carried b written ⊎ IsByDeparture origin end carried b written ⊎ (end ≡ fault_end timed_out)
-quiet_ends origin link link' kept end carried b written waited quiet (inl (inl octets)) = inl octets
-quiet_ends origin link link' kept end carried b written waited quiet (inl (inr (inl departure))) = inr (inl departure)
-quiet_ends origin link link' kept end carried b written waited quiet (inl (inr (inr (inl by_end)))) = absurd (quiet.1 by_end.has_ended)
-quiet_ends origin link link' kept end carried b written waited quiet (inl (inr (inr (inr (inl by_receive))))) = absurd (quiet.0 by_receive.rose)
-quiet_ends origin link link' kept end carried b written waited quiet (inl (inr (inr (inr (inr by_send))))) = absurd (quiet.0 by_send.rose)
-quiet_ends origin link link' kept end carried b written waited quiet (inr patience) = inr (inr patience.fault.0)
 
 no_departure : (leaves : Leaves) → leaves ≡ AsItWas → leaves ≡ Disconnected → ⊥
 no_departure leaves stays departs = cc
 
-departed_by : (origin : Origin) (end : End) (carried b written : List ℕ) (grant : Grant) → IsByDeparture origin end carried b written
-    → end ≡ (connected_plan origin.job grant).conduct.ended []
-    → (((connected_plan origin.job grant).conduct.ended []).leaves ≡ AsItWas) ⊎ (origin.job ≡ job.Disconnect)
-    → (end ≡ departed_end) × (origin.job ≡ job.Disconnect)
-departed_by origin end carried b written grant left is (inl stays) =
-    absurd (no_departure end.leaves (ap (λ (e : End). e.leaves) is ∙ stays) (departure_leaves origin end carried b written left))
-departed_by origin end carried b written grant left is (inr leaves) =
-    (is ∙ ap (λ j. (connected_plan j grant).conduct.ended []) leaves, leaves)
-
-working_by : (origin : Origin) (end : End) (carried b written : List ℕ) (grant : Grant) → origin.granted ≡ Some grant
-    → IsByOctets origin end carried b written ⊎ IsByDeparture origin end carried b written ⊎ (end ≡ fault_end timed_out)
-    → IsByOctets origin end carried b written ⊎ ((end ≡ departed_end) × (origin.job ≡ job.Disconnect)) ⊎ (end ≡ fault_end timed_out)
-working_by origin end carried b written grant working (inl octets) = inl octets
-working_by origin end carried b written grant working (inr (inl left)) =
-    inr (inl (departed_by origin end carried b written grant left
-    (left.is ∙ ap (λ g. (plan_of origin.job origin.config g).conduct.ended []) working)
-    (stays_or_leaves origin.job grant [])))
-working_by origin end carried b written grant working (inr (inr late)) = inr (inr late)
-
--- one on a connected client departs only where it disconnects
-pub working_ends : (origin : Origin) (link link' : Shown) (kept : List ℕ) (end : End) (carried b written : List ℕ) (waited : Option ℕ) (grant : Grant)
-    → origin.granted ≡ Some grant → IsQuiet link link' → IsDoneBy origin link link' kept end carried b written waited
-    → IsByOctets origin end carried b written ⊎ ((end ≡ departed_end) × (origin.job ≡ job.Disconnect)) ⊎ (end ≡ fault_end timed_out)
-working_ends origin link link' kept end carried b written waited grant working quiet cause =
-    working_by origin end carried b written grant working (quiet_ends origin link link' kept end carried b written waited quiet cause)
-
 no_leaving : Closed ≡ Disconnected → ⊥
 no_leaving e = cc
 
-connect_by : (origin : Origin) (end : End) (carried b written : List ℕ) → origin.granted ≡ None → origin.job ≡ job.Connect
-    → IsByOctets origin end carried b written ⊎ IsByDeparture origin end carried b written ⊎ (end ≡ fault_end timed_out)
-    → IsByOctets origin end carried b written ⊎ (end ≡ fault_end timed_out)
-connect_by origin end carried b written fresh connects (inl octets) = inl octets
-connect_by origin end carried b written fresh connects (inr (inl left)) =
-    let is : (conduct_of origin).ended [] ≡ negotiated origin.config [] =
-    ap (λ g. (plan_of origin.job origin.config g).conduct.ended []) fresh ∙ ap (λ j. (plan_of j origin.config None).conduct.ended []) connects in
-    absurd (no_leaving (sym (ap (λ (e : End). e.leaves) (left.is ∙ is)) ∙ departure_leaves origin end carried b written left))
-connect_by origin end carried b written fresh connects (inr (inr late)) = inr late
+-- ---- the causes of an end
 
--- a connect never departs
-pub connect_ends : (origin : Origin) (link link' : Shown) (kept : List ℕ) (end : End) (carried b written : List ℕ) (waited : Option ℕ)
-    → origin.granted ≡ None → origin.job ≡ job.Connect → IsQuiet link link' → IsDoneBy origin link link' kept end carried b written waited
-    → IsByOctets origin end carried b written ⊎ (end ≡ fault_end timed_out)
-connect_ends origin link link' kept end carried b written waited fresh connects quiet cause =
-    connect_by origin end carried b written fresh connects (quiet_ends origin link link' kept end carried b written waited quiet cause)
+module _ (origin : Origin) (link link' : Shown) (kept : List ℕ) (end : End) (carried b written : List ℕ)
+    (waited : Option ℕ) where
+  -- the octets that were used
+  octets_leave : (course origin b).awaits ≡ for_nothing end carried → LeavesAs origin.job origin.granted end
+  octets_leave over = subst (OverAs origin.job origin.granted (conduct_of origin)) over (course_holds origin b)
+
+  -- the end of a disconnect request that was transmitted
+  departure_leaves : IsByDeparture origin end carried b written → end.leaves ≡ Disconnected
+  departure_leaves left =
+      subst (λ (e : End). e.leaves ≡ Disconnected) (sym left.is)
+      (subst (OverAs origin.job origin.granted (conduct_of origin)) left.awaited (course_holds origin b))
+
+  departure_as : IsByDeparture origin end carried b written → LeavesAs origin.job origin.granted end
+  departure_as left =
+      subst (LeavesAs origin.job origin.granted) (sym left.is)
+      ((plan_leaves origin.job origin.config origin.granted).ends [])
+
+  -- faults close the client
+  fault_leaves : (code : ℕ) → code ≢ 0 → IsFault code end carried → LeavesAs origin.job origin.granted end
+  fault_leaves code bad fault = subst (LeavesAs origin.job origin.granted) (sym fault.0) bad
+
+  ended : IsDoneBy origin link link' kept end carried b written waited → LeavesAs origin.job origin.granted end
+  ended (inl (inl octets)) = octets_leave octets.over
+  ended (inl (inr (inl departure))) = departure_as departure
+  ended (inl (inr (inr (inl by_end)))) = fault_leaves _ (λ e. absurd (omega (arith, e))) by_end.fault
+  ended (inl (inr (inr (inr (inl by_receive))))) = fault_leaves _ (λ e. absurd (omega (arith, e))) by_receive.fault
+  ended (inl (inr (inr (inr (inr by_send))))) = fault_leaves _ (λ e. absurd (omega (arith, e))) by_send.fault
+  ended (inr patience) = fault_leaves _ (λ e. absurd (omega (arith, e))) patience.fault
+
+  -- ---- jobs that don't connect
+
+  -- a job that doesn't connect grants nothing
+  pub no_connect_leaves : IsDoneBy origin link link' kept end carried b written waited → IsNoConnect origin.job
+      → grant_after end.leaves None ≡ None
+  no_connect_leaves cause none = no_connect_by origin.job origin.granted end.code end.leaves none (ended cause)
+
+  -- on a client that isn't connected such a job ends with a number
+  pub unconnected_fails : origin.granted ≡ None → IsNoConnect origin.job
+      → IsDoneBy origin link link' kept end carried b written waited → end.code ≢ 0
+  unconnected_fails fresh none cause =
+      unconnected_by origin.job end.code end.leaves none (subst (λ g. LeavesAs origin.job g end) fresh (ended cause))
+
+  -- ---- over links that neither fail nor end
+
+  -- a job ends by the octets that it used, by its departure, or because it met too many polls
+  quiet_ends : IsQuiet link link' → IsDoneBy origin link link' kept end carried b written waited
+      → IsByOctets origin end carried b written ⊎ IsByDeparture origin end carried b written
+      ⊎ (end ≡ fault_end timed_out)
+  quiet_ends quiet (inl (inl octets)) = inl octets
+  quiet_ends quiet (inl (inr (inl departure))) = inr (inl departure)
+  quiet_ends quiet (inl (inr (inr (inl by_end)))) = absurd (quiet.1 by_end.has_ended)
+  quiet_ends quiet (inl (inr (inr (inr (inl by_receive))))) = absurd (quiet.0 by_receive.rose)
+  quiet_ends quiet (inl (inr (inr (inr (inr by_send))))) = absurd (quiet.0 by_send.rose)
+  quiet_ends quiet (inr patience) = inr (inr patience.fault.0)
+
+  departed_by : (grant : Grant) → IsByDeparture origin end carried b written
+      → end ≡ (connected_plan origin.job grant).conduct.ended []
+      → (((connected_plan origin.job grant).conduct.ended []).leaves ≡ AsItWas) ⊎ (origin.job ≡ job.Disconnect)
+      → (end ≡ departed_end) × (origin.job ≡ job.Disconnect)
+  departed_by grant left is (inl stays) =
+      absurd (no_departure end.leaves (ap (λ (e : End). e.leaves) is ∙ stays) (departure_leaves left))
+  departed_by grant left is (inr leaves) = (is ∙ ap (λ j. (connected_plan j grant).conduct.ended []) leaves, leaves)
+
+  working_by : (grant : Grant) → origin.granted ≡ Some grant
+      → IsByOctets origin end carried b written ⊎ IsByDeparture origin end carried b written
+      ⊎ (end ≡ fault_end timed_out)
+      → IsByOctets origin end carried b written ⊎ ((end ≡ departed_end) × (origin.job ≡ job.Disconnect))
+      ⊎ (end ≡ fault_end timed_out)
+  working_by grant working (inl octets) = inl octets
+  working_by grant working (inr (inl left)) =
+      inr (inl (departed_by grant left
+      (left.is ∙ ap (λ g. (plan_of origin.job origin.config g).conduct.ended []) working)
+      (stays_or_leaves origin.job grant [])))
+  working_by grant working (inr (inr late)) = inr (inr late)
+
+  -- one on a connected client departs only where it disconnects
+  pub working_ends : (grant : Grant) → origin.granted ≡ Some grant → IsQuiet link link'
+      → IsDoneBy origin link link' kept end carried b written waited
+      → IsByOctets origin end carried b written ⊎ ((end ≡ departed_end) × (origin.job ≡ job.Disconnect))
+      ⊎ (end ≡ fault_end timed_out)
+  working_ends grant working quiet cause = working_by grant working (quiet_ends quiet cause)
+
+  connect_by : origin.granted ≡ None → origin.job ≡ job.Connect
+      → IsByOctets origin end carried b written ⊎ IsByDeparture origin end carried b written
+      ⊎ (end ≡ fault_end timed_out) → IsByOctets origin end carried b written ⊎ (end ≡ fault_end timed_out)
+  connect_by fresh connects (inl octets) = inl octets
+  connect_by fresh connects (inr (inl left)) =
+      let is : (conduct_of origin).ended [] ≡ negotiated origin.config [] =
+      ap (λ g. (plan_of origin.job origin.config g).conduct.ended []) fresh
+      ∙ ap (λ j. (plan_of j origin.config None).conduct.ended []) connects in
+      absurd (no_leaving (sym (ap (λ (e : End). e.leaves) (left.is ∙ is)) ∙ departure_leaves left))
+  connect_by fresh connects (inr (inr late)) = inr late
+
+  -- a connect never departs
+  pub connect_ends : origin.granted ≡ None → origin.job ≡ job.Connect → IsQuiet link link'
+      → IsDoneBy origin link link' kept end carried b written waited
+      → IsByOctets origin end carried b written ⊎ (end ≡ fault_end timed_out)
+  connect_ends fresh connects quiet cause = connect_by fresh connects (quiet_ends quiet cause)

@@ -126,43 +126,42 @@ module _ (p : Progress) (size : ℕ) (least : 4 ≤ size) (unended : p.ending �
 
 -- ---- a message on a link between two
 
-none_came : {first : LinkState} (b : List ℕ) (js : List Verdict) (granted : Option ℕ) → Settled first b js granted
-    → HasFragments (reading Request b) b [] 0
-none_came b js granted s = record {
-  rest = s.rest;
-  at = (reading Request b).at;
-  is = ap (λ (u : Unfinished). with_fragments (reading Request b) (reading Request b).at u.octets u.count) s.unfinished;
-}
+module _ {first : LinkState} {b : List ℕ} {js : List Verdict} {granted : Option ℕ}
+    (s : Settled first b js granted) where
+  none_came : HasFragments (reading Request b) b [] 0
+  none_came = record {
+    rest = s.rest;
+    at = (reading Request b).at;
+    is = ap (λ (u : Unfinished). with_fragments (reading Request b) (reading Request b).at u.octets u.count)
+        s.unfinished;
+  }
 
--- one message more is read
-pub message_read : {first : LinkState} (b m : List ℕ) (js : List Verdict) (granted : Option ℕ)
-    → Settled first b js granted → length m ≤ message_limit → HasMessage (reading Request b) (b ++ sent_message 1024 m) m
-message_read b m js granted s most =
-    message_whole 1024 b m (reading_joins (reading Request b) 1024 (omega arith) s.unended s.read_size) (omega arith)
-    most (few_fragments (length m) 1024 (omega arith) (omega (arith, most))) (none_came b js granted s)
+  -- one message more is read
+  pub message_read : (m : List ℕ) → length m ≤ message_limit
+      → HasMessage (reading Request b) (b ++ sent_message 1024 m) m
+  message_read m most =
+      message_whole 1024 b m (reading_joins (reading Request b) 1024 (omega arith) s.unended s.read_size) (omega arith)
+      most (few_fragments (length m) 1024 (omega arith) (omega (arith, most))) none_came
 
--- of a front of it at most fragments
-front_read : {first : LinkState} (b u v m : List ℕ) (js : List Verdict) (granted : Option ℕ)
-    → Settled first b js granted → length m ≤ message_limit → u ++ v ≡ sent_message 1024 m → 0 < length v
-    → HasBegun (reading Request b) (b ++ u)
-front_read b u v m js granted s most is some =
-    message_front 1024 b m u v (reading_joins (reading Request b) 1024 (omega arith) s.unended s.read_size)
-    (omega arith) most (few_fragments (length m) 1024 (omega arith) (omega (arith, most))) (none_came b js granted s)
-    is some
+  -- of a front of it at most fragments
+  front_read : (u v m : List ℕ) → length m ≤ message_limit → u ++ v ≡ sent_message 1024 m → 0 < length v
+      → HasBegun (reading Request b) (b ++ u)
+  front_read u v m most is some =
+      message_front 1024 b m u v (reading_joins (reading Request b) 1024 (omega arith) s.unended s.read_size)
+      (omega arith) most (few_fragments (length m) 1024 (omega arith) (omega (arith, most))) none_came is some
 
--- before all octets of a message came, nothing is owed for it
-pub served_front : {first : LinkState} (b u v m : List ℕ) (js vs : List Verdict) (granted : Option ℕ)
-    → Settled first b js granted → length m ≤ message_limit → u ++ v ≡ sent_message 1024 m → 0 < length v
-    → Waits first b u js vs
-served_front {first} b u v m js vs granted s most is some =
-    let begun = front_read b u v m js granted s most is some in
-    let same =
-    past_alike first b (b ++ u) (js ++ vs) (ap (λ (q : Progress). q.events) begun.is)
-    (ap (λ (q : Progress). q.ending) begun.is ∙ s.unended) s.unended
-    ∙ past_with first b js vs s.lives in
-    record {
-      lives = ap (λ p. p.standing) same ∙ s.lives;
-      verdicts = ap (λ p. p.verdicts) same ∙ ap (λ x. x ++ vs) s.met;
-      owed = ap (λ p. p.owed) same;
-      entered = ap (λ (p : Past). entered_of p.mets) same;
-    }
+  -- before all octets of a message came, nothing is owed for it
+  pub served_front : (u v m : List ℕ) (vs : List Verdict) → length m ≤ message_limit → u ++ v ≡ sent_message 1024 m
+      → 0 < length v → Waits first b u js vs
+  served_front u v m vs most is some =
+      let begun = front_read u v m most is some in
+      let same =
+      past_alike first b (b ++ u) (js ++ vs) (ap (λ (q : Progress). q.events) begun.is)
+      (ap (λ (q : Progress). q.ending) begun.is ∙ s.unended) s.unended
+      ∙ past_with first b js vs s.lives in
+      record {
+        lives = ap (λ p. p.standing) same ∙ s.lives;
+        verdicts = ap (λ p. p.verdicts) same ∙ ap (λ x. x ++ vs) s.met;
+        owed = ap (λ p. p.owed) same;
+        entered = ap (λ (p : Past). entered_of p.mets) same;
+      }

@@ -31,40 +31,43 @@ use Rattle.s7_rig.proofs.PartedLemmas.{few_fragments, joined_by, Joins, message_
 abbrev cutter_at : Origin → List ℕ → Cut
 cutter_at origin b = record { held = []; limit = limits origin (packets_of (limits origin) b) }
 
-holds : (origin : Origin) (b : List ℕ) → rest_of (limits origin) b ≡ [] → HoldsRest (limits origin) b (cutter_at origin b)
-holds origin b clear = record { held = clear; limit = refl }
+module _ (origin : Origin) (b : List ℕ) (clear : rest_of (limits origin) b ≡ []) where
+  holds : HoldsRest (limits origin) b (cutter_at origin b)
+  holds = record { held = clear; limit = refl }
 
--- the limit of the next packet is that of the course
-limit_is : (origin : Origin) (b : List ℕ) → rest_of (limits origin) b ≡ [] → limits origin (packets_of (limits origin) b) ≡ limit_in (course origin b)
-limit_is origin b clear = ap limit_in (sym (course_held origin b (cutter_at origin b) (holds origin b clear) refl))
+  -- the limit of the next packet is that of the course
+  limit_is : limits origin (packets_of (limits origin) b) ≡ limit_in (course origin b)
+  limit_is = ap limit_in (sym (course_held origin b (cutter_at origin b) holds refl))
 
--- a strict front of the next packet changes nothing
-pub front_heard : (origin : Origin) (b body u v : List ℕ) → rest_of (limits origin) b ≡ [] → 3 ≤ length body → length body + 4 ≤ limit_in (course origin b)
-    → u ++ v ≡ packet_of body → 0 < length v → course origin (b ++ u) ≡ course origin b
-front_heard origin b body u v clear least most e some =
-    let cutter = cutter_at origin b in
-    let cutter' : Cut = record { held = u; limit = cutter.limit } in
-    let still : state_of cutter.limit u ≡ More = front_more cutter.limit body u v least (omega (arith, most, limit_is origin b clear)) e some in
-    let g : GoesOn (limits origin) b u = goes_on_at (limits origin) b u [] cutter.limit More clear refl (sym still) (λ is. absurd (cc)) in
-    course_on_more origin b u cutter cutter' (holds origin b clear) refl g refl refl still
+  -- a strict front of the next packet changes nothing
+  pub front_heard : (body u v : List ℕ) → 3 ≤ length body → length body + 4 ≤ limit_in (course origin b)
+      → u ++ v ≡ packet_of body → 0 < length v → course origin (b ++ u) ≡ course origin b
+  front_heard body u v least most e some =
+      let cutter = cutter_at origin b in
+      let cutter' : Cut = record { held = u; limit = cutter.limit } in
+      let still : state_of cutter.limit u ≡ More = front_more cutter.limit body u v least
+      (omega (arith, most, limit_is)) e some in
+      let g : GoesOn (limits origin) b u =
+      goes_on_at (limits origin) b u [] cutter.limit More clear refl (sym still) (λ is. absurd (cc)) in
+      course_on_more origin b u cutter cutter' holds refl g refl refl still
 
-ends_next : (origin : Origin) (b body : List ℕ) → rest_of (limits origin) b ≡ [] → 3 ≤ length body → length body + 4 ≤ limit_in (course origin b)
-    → EndsPacket (limits origin) b (packet_of body) body
-ends_next origin b body clear least most =
-    let limit = limits origin (packets_of (limits origin) b) in
-    ends_packet_at (limits origin) b (packet_of body) [] limit clear refl
-    (packet_written limit body least (omega (arith, most, limit_is origin b clear)))
+  ends_next : (body : List ℕ) → 3 ≤ length body → length body + 4 ≤ limit_in (course origin b)
+      → EndsPacket (limits origin) b (packet_of body) body
+  ends_next body least most =
+      let limit = limits origin (packets_of (limits origin) b) in
+      ends_packet_at (limits origin) b (packet_of body) [] limit clear refl
+      (packet_written limit body least (omega (arith, most, limit_is)))
 
--- the next packet is used whole
-pub packet_heard : (origin : Origin) (b body : List ℕ) → rest_of (limits origin) b ≡ [] → 3 ≤ length body → length body + 4 ≤ limit_in (course origin b)
-    → course origin (b ++ packet_of body) ≡ with_packet origin (course origin b) body
-packet_heard origin b body clear least most =
-    course_ends origin b (packet_of body) body (cutter_at origin b) (holds origin b clear) refl (ends_next origin b body clear least most)
+  -- the next packet is used whole
+  pub packet_heard : (body : List ℕ) → 3 ≤ length body → length body + 4 ≤ limit_in (course origin b)
+      → course origin (b ++ packet_of body) ≡ with_packet origin (course origin b) body
+  packet_heard body least most =
+      course_ends origin b (packet_of body) body (cutter_at origin b) holds refl (ends_next body least most)
 
--- and nothing is left of it
-pub packet_whole : (origin : Origin) (b body : List ℕ) → rest_of (limits origin) b ≡ [] → 3 ≤ length body → length body + 4 ≤ limit_in (course origin b)
-    → rest_of (limits origin) (b ++ packet_of body) ≡ []
-packet_whole origin b body clear least most = (ends_next origin b body clear least most).rest
+  -- and nothing is left of it
+  pub packet_whole : (body : List ℕ) → 3 ≤ length body → length body + 4 ≤ limit_in (course origin b)
+      → rest_of (limits origin) (b ++ packet_of body) ≡ []
+  packet_whole body least most = (ends_next body least most).rest
 
 -- ---- a message in fragments
 
@@ -101,7 +104,7 @@ module _ (origin : Origin) (k : Course) (size : ℕ) (least : 4 ≤ size) (await
   begun_with c octets user u v count last h fits is some = record {
     octets = octets;
     count = count;
-    is = front_heard origin c (spelling_of_data last user) u v h.rest (omega arith)
+    is = front_heard origin c h.rest (spelling_of_data last user) u v (omega arith)
         (fits_with c octets user count last h fits) is some
         ∙ h.is;
   }
@@ -115,14 +118,14 @@ module _ (origin : Origin) (k : Course) (size : ℕ) (least : 4 ≤ size) (await
       (with_joining (read_before (with_fragments k octets count)) (spelling_of_data last user) step)
   packet_joins c octets user count last step h fits is =
       let body = spelling_of_data last user in
-      packet_heard origin c body h.rest (omega arith) (fits_with c octets user count last h fits)
+      packet_heard origin c h.rest body (omega arith) (fits_with c octets user count last h fits)
       ∙ (ap (λ q. with_packet origin q body) h.is
       ∙ fragment_read origin (with_fragments k octets count) body user last step awaits (data_again last user) is)
 
   packet_rest : (c octets user : List ℕ) (count : ℕ) (last : Bool) → HasFragments origin k c octets count
       → length user ≤ size - 3 → rest_of (limits origin) (c ++ packet_of (spelling_of_data last user)) ≡ []
   packet_rest c octets user count last h fits =
-      packet_whole origin c (spelling_of_data last user) h.rest (omega arith)
+      packet_whole origin c h.rest (spelling_of_data last user) (omega arith)
       (fits_with c octets user count last h fits)
 
   course_joins : Joins (size - 3) (HasFragments origin k) (HasBegun origin k) (HasMessage origin k)
@@ -150,27 +153,27 @@ pub record AwaitsAnswers (origin : Origin) (b : List ℕ) : Type 0 where
 same_course : (k : Course) → k.unfinished ≡ nothing_unfinished → k ≡ with_fragments k [] 0
 same_course k h = ap (λ (u : Unfinished). with_fragments k u.octets u.count) h
 
-none_came : (origin : Origin) (b : List ℕ) → AwaitsAnswers origin b → HasFragments origin (course origin b) b [] 0
-none_came origin b h =
-    record { rest = h.awaiting.rest; is = same_course (course origin b) h.awaiting.unfinished }
+module _ {origin : Origin} {b : List ℕ} (h : AwaitsAnswers origin b) where
+  none_came : HasFragments origin (course origin b) b [] 0
+  none_came = record { rest = h.awaiting.rest; is = same_course (course origin b) h.awaiting.unfinished }
 
--- while it comes, answers are awaited still
-pub heard_front : (origin : Origin) (b m u v : List ℕ) → AwaitsAnswers origin b → length m ≤ message_limit
-    → u ++ v ≡ sent_message 1024 m → 0 < length v → (course origin (b ++ u)).awaits ≡ for_answers
-heard_front origin b m u v h most is some =
-    let joins = course_joins origin (course origin b) 1024 (omega arith) h.awaits h.awaiting.size in
-    let begun =
-    message_front 1024 b m u v joins (omega arith) most
-    (few_fragments (length m) 1024 (omega arith) (omega (arith, most))) (none_came origin b h) is some in
-    ap (λ (k : Course). k.awaits) begun.is ∙ h.awaits
+  -- while it comes, answers are awaited still
+  pub heard_front : (m u v : List ℕ) → length m ≤ message_limit → u ++ v ≡ sent_message 1024 m → 0 < length v
+      → (course origin (b ++ u)).awaits ≡ for_answers
+  heard_front m u v most is some =
+      let joins = course_joins origin (course origin b) 1024 (omega arith) h.awaits h.awaiting.size in
+      let begun =
+      message_front 1024 b m u v joins (omega arith) most
+      (few_fragments (length m) 1024 (omega arith) (omega (arith, most))) none_came is some in
+      ap (λ (k : Course). k.awaits) begun.is ∙ h.awaits
 
--- and all of it is a message
-message_heard : (origin : Origin) (b m : List ℕ) → AwaitsAnswers origin b → length m ≤ message_limit
-    → HasMessage origin (course origin b) (b ++ sent_message 1024 m) m
-message_heard origin b m h most =
-    message_whole 1024 b m
-    (course_joins origin (course origin b) 1024 (omega arith) h.awaits h.awaiting.size) (omega arith) most
-    (few_fragments (length m) 1024 (omega arith) (omega (arith, most))) (none_came origin b h)
+  -- and all of it is a message
+  message_heard : (m : List ℕ) → length m ≤ message_limit
+      → HasMessage origin (course origin b) (b ++ sent_message 1024 m) m
+  message_heard m most =
+      message_whole 1024 b m
+      (course_joins origin (course origin b) 1024 (omega arith) h.awaits h.awaiting.size) (omega arith) most
+      (few_fragments (length m) 1024 (omega arith) (omega (arith, most))) none_came
 
 long_message : (c : Conduct) (k : Course) (m : List ℕ) → 10 ≤ length m
     → with_message c k m ≡ by_rows c k m (filled k.rows m)
@@ -192,7 +195,7 @@ heard_answer origin b m rows h least most is =
     let k = course origin b in
     let used = sent_message 1024 m in
     let before : Course = record k { rows = rows } in
-    let message = message_heard origin b m h most in
+    let message = message_heard h m most in
     let same : course origin (b ++ used) ≡ asking c before =
     message.is
     ∙ (ap (λ q. with_message c q m) (sym (same_course k h.awaiting.unfinished))

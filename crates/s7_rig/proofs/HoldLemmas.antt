@@ -199,7 +199,7 @@ upload_in_turn name =
     of_upload IsSilent (λ id size so_far. tt) (λ id. tt) name answers question tt is)
     (λ link next is. subst (IsReadyFor link) (same_some (starts_upload name) next is) tt)
     (λ link answers question answer next asked goes is.
-    slice_ready link name answers question answer next asked goes is)
+    slice_ready link question answer next name answers asked goes is)
 
 -- reads and writes of items
 items_silent : (questions : List Question) → AllByRecursion IsOfItems questions → AllByRecursion IsSilent questions
@@ -241,7 +241,7 @@ download_in_turn image room some = record {
   narrow = refl;
   first = λ link next is. subst (IsNext [] link) (same_some (announces image) next is) (tt, refl);
   behind = λ link unheard answers question answer next gone unrefused is.
-      given_next link unheard image room gone.pdu gone.own answers question answer gone.new next some gone.asked
+      given_next link image room next unheard gone.pdu gone.own answers question answer gone.new some gone.asked
       gone.told unrefused gone.goes gone.unheard is;
   last = λ link unheard answers question answer gone none.
       given_last link unheard image room answers question answer gone.asked gone.unheard none;

@@ -43,52 +43,45 @@ none_behind_end link id size so_far _ next goes is = absurd (cc)
 
 -- ---- behind the answer to what was asked there
 
-asked_ready : (link : LinkState) (id size : ℕ) (so_far : List ℕ) (more : Bool) (question : Question) (answer : Answer)
-    (next : Question) → Some (cond more (slices_upload id size so_far) (ends_upload id)) ≡ Some question
-    → GoesOn link question answer → behind_slice id size (so_far ++ octets_in answer) (Some answer) ≡ Some next
-    → IsReadyFor link next
-asked_ready link id size so_far true question answer next asked goes is =
-    behind_slice_ready link id size so_far answer next
-    (subst (λ q. GoesOn link q answer) (sym (same_some (slices_upload id size so_far) question asked)) goes) is
-asked_ready link id size so_far false question answer next asked goes is =
-    absurd
-    (none_behind_end link id size (so_far ++ octets_in answer) answer next
-    (subst (λ q. GoesOn link q answer) (sym (same_some (ends_upload id) question asked)) goes) is)
+module _ (link : LinkState) (question : Question) (answer : Answer) (next : Question) where
+  asked_ready : (id size : ℕ) (so_far : List ℕ) (more : Bool)
+      → Some (cond more (slices_upload id size so_far) (ends_upload id)) ≡ Some question → GoesOn link question answer
+      → behind_slice id size (so_far ++ octets_in answer) (Some answer) ≡ Some next → IsReadyFor link next
+  asked_ready id size so_far true asked goes is =
+      behind_slice_ready link id size so_far answer next
+      (subst (λ q. GoesOn link q answer) (sym (same_some (slices_upload id size so_far) question asked)) goes) is
+  asked_ready id size so_far false asked goes is =
+      absurd (none_behind_end link id size (so_far ++ octets_in answer) answer next
+      (subst (λ q. GoesOn link q answer) (sym (same_some (ends_upload id) question asked)) goes) is)
 
-last_ready : (link : LinkState) (id size : ℕ) (so_far : List ℕ) (last : Option Answer) (question : Question)
-    (answer : Answer) (next : Question) → behind_slice id size so_far last ≡ Some question
-    → GoesOn link question answer → behind_slice id size (so_far ++ octets_in answer) (Some answer) ≡ Some next
-    → IsReadyFor link next
-last_ready link id size so_far (Some (slices more octets)) question answer next asked goes is =
-    asked_ready link id size so_far more question answer next asked goes is
-last_ready link id size so_far _ question answer next asked goes is = absurd (cc)
+  last_ready : (id size : ℕ) (so_far : List ℕ) (last : Option Answer) → behind_slice id size so_far last ≡ Some question
+      → GoesOn link question answer → behind_slice id size (so_far ++ octets_in answer) (Some answer) ≡ Some next
+      → IsReadyFor link next
+  last_ready id size so_far (Some (slices more octets)) asked goes is = asked_ready id size so_far more asked goes is
+  last_ready id size so_far _ asked goes is = absurd (cc)
 
-started_ready : (link : LinkState) (id size : ℕ) (answers : List (Option Answer)) (question : Question)
-    (answer : Answer) (next : Question) → behind_start id size answers ≡ Some question → GoesOn link question answer
-    → behind_start id size (answers ++ Some answer ∷ []) ≡ Some next → IsReadyFor link next
-started_ready link id size [] question answer next asked goes is =
-    behind_slice_ready link id size [] answer next
-    (subst (λ q. GoesOn link q answer) (sym (same_some (slices_upload id size []) question asked)) goes)
-    (ap (λ so_far. behind_slice id size so_far (Some answer)) (sym (append-nil (octets_in answer))) ∙ is)
-started_ready link id size (first ∷ answers) question answer next asked goes is =
-    last_ready link id size (octets_brought (first ∷ answers)) (last_answer first answers) question answer next asked
-    goes
-    (ap₂ (behind_slice id size) (sym (brought_more (first ∷ answers) answer))
-    (sym (last_more first answers (Some answer))) ∙ is)
+  started_ready : (id size : ℕ) (answers : List (Option Answer)) → behind_start id size answers ≡ Some question
+      → GoesOn link question answer → behind_start id size (answers ++ Some answer ∷ []) ≡ Some next
+      → IsReadyFor link next
+  started_ready id size [] asked goes is =
+      behind_slice_ready link id size [] answer next
+      (subst (λ q. GoesOn link q answer) (sym (same_some (slices_upload id size []) question asked)) goes)
+      (ap (λ so_far. behind_slice id size so_far (Some answer)) (sym (append-nil (octets_in answer))) ∙ is)
+  started_ready id size (first ∷ answers) asked goes is =
+      last_ready id size (octets_brought (first ∷ answers)) (last_answer first answers) asked goes
+      (ap₂ (behind_slice id size) (sym (brought_more (first ∷ answers) answer))
+      (sym (last_more first answers (Some answer))) ∙ is)
 
-first_ready : (link : LinkState) (first : Option Answer) (answers : List (Option Answer)) (question : Question)
-    (answer : Answer) (next : Question) → behind_first first answers ≡ Some question → GoesOn link question answer
-    → behind_first first (answers ++ Some answer ∷ []) ≡ Some next → IsReadyFor link next
-first_ready link (Some (uploads id size)) answers question answer next asked goes is =
-    started_ready link id size answers question answer next asked goes is
-first_ready link _ answers question answer next asked goes is = absurd (cc)
+  first_ready : (first : Option Answer) (answers : List (Option Answer)) → behind_first first answers ≡ Some question
+      → GoesOn link question answer → behind_first first (answers ++ Some answer ∷ []) ≡ Some next
+      → IsReadyFor link next
+  first_ready (Some (uploads id size)) answers asked goes is = started_ready id size answers asked goes is
+  first_ready _ answers asked goes is = absurd (cc)
 
--- a link that goes on from the answer to one question is ready for the next
-pub slice_ready : (link : LinkState) (name : BlockName) (answers : List (Option Answer)) (question : Question)
-    (answer : Answer) (next : Question) → next_slice name answers ≡ Some question → GoesOn link question answer
-    → next_slice name (answers ++ Some answer ∷ []) ≡ Some next → IsReadyFor link next
-slice_ready link name [] question answer next asked goes is =
-    behind_start_ready link name answer next
-    (subst (λ q. GoesOn link q answer) (sym (same_some (starts_upload name) question asked)) goes) is
-slice_ready link name (first ∷ answers) question answer next asked goes is =
-    first_ready link first answers question answer next asked goes is
+  -- a link that goes on from the answer to one question is ready for the next
+  pub slice_ready : (name : BlockName) (answers : List (Option Answer)) → next_slice name answers ≡ Some question
+      → GoesOn link question answer → next_slice name (answers ++ Some answer ∷ []) ≡ Some next → IsReadyFor link next
+  slice_ready name [] asked goes is =
+      behind_start_ready link name answer next
+      (subst (λ q. GoesOn link q answer) (sym (same_some (starts_upload name) question asked)) goes) is
+  slice_ready name (first ∷ answers) asked goes is = first_ready first answers asked goes is

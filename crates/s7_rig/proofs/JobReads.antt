@@ -20,6 +20,6 @@ job_read {pdu} origin grant end xs least granted good c replies = by origin.job 
   where
     by : (done : Job) → origin.job ≡ done → ReadsAs done grant.pdu (entries_of xs) end.octets end.codes
     by (job.ReadArea item) is = item_read origin grant item end xs granted is good c replies
-    by (job.ReadMany items) is = items_read origin grant items end xs granted is good c replies
+    by (job.ReadMany items) is = items_read origin grant items end xs granted is good c
     by (job.DbGet number) is = λ low. block_read origin grant number end xs least granted low is good c replies
     by _ is = tt

@@ -1,5 +1,6 @@
--- Facts about lists of octets.
-use Rattle.std.proofs.Common.{◌≡◌, ◌⊎◌, inl, inr, ℕ, ◌<◌, List, [], ◌∷◌, ◌++◌, length, refl, ap, sym, ◌∙◌, arith}
+-- Facts about lists of octets, and about what may be there.
+use Rattle.std.proofs.Common.{◌≡◌, ◌⊎◌, inl, inr, ℕ, ◌<◌, Option, None, Some, List, [], ◌∷◌, ◌++◌, length, refl, ap, sym, ◌∙◌, arith, append_assoc, append-nil}
+use Rattle.std.proofs.lemmas.List.{append_cancel_left}
 
 abbrev pub head_of : List ℕ → ℕ
 head_of [] = 0
@@ -16,6 +17,21 @@ some_of (x ∷ xs) h = omega arith
 pub none_of : (xs : List ℕ) → (0 < length xs → ⊥) → xs ≡ []
 none_of [] h = refl
 none_of (x ∷ xs) h = absurd (h (omega arith))
+
+-- nothing has no front
+pub none_before : (xs ys : List ℕ) → xs ++ ys ≡ [] → xs ≡ []
+none_before [] ys none = refl
+none_before (x ∷ xs) ys none = absurd (cc)
+
+-- nothing lies behind a list that is all
+pub none_behind : (xs ys : List ℕ) → xs ≡ xs ++ ys → ys ≡ []
+none_behind xs ys same = append_cancel_left xs ys [] (sym same ∙ sym (append-nil xs))
+
+pub two_behind : (b x y : List ℕ) → b ++ (x ++ (y ++ [])) ≡ (b ++ x) ++ y
+two_behind b x y = ap (λ z. b ++ (x ++ z)) (append-nil y) ∙ sym (append_assoc b x y)
+
+pub not_both : {A : Type 0} (o : Option A) (x : A) → o ≡ None → o ≡ Some x → ⊥
+not_both o x none some = cc
 
 -- ---- two fronts of a list
 

@@ -1,11 +1,11 @@
 -- The loans of the pipes and the book over a session's turn.
-use Rattle.std.proofs.Common.{◌≡◌, List, ◌++◌, Some, refl, ap, subst, unwrap_or, arith}
+use Rattle.std.proofs.Common.{◌≡◌, List, ◌++◌, Some, refl, ap, subst, arith}
 use Rattle.std.specs.Borrow.{GName}
-use Rattle.s7_outer.specs.PipesHeld.{PipesHeld}
+use Rattle.s7_memory.specs.PipesHeld.{PipesHeld}
 use Rattle.s7_outer.specs.Shown.{Shown}
-use Rattle.s7_outer.specs.Pipes.{end_of, number_of as side_number}
-use Rattle.s7_outer.specs.declared.pipes.Side.{Side}
-use Rattle.s7_outer.specs.declared.pipes.Side.TheVariants as side
+use Rattle.s7_memory.specs.Pipes.{end_of, number_of as side_number}
+use Rattle.s7_memory.specs.declared.pipes.Side.{Side}
+use Rattle.s7_memory.specs.declared.pipes.Side.TheVariants as side
 use Rattle.s7_plant.specs.Books.{BookTold, book_told}
 use Rattle.s7_plant.specs.declared.request.Ask.{Ask}
 use Rattle.s7_session.specs.declared.book_doer.BookDoer.{BookDoer}
@@ -17,13 +17,11 @@ use Rattle.s7_session.specs.Entry.{Entry}
 use Rattle.s7_session.specs.Stands.{Moves, IsTurn, closed_with, number_of}
 use Rattle.s7_session.proofs.DoerLemmas.{SeenAs, trail_seen}
 use Rattle.s7_rig.specs.Turns.{TakesTurn, stands_in, is_full_in, lacks_in}
-
-some_same : {A : Type 0} {x y : A} → Some x ≡ Some y → x ≡ y
-some_same {A} {x} {y} e = ap (λ o. unwrap_or o x) e
+use Rattle.s7_dialogue.proofs.FlightLemmas.{same_some}
 
 -- an end that is lent as the server's is lent by the same loan
 pub same_loan : (loan loan' : GName) (p p' : PipesHeld) (s : Side) → (end_of loan' p' s).lent ≡ (end_of loan p side.Server).lent → loan' ≡ loan
-same_loan loan loan' p p' s e = ap (λ l. l.loan) (some_same e)
+same_loan loan loan' p p' s e = ap (λ l. l.loan) (same_some _ _ e)
 
 server_is : (s : Side) → side_number s ≡ 1 → s ≡ side.Server
 server_is side.Client e = absurd (omega (arith, e))
@@ -31,7 +29,7 @@ server_is side.Server e = refl
 
 -- and is the server's
 pub same_side : (loan loan' : GName) (p p' : PipesHeld) (s : Side) → (end_of loan' p' s).lent ≡ (end_of loan p side.Server).lent → s ≡ side.Server
-same_side loan loan' p p' s e = server_is s (ap (λ l. l.end) (some_same e))
+same_side loan loan' p p' s e = server_is s (ap (λ l. l.end) (same_some _ _ e))
 
 -- ---- the book of a doer
 

@@ -1,5 +1,5 @@
 -- The first connect over one link, once its client is done with it.
-use Rattle.std.proofs.Common.{◌≡◌, inl, inr, ℕ, ◌<◌, cond, min, max, None, Some, List, [], ◌∷◌, ◌++◌, refl, ap, sym, ◌∙◌, subst, arith, append_assoc, append-nil}
+use Rattle.std.proofs.Common.{◌≡◌, inl, inr, ℕ, ◌<◌, cond, min, max, None, Some, List, [], ◌++◌, refl, ap, sym, ◌∙◌, subst, arith, append_assoc, append-nil}
 use Rattle.std.specs.Prelude.{Option, nat_lt, ◌||◌}
 use Rattle.std.proofs.lemmas.Bool.{le-ltb}
 use Rattle.std.proofs.lemmas.List.{append_cancel_left}
@@ -35,7 +35,7 @@ use Rattle.s7_rig.proofs.HeardLemmas.{AwaitsAnswers, heard_front}
 use Rattle.s7_rig.proofs.ConnectLemmas.{begins_connecting, confirm_front, confirm_heard, grant_heard}
 use Rattle.s7_rig.proofs.GrowthLemmas.{course_grows}
 use Rattle.s7_rig.proofs.PastFacts.{past_with}
-use Rattle.s7_rig.proofs.ListFacts.{none_of}
+use Rattle.s7_rig.proofs.ListFacts.{none_before, none_behind, none_of}
 
 -- ---- what goes over the link
 
@@ -76,14 +76,6 @@ abbrev opening_heard : Config → List ℕ
 opening_heard config = confirm_octets config ++ grant_octets config
 
 -- ---- fronts
-
-none_before : (xs ys : List ℕ) → xs ++ ys ≡ [] → xs ≡ []
-none_before [] ys none = refl
-none_before (x ∷ xs) ys none = absurd (cc)
-
--- nothing lies behind a list that is all
-none_behind : (xs ys : List ℕ) → xs ≡ xs ++ ys → ys ≡ []
-none_behind xs ys same = append_cancel_left xs ys [] (sym same ∙ sym (append-nil xs))
 
 not_over : (end : End) (carried : List ℕ) (awaits : Awaits) → AwaitsOctets awaits → awaits ≡ for_nothing end carried → ⊥
 not_over end carried awaits octets over = subst AwaitsOctets over octets
@@ -173,7 +165,8 @@ module _ (guard : Option Guard) (origin : Origin) (heard sent : List ℕ) (end :
       let front : request.0 ++ y.0 ≡ negotiation_octets origin.config =
       append_cancel_left (connect_octets origin.config) (request.0 ++ y.0) (negotiation_octets origin.config)
       (sym (append_assoc (connect_octets origin.config) request.0 y.0) ∙ (ap (λ x. x ++ y.0) (sym request.1) ∙ sym y.1)) in
-      let waits = served_front (connect_octets origin.config) request.0 y.0 (negotiation_of origin.config) [] verdicts None opens.settled (omega arith) front y.2 in
+      let waits = served_front opens.settled request.0 y.0 (negotiation_of origin.config) verdicts
+      (omega arith) front y.2 in
       let owes : confirm_octets origin.config ≡ confirm_octets origin.config ++ (confirm.0 ++ behind) =
       sym opens.owed ∙ (sym waits.owed ∙ (ap (λ b. owed first b verdicts) (sym request.1) ∙ (over.owed_is ∙ (ap (λ x. x ++ behind) confirm.1 ∙ append_assoc (confirm_octets origin.config) confirm.0 behind)))) in
       absurd (answer_begun confirm.0 confirm.1 (none_before confirm.0 behind (none_behind (confirm_octets origin.config) (confirm.0 ++ behind) owes)))
@@ -206,7 +199,7 @@ module _ (guard : Option Guard) (origin : Origin) (heard sent : List ℕ) (end :
       append_cancel_left confirm (begun.0 ++ y.0) (grant_octets origin.config) (sym (append_assoc confirm begun.0 y.0) ∙ (ap (λ x. x ++ y.0) (sym begun.1) ∙ sym y.1)) in
       let awaits : AwaitsAnswers origin confirm =
       record { awaiting = negotiation_awaited.awaiting; awaits = negotiation_awaited.awaits } in
-      let still = heard_front origin confirm (grant_of origin.config) begun.0 y.0 awaits (omega arith) front y.2 in
+      let still = heard_front awaits (grant_of origin.config) begun.0 y.0 (omega arith) front y.2 in
       absurd
       (not_over end carried (course origin heard).awaits
       (subst AwaitsOctets (sym (ap (λ x. (course origin x).awaits) begun.1 ∙ still)) tt) over.over.over)

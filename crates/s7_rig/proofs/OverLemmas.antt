@@ -1,9 +1,7 @@
 -- The law of a whole job over one link.
-use Rattle.std.proofs.Common.{◌≡◌, ℕ, List, [], ◌∷◌, ◌++◌, ap, sym, ◌∙◌, subst, append-nil}
+use Rattle.std.proofs.Common.{◌≡◌, ℕ, List, ◌++◌, ap, sym, ◌∙◌, subst, append-nil}
 use Rattle.std.specs.Prelude.{Some}
 use Rattle.std.proofs.lemmas.List.{append_cancel_left}
-use Rattle.s7_plant.specs.declared.request.Ask.{Ask}
-use Rattle.s7_plant.specs.Replies.{Said}
 use Rattle.s7_dialogue.specs.Dialogue.{End}
 use Rattle.s7_dialogue.specs.Course.{Origin}
 use Rattle.s7_session.specs.LinkState.{LinkState}
@@ -14,10 +12,7 @@ use Rattle.s7_rig.specs.Dialogues.{AreReplies, ReadsAs, IsJobOver, IsJobSettled}
 use Rattle.s7_rig.proofs.Conversing.{entries_of, verdicts_met, WentBy}
 use Rattle.s7_rig.proofs.SettledLemmas.{over_is_done}
 use Rattle.s7_rig.proofs.JobReads.{job_read}
-
-replies_behind : (xs ys : List (Ask × Said)) → AreReplies (xs ++ ys) → AreReplies ys
-replies_behind [] ys h = h
-replies_behind (x ∷ xs) ys h = replies_behind xs ys h.1
+use Rattle.s7_rig.proofs.PartLemmas.{replies_behind}
 
 -- A job that is over left both ends between two messages, and a read that came off is what its entries read.
 pub job_is_settled : (first : LinkState) (origin : Origin) (pdu : ℕ) (heard sent : List ℕ) (end : End) (carried b used : List ℕ) (js verdicts : List Verdict) (behind : List ℕ)

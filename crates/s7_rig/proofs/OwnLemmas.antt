@@ -1,38 +1,32 @@
--- A link's own calls in a history, and the split reads that they tell.
+-- A link's own calls in a history.
 use Rattle.std.proofs.Common.{◌≡◌, ◌≢◌, ℕ, zero, suc, ◌+◌, ◌<◌, ◌≤◌, Bool, true, false, Some, List, [], ◌∷◌, ◌++◌, length, map, slice_get, refl, ap, sym, ◌∙◌, subst, arith, append_assoc, append-nil, length-append}
 use Rattle.std.specs.Prelude.{◌==◌, if◌then◌else◌}
 use Rattle.std.specs.List.{AllByRecursion}
 use Rattle.std.proofs.lemmas.Bool.Decides.{nat_tests}
 use Rattle.std.proofs.Math.Seq.{take-append_seam}
 use Rattle.std.proofs.lemmas.List.{take-append-le, append_cancel_left}
-use Rattle.std.proofs.lemmas.Option.{slice_get_within}
-use Rattle.s7_area.specs.Memory.{read_code, read_octets}
-use Rattle.s7_item.specs.declared.item.Item.{Item}
-use Rattle.s7_split.specs.Parts.{parts_of}
 use Rattle.s7_turn.specs.declared.view.Entry.{Entry as Call}
 use Rattle.s7_turn.specs.Histories.{entry, replay}
 use Rattle.s7_plant.specs.Books.{BookTold}
 use Rattle.s7_plant.specs.declared.request.Ask.{Ask}
 use Rattle.s7_plant.specs.declared.request.Request.{Request}
-use Rattle.s7_plant.specs.declared.request.Request.TheVariants.{Read}
 use Rattle.s7_plant.specs.declared.request.Request.TheVariants as plain
 use Rattle.s7_plant.specs.Answers.{answer_of, after}
 use Rattle.s7_plant.specs.Journals.{after_call}
 use Rattle.s7_plant.specs.Replies.{Said}
-use Rattle.s7_plant.specs.Requests.{asked}
 use Rattle.s7_plant.specs.State.{State, state_of}
 use Rattle.s7_session.specs.Entry.{Entry, answered}
 use Rattle.s7_session.specs.Books.{History, history_of, entry_at, own_from, own, AreOf, GoesOnBy}
 use Rattle.s7_rig.specs.Numbers.{count_from}
-use Rattle.s7_rig.specs.Dialogues.{AreReplies, ReadsParts}
+use Rattle.s7_rig.specs.Dialogues.{AreReplies}
 use Rattle.s7_rig.specs.Plants.{IsPlant, IsStateFor}
-use Rattle.s7_rig.specs.Split.{state_at, IsReadAt, Rise, AreReadAt, SplitRead}
+use Rattle.s7_rig.specs.Split.{state_at, Rise}
 use Rattle.s7_rig.proofs.ShapeLemmas.{AreShaped, state_same}
 
-is_same : (a b : ℕ) → a ≡ b → (a == b) ≡ true
+pub is_same : (a b : ℕ) → a ≡ b → (a == b) ≡ true
 is_same a b e = grind (arith, nat_tests)
 
-is_other : (a b : ℕ) → a ≢ b → (a == b) ≡ false
+pub is_other : (a b : ℕ) → a ≢ b → (a == b) ≡ false
 is_other a b e = grind (arith, nat_tests)
 
 are_same : (a b : ℕ) → (a == b) ≡ true → a ≡ b
@@ -214,34 +208,6 @@ pub rise_back : (before mine : List Entry) → Rise (numbers_of (before ++ mine)
 rise_back [] mine up = up
 rise_back (e ∷ before) mine up = rise_back before mine (rise_rest e.number (numbers_of (before ++ mine)) up)
 
--- ---- a read that its entries tell
-
-pub reads_at : (s : State) (history : History) (link : ℕ) (parts : List Item) (mine : List Entry) (octets : List ℕ) → AreOwnAt s history link mine → ReadsParts parts (map answered mine) octets
-    → AreReadAt s history link parts (numbers_of mine) octets
-unfolding AreReadAt ReadsParts
-reads_at s history link [] [] octets all reads = reads
-reads_at s history link [] (e ∷ mine) octets all reads = reads
-reads_at s history link (part ∷ parts) [] octets all reads = reads
-reads_at s history link (part ∷ parts) (e ∷ mine) octets all (front, rest, right, split, asks, gives, others) =
-    let left = state_at s history e.number in
-    let seen = gives left (all.0.reply ∙ ap (answer_of left) asks) in (
-      front,
-      rest,
-      split,
-      record { right = right; call = all.0.call ∙ ap (λ ask. Some (entry link ask)) asks; good = seen.0; octets_are = seen.1 },
-      reads_at s history link parts mine rest all.1 others,
-    )
-
--- a back part of the own entries that reads the parts of an item is a split read
-pub reads_stand : (s : State) (history : History) (link : ℕ) (item : Item) (pdu : ℕ) (before mine : List Entry) (octets : List ℕ) → own s link history ≡ before ++ mine
-    → ReadsParts (parts_of item pdu false) (map answered mine) octets
-    → SplitRead s history (numbers_of mine) link item pdu octets
-reads_stand s history link item pdu before mine octets split reads = record {
-  rise = rise_back before mine (subst (λ es. Rise (numbers_of es)) split (own_rises s link history));
-  read = reads_at s history link (parts_of item pdu false) mine octets
-      (own_back_at s history link before mine (subst (AreOwnAt s history link) split (own_at s link history))) reads;
-}
-
 -- what was entered is known in both ways
 pub own_are_same : (all front entries : List (Ask × Said)) (mine : List Entry) → all ≡ front ++ map answered mine
     → all ≡ front ++ entries → entries ≡ map answered mine
@@ -250,33 +216,14 @@ own_are_same all front entries mine own_are are =
 
 -- ---- a history that grows
 
-pub slice_get-grows : (history more : History) (k : ℕ) (e : Call Ask) → k < length history → slice_get history k ≡ Some e → slice_get (history ++ more) k ≡ Some e
-slice_get-grows [] more k e less is = absurd (omega (arith, less))
-slice_get-grows (x ∷ history) more zero e less is = is
-slice_get-grows (x ∷ history) more (suc k) e less is = slice_get-grows history more k e (omega (arith, less)) is
+pub slice_get-grows : (history more : History) (k : ℕ) (e : Call Ask) → slice_get history k ≡ Some e
+    → slice_get (history ++ more) k ≡ Some e
+slice_get-grows [] more k e is = absurd (cc)
+slice_get-grows (x ∷ history) more zero e is = is
+slice_get-grows (x ∷ history) more (suc k) e is = slice_get-grows history more k e is
 
 pub at_grows : (s : State) (history more : History) (k : ℕ) → k < length history → state_at s history k ≡ state_at s (history ++ more) k
 at_grows s history more k less = ap (replay after_call s) (sym (take-append-le k history more (omega (arith, less))))
-
-read_at_stays : (s : State) (history more : History) (link : ℕ) (part : Item) (number : ℕ) (octets : List ℕ) → IsReadAt s history link part number octets → IsReadAt s (history ++ more) link part number octets
-read_at_stays s history more link part number octets is =
-    let call : Call Ask = entry link (asked is.right (Read (part ∷ []))) in
-    let less = slice_get_within history number call is.call in
-    let same = at_grows s history more number less in
-    record {
-      right = is.right;
-      call = slice_get-grows history more number call less is.call;
-      good = subst (λ x. read_code x.memory is.right part ≡ 0xFF) same is.good;
-      octets_are = subst (λ x. octets ≡ read_octets x.memory is.right part) same is.octets_are;
-    }
-
-pub reads_at_stay : (s : State) (history more : History) (link : ℕ) (parts : List Item) (numbers octets : List ℕ) → AreReadAt s history link parts numbers octets → AreReadAt s (history ++ more) link parts numbers octets
-unfolding AreReadAt
-reads_at_stay s history more link [] [] octets are = are
-reads_at_stay s history more link [] (n ∷ numbers) octets are = are
-reads_at_stay s history more link (part ∷ parts) [] octets are = are
-reads_at_stay s history more link (part ∷ parts) (n ∷ numbers) octets (front, rest, split, first, others) =
-    (front, rest, split, read_at_stays s history more link part n front first, reads_at_stay s history more link parts numbers rest others)
 
 -- ---- calls of several links
 

@@ -21,10 +21,9 @@ use Rattle.s7_rig.specs.Complete.{data_block}
 use Rattle.s7_rig.specs.Dialogues.{ReadsBlock, ReadsAs}
 use Rattle.s7_rig.specs.Split.{state_at, Rise, AreReadAt, BlockRead, ReadStands, StandsAtPlaces}
 use Rattle.s7_rig.specs.Split.{AllStand}
-use Rattle.s7_rig.proofs.GroupLemmas.{groups_stay}
-use Rattle.s7_rig.proofs.GroupPlaces.{groups_read_at}
-use Rattle.s7_rig.proofs.OwnLemmas.{AreOwnAt, own_at, own_back_at, own_rises, rise_back, numbers_of, reads_at, reads_stand}
-use Rattle.s7_rig.proofs.OwnLemmas.{slice_get-grows, at_grows, reads_at_stay}
+use Rattle.s7_rig.proofs.GroupPlaces.{groups_read_at, parts_read_at, groups_stay, parts_stay}
+use Rattle.s7_rig.proofs.OwnLemmas.{AreOwnAt, own_at, own_back_at, own_rises, rise_back, numbers_of}
+use Rattle.s7_rig.proofs.OwnLemmas.{slice_get-grows, at_grows}
 use Rattle.std.proofs.lemmas.Option.{slice_get_within}
 
 -- ---- what the own entries read
@@ -48,7 +47,7 @@ module _ (s : State) (history : History) (link pdu : ℕ) where
         there = seen.1;
         rise = rise;
         read = subst (λ n. AreReadAt s history link (data_parts number n pdu false) (numbers_of mine) octets)
-            (sym seen.2) (reads_at s history link (data_parts number size pdu false) mine octets own.1 parts);
+            (sym seen.2) (parts_read_at s history link (data_parts number size pdu false) mine octets own.1 parts);
       }
 
   -- a back part of the own entries that a job read
@@ -56,8 +55,11 @@ module _ (s : State) (history : History) (link pdu : ℕ) where
       → own s link history ≡ before ++ mine
       → ReadsAs done pdu (map answered mine) octets codes
       → ReadStands s history link pdu done (numbers_of mine) octets codes
-  read_stands (job.ReadArea item) before mine octets codes split reads =
-      reads_stand s history link item pdu before mine octets split reads
+  read_stands (job.ReadArea item) before mine octets codes split reads = record {
+    rise = rise_back before mine (subst (λ es. Rise (numbers_of es)) split (own_rises s link history));
+    read = parts_read_at s history link (parts_of item pdu false) mine octets
+        (own_back_at s history link before mine (subst (AreOwnAt s history link) split (own_at s link history))) reads;
+  }
   read_stands (job.ReadMany items) before mine octets codes split reads = record {
     rise = rise_back before mine (subst (λ es. Rise (numbers_of es)) split (own_rises s link history));
     read = groups_read_at s history link (groups_of pdu false items) mine octets codes
@@ -100,19 +102,19 @@ module _ (s : State) (history more : History) (link pdu : ℕ) where
         later = is.later;
         numbers_are = is.numbers_are;
         right = is.right;
-        call = slice_get-grows history more is.asked_at call less is.call;
+        call = slice_get-grows history more is.asked_at call is.call;
         stood = is.stood;
         there = subst (λ (x : State). data_block x.memory number ≡ Some is.stood)
             (at_grows s history more is.asked_at less) is.there;
         rise = is.rise;
-        read = reads_at_stay s history more link (data_parts number (length is.stood) pdu false) is.later octets is.read;
+        read = parts_stay s history more link (data_parts number (length is.stood) pdu false) is.later octets is.read;
       }
 
   read_stays : (done : Job) (places octets codes : List ℕ) → ReadStands s history link pdu done places octets codes
       → ReadStands s (history ++ more) link pdu done places octets codes
   read_stays (job.ReadArea item) places octets codes is = record {
     rise = is.rise;
-    read = reads_at_stay s history more link (parts_of item pdu false) places octets is.read;
+    read = parts_stay s history more link (parts_of item pdu false) places octets is.read;
   }
   read_stays (job.ReadMany items) places octets codes is = record {
     rise = is.rise;

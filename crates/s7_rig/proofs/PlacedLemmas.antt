@@ -211,7 +211,7 @@ ends_inside true a f c n s two within =
     let is : s ≡ 2 = two refl in omega (arith, ap (λ x. c * x) is, ap (λ x. n * x) is)
 ends_inside false a f c n s two within = omega (arith, mul-le-mul_left s within)
 
-not_none : (c : ℕ) → 0 < c → not (eqb c 0) ≡ true
+pub not_none : (c : ℕ) → 0 < c → not (eqb c 0) ≡ true
 not_none c some = grind (arith, nat_tests)
 
 elements_inside : (item : Item) (from count len : ℕ) → AreIn item from count → is_misfit item ≡ false

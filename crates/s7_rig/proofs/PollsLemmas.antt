@@ -2,7 +2,7 @@
 use Rattle.std.proofs.Common.{◌≡◌, ℕ, ◌||◌, Bool, true, false, List, [], ◌∷◌, ◌++◌, Option, None, refl, ap, sym, ◌∙◌, unwrap_or, ◌⊎◌, inl, inr, length, ◌≤◌}
 use Rattle.std.proofs.Math.Bool.{or-false}
 use Rattle.std.proofs.lemmas.Bool.{true≢false}
-use Rattle.s7_outer.specs.PipesHeld.{PipesHeld}
+use Rattle.s7_memory.specs.PipesHeld.{PipesHeld}
 use Rattle.s7_client.specs.declared.connection.Connection.{Connection}
 use Rattle.s7_dialogue.specs.declared.job.JobResult.{JobResult}
 use Rattle.s7_client.specs.declared.job.Polled.{Polled}

@@ -26,40 +26,38 @@ served_negotiation {first} b js held sequence asked n s low room is =
     let answer = answer_octets sequence (negotiation_spelling n) [] in
     let P : List ℕ → Type 0 = λ out. Serves first b js (sent_message 1024 m) js (Some n.pdu) out [] in
     subst P (append-nil (sent_message 1024 answer))
-    (served_own b m js held (Some n.pdu) (answer ∷ []) (record link { granted = Some n.pdu }) s (omega arith)
+    (served_own m s (omega arith) (Some n.pdu) (answer ∷ []) (record link { granted = Some n.pdu })
     (question_is_s7 sequence (negotiates asked))
     (judged_negotiation link sequence asked n low (subst (λ g. 18 ≤ pdu_limit g) (sym s.grants) room) is) refl).serves
 
--- a question that asks the plant is answered by the reply, or refused with its verdict
-pub served_question : {first : LinkState} (b : List ℕ) (js vs : List Verdict) (pdu sequence : ℕ) (question : Question)
-    (asking : Asking) → Settled first b js (Some pdu) → pdu ≤ most_pdu → length (question_octets sequence question) ≤ pdu
-    → judge (past first b js).link (question_octets sequence question) ≡ ask asking
-    → KeepsGrant (past first b js).link asking
-    → (past first (b ++ sent_message 1024 (question_octets sequence question)) (js ++ vs)).standing ≡ lives
-    → IsAnswered first b js (question_octets sequence question) vs (Some pdu) asking
-served_question b js vs pdu sequence question asking s most fits judged keeps live =
-    served_asking b (question_octets sequence question) js vs (Some pdu) asking s (omega (arith, most, fits))
-    (question_is_s7 sequence question) judged keeps live
+module _ {first : LinkState} {b : List ℕ} {js : List Verdict} {pdu : ℕ} (sequence : ℕ) (question : Question)
+    (s : Settled first b js (Some pdu)) (most : pdu ≤ most_pdu)
+    (fits : length (question_octets sequence question) ≤ pdu) where
+  -- a question that asks the plant is answered by the reply, or refused with its verdict
+  pub served_question : (vs : List Verdict) (asking : Asking)
+      → judge (past first b js).link (question_octets sequence question) ≡ ask asking
+      → KeepsGrant (past first b js).link asking
+      → (past first (b ++ sent_message 1024 (question_octets sequence question)) (js ++ vs)).standing ≡ lives
+      → IsAnswered first b js (question_octets sequence question) vs (Some pdu) asking
+  served_question vs asking judged keeps live =
+      served_asking (question_octets sequence question) s (omega (arith, most, fits)) vs asking
+      (question_is_s7 sequence question) judged keeps live
 
--- a question that the link itself answers
-pub served_by_link : {first : LinkState} (b : List ℕ) (js : List Verdict) (pdu sequence : ℕ) (question : Question)
-    (answer : List ℕ) (link : LinkState) → Settled first b js (Some pdu) → pdu ≤ most_pdu
-    → length (question_octets sequence question) ≤ pdu
-    → judge (past first b js).link (question_octets sequence question) ≡ own (answer ∷ []) link
-    → link.granted ≡ Some pdu
-    → ServesTo first b js (question_octets sequence question) js (Some pdu) (sent_message 1024 answer) [] link
-served_by_link {first} b js pdu sequence question answer link s most fits judged grants =
-    let m = question_octets sequence question in
-    subst (λ out. ServesTo first b js m js (Some pdu) out [] link) (append-nil (sent_message 1024 answer))
-    (served_own b m js (Some pdu) (Some pdu) (answer ∷ []) link s (omega (arith, most, fits))
-    (question_is_s7 sequence question) judged grants)
+  -- a question that the link itself answers
+  pub served_by_link : (answer : List ℕ) (link : LinkState)
+      → judge (past first b js).link (question_octets sequence question) ≡ own (answer ∷ []) link
+      → link.granted ≡ Some pdu
+      → ServesTo first b js (question_octets sequence question) js (Some pdu) (sent_message 1024 answer) [] link
+  served_by_link answer link judged grants =
+      let m = question_octets sequence question in
+      subst (λ out. ServesTo first b js m js (Some pdu) out [] link) (append-nil (sent_message 1024 answer))
+      (served_own m s (omega (arith, most, fits)) (Some pdu) (answer ∷ []) link
+      (question_is_s7 sequence question) judged grants)
 
--- and one that it refuses
-pub served_refusal : {first : LinkState} (b : List ℕ) (js : List Verdict) (pdu sequence : ℕ) (question : Question)
-    (refusal : _) → Settled first b js (Some pdu) → pdu ≤ most_pdu → length (question_octets sequence question) ≤ pdu
-    → judge (past first b js).link (question_octets sequence question) ≡ refuse refusal
-    → ServesTo first b js (question_octets sequence question) js (Some pdu)
-    (refusal_sent 1024 (sequence_of (question_octets sequence question)) (error_of refusal)) [] (past first b js).link
-served_refusal b js pdu sequence question refusal s most fits judged =
-    served_refused b (question_octets sequence question) js (Some pdu) refusal s (omega (arith, most, fits))
-    (question_is_s7 sequence question) judged
+  -- and one that it refuses
+  pub served_refusal : (refusal : _) → judge (past first b js).link (question_octets sequence question) ≡ refuse refusal
+      → ServesTo first b js (question_octets sequence question) js (Some pdu) (refusal_sent 1024
+      (sequence_of (question_octets sequence question)) (error_of refusal)) [] (past first b js).link
+  served_refusal refusal judged =
+      served_refused (question_octets sequence question) s (omega (arith, most, fits)) refusal
+      (question_is_s7 sequence question) judged

@@ -28,50 +28,46 @@ pub record IsServed (first : LinkState) (b : List ℕ) (js vs : List Verdict) (p
   pub fits : length (question_octets s q) ≤ pdu
   pub live : (past first (b ++ sent_message 1024 (question_octets s q)) (js ++ vs)).standing ≡ lives
 
-pub is_sent : {first : LinkState} (b : List ℕ) (js vs : List Verdict) (pdu s : ℕ) (q : Question)
-    → IsServed first b js vs pdu s q → IsSent (past first b js).link pdu s q
-is_sent b js vs pdu s q served =
-    record {
-      numbered = served.numbered;
-      granted = served.settled.grants;
-      low = served.low;
-      most = served.most;
-      fits = served.fits;
-    }
+module _ {first : LinkState} {b : List ℕ} {js vs : List Verdict} {pdu s : ℕ} {q : Question}
+    (served : IsServed first b js vs pdu s q) where
+  pub is_sent : IsSent (past first b js).link pdu s q
+  is_sent =
+      record {
+        numbered = served.numbered;
+        granted = served.settled.grants;
+        low = served.low;
+        most = served.most;
+        fits = served.fits;
+      }
 
--- one that asks the plant
-pub asking_replied : {first : LinkState} (b : List ℕ) (js vs : List Verdict) (pdu s : ℕ) (q : Question)
-    (asking : Asking) → IsServed first b js vs pdu s q → judge (past first b js).link (question_octets s q) ≡ ask asking
-    → KeepsGrant (past first b js).link asking → IsLeftOpen (past first b js).link pdu q
-    → IsAskedWell pdu q s asking → RepliesOnce first b js vs pdu q s
-asking_replied b js vs pdu s q asking served judged keeps open_to well =
-    asked_replies b js vs pdu s q asking served.numbered served.low open_to well
-    (served_question b js vs pdu s q asking served.settled served.most served.fits judged keeps served.live)
+  -- one that asks the plant
+  pub asking_replied : (asking : Asking) → judge (past first b js).link (question_octets s q) ≡ ask asking
+      → KeepsGrant (past first b js).link asking → IsLeftOpen (past first b js).link pdu q → IsAskedWell pdu q s asking
+      → RepliesOnce first b js vs pdu q s
+  asking_replied asking judged keeps open_to well =
+      asked_replies b js vs pdu s q asking served.numbered served.low open_to well
+      (served_question s q served.settled served.most served.fits vs asking judged keeps served.live)
 
--- one that the link answers
-pub link_replied : {first : LinkState} (b : List ℕ) (js vs : List Verdict) (pdu s : ℕ) (q : Question)
-    (message : List ℕ) (after : LinkState) → IsServed first b js vs pdu s q
-    → judge (past first b js).link (question_octets s q) ≡ own (message ∷ []) after → after.granted ≡ Some pdu
-    → ((answer : Answer) → answer_of q s message ≡ Some answer → IsByLink (past first b js).link pdu q answer)
-    → IsGood pdu [] after q s message [] → RepliesOnce first b js vs pdu q s
-link_replied b js vs pdu s q message after served judged grants by_link good =
-    own_replies b js vs pdu s q message after good by_link
-    (served_by_link b js pdu s q message after served.settled served.most served.fits judged grants)
+  -- one that the link answers
+  pub link_replied : (message : List ℕ) (after : LinkState)
+      → judge (past first b js).link (question_octets s q) ≡ own (message ∷ []) after → after.granted ≡ Some pdu
+      → ((answer : Answer) → answer_of q s message ≡ Some answer → IsByLink (past first b js).link pdu q answer)
+      → IsGood pdu [] after q s message [] → RepliesOnce first b js vs pdu q s
+  link_replied message after judged grants by_link good =
+      own_replies b js vs pdu s q message after good by_link
+      (served_by_link s q served.settled served.most served.fits message after judged grants)
 
--- and one that is refused
-pub refused_replied : {first : LinkState} (b : List ℕ) (js vs : List Verdict) (pdu s error : ℕ) (q : Question)
-    → IsServed first b js vs pdu s q → RefusesWith (judge (past first b js).link (question_octets s q)) error
-    → error < 65536 → IsLeftOpen (past first b js).link pdu q → HasTold pdu [] q (refuses error) []
-    → RepliesOnce first b js vs pdu q s
-refused_replied {first} b js vs pdu s error q served judged small open_to told =
-    let link = (past first b js).link in
-    let m = question_octets s q in
-    own_replies b js vs pdu s q (refusal_octets (sequence_of m) error) link
-    (record {
-      least = omega arith;
-      most = omega arith;
-      heard = refused_as pdu [] link q s error [] told served.numbered served.low small;
-    })
-    (λ answer is. open_to answer)
-    (subst (λ e. ServesTo first b js m js (Some pdu) (refusal_sent 1024 (sequence_of m) e) [] link) judged.2
-    (served_refusal b js pdu s q _ served.settled served.most served.fits judged.1))
+  -- and one that is refused
+  pub refused_replied : (error : ℕ) → RefusesWith (judge (past first b js).link (question_octets s q)) error
+      → error < 65536 → IsLeftOpen (past first b js).link pdu q → HasTold pdu [] q (refuses error) []
+      → RepliesOnce first b js vs pdu q s
+  refused_replied error judged small open_to told =
+      let link = (past first b js).link in
+      let m = question_octets s q in
+      own_replies b js vs pdu s q (refusal_octets (sequence_of m) error) link (record {
+        least = omega arith;
+        most = omega arith;
+        heard = refused_as pdu [] link q s error [] told served.numbered served.low small;
+      }) (λ answer is. open_to answer)
+      (subst (λ e. ServesTo first b js m js (Some pdu) (refusal_sent 1024 (sequence_of m) e) [] link) judged.2
+      (served_refusal s q served.settled served.most served.fits _ judged.1))

@@ -26,7 +26,7 @@ use Rattle.s7_rig.specs.Settled.{Settled, Serves}
 use Rattle.s7_rig.specs.Heard.{told_of}
 use Rattle.s7_rig.specs.Written.{own_data, own_places, own_write, own_codes}
 use Rattle.s7_rig.specs.Plants.{IsStateFor}
-use Rattle.s7_rig.specs.Exchanges.{IsUndone, GoesOn, HasTold, IsByLink, is_refused, is_read, is_written}
+use Rattle.s7_rig.specs.Exchanges.{IsUndone, GoesOn, HasTold, IsByLink, is_refused, is_told}
 use Rattle.s7_rig.specs.Dialogues.{AreReplies}
 use Rattle.s7_rig.proofs.Asked.{IsAnswered, is_entered, is_full, is_failed}
 use Rattle.s7_rig.proofs.Askable.{AreKnown}
@@ -52,31 +52,35 @@ stopped_unowed size link sequence (ask asking) (Full ∷ vs) over = absurd over
 stopped_unowed size link sequence (ask asking) (ClockFailed ∷ vs) over = clock_unowed asking.is_timed size link sequence asking vs over
 stopped_unowed size link sequence (ask asking) (NoMemory ∷ vs) over = refl
 
--- a message at which the link ends is owed nothing
-unowed : {first : LinkState} (b m : List ℕ) (js vs : List Verdict) (granted : Option ℕ) → Settled first b js granted → length m ≤ message_limit → is_s7 m ≡ true
-    → IsOver (past first (b ++ sent_message 1024 m) (js ++ vs)).standing → owed first (b ++ sent_message 1024 m) (js ++ vs) ≡ owed first b js
-unowed {first} b m js vs granted s most is over =
-    let same = served_message b m js vs granted s most is in
-    let link = (past first b js).link in
-    ap (λ (p : Past). p.owed) same
-    ∙ (ap (λ x. owed first b js ++ x) (stopped_unowed 1024 link (sequence_of m) (judge link m) vs (subst IsOver (ap (λ (p : Past). p.standing) same) over))
-    ∙ append-nil (owed first b js))
+module _ {first : LinkState} {b : List ℕ} {js : List Verdict} {granted : Option ℕ} (m : List ℕ) (vs : List Verdict)
+    (s : Settled first b js granted) (most : length m ≤ message_limit) (is : is_s7 m ≡ true) where
+  -- a message at which the link ends is owed nothing
+  unowed : IsOver (past first (b ++ sent_message 1024 m) (js ++ vs)).standing
+      → owed first (b ++ sent_message 1024 m) (js ++ vs) ≡ owed first b js
+  unowed over =
+      let same = served_message m s most vs is in
+      let link = (past first b js).link in
+      ap (λ (p : Past). p.owed) same
+      ∙ (ap (λ x. owed first b js ++ x) (stopped_unowed 1024 link (sequence_of m) (judge link m) vs
+      (subst IsOver (ap (λ (p : Past). p.standing) same) over))
+      ∙ append-nil (owed first b js))
 
-lives_by : {first : LinkState} (b m z more : List ℕ) (js vs : List Verdict) (granted : Option ℕ) → Settled first b js granted → length m ≤ message_limit → is_s7 m ≡ true
-    → owed first ((b ++ sent_message 1024 m) ++ z) (js ++ vs) ≡ owed first b js ++ more → 0 < length more
-    → ((past first (b ++ sent_message 1024 m) (js ++ vs)).standing ≡ lives) ⊎ IsOver (past first (b ++ sent_message 1024 m) (js ++ vs)).standing
-    → (past first (b ++ sent_message 1024 m) (js ++ vs)).standing ≡ lives
-lives_by b m z more js vs granted s most is owes some (inl live) = live
-lives_by {first} b m z more js vs granted s most is owes some (inr over) =
-    let same = ap (λ (p : Past). p.owed) (past_over first (b ++ sent_message 1024 m) z (js ++ vs) over) ∙ unowed b m js vs granted s most is over in
-    absurd (omega (arith, ap length (sym same ∙ owes), length-append (owed first b js) more, some))
+  lives_by : (z more : List ℕ) → owed first ((b ++ sent_message 1024 m) ++ z) (js ++ vs) ≡ owed first b js ++ more
+      → 0 < length more
+      → ((past first (b ++ sent_message 1024 m) (js ++ vs)).standing
+      ≡ lives) ⊎ IsOver (past first (b ++ sent_message 1024 m) (js ++ vs)).standing
+      → (past first (b ++ sent_message 1024 m) (js ++ vs)).standing ≡ lives
+  lives_by z more owes some (inl live) = live
+  lives_by z more owes some (inr over) =
+      let same = ap (λ (p : Past). p.owed)
+      (past_over first (b ++ sent_message 1024 m) z (js ++ vs) over) ∙ unowed over in
+      absurd (omega (arith, ap length (sym same ∙ owes), length-append (owed first b js) more, some))
 
--- where more comes to be owed, the link lives after the message
-pub lives_on : {first : LinkState} (b m z more : List ℕ) (js vs : List Verdict) (granted : Option ℕ) → Settled first b js granted → length m ≤ message_limit → is_s7 m ≡ true
-    → owed first ((b ++ sent_message 1024 m) ++ z) (js ++ vs) ≡ owed first b js ++ more → 0 < length more
-    → (past first (b ++ sent_message 1024 m) (js ++ vs)).standing ≡ lives
-lives_on {first} b m z more js vs granted s most is owes some =
-    lives_by b m z more js vs granted s most is owes some (standing_cases (past first (b ++ sent_message 1024 m) (js ++ vs)).standing)
+  -- where more comes to be owed, the link lives after the message
+  pub lives_on : (z more : List ℕ) → owed first ((b ++ sent_message 1024 m) ++ z) (js ++ vs) ≡ owed first b js ++ more
+      → 0 < length more → (past first (b ++ sent_message 1024 m) (js ++ vs)).standing ≡ lives
+  lives_on z more owes some =
+      lives_by z more owes some (standing_cases (past first (b ++ sent_message 1024 m) (js ++ vs)).standing)
 
 -- ---- one message, and its answer
 
@@ -139,26 +143,6 @@ refused pdu met link q s error undone numbered low small =
 abbrev pub IsLeftOpen : LinkState → ℕ → Question → Type 0
 IsLeftOpen link pdu q = (answer : Answer) → IsByLink link pdu q answer
 
--- a question that wasn't done is refused
-undone_replies : {first : LinkState} (b : List ℕ) (js vs rest : List Verdict) (v : Verdict) (pdu s error : ℕ)
-    (q : Question) → vs ≡ v ∷ rest → IsUndone (v ∷ []) error → is_numbered q ≡ true → s < 65536 → error < 65536
-    → IsLeftOpen (past first b js).link pdu q
-    → Serves first b js (sent_message 1024 (question_octets s q)) (js ++ v ∷ []) (Some pdu)
-    (refusal_sent 1024 (sequence_of (question_octets s q)) error) []
-    → RepliesOnce first b js vs pdu q s
-undone_replies {first} b js vs rest v pdu s error q is undone numbered low small open_to serves = record {
-  own = v ∷ [];
-  left = rest;
-  split = is;
-  message = refusal_octets (sequence_of (question_octets s q)) error;
-  new = [];
-  serves = serves;
-  least = λ h. omega arith;
-  most = λ h. omega arith;
-  heard = λ h. refused pdu (v ∷ []) (link_once first b s q (js ++ v ∷ [])) q s error undone numbered low small;
-  by_link = λ answer is. open_to answer;
-}
-
 -- ---- replies
 
 -- The message is short, and heard as an answer to the question.
@@ -177,58 +161,76 @@ pub record IsAskedWell (pdu : ℕ) (q : Question) (s : ℕ) (asking : Asking) : 
       → IsGood pdu (Entered reply moment ∷ []) (asking.link reply) q s (message reply)
       ((asking.ask moment, reply) ∷ [])
 
--- a question that asks the plant has its reply
-pub asked_replies : {first : LinkState} (b : List ℕ) (js vs : List Verdict) (pdu s : ℕ) (q : Question)
-    (asking : Asking) → is_numbered q ≡ true → s < 65536 → IsLeftOpen (past first b js).link pdu q
-    → IsAskedWell pdu q s asking → IsAnswered first b js (question_octets s q) vs (Some pdu) asking
-    → RepliesOnce first b js vs pdu q s
-asked_replies {first} b js vs pdu s q asking numbered low open_to well (is_entered reply moment rest is serves link) =
-    let new : List (Ask × Said) = (asking.ask moment, reply) ∷ [] in
-    let met : List Verdict = Entered reply moment ∷ [] in
-    record {
-      own = met;
-      left = rest;
-      split = is;
-      message = well.message reply;
-      new = new;
-      serves = subst
-          (λ out. Serves first b js (sent_message 1024 (question_octets s q)) (js ++ met) (Some pdu) out new)
-          (ap (sent_messages 1024) (well.messages reply) ∙ append-nil (sent_message 1024 (well.message reply))) serves;
-      least = λ h. (well.good moment reply h.0.0 h.0.1 h.0.2).least;
-      most = λ h. (well.good moment reply h.0.0 h.0.1 h.0.2).most;
-      heard = λ h. subst (λ l. IsHeardOnce pdu met l q s (well.message reply) new) (sym link)
-          (well.good moment reply h.0.0 h.0.1 h.0.2).heard;
-      by_link = λ answer is. open_to answer;
-    }
-asked_replies b js vs pdu s q asking numbered low open_to well (is_full rest is serves) =
-    undone_replies b js vs rest Full pdu s FULL q is (inl (tt, refl)) numbered low (omega arith) open_to serves
-asked_replies b js vs pdu s q asking numbered low open_to well (is_failed rest is timed serves) =
-    undone_replies b js vs rest ClockFailed pdu s CLOCK_FAILED q is (inr (omega arith, refl)) numbered low
-    (omega arith) open_to serves
+module _ {first : LinkState} (b : List ℕ) (js vs : List Verdict) (pdu s : ℕ) (q : Question) where
+  -- a question that wasn't done is refused
+  undone_replies : (rest : List Verdict) (v : Verdict) (error : ℕ) → vs ≡ v ∷ rest → IsUndone (v ∷ []) error
+      → is_numbered q ≡ true → s < 65536 → error < 65536 → IsLeftOpen (past first b js).link pdu q
+      → Serves first b js (sent_message 1024 (question_octets s q)) (js ++ v ∷ []) (Some pdu)
+      (refusal_sent 1024 (sequence_of (question_octets s q)) error) [] → RepliesOnce first b js vs pdu q s
+  undone_replies rest v error is undone numbered low small open_to serves = record {
+    own = v ∷ [];
+    left = rest;
+    split = is;
+    message = refusal_octets (sequence_of (question_octets s q)) error;
+    new = [];
+    serves = serves;
+    least = λ h. omega arith;
+    most = λ h. omega arith;
+    heard = λ h. refused pdu (v ∷ []) (link_once first b s q (js ++ v ∷ [])) q s error undone numbered low small;
+    by_link = λ answer is. open_to answer;
+  }
 
--- and one that the link itself answers has its answer
-pub own_replies : {first : LinkState} (b : List ℕ) (js vs : List Verdict) (pdu s : ℕ) (q : Question)
-    (message : List ℕ) (link : LinkState) → IsGood pdu [] link q s message []
-    → ((answer : Answer) → answer_of q s message ≡ Some answer → IsByLink (past first b js).link pdu q answer)
-    → ServesTo first b js (question_octets s q) js (Some pdu) (sent_message 1024 message) [] link
-    → RepliesOnce first b js vs pdu q s
-own_replies {first} b js vs pdu s q message link good by_link served =
-    let none = append-nil js in
-    let sent = sent_message 1024 (question_octets s q) in
-    record {
-      own = [];
-      left = vs;
-      split = refl;
-      message = message;
-      new = [];
-      serves = subst (λ met. Serves first b js sent met (Some pdu) (sent_message 1024 message) []) (sym none)
-          served.serves;
-      least = λ h. good.least;
-      most = λ h. good.most;
-      heard = λ h. subst (λ l. IsHeardOnce pdu [] l q s message [])
-          (sym (ap (link_once first b s q) none ∙ served.leaves)) good.heard;
-      by_link = by_link;
-    }
+  -- a question that asks the plant has its reply
+  pub asked_replies : (asking : Asking) → is_numbered q ≡ true → s < 65536 → IsLeftOpen (past first b js).link pdu q
+      → IsAskedWell pdu q s asking → IsAnswered first b js (question_octets s q) vs (Some pdu) asking
+      → RepliesOnce first b js vs pdu q s
+  asked_replies asking numbered low open_to well (is_entered reply moment rest is serves link) =
+      let new : List (Ask × Said) = (asking.ask moment, reply) ∷ [] in
+      let met : List Verdict = Entered reply moment ∷ [] in
+      record {
+        own = met;
+        left = rest;
+        split = is;
+        message = well.message reply;
+        new = new;
+        serves = subst
+            (λ out. Serves first b js (sent_message 1024 (question_octets s q)) (js ++ met) (Some pdu) out new)
+            (ap (sent_messages 1024) (well.messages reply) ∙ append-nil (sent_message 1024 (well.message reply)))
+            serves;
+        least = λ h. (well.good moment reply h.0.0 h.0.1 h.0.2).least;
+        most = λ h. (well.good moment reply h.0.0 h.0.1 h.0.2).most;
+        heard = λ h. subst (λ l. IsHeardOnce pdu met l q s (well.message reply) new) (sym link)
+            (well.good moment reply h.0.0 h.0.1 h.0.2).heard;
+        by_link = λ answer is. open_to answer;
+      }
+  asked_replies asking numbered low open_to well (is_full rest is serves) =
+      undone_replies rest Full FULL is (inl (tt, refl)) numbered low (omega arith) open_to serves
+  asked_replies asking numbered low open_to well (is_failed rest is timed serves) =
+      undone_replies rest ClockFailed CLOCK_FAILED is (inr (omega arith, refl)) numbered low
+      (omega arith) open_to serves
+
+  -- and one that the link itself answers has its answer
+  pub own_replies : (message : List ℕ) (link : LinkState) → IsGood pdu [] link q s message []
+      → ((answer : Answer) → answer_of q s message ≡ Some answer → IsByLink (past first b js).link pdu q answer)
+      → ServesTo first b js (question_octets s q) js (Some pdu) (sent_message 1024 message) [] link
+      → RepliesOnce first b js vs pdu q s
+  own_replies message link good by_link served =
+      let none = append-nil js in
+      let sent = sent_message 1024 (question_octets s q) in
+      record {
+        own = [];
+        left = vs;
+        split = refl;
+        message = message;
+        new = [];
+        serves = subst (λ met. Serves first b js sent met (Some pdu) (sent_message 1024 message) []) (sym none)
+            served.serves;
+        least = λ h. good.least;
+        most = λ h. good.most;
+        heard = λ h. subst (λ l. IsHeardOnce pdu [] l q s message [])
+            (sym (ap (link_once first b s q) none ∙ served.leaves)) good.heard;
+        by_link = by_link;
+      }
 
 -- ---- reads and writes
 
@@ -250,8 +252,12 @@ read_told pdu met link state right items s reply low room gives =
     record {
       answer = tells (map (told_of state.memory right) items);
       is = heard;
-      told = is_read items right reply refl refl
-          (λ other too. same_some _ _ (sym heard ∙ read_heard other right items s reply low room too));
+      told = is_told (
+        right,
+        reply,
+        refl,
+        λ other too. same_some _ _ (sym heard ∙ read_heard other right items s reply low room too),
+      );
       goes_on = tt;
     }
 
@@ -274,9 +280,13 @@ write_told pdu met link state right items octets s reply low few known short giv
     record {
       answer = notes (own_codes state.memory right items octets);
       is = heard;
-      told = is_written items octets right reply refl refl
-          (λ other too. same_some _ _
-          (sym heard ∙ write_heard other right items octets s reply low few known short too));
+      told = is_told (
+        right,
+        reply,
+        refl,
+        λ other too. same_some _ _
+            (sym heard ∙ write_heard other right items octets s reply low few known short too),
+      );
       goes_on = tt;
     }
 

@@ -1,14 +1,13 @@
 -- Results that one more comes behind: whether they come off, and once one of them leaves the client unconnected.
-use Rattle.std.proofs.Common.{◌≡◌, ◌≢◌, ◌⊎◌, inl, inr, ℕ, zero, suc, Bool, true, Some, List, [], ◌∷◌, ◌++◌, slice_get}
+use Rattle.std.proofs.Common.{◌≡◌, ◌≢◌, ◌⊎◌, inl, inr, ℕ, Bool, true, List, [], ◌∷◌, ◌++◌}
 use Rattle.std.proofs.Common.{subst}
 use Rattle.s7_area.specs.Memory.{Memory}
 use Rattle.s7_dialogue.specs.declared.job.Job.TheVariants as job
 use Rattle.s7_dialogue.specs.declared.job.JobResult.{JobResult}
 use Rattle.s7_dialogue.specs.Codes.{timed_out}
-use Rattle.s7_turn.specs.declared.view.Entry.{Entry as Call}
-use Rattle.s7_plant.specs.declared.request.Ask.{Ask}
 use Rattle.s7_session.specs.Books.{History}
 use Rattle.s7_rig.specs.Complete.{CanComeOff, IsNoDisconnect, AreWithRight, AllComeOff}
+use Rattle.s7_rig.proofs.OwnLemmas.{slice_get-grows}
 
 -- a job met its last poll, or disconnected
 abbrev pub IsGone : JobResult → Type 0
@@ -71,17 +70,11 @@ gone_now (first ∷ results) told gone = inr (gone_now results told gone)
 
 -- ---- a history that grows
 
-call_stays : (history more : History) (k : ℕ) (call : Call Ask) → slice_get history k ≡ Some call
-    → slice_get (history ++ more) k ≡ Some call
-call_stays [] more k call is = absurd (cc)
-call_stays (x ∷ history) more zero call is = is
-call_stays (x ∷ history) more (suc k) call is = call_stays history more k call is
-
 right_before : (history more : History) (numbers : List ℕ) → AreWithRight (history ++ more) numbers
     → AreWithRight history numbers
 right_before history more [] all = tt
 right_before history more (number ∷ numbers) all = (
-  λ caller ask is. all.0 caller ask (call_stays history more number _ is),
+  λ caller ask is. all.0 caller ask (slice_get-grows history more number _ is),
   right_before history more numbers all.1,
 )
 

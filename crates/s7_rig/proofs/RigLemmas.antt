@@ -2,7 +2,7 @@
 use Rattle.std.proofs.Common.{◌≡◌, ℕ, zero, suc, ◌+◌, ◌<◌, ◌≤◌, List, [], ◌∷◌, ◌++◌, length, refl, ap, sym, ◌∙◌, subst, arith}
 use Rattle.std.specs.Prelude.{Option, None, Some, Result, Ok, Err, IfOk, unwrap_or, slice_get, map}
 use Rattle.std.specs.List.{AllByRecursion}
-use Rattle.s7_outer.specs.PipesHeld.{PipesHeld}
+use Rattle.s7_memory.specs.PipesHeld.{PipesHeld}
 use Rattle.s7_area.specs.Memory.{Memory}
 use Rattle.s7_area.specs.Registers.{IsMemory}
 use Rattle.s7_area.specs.declared.guard.Guard.{Guard}
@@ -86,22 +86,24 @@ joint_fresh opening limit config book p link f opened journal =
       sent_are = refl;
       answered_are = refl;
       joint = record {
-        opened = opened;
-        limited = ap (λ j. j.limit) journal;
-        stands = f.fresh.session.stands;
+        serving = record {
+          opened = opened;
+          limited = ap (λ j. j.limit) journal;
+          stands = f.fresh.session.stands;
+          asked = ap (λ (x : Past). x.mets) (past_nothing (first_link opening.guard) []);
+          met = refl;
+          legal = ap (map answered) (sym none);
+          begun = book;
+          trail = λ ask full. full;
+          sound = subst (λ (x : Past). IsSound x.standing) (sym (past_nothing (first_link opening.guard) [])) tt;
+          clock = refl;
+          moments = subst (λ es. AllAt (Some moment) es) (sym none) tt;
+          count = f.fresh.session.count ∙ ap length (sym none);
+          last = f.fresh.session.newest ∙ ap (last_number None) (sym none);
+        };
         taken = ap (λ x. x ++ []) (sym f.fresh.session.unread) ∙ ap (λ x. unread p.session ++ x) (sym to_server);
         given = ap (λ x. x ++ []) (sym f.fresh.client.unread) ∙ ap (λ x. client.unread_of p.client ++ x) (sym to_client);
-        asked = ap (λ (x : Past). x.mets) (past_nothing (first_link opening.guard) []);
-        met = refl;
-        legal = ap (map answered) (sym none);
-        begun = book;
-        trail = λ ask full. full;
-        sound = subst (λ (x : Past). IsSound x.standing) (sym (past_nothing (first_link opening.guard) [])) tt;
-        clock = refl;
         moment_is = ap (λ (x : PipesHeld). x.moment) f.fresh.pipes;
-        moments = subst (λ es. AllAt (Some moment) es) (sym none) tt;
-        count = f.fresh.session.count ∙ ap length (sym none);
-        last = f.fresh.session.newest ∙ ap (last_number None) (sym none);
         config_is = f.fresh.client.config;
         done = subst (λ rs. AllStand s history p.link config.pdu rs p.places) (sym f.fresh.results)
             (subst (λ ps. AllStand s history p.link config.pdu [] ps) (sym f.fresh.places) (none_stand s history p.link config.pdu));
@@ -111,9 +113,8 @@ joint_fresh opening limit config book p link f opened journal =
         mode = untouched (record {
           fresh = f.fresh.client;
           jobs = subst ConnectsFirst (sym f.fresh.rest) f.connects;
-          noted = f.fresh.noted;
-          sent = refl;
-          heard = refl;
+          none_sent = refl;
+          none_heard = refl;
         });
       };
     }

@@ -1,7 +1,6 @@
 -- What holds of all clients and their sessions over a run.
 use Rattle.std.proofs.Common.{◌≡◌, ◌≢◌, ◌⊎◌, inl, inr, ℕ, zero, suc, ◌+◌, ◌-◌, ◌*◌, ◌≤◌, Bool, true, false, List, [], ◌∷◌, ◌++◌, length, refl, ap, sym, ◌∙◌, subst, append_assoc, append-nil, arith}
 use Rattle.std.specs.Prelude.{Some, unwrap_or, slice_get, slice_set, ◌==◌, if◌then◌else◌}
-use Rattle.std.proofs.lemmas.Bool.Decides.{nat_tests}
 use Rattle.std.proofs.lemmas.Option.{slice_get_within}
 use Rattle.std.proofs.lemmas.List.{length-set}
 use Rattle.s7_area.specs.Memory.{Memory}
@@ -19,13 +18,13 @@ use Rattle.s7_rig.specs.Split.{state_at}
 use Rattle.s7_rig.specs.State.{Post, State}
 use Rattle.s7_rig.proofs.PlantLemmas.{plants_at, begins_plant}
 use Rattle.s7_rig.specs.Turns.{StartsNext, StartsNothing, with_polled, IsClientTurn, IsSessionTurn, ClientTurn, SessionTurn, IsTurnOf}
-use Rattle.s7_draw.specs.Drawing.{seeded}
+use Rattle.s7_schedule.specs.Drawing.{seeded}
 use Rattle.s7_rig.specs.Runs.{Turns, Rounds, IsRun, actors_of, most_rounds}
 use Rattle.s7_rig.specs.Sent.{sent_in_turn, answered_in_turn, in_turns, in_rounds, second_or_none, in_run}
 use Rattle.s7_rig.proofs.Joint.{Octets, Joint}
 use Rattle.s7_rig.proofs.ClientSteps.{client_step}
 use Rattle.s7_rig.proofs.SessionSteps.{session_step, other_session_step}
-use Rattle.s7_rig.proofs.OwnLemmas.{AllLinks, all_links_go_on}
+use Rattle.s7_rig.proofs.OwnLemmas.{AllLinks, all_links_go_on, is_same, is_other}
 
 -- ---- places of a list
 
@@ -43,15 +42,9 @@ get_set (x ∷ xs) (suc i) w (suc k) p e = up (get_set xs i w k p e)
 
 if_same : (a b : ℕ) (xs : List ℕ) → a ≡ b → (if a == b then xs else []) ≡ xs
 if_same a b xs e = ap (λ t. if t then xs else []) (is_same a b e)
-  where
-    is_same : (a b : ℕ) → a ≡ b → (a == b) ≡ true
-    is_same a b e = grind (arith, nat_tests)
 
 if_other : (a b : ℕ) (xs : List ℕ) → a ≢ b → (if a == b then xs else []) ≡ []
 if_other a b xs e = ap (λ t. if t then xs else []) (is_other a b e)
-  where
-    is_other : (a b : ℕ) → a ≢ b → (a == b) ≡ false
-    is_other a b e = grind (arith, nat_tests)
 
 -- ---- turns keep the link
 

@@ -13,7 +13,7 @@ use Rattle.s7_rig.specs.Exchanges.{HoldsWhole, IsReadyFor, IsAwaited}
 use Rattle.s7_rig.proofs.DownloadServedLemmas.{closing_served}
 use Rattle.s7_rig.proofs.FrontLemmas.{served_front}
 use Rattle.s7_rig.proofs.JudgedLemmas.{question_is_s7}
-use Rattle.s7_rig.proofs.ListFacts.{Parts, parts}
+use Rattle.s7_rig.proofs.ListFacts.{Parts, parts, two_behind}
 use Rattle.s7_rig.proofs.PastFacts.{past_with}
 use Rattle.s7_rig.proofs.ReplyLemmas.{lives_on}
 
@@ -28,12 +28,12 @@ front_by : {first : LinkState} (b u v : List ℕ) (js vs : List Verdict) (pdu ca
     → Parts (sent_message 1024 (closing_octets call)) (sent_message 1024 m ++ []) u v → 0 < length v
     → owed first (b ++ u) (js ++ vs) ≡ owed first b js
 front_by b u v js vs pdu call image m settled held most (inl k) some =
-    (served_front b u k.0 (closing_octets call) js vs (Some pdu) settled (omega arith) k.1 k.2).owed
+    (served_front settled u k.0 (closing_octets call) vs (omega arith) k.1 k.2).owed
 front_by {first} b u v js vs pdu call image m settled held most (inr k) some =
     let x = sent_message 1024 (closing_octets call) in
     let closing = (closing_served b js pdu call image settled held).0 in
     let waits =
-    served_front (b ++ x) k.0 v m js vs (Some pdu) closing.settled most
+    served_front closing.settled k.0 v m vs most
     (sym k.2 ∙ append-nil (sent_message 1024 m)) some in
     ap (λ o. owed first o (js ++ vs)) (ap (λ y. b ++ y) k.1 ∙ sym (append_assoc b x k.0))
     ∙ (waits.owed ∙ (closing.owed ∙ append-nil (owed first b js)))
@@ -54,13 +54,9 @@ sent_front b u v js vs unheard pdu s (inserts image call) settled most ready awa
     )
 sent_front b u v js vs unheard pdu s q settled most ready awaited is some =
     let m = question_octets s q in
-    (awaited, (served_front b u v m js vs (Some pdu) settled most (is ∙ append-nil (sent_message 1024 m)) some).owed)
+    (awaited, (served_front settled u v m vs most (is ∙ append-nil (sent_message 1024 m)) some).owed)
 
 -- ---- where more comes to be owed
-
--- octets that are grouped anew
-two_sent : (b x m : List ℕ) → b ++ (x ++ (m ++ [])) ≡ (b ++ x) ++ m
-two_sent b x m = ap (λ y. b ++ (x ++ y)) (append-nil m) ∙ sym (append_assoc b x m)
 
 -- Behind all messages the link lives, where more comes to be owed than what is unheard before them.
 pub sent_lives : {first : LinkState} (b z more : List ℕ) (js vs : List Verdict) (unheard : List (List ℕ)) (pdu s : ℕ)
@@ -77,9 +73,9 @@ sent_lives {first} b z more js vs unheard pdu s (inserts image call) settled mos
     let m = question_octets s q in
     let x = sent_message 1024 (closing_octets call) in
     let closing = (closing_served b js pdu call image settled ready).0 in
-    let same = two_sent b x (sent_message 1024 m) in
+    let same = two_behind b x (sent_message 1024 m) in
     ap (λ o. (past first o (js ++ vs)).standing) same
-    ∙ lives_on (b ++ x) m z more js vs (Some pdu) closing.settled most (question_is_s7 s q)
+    ∙ lives_on m vs closing.settled most (question_is_s7 s q) z more
     (ap (λ o. owed first (o ++ z) (js ++ vs)) (sym same)
     ∙ (owes awaited ∙ ap (λ o. o ++ more) (sym (closing.owed ∙ append-nil (owed first b js)))))
     some
@@ -87,5 +83,5 @@ sent_lives {first} b z more js vs unheard pdu s q settled most ready awaited owe
     let m = question_octets s q in
     let same = ap (λ o. b ++ o) (append-nil (sent_message 1024 m)) in
     ap (λ o. (past first o (js ++ vs)).standing) same
-    ∙ lives_on b m z more js vs (Some pdu) settled most (question_is_s7 s q)
+    ∙ lives_on m vs settled most (question_is_s7 s q) z more
     (ap (λ o. owed first (o ++ z) (js ++ vs)) (sym same) ∙ owes awaited) some

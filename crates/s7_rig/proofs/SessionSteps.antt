@@ -1,11 +1,11 @@
 -- What a session's turn keeps of its client and itself, and of every other client and its session.
-use Rattle.std.proofs.Common.{◌≡◌, ◌≢◌, inl, inr, ℕ, ◌+◌, ◌-◌, List, [], ◌∷◌, ◌++◌, length, map, refl, ap, sym, ◌∙◌, subst, arith, append_assoc, append-nil, length-append}
+use Rattle.std.proofs.Common.{◌≡◌, ◌≢◌, ℕ, ◌+◌, ◌-◌, List, [], ◌∷◌, ◌++◌, length, map, refl, ap, sym, ◌∙◌, subst, arith, append_assoc, append-nil, length-append}
 use Rattle.std.proofs.lemmas.List.{append_cancel_left}
-use Rattle.std.specs.Prelude.{Bool, Option, None, Some, option_map, unwrap_or}
+use Rattle.std.specs.Prelude.{Bool, Option, None, Some, option_map}
 use Rattle.s7_outer.specs.Count.{RoseExactly}
-use Rattle.s7_outer.specs.PipesHeld.{PipesHeld}
-use Rattle.s7_outer.specs.Pipes.{end_of}
-use Rattle.s7_outer.specs.declared.pipes.Side.TheVariants as side
+use Rattle.s7_memory.specs.PipesHeld.{PipesHeld}
+use Rattle.s7_memory.specs.Pipes.{end_of}
+use Rattle.s7_memory.specs.declared.pipes.Side.TheVariants as side
 use Rattle.s7_area.specs.Memory.{Memory}
 use Rattle.s7_dialogue.specs.declared.config.Config.{Config}
 use Rattle.s7_dialogue.specs.declared.job.JobResult.{JobResult}
@@ -24,7 +24,7 @@ use Rattle.s7_session.specs.Doers.{StaysFull, Trail}
 use Rattle.s7_session.specs.Entry.{Entry, answered}
 use Rattle.s7_session.specs.Events.{lives}
 use Rattle.s7_session.specs.LinkState.{LinkState, first_link}
-use Rattle.s7_session.specs.Owed.{Past, past, owed, telegrams}
+use Rattle.s7_session.specs.Owed.{Past, past, telegrams}
 use Rattle.s7_session.specs.Stands.{Stands, unread, used_of, closed_with, closed_by, entry_count as count_of, newest}
 use Rattle.s7_session.specs.Telegrams.{Met, verdicts_of, entered_of, AllAt, clock_failures, last_number}
 use Rattle.s7_session.specs.Verdict.{Verdict}
@@ -33,30 +33,20 @@ use Rattle.s7_session.proofs.DoerLemmas.{trail-append, trail_stays}
 use Rattle.s7_session.proofs.TurnLemmas.{AllAt-append, clock_failures-append, last_number-append, map-append, verdicts-append}
 use Rattle.s7_rig.specs.Numbers.{count_from}
 use Rattle.s7_rig.specs.Runs.{moment}
-use Rattle.s7_rig.specs.Settled.{Settled}
 use Rattle.s7_rig.specs.Split.{AllStand}
 use Rattle.s7_rig.specs.Complete.{AllComeOff}
 use Rattle.s7_rig.specs.State.{Post}
 use Rattle.s7_rig.specs.Turns.{is_full_in, lacks_in, entry_count, TakesTurn, IsSessionTurn}
+use Rattle.s7_dialogue.proofs.FlightLemmas.{same_some}
+use Rattle.s7_rig.proofs.ListFacts.{none_before, none_behind}
 use Rattle.s7_rig.proofs.PastFacts.{past_with, full_within}
-use Rattle.s7_rig.proofs.Joint.{Octets, IsUntouched, IsConnecting, IsConnected, IsWorking, IsFailing, IsLost, Mode, untouched, connecting, connected, working, lost, Joint}
+use Rattle.s7_rig.proofs.Joint.{Octets, IsConnected, IsWorking, Mode, ModeOf, own_in, untouched, connecting, connected, working, lost, Joint}
 use Rattle.s7_rig.proofs.OwnLemmas.{own_goes_on, own_numbers, own_stays, numbers_of}
 use Rattle.s7_rig.proofs.PlaceLemmas.{all_stand_goes_on}
 use Rattle.s7_rig.proofs.ResultLemmas.{come_off_stays}
 use Rattle.s7_rig.proofs.SoundLemmas.{IsSound, live_sound, past_waits, cause_sound}
 
 -- ---- lists
-
-nothing_front : (xs ys : List ℕ) → xs ++ ys ≡ [] → xs ≡ []
-nothing_front [] ys is = refl
-nothing_front (x ∷ xs) ys is = absurd (cc)
-
--- what is the whole, with nothing behind it
-nothing_behind : (xs ys : List ℕ) → xs ++ ys ≡ xs → ys ≡ []
-nothing_behind xs ys is = append_cancel_left xs ys [] (is ∙ sym (append-nil xs))
-
-the_same : {A : Type 0} (a b : A) → Some a ≡ Some b → a ≡ b
-the_same a b is = ap (λ o. unwrap_or o a) is
 
 numbers-append : (xs ys : List Entry) → numbers_of (xs ++ ys) ≡ numbers_of xs ++ numbers_of ys
 numbers-append [] ys = refl
@@ -74,9 +64,9 @@ moved_along used unread waiting received left new unread' took inbox =
 nothing_used : (sent used unread waiting received left new unread' : List ℕ) → used ≡ sent → sent ≡ used ++ (unread ++ waiting) → waiting ≡ received ++ left → unread ++ received ≡ new ++ unread'
     → new ≡ []
 nothing_used sent used unread waiting received left new unread' all taken took inbox =
-    nothing_front new (unread' ++ left)
-    (nothing_behind used (new ++ (unread' ++ left))
-    (sym (append_assoc used new (unread' ++ left)) ∙ sym (moved_along used unread waiting received left new unread' took inbox) ∙ sym taken ∙ sym all))
+    none_before new (unread' ++ left)
+    (none_behind used (new ++ (unread' ++ left))
+    (all ∙ taken ∙ moved_along used unread waiting received left new unread' took inbox ∙ append_assoc used new (unread' ++ left)))
 
 no_failure : (m n : ℕ) → m ≡ 0 → RoseExactly n 0 0 → m + n ≡ 0
 no_failure m n none rose = omega (arith, none, rose.0)
@@ -204,10 +194,10 @@ module _ (opening : Memory) (limit : ℕ) (config : Config) (old : Post) (book b
   stands = takes.turn.moves.stood first o.used o.verdicts o.answered j.stands
 
   took : old.pipes.to_server ≡ takes.turn.moves.received ++ pipes.to_server
-  took = the_same _ _ takes.turn.moves.took
+  took = same_some _ _ takes.turn.moves.took
 
   wrote : pipes.to_client ≡ old.pipes.to_client ++ takes.turn.moves.written
-  wrote = the_same _ _ takes.turn.moves.wrote
+  wrote = same_some _ _ takes.turn.moves.wrote
 
   taken : o.sent ≡ o'.used ++ (unread session ++ pipes.to_server)
   taken = j.taken ∙ moved_along o.used (unread old.session) old.pipes.to_server takes.turn.moves.received pipes.to_server used (unread session) took takes.turn.moves.inbox
@@ -276,109 +266,62 @@ module _ (opening : Memory) (limit : ℕ) (config : Config) (old : Post) (book b
 
   -- ---- by mode
 
-  untouched_on : IsUntouched config old o → IsUntouched config post o'
-  untouched_on u = record {
-    fresh = u.fresh;
-    jobs = u.jobs;
-    noted = ap (option_map (λ noted. noted ++ numbers)) u.noted;
-    sent = u.sent;
-    heard = u.heard;
-  }
-
-  connecting_on : IsConnecting config old o → IsConnecting config post o'
-  connecting_on c = record {
-    origin = c.origin;
-    stands = c.stands;
-    job = c.job;
-    config_is = c.config_is;
-    granted = c.granted;
-    jobs = c.jobs;
-  }
-
   -- the client has transmitted nothing that was not used, so the session uses nothing and meets no verdict
-  connected_on : IsConnected first config old o → IsConnected first config post o'
+  connected_on : IsConnected first config old.client old.rest o.used o.verdicts o.sent o.heard
+      → IsConnected first config old.client old.rest o'.used o'.verdicts o.sent o.heard
   connected_on c =
       let none = nothing_used o.sent o.used (unread old.session) old.pipes.to_server takes.turn.moves.received pipes.to_server used (unread session) c.all_used j.taken took takes.turn.moves.inbox in
       let same : o'.used ≡ o.used = ap (λ x. o.used ++ x) none ∙ append-nil o.used in
       let judged : o'.verdicts ≡ o.verdicts = ap (λ x. o.verdicts ++ x) (none_met first o.used used o.verdicts verdicts none c.settled.lives stands.met) ∙ append-nil o.verdicts in
-      record {
-        idle = c.idle;
-        grant = c.grant;
-        granted = c.granted;
-        pdu = c.pdu;
-        size = c.size;
-        sequence = c.sequence;
-        settled = subst (λ b. Settled first b o'.verdicts (Some config.pdu)) (sym same) (subst (λ js. Settled first o.used js (Some config.pdu)) (sym judged) c.settled);
-        all_used = same ∙ c.all_used;
-        all_heard = ap (λ b. owed first b o'.verdicts) same ∙ (ap (owed first o.used) judged ∙ c.all_heard);
-        jobs = c.jobs;
-      }
+      subst (λ b. IsConnected first config old.client old.rest b o'.verdicts o.sent o.heard) (sym same)
+      (subst (λ js. IsConnected first config old.client old.rest o.used js o.sent o.heard) (sym judged) c)
 
-  working_on : IsWorking opening config book old o → IsWorking opening config book' post o'
+  working_on : IsWorking first config (mine history) old.client old.rest old.noted o
+      → IsWorking first config (mine history') old.client old.rest post.noted o'
   working_on w = record {
-    origin = w.origin;
+    begun = w.begun;
     heard = w.heard;
     sent = w.sent;
     stands = w.stands;
-    job = w.job;
-    grant = w.grant;
-    granted = w.granted;
-    pdu = w.pdu;
-    size = w.size;
-    sequence = w.sequence;
-    before = w.before;
-    judged = w.judged;
     used = w.used ++ used;
     verdicts = w.verdicts ++ verdicts;
-    settled = w.settled;
     sent_is = w.sent_is;
     heard_is = w.heard_is;
     used_is = ap (λ x. x ++ used) w.used_is ∙ append_assoc w.before w.used used;
     verdicts_are = ap (λ x. x ++ verdicts) w.verdicts_are ∙ append_assoc w.judged w.verdicts verdicts;
-    earlier = w.earlier;
     mine = w.mine ++ entries;
     entries_are = own_is ∙ (ap (λ x. x ++ entries) w.entries_are ∙ append_assoc w.earlier w.mine entries);
-    earlier_are = w.earlier_are;
     noted = ap (option_map (λ noted. noted ++ numbers)) w.noted ∙ ap Some (ap (λ x. numbers_of w.mine ++ x) numbers_are ∙ sym (numbers-append w.mine entries));
     jobs = w.jobs;
   }
 
-  failing_on : IsFailing old → IsFailing post
-  failing_on f = record { origin = f.origin; heard = f.heard; sent = f.sent; stands = f.stands; job = f.job; granted = f.granted }
-
-  lost_on : IsLost old → IsLost post
-  lost_on l = record {
-    ungranted = l.ungranted;
-    gone = l.gone;
-    job = elim l.job [ inl none ↦ inl none | inr failing ↦ inr (failing_on failing) ];
-    jobs = l.jobs;
-  }
-
-  mode_on : Mode opening config book old o → Mode opening config book' post o'
-  mode_on (untouched u) = untouched (untouched_on u)
-  mode_on (connecting c) = connecting (connecting_on c)
+  mode_on : ModeOf opening config book old o → ModeOf opening config book' post o'
+  mode_on (untouched u) = untouched u
+  mode_on (connecting c) = connecting c
   mode_on (connected c) = connected (connected_on c)
   mode_on (working w) = working (working_on w)
-  mode_on (lost l) = lost (lost_on l)
+  mode_on (lost l) = lost l
 
   joint_on : Joint opening limit config book' post o'
   joint_on = record {
-    opened = opens;
-    limited = limits;
-    stands = stands;
+    serving = record {
+      opened = opens;
+      limited = limits;
+      stands = stands;
+      asked = asks;
+      met = met;
+      legal = legal;
+      begun = j.begun;
+      trail = trail;
+      sound = sound_by (closed_with old.session) refl;
+      clock = clock;
+      moments = moments;
+      count = counts;
+      last = last_is;
+    };
     taken = taken;
     given = given;
-    asked = asks;
-    met = met;
-    legal = legal;
-    begun = j.begun;
-    trail = trail;
-    sound = sound_by (closed_with old.session) refl;
-    clock = clock;
-    moment_is = the_same _ _ takes.turn.moves.moment ∙ j.moment_is;
-    moments = moments;
-    count = counts;
-    last = last_is;
+    moment_is = same_some _ _ takes.turn.moves.moment ∙ j.moment_is;
     config_is = j.config_is;
     done = stand_on opening book book' old.link takes.goes_on j.opened old.link config.pdu old.results old.places j.done;
     comes_off = λ none. come_off_on opening book book' old.link config.pdu takes.goes_on old.results old.places
@@ -410,77 +353,39 @@ turn_keeps_full : (old new : Post) (book book' : BookTold) (stirs : Bool) → Is
 turn_keeps_full old new book book' stirs turn =
     trail_stays is_full_in lacks_in book book' turn.takes.turn.moves.mets turn.takes.turn.moves.trail
 
-working_beside : (opening : Memory) (config : Config) (p : Post) (book book' : BookTold) (o : Octets) → own (begins_with opening) p.link (history_of book') ≡ own (begins_with opening) p.link (history_of book)
-    → IsWorking opening config book p o
-    → IsWorking opening config book' p o
-working_beside opening config p book book' o same w = record {
-  origin = w.origin;
-  heard = w.heard;
-  sent = w.sent;
-  stands = w.stands;
-  job = w.job;
-  grant = w.grant;
-  granted = w.granted;
-  pdu = w.pdu;
-  size = w.size;
-  sequence = w.sequence;
-  before = w.before;
-  judged = w.judged;
-  used = w.used;
-  verdicts = w.verdicts;
-  settled = w.settled;
-  sent_is = w.sent_is;
-  heard_is = w.heard_is;
-  used_is = w.used_is;
-  verdicts_are = w.verdicts_are;
-  earlier = w.earlier;
-  mine = w.mine;
-  entries_are = same ∙ w.entries_are;
-  earlier_are = w.earlier_are;
-  noted = w.noted;
-  jobs = w.jobs;
-}
-
-mode_beside : (opening : Memory) (config : Config) (p : Post) (book book' : BookTold) (o : Octets) → own (begins_with opening) p.link (history_of book') ≡ own (begins_with opening) p.link (history_of book)
-    → Mode opening config book p o
-    → Mode opening config book' p o
-mode_beside opening config p book book' o same (untouched u) = untouched u
-mode_beside opening config p book book' o same (connecting c) = connecting c
-mode_beside opening config p book book' o same (connected c) = connected c
-mode_beside opening config p book book' o same (working w) = working (working_beside opening config p book book' o same w)
-mode_beside opening config p book book' o same (lost l) = lost l
-
 -- A book that goes on by calls of another link keeps what holds of a client and its session.
 pub other_step : (opening : Memory) (limit : ℕ) (config : Config) (p : Post) (book book' : BookTold) (other : ℕ) (o : Octets)
     → other ≢ p.link → Joint opening limit config book p o → GoesOnBy other book book' → StaysFull is_full_in book book'
     → Joint opening limit config book' p o
 other_step opening limit config p book book' other o apart j goes_on still_full =
     let opens = ap state_of goes_on.opening ∙ j.opened in
-    let same : own (begins_with opening) p.link (history_of book') ≡ own (begins_with opening) p.link (history_of book) =
+    let same : own_in opening book' p.link ≡ own_in opening book p.link =
     ap (λ s. own s p.link (history_of book')) (sym opens)
     ∙ own_stays p.link other book book' apart goes_on
     ∙ ap (λ s. own s p.link (history_of book)) j.opened in
     record {
-      opened = opens;
-      limited = goes_on.limit ∙ j.limited;
-      stands = j.stands;
+      serving = record {
+        opened = opens;
+        limited = goes_on.limit ∙ j.limited;
+        stands = j.stands;
+        asked = j.asked;
+        met = j.met;
+        legal = j.legal ∙ ap (map answered) (sym same);
+        begun = j.begun;
+        trail = stays_on j.begun book book' o.mets j.trail still_full;
+        sound = j.sound;
+        clock = j.clock;
+        moments = subst (AllAt (Some moment)) (sym same) j.moments;
+        count = j.count ∙ ap length (sym same);
+        last = j.last ∙ ap (last_number None) (sym same);
+      };
       taken = j.taken;
       given = j.given;
-      asked = j.asked;
-      met = j.met;
-      legal = j.legal ∙ ap (map answered) (sym same);
-      begun = j.begun;
-      trail = stays_on j.begun book book' o.mets j.trail still_full;
-      sound = j.sound;
-      clock = j.clock;
       moment_is = j.moment_is;
-      moments = subst (AllAt (Some moment)) (sym same) j.moments;
-      count = j.count ∙ ap length (sym same);
-      last = j.last ∙ ap (last_number None) (sym same);
       config_is = j.config_is;
       done = stand_on opening book book' other goes_on j.opened p.link config.pdu p.results p.places j.done;
       comes_off = λ none. come_off_on opening book book' other config.pdu goes_on p.results p.places (j.comes_off none);
-      mode = mode_beside opening config p book book' o same j.mode;
+      mode = subst (λ es. Mode (first_link opening.guard) config es p.client p.rest p.results p.noted o) (sym same) j.mode;
     }
 
 -- A session's turn keeps what holds of the client and the session of another link.

@@ -4,7 +4,7 @@ use Rattle.std.proofs.lemmas.List.{length-append}
 use Rattle.std.proofs.lemmas.Bool.Decides.{nat_tests}
 use Rattle.std.proofs.Math.Logic.{∥∥₁_elim, ∥∥₁_map}
 use Rattle.std.proofs.Math.Nat.{ℕ_set}
-use Rattle.s7_outer.specs.PipesHeld.{PipesHeld}
+use Rattle.s7_memory.specs.PipesHeld.{PipesHeld}
 use Rattle.s7_plant.specs.Books.{BookTold}
 use Rattle.s7_session.specs.declared.session.Session.{Session}
 use Rattle.s7_session.specs.declared.outcome.Outcome.TheVariants as outcome

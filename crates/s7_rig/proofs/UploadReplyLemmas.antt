@@ -1,5 +1,5 @@
 -- How a session replies to the questions of an upload.
-use Rattle.std.proofs.Common.{◌≡◌, ℕ, ◌<◌, ◌≤◌, Bool, true, false, cond, eqb, ltb, List, [], ◌∷◌, ◌++◌, length, take}
+use Rattle.std.proofs.Common.{◌≡◌, inl, inr, ℕ, ◌<◌, ◌≤◌, Bool, true, false, cond, eqb, ltb, List, [], ◌∷◌, ◌++◌, length, take}
 use Rattle.std.proofs.Common.{Option, None, Some, refl, ap, sym, ◌∙◌, subst, arith}
 use Rattle.std.proofs.lemmas.Bool.{ltb-false}
 use Rattle.s7_header.specs.Negotiation.{most_pdu}
@@ -21,7 +21,7 @@ use Rattle.s7_session.specs.Judgement.{answer_octets, by_upload, refusal_octets,
 use Rattle.s7_session.specs.Transfers.{end_function, with_id, with_upload}
 use Rattle.s7_block.specs.Slices.{image_room}
 use Rattle.s7_session.specs.Verdict.{Verdict}
-use Rattle.s7_rig.specs.Exchanges.{HoldsImage, GoesOn, is_started, is_no_upload, is_sliced, is_ended}
+use Rattle.s7_rig.specs.Exchanges.{HoldsImage, GoesOn, is_told}
 use Rattle.s7_rig.specs.Exchanges.{uploaded_of, upload_heard}
 use Rattle.s7_rig.proofs.AnsweredLemmas.{refusal_is_heard}
 use Rattle.s7_rig.proofs.RepliedLemmas.{IsServed, is_sent, asking_replied, link_replied, refused_replied}
@@ -115,7 +115,7 @@ start_well pdu link s name block low names = record {
         heard = record {
           answer = upload_heard (next_octet link.upload_id) reply;
           is = heard.is;
-          told = is_started name block link.right reply (next_octet link.upload_id) refl names refl refl;
+          told = is_told (inl (block, next_octet link.upload_id, names, (link.right, reply, refl, refl)));
           goes_on = heard.goes_on;
         };
       };
@@ -127,16 +127,14 @@ pub start_replied : {first : LinkState} (b : List ℕ) (js vs : List Verdict) (p
     → RepliesOnce first b js vs pdu (starts_upload name) s
 start_replied {first} b js vs pdu s name (Some block) served is =
     let link = (past first b js).link in
-    let q = starts_upload name in
-    asking_replied b js vs pdu s q (by_upload link s block) served
-    (judged_start link pdu s name (Some block) (is_sent b js vs pdu s q served) is)
+    asking_replied served (by_upload link s block)
+    (judged_start link pdu s name (Some block) (is_sent served) is)
     (λ reply. keeps_grant (eqb reply.error 0) link _ refl)
     (λ answer. tt) (start_well pdu link s name block served.low is)
 start_replied {first} b js vs pdu s name None served is =
-    let q = starts_upload name in
-    refused_replied b js vs pdu s 0x8404 q served
-    (_, judged_start (past first b js).link pdu s name None (is_sent b js vs pdu s q served) is, refl) (omega arith)
-    (λ answer. tt) (is_no_upload name refl is refl refl)
+    refused_replied served 0x8404
+    (_, judged_start (past first b js).link pdu s name None (is_sent served) is, refl) (omega arith)
+    (λ answer. tt) (is_told (inr (is, refl, refl)))
 
 -- ---- slices
 
@@ -153,7 +151,7 @@ slice_good link pdu s id size so_far rest low least few whole most held =
       heard = record {
         answer = slices (ltb room (length rest)) (take room rest);
         is = slice_is_heard s id size room so_far rest low (omega (arith, least)) (omega (arith, few)) whole most;
-        told = is_sliced id size so_far rest refl whole refl refl;
+        told = is_told (refl, rest, whole, refl);
         goes_on = rest_is_held link id size room so_far rest (ltb room (length rest)) held whole most refl;
       };
     }
@@ -163,11 +161,10 @@ pub slice_replied : {first : LinkState} (b : List ℕ) (js vs : List Verdict) (p
     → HoldsImage (past first b js).link id size so_far → RepliesOnce first b js vs pdu (slices_upload id size so_far) s
 slice_replied {first} b js vs pdu s id size so_far served h =
     let link = (past first b js).link in
-    let q = slices_upload id size so_far in
     let room = image_room pdu in
     let after = record link { upload = Some (record { id = id; left = left_behind room h.rest }) } in
-    link_replied b js vs pdu s q (slice_answer s (first_piece room h.rest)) after served
-    (judged_slice link pdu s id size so_far (is_sent b js vs pdu s q served) h) served.settled.grants
+    link_replied served (slice_answer s (first_piece room h.rest)) after
+    (judged_slice link pdu s id size so_far (is_sent served) h) served.settled.grants
     (λ answer is. (
       h.rest,
       h.is,
@@ -188,7 +185,7 @@ end_good pdu link s id low = record {
   heard = record {
     answer = uploaded;
     is = end_is_heard s id low;
-    told = is_ended id refl refl refl;
+    told = is_told (refl, refl);
     goes_on = tt;
   };
 }
@@ -198,8 +195,7 @@ pub end_replied : {first : LinkState} (b : List ℕ) (js vs : List Verdict) (pdu
     → RepliesOnce first b js vs pdu (ends_upload id) s
 end_replied {first} b js vs pdu s id served held =
     let link = (past first b js).link in
-    let q = ends_upload id in
     let after = record link { upload = None } in
-    link_replied b js vs pdu s q (answer_octets s (end_function ∷ []) []) after served
-    (judged_end link pdu s id (is_sent b js vs pdu s q served) held) served.settled.grants
+    link_replied served (answer_octets s (end_function ∷ []) []) after
+    (judged_end link pdu s id (is_sent served) held) served.settled.grants
     (λ answer is. tt) (end_good pdu after s id served.low)

@@ -1,6 +1,6 @@
 -- What a client hears of a control.
 use Rattle.std.proofs.Common.{◌≡◌, ℕ, ◌<◌, ◌≤◌, Bool, true, false, ◌&&◌, cond, List, [], ◌∷◌, length, Some, refl, ap}
-use Rattle.std.proofs.Common.{sym, ◌∙◌, subst, arith}
+use Rattle.std.proofs.Common.{inl, sym, ◌∙◌, subst, arith}
 use Rattle.std.specs.Prelude.{None}
 use Rattle.std.proofs.lemmas.Bool.{eq-eqb}
 use Rattle.s7_clock.specs.declared.control.Control.{Control}
@@ -18,7 +18,7 @@ use Rattle.s7_dialogue.specs.Answer.{stands, function_of, answer_of}
 use Rattle.s7_dialogue.proofs.FlightLemmas.{same_some}
 use Rattle.s7_session.specs.LinkState.{LinkState}
 use Rattle.s7_session.specs.Judgement.{reply_octets, plainly}
-use Rattle.s7_rig.specs.Exchanges.{control_heard, is_controlled, request_of}
+use Rattle.s7_rig.specs.Exchanges.{control_heard, is_told, request_of}
 use Rattle.s7_rig.proofs.AnsweredLemmas.{answer_is_heard, refusal_is_heard}
 use Rattle.s7_rig.proofs.DeleteLemmas.{deletion}
 use Rattle.s7_rig.proofs.ReplyLemmas.{IsAskedWell}
@@ -126,7 +126,7 @@ control_well pdu link s c request low is = record {
         heard = record {
           answer = control_heard reply;
           is = heard.is;
-          told = is_controlled c link.right request reply refl is refl refl;
+          told = is_told (inl (request, is, (link.right, reply, refl, refl)));
           goes_on = tt;
         };
       };

@@ -167,70 +167,68 @@ list_asked link pdu s octets four =
     ap (list_read link pdu s) (sized_data octets 3 four)
     ∙ chosen _ _ _ (and_from _ _ (data_long octets 4 8 (omega (arith, four))) refl)
 
-pub judged_list : (link : LinkState) (pdu s : ℕ) (octets : List ℕ) → IsSent link pdu s (asks StatusList octets)
-    → length octets ≡ 4
-    → judge link (question_octets s (asks StatusList octets))
-    ≡ asks_user link pdu s 0x44 0x01 false (λ moment. plain.Szl (number_at octets 0) (number_at octets 2))
-judged_list link pdu s octets sent four =
-    judged_asks link pdu s StatusList octets sent ∙ list_asked link pdu s octets four
-
-pub judged_state : (link : LinkState) (pdu s : ℕ) (octets : List ℕ) → IsSent link pdu s (asks RunState octets)
-    → length octets ≡ 4
-    → judge link (question_octets s (asks RunState octets))
-    ≡ asks_user link pdu s 0x44 0x01 false (λ moment. plain.Szl (number_at octets 0) (number_at octets 2))
-judged_state link pdu s octets sent four =
-    judged_asks link pdu s RunState octets sent ∙ list_asked link pdu s octets four
-
--- a clock is read at the moment
-pub judged_clock : (link : LinkState) (pdu s : ℕ) (octets : List ℕ) → IsSent link pdu s (asks Clock octets)
-    → judge link (question_octets s (asks Clock octets))
-    ≡ asks_user link pdu s 0x47 0x01 true (λ moment. plain.ClockRead moment)
-judged_clock link pdu s octets sent = judged_asks link pdu s Clock octets sent
-
--- and set to the moment that the octets say
-pub judged_setting : (link : LinkState) (pdu s value : ℕ) (octets : List ℕ)
-    → IsSent link pdu s (asks ClockSetting octets) → length octets ≡ 10 → moment_in octets ≡ Some value
-    → judge link (question_octets s (asks ClockSetting octets))
-    ≡ asks_user link pdu s 0x47 0x02 true (λ moment. plain.ClockSet moment value)
-judged_setting link pdu s value octets sent ten says =
-    judged_asks link pdu s ClockSetting octets sent
-    ∙ (ap (clock_set link pdu s) (sized_data octets 9 ten)
-    ∙ (chosen _ _ _ (and_from _ _ (data_long octets 10 14 (omega (arith, ten))) refl)
-    ∙ ap (clock_set_to link pdu s) says))
-
--- ---- blocks
-
-pub judged_counts : (link : LinkState) (pdu s : ℕ) (octets : List ℕ) → IsSent link pdu s (asks BlockCounts octets)
-    → judge link (question_octets s (asks BlockCounts octets))
-    ≡ asks_user link pdu s 0x43 0x01 false (λ moment. plain.ListAll)
-judged_counts link pdu s octets sent = judged_asks link pdu s BlockCounts octets sent
-
--- a kind that there is has its blocks listed, and another is refused
-pub judged_kind : (link : LinkState) (pdu s kind : ℕ) (there : Bool)
-    → IsSent link pdu s (asks BlocksOfKind (kind_octets kind)) → is_some (head_code kind) ≡ there
-    → judge link (question_octets s (asks BlocksOfKind (kind_octets kind)))
-    ≡ cond there (asks_user link pdu s 0x43 0x02 false (λ moment. plain.ListOf kind)) (informed link pdu s None)
-judged_kind link pdu s kind there sent is =
-    judged_asks link pdu s BlocksOfKind (kind_octets kind) sent
-    ∙ ap (λ b. cond b (asks_user link pdu s 0x43 0x02 false (λ moment. plain.ListOf kind)) (informed link pdu s None)) is
-
 head_told : (link : LinkState) (pdu s : ℕ) (octets : List ℕ) (name : Option BlockName) → length octets ≡ 8
     → named octets 0x41 ≡ name → informed link pdu s (block_told (data_of octets)) ≡ informed link pdu s name
 head_told link pdu s octets name eight is =
     ap (λ body. informed link pdu s (block_told body)) (sized_data octets 7 eight) ∙ ap (informed link pdu s) is
 
--- the head is told of the block that the octets name, if they name one
-pub judged_head : (link : LinkState) (pdu s : ℕ) (octets : List ℕ) (name : Option BlockName)
-    → IsSent link pdu s (asks BlockHead octets) → length octets ≡ 8 → named octets 0x41 ≡ name
-    → judge link (question_octets s (asks BlockHead octets)) ≡ informed link pdu s name
-judged_head link pdu s octets name sent eight is =
-    judged_asks link pdu s BlockHead octets sent ∙ head_told link pdu s octets name eight is
+module _ {link : LinkState} {pdu s : ℕ} where
+  pub judged_list : (octets : List ℕ) → IsSent link pdu s (asks StatusList octets) → length octets ≡ 4
+      → judge link (question_octets s (asks StatusList octets))
+      ≡ asks_user link pdu s 0x44 0x01 false (λ moment. plain.Szl (number_at octets 0) (number_at octets 2))
+  judged_list octets sent four = judged_asks link pdu s StatusList octets sent ∙ list_asked link pdu s octets four
 
-pub judged_data : (link : LinkState) (pdu s : ℕ) (octets : List ℕ) (name : Option BlockName)
-    → IsSent link pdu s (asks DataHead octets) → length octets ≡ 8 → named octets 0x41 ≡ name
-    → judge link (question_octets s (asks DataHead octets)) ≡ informed link pdu s name
-judged_data link pdu s octets name sent eight is =
-    judged_asks link pdu s DataHead octets sent ∙ head_told link pdu s octets name eight is
+  pub judged_state : (octets : List ℕ) → IsSent link pdu s (asks RunState octets) → length octets ≡ 4
+      → judge link (question_octets s (asks RunState octets))
+      ≡ asks_user link pdu s 0x44 0x01 false (λ moment. plain.Szl (number_at octets 0) (number_at octets 2))
+  judged_state octets sent four = judged_asks link pdu s RunState octets sent ∙ list_asked link pdu s octets four
+
+  -- a clock is read at the moment
+  pub judged_clock : (octets : List ℕ) → IsSent link pdu s (asks Clock octets)
+      → judge link (question_octets s (asks Clock octets))
+      ≡ asks_user link pdu s 0x47 0x01 true (λ moment. plain.ClockRead moment)
+  judged_clock octets sent = judged_asks link pdu s Clock octets sent
+
+  -- and set to the moment that the octets say
+  pub judged_setting : (value : ℕ) (octets : List ℕ) → IsSent link pdu s (asks ClockSetting octets) → length octets ≡ 10
+      → moment_in octets ≡ Some value
+      → judge link (question_octets s (asks ClockSetting octets))
+      ≡ asks_user link pdu s 0x47 0x02 true (λ moment. plain.ClockSet moment value)
+  judged_setting value octets sent ten says =
+      judged_asks link pdu s ClockSetting octets sent
+      ∙ (ap (clock_set link pdu s) (sized_data octets 9 ten)
+      ∙ (chosen _ _ _ (and_from _ _ (data_long octets 10 14 (omega (arith, ten))) refl)
+      ∙ ap (clock_set_to link pdu s) says))
+
+  -- ---- blocks
+
+  pub judged_counts : (octets : List ℕ) → IsSent link pdu s (asks BlockCounts octets)
+      → judge link (question_octets s (asks BlockCounts octets))
+      ≡ asks_user link pdu s 0x43 0x01 false (λ moment. plain.ListAll)
+  judged_counts octets sent = judged_asks link pdu s BlockCounts octets sent
+
+  -- a kind that there is has its blocks listed, and another is refused
+  pub judged_kind : (kind : ℕ) (there : Bool) → IsSent link pdu s (asks BlocksOfKind (kind_octets kind))
+      → is_some (head_code kind) ≡ there
+      → judge link (question_octets s (asks BlocksOfKind (kind_octets kind)))
+      ≡ cond there (asks_user link pdu s 0x43 0x02 false (λ moment. plain.ListOf kind)) (informed link pdu s None)
+  judged_kind kind there sent is =
+      judged_asks link pdu s BlocksOfKind (kind_octets kind) sent
+      ∙ ap (λ b. cond b (asks_user link pdu s 0x43 0x02 false (λ moment. plain.ListOf kind)) (informed link pdu s None))
+      is
+
+  -- the head is told of the block that the octets name, if they name one
+  pub judged_head : (octets : List ℕ) (name : Option BlockName) → IsSent link pdu s (asks BlockHead octets)
+      → length octets ≡ 8 → named octets 0x41 ≡ name
+      → judge link (question_octets s (asks BlockHead octets)) ≡ informed link pdu s name
+  judged_head octets name sent eight is =
+      judged_asks link pdu s BlockHead octets sent ∙ head_told link pdu s octets name eight is
+
+  pub judged_data : (octets : List ℕ) (name : Option BlockName) → IsSent link pdu s (asks DataHead octets)
+      → length octets ≡ 8 → named octets 0x41 ≡ name
+      → judge link (question_octets s (asks DataHead octets)) ≡ informed link pdu s name
+  judged_data octets name sent eight is =
+      judged_asks link pdu s DataHead octets sent ∙ head_told link pdu s octets name eight is
 
 -- ---- passwords
 

@@ -1,5 +1,5 @@
 -- How a session on a link between two messages replies to each question of a job.
-use Rattle.std.proofs.Common.{◌≡◌, inl, ℕ, ◌<◌, ◌≤◌, Bool, true, false, cond, eqb, ltb, List, [], ◌++◌, length, take, drop, ap}
+use Rattle.std.proofs.Common.{◌≡◌, inl, inr, ℕ, ◌<◌, ◌≤◌, Bool, true, false, cond, eqb, ltb, List, [], ◌++◌, length, take, drop, ap}
 use Rattle.std.proofs.Common.{Option, None, Some, refl, sym, ◌∙◌, subst, arith}
 use Rattle.std.specs.Prelude.{IsSome, is_some}
 use Rattle.std.proofs.lemmas.Bool.{eq-eqb}
@@ -38,7 +38,7 @@ use Rattle.s7_rig.specs.Settled.{Settled}
 use Rattle.s7_rig.specs.Written.{own_write}
 use Rattle.s7_rig.specs.Exchanges.{AsksFor, IsSecurity, IsReadyFor, HoldsRest, GoesOn, security_heard}
 use Rattle.s7_rig.specs.Exchanges.{IsSecuredBy}
-use Rattle.s7_rig.specs.Exchanges.{NamesNone, is_secured, is_unnamed, is_further, Replies, request_of, uploaded_of}
+use Rattle.s7_rig.specs.Exchanges.{NamesNone, is_told, Replies, request_of, uploaded_of}
 use Rattle.s7_rig.specs.Plants.{IsStateFor}
 use Rattle.s7_rig.proofs.Askable.{IsAskable}
 use Rattle.s7_rig.proofs.ControlReplyLemmas.{control_replied}
@@ -84,7 +84,7 @@ secured_good link pdu s octet error subject octets low small security whole =
       heard = record {
         answer = security_heard octet error;
         is = secured_heard (eqb error 0) s octet error subject octets low small whole refl;
-        told = is_secured subject octets octet error refl security refl refl;
+        told = is_told (inr (inl (security, refl, octet, error, refl)));
         goes_on = secured_ends (eqb error 0) link octet error subject octets;
       };
     }
@@ -106,110 +106,13 @@ further_good link pdu s octet subject so_far rest low least most r sliced =
         answer = brings octet (ltb room (length rest)) (take room rest);
         is = slice_is_heard (asks_further subject octet so_far) subject (Some octet) s octet pdu so_far rest
             (refl, λ params body. refl) (eq-eqb octet octet refl) low least most r;
-        told = is_further subject octet so_far rest refl r.whole refl refl;
+        told = is_told (refl, rest, r.whole, refl);
         goes_on = rest_is_held link subject octet pdu so_far rest sliced r;
       };
     }
 
--- ---- each question
+-- ---- the block that the octets of a name name
 
-read_replied : {first : LinkState} (b : List ℕ) (js vs : List Verdict) (pdu s : ℕ) (items : List Item)
-    → IsServed first b js vs pdu s (reads items) → IsAskable pdu (reads items)
-    → RepliesOnce first b js vs pdu (reads items) s
-read_replied {first} b js vs pdu s items served can =
-    let link = (past first b js).link in
-    asking_replied b js vs pdu s (reads items) (plainly link s (Read items)) served
-    (judged_read link pdu s items served.settled.grants served.low served.most served.fits can.0.0 can.0.1 can.1)
-    (λ reply. refl) (λ answer. tt) (read_well pdu link s items served.low (omega (arith, served.most, can.1)))
-
-write_replied : {first : LinkState} (b : List ℕ) (js vs : List Verdict) (pdu s : ℕ) (items : List Item)
-    (octets : List ℕ) → IsServed first b js vs pdu s (writes items octets) → IsAskable pdu (writes items octets)
-    → RepliesOnce first b js vs pdu (writes items octets) s
-write_replied {first} b js vs pdu s items octets served can =
-    let link = (past first b js).link in
-    asking_replied b js vs pdu s (writes items octets) (plainly link s (own_write items octets)) served
-    (write_is_asked link pdu s items octets served.settled.grants served.low served.most served.fits can.0.0 can.0.1
-    can.1) (λ reply. refl) (λ answer. tt)
-    (write_well pdu link s items octets served.low can.0.1 can.1 (omega (arith, served.most, served.fits)))
-
--- user data that asks the plant
-user_replied : {first : LinkState} (b : List ℕ) (js vs : List Verdict) (pdu s : ℕ) (subject : Subject)
-    (octets : List ℕ) (timed : Bool) (request : ℕ → Request) → IsServed first b js vs pdu s (asks subject octets)
-    → judge (past first b js).link (question_octets s (asks subject octets))
-    ≡ asks_user (past first b js).link pdu s (group_of subject) (subfunction_of subject) timed request
-    → IsLeftOpen (past first b js).link pdu (asks subject octets)
-    → ((moment : ℕ) → AsksFor subject octets moment (request moment))
-    → ((moment : ℕ) (state : State) (right : Bool) → IsStateFor (request moment) state
-    → IsFit subject (plant.answer state right (request moment)))
-    → RepliesOnce first b js vs pdu (asks subject octets) s
-user_replied {first} b js vs pdu s subject octets timed request served judged open_to told fits =
-    let link = (past first b js).link in
-    asking_replied b js vs pdu s (asks subject octets)
-    (by_user link pdu s (group_of subject) (subfunction_of subject) timed request) served judged (λ reply. refl)
-    open_to
-    (user_well link pdu s subject octets timed request served.low served.least served.most told
-    (λ moment state for. fits moment state link.right for))
-
-state_replied : {first : LinkState} (b : List ℕ) (js vs : List Verdict) (pdu s : ℕ)
-    → IsServed first b js vs pdu s (asks RunState (list_octets 0x0424 0))
-    → RepliesOnce first b js vs pdu (asks RunState (list_octets 0x0424 0)) s
-state_replied {first} b js vs pdu s served =
-    let octets = list_octets 0x0424 0 in
-    user_replied b js vs pdu s RunState octets false (λ moment. plain.Szl 0x0424 0) served
-    (judged_state (past first b js).link pdu s octets (is_sent b js vs pdu s (asks RunState octets) served) refl)
-    (λ answer. tt) (λ moment. refl) (λ moment state right for. state_fits state right)
-
-setting_by : {first : LinkState} (b : List ℕ) (js vs : List Verdict) (pdu s : ℕ) (octets : List ℕ)
-    (value : Option ℕ) → IsServed first b js vs pdu s (asks ClockSetting octets) → length octets ≡ 10
-    → moment_in octets ≡ value → IsSome value → RepliesOnce first b js vs pdu (asks ClockSetting octets) s
-setting_by b js vs pdu s octets None served ten is some = absurd (cc)
-setting_by {first} b js vs pdu s octets (Some value) served ten is some =
-    user_replied b js vs pdu s ClockSetting octets true (λ moment. plain.ClockSet moment value) served
-    (judged_setting (past first b js).link pdu s value octets
-    (is_sent b js vs pdu s (asks ClockSetting octets) served) ten is)
-    (λ answer. tt) (λ moment. (value, is, refl)) (λ moment state right for. setting_fits moment value state right)
-
--- a name of no block is refused
-unnamed_replied : {first : LinkState} (b : List ℕ) (js vs : List Verdict) (pdu s : ℕ) (subject : Subject)
-    (octets : List ℕ) → IsServed first b js vs pdu s (asks subject octets) → NamesNone subject octets
-    → judge (past first b js).link (question_octets s (asks subject octets)) ≡ informed (past first b js).link pdu s None
-    → IsLeftOpen (past first b js).link pdu (asks subject octets)
-    → RepliesOnce first b js vs pdu (asks subject octets) s
-unnamed_replied b js vs pdu s subject octets served none judged open_to =
-    refused_replied b js vs pdu s 0x8404 (asks subject octets) served (_, judged, refl) (omega arith) open_to
-    (is_unnamed subject octets refl none refl refl)
-
--- blocks of a kind
-kind_replied : {first : LinkState} (b : List ℕ) (js vs : List Verdict) (pdu s kind : ℕ) (there : Bool)
-    → IsServed first b js vs pdu s (asks BlocksOfKind (kind_octets kind)) → is_some (head_code kind) ≡ there
-    → RepliesOnce first b js vs pdu (asks BlocksOfKind (kind_octets kind)) s
-kind_replied {first} b js vs pdu s kind true served is =
-    let q = asks BlocksOfKind (kind_octets kind) in
-    user_replied b js vs pdu s BlocksOfKind (kind_octets kind) false (λ moment. plain.ListOf kind) served
-    (judged_kind (past first b js).link pdu s kind true (is_sent b js vs pdu s q served) is)
-    (λ answer. tt) (λ moment. refl) (λ moment state right plant. kind_fits kind state right plant)
-kind_replied {first} b js vs pdu s kind false served is =
-    let q = asks BlocksOfKind (kind_octets kind) in
-    unnamed_replied b js vs pdu s BlocksOfKind (kind_octets kind) served is
-    (judged_kind (past first b js).link pdu s kind false (is_sent b js vs pdu s q served) is) (λ answer. tt)
-
--- the head of a block
-head_replied : {first : LinkState} (b : List ℕ) (js vs : List Verdict) (pdu s : ℕ) (octets : List ℕ)
-    (name : Option BlockName) → IsServed first b js vs pdu s (asks BlockHead octets) → length octets ≡ 8
-    → named octets 0x41 ≡ name → RepliesOnce first b js vs pdu (asks BlockHead octets) s
-head_replied {first} b js vs pdu s octets (Some name) served eight is =
-    user_replied b js vs pdu s BlockHead octets false (λ moment. plain.Info name.kind name.number) served
-    (judged_head (past first b js).link pdu s octets (Some name) (is_sent b js vs pdu s (asks BlockHead octets) served)
-    eight is)
-    (λ answer. tt) (λ moment. (name, is, refl))
-    (λ moment state right plant. head_fits name.kind name.number state right plant)
-head_replied {first} b js vs pdu s octets None served eight is =
-    unnamed_replied b js vs pdu s BlockHead octets served is
-    (judged_head (past first b js).link pdu s octets None (is_sent b js vs pdu s (asks BlockHead octets) served) eight
-    is)
-    (λ answer. tt)
-
--- the head of a data block, which is what its octets name
 same_kind_by : (kind number : ℕ) (name : BlockName) (b : Bool)
     → cond b (Some (record { kind = kind; number = number })) None ≡ Some name → kind ≡ name.kind
 same_kind_by kind number name true is =
@@ -223,127 +126,199 @@ same_kind kind (Some number) name is = same_kind_by kind number name (is_name ki
 names_data : (number : ℕ) (name : BlockName) → named (block_octets 0x41 number) 0x41 ≡ Some name → 0x41 ≡ name.kind
 names_data number name is = same_kind 0x41 (number_in (take 5 (drop 2 (block_octets 0x41 number)))) name is
 
-data_replied : {first : LinkState} (b : List ℕ) (js vs : List Verdict) (pdu s number : ℕ) (name : Option BlockName)
-    → IsServed first b js vs pdu s (asks DataHead (block_octets 0x41 number))
-    → named (block_octets 0x41 number) 0x41 ≡ name
-    → RepliesOnce first b js vs pdu (asks DataHead (block_octets 0x41 number)) s
-data_replied {first} b js vs pdu s number (Some name) served is =
-    let octets = block_octets 0x41 number in
-    user_replied b js vs pdu s DataHead octets false (λ moment. plain.Info name.kind name.number) served
-    (judged_data (past first b js).link pdu s octets (Some name) (is_sent b js vs pdu s (asks DataHead octets) served)
-    refl is)
-    (λ answer. tt) (λ moment. (name, is, refl))
-    (λ moment state right for.
-    subst (λ (kind : ℕ). IsFit DataHead (plant.answer state right (plain.Info kind name.number)))
-    (names_data number name is) (data_fits name.number state right for))
-data_replied {first} b js vs pdu s number None served is =
-    let octets = block_octets 0x41 number in
-    unnamed_replied b js vs pdu s DataHead octets served is
-    (judged_data (past first b js).link pdu s octets None (is_sent b js vs pdu s (asks DataHead octets) served) refl is)
-    (λ answer. tt)
+-- ---- each question
 
--- user data about a password
-secured_replied : {first : LinkState} (b : List ℕ) (js vs : List Verdict) (pdu s error : ℕ) (subject : Subject)
-    (octets : List ℕ) → IsServed first b js vs pdu s (asks subject octets) → IsSecurity subject
-    → goes_on_with subject [] false [] ≡ true
-    → IsSecured (past first b js).link s (group_of subject) (subfunction_of subject) error
-    (judge (past first b js).link (question_octets s (asks subject octets)))
-    → ((answer : Answer) → answer ≡ security_heard (next_octet (past first b js).link.user_sequence) error
-    → IsSecuredBy (past first b js).link subject octets answer)
-    → RepliesOnce first b js vs pdu (asks subject octets) s
-secured_replied {first} b js vs pdu s error subject octets served security whole of same =
-    let link = (past first b js).link in
-    let octet = next_octet link.user_sequence in
-    let after = secured link of.right in
-    let message = user_octets s (told_params subject octet 0 error) no_data in
-    let heard = secured_heard (eqb error 0) s octet error subject octets served.low of.small whole refl in
-    link_replied b js vs pdu s (asks subject octets) message after served of.is served.settled.grants
-    (λ answer is. same answer (same_some _ _ (sym is ∙ heard)))
-    (secured_good after pdu s octet error subject octets served.low of.small security whole)
+module _ (first : LinkState) (b : List ℕ) (js vs : List Verdict) (pdu s : ℕ) where
+  -- the link before the question
+  abbrev link : LinkState
+  link = (past first b js).link
 
-further_replied : {first : LinkState} (b : List ℕ) (js vs : List Verdict) (pdu s octet : ℕ) (subject : Subject)
-    (so_far : List ℕ) → IsServed first b js vs pdu s (asks_further subject octet so_far)
-    → comes_in_pieces subject ≡ true → HoldsRest (past first b js).link subject octet so_far
-    → RepliesOnce first b js vs pdu (asks_further subject octet so_far) s
-further_replied {first} b js vs pdu s octet subject so_far served pieces h =
-    let link = (past first b js).link in
-    let q = asks_further subject octet so_far in
-    let rest = h.held.rest in
-    let g = group_of subject in
-    let f = subfunction_of subject in
-    let after = record link { sliced = slices_left g f octet pdu rest } in
-    let message = slice_octets s g f octet pdu rest in
-    let r : IsRest subject so_far rest = record { whole = h.whole; most = h.most; short = inl pieces } in
-    link_replied b js vs pdu s q message after served
-    (judged_further link pdu s octet subject so_far (is_sent b js vs pdu s q served) pieces h) served.settled.grants
-    (λ answer is. (
-      h.held,
-      h.is,
-      same_some _ _
-          (sym is
-          ∙ slice_is_heard q subject (Some octet) s octet pdu so_far rest (refl, λ params body. refl)
-          (eq-eqb octet octet refl) served.low served.least served.most r),
-    ))
-    (further_good after pdu s octet subject so_far rest served.low served.least served.most r refl)
+  read_replied : (items : List Item) → IsServed first b js vs pdu s (reads items) → IsAskable pdu (reads items)
+      → RepliesOnce first b js vs pdu (reads items) s
+  read_replied items served can =
+      asking_replied served (plainly link s (Read items))
+      (judged_read link pdu s items served.settled.grants served.low served.most served.fits can.0.0 can.0.1 can.1)
+      (λ reply. refl) (λ answer. tt) (read_well pdu link s items served.low (omega (arith, served.most, can.1)))
 
-served_replied : {first : LinkState} (b : List ℕ) (js vs : List Verdict) (pdu s : ℕ) (q : Question)
-    → IsOne q → IsServed first b js vs pdu s q → IsAskable pdu q → IsReadyFor (past first b js).link q
-    → RepliesOnce first b js vs pdu q s
-served_replied b js vs pdu s (negotiates n) one served can ready = absurd can
-served_replied b js vs pdu s (reads items) one served can ready = read_replied b js vs pdu s items served can
-served_replied b js vs pdu s (writes items octets) one served can ready =
-    write_replied b js vs pdu s items octets served can
-served_replied b js vs pdu s (controls c) one served can ready =
-    control_replied b js vs pdu s c (request_of c) served can refl
-served_replied {first} b js vs pdu s (asks StatusList octets) one served can ready =
-    let id = number_at octets 0 in
-    let index = number_at octets 2 in
-    user_replied b js vs pdu s StatusList octets false (λ moment. plain.Szl id index) served
-    (judged_list (past first b js).link pdu s octets (is_sent b js vs pdu s (asks StatusList octets) served) can)
-    (λ answer. tt) (λ moment. refl) (λ moment state right for. list_fits id index state right)
-served_replied {first} b js vs pdu s (asks RunState octets) one served can ready =
-    subst (λ xs. RepliesOnce first b js vs pdu (asks RunState xs) s) (sym can)
-    (state_replied b js vs pdu s (subst (λ xs. IsServed first b js vs pdu s (asks RunState xs)) can served))
-served_replied {first} b js vs pdu s (asks BlockCounts octets) one served can ready =
-    user_replied b js vs pdu s BlockCounts octets false (λ moment. plain.ListAll) served
-    (judged_counts (past first b js).link pdu s octets (is_sent b js vs pdu s (asks BlockCounts octets) served))
-    (λ answer. tt) (λ moment. refl) (λ moment state right for. counts_fit state right)
-served_replied {first} b js vs pdu s (asks BlocksOfKind octets) one served can ready =
-    subst (λ xs. RepliesOnce first b js vs pdu (asks BlocksOfKind xs) s) (sym can.1)
-    (kind_replied b js vs pdu s can.0 (is_some (head_code can.0))
-    (subst (λ xs. IsServed first b js vs pdu s (asks BlocksOfKind xs)) can.1 served) refl)
-served_replied b js vs pdu s (asks BlockHead octets) one served can ready =
-    head_replied b js vs pdu s octets (named octets 0x41) served can refl
-served_replied {first} b js vs pdu s (asks DataHead octets) one served can ready =
-    subst (λ xs. RepliesOnce first b js vs pdu (asks DataHead xs) s) (sym can.1)
-    (data_replied b js vs pdu s can.0 (named (block_octets 0x41 can.0) 0x41)
-    (subst (λ xs. IsServed first b js vs pdu s (asks DataHead xs)) can.1 served) refl)
-served_replied {first} b js vs pdu s (asks Clock octets) one served can ready =
-    user_replied b js vs pdu s Clock octets true (λ moment. plain.ClockRead moment) served
-    (judged_clock (past first b js).link pdu s octets (is_sent b js vs pdu s (asks Clock octets) served))
-    (λ answer. tt) (λ moment. refl) (λ moment state right for. clock_fits moment state right)
-served_replied b js vs pdu s (asks ClockSetting octets) one served can ready =
-    setting_by b js vs pdu s octets (moment_in octets) served can.0 refl can.1
-served_replied {first} b js vs pdu s (asks Password octets) one served can ready =
-    let link = (past first b js).link in
-    secured_replied b js vs pdu s (set_error link.guard (decoded octets)) Password octets served tt refl
-    (judged_password link pdu s octets (is_sent b js vs pdu s (asks Password octets) served) can) (λ answer is. is)
-served_replied {first} b js vs pdu s (asks PasswordClearing octets) one served can ready =
-    let link = (past first b js).link in
-    secured_replied b js vs pdu s (clear_error link.guard link.right) PasswordClearing octets served tt refl
-    (judged_clearing link pdu s octets (is_sent b js vs pdu s (asks PasswordClearing octets) served) can)
-    (λ answer is. is)
-served_replied b js vs pdu s (asks_further subject octet so_far) one served can ready =
-    further_replied b js vs pdu s octet subject so_far served can ready
-served_replied b js vs pdu s (starts_upload name) one served can ready =
-    start_replied b js vs pdu s name (uploaded_of name) served refl
-served_replied b js vs pdu s (slices_upload id size so_far) one served can ready =
-    slice_replied b js vs pdu s id size so_far served ready
-served_replied b js vs pdu s (ends_upload id) one served can ready = end_replied b js vs pdu s id served ready
-served_replied b js vs pdu s (announces image) one served can ready = absurd one
-served_replied b js vs pdu s (awaits_call image) one served can ready = absurd one
-served_replied b js vs pdu s (gives image room from call) one served can ready = absurd one
-served_replied b js vs pdu s (inserts image call) one served can ready = absurd one
+  write_replied : (items : List Item) (octets : List ℕ) → IsServed first b js vs pdu s (writes items octets)
+      → IsAskable pdu (writes items octets) → RepliesOnce first b js vs pdu (writes items octets) s
+  write_replied items octets served can =
+      asking_replied served (plainly link s (own_write items octets))
+      (write_is_asked s items octets link pdu served.settled.grants served.low served.most served.fits can.0.0 can.0.1
+      can.1) (λ reply. refl) (λ answer. tt)
+      (write_well pdu link s items octets served.low can.0.1 can.1 (omega (arith, served.most, served.fits)))
+
+  -- user data that asks the plant
+  user_replied : (subject : Subject) (octets : List ℕ) (timed : Bool) (request : ℕ → Request)
+      → IsServed first b js vs pdu s (asks subject octets)
+      → judge link (question_octets s (asks subject octets))
+      ≡ asks_user link pdu s (group_of subject) (subfunction_of subject) timed request
+      → IsLeftOpen link pdu (asks subject octets)
+      → ((moment : ℕ) → AsksFor subject octets moment (request moment))
+      → ((moment : ℕ) (state : State) (right : Bool) → IsStateFor (request moment) state
+      → IsFit subject (plant.answer state right (request moment)))
+      → RepliesOnce first b js vs pdu (asks subject octets) s
+  user_replied subject octets timed request served judged open_to told fits =
+      asking_replied served (by_user link pdu s (group_of subject) (subfunction_of subject) timed request) judged
+      (λ reply. refl) open_to
+      (user_well link pdu s subject octets timed request served.low served.least served.most told
+      (λ moment state for. fits moment state link.right for))
+
+  state_replied : IsServed first b js vs pdu s (asks RunState (list_octets 0x0424 0))
+      → RepliesOnce first b js vs pdu (asks RunState (list_octets 0x0424 0)) s
+  state_replied served =
+      let octets = list_octets 0x0424 0 in
+      user_replied RunState octets false (λ moment. plain.Szl 0x0424 0) served
+      (judged_state octets (is_sent served) refl) (λ answer. tt) (λ moment. refl)
+      (λ moment state right for. state_fits state right)
+
+  setting_by : (octets : List ℕ) (value : Option ℕ) → IsServed first b js vs pdu s (asks ClockSetting octets)
+      → length octets ≡ 10 → moment_in octets ≡ value → IsSome value
+      → RepliesOnce first b js vs pdu (asks ClockSetting octets) s
+  setting_by octets None served ten is some = absurd (cc)
+  setting_by octets (Some value) served ten is some =
+      user_replied ClockSetting octets true (λ moment. plain.ClockSet moment value) served
+      (judged_setting value octets (is_sent served) ten is)
+      (λ answer. tt) (λ moment. (value, is, refl)) (λ moment state right for. setting_fits moment value state right)
+
+  -- a name of no block is refused
+  unnamed_replied : (subject : Subject) (octets : List ℕ) → IsServed first b js vs pdu s (asks subject octets)
+      → NamesNone subject octets
+      → judge link (question_octets s (asks subject octets))
+      ≡ informed link pdu s None → IsLeftOpen link pdu (asks subject octets)
+      → RepliesOnce first b js vs pdu (asks subject octets) s
+  unnamed_replied subject octets served none judged open_to =
+      refused_replied served 0x8404 (_, judged, refl) (omega arith) open_to (is_told (inr (inr (none, refl, refl))))
+
+  -- blocks of a kind
+  kind_replied : (kind : ℕ) (there : Bool) → IsServed first b js vs pdu s (asks BlocksOfKind (kind_octets kind))
+      → is_some (head_code kind) ≡ there → RepliesOnce first b js vs pdu (asks BlocksOfKind (kind_octets kind)) s
+  kind_replied kind true served is =
+      user_replied BlocksOfKind (kind_octets kind) false (λ moment. plain.ListOf kind) served
+      (judged_kind kind true (is_sent served) is)
+      (λ answer. tt) (λ moment. refl) (λ moment state right plant. kind_fits kind state right plant)
+  kind_replied kind false served is =
+      unnamed_replied BlocksOfKind (kind_octets kind) served is
+      (judged_kind kind false (is_sent served) is) (λ answer. tt)
+
+  -- the head of a block
+  head_replied : (octets : List ℕ) (name : Option BlockName) → IsServed first b js vs pdu s (asks BlockHead octets)
+      → length octets ≡ 8 → named octets 0x41 ≡ name → RepliesOnce first b js vs pdu (asks BlockHead octets) s
+  head_replied octets (Some name) served eight is =
+      user_replied BlockHead octets false (λ moment. plain.Info name.kind name.number) served
+      (judged_head octets (Some name) (is_sent served) eight is) (λ answer. tt) (λ moment. (name, is, refl))
+      (λ moment state right plant. head_fits name.kind name.number state right plant)
+  head_replied octets None served eight is =
+      unnamed_replied BlockHead octets served is (judged_head octets None (is_sent served) eight is) (λ answer. tt)
+
+  -- the head of a data block
+  data_replied : (number : ℕ) (name : Option BlockName)
+      → IsServed first b js vs pdu s (asks DataHead (block_octets 0x41 number))
+      → named (block_octets 0x41 number) 0x41 ≡ name
+      → RepliesOnce first b js vs pdu (asks DataHead (block_octets 0x41 number)) s
+  data_replied number (Some name) served is =
+      let octets = block_octets 0x41 number in
+      user_replied DataHead octets false (λ moment. plain.Info name.kind name.number) served
+      (judged_data octets (Some name) (is_sent served) refl is)
+      (λ answer. tt) (λ moment. (name, is, refl)) (λ moment state right for.
+      subst (λ (kind : ℕ). IsFit DataHead (plant.answer state right (plain.Info kind name.number)))
+      (names_data number name is) (data_fits name.number state right for))
+  data_replied number None served is =
+      let octets = block_octets 0x41 number in
+      unnamed_replied DataHead octets served is (judged_data octets None (is_sent served) refl is) (λ answer. tt)
+
+  -- user data about a password
+  secured_replied : (error : ℕ) (subject : Subject) (octets : List ℕ)
+      → IsServed first b js vs pdu s (asks subject octets) → IsSecurity subject
+      → goes_on_with subject [] false [] ≡ true
+      → IsSecured link s (group_of subject) (subfunction_of subject) error
+      (judge link (question_octets s (asks subject octets)))
+      → ((answer : Answer) → answer ≡ security_heard (next_octet link.user_sequence) error
+      → IsSecuredBy link subject octets answer)
+      → RepliesOnce first b js vs pdu (asks subject octets) s
+  secured_replied error subject octets served security whole of same =
+      let octet = next_octet link.user_sequence in
+      let after = secured link of.right in
+      let message = user_octets s (told_params subject octet 0 error) no_data in
+      let heard = secured_heard (eqb error 0) s octet error subject octets served.low of.small whole refl in
+      link_replied served message after of.is served.settled.grants
+      (λ answer is. same answer (same_some _ _ (sym is ∙ heard)))
+      (secured_good after pdu s octet error subject octets served.low of.small security whole)
+
+  further_replied : (octet : ℕ) (subject : Subject) (so_far : List ℕ)
+      → IsServed first b js vs pdu s (asks_further subject octet so_far) → comes_in_pieces subject ≡ true
+      → HoldsRest link subject octet so_far
+      → RepliesOnce first b js vs pdu (asks_further subject octet so_far) s
+  further_replied octet subject so_far served pieces h =
+      let q = asks_further subject octet so_far in
+      let rest = h.held.rest in
+      let g = group_of subject in
+      let f = subfunction_of subject in
+      let after = record link { sliced = slices_left g f octet pdu rest } in
+      let message = slice_octets s g f octet pdu rest in
+      let r : IsRest subject so_far rest = record { whole = h.whole; most = h.most; short = inl pieces } in
+      link_replied served message after
+      (judged_further link pdu s octet subject so_far (is_sent served) pieces h) served.settled.grants (λ answer is. (
+        h.held,
+        h.is,
+        same_some _ _
+            (sym is
+            ∙ slice_is_heard q subject (Some octet) s octet pdu so_far rest (refl, λ params body. refl)
+            (eq-eqb octet octet refl) served.low served.least served.most r),
+      ))
+      (further_good after pdu s octet subject so_far rest served.low served.least served.most r refl)
+
+  served_replied : (q : Question) → IsOne q → IsServed first b js vs pdu s q → IsAskable pdu q
+      → IsReadyFor link q → RepliesOnce first b js vs pdu q s
+  served_replied (negotiates n) one served can ready = absurd can
+  served_replied (reads items) one served can ready = read_replied items served can
+  served_replied (writes items octets) one served can ready = write_replied items octets served can
+  served_replied (controls c) one served can ready = control_replied b js vs pdu s c (request_of c) served can refl
+  served_replied (asks StatusList octets) one served can ready =
+      let id = number_at octets 0 in
+      let index = number_at octets 2 in
+      user_replied StatusList octets false (λ moment. plain.Szl id index) served
+      (judged_list octets (is_sent served) can)
+      (λ answer. tt) (λ moment. refl) (λ moment state right for. list_fits id index state right)
+  served_replied (asks RunState octets) one served can ready =
+      subst (λ xs. RepliesOnce first b js vs pdu (asks RunState xs) s) (sym can)
+      (state_replied (subst (λ xs. IsServed first b js vs pdu s (asks RunState xs)) can served))
+  served_replied (asks BlockCounts octets) one served can ready =
+      user_replied BlockCounts octets false (λ moment. plain.ListAll) served
+      (judged_counts octets (is_sent served))
+      (λ answer. tt) (λ moment. refl) (λ moment state right for. counts_fit state right)
+  served_replied (asks BlocksOfKind octets) one served can ready =
+      subst (λ xs. RepliesOnce first b js vs pdu (asks BlocksOfKind xs) s) (sym can.1)
+      (kind_replied can.0 (is_some (head_code can.0))
+      (subst (λ xs. IsServed first b js vs pdu s (asks BlocksOfKind xs)) can.1 served) refl)
+  served_replied (asks BlockHead octets) one served can ready = head_replied octets (named octets 0x41) served can refl
+  served_replied (asks DataHead octets) one served can ready =
+      subst (λ xs. RepliesOnce first b js vs pdu (asks DataHead xs) s) (sym can.1)
+      (data_replied can.0 (named (block_octets 0x41 can.0) 0x41)
+      (subst (λ xs. IsServed first b js vs pdu s (asks DataHead xs)) can.1 served) refl)
+  served_replied (asks Clock octets) one served can ready =
+      user_replied Clock octets true (λ moment. plain.ClockRead moment) served
+      (judged_clock octets (is_sent served))
+      (λ answer. tt) (λ moment. refl) (λ moment state right for. clock_fits moment state right)
+  served_replied (asks ClockSetting octets) one served can ready =
+      setting_by octets (moment_in octets) served can.0 refl can.1
+  served_replied (asks Password octets) one served can ready =
+      secured_replied (set_error link.guard (decoded octets)) Password octets served tt refl
+      (judged_password link pdu s octets (is_sent served) can) (λ answer is. is)
+  served_replied (asks PasswordClearing octets) one served can ready =
+      secured_replied (clear_error link.guard link.right) PasswordClearing octets served tt refl
+      (judged_clearing link pdu s octets (is_sent served) can) (λ answer is. is)
+  served_replied (asks_further subject octet so_far) one served can ready =
+      further_replied octet subject so_far served can ready
+  served_replied (starts_upload name) one served can ready =
+      start_replied b js vs pdu s name (uploaded_of name) served refl
+  served_replied (slices_upload id size so_far) one served can ready =
+      slice_replied b js vs pdu s id size so_far served ready
+  served_replied (ends_upload id) one served can ready = end_replied b js vs pdu s id served ready
+  served_replied (announces image) one served can ready = absurd one
+  served_replied (awaits_call image) one served can ready = absurd one
+  served_replied (gives image room from call) one served can ready = absurd one
+  served_replied (inserts image call) one served can ready = absurd one
 
 -- A question of one message that can be asked has its reply, where the link lives after it.
 pub replied : {first : LinkState} (b : List ℕ) (js vs : List Verdict) (unheard : List (List ℕ)) (pdu : ℕ) (q : Question)
@@ -353,7 +328,7 @@ pub replied : {first : LinkState} (b : List ℕ) (js vs : List Verdict) (unheard
     → Replies first b js vs unheard pdu q s
 replied {first} b js vs unheard pdu q s one settled low least most fits can ready none live =
     once_replies b js vs unheard pdu s q one none
-    (served_replied b js vs pdu s q one
+    (served_replied first b js vs pdu s q one
     (record {
       settled = settled;
       numbered = one_numbered q one;

@@ -1,6 +1,6 @@
 -- What a client hears of the reply to user data, and what is left of it on the link.
 use Rattle.std.proofs.Common.{◌≡◌, ℕ, ◌<◌, ◌≤◌, Bool, true, false, cond, eqb, ltb, List, [], length, take, Some, refl}
-use Rattle.std.proofs.Common.{sym, subst, arith}
+use Rattle.std.proofs.Common.{inl, sym, subst, arith}
 use Rattle.std.specs.Prelude.{None}
 use Rattle.std.proofs.lemmas.Bool.{eqb-true}
 use Rattle.s7_header.specs.Negotiation.{most_pdu}
@@ -16,7 +16,7 @@ use Rattle.s7_session.specs.LinkState.{LinkState, next_octet}
 use Rattle.s7_session.specs.Judgement.{user_octets, user_reply, user_link, by_user, slice_room, slice_octets}
 use Rattle.s7_session.specs.Judgement.{slices_left}
 use Rattle.s7_session.specs.Passwords.{no_data}
-use Rattle.s7_rig.specs.Exchanges.{AsksFor, GoesOn, user_heard, is_brought}
+use Rattle.s7_rig.specs.Exchanges.{AsksFor, GoesOn, user_heard, is_told}
 use Rattle.s7_rig.specs.Plants.{IsStateFor}
 use Rattle.s7_rig.proofs.ReplyLemmas.{IsAskedWell}
 use Rattle.s7_rig.proofs.UserHeardLemmas.{IsRest, told_params, length-told, length-slice, error_is_heard}
@@ -87,8 +87,8 @@ user_well link pdu s subject octets timed request low least most told fits =
             heard = record {
               answer = user_heard pdu octet reply;
               is = is_heard_by (eqb reply.error 0) s octet pdu subject octets reply low least most fit refl;
-              told = is_brought subject octets moment link.right (request moment) reply octet refl (told moment)
-                  refl refl;
+              told = is_told
+                  (inl (moment, request moment, octet, told moment, (link.right, reply, refl, refl)));
               goes_on = goes_on_by (eqb reply.error 0) left octet pdu subject octets reply fit refl refl;
             };
           };

@@ -9,7 +9,7 @@ use Rattle.s7_dialogue.specs.declared.job.Job.TheVariants as job
 use Rattle.s7_dialogue.specs.Codes.{no_fault}
 use Rattle.s7_dialogue.specs.Course.{Origin, course}
 use Rattle.s7_dialogue.specs.DataBlocks.{data_parts}
-use Rattle.s7_dialogue.specs.Dialogue.{End}
+use Rattle.s7_dialogue.specs.Dialogue.{End, alone}
 use Rattle.s7_client.specs.Standing.{IsByOctets}
 use Rattle.s7_header.specs.Negotiation.{most_pdu}
 use Rattle.s7_item.specs.declared.item.Item.{Item}
@@ -34,19 +34,6 @@ abbrev pub AreReplies : List (Ask × Said) → Type 0
 AreReplies entries =
     AllByRecursion (λ (e : Ask × Said). (s : State) × (e.1 ≡ plant.answer_of s e.0) × IsStateFor e.0.request s) entries
 
--- The entries read these parts in order, each alone and with a right or without: whatever state gave the reply of one,
--- its memory has the part, and the octets are those that it reads there, joined.
-unfoldable pub ReadsParts : List Item → List (Ask × Said) → List ℕ → Type 0
-ReadsParts [] [] octets = octets ≡ []
-ReadsParts [] (e ∷ entries) octets = ⊥
-ReadsParts (part ∷ parts) [] octets = ⊥
-ReadsParts (part ∷ parts) (e ∷ entries) octets =
-    (front : List ℕ) × (rest : List ℕ) × (right : Bool) × (octets ≡ front ++ rest)
-    × (e.0 ≡ asked right (Read (part ∷ [])))
-    × ((s : State) → e.1 ≡ plant.answer_of s (asked right (Read (part ∷ [])))
-    → (read_code s.memory right part ≡ 0xFF) × (front ≡ read_octets s.memory right part))
-    × ReadsParts parts entries rest
-
 -- The entries read these groups of items in order, each alone and with a right or without: whatever state gave the
 -- reply of one, the codes and octets are those of its items in that state's memory, joined.
 unfoldable pub ReadsGroups : List (List Item) → List (Ask × Said) → List ℕ → List ℕ → Type 0
@@ -60,6 +47,15 @@ ReadsGroups (group ∷ groups) (e ∷ entries) octets codes =
     × ((s : State) → e.1 ≡ plant.answer_of s (asked right (Read group))
     → (first ≡ map (read_code s.memory right) group) × (front ≡ flat_map (read_octets s.memory right) group))
     × ReadsGroups groups entries rest others
+
+-- every return code is good
+abbrev pub AreGood : List ℕ → Type 0
+AreGood codes = AllByRecursion (λ (code : ℕ). code ≡ 0xFF) codes
+
+-- The entries read these parts in order, each alone, as groups of one: whatever state gave the reply of one, its memory
+-- has the part.
+abbrev pub ReadsParts : List Item → List (Ask × Said) → List ℕ → Type 0
+ReadsParts parts entries octets = (codes : List ℕ) × AreGood codes × ReadsGroups (alone parts) entries octets codes
 
 -- The first entry asks for the head of the data block, with a right or without: whatever state gave the reply, the block
 -- stood in its memory with so many octets. The others read its parts.

@@ -1,7 +1,6 @@
 -- The questions of a job on a connected client, and what a session answers to each.
 use Rattle.std.specs.Prelude.{◌≡◌, ◌⊎◌, ℕ, ◌+◌, ◌<◌, ◌≤◌, Bool, true, false, ◌==◌, ◌&&◌, nat_lt, if◌then◌else◌, List, []}
 use Rattle.std.specs.Prelude.{◌∷◌, ◌++◌, length, take, slice_index, map, is_some, Option, None, Some}
-use Rattle.s7_item.specs.declared.item.Item.{Item}
 use Rattle.s7_plant.specs.Answers as plant
 use Rattle.s7_plant.specs.declared.request.Ask.{Ask}
 use Rattle.s7_plant.specs.declared.request.Request.{Request}
@@ -208,68 +207,71 @@ abbrev pub IsUndone : List Verdict → ℕ → Type 0
 IsUndone verdicts error =
     (AnyFull verdicts × (error ≡ 0x8F01)) ⊎ ((0 < clock_failures verdicts) × (error ≡ 0x8F02))
 
--- What a question was answered on a link of this PDU, by the verdicts that it met itself, and what was entered for it.
--- It is refused, and nothing entered, where one of these is that the history was full or the clock failed. Otherwise a
--- request was entered with a right or without: a read tells what the memory has of the state that gave the reply, a
--- write notes the codes that this memory gives, and of control, of user data, of the start of an upload and of the
--- insertion of the very image that was given the reply is told. Passwords, further octets, slices and the end of an
--- upload enter nothing, and neither do a download up to its insertion, a name of no block, which is refused, a block
--- that isn't deleted, since its kind isn't stored or its number is too large, or one that isn't downloaded, since its
--- kind isn't stored. Further octets and slices are as many as a telegram takes of those that make them whole.
+-- this request was entered, with a right or without, and its reply says what is heard
+abbrev pub IsEntered : Request → List (Ask × Said) → (Bool → Said → Type 0) → Type 0
+IsEntered request new heard =
+    (right : Bool) × (reply : Said) × (new ≡ (asked right request, reply) ∷ []) × heard right reply
+
+-- a deletion of a block that isn't deleted is refused
+abbrev pub IsBarred : Control → Answer → Type 0
+IsBarred (control.Delete kind number) answer =
+    (request_of (control.Delete kind number) ≡ None)
+    × (answer ≡ refuses (if is_name kind number then 0x8F03 else 0x8404))
+IsBarred _ answer = ⊥
+
+-- What a question that was not undone was answered on a link of this PDU, and what was entered for it. A request was
+-- entered with a right or without: a read tells what the memory has of the state that gave the reply, a write notes the
+-- codes that this memory gives, and of control, of user data, of the start of an upload and of the insertion of the very
+-- image that was given the reply is told. Passwords, further octets, slices and the end of an upload enter nothing, and
+-- neither do a download up to its insertion, a name of no block, which is refused, a block that isn't deleted, since its
+-- kind isn't stored or its number is too large, or one that isn't downloaded, since its kind isn't stored. Further octets
+-- and slices are as many as a telegram takes of those that make them whole. A negotiation is no such question.
+abbrev pub IsTold : ℕ → Question → Answer → List (Ask × Said) → Type 0
+IsTold pdu (reads items) answer new =
+    IsEntered (Read items) new
+    (λ right reply. (s : State) → reply ≡ plant.answer_of s (asked right (Read items))
+    → answer ≡ tells (map (told_of s.memory right) items))
+IsTold pdu (writes items octets) answer new =
+    IsEntered (own_write items octets) new
+    (λ right reply. (s : State) → reply ≡ plant.answer_of s (asked right (own_write items octets))
+    → answer ≡ notes (own_codes s.memory right items octets))
+IsTold pdu (controls c) answer new =
+    ((request : Request) × (request_of c ≡ Some request)
+    × IsEntered request new (λ right reply. answer ≡ control_heard reply))
+    ⊎ ((new ≡ []) × IsBarred c answer)
+IsTold pdu (asks subject octets) answer new =
+    ((moment : ℕ) × (request : Request) × (octet : ℕ) × AsksFor subject octets moment request
+    × IsEntered request new (λ right reply. answer ≡ user_heard pdu octet reply))
+    ⊎ (IsSecurity subject × (new ≡ []) × (octet : ℕ) × (error : ℕ) × (answer ≡ security_heard octet error))
+    ⊎ (NamesNone subject octets × (new ≡ []) × (answer ≡ refuses 0x8404))
+IsTold pdu (asks_further subject octet so_far) answer new =
+    (new ≡ []) × (rest : List ℕ) × (is_whole subject (so_far ++ rest) ≡ true)
+    × (answer ≡ brings octet (nat_lt (slice_room pdu) (length rest)) (take (slice_room pdu) rest))
+IsTold pdu (starts_upload name) answer new =
+    ((block : BlockName) × (id : ℕ) × (uploaded_of name ≡ Some block)
+    × IsEntered (plain.StartUpload block.kind block.number) new (λ right reply. answer ≡ upload_heard id reply))
+    ⊎ ((uploaded_of name ≡ None) × (new ≡ []) × (answer ≡ refuses 0x8404))
+IsTold pdu (slices_upload id size so_far) answer new =
+    (new ≡ []) × (rest : List ℕ) × (length (so_far ++ rest) ≡ size)
+    × (answer ≡ slices (nat_lt (image_room pdu) (length rest)) (take (image_room pdu) rest))
+IsTold pdu (ends_upload id) answer new = (new ≡ []) × (answer ≡ uploaded)
+IsTold pdu (announces image) answer new =
+    (new ≡ [])
+    × ((answer ≡ announced) ⊎ ((is_stored_kind (name_in image).kind ≡ false) × (answer ≡ refuses 0x8F03)))
+IsTold pdu (awaits_call image) answer new = (new ≡ []) × (call : ℕ) × (answer ≡ calls call)
+IsTold pdu (gives image room from call) answer new = (new ≡ []) × (next : ℕ) × (answer ≡ calls next)
+IsTold pdu (inserts image call) answer new =
+    IsEntered (plain.Insert (name_in image).kind (name_in image).number image no_room) new
+    (λ right reply. answer ≡ control_heard reply)
+IsTold pdu _ answer new = ⊥
+
+-- The same by the verdicts that the question met itself. It is refused, and nothing entered, where one of these is that
+-- the history was full or the clock failed.
 pub data HasTold (pdu : ℕ) (own : List Verdict) (question : Question) (answer : Answer) (new : List (Ask × Said))
     : Type 0 where
   is_refused : (error : ℕ) → IsUndone own error → new ≡ [] → answer ≡ refuses error
       → HasTold pdu own question answer new
-  is_read : (items : List Item) (right : Bool) (reply : Said) → question ≡ reads items
-      → new ≡ (asked right (Read items), reply) ∷ []
-      → ((s : State) → reply ≡ plant.answer_of s (asked right (Read items))
-      → answer ≡ tells (map (told_of s.memory right) items)) → HasTold pdu own question answer new
-  is_written : (items : List Item) (octets : List ℕ) (right : Bool) (reply : Said) → question ≡ writes items octets
-      → new ≡ (asked right (own_write items octets), reply) ∷ []
-      → ((s : State) → reply ≡ plant.answer_of s (asked right (own_write items octets))
-      → answer ≡ notes (own_codes s.memory right items octets)) → HasTold pdu own question answer new
-  is_controlled : (control : Control) (right : Bool) (request : Request) (reply : Said)
-      → question ≡ controls control → request_of control ≡ Some request → new ≡ (asked right request, reply) ∷ []
-      → answer ≡ control_heard reply → HasTold pdu own question answer new
-  is_brought : (subject : Subject) (octets : List ℕ) (moment : ℕ) (right : Bool) (request : Request) (reply : Said)
-      (octet : ℕ) → question ≡ asks subject octets → AsksFor subject octets moment request
-      → new ≡ (asked right request, reply) ∷ [] → answer ≡ user_heard pdu octet reply
-      → HasTold pdu own question answer new
-  is_secured : (subject : Subject) (octets : List ℕ) (octet error : ℕ) → question ≡ asks subject octets
-      → IsSecurity subject → new ≡ [] → answer ≡ security_heard octet error → HasTold pdu own question answer new
-  is_unnamed : (subject : Subject) (octets : List ℕ) → question ≡ asks subject octets → NamesNone subject octets
-      → new ≡ [] → answer ≡ refuses 0x8404 → HasTold pdu own question answer new
-  is_barred : (kind number : ℕ) → question ≡ controls (control.Delete kind number)
-      → request_of (control.Delete kind number) ≡ None → new ≡ []
-      → answer ≡ refuses (if is_name kind number then 0x8F03 else 0x8404)
-      → HasTold pdu own question answer new
-  is_started : (name block : BlockName) (right : Bool) (reply : Said) (id : ℕ) → question ≡ starts_upload name
-      → uploaded_of name ≡ Some block → new ≡ (asked right (plain.StartUpload block.kind block.number), reply) ∷ []
-      → answer ≡ upload_heard id reply → HasTold pdu own question answer new
-  is_no_upload : (name : BlockName) → question ≡ starts_upload name → uploaded_of name ≡ None → new ≡ []
-      → answer ≡ refuses 0x8404 → HasTold pdu own question answer new
-  is_sliced : (id size : ℕ) (so_far rest : List ℕ) → question ≡ slices_upload id size so_far
-      → length (so_far ++ rest) ≡ size → new ≡ []
-      → answer ≡ slices (nat_lt (image_room pdu) (length rest)) (take (image_room pdu) rest)
-      → HasTold pdu own question answer new
-  is_ended : (id : ℕ) → question ≡ ends_upload id → new ≡ [] → answer ≡ uploaded
-      → HasTold pdu own question answer new
-  is_announced : (image : List ℕ) → question ≡ announces image → new ≡ [] → answer ≡ announced
-      → HasTold pdu own question answer new
-  is_unstored : (image : List ℕ) → question ≡ announces image → is_stored_kind (name_in image).kind ≡ false → new ≡ []
-      → answer ≡ refuses 0x8F03 → HasTold pdu own question answer new
-  is_called : (image : List ℕ) (call : ℕ) → question ≡ awaits_call image → new ≡ [] → answer ≡ calls call
-      → HasTold pdu own question answer new
-  is_given : (image : List ℕ) (room from call next : ℕ) → question ≡ gives image room from call → new ≡ []
-      → answer ≡ calls next → HasTold pdu own question answer new
-  is_inserted : (image : List ℕ) (call : ℕ) (right : Bool) (reply : Said) → question ≡ inserts image call
-      → new
-      ≡ (asked right (plain.Insert (name_in image).kind (name_in image).number image no_room), reply) ∷ []
-      → answer ≡ control_heard reply → HasTold pdu own question answer new
-  is_further : (subject : Subject) (octet : ℕ) (so_far rest : List ℕ) → question ≡ asks_further subject octet so_far
-      → is_whole subject (so_far ++ rest) ≡ true → new ≡ []
-      → answer ≡ brings octet (nat_lt (slice_room pdu) (length rest)) (take (slice_room pdu) rest)
-      → HasTold pdu own question answer new
+  is_told : IsTold pdu question answer new → HasTold pdu own question answer new
 
 -- The message is an answer to the question, behind which these messages are unheard, this was entered for it, and the link
 -- goes on with what follows it.

@@ -1,8 +1,8 @@
 -- The runs of a rig: stated turns, seeded turns, and rounds.
 use Rattle.std.specs.Prelude.{◌≡◌, ◌⊎◌, ℕ, ◌+◌, ◌*◌, ◌||◌, Bool, true, false, List}
 use Rattle.std.specs.Prelude.{[], ◌∷◌, ◌++◌, zero, suc, length, Option, None}
-use Rattle.s7_draw.specs.Drawing.{seeded}
-use Rattle.s7_outer.specs.Pipes.{empty_pipes}
+use Rattle.s7_schedule.specs.Drawing.{seeded}
+use Rattle.s7_memory.specs.Pipes.{empty_pipes}
 use Rattle.s7_area.specs.declared.guard.Guard.{Guard}
 use Rattle.s7_dialogue.specs.declared.config.Config.{Config}
 use Rattle.s7_dialogue.specs.declared.job.Job.{Job}

@@ -3,7 +3,7 @@ use Rattle.std.proofs.Common.{◌⊎◌, inl, inr}
 use Rattle.std.specs.Prelude.{ℕ, zero, suc, ◌-◌, ◌*◌, ◌==◌, Bool, List, [], ◌∷◌, ◌++◌, length, if◌then◌else◌}
 use Rattle.s7_rig.specs.State.{State}
 use Rattle.s7_rig.specs.Turns.{IsTurnOf}
-use Rattle.s7_draw.specs.Drawing.{seeded}
+use Rattle.s7_schedule.specs.Drawing.{seeded}
 use Rattle.s7_rig.specs.Runs.{Turns, Rounds, IsRun, actors_of, most_rounds}
 
 -- what the client at a place transmits in a turn

@@ -7,6 +7,7 @@ use Rattle.s7_dialogue.specs.declared.job.Job.TheVariants as job
 use Rattle.s7_dialogue.specs.declared.job.JobResult.{JobResult}
 use Rattle.s7_dialogue.specs.Codes.{no_fault}
 use Rattle.s7_dialogue.specs.DataBlocks.{data_parts}
+use Rattle.s7_dialogue.specs.Dialogue.{alone}
 use Rattle.s7_item.specs.declared.item.Item.{Item}
 use Rattle.s7_turn.specs.Histories.{entry, replay}
 use Rattle.s7_plant.specs.declared.request.Request.TheVariants.{Read, Info}
@@ -17,42 +18,19 @@ use Rattle.s7_session.specs.Books.{History}
 use Rattle.s7_split.specs.Groups.{groups_of}
 use Rattle.s7_split.specs.Parts.{parts_of}
 use Rattle.s7_rig.specs.Complete.{data_block}
+use Rattle.s7_rig.specs.Dialogues.{AreGood}
 
 -- the state that the calls before this number left
 abbrev pub state_at : State → History → ℕ → State
 state_at opening history number = replay after_call opening (take number history)
 
--- the call of this number is the link's read of the part alone, with a right or without, the memory that all calls
--- before it left has the part, and these are the octets there
-pub record IsReadAt (opening : State) (history : History) (link : ℕ) (part : Item) (number : ℕ) (octets : List ℕ)
-    : Type 0 where
-  pub right : Bool
-  pub call : slice_get history number ≡ Some (entry link (asked right (Read (part ∷ []))))
-  pub good : read_code (state_at opening history number).memory right part ≡ 0xFF
-  pub octets_are : octets ≡ read_octets (state_at opening history number).memory right part
+-- ---- several items
 
 -- each number is greater than the one before
 unfoldable pub Rise : List ℕ → Type 0
 Rise [] = Unit {0}
 Rise (n ∷ []) = Unit {0}
 Rise (n ∷ m ∷ more) = (n < m) × Rise (m ∷ more)
-
--- the octets are those of the parts, each read at its number, joined
-unfoldable pub AreReadAt : State → History → ℕ → List Item → List ℕ → List ℕ → Type 0
-AreReadAt opening history link [] [] octets = octets ≡ []
-AreReadAt opening history link [] (number ∷ numbers) octets = ⊥
-AreReadAt opening history link (part ∷ parts) [] octets = ⊥
-AreReadAt opening history link (part ∷ parts) (number ∷ numbers) octets =
-    (front : List ℕ) × (rest : List ℕ) × (octets ≡ front ++ rest)
-    × IsReadAt opening history link part number front × AreReadAt opening history link parts numbers rest
-
--- A SPLIT READ: the numbers rise, there is one for each part of the item, and the octets are those that stood there
-pub record SplitRead (opening : State) (history : History) (numbers : List ℕ) (link : ℕ) (item : Item) (pdu : ℕ)
-    (octets : List ℕ) : Type 0 where
-  pub rise : Rise numbers
-  pub read : AreReadAt opening history link (parts_of item pdu false) numbers octets
-
--- ---- several items
 
 -- the call of this number is the link's read of the group alone, with a right or without, and these are the codes and
 -- the octets of its items in the memory that all calls before it left: none where the code of an item refuses it
@@ -80,6 +58,19 @@ pub record GroupedRead (opening : State) (history : History) (numbers : List ℕ
     (octets codes : List ℕ) : Type 0 where
   pub rise : Rise numbers
   pub read : AreGroupsReadAt opening history link (groups_of pdu false items) numbers octets codes
+
+-- ---- one item
+
+-- The octets are those of the parts, each read alone at its number, as groups of one: the memory has each part.
+abbrev pub AreReadAt : State → History → ℕ → List Item → List ℕ → List ℕ → Type 0
+AreReadAt opening history link parts numbers octets =
+    (codes : List ℕ) × AreGood codes × AreGroupsReadAt opening history link (alone parts) numbers octets codes
+
+-- A SPLIT READ: the numbers rise, there is one for each part of the item, and the octets are those that stood there
+pub record SplitRead (opening : State) (history : History) (numbers : List ℕ) (link : ℕ) (item : Item) (pdu : ℕ)
+    (octets : List ℕ) : Type 0 where
+  pub rise : Rise numbers
+  pub read : AreReadAt opening history link (parts_of item pdu false) numbers octets
 
 -- ---- a whole data block
 

@@ -1,7 +1,7 @@
 -- The state of a rig: one book, and what each of its clients has.
 use Rattle.std.specs.Prelude.{ℕ, ◌==◌, ◌&&◌, Bool, List, Option, is_none, length}
 use Rattle.std.specs.List.{list_all}
-use Rattle.s7_outer.specs.PipesHeld.{PipesHeld}
+use Rattle.s7_memory.specs.PipesHeld.{PipesHeld}
 use Rattle.s7_client.specs.declared.connection.Connection.{Connection}
 use Rattle.s7_dialogue.specs.declared.job.Job.{Job}
 use Rattle.s7_dialogue.specs.declared.job.JobResult.{JobResult}

@@ -1,6 +1,6 @@
 -- Runs of a rig that stopped at a turn.
 use Rattle.std.specs.Prelude.{◌≡◌, ◌⊎◌, ℕ, ◌*◌, Bool, true, false, List, ◌∷◌, ◌++◌, zero, suc, length}
-use Rattle.s7_draw.specs.Drawing.{seeded}
+use Rattle.s7_schedule.specs.Drawing.{seeded}
 use Rattle.s7_rig.specs.State.{State, are_finished}
 use Rattle.s7_rig.specs.Runs.{Turns, actors_of, most_rounds}
 

@@ -4,9 +4,9 @@ use Rattle.std.specs.Prelude.{◌≡◌, ◌≢◌, ◌⊎◌, ℕ, ◌-◌, ◌
 use Rattle.std.specs.Prelude.{Bool, true, false, List, [], ◌∷◌, ◌++◌, length, slice_get}
 use Rattle.std.specs.Prelude.{slice_set, None, Some, option_map, unwrap_or, IsSome}
 use Rattle.std.specs.Borrow.{GName}
-use Rattle.s7_outer.specs.PipesHeld.{PipesHeld}
-use Rattle.s7_outer.specs.Pipes.{end_of}
-use Rattle.s7_outer.specs.declared.pipes.Side.TheVariants as side
+use Rattle.s7_memory.specs.PipesHeld.{PipesHeld}
+use Rattle.s7_memory.specs.Pipes.{end_of}
+use Rattle.s7_memory.specs.declared.pipes.Side.TheVariants as side
 use Rattle.s7_client.specs.declared.connection.Connection.{Connection}
 use Rattle.s7_dialogue.specs.declared.job.Job.{Job}
 use Rattle.s7_client.specs.declared.job.Polled.{Polled}

@@ -4,7 +4,7 @@ ghost use Rattle.s7_plant.specs.Books.{book_told};
 ghost use Rattle.s7_rig.specs.Turns.{PollsOver, TakesTurn};
 
 use s7_client::{Connection, Polled};
-use s7_outer::{PipeEnd, Pipes, Side};
+use s7_memory::{PipeEnd, Pipes, Side};
 use s7_plant::{Book, Tail};
 use s7_session::{BookDoer, Session, Turn};
 use std::alloc::Global;

@@ -1,7 +1,7 @@
 // A rig: clients and the sessions that serve them, on one book.
 ghost use Rattle.std.specs.Prelude.{◌≡◌, ◌<◌, ◌≤◌, ◌*◌, Bool, All, length, map, [], IfOk, OnOk, OnErr, is_some};
 ghost use Rattle.std.specs.Prelude.{option_map};
-ghost use Rattle.s7_draw.specs.Drawing.{seeded};
+ghost use Rattle.s7_schedule.specs.Drawing.{seeded};
 ghost use Rattle.s7_header.specs.Negotiation.{most_pdu};
 ghost use Rattle.s7_plant.specs.Journals.{entries_of};
 ghost use Rattle.s7_plant.specs.State.{begins_with, state_of as plant_state};
@@ -17,9 +17,9 @@ use crate::station::Station;
 use s7_area::Areas;
 use s7_block::Blocks;
 use s7_client::{Completion, Config, Job};
-use s7_draw::Draw;
 use s7_outer::Memory;
 use s7_plant::{Book, MOST_BLOCKS, Tail};
+use s7_schedule::Draw;
 use std::alloc::Global;
 
 /// So many rounds are made at most.

@@ -5,7 +5,7 @@ ghost use Rattle.s7_rig.specs.Standing.{HasStood, room_for};
 
 use crate::places::Places;
 use s7_client::{Connection, Job, JobResult};
-use s7_outer::Pipes;
+use s7_memory::Pipes;
 use s7_session::Session;
 use std::collections::VecDeque;
 

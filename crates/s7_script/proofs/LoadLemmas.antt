@@ -20,13 +20,18 @@ not_missing : (read : Result Memory AreasFault) → with_line_fault read ≢ Err
 not_missing (Ok m) e = cc
 not_missing (Err x) e = cc
 
+-- files whose counts are as they were are as they were
+pub unchanged : (old new : FilesShown) → new ≡ record old { faults = new.faults } → new.faults ≡ old.faults → new ≡ old
+unchanged old new same counts = same ∙ ap (λ c. record old { faults = c }) counts
+
 -- a file whose octets came
 pub file_read : (p : Text) (old new : FilesShown) (octets : Text) (result : Result Memory LoadFault) → length octets ≤ file_limit → (IsTrue old.tells → old.held p ≡ Some octets)
-    → Answers (with_line_fault (areas octets)) result → result ≢ Err fault.Failed → new ≡ record old { faults = new.faults } → NonePathFell old.faults new.faults
-    → Loads (path p) old new result
-file_read p old new octets result fits told answers other same kept = record {
+    → Answers (with_line_fault (areas octets)) result → result ≢ Err fault.Failed → new ≡ record old { faults = new.faults }
+    → new.faults ≡ old.faults → NonePathFell old.faults new.faults → Loads (path p) old new result
+file_read p old new octets result fits told answers other same counts kept = record {
   answers = λ t. subst (λ x. Answers x result) (sym (gives (old.held p) octets (told t) fits)) answers;
   failed = λ e. absurd (other e);
+  unfailed = λ e. unchanged old new same counts;
   missing = λ t e. absurd (not_missing (areas octets) (sym (gives (old.held p) octets (told t) fits) ∙ e));
   left = (same, kept);
 }

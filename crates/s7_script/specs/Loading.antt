@@ -1,8 +1,8 @@
 -- The areas that a word names, as far as they are told.
-use Rattle.std.specs.Prelude.{◌≡◌, ◌≢◌, ℕ, nat_lt, List, length, Option, Some, None, Result, Ok, Err, IsTrue, if◌then◌else◌}
+use Rattle.std.specs.Prelude.{◌≡◌, ◌≢◌, ◌⊎◌, ℕ, nat_lt, List, length, Option, Some, None, Result, Ok, Err, IsTrue, if◌then◌else◌}
 use Rattle.s7_outer.specs.Count.{Rose}
 use Rattle.s7_outer.specs.FilesShown.{FilesShown}
-use Rattle.s7_outer.specs.Files.{file_limit, NonePathFell}
+use Rattle.s7_outer.specs.Files.{file_limit, NonePathFell, NoPathRoseTwice}
 use Rattle.s7_item.specs.Codes.{data_blocks}
 use Rattle.s7_area.specs.Memory.{Memory, no_areas, with_area}
 use Rattle.s7_script.specs.Lines.{Text}
@@ -51,9 +51,17 @@ Answers told (Err fault.TooLong) = told ≡ Err fault.TooLong
 Answers told (Err (fault.Line n)) = told ≡ Err (fault.Line n)
 Answers told (Err fault.Memory) = Unit {0}
 
+-- ONE CALL ON A PATH FAILED: the path's count rose, and no count fell or rose twice
+abbrev pub PathFailed : Text → (Text → ℕ) → (Text → ℕ) → Type 0
+PathFailed p old new = Rose (old p) (new p) × NonePathFell old new × NoPathRoseTwice old new
+
+-- AT MOST ONE CALL FAILED: the counts are as they were, or one call on some path failed
+abbrev pub FailedOnce : (Text → ℕ) → (Text → ℕ) → Type 0
+FailedOnce old new = (new ≡ old) ⊎ ((p : Text) × PathFailed p old new)
+
 -- the file that is named failed; an inline word never does
 abbrev pub HasFailed : Named → FilesShown → FilesShown → Type 0
-HasFailed (path p) old new = Rose (old.faults p) (new.faults p)
+HasFailed (path p) old new = PathFailed p old.faults new.faults
 HasFailed (block number octets) old new = ⊥
 HasFailed faulty old new = ⊥
 
@@ -67,6 +75,8 @@ LeavesFiles faulty old new = new ≡ old
 pub record Loads (named : Named) (old new : FilesShown) (result : Result Memory LoadFault) : Type 0 where
   pub answers : IsTold named old → Answers (named_gives named old.held) result
   pub failed : result ≡ Err fault.Failed → HasFailed named old new
+  -- unless the file failed, no count rose either
+  pub unfailed : result ≢ Err fault.Failed → new ≡ old
   -- a file that isn't there fails
   pub missing : IsTold named old → named_gives named old.held ≡ Err fault.Failed → result ≡ Err fault.Failed
   pub left : LeavesFiles named old new

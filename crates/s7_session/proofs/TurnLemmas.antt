@@ -60,7 +60,7 @@ pub record Moved (link link' : Shown) (received written : List ℕ) : Type 0 whe
   pub fits : IfSome link.space (λ s. length written ≤ s)
   pub space : link'.space ≡ option_map (λ s. s - length written) link.space
   pub lent : link'.lent ≡ link.lent
-  pub shut : link'.is_shut ≡ link.is_shut
+  pub shut : link'.shut ≡ link.shut
   pub moment : link'.moment ≡ link.moment
   pub clock_faults : link'.clock_faults ≡ link.clock_faults
   pub looks : link'.looks ≡ link.looks
@@ -90,7 +90,7 @@ moved_by_receive k k' received took faults waits same = record {
   fits = fits_none k.space;
   space = ap (λ x. x.space) same ∙ space_none k.space;
   lent = ap (λ x. x.lent) same;
-  shut = ap (λ x. x.is_shut) same;
+  shut = ap (λ x. x.shut) same;
   moment = ap (λ x. x.moment) same;
   clock_faults = ap (λ x. x.clock_faults) same;
   looks = ap (λ x. x.looks) same;
@@ -106,7 +106,7 @@ moved_by_transmit k k' written wrote fits space faults waits same = record {
   fits = fits;
   space = space;
   lent = ap (λ x. x.lent) same;
-  shut = ap (λ x. x.is_shut) same;
+  shut = ap (λ x. x.shut) same;
   moment = ap (λ x. x.moment) same;
   clock_faults = ap (λ x. x.clock_faults) same;
   looks = ap (λ x. x.looks) same;

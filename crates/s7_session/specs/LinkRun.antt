@@ -92,7 +92,7 @@ pub record IsLinkRun {D : Type 0} (stands : D → List Entry → Type 0) (is_ful
   pub fits : IfSome link.space (λ s. length written ≤ s)
   pub space : link'.space ≡ option_map (λ s. s - length written) link.space
   pub lent : link'.lent ≡ link.lent
-  pub shut : link'.is_shut ≡ link.is_shut
+  pub shut : link'.shut ≡ link.shut
   pub moment : link'.moment ≡ link.moment
   pub owed : IsWritten first result taken (verdicts_of mets) written
   -- the octets ask this, and each met its verdict

@@ -109,7 +109,7 @@ pub record Moves {D : Type 0} (stands : D → List Entry → Type 0) (is_full ma
   pub fits : IfSome link.space (λ s. length written ≤ s)
   pub space : link'.space ≡ option_map (λ s. s - length written) link.space
   pub lent : link'.lent ≡ link.lent
-  pub shut : link'.is_shut ≡ link.is_shut
+  pub shut : link'.shut ≡ link.shut
   pub inbox : unread old ++ received ≡ used ++ unread new
   -- whatever the session stands for
   pub stood : (first : LinkState) (b : List ℕ) (js : List Verdict) (w : List ℕ) → Stands first old b js w

@@ -14,6 +14,3 @@ pub use laws::{ends_cut_groups, groups_are_exact, parts_are_exact, parts_can_be_
 pub use packing::{PackFault, pack};
 pub use part_list::Parts;
 pub use splitting::parts;
-
-#[cfg(test)]
-mod tests;

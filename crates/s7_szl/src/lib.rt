@@ -12,6 +12,3 @@ pub use join::{SzlAdded, SzlJoin};
 pub use laws::{joins_hold, pieces_join, refusals_are_exact, tables_are_exact, written_is_read};
 pub use readers::{read_component, read_mode, read_order_code, read_pdu, read_protection};
 pub use table::write_table;
-
-#[cfg(test)]
-mod tests;

@@ -5,8 +5,6 @@ mod cutting;
 mod front;
 mod laws;
 mod state;
-#[cfg(test)]
-mod tests;
 mod writing;
 
 pub use cutting::Cutter;

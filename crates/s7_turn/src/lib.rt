@@ -7,8 +7,6 @@ mod door;
 mod hall;
 mod machine;
 mod plays;
-#[cfg(test)]
-mod tests;
 mod turn;
 mod view;
 mod words;

@@ -22,8 +22,3 @@ pub use message::{MOST_MESSAGE, put_message};
 pub use outbox::Outbox;
 pub use reader::Reader;
 pub use sizes::tpdu_size;
-
-#[cfg(test)]
-mod reader_tests;
-#[cfg(test)]
-mod tests;

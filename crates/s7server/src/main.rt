@@ -1,9 +1,10 @@
 //! Serves areas as a controller would, on standard input and output or over TCP.
 #![tactic(auto)]
 
-use s7_outer::{Memory, OpenGate, Out, RealLink, StdFiles, StdOut, TcpDoor};
+use s7_os::{RealLink, StdFiles, StdOut, TcpDoor};
+use s7_outer::{Memory, OpenGate, Out};
 use s7_plant::Tail;
-use s7_server::{MEMORY, server_main};
+use s7_server_main::{MEMORY, server_main};
 use std::alloc::{AllocError, Global};
 use std::env;
 use std::io::ErrorKind;

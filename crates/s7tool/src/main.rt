@@ -2,8 +2,9 @@
 #![tactic(auto)]
 
 use s7_client::Counter;
-use s7_outer::{Out, StdFiles, StdOut, TcpDial};
-use s7_tool::{MEMORY, print_line, tool_main};
+use s7_os::{StdFiles, StdOut, TcpDial};
+use s7_outer::Out;
+use s7_tool_main::{MEMORY, print_line, tool_main};
 use std::alloc::{AllocError, Global};
 use std::env;
 use std::io::ErrorKind;

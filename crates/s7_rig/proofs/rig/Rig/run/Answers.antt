@@ -2,7 +2,7 @@ use Rattle.std.proofs.Common.{◌*◌, ◌||◌, length, map, sym, subst, ◌∙
 use Rattle.std.proofs.lemmas.List.{length-map}
 use Rattle.std.proofs.lemmas.Result.{on_ok_weaker}
 use Rattle.s7_rig.specs.Shown.{first_results, post_of, state_of, state_told}
-use Rattle.s7_draw.specs.Drawing.{seeded}
+use Rattle.s7_schedule.specs.Drawing.{seeded}
 use Rattle.s7_rig.specs.Runs.{Turns, most_rounds}
 use Rattle.s7_rig.specs.Stopped.{RoundsStop, RunStops, TurnsStop}
 use Rattle.s7_rig.proofs.StoppedLemmas.{drawn_stop, rounds_stop, stated_stop}

@@ -2,7 +2,7 @@ use Rattle.std.proofs.Common.{◌≡◌, ◌*◌, ◌-◌, length, refl, subst, 
 use Rattle.std.specs.Prelude.{option_map}
 use Rattle.s7_rig.specs.Shown.{first_results, state_told, state_of}
 use Rattle.s7_rig.specs.Stopped.{TurnsStop}
-use Rattle.s7_draw.specs.Drawing.{actor_by, seeded}
+use Rattle.s7_schedule.specs.Drawing.{actor_by, seeded}
 use Rattle.s7_rig.proofs.DrawnLemmas.{drawn-begin, drawn-none, drawn-stop, drawn-turn}
 use Rattle.s7_rig.proofs.StoppedLemmas.{leads_all}
 use Rattle.s7_rig.proofs.TellsLemmas.{any_err, tells_none, tells_then, wanting_here}

@@ -1,7 +1,7 @@
 use Rattle.std.proofs.Common.{◌≡◌, ◌-◌, ◌*◌, length}
 use Rattle.std.specs.Prelude.{is_some, option_map}
 use Rattle.s7_rig.specs.Shown.{state_of}
-use Rattle.s7_draw.specs.Drawing.{drawn, seeded}
+use Rattle.s7_schedule.specs.Drawing.{drawn, seeded}
 use Rattle.s7_rig.specs.Stopped.{TurnsLead}
 use Rattle.s7_rig.specs.Tells.{TellsFirst}
 use Rattle.s7_rig.proofs.rig.Rig.take_drawn.Given as goal

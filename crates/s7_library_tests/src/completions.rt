@@ -1,0 +1,82 @@
+// Jobs that are carried out, and who is told of them.
+ghost use Rattle.std.specs.Prelude.{◌≡◌, IfOk, None};
+ghost use Rattle.s7_client.specs.Completions.{connection_of};
+ghost use Rattle.s7_client.specs.Polling.{job_of};
+
+use crate::words::octets_of;
+use s7_client::{Client, Config, Counter, Job};
+use s7_memory::MemoryLink;
+use s7_outer::Octets;
+use std::alloc::Global;
+use std::test::Fail;
+
+/// The link gives the confirm and the grant, octet by octet.
+const CONFIRM_AND_GRANT: &str = "\
+0300001611d00001000100c0010ac1020100c2020102 0300001b02f080320300000001000800000000f0000001000101e0";
+
+/// The job is carried out, and ends with this number.
+fn ends_with(
+    alloc: Global,
+    client: &mut Client<Counter>,
+    job: Job,
+    link: &mut MemoryLink,
+    code: u32,
+) -> bool
+    requires { job_of (connection_of client.old) ≡ None }
+    ensures { job_of (connection_of client.new) ≡ None }
+{
+    match client.carry_out(alloc, job, link) {
+        Ok(told) => told.code == code,
+        Err(_) => false,
+    }
+}
+
+/// The counter was told of one job, of this number, which came off.
+fn is_told_once(counter: &Option<Counter>, number: u8) -> bool {
+    match counter {
+        Some(counter) => counter.calls() == 1 && counter.last() == Some((number, 0)),
+        None => false,
+    }
+}
+
+fn a_client(alloc: Global) -> Result<Client<Counter>, Fail>
+    ensures { IfOk result (λ client. job_of (connection_of client) ≡ None) }
+{
+    Ok(Client::new(alloc, Config::new(1, 0, 2), Some(Counter::new()))?)
+}
+
+fn a_link(alloc: Global) -> Result<MemoryLink, Fail> {
+    let input = Octets::of_vec(octets_of(alloc, CONFIRM_AND_GRANT)?);
+    Ok(MemoryLink::new(alloc, input, 1, 4_096, 7)?)
+}
+
+/// The client connects.
+fn connects(alloc: Global, client: &mut Client<Counter>, link: &mut MemoryLink) -> bool
+    requires { job_of (connection_of client.old) ≡ None }
+    ensures { job_of (connection_of client.new) ≡ None }
+{
+    let connected = ends_with(alloc, client, Job::Connect, link, 0);
+    connected && client.granted() == Some(480)
+}
+
+/// Each completion is told of the jobs that are done while it stands.
+fn are_told(alloc: Global, client: &mut Client<Counter>, link: &mut MemoryLink) -> bool
+    requires { job_of (connection_of client.old) ≡ None }
+{
+    let connected = connects(alloc, client, link);
+    let first = client.set_completion(Some(Counter::new()));
+    let disconnected = ends_with(alloc, client, Job::Disconnect, link, 0);
+    let second = client.set_completion(None);
+    let listed = ends_with(alloc, client, Job::List, link, 0x0001_0000);
+    let none = client.set_completion(Some(Counter::new()));
+    let told = is_told_once(&first, 1) && is_told_once(&second, 25) && none.is_none();
+    connected && disconnected && listed && told
+}
+
+#[test]
+fn each_completion_is_told_of_its_jobs(rt: HostRuntime) -> Result<(), Fail> {
+    let mut link = a_link(rt.alloc())?;
+    let mut client = a_client(rt.alloc())?;
+    assert!(rt; are_told(rt.alloc(), &mut client, &mut link));
+    Ok(())
+}

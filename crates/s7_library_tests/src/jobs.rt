@@ -1,0 +1,186 @@
+// Jobs that no script makes, and clients over a second link.
+use crate::exchange::{all_hold, each_holds};
+use std::test::Fail;
+
+/// A connected client ends a job with this number and sends nothing, and the next read goes on.
+const TURNED_DOWN: &str = "\
+jobs 1 2 8
+gives CONFIRM GRANTED READ_ANSWER
+connect : 0
+$1 : $2
+read FOUR : 0 : 11223344
+sent CONNECT SETUP READ
+granted 480
+open";
+
+/// A job that sends nothing, and its number.
+const BAD_JOBS: &str = "\
+# a read of an unknown word
+read 84.1.55.1.0 | 00500000
+# a read of no elements
+read 84.1.02.0.0 | 00200000
+# a read of two bits
+read 84.1.01.2.0 | 00200000
+# a read past the addresses
+read 84.1.02.2.16777208 | 00200000
+# writes of an octet too few and too many
+write FOUR = 112233 | 00200000
+write FOUR = 1122334455 | 00200000
+# an item longer than a telegram among others
+readmany FOUR 84.1.02.480.0 | 00700000
+# moments before 1990 and after 2089
+setclock 631151999999 | 00200000
+setclock 3786912000000 | 00200000
+setclock 18446744073709551615 | 00200000
+# an image of no octets
+download | 00200000";
+
+#[test]
+fn jobs_that_ask_nothing(rt: HostRuntime) -> Result<(), Fail> {
+    assert!(rt; each_holds(rt.alloc(), "", TURNED_DOWN, BAD_JOBS)?);
+    Ok(())
+}
+
+/// A connected client sends no connect.
+const TWO_CONNECTS: &str = "\
+jobs 1 2 8
+most 1 3 8192
+gives CONFIRM GRANTED READ_ANSWER
+connect : 0
+connect : 0
+read FOUR : 0 : 11223344
+sent CONNECT SETUP READ
+granted 480
+open";
+
+/// More than twenty items.
+const TWENTY_ONE_ITEMS: &str = "\
+jobs 1 2 8
+most 1 3 8192
+gives CONFIRM GRANTED READ_ANSWER
+connect : 0
+readmany FOUR FOUR FOUR FOUR FOUR FOUR FOUR FOUR FOUR FOUR FOUR FOUR FOUR FOUR FOUR FOUR FOUR FOUR FOUR FOUR FOUR : \
+  00400000
+writemany FOUR FOUR FOUR FOUR FOUR FOUR FOUR FOUR FOUR FOUR FOUR FOUR FOUR FOUR FOUR FOUR FOUR FOUR FOUR FOUR FOUR \
+  = : 00400000
+read FOUR : 0 : 11223344
+sent CONNECT SETUP READ
+granted 480
+open";
+
+/// No items are no telegrams.
+const NO_ITEMS: &str = "\
+jobs 1 2 8
+most 1 3 8192
+gives CONFIRM GRANTED READ_ANSWER
+connect : 0
+readmany : 0
+writemany = : 0
+writemany = 00 : 00200000
+read FOUR : 0 : 11223344
+sent CONNECT SETUP READ
+granted 480
+open";
+
+/// An unconnected client sends nothing.
+const UNCONNECTED: &str = "\
+jobs 1 2 8
+most 1 3 8192
+gives CONFIRM
+read FOUR : 00010000
+write FOUR = 11223344 : 00010000
+readmany : 00010000
+writemany = : 00010000
+disconnect : 00010000
+sent
+granted none
+open";
+
+/// A read after a disconnect.
+const READ_AFTER_DISCONNECT: &str = "\
+jobs 1 2 8
+most 1 3 8192
+gives CONFIRM GRANTED READ_ANSWER
+connect : 0
+disconnect : 0
+read FOUR : 00010000
+sent CONNECT SETUP DISCONNECT
+granted none
+open";
+
+#[test]
+fn clients_go_on(rt: HostRuntime) -> Result<(), Fail> {
+    let texts = [
+        TWO_CONNECTS,
+        TWENTY_ONE_ITEMS,
+        NO_ITEMS,
+        UNCONNECTED,
+        READ_AFTER_DISCONNECT,
+    ];
+    assert!(rt; all_hold(rt.alloc(), "", &texts)?);
+    Ok(())
+}
+
+/// A read is answered by a message that is no answer, which is carried and closes the client: what comes after it is
+/// of no more use. The client connects on a new link, which begins anew.
+const CARRIED: &str = "\
+jobs 1 2 8
+most 1 3 8192
+gives CONFIRM GRANTED $1 $2 READ_AGAIN_ANSWER
+connect : 0
+read FOUR : 00800000 : : : $2
+granted none
+read FOUR : 00010000
+closed
+sent CONNECT SETUP READ
+gives CONFIRM GRANTED READ_ANSWER
+connect : 0
+read FOUR : 0 : 11223344
+granted 480
+open
+sent CONNECT SETUP READ";
+
+/// The head and the message.
+const NO_ANSWERS: &str = "\
+# another sequence
+0300001d02f080 | 3203000000030002000800000401ff04002011223344
+# another transport size
+0300001d02f080 | 3203000000020002000800000401ff05002011223344
+# ten octets of anything
+0300001102f080 | 00010203040506070809";
+
+#[test]
+fn a_client_connects_on_a_new_link(rt: HostRuntime) -> Result<(), Fail> {
+    assert!(rt; each_holds(rt.alloc(), "", CARRIED, NO_ANSWERS)?);
+    Ok(())
+}
+
+/// A job of a connected client that comes off so, and a disconnect. The fields are the job, what it asks, the answers,
+/// and the number and the octets.
+const COMES_OFF: &str = "\
+jobs 1 2 8
+most 1 3 8192
+gives CONFIRM GRANTED $3
+connect : 0
+$1 : $4
+disconnect : 0
+sent CONNECT SETUP $2 DISCONNECT
+granted none
+open";
+
+/// The kind FF, which there isn't, with the greatest number and id FF.
+const ANY_KIND: &str = "\
+listof ff | 0300001f02f080320700000002000800060001120411430200ff09000230ff | \
+  0300002502f080320700000002000c0008000112081283020100000000ff09000400010105 | 0 : 00010105
+upload ff 65535 | 0300002302f080320100000002001200001d00000000000000095f30ff363535333541 \
+  0300001902f080320100000003000800001e000000000000ff 0300001902f080320100000004000800001f000000000000ff | \
+  0300002302f0803203000000020010000000001d000000000000ff0730303030303031 \
+  0300001a02f0803203000000030002000500001e00000100fba5 0300001402f0803203000000040001000000001f | 0 : a5
+delete ff 65535 | 0300002b02f080320100000002001a000028000000000000fd000a010030ff363535333542055f44454c45 | \
+  0300001502f0803203000000020002000000002800 | 0";
+
+#[test]
+fn kinds_that_no_script_names(rt: HostRuntime) -> Result<(), Fail> {
+    assert!(rt; each_holds(rt.alloc(), "", COMES_OFF, ANY_KIND)?);
+    Ok(())
+}

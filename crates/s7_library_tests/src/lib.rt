@@ -1,0 +1,42 @@
+//! Tests of clients, partners, rigs, scripts and command lines as libraries: calls that no program makes, or whose
+//! answers no program prints.
+#![tactic(auto)]
+
+#[cfg(test)]
+mod alone;
+#[cfg(test)]
+mod areas;
+#[cfg(test)]
+mod asks;
+#[cfg(test)]
+mod client_links;
+#[cfg(test)]
+mod completions;
+#[cfg(test)]
+mod exchange;
+#[cfg(test)]
+mod jobs;
+#[cfg(test)]
+mod octets;
+#[cfg(test)]
+mod pairs;
+#[cfg(test)]
+mod partner_links;
+#[cfg(test)]
+mod pipes;
+#[cfg(test)]
+mod rigs;
+#[cfg(test)]
+mod scene;
+#[cfg(test)]
+mod scripts;
+#[cfg(test)]
+mod sends;
+#[cfg(test)]
+mod server_words;
+#[cfg(test)]
+mod together;
+#[cfg(test)]
+mod tool_words;
+#[cfg(test)]
+mod words;

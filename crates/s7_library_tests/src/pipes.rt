@@ -1,0 +1,177 @@
+// What a client does over pipes, by one poll after another. `starts JOB` has it start a job, and `busy ITEM` has it
+// turn away a read, since another job is outstanding. `polls idle`, `polls pending` and `polls CODE` is what a poll
+// comes to, the last where a connect is done, with this number. The server `puts OCTETS` into its pipe, and `takes
+// OCTETS` out of the client's, which are all that wait there. `waiting N` and `unread N` is how many octets wait for
+// the server and for the client.
+use crate::asks::job_of;
+use crate::exchange::{Exchange, all_hold, holds};
+use crate::words::{are, hex_number, item_of, number, octets_of};
+use s7_client::{Job, JobResult, Polled, StartCause};
+use s7_memory::{PipeEnd, Side};
+use s7_outer::{Got, Link, Sent};
+use std::test::Fail;
+
+impl Exchange<'_> {
+    pub(crate) fn starts(&mut self, ask: &str) -> Result<bool, Fail> {
+        let job = job_of(self.alloc, ask)?;
+        Ok(self.client.start(self.alloc, job).is_ok())
+    }
+
+    /// A read of this item is handed back while another job is outstanding.
+    pub(crate) fn is_busy(&mut self, item: &str) -> Result<bool, Fail> {
+        let item = item_of(item)?;
+        match self.client.start(self.alloc, Job::ReadArea { item }) {
+            Ok(()) => Ok(false),
+            Err(fault) => Ok(
+                fault.cause == StartCause::Pending
+                    && matches!(fault.job, Job::ReadArea { item: back } if back == item),
+            ),
+        }
+    }
+
+    pub(crate) fn polls(&mut self, comes_to: &str) -> Result<bool, Fail> {
+        match self.polled() {
+            Polled::Idle => Ok(comes_to == "idle"),
+            Polled::Pending => Ok(comes_to == "pending"),
+            Polled::Done(told) => {
+                self.finish(1, &told);
+                is_connected(&told, comes_to)
+            }
+        }
+    }
+
+    fn polled(&mut self) -> Polled {
+        let mut end = PipeEnd {
+            pipes: &mut self.pipes,
+            side: Side::Client,
+        };
+        self.client.poll(&mut end)
+    }
+
+    /// The server puts octets, at least one, into its pipe, where there is room for all of them.
+    pub(crate) fn puts(&mut self, octets: &str) -> Result<bool, Fail> {
+        let octets = octets_of(self.alloc, octets)?;
+        if octets.is_empty() {
+            return Ok(false);
+        }
+        let mut end = PipeEnd {
+            pipes: &mut self.pipes,
+            side: Side::Server,
+        };
+        Ok(end.transmit(octets.as_slice()) == Sent::Bytes(octets.len()))
+    }
+
+    /// The server takes all octets that wait, up to 128, which are these.
+    pub(crate) fn takes(&mut self, octets: &str) -> Result<bool, Fail> {
+        let mut into = [0; 128];
+        let mut end = PipeEnd {
+            pipes: &mut self.pipes,
+            side: Side::Server,
+        };
+        match end.receive(&mut into) {
+            Got::Bytes(count) => are(self.alloc, octets, &into[..count]),
+            Got::End | Got::NotYet | Got::Failed => Ok(false),
+        }
+    }
+
+    pub(crate) fn has_waiting(&self, side: Side, count: &str) -> Result<bool, Fail> {
+        Ok(self.pipes.held(side) as u64 == number(count)?)
+    }
+}
+
+fn is_connected(told: &JobResult, code: &str) -> Result<bool, Fail> {
+    Ok(hex_number(code)? == told.code && matches!(told.job, Job::Connect))
+}
+
+/// A client waits so often, and turns away a second job meanwhile.
+const PATIENCE: &str = "\
+jobs 1 2 8
+patience 2
+room 64
+polls idle
+starts connect
+polls pending
+busy FOUR
+polls 02000000
+closed
+granted none
+polls idle
+waiting 22";
+
+/// The pipes have room for less than a request and an answer have.
+const NARROW: &str = "\
+jobs 1 2 8
+room 16
+starts connect
+polls pending
+takes 0300001611e00000000100c0010ac102
+puts 0300001611d00001000100c0010ac102
+polls pending
+takes 0100c2020102
+puts 0100c2020102 0300001b02f080320300
+polls pending
+takes 0300001902f080320100000001000800
+puts 000001000800000000f000000@000@01
+polls pending
+takes 00f000000@000@01e0
+puts e0
+polls 0
+granted 480";
+
+/// A read in three parts, of which the first is answered before all requests are sent: they have 93 octets, and there
+/// is room for 80.
+const ALL_SENT: &str = "\
+jobs 3
+room 80
+puts CONFIRM 0300001b02f080320300000001000800000000f000000300030040
+starts connect
+polls 0
+takes CONNECT SETUP
+puts 0300004702f0803203000000020002003200000401ff040170 11*46
+starts read 84.1.02.102.0
+polls pending
+waiting 80
+unread 71";
+
+/// The image of function 5, of 38 octets; what announces it, the server's job that asks for it, its piece, the job that
+/// closes its download, and its insertion, with their answers.
+const DOWNLOAD: &str = "\
+IMAGE 70700101050c000500000026 00*22 0002aabb
+ANNOUNCES 0300003102f080320100000002002000001a00000000000000095f30433030303035500d31303030303338303030303032
+ANNOUNCED 0300001402f0803203000000020001000000001a
+ASKS 0300002302f080320100000001001200001b00000000000000095f3043303030303550
+PIECE 0300003f02f0803203000000010002002a00001b00002600fb70700101050c000500000026 00*22 0002aabb
+CLOSES 0300002302f080320100000002001200001c00000000000000095f3043303030303550
+CLOSED 0300001402f0803203000000020001000000001c
+INSERTS 0300002b02f080320100000003001a000028000000000000fd000a01003043303030303550055f494e5345";
+
+/// Nothing goes out before the server asks.
+const WAITS: &str = "\
+jobs 1 2 8
+puts CONFIRM GRANTED_64
+starts connect
+polls 0
+takes CONNECT SETUP
+starts download IMAGE
+polls pending
+takes ANNOUNCES
+puts ANNOUNCED
+polls pending
+busy FOUR
+waiting 0
+puts ASKS
+polls pending
+takes PIECE
+polls pending
+waiting 0
+puts CLOSES
+polls pending
+takes CLOSED INSERTS
+granted 64";
+
+#[test]
+fn a_job_goes_on_by_polls(rt: HostRuntime) -> Result<(), Fail> {
+    assert!(rt; all_hold(rt.alloc(), "", &[PATIENCE, NARROW, ALL_SENT])?);
+    assert!(rt; holds(rt.alloc(), DOWNLOAD, WAITS)?);
+    Ok(())
+}

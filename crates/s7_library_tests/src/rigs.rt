@@ -1,0 +1,257 @@
+// Rigs: the places of reads in the history, and what is drawn and said of a rig.
+ghost use Rattle.std.specs.Prelude.{◌≡◌, ◌<◌, ◌≤◌, ◌*◌, All, length, map, IfOk, ◌∷◌, []};
+ghost use Rattle.std.specs.List.{AllByRecursion};
+ghost use Rattle.s7_header.specs.Negotiation.{most_pdu};
+ghost use Rattle.s7_dialogue.specs.declared.job.Job.TheVariants.{Connect, Disconnect};
+ghost use Rattle.s7_rig.specs.Scripts.{ConnectsFirst};
+
+use s7_area::{AreaKey, Areas};
+use s7_block::Blocks;
+use s7_client::{Config, Counter, Job};
+use s7_item::Item;
+use s7_outer::{Memory, Octets};
+use s7_plant::{Book, MOST_BLOCKS, Request};
+use s7_rig::{RigClient, RigEnd, Schedule, run_rig};
+use s7_script::{Script, read_script};
+use s7_tool_main::{are_good, made_scripts, rig_text};
+use std::alloc::Global;
+use std::test::Fail;
+
+// Data block 1 with so many octets 00.
+fn zeros(alloc: Global, count: usize) -> Result<Areas, Fail> {
+    let key = AreaKey {
+        area: 0x84,
+        number: 1,
+    };
+    let octets = Octets::of_vec(vec![in alloc; 0; count]?);
+    let mut areas = Areas::new();
+    match areas.register(alloc, key, octets) {
+        Ok(()) => Ok(areas),
+        Err(_) => Err(Fail::from("no rig")),
+    }
+}
+
+// The first so many bytes of data block 1.
+fn bytes(count: u16) -> Item {
+    Item {
+        area: 0x84,
+        db: 1,
+        word: 0x02,
+        count,
+        address: 0,
+    }
+}
+
+// A connect, the job, and a disconnect.
+fn around(alloc: Global, job: Job) -> Result<Vec<Job>, Fail>
+    ensures { IfOk result (λ jobs. jobs.items ≡ Connect ∷ job ∷ Disconnect ∷ []) }
+{
+    let mut jobs = Vec::with_capacity(alloc, 3)?;
+    jobs.push_reserved(Job::Connect);
+    jobs.push_reserved(job);
+    jobs.push_reserved(Job::Disconnect);
+    Ok(jobs)
+}
+
+// The end of a rig whose counter was told of the jobs of the first client.
+fn told_rig(
+    alloc: Global,
+    areas: Areas,
+    limit: u64,
+    scripts: Vec<Vec<Job>>,
+    config: Config,
+    schedule: Schedule<'_>,
+) -> Result<RigEnd, Fail>
+    requires some { 1 ≤ limit }
+    requires few { limit ≤ 262144 }
+    requires least_pdu { 64 ≤ config.pdu }
+    requires most_pdu { config.pdu ≤ most_pdu }
+    requires least_jobs { 1 ≤ config.jobs }
+    requires most_jobs { config.jobs ≤ 8 }
+    requires polls { 1 ≤ config.polls }
+    requires clients { 0 < length scripts.items }
+    requires connects { AllByRecursion ConnectsFirst (map (λ s. s.items) scripts.items) }
+    requires few_clients { length scripts.items ≤ 1024 }
+    requires actors { All (λ actor. actor < 2 * length scripts.items) schedule.turns.now }
+{
+    let mut done = Some(Counter::new());
+    match run_rig(alloc, areas, limit, scripts, config, schedule, &mut done) {
+        Ok(end) if is_told(&end, done) => Ok(end),
+        Ok(_) => Err(Fail::from("not told")),
+        Err(_) => Err(Fail::from("no rig")),
+    }
+}
+
+// A client that reads 300 bytes, and one that writes AA to them, with a PDU of 240 octets.
+fn a_reader_and_a_writer(alloc: Global, schedule: Schedule<'_>) -> Result<RigEnd, Fail>
+    requires { All (λ actor. actor < 4) schedule.turns.now }
+{
+    let read = Job::ReadArea { item: bytes(300) };
+    let write = Job::WriteArea {
+        item: bytes(300),
+        octets: Octets::of_vec(vec![in alloc; 0xAA; 300]?),
+    };
+    let mut scripts = Vec::with_capacity(alloc, 2)?;
+    scripts.push_reserved(around(alloc, read)?);
+    scripts.push_reserved(around(alloc, write)?);
+    let config = Config {
+        pdu: 240,
+        polls: 1_000_000,
+        ..Config::new(1, 0, 2)
+    };
+    told_rig(alloc, zeros(alloc, 300)?, 65_536, scripts, config, schedule)
+}
+
+// The counter was told of the jobs of the first client, of which a disconnect was the last, and of no other.
+fn is_told(end: &RigEnd, done: Option<Counter>) -> bool {
+    let (Some(client), Some(counter)) = (end.clients.first(), done) else {
+        return false;
+    };
+    counter.calls() == client.results.len() as u64 && counter.last() == Some((25, 0))
+}
+
+// The results of the first client's read: code 0, octets 00 and then AA, at these places.
+fn reads_between(end: &RigEnd, zeros: usize, places: &[u64]) -> bool {
+    let Some(client) = end.clients.first() else {
+        return false;
+    };
+    let (Some(told), Some(numbers)) = (client.results.get(1), client.places.get(1)) else {
+        return false;
+    };
+    let octets = told.octets.as_slice();
+    told.code == 0
+        && octets.len() == 300
+        && octets.iter().take(zeros).all(|o| *o == 0)
+        && octets.iter().skip(zeros).all(|o| *o == 0xAA)
+        && numbers.as_slice() == places
+}
+
+// The job of the second client has these places.
+fn is_placed(end: &RigEnd, places: &[u64]) -> bool {
+    let Some(client) = end.clients.get(1) else {
+        return false;
+    };
+    let Some(numbers) = client.places.get(1) else {
+        return false;
+    };
+    numbers.as_slice() == places
+}
+
+// The entry of this number is the second client's write of so many bytes of data block 1 at an address.
+fn is_written(end: &RigEnd, number: usize, count: u16, address: u32) -> bool {
+    let Some(entry) = end.book.journal.as_slice().get(number) else {
+        return false;
+    };
+    let item = Item {
+        address,
+        ..bytes(count)
+    };
+    match &entry.ask.request {
+        Request::Write { items, .. } => entry.link == 2 && items.as_slice() == [item].as_slice(),
+        _ => false,
+    }
+}
+
+// The reader's first part comes before the writer's two, and its second one behind them.
+fn a_read_around_a_write(alloc: Global) -> Result<RigEnd, Fail> {
+    let turns = [
+        0, 2, 2, 0, 2, 2, 0, 0, 2, 2, 1, 3, 3, 1, 3, 3, 1, 1, 3, 3, 1, 3, 3, 1, 0, 2, 2, 0,
+    ];
+    let schedule = Schedule {
+        turns: &turns,
+        seed: 0,
+        steps: 0,
+    };
+    a_reader_and_a_writer(alloc, schedule)
+}
+
+// The read was told what stood there before the write in its first 222 octets, and what it left in the others.
+fn stands_at_its_places(end: &RigEnd) -> bool {
+    end.book.journal.len() == 4
+        && reads_between(end, 222, &[0, 3])
+        && is_placed(end, &[1, 2])
+        && is_written(end, 1, 205, 0)
+        && is_written(end, 2, 95, 1_640)
+}
+
+// A read of two parts is told what stood at the places of each: the first part before a write, the
+// second after it.
+#[test]
+fn a_read_stands_at_its_places(rt: HostRuntime) -> Result<(), Fail> {
+    let end = a_read_around_a_write(rt.alloc())?;
+    assert!(rt; stands_at_its_places(&end));
+    Ok(())
+}
+
+#[test]
+fn a_client_may_be_unfinished(rt: HostRuntime) -> Result<(), Fail> {
+    let alloc = rt.alloc();
+    let blocks = Blocks::new(alloc, MOST_BLOCKS)?;
+    let Ok(book) = Book::new(alloc, Areas::new(), blocks, 1, Vec::new(alloc)) else {
+        return Err(Fail::from("no book"));
+    };
+    let mut clients = Vec::new(alloc);
+    clients.push(RigClient {
+        link: 3,
+        results: Vec::new(alloc),
+        places: Vec::new(alloc),
+    })?;
+    let mut numbers = Vec::new(alloc);
+    numbers.push(vec![in alloc; 0; 1]?)?;
+    let end = RigEnd { book, clients };
+    let Ok(text) = rig_text(alloc, numbers.as_slice(), &end) else {
+        return Err(Fail::from("no text"));
+    };
+    assert!(rt; text.as_slice() == b"client 3 unfinished\njournal 0\n".as_slice());
+    assert!(rt; !are_good(numbers.as_slice(), end.clients.as_slice()));
+    Ok(())
+}
+
+/// The first lines of seed 7, but for the octets of a write.
+const FIRST_LINES: &str = "\
+read DB3 byte 1868 675
+readmany MK byte 0 16 ; DB2 byte 2034 24
+read DB2 byte 2213 364
+write DB3 byte 749 ";
+
+fn script_of(alloc: Global) -> Result<Script, Fail> {
+    let mut text = Vec::new(alloc);
+    text.extend_from_slice(FIRST_LINES.as_bytes())?;
+    for _ in 0..323u32 {
+        text.extend_from_slice(b"69")?;
+    }
+    match read_script(alloc, text.as_slice()) {
+        Ok(script) => Ok(script),
+        Err(fault) => Err(Fail::from(fault.line)),
+    }
+}
+
+fn is_same(alloc: Global, one: &Job, other: &Job) -> Result<bool, Fail> {
+    let one = format!(in alloc; "{one:?}")?;
+    let other = format!(in alloc; "{other:?}")?;
+    Ok(one.as_str() == other.as_str())
+}
+
+// Whether the jobs behind the connect begin with those of the script.
+fn begin_so(alloc: Global, jobs: &[Job], script: &Script) -> Result<bool, Fail> {
+    let mut jobs = jobs.iter();
+    let _ = jobs.next().ok_or("no connect")?;
+    for line in script.as_slice() {
+        let job = jobs.next().ok_or("no job")?;
+        if !is_same(alloc, &line.job, job)? {
+            return Ok(false);
+        }
+    }
+    Ok(true)
+}
+
+#[test]
+fn lines_are_drawn(rt: HostRuntime) -> Result<(), Fail> {
+    let scripts = made_scripts(rt.alloc(), 7)?;
+    let script = script_of(rt.alloc())?;
+    assert_eq!(rt; scripts.len(), 4);
+    assert_eq!(rt; scripts[0].len(), 202);
+    assert_eq!(rt; script.as_slice().len(), 4);
+    assert!(rt; begin_so(rt.alloc(), scripts[0].as_slice(), &script)?);
+    Ok(())
+}

@@ -1,0 +1,122 @@
+// Outputs and clocks that a test makes fail, under the objects of the machine.
+use s7_os::{RealLink, StdOut};
+use s7_outer::{Clock as LinkClock, Link, Out, Sent, Tick};
+use std::alloc::Allocator;
+use std::fmt::Display;
+use std::io::{ErrorKind, Input, Lines};
+use std::rt::Clock;
+use std::test::Fail;
+use std::time::Duration;
+use std::{fs, io};
+
+/// A runtime whose clock stands at a moment, or before 1970 where it has none, and whose standard output is a file.
+#[derive(Drop)]
+struct Feigned {
+    rt: HostRuntime,
+    moment: Option<Duration>,
+    output: &'static str,
+}
+
+impl Print for Feigned {
+    fn print<D: Display + Drop>(&self, _value: D) -> io::Result<()> {
+        Err(io::Error::from(ErrorKind::Unsupported))
+    }
+
+    fn println<D: Display + Drop>(&self, _value: D) -> io::Result<()> {
+        Err(io::Error::from(ErrorKind::Unsupported))
+    }
+
+    fn write_all(&self, bytes: &[u8]) -> io::Result<()> {
+        fs::write(&self.rt, self.output, bytes)
+    }
+}
+
+impl Input for Feigned {
+    type Reader = <HostRuntime as Input>::Reader;
+
+    fn read_line<A: Allocator + Clone>(&self, buf: &mut String<A>) -> io::Result<usize> {
+        self.rt.read_line(buf)
+    }
+
+    fn lines<A: Allocator>(&self, alloc: A) -> Lines<<HostRuntime as Input>::Reader, A> {
+        self.rt.lines(alloc)
+    }
+
+    fn reader(&self) -> <HostRuntime as Input>::Reader {
+        self.rt.reader()
+    }
+}
+
+impl Clock for Feigned {
+    fn monotonic(&self) -> io::Result<Duration> {
+        self.rt.monotonic()
+    }
+
+    fn since_1970(&self) -> io::Result<Duration> {
+        self.moment.ok_or(io::Error::from(ErrorKind::InvalidData))
+    }
+}
+
+/// The device that refuses every octet that is written to it.
+const FULL: &str = "/dev/full";
+
+/// A file that takes octets.
+const SCRATCH: &str = "s7_machine_output";
+
+fn a_runtime(
+    rt: &HostRuntime,
+    moment: Option<Duration>,
+    output: &'static str,
+) -> Result<Feigned, Fail> {
+    Ok(Feigned {
+        rt: rt.clone()?,
+        moment,
+        output,
+    })
+}
+
+// The standard output of the process cannot be made to fail in a test. `tools/full-output` runs the programs over it.
+#[test]
+fn an_output_to_a_full_device_fails(rt: HostRuntime) -> Result<(), Fail> {
+    let mut full = StdOut::new(a_runtime(&rt, None, FULL)?);
+    assert!(rt; full.put(b"abc").is_err());
+    assert!(rt; full.put(b"abc").is_err());
+    let mut taken = StdOut::new(a_runtime(&rt, None, SCRATCH)?);
+    assert!(rt; taken.put(b"abc").is_ok());
+    let text = fs::read(&rt, SCRATCH)?;
+    fs::remove_file(&rt, SCRATCH)?;
+    assert!(rt; text.as_slice() == b"abc".as_slice());
+    Ok(())
+}
+
+#[test]
+fn a_standard_link_to_a_full_device_fails(rt: HostRuntime) -> Result<(), Fail> {
+    let mut link = RealLink::standard(rt.alloc(), a_runtime(&rt, None, FULL)?)?;
+    assert!(rt; link.transmit(b"abc") == Sent::Failed);
+    Ok(())
+}
+
+/// Seconds and nanoseconds since 1970, or none before that, and the moment of a link in milliseconds, or none where
+/// its clock fails.
+const MOMENTS: [(Option<(u64, u32)>, Option<u64>); 5] = [
+    (Some((0, 0)), Some(0)),
+    (Some((0, 1_999_999)), Some(1)),
+    (Some((1_709_214_330, 123_999_999)), Some(1_709_214_330_123)),
+    (Some((9_223_372_036_854_775_807, 0)), None),
+    (None, None),
+];
+
+// The machine's clock cannot be set in a test. The clock of a runtime gives an error before 1970.
+#[test]
+fn a_clock_before_1970_fails(rt: HostRuntime) -> Result<(), Fail> {
+    for (since, moment) in MOMENTS {
+        let since = since.map(|(seconds, nanos)| Duration::new(seconds, nanos));
+        let mut link = RealLink::standard(rt.alloc(), a_runtime(&rt, since, FULL)?)?;
+        let wanted = match moment {
+            Some(moment) => Tick::At(moment),
+            None => Tick::Failed,
+        };
+        assert!(rt; link.now() == wanted, "{moment:?}");
+    }
+    Ok(())
+}

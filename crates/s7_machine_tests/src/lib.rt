@@ -1,0 +1,32 @@
+//! Tests over the machine and its threads: the objects over the operating system, links that are served at once, and
+//! the server and the tool as their programs call them, over TCP.
+#![tactic(auto)]
+
+#[cfg(test)]
+mod calls;
+#[cfg(test)]
+mod coming;
+#[cfg(test)]
+mod doors;
+#[cfg(test)]
+mod ended;
+#[cfg(test)]
+mod feigned;
+#[cfg(test)]
+mod files;
+#[cfg(test)]
+mod links;
+#[cfg(test)]
+mod ports;
+#[cfg(test)]
+mod sends;
+#[cfg(test)]
+mod servers;
+#[cfg(test)]
+mod shared;
+#[cfg(test)]
+mod tools;
+#[cfg(test)]
+mod walk;
+#[cfg(test)]
+mod watched;

@@ -1,0 +1,9 @@
+pub mod MemoryLink
+pub mod MemoryOut
+pub mod FailingLink
+pub mod MemoryFiles
+pub mod MemoryDial
+pub mod MemoryDoor
+pub mod HoldGate
+pub mod PipesHeld
+pub mod Pipes

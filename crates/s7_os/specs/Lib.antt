@@ -1,0 +1,5 @@
+pub mod StdOut
+pub mod RealLink
+pub mod StdFiles
+pub mod TcpDial
+pub mod TcpDoor

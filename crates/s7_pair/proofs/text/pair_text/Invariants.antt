@@ -1,7 +1,0 @@
-use Rattle.std.proofs.Common.{◌≡◌, take}
-use Rattle.s7_pair.specs.Text.{events_text}
-use Rattle.s7_pair.proofs.text.pair_text.Given as goal
-
--- the events before this one have their lines
-abbrev pub invariant-loop-event : goal.invariant-loop-event
-invariant-loop-event l = l.text.items ≡ events_text (take l.event-index l.events)

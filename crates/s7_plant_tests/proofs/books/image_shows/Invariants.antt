@@ -1,4 +1,0 @@
-use Rattle.s7_plant_tests.proofs.books.image_shows.Given as goal
-
-abbrev pub ghosts-image_of : goal.ghosts-image_of
-ghosts-image_of a = record { name = a.blank.name; parts = a.blank.parts }

@@ -1,9 +1,0 @@
--- A seat of a hall as a bench shows it.
-use Rattle.s7_turn.specs.declared.machine.Machine.{Ghosts}
-use Rattle.s7_turn.specs.declared.hall.Seat.{Seat}
-use Rattle.s7_turn.specs.Seats.{seen, caller, callers, next}
-use Rattle.s7_plant.specs.declared.request.Ask.{Ask}
-use Rattle.s7_serve.specs.Benches.{SeatTold}
-
-abbrev pub seat_told : {M P : Type 0} {g : Ghosts M Ask P} → Seat M Ask P g → SeatTold
-seat_told s = record { number = caller s; callers = callers s; next = next s; seen = seen s }

@@ -1,6 +1,0 @@
-use Rattle.s7_script.specs.Naming.{naming}
-use Rattle.s7_server.proofs.FileLemmas.{left_by}
-use Rattle.s7_server.proofs.opening.open_book.Goals as goal
-
-pub returns-in-Ok-new_book-clause-changed : goal.returns-in-Ok-new_book-clause-changed
-returns-in-Ok-new_book-clause-changed g c = left_by (naming c.args.asked.areas.now) _ _ c.load_areas.ensures.left

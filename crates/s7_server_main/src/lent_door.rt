@@ -1,0 +1,23 @@
+// A door that was lent.
+ghost use Rattle.s7_server_main.specs.LentDoor.{lent_shown};
+
+use s7_outer::{Arrival, Door, DoorFailed};
+
+/// A door that was lent, as one of its own. It does what the lent one does, and shows which loan that
+/// is, so that whoever lent it knows what became of it.
+#[derive(Drop)]
+pub(crate) struct LentDoor<'a, D> {
+    pub door: &'a mut D,
+}
+
+impl<L, D: Door<L>> Door<L> for LentDoor<'_, D> {
+    ghost shows = { λ d. lent_shown d.door.ghost_name (D.shows d.door.now) };
+
+    fn listen(&mut self, port: u16) -> Result<(), DoorFailed> {
+        self.door.listen(port)
+    }
+
+    fn next(&mut self) -> Arrival<L> {
+        self.door.next()
+    }
+}

@@ -1,0 +1,31 @@
+//! Tests of plants, books, turns and sessions as libraries: calls that no program makes, or whose answers no
+//! program prints.
+//!
+//! Most tests are tables of rows that a plant or a book has to meet, one after another. `plants`, `books`, `tails` and
+//! `requests` say how a row is written, and `fields` how octets are.
+#![tactic(auto)]
+
+#[cfg(test)]
+mod areas;
+#[cfg(test)]
+mod blocks;
+#[cfg(test)]
+mod books;
+#[cfg(test)]
+mod control;
+#[cfg(test)]
+mod fields;
+#[cfg(test)]
+mod halls;
+#[cfg(test)]
+mod images;
+#[cfg(test)]
+mod plants;
+#[cfg(test)]
+mod requests;
+#[cfg(test)]
+mod sessions;
+#[cfg(test)]
+mod tails;
+#[cfg(test)]
+mod turns;

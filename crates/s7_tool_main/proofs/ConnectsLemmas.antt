@@ -1,0 +1,30 @@
+-- The jobs of a script connect first.
+use Rattle.std.proofs.Common.{List, [], ◌∷◌, ◌++◌, subst}
+use Rattle.std.specs.Prelude.{ℕ, map}
+use Rattle.std.specs.List.{AllByRecursion}
+use Rattle.s7_outer.specs.FilesShown.{FilesShown}
+use Rattle.s7_dialogue.specs.declared.job.Job.{Job}
+use Rattle.s7_dialogue.specs.declared.job.Job.TheVariants as job
+use Rattle.s7_rig.specs.Scripts.{IsNoConnect, NoneConnects, ConnectsFirst}
+use Rattle.s7_script.specs.Laws.{KeepsLink, ScriptsKeepLinks}
+use Rattle.s7_script.specs.declared.scripts.script_list.ScriptLine.{ScriptLine}
+use Rattle.s7_tool_main.specs.Run.{job_in, jobs_of}
+use Rattle.s7_tool_main.specs.Scripts.{ReadsScripts}
+
+keeps_only : (j : Job) → KeepsLink j → IsNoConnect j
+keeps_only job.Connect h = absurd h
+keeps_only job.Disconnect h = absurd h
+keeps_only _ h = tt
+
+none_connects : (lines : List ScriptLine) → AllByRecursion (λ (l : ScriptLine). KeepsLink l.job) lines → NoneConnects (map job_in lines ++ job.Disconnect ∷ [])
+none_connects [] h = (tt, tt)
+none_connects (l ∷ lines) h = (keeps_only l.job h.0, none_connects lines h.1)
+
+pub connect_first : ScriptsKeepLinks → (paths : List (List ℕ)) (files : FilesShown) (scripts : List (List ScriptLine)) → ReadsScripts paths files scripts
+    → AllByRecursion ConnectsFirst (map jobs_of scripts)
+unfolding ReadsScripts
+connect_first law [] files [] h = tt
+connect_first law [] files (lines ∷ scripts) h = absurd h
+connect_first law (path ∷ paths) files [] h = absurd h
+connect_first law (path ∷ paths) files (lines ∷ scripts) h =
+    (none_connects lines (subst (AllByRecursion (λ (l : ScriptLine). KeepsLink l.job)) h.0.so (law.keeps h.0.octets h.0.lines h.0.named)), connect_first law paths files scripts h.1)

@@ -1,0 +1,80 @@
+-- What is printed.
+use Rattle.std.specs.Prelude.{◌≡◌, ◌⊎◌, ℕ, Bool, true, false, List, [], ◌∷◌, ◌++◌, codes, Option, IsSomeAnd}
+use Rattle.std.specs.Fmt.{decimal}
+use Rattle.std.specs.Io.KnownBytes.{append_known}
+use Rattle.s7_outer.specs.Count.{Rose}
+use Rattle.s7_outer.specs.Out.{AppendsPrefix}
+use Rattle.s7_outer.specs.OutShown.{OutShown}
+use Rattle.s7_dialogue.specs.declared.job.JobResult.{JobResult}
+use Rattle.s7_script.specs.Printing.{print}
+use Rattle.s7_script.specs.declared.scripts.script_list.ScriptLine.{ScriptLine}
+use Rattle.s7_tool_main.specs.declared.ended.Ended.{Ended}
+use Rattle.s7_tool_main.specs.declared.ended.Ended.TheVariants as ended
+
+-- ---- lines
+
+-- a line ends with LF
+abbrev pub line_end : List ℕ
+line_end = 10 ∷ []
+
+-- THE REPORT of these lines: of each what came of its job, as far as results go
+unfoldable pub report : List ScriptLine → List JobResult → List ℕ
+report [] results = []
+report (next ∷ lines) [] = []
+report (next ∷ lines) (told ∷ results) = print next.line told ++ report lines results
+
+abbrev pub usage_line : List ℕ
+usage_line = codes "usage: s7tool run SCRIPT, rig AREAS SCRIPT..., gen N, partner A [B]" ++ line_end
+
+abbrev pub areas_line : ℕ → List ℕ
+areas_line n = codes "areas line " ++ (decimal n ++ line_end)
+
+abbrev pub script_line : ℕ → List ℕ
+script_line n = codes "script line " ++ (decimal n ++ line_end)
+
+abbrev pub too_long_line : List ℕ
+too_long_line = codes "file too long" ++ line_end
+
+unfoldable pub file_line : List ℕ → List ℕ
+file_line path = codes "file failed " ++ (path ++ line_end)
+
+abbrev pub dial_line : List ℕ
+dial_line = codes "dial failed" ++ line_end
+
+abbrev pub memory_line : List ℕ
+memory_line = codes "memory" ++ line_end
+
+-- ---- what becomes of the output
+
+-- an output gained a text
+abbrev pub Gains : OutShown → OutShown → List ℕ → Type 0
+Gains old new text = new.text ≡ append_known old.text text
+
+-- an output failed, and gained a front of a text
+pub record BreaksOff (old new : OutShown) (text : List ℕ) : Type 0 where
+  pub front : AppendsPrefix old.text new.text text
+  pub failed : Rose old.faults new.faults
+
+-- A LINE WAS PRINTED, or a front of it where the output failed
+abbrev pub Printed : OutShown → OutShown → List ℕ → Type 0
+Printed old new line = Gains old new line ⊎ BreaksOff old new line
+
+-- THE TEXT OF WHAT WAS DONE WAS PRINTED, or a front of it where the output failed, by whether all went well
+abbrev pub PrintsText : List ℕ → Bool → OutShown → OutShown → Ended → Type 0
+PrintsText text good old new ended.Done = Gains old new text × (good ≡ true)
+PrintsText text good old new ended.Jobs = Gains old new text × (good ≡ false)
+PrintsText text good old new ended.Output = BreaksOff old new text
+PrintsText text good old new ended.Refused = ⊥
+PrintsText text good old new ended.File = ⊥
+PrintsText text good old new ended.Dial = ⊥
+PrintsText text good old new ended.Memory = ⊥
+
+-- WHY A FILE WASN'T LOADED was printed: the line for a refusal, where there is one, or that for a file that failed
+abbrev pub TellsFault : Option (List ℕ) → Type 0 → List ℕ → OutShown → OutShown → Ended → Type 0
+TellsFault line failed path old new ended.Refused = IsSomeAnd line (Printed old new)
+TellsFault line failed path old new ended.File = failed × Printed old new (file_line path)
+TellsFault line failed path old new ended.Memory = Printed old new memory_line
+TellsFault line failed path old new ended.Done = ⊥
+TellsFault line failed path old new ended.Jobs = ⊥
+TellsFault line failed path old new ended.Output = ⊥
+TellsFault line failed path old new ended.Dial = ⊥

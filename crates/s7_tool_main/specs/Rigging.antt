@@ -1,0 +1,116 @@
+-- What the command `rig` does.
+use Rattle.std.specs.Prelude.{◌≡◌, ◌⊎◌, ℕ, List, map, Option, Some, None, IsNone, IsSomeAnd, Ok, Err}
+use Rattle.s7_outer.specs.FilesShown.{FilesShown}
+use Rattle.s7_outer.specs.OutShown.{OutShown}
+use Rattle.s7_area.specs.Memory.{Memory}
+use Rattle.s7_client.specs.Completions.{Told}
+use Rattle.s7_dialogue.specs.declared.job.Job.{Job}
+use Rattle.s7_rig.specs.declared.end.RigEnd.{RigEnd}
+use Rattle.s7_rig.specs.Shown.{EndTold, end_told}
+use Rattle.s7_rig.specs.Rigs.{RigRan, ToldWanting}
+use Rattle.s7_script.specs.Naming.{Named, naming, path, block, faulty}
+use Rattle.s7_script.specs.Loading.{NamedGives}
+use Rattle.s7_script.specs.declared.areas.load.LoadFault.{LoadFault}
+use Rattle.s7_script.specs.declared.areas.load.LoadFault.TheVariants as fault
+use Rattle.s7_script.specs.declared.scripts.script_list.ScriptLine.{ScriptLine}
+use Rattle.s7_args.specs.Tool.{RigTold}
+use Rattle.s7_tool_main.specs.declared.ended.Ended.{Ended}
+use Rattle.s7_tool_main.specs.declared.ended.Ended.TheVariants as ended
+use Rattle.s7_tool_main.specs.Asked.{rig_config, turning_of}
+use Rattle.s7_tool_main.specs.Loading.{PathFails, RefusesScript}
+use Rattle.s7_tool_main.specs.Report.{Printed, PrintsText, areas_line, memory_line, too_long_line}
+use Rattle.s7_tool_main.specs.RigText.{are_clients_good, rig_text}
+use Rattle.s7_tool_main.specs.Run.{jobs_of}
+use Rattle.s7_tool_main.specs.Scripts.{ReadsBefore, ReadsScripts}
+
+-- ---- files
+
+-- the line for areas that can't be read; there is none for a file that failed, nor for want of memory
+abbrev pub areas_refusal_line : LoadFault → Option (List ℕ)
+areas_refusal_line (fault.Line n) = Some (areas_line n)
+areas_refusal_line fault.TooLong = Some too_long_line
+areas_refusal_line fault.Failed = None
+areas_refusal_line fault.Memory = None
+
+-- the areas were refused for their first faulty line or their length, and the line for this was printed
+pub record RefusesAreas (named : Named) (files : FilesShown) (printed : List ℕ → Type 0) : Type 0 where
+  pub fault : LoadFault
+  pub line : List ℕ
+  pub refused : NamedGives named files (Err fault)
+  pub line_is : areas_refusal_line fault ≡ Some line
+  pub is_printed : printed line
+
+-- this script is the next: the areas and the scripts before it were read
+pub record ComesTo (told : RigTold) (files : FilesShown) (path : List ℕ) : Type 0 where
+  pub opening : Memory
+  pub opened : NamedGives (naming told.areas) files (Ok opening)
+  pub next : ReadsBefore told.scripts files path
+
+pub record RefusesOneScript (told : RigTold) (files : FilesShown) (printed : List ℕ → Type 0) : Type 0 where
+  pub path : List ℕ
+  pub next : ComesTo told files path
+  pub refused : RefusesScript path files printed
+
+-- A FILE WAS REFUSED: the first, in the order of the words, that can't be read
+abbrev pub RefusesFile : RigTold → FilesShown → (List ℕ → Type 0) → Type 0
+RefusesFile told files printed = RefusesAreas (naming told.areas) files printed ⊎ RefusesOneScript told files printed
+
+abbrev pub IsPathOf : Named → List ℕ → Type 0
+IsPathOf (path p) q = q ≡ p
+IsPathOf (block number octets) q = ⊥
+IsPathOf faulty q = ⊥
+
+-- A FILE FAILED: that of the areas, or the script that was the next
+pub record FailsOneFile (told : RigTold) (old new : FilesShown) (printed : List ℕ → Type 0) : Type 0 where
+  pub path : List ℕ
+  pub named : IsPathOf (naming told.areas) path ⊎ ComesTo told old path
+  pub fails : PathFails path old new printed
+
+-- ---- the rig
+
+-- a rig ran over these areas, with these jobs of each client, as the words have it
+abbrev pub RanJobs : RigTold → Memory → List (List Job) → EndTold → Type 0
+RanJobs told opening jobs end = RigRan opening told.journal (rig_config told.pdu told.jobs) jobs (turning_of told) end
+
+-- memory was wanting for such a rig
+abbrev pub JobsWanting : RigTold → Memory → List (List Job) → Option Told → Option Told → Type 0
+JobsWanting told opening jobs before after =
+    ToldWanting opening told.journal (rig_config told.pdu told.jobs) jobs (turning_of told) before after
+
+-- A RIG RAN over the areas and the scripts that the words name, which are those of the files where that is told, and
+-- its text was printed
+pub record RanRig (told : RigTold) (files : FilesShown) (out out' : OutShown) (end : EndTold)
+    (how : Ended) : Type 0 where
+  pub opening : Memory
+  pub opened : NamedGives (naming told.areas) files (Ok opening)
+  pub scripts : List (List ScriptLine)
+  pub read : ReadsScripts told.scripts files scripts
+  pub ran : RanJobs told opening (map jobs_of scripts) end
+  pub printed : PrintsText (rig_text scripts end) (are_clients_good scripts end.clients) out out' how
+
+-- HOW `rig` ENDED, by the files and the output before and after, and the rig where one ran
+abbrev pub RigEnds : RigTold → FilesShown → FilesShown → OutShown → OutShown → Option RigEnd → Ended → Type 0
+RigEnds told files files' out out' rig ended.Done =
+    IsSomeAnd rig (λ r. RanRig told files out out' (end_told r) ended.Done)
+RigEnds told files files' out out' rig ended.Jobs =
+    IsSomeAnd rig (λ r. RanRig told files out out' (end_told r) ended.Jobs)
+RigEnds told files files' out out' rig ended.Output =
+    IsSomeAnd rig (λ r. RanRig told files out out' (end_told r) ended.Output)
+RigEnds told files files' out out' rig ended.Refused = IsNone rig × RefusesFile told files (Printed out out')
+RigEnds told files files' out out' rig ended.File = IsNone rig × FailsOneFile told files files' (Printed out out')
+RigEnds told files files' out out' rig ended.Memory = IsNone rig × Printed out out' memory_line
+RigEnds told files files' out out' rig ended.Dial = ⊥
+
+-- ---- what a completion was told
+
+-- memory was wanting for a rig over the areas and the scripts that the words name
+pub record BreaksOffRig (told : RigTold) (files : FilesShown) (before after : Option Told) : Type 0 where
+  pub opening : Memory
+  pub opened : NamedGives (naming told.areas) files (Ok opening)
+  pub scripts : List (List ScriptLine)
+  pub read : ReadsScripts told.scripts files scripts
+  pub wanting : JobsWanting told opening (map jobs_of scripts) before after
+
+-- MEMORY WAS WANTING: before a rig was begun, and the completion was told of nothing, or for that rig
+abbrev pub RigWanting : RigTold → FilesShown → Option Told → Option Told → Type 0
+RigWanting told files before after = (after ≡ before) ⊎ BreaksOffRig told files before after

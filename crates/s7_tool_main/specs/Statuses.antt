@@ -1,0 +1,46 @@
+-- The exit statuses of the program, this profile's own.
+use Rattle.std.specs.Prelude.{ℕ}
+use Rattle.s7_tool_main.specs.declared.ended.Ended.{Ended}
+use Rattle.s7_tool_main.specs.declared.ended.Ended.TheVariants as ended
+
+-- all went well
+abbrev pub done : ℕ
+done = 0
+
+-- the words are no command
+abbrev pub usage : ℕ
+usage = 1
+
+-- the script or the areas can't be read
+abbrev pub script : ℕ
+script = 2
+
+-- a file failed
+abbrev pub file : ℕ
+file = 3
+
+-- the dial failed
+abbrev pub dial : ℕ
+dial = 4
+
+-- the output failed
+abbrev pub output : ℕ
+output = 5
+
+-- all jobs were done, and a result's code isn't 0
+abbrev pub jobs : ℕ
+jobs = 6
+
+-- memory was wanting
+abbrev pub memory : ℕ
+memory = 9
+
+-- the status for how it ended
+abbrev pub status_of : Ended → ℕ
+status_of ended.Done = done
+status_of ended.Refused = script
+status_of ended.File = file
+status_of ended.Dial = dial
+status_of ended.Output = output
+status_of ended.Jobs = jobs
+status_of ended.Memory = memory

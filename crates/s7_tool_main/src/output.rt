@@ -1,0 +1,94 @@
+// What is printed, by how it ended.
+ghost use Rattle.std.specs.Prelude.{◌≡◌};
+ghost use Rattle.s7_tool_main.specs.Loading.{refusal_line};
+ghost use Rattle.s7_tool_main.specs.Report.{Printed, PrintsText, TellsFault};
+ghost use Rattle.s7_tool_main.specs.Rigging.{areas_refusal_line};
+
+use crate::ended::Ended;
+use crate::load::LoadFault;
+use crate::scripts::report::{areas_line, file_line, script_line};
+use s7_outer::Out;
+use s7_script::LoadFault as AreasFault;
+use std::alloc::Global;
+
+/// Prints the text of what was done, and says how that ended, by whether all went well.
+pub(crate) fn print_text<O: Out>(text: &[u8], is_good: bool, out: &mut O) -> Ended
+    ensures { PrintsText text.now is_good (O.shows out.old) (O.shows out.new) result }
+{
+    match out.put(text) {
+        Ok(()) if is_good => Ended::Done,
+        Ok(()) => Ended::Jobs,
+        Err(_) => Ended::Output,
+    }
+}
+
+/// Prints why a script wasn't loaded, and says how it ended so.
+pub(crate) fn print_refusal<O: Out>(
+    alloc: Global,
+    fault: LoadFault,
+    path: &str,
+    out: &mut O,
+) -> Ended
+    ensures { TellsFault (refusal_line fault) (fault ≡ LoadFault.Failed) path.now
+        (O.shows out.old) (O.shows out.new) result }
+{
+    match fault {
+        LoadFault::Failed => print_failed(alloc, path, out),
+        LoadFault::TooLong => print_as(Ended::Refused, b"file too long\n", out),
+        LoadFault::Line(number) => match script_line(alloc, number) {
+            Ok(text) => print_as(Ended::Refused, text.as_bytes(), out),
+            Err(_) => print_as(Ended::Memory, b"memory\n", out),
+        },
+        LoadFault::Memory => print_as(Ended::Memory, b"memory\n", out),
+    }
+}
+
+/// Prints why the areas weren't loaded, and says how it ended so.
+pub(crate) fn print_areas_refusal<O: Out>(
+    alloc: Global,
+    fault: AreasFault,
+    path: &str,
+    out: &mut O,
+) -> Ended
+    ensures { TellsFault (areas_refusal_line fault) (fault ≡ AreasFault.Failed) path.now
+        (O.shows out.old) (O.shows out.new) result }
+{
+    match fault {
+        AreasFault::Failed => print_failed(alloc, path, out),
+        AreasFault::TooLong => print_as(Ended::Refused, b"file too long\n", out),
+        AreasFault::Line(number) => match areas_line(alloc, number) {
+            Ok(text) => print_as(Ended::Refused, text.as_bytes(), out),
+            Err(_) => print_as(Ended::Memory, b"memory\n", out),
+        },
+        AreasFault::Memory => print_as(Ended::Memory, b"memory\n", out),
+    }
+}
+
+// Prints that a file failed, and says how it ended so.
+fn print_failed<O: Out>(alloc: Global, path: &str, out: &mut O) -> Ended
+    ensures { TellsFault None (Unit {0}) path.now (O.shows out.old) (O.shows out.new) result }
+{
+    match file_line(alloc, path) {
+        Ok(text) => print_as(Ended::File, text.as_bytes(), out),
+        Err(_) => print_as(Ended::Memory, b"memory\n", out),
+    }
+}
+
+/// Prints the line for how it ended, and says that.
+pub(crate) fn print_as<O: Out>(ended: Ended, line: &[u8], out: &mut O) -> Ended
+    ensures ended { result ≡ ended }
+    ensures line { Printed (O.shows out.old) (O.shows out.new) line.now }
+{
+    print_line(line, out);
+    ended
+}
+
+/// Prints a line, whose failure changes nothing.
+pub fn print_line<O: Out>(line: &[u8], out: &mut O)
+    ensures { Printed (O.shows out.old) (O.shows out.new) line.now }
+{
+    match out.put(line) {
+        Ok(()) => {}
+        Err(_) => {}
+    }
+}

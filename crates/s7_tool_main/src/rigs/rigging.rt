@@ -1,0 +1,188 @@
+// The command that runs scripts together.
+ghost use Rattle.std.specs.Prelude.{◌≡◌, ◌≢◌, ◌≤◌, ◌<◌, ◌*◌, ◌+◌, ◌∷◌, ◌++◌, [], All, IfOk, map, vec_len};
+ghost use Rattle.std.specs.Prelude.{OnErr, is_some, option_map};
+ghost use Rattle.std.specs.List.{AllByRecursion};
+ghost use Rattle.s7_rig.specs.Scripts.{ConnectsFirst};
+ghost use Rattle.s7_client.specs.Completions.{told_of_results};
+ghost use Rattle.s7_rig.specs.Shown.{end_told, first_results};
+ghost use Rattle.s7_args.specs.Shown.{rig_told_of};
+ghost use Rattle.s7_tool_main.specs.Asked.{rig_config};
+ghost use Rattle.s7_tool_main.specs.End.{results_in_rig};
+ghost use Rattle.s7_tool_main.specs.Loading.{KeepsPaths};
+ghost use Rattle.s7_tool_main.specs.RigText.{ArePrintable, are_clients_good, numbers_of, rig_text};
+ghost use Rattle.s7_tool_main.specs.Rigging.{JobsWanting, RanJobs, RigEnds, RigWanting};
+ghost use Rattle.s7_tool_main.specs.Run.{jobs_of};
+
+use crate::ended::Ended;
+use crate::load::load_scripts;
+use crate::output::{print_areas_refusal, print_as, print_refusal, print_text};
+use crate::rigs::rig_report::{are_good, rig_text};
+use s7_area::Areas;
+use s7_args::RigWords;
+use s7_client::{Completion, Config, Job};
+use s7_outer::{Files, Memory, Out};
+use s7_rig::{RigEnd, Schedule, rigs_are_formed, run_rig};
+use s7_script::{Script, ends_print, load_areas, scripts_keep_links};
+use std::alloc::{AllocError, Global};
+
+/// A rig that ran, its text, and whether all went well.
+#[derive(Drop)]
+pub(crate) struct Rigged {
+    pub end: RigEnd,
+    pub text: Vec<u8>,
+    pub is_good: bool,
+}
+
+/// Loads the areas and the scripts that the words name, runs a client for each script, and prints what
+/// came of it. The completion is told of the first client's jobs.
+pub(crate) fn run_rigging<F: Files, O: Out, C: Completion>(
+    alloc: Global,
+    words: RigWords<'_>,
+    files: &mut F,
+    out: &mut O,
+    done: &mut Option<C>,
+) -> (Ended, Option<RigEnd>)
+    ensures ended { RigEnds (rig_told_of words.entry) (F.shows files.old) (F.shows files.new)
+        (O.shows out.old) (O.shows out.new) result.1 result.0 }
+    ensures unfailed { result.0 ≢ Ended.File → result.0 ≢ Ended.Memory → F.shows files.new ≡ F.shows files.old }
+    ensures paths { KeepsPaths (F.shows files.old) (F.shows files.new) }
+    ensures told { result.0 ≢ Ended.Memory → option_map C.told done.new
+        ≡ option_map (λ t. told_of_results t (results_in_rig result.1)) (option_map C.told done.old) }
+    ensures told_wanting { result.0 ≡ Ended.Memory → RigWanting (rig_told_of words.entry) (F.shows files.old)
+        (option_map C.told done.old) (option_map C.told done.new) }
+    ensures handed { is_some done.new ≡ is_some done.old }
+{
+    let areas = match load_areas(alloc, files, words.areas) {
+        Ok(areas) => areas,
+        Err(fault) => return (print_areas_refusal(alloc, fault, words.areas, out), None),
+    };
+    scripts_keep_links();
+    let scripts = match load_scripts(alloc, files, words.scripts.as_slice()) {
+        Ok(scripts) => scripts,
+        Err(refused) => return (print_refusal(alloc, refused.fault, refused.path, out), None),
+    };
+    match run_scripts(alloc, &words, areas, scripts, done) {
+        Ok(rigged) => {
+            let ended = print_text(rigged.text.as_slice(), rigged.is_good, out);
+            (ended, Some(rigged.end))
+        }
+        Err(_) => (print_as(Ended::Memory, b"memory\n", out), None),
+    }
+}
+
+// Runs these scripts on these areas, and makes the text of what came of it.
+fn run_scripts<C: Completion>(
+    alloc: Global,
+    words: &RigWords<'_>,
+    areas: Areas,
+    scripts: Vec<Script>,
+    done: &mut Option<C>,
+) -> Result<Rigged, Memory>
+    requires len { vec_len scripts ≡ vec_len words.now.scripts }
+    requires connects { AllByRecursion ConnectsFirst (map jobs_of scripts.items) }
+    ensures ran { IfOk result (λ r.
+        RanJobs (rig_told_of words.now) areas (map jobs_of scripts.items) (end_told r.end)) }
+    ensures text { IfOk result (λ r. r.text.items ≡ rig_text scripts.items (end_told r.end)) }
+    ensures good { IfOk result (λ r. r.is_good ≡ are_clients_good scripts.items (end_told r.end).clients) }
+    ensures told { IfOk result (λ r. option_map C.told done.new
+        ≡ option_map (λ t. told_of_results t (first_results (end_told r.end))) (option_map C.told done.old)) }
+    ensures told_wanting { OnErr result (JobsWanting (rig_told_of words.now) areas (map jobs_of scripts.items)
+        (option_map C.told done.old) (option_map C.told done.new)) }
+    ensures handed { is_some done.new ≡ is_some done.old }
+{
+    let numbers = all_numbers(alloc, scripts.as_slice())?;
+    let jobs = all_jobs(alloc, scripts)?;
+    let end = run_jobs(alloc, words, areas, jobs, done)?;
+    let text = rig_text(alloc, numbers.as_slice(), &end)?;
+    let is_good = are_good(numbers.as_slice(), end.clients.as_slice());
+    Ok(Rigged { end, text, is_good })
+}
+
+// Runs these jobs on these areas.
+fn run_jobs<C: Completion>(
+    alloc: Global,
+    words: &RigWords<'_>,
+    areas: Areas,
+    jobs: Vec<Vec<Job>>,
+    done: &mut Option<C>,
+) -> Result<RigEnd, Memory>
+    requires len { vec_len jobs ≡ vec_len words.now.scripts }
+    requires connects { AllByRecursion ConnectsFirst (map (λ s. s.items) jobs.items) }
+    ensures ran { IfOk result (λ end.
+        RanJobs (rig_told_of words.now) areas (map (λ s. s.items) jobs.items) (end_told end)) }
+    ensures printable { IfOk result (λ end. All ArePrintable (end_told end).clients) }
+    ensures told { IfOk result (λ end. option_map C.told done.new
+        ≡ option_map (λ t. told_of_results t (first_results (end_told end))) (option_map C.told done.old)) }
+    ensures told_wanting { OnErr result (JobsWanting (rig_told_of words.now) areas (map (λ s. s.items) jobs.items)
+        (option_map C.told done.old) (option_map C.told done.new)) }
+    ensures handed { is_some done.new ≡ is_some done.old }
+{
+    ends_print();
+    rigs_are_formed();
+    let schedule = Schedule {
+        turns: words.turns.as_slice(),
+        seed: words.seed,
+        steps: words.steps,
+    };
+    let config = rig_config(words.pdu, words.jobs);
+    run_rig(alloc, areas, words.journal, jobs, config, schedule, done)
+}
+
+/// How the clients connect.
+pub(crate) fn rig_config(pdu: u16, jobs: u16) -> Config
+    ensures { result ≡ rig_config pdu jobs }
+{
+    Config {
+        pdu,
+        jobs,
+        polls: 1_000_000,
+        ..Config::new(1, 0, 2)
+    }
+}
+
+// The numbers of the lines of each script, before which the connect has 0.
+fn all_numbers(alloc: Global, scripts: &[Script]) -> Result<Vec<Vec<u32>>, AllocError>
+    ensures { IfOk result (λ all. map (λ v. v.items) all.items ≡ map numbers_of scripts.now) }
+{
+    let mut all = Vec::new(alloc);
+    for script in scripts {
+        all.push(numbers_of(alloc, script)?)?;
+    }
+    Ok(all)
+}
+
+fn numbers_of(alloc: Global, script: &Script) -> Result<Vec<u32>, AllocError>
+    ensures { IfOk result (λ numbers. numbers.items ≡ numbers_of script.now) }
+{
+    let mut numbers = Vec::new(alloc);
+    numbers.push(0)?;
+    for next in script.as_slice() {
+        numbers.push(next.line)?;
+    }
+    Ok(numbers)
+}
+
+// The jobs of each client.
+fn all_jobs(alloc: Global, scripts: Vec<Script>) -> Result<Vec<Vec<Job>>, AllocError>
+    ensures jobs { IfOk result (λ all. map (λ v. v.items) all.items ≡ map jobs_of scripts.items) }
+    ensures len { IfOk result (λ all. vec_len all ≡ vec_len scripts) }
+{
+    let mut all = Vec::new(alloc);
+    for script in scripts {
+        all.push(jobs_of(alloc, script)?)?;
+    }
+    Ok(all)
+}
+
+// A connect, the jobs of a script, and a disconnect.
+fn jobs_of(alloc: Global, script: Script) -> Result<Vec<Job>, AllocError>
+    ensures { IfOk result (λ jobs. jobs.items ≡ jobs_of script) }
+{
+    let mut jobs = Vec::new(alloc);
+    jobs.push(Job::Connect)?;
+    for next in script.into_vec() {
+        jobs.push(next.job)?;
+    }
+    jobs.push(Job::Disconnect)?;
+    Ok(jobs)
+}

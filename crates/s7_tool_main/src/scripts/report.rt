@@ -1,0 +1,26 @@
+// The lines that tell why nothing was run.
+ghost use Rattle.std.specs.Prelude.{◌≡◌, IfOk, string_bytes};
+ghost use Rattle.s7_tool_main.specs.Report.{areas_line, file_line, script_line};
+
+use std::alloc::{AllocError, Global};
+
+/// The line for a script whose line of this number is faulty.
+pub fn script_line(alloc: Global, number: u32) -> Result<String, AllocError>
+    ensures { IfOk result (λ text. string_bytes text ≡ script_line number) }
+{
+    format!(in alloc; "script line {number}\n")
+}
+
+/// The line for areas whose line of this number is faulty.
+pub fn areas_line(alloc: Global, number: u32) -> Result<String, AllocError>
+    ensures { IfOk result (λ text. string_bytes text ≡ areas_line number) }
+{
+    format!(in alloc; "areas line {number}\n")
+}
+
+/// The line for a file that failed.
+pub fn file_line(alloc: Global, path: &str) -> Result<String, AllocError>
+    ensures { IfOk result (λ text. string_bytes text ≡ file_line path.now) }
+{
+    format!(in alloc; "file failed {path}\n")
+}

@@ -1,0 +1,220 @@
+// The whole of what the program does, over files, a dial and an output that are handed in.
+ghost use Rattle.std.specs.Prelude.{◌≡◌, ◌≢◌, ◌⊎◌, IsNone, IsSome, None, is_some, option_map};
+ghost use Rattle.s7_client.specs.Completions.{told_of_results};
+ghost use Rattle.s7_outer.specs.Count.{Rose, RoseExactly};
+ghost use Rattle.s7_outer.specs.Dial.{NoHostFell};
+ghost use Rattle.s7_tool_main.specs.Asked.{command_of};
+ghost use Rattle.s7_tool_main.specs.End.{CarriesOut, DialFails, FileFails, IsUnrun, LacksMemory, LeavesOnly};
+ghost use Rattle.s7_tool_main.specs.End.{HeardWanting, ReadsNone, Refuses, heard};
+ghost use Rattle.s7_tool_main.specs.Loading.{KeepsPaths};
+ghost use Rattle.s7_tool_main.specs.Report.{Printed, usage_line};
+ghost use Rattle.s7_tool_main.specs.Statuses as status;
+
+pub use crate::ended::RunEnd;
+use crate::ended::{Ended, ToolEnd};
+use crate::made::gen_run::run_gen;
+use crate::output::print_line;
+use crate::rigs::rigging::run_rigging;
+use crate::scripts::partner_run::run_partner;
+use crate::scripts::script_run::run_script;
+use s7_args::{ToolWords, read_tool_words};
+use s7_client::Completion;
+use s7_outer::{Dial, Files, Link, Out};
+use std::alloc::Global;
+
+/// All went well.
+pub const DONE: u8 = 0;
+
+/// The words are no command.
+pub const USAGE: u8 = 1;
+
+/// The script or the areas can't be read.
+pub const SCRIPT: u8 = 2;
+
+/// A file failed.
+pub const FILE: u8 = 3;
+
+/// The dial failed.
+pub const DIAL: u8 = 4;
+
+/// The output failed.
+pub const OUTPUT: u8 = 5;
+
+/// All jobs were done, and a result's code isn't 0.
+pub const JOBS: u8 = 6;
+
+/// Memory was wanting.
+pub const MEMORY: u8 = 9;
+
+/// Reads the words, and carries out their command.
+///
+/// `run` reads the script, dials the controller, and carries out a connect, the jobs of the script in
+/// order, and a disconnect. Each result but the disconnect's is printed as soon as its job is done, the
+/// connect's as that of line 0. `rig` reads the areas and then the scripts in order, and runs a client
+/// for each script, with a connect before and a disconnect after it, on one book of these areas. What
+/// came of it is printed in the end: of each client its results but the disconnect's, and a line where
+/// not all of its jobs were done; and then the journal's length. `gen` makes areas and four scripts from
+/// its number, and runs them as `rig` does. It prints of each client how many results but the disconnect's
+/// it has, how many of them have a code other than 0, and how many octets they have; and then the
+/// journal's length, and the sum of the octets that the areas have in the end. `partner` reads the sends
+/// files in order. With two it runs two partners in memory, and prints what they told in the end; with one it
+/// dials, and runs the active partner over the link, each of whose news is printed as it comes.
+///
+/// The status is 1 where the words are no command; 2 where a script, a sends file or the areas can't be read: a
+/// faulty line, or more than 67,108,864 octets; 3 where a file that the words name failed; 4 where the dial
+/// failed; 5 where the output failed at a result or a news, which ends a run, or at the text of a rig or of two
+/// partners; 6 where a result's code isn't 0, a client of a rig isn't finished, or a block of a partner wasn't
+/// acknowledged; 9 where memory was wanting, which may come in the place of 1 to 4 too; and else 0. The first file that
+/// can't be read decides. For 1 to 4 and 9 one line is printed, with 9 after what was printed before, and its failure
+/// changes nothing.
+///
+/// No path changes. A run is there exactly where a link was dialled, by one call. With status 0 or 6 it has the
+/// result of each job, and with 5 or 9 those of the jobs that were done. Where none is there the dial is
+/// as it was, but for status 4. A rig is there exactly for `rig` and `gen` with status 0, 5 or 6; these
+/// dial nothing, `gen` reads no file, and a run of `partner` has no results.
+///
+/// The completion is handed back. It was told of each job of `run`, or of the first client of `rig` or `gen`, when
+/// the job was done, once, in order, and of nothing else: with 9 of a rig of those that a front of it did, or of none.
+pub fn tool_main<F: Files, L: Link + Drop, K: Dial<L>, O: Out, C: Completion>(
+    alloc: Global,
+    words: &[&str],
+    files: &mut F,
+    dial: &mut K,
+    out: &mut O,
+    done: Option<C>,
+) -> ToolEnd<L, C>
+    // The status.
+    ensures statuses { (result.status ≡ status.done) ⊎ (result.status ≡ status.usage)
+        ⊎ (result.status ≡ status.script) ⊎ (result.status ≡ status.file) ⊎ (result.status ≡ status.dial)
+        ⊎ (result.status ≡ status.output) ⊎ (result.status ≡ status.jobs) ⊎ (result.status ≡ status.memory) }
+    ensures usage { result.status ≡ status.usage → command_of words.now ≡ None }
+    ensures usage_words { command_of words.now ≡ None
+        → (result.status ≡ status.usage) ⊎ (result.status ≡ status.memory) }
+    ensures refused { result.status ≡ status.script
+        → Refuses (command_of words.now) (F.shows files.old) (Printed (O.shows out.old) (O.shows out.new)) }
+    ensures file_failed { result.status ≡ status.file → FileFails (command_of words.now)
+        (F.shows files.old) (F.shows files.new) (Printed (O.shows out.old) (O.shows out.new)) }
+    ensures dial_failed { result.status ≡ status.dial → DialFails (command_of words.now) (F.shows files.old)
+        (K.shows dial.old) (K.shows dial.new) (Printed (O.shows out.old) (O.shows out.new)) }
+    ensures output_failed { result.status ≡ status.output → Rose (O.shows out.old).faults (O.shows out.new).faults }
+
+    // What was done: all of it, with every result good or not, or a part.
+    ensures done { result.status ≡ status.done → CarriesOut L.shows (command_of words.now)
+        (F.shows files.old) (K.shows dial.old) (O.shows out.old) (O.shows out.new) result Ended.Done }
+    ensures jobs { result.status ≡ status.jobs → CarriesOut L.shows (command_of words.now)
+        (F.shows files.old) (K.shows dial.old) (O.shows out.old) (O.shows out.new) result Ended.Jobs }
+    ensures broken_off { result.status ≡ status.output → CarriesOut L.shows (command_of words.now)
+        (F.shows files.old) (K.shows dial.old) (O.shows out.old) (O.shows out.new) result Ended.Output }
+    ensures wanting { result.status ≡ status.memory → LacksMemory L.shows (command_of words.now)
+        (F.shows files.old) (K.shows dial.old) (O.shows out.old) (O.shows out.new) result }
+
+    // What is left of it.
+    ensures left { LeavesOnly (command_of words.now) result }
+    ensures unrun { (result.status ≡ status.usage) ⊎ (result.status ≡ status.script)
+        ⊎ (result.status ≡ status.file) ⊎ (result.status ≡ status.dial) → IsUnrun result }
+
+    // What else was printed.
+    ensures usage_line { result.status ≡ status.usage → Printed (O.shows out.old) (O.shows out.new) usage_line }
+
+    // No path changes, a call on a path failed only where the status says so or memory ran out, and then one, and nothing
+    // is dialled but for a run, and that once.
+    ensures paths { KeepsPaths (F.shows files.old) (F.shows files.new) }
+    ensures unfailed { result.status ≢ status.file → result.status ≢ status.memory
+        → F.shows files.new ≡ F.shows files.old }
+    ensures unread { ReadsNone (command_of words.now) → F.shows files.new ≡ F.shows files.old }
+    ensures dial_faults { NoHostFell (K.shows dial.old).faults (K.shows dial.new).faults }
+    ensures undialled { IsNone result.run → result.status ≢ status.dial → dial.new ≡ dial.old }
+    ensures dialled_once { IsSome result.run ⊎ (result.status ≡ status.dial)
+        → RoseExactly 1 (K.shows dial.old).calls (K.shows dial.new).calls }
+    ensures undropped { result.status ≡ status.dial → (K.shows dial.new).next ≡ (K.shows dial.old).next }
+
+    // The completion comes back, told of the results that are left. A rig that memory was wanting for leaves none, and
+    // it was told of those that there were.
+    ensures handed_back { is_some result.done ≡ is_some done }
+    ensures told { (result.status ≢ status.memory) ⊎ IsSome result.run → option_map C.told result.done
+        ≡ option_map (λ t. told_of_results t (heard result)) (option_map C.told done) }
+    ensures told_wanting { result.status ≡ status.memory → IsNone result.run → HeardWanting (command_of words.now)
+        (F.shows files.old) (option_map C.told done) (option_map C.told result.done) }
+{
+    let mut done = done;
+    match read_tool_words(alloc, words) {
+        Ok(Some(ToolWords::Run(words))) => {
+            let (ended, run) = run_script(alloc, words, files, dial, out, &mut done);
+            ToolEnd {
+                status: status_of(ended),
+                rig: None,
+                run,
+                done,
+            }
+        }
+        Ok(Some(ToolWords::Rig(words))) => {
+            let (ended, rig) = run_rigging(alloc, words, files, out, &mut done);
+            ToolEnd {
+                status: status_of(ended),
+                rig,
+                run: None,
+                done,
+            }
+        }
+        Ok(Some(ToolWords::Gen(seed))) => {
+            let (ended, rig) = run_gen(alloc, seed, out, &mut done);
+            ToolEnd {
+                status: status_of(ended),
+                rig,
+                run: None,
+                done,
+            }
+        }
+        Ok(Some(ToolWords::Partner(words))) => {
+            let (ended, run) = run_partner(alloc, words, files, dial, out);
+            ToolEnd {
+                status: status_of(ended),
+                rig: None,
+                run,
+                done,
+            }
+        }
+        Ok(None) => unrun(
+            USAGE,
+            b"usage: s7tool run SCRIPT, rig AREAS SCRIPT..., gen N, partner A [B]\n",
+            out,
+            done,
+        ),
+        Err(_) => unrun(MEMORY, b"memory\n", out, done),
+    }
+}
+
+fn status_of(ended: Ended) -> u8
+    ensures { result ≡ status.status_of ended }
+{
+    match ended {
+        Ended::Done => DONE,
+        Ended::Refused => SCRIPT,
+        Ended::File => FILE,
+        Ended::Dial => DIAL,
+        Ended::Output => OUTPUT,
+        Ended::Jobs => JOBS,
+        Ended::Memory => MEMORY,
+    }
+}
+
+// The end where the words name nothing to be run: one line is printed, and its failure changes nothing.
+fn unrun<L: Link + Drop, O: Out, C>(
+    status: u8,
+    line: &[u8],
+    out: &mut O,
+    done: Option<C>,
+) -> ToolEnd<L, C>
+    ensures status { result.status ≡ status }
+    ensures unrun { IsUnrun result }
+    ensures done { result.done ≡ done }
+    ensures line { Printed (O.shows out.old) (O.shows out.new) line.now }
+{
+    print_line(line, out);
+    ToolEnd {
+        status,
+        rig: None,
+        run: None,
+        done,
+    }
+}
