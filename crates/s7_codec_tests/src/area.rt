@@ -21,6 +21,14 @@ fn key(area: u8, number: u16) -> AreaKey {
     AreaKey { area, number }
 }
 
+/// An item: the area, the data block, the word, the count and the address.
+type Place = (u8, u16, u8, u16, u32);
+
+fn item_at(place: Place) -> Item {
+    let (area, db, word, count, address) = place;
+    item(area, db, word, count, address)
+}
+
 fn item(area: u8, db: u16, word: u8, count: u16, address: u32) -> Item {
     Item {
         area,
@@ -66,7 +74,7 @@ fn codes(areas: &mut Areas, right: bool, item: &Item) -> (u8, u8) {
     (read, areas.write(right, item, &[0x55]))
 }
 
-/// A read of the item gives this code and these octets, of which there are at most eight.
+/// Whether a read of the item gives this code and these octets, of which there are at most eight.
 fn reads(areas: &Areas, item: &Item, code: u8, octets: &[u8]) -> bool {
     let mut into = [0xEE; 8];
     if item.octet_count() > into.len() {
@@ -76,112 +84,131 @@ fn reads(areas: &Areas, item: &Item, code: u8, octets: &[u8]) -> bool {
     answer.code == code && answer.len == octets.len() && into.starts_with(octets)
 }
 
+/// Items, the codes of their reads, and the octets read.
+const READS: &[(Place, u8, &[u8])] = &[
+    ((0x84, 1, 0x02, 2, 0x10), 0xFF, &[0x33, 0x44]),
+    ((0x84, 1, 0x02, 2, 0x17), 0xFF, &[0x33, 0x44]),
+    ((0x84, 1, 0x06, 1, 0), 0xFF, &[0x11, 0x22, 0x33, 0x44]),
+    ((0x84, 1, 0x02, 2, 0x18), 0x05, &[]),
+    ((0x84, 2, 0x02, 1, 0), 0x0A, &[]),
+    ((0x84, 1, 0x02, 0, 0), 0x05, &[]),
+    ((0x84, 1, 0x09, 1, 0), 0x06, &[]),
+    ((0x84, 1, 0x01, 2, 0), 0x06, &[]),
+    ((0x1C, 0, 0x02, 1, 0), 0x06, &[]),
+    ((0x1C, 7, 0x1C, 1, 1), 0xFF, &[0x00, 0x02]),
+    ((0x84, 1, 0x01, 1, 4), 0xFF, &[0x01]),
+    ((0x84, 1, 0x01, 1, 5), 0xFF, &[0x00]),
+];
+
 #[test]
-fn items_are_read(rt: HostRuntime) -> Result<(), Fail> {
-    let areas = two_areas(rt.alloc())?;
-    let rows: [(Item, u8, &[u8]); 12] = [
-        (item(0x84, 1, 0x02, 2, 0x10), 0xFF, &[0x33, 0x44]),
-        (item(0x84, 1, 0x02, 2, 0x17), 0xFF, &[0x33, 0x44]),
-        (item(0x84, 1, 0x06, 1, 0), 0xFF, &[0x11, 0x22, 0x33, 0x44]),
-        (item(0x84, 1, 0x02, 2, 0x18), 0x05, &[]),
-        (item(0x84, 2, 0x02, 1, 0), 0x0A, &[]),
-        (item(0x84, 1, 0x02, 0, 0), 0x05, &[]),
-        (item(0x84, 1, 0x09, 1, 0), 0x06, &[]),
-        (item(0x84, 1, 0x01, 2, 0), 0x06, &[]),
-        (item(0x1C, 0, 0x02, 1, 0), 0x06, &[]),
-        (item(0x1C, 7, 0x1C, 1, 1), 0xFF, &[0x00, 0x02]),
-        (item(0x84, 1, 0x01, 1, 4), 0xFF, &[0x01]),
-        (item(0x84, 1, 0x01, 1, 5), 0xFF, &[0x00]),
-    ];
-    for (item, code, octets) in rows {
-        assert!(rt; reads(&areas, &item, code, octets), "{item:?}");
+fn items_are_read(rt: HostRuntime) {
+    let areas = two_areas(rt.alloc()).expect(&rt, "there is memory");
+    for &(place, code, octets) in READS {
+        assert!(rt; reads(&areas, &item_at(place), code, octets));
     }
-    Ok(())
+}
+
+/// Items, the octets written to them, the codes, and the octets of data block 1 then.
+const WRITES: &[(Place, &[u8], u8, &[u8])] = &[
+    (
+        (0x84, 1, 0x02, 1, 0),
+        &[0xAA],
+        0xFF,
+        &[0xAA, 0x22, 0x33, 0x44],
+    ),
+    (
+        (0x84, 1, 0x02, 1, 0x20),
+        &[0xBB],
+        0x05,
+        &[0xAA, 0x22, 0x33, 0x44],
+    ),
+    (
+        (0x84, 1, 0x02, 1, 0x18),
+        &[0xCC],
+        0xFF,
+        &[0xAA, 0x22, 0x33, 0xCC],
+    ),
+    (
+        (0x84, 1, 0x02, 1, 0x18),
+        &[1, 2],
+        0x07,
+        &[0xAA, 0x22, 0x33, 0xCC],
+    ),
+    (
+        (0x84, 1, 0x01, 1, 2),
+        &[0x80],
+        0xFF,
+        &[0xAE, 0x22, 0x33, 0xCC],
+    ),
+    (
+        (0x84, 1, 0x01, 1, 7),
+        &[0x00],
+        0xFF,
+        &[0x2E, 0x22, 0x33, 0xCC],
+    ),
+    (
+        (0x1D, 0, 0x1D, 1, 0),
+        &[0, 1],
+        0x0A,
+        &[0x2E, 0x22, 0x33, 0xCC],
+    ),
+];
+
+fn has_octets(areas: &Areas, key: AreaKey, octets: Option<&[u8]>) -> bool {
+    areas.octets_of(key) == octets
+}
+
+fn writes(areas: &mut Areas, place: Place, octets: &[u8], code: u8) -> bool {
+    areas.write(true, &item_at(place), octets) == code
 }
 
 #[test]
-fn items_are_written(rt: HostRuntime) -> Result<(), Fail> {
-    let mut areas = two_areas(rt.alloc())?;
-    let rows: [(Item, &[u8], u8, &[u8]); 7] = [
-        (
-            item(0x84, 1, 0x02, 1, 0),
-            &[0xAA],
-            0xFF,
-            &[0xAA, 0x22, 0x33, 0x44],
-        ),
-        (
-            item(0x84, 1, 0x02, 1, 0x20),
-            &[0xBB],
-            0x05,
-            &[0xAA, 0x22, 0x33, 0x44],
-        ),
-        (
-            item(0x84, 1, 0x02, 1, 0x18),
-            &[0xCC],
-            0xFF,
-            &[0xAA, 0x22, 0x33, 0xCC],
-        ),
-        (
-            item(0x84, 1, 0x02, 1, 0x18),
-            &[1, 2],
-            0x07,
-            &[0xAA, 0x22, 0x33, 0xCC],
-        ),
-        (
-            item(0x84, 1, 0x01, 1, 2),
-            &[0x80],
-            0xFF,
-            &[0xAE, 0x22, 0x33, 0xCC],
-        ),
-        (
-            item(0x84, 1, 0x01, 1, 7),
-            &[0x00],
-            0xFF,
-            &[0x2E, 0x22, 0x33, 0xCC],
-        ),
-        (
-            item(0x1D, 0, 0x1D, 1, 0),
-            &[0, 1],
-            0x0A,
-            &[0x2E, 0x22, 0x33, 0xCC],
-        ),
-    ];
-    for (item, octets, code, left) in rows {
-        assert_eq!(rt; areas.write(true, &item, octets), code, "{item:?}");
-        assert!(rt; areas.octets_of(DB1) == Some(left), "{item:?}");
+fn items_are_written(rt: HostRuntime) {
+    let mut areas = two_areas(rt.alloc()).expect(&rt, "there is memory");
+    for &(place, octets, code, left) in WRITES {
+        assert!(rt; writes(&mut areas, place, octets, code) && has_octets(&areas, DB1, Some(left)));
     }
-    Ok(())
+}
+
+const GOOD: Place = (0x84, 1, 0x02, 1, 0);
+
+const BAD: Place = (0x84, 1, 0x09, 1, 0);
+
+/// Levels of guards, whether the right to pass them is there, items, and the codes of a read and of a write.
+const GUARDS: &[(u8, bool, Place, (u8, u8))] = &[
+    (1, false, GOOD, (0xFF, 0xFF)),
+    (2, false, GOOD, (0xFF, 0x03)),
+    (2, false, BAD, (0x06, 0x03)),
+    (2, true, GOOD, (0xFF, 0xFF)),
+    (3, false, GOOD, (0x03, 0x03)),
+    (3, false, BAD, (0x03, 0x03)),
+    (3, true, GOOD, (0xFF, 0xFF)),
+    (3, true, BAD, (0x06, 0x06)),
+];
+
+/// Whether areas with the guard, and a copy of them, answer so.
+fn guards(
+    alloc: Global,
+    level: u8,
+    right: bool,
+    item: &Item,
+    answers: (u8, u8),
+) -> Result<bool, Memory> {
+    let mut areas = two_areas(alloc)?;
+    areas.set_guard(guard(level));
+    let mut copy = areas.copy(alloc)?;
+    Ok(
+        copy.guard() == guard(level)
+            && codes(&mut areas, right, item) == answers
+            && codes(&mut copy, right, item) == answers,
+    )
 }
 
 #[test]
-fn guards_bar_items(rt: HostRuntime) -> Result<(), Fail> {
-    let good = item(0x84, 1, 0x02, 1, 0);
-    let bad = item(0x84, 1, 0x09, 1, 0);
-    let rows = [
-        (1, false, good, (0xFF, 0xFF)),
-        (2, false, good, (0xFF, 0x03)),
-        (2, false, bad, (0x06, 0x03)),
-        (2, true, good, (0xFF, 0xFF)),
-        (3, false, good, (0x03, 0x03)),
-        (3, false, bad, (0x03, 0x03)),
-        (3, true, good, (0xFF, 0xFF)),
-        (3, true, bad, (0x06, 0x06)),
-    ];
-    for (level, right, item, answers) in rows {
-        let mut areas = two_areas(rt.alloc())?;
-        areas.set_guard(guard(level));
-        let mut copy = areas.copy(rt.alloc())?;
-        assert!(rt; copy.guard() == guard(level));
-        assert!(rt;
-            codes(&mut areas, right, &item) == answers,
-            "{level} {right} {item:?}"
-        );
-        assert!(rt;
-            codes(&mut copy, right, &item) == answers,
-            "{level} {right} {item:?}"
-        );
+fn guards_bar_items(rt: HostRuntime) {
+    for &(level, right, place, answers) in GUARDS {
+        assert!(rt; guards(rt.alloc(), level, right, &item_at(place), answers) == Ok(true));
     }
-    Ok(())
 }
 
 #[test]
@@ -198,56 +225,85 @@ fn areas_take_over_others(rt: HostRuntime) -> Result<(), Fail> {
     Ok(())
 }
 
-#[test]
-fn areas_are_registered(rt: HostRuntime) -> Result<(), Fail> {
-    let mut areas = two_areas(rt.alloc())?;
-    let rows = [
-        (key(0x84, 0), 4, RegisterFault::Key, 0x0050_0000),
-        (key(0x83, 1), 4, RegisterFault::Key, 0x0050_0000),
-        (key(0x80, 0), 4, RegisterFault::Key, 0x0050_0000),
-        (DB1, 0, RegisterFault::Size, 0x0050_0000),
-        (key(0x84, 2), 2_097_153, RegisterFault::Size, 0x0050_0000),
-        (key(0x1D, 0), 3, RegisterFault::Size, 0x0050_0000),
-        (DB1, 4, RegisterFault::Exists, 0x0030_0000),
-        (COUNTERS, 2, RegisterFault::Exists, 0x0030_0000),
-    ];
-    for (key, len, fault, code) in rows {
-        let octets = Octets::of_vec(vec![in rt.alloc(); 7; len]?);
-        let Err((refused, back)) = areas.register(rt.alloc(), key, octets) else {
-            return Err(Fail::from("registered"));
-        };
-        assert!(rt; refused == fault && refused.code() == code && back.as_slice().len() == len);
+/// Whether an area of so many octets is registered, or refused by this fault with its octets handed back.
+fn registers(
+    alloc: Global,
+    areas: &mut Areas,
+    key: AreaKey,
+    len: usize,
+    wanted: Result<(), RegisterFault>,
+) -> Result<bool, Memory> {
+    let octets = Octets::of_vec(vec![in alloc; 7; len]?);
+    match areas.register(alloc, key, octets) {
+        Ok(()) => Ok(wanted == Ok(())),
+        Err((fault, back)) => Ok(wanted == Err(fault) && back.as_slice().len() == len),
     }
-    let most = Octets::of_vec(vec![in rt.alloc(); 7; 2_097_152]?);
-    assert!(rt; areas.register(rt.alloc(), key(0x84, 3), most).is_ok());
-    assert!(rt; areas.unregister(key(0x84, 9)).is_err());
-    assert!(rt; areas.db_numbers().count() == 2);
-    let copy = areas.copy(rt.alloc())?;
-    let Ok(octets) = areas.unregister(DB1) else {
-        return Err(Fail::from("not registered"));
-    };
-    assert!(rt; octets.as_slice() == [0x11, 0x22, 0x33, 0x44].as_slice());
-    assert!(rt; areas.octets_of(DB1).is_none() && copy.octets_of(DB1).is_some());
-    Ok(())
+}
+
+/// Areas that can't be registered: the key, the length, the fault and its code.
+const REFUSED: &[(u8, u16, usize, RegisterFault, u32)] = &[
+    (0x84, 0, 4, RegisterFault::Key, 0x0050_0000),
+    (0x83, 1, 4, RegisterFault::Key, 0x0050_0000),
+    (0x80, 0, 4, RegisterFault::Key, 0x0050_0000),
+    (0x84, 1, 0, RegisterFault::Size, 0x0050_0000),
+    (0x84, 2, 2_097_153, RegisterFault::Size, 0x0050_0000),
+    (0x1D, 0, 3, RegisterFault::Size, 0x0050_0000),
+    (0x84, 1, 4, RegisterFault::Exists, 0x0030_0000),
+    (0x1C, 0, 2, RegisterFault::Exists, 0x0030_0000),
+];
+
+fn has_code(fault: RegisterFault, code: u32) -> bool {
+    fault.code() == code
+}
+
+fn has_data_blocks(areas: &Areas, count: usize) -> bool {
+    areas.db_numbers().count() == count
 }
 
 #[test]
-fn data_blocks_are_counted(rt: HostRuntime) -> Result<(), Fail> {
+fn areas_are_refused(rt: HostRuntime) {
+    let mut areas = two_areas(rt.alloc()).expect(&rt, "there is memory");
+    for &(area, number, len, fault, code) in REFUSED {
+        let refused = registers(rt.alloc(), &mut areas, key(area, number), len, Err(fault));
+        assert!(rt; refused == Ok(true) && has_code(fault, code));
+    }
+    assert!(rt; has_data_blocks(&areas, 1));
+}
+
+/// Whether an area is unregistered and hands these octets back; `None` where there is none.
+fn unregisters(areas: &mut Areas, key: AreaKey, wanted: Option<&[u8]>) -> bool {
+    match areas.unregister(key) {
+        Ok(octets) => wanted == Some(octets.as_slice()),
+        Err(_) => wanted.is_none(),
+    }
+}
+
+#[test]
+fn areas_are_registered(rt: HostRuntime) {
+    let mut areas = two_areas(rt.alloc()).expect(&rt, "there is memory");
+    assert!(rt;
+        registers(rt.alloc(), &mut areas, key(0x84, 3), 2_097_152, Ok(())) == Ok(true)
+            && unregisters(&mut areas, key(0x84, 9), None)
+            && has_data_blocks(&areas, 2)
+    );
+    let copy = areas.copy(rt.alloc()).expect(&rt, "there is memory");
+    assert!(rt;
+        unregisters(&mut areas, DB1, Some(&[0x11, 0x22, 0x33, 0x44]))
+            && has_octets(&areas, DB1, None)
+            && !has_octets(&copy, DB1, None)
+    );
+}
+
+#[test]
+fn data_blocks_are_counted(rt: HostRuntime) {
     let mut areas = Areas::new();
     for number in 1..=2_048 {
-        let octets = Octets::copy_of(rt.alloc(), &[0])?;
-        assert!(rt;
-            areas
-                .register(rt.alloc(), key(0x84, number), octets)
-                .is_ok()
-        );
+        assert!(rt; registers(rt.alloc(), &mut areas, key(0x84, number), 1, Ok(())) == Ok(true));
     }
-    let octets = Octets::copy_of(rt.alloc(), &[0])?;
-    let Err((fault, _)) = areas.register(rt.alloc(), key(0x84, 2_049), octets) else {
-        return Err(Fail::from("registered"));
-    };
-    assert!(rt; fault == RegisterFault::TooManyDbs && fault.code() == 0x0060_0000);
-    let octets = Octets::copy_of(rt.alloc(), &[0])?;
-    assert!(rt; areas.register(rt.alloc(), key(0x83, 0), octets).is_ok());
-    Ok(())
+    let fault = RegisterFault::TooManyDbs;
+    assert!(rt;
+        registers(rt.alloc(), &mut areas, key(0x84, 2_049), 1, Err(fault)) == Ok(true)
+            && has_code(fault, 0x0060_0000)
+            && registers(rt.alloc(), &mut areas, key(0x83, 0), 1, Ok(())) == Ok(true)
+    );
 }

@@ -1,5 +1,4 @@
 use s7_block::{BlockName, NAME, read_digits, read_name, write_digits, write_name};
-use std::test::Fail;
 
 /// Where a name says that its block is.
 const ACTIVE: u8 = 0x41;
@@ -7,7 +6,7 @@ const ACTIVE: u8 = 0x41;
 const PASSIVE: u8 = 0x50;
 
 /// Names in telegrams: the octets, where the block is, its kind and its number.
-const NAMES: [(&[u8; NAME], u8, u8, u16); 16] = [
+const NAMES: &[(&[u8; NAME], u8, u8, u16)] = &[
     (b"0800001A", ACTIVE, 0x38, 1),
     (b"0A00001A", ACTIVE, 0x41, 1),
     (b"0B00001A", ACTIVE, 0x42, 1),
@@ -26,100 +25,100 @@ const NAMES: [(&[u8; NAME], u8, u8, u16); 16] = [
     (b"0A12345P", PASSIVE, 0x41, 12_345),
 ];
 
+fn is_read(octets: &[u8], place: u8, name: Option<BlockName>) -> bool {
+    read_name(octets, place) == name
+}
+
+fn is_written(name: BlockName, place: u8, octets: &[u8; NAME]) -> bool {
+    let mut written = [0xEE; NAME];
+    write_name(name, place, &mut written);
+    written == *octets
+}
+
+/// Whether these octets are a block's name at its place, but not at the other.
+fn is_name(octets: &[u8; NAME], place: u8, name: BlockName) -> bool {
+    let other = if place == ACTIVE { PASSIVE } else { ACTIVE };
+    is_written(name, place, octets)
+        && is_read(octets, place, Some(name))
+        && is_read(octets, other, None)
+}
+
 #[test]
-fn names_are_read_at_their_places(rt: HostRuntime) -> Result<(), Fail> {
-    for (octets, place, kind, number) in NAMES {
-        let name = BlockName { kind, number };
-        assert!(rt; read_name(octets, place) == Some(name), "{kind} {number}");
-        let other = if place == ACTIVE { PASSIVE } else { ACTIVE };
-        assert!(rt; read_name(octets, other).is_none(), "{kind} {number}");
+fn names_are_read_at_their_places_and_written(rt: HostRuntime) {
+    for &(octets, place, kind, number) in NAMES {
+        assert!(rt; is_name(octets, place, BlockName { kind, number }));
     }
-    Ok(())
 }
 
+/// Octets that name no active block.
+const NO_NAMES: &[&[u8]] = &[
+    b"0A65536A", // number 65,536
+    b"0A99999A", // number 99,999
+    b"0A00A01A", // a letter
+    b"0A/0001A", // the octet before 0
+    b"0A0000:A", // the octet behind 9
+    b"1A00001A", // first octet 31
+    b"\x00A00001A", // first octet 00
+    b"0A00001P", // place 50
+    b"0A00001B", // place 42
+    b"0A0001A", // 7 octets
+    b"0A000001A", // 9 octets
+    b"0A00001AA", // 9 octets, the last behind the place
+    b"0900001A", // kind 39
+    b"0G00001A", // kind 47
+    b"", // none
+];
+
 #[test]
-fn names_are_written(rt: HostRuntime) -> Result<(), Fail> {
-    for (octets, place, kind, number) in NAMES {
-        let mut written = [0xEE; NAME];
-        write_name(BlockName { kind, number }, place, &mut written);
-        assert!(rt; written.as_slice() == octets.as_slice(), "{kind} {number}");
+fn other_octets_name_no_block(rt: HostRuntime) {
+    for &octets in NO_NAMES {
+        assert!(rt; is_read(octets, ACTIVE, None));
     }
-    Ok(())
 }
 
-#[test]
-fn other_octets_name_no_block(rt: HostRuntime) -> Result<(), Fail> {
-    let rows: [(&str, &[u8]); 15] = [
-        ("number 65,536", b"0A65536A"),
-        ("number 99,999", b"0A99999A"),
-        ("a letter", b"0A00A01A"),
-        ("the octet before 0", b"0A/0001A"),
-        ("the octet behind 9", b"0A0000:A"),
-        ("first octet 31", b"1A00001A"),
-        ("first octet 00", b"\x00A00001A"),
-        ("place 50", b"0A00001P"),
-        ("place 42", b"0A00001B"),
-        ("7 octets", b"0A0001A"),
-        ("9 octets", b"0A000001A"),
-        ("9 octets, the last behind the place", b"0A00001AA"),
-        ("kind 39", b"0900001A"),
-        ("kind 47", b"0G00001A"),
-        ("none", b""),
-    ];
-    for (why, octets) in rows {
-        assert!(rt; read_name(octets, ACTIVE).is_none(), "{why}");
+/// Numbers and their digits.
+const NUMBERS: &[(&[u8], u32)] = &[
+    (b"00000", 0),
+    (b"00001", 1),
+    (b"65535", 65_535),
+    (b"65536", 65_536),
+    (b"99999", 99_999),
+    (b"000036", 36),
+    (b"065536", 65_536),
+    (b"999999", 999_999),
+    (b"", 0),
+    (b"999999999", 999_999_999),
+];
+
+fn is_number(digits: &[u8], number: Option<u32>) -> bool {
+    digits.len() <= 9 && read_digits(digits) == number
+}
+
+/// Whether as many of a number's last digits are these.
+fn are_last(digits: &[u8], number: u32) -> bool {
+    let mut written = [0xEE; 9];
+    if digits.len() > 9 {
+        return false;
     }
-    Ok(())
+    write_digits(number, &mut written[..digits.len()]);
+    written.starts_with(digits)
 }
 
 #[test]
-fn five_digits_are_a_number(rt: HostRuntime) -> Result<(), Fail> {
-    let rows: [(&[u8; 5], u32); 5] = [
-        (b"00000", 0),
-        (b"00001", 1),
-        (b"65535", 65_535),
-        (b"65536", 65_536),
-        (b"99999", 99_999),
-    ];
-    for (digits, number) in rows {
-        assert!(rt; read_digits(digits) == Some(number), "{number}");
-        let mut written = [0xEE; 5];
-        write_digits(number, &mut written);
-        assert!(rt; written.as_slice() == digits.as_slice(), "{number}");
+fn digits_are_read_and_written(rt: HostRuntime) {
+    for &(digits, number) in NUMBERS {
+        assert!(rt; is_number(digits, Some(number)) && are_last(digits, number));
     }
-    Ok(())
+    assert!(rt; are_last(b"67295", u32::MAX));
 }
 
 #[test]
-fn six_digits_are_a_number(rt: HostRuntime) -> Result<(), Fail> {
-    let rows: [(&[u8; 6], u32); 3] = [(b"000036", 36), (b"065536", 65_536), (b"999999", 999_999)];
-    for (digits, number) in rows {
-        assert!(rt; read_digits(digits) == Some(number), "{number}");
-        let mut written = [0xEE; 6];
-        write_digits(number, &mut written);
-        assert!(rt; written.as_slice() == digits.as_slice(), "{number}");
-    }
-    Ok(())
-}
-
-#[test]
-fn the_last_digits_are_written(rt: HostRuntime) -> Result<(), Fail> {
-    let mut written = [0xEE; 5];
-    write_digits(u32::MAX, &mut written);
-    assert!(rt; written.as_slice() == b"67295".as_slice());
-    Ok(())
-}
-
-#[test]
-fn octets_that_are_no_digits_are_no_number(rt: HostRuntime) -> Result<(), Fail> {
+fn octets_that_are_no_digits_are_no_number(rt: HostRuntime) {
     for octet in [0x00, 0x2F, 0x3A, 0x41, 0xFF] {
         for at in 0..5 {
             let mut digits = [0x30; 5];
             digits[at] = octet;
-            assert!(rt; read_digits(&digits).is_none(), "{octet} {at}");
+            assert!(rt; is_number(&digits, None));
         }
     }
-    assert!(rt; read_digits(b"") == Some(0));
-    assert!(rt; read_digits(b"999999999") == Some(999_999_999));
-    Ok(())
 }

@@ -1,101 +1,126 @@
 ghost use Rattle.std.specs.Prelude.{◌≤◌, length};
 ghost use Rattle.s7_clock.specs.Control.{control_spelling};
-ghost use Rattle.s7_clock.specs.Moment.{IsHeld};
 
 use s7_clock::{
     BadParams, Control, NotDate, date_of, from_octets, hold, in_clock_range, moment_of,
     read_control, to_octets, write_control,
 };
 
-// 2024-02-29, a Thursday, at 13:45:30.123.
+/// 2024-02-29, a Thursday, at 13:45:30.123.
 const LEAP_DAY: [u8; 10] = *b"\x00\x19\x24\x02\x29\x13\x45\x30\x12\x35";
 
-// Whether the moment has these clock octets, and they are read as it.
-fn has_octets(ms: u64, octets: &[u8; 10]) -> bool
-    requires { IsHeld ms }
-{
-    let date = date_of(ms);
-    to_octets(date) == *octets && moment_of(&date) == ms && from_octets(octets) == Ok(date)
+/// The clock octets of a moment before the year 2096. There are none where its date is outside the clock's range, or
+/// where the date or its octets don't give back what they were made of.
+pub(crate) fn octets_of(ms: u64) -> Option<[u8; 10]> {
+    if ms > 4_000_000_000_000 {
+        return None;
+    }
+    let moment = hold(ms as i64);
+    let date = date_of(moment);
+    let octets = to_octets(date);
+    if in_clock_range(&date) && moment_of(&date) == moment && from_octets(&octets) == Ok(date) {
+        Some(octets)
+    } else {
+        None
+    }
 }
 
-// Whether the control has these parameters, and they are read as it.
+/// Moments and their clock octets.
+const MOMENTS: &[(u64, [u8; 10])] = &[
+    (1_709_214_330_123, LEAP_DAY),
+    (
+        631_152_000_000,
+        *b"\x00\x19\x90\x01\x01\x00\x00\x00\x00\x02",
+    ),
+    (
+        946_684_799_999,
+        *b"\x00\x19\x99\x12\x31\x23\x59\x59\x99\x96",
+    ),
+    (
+        946_684_800_000,
+        *b"\x00\x19\x00\x01\x01\x00\x00\x00\x00\x07",
+    ),
+    (
+        3_786_911_999_999,
+        *b"\x00\x19\x89\x12\x31\x23\x59\x59\x99\x97",
+    ),
+];
+
+#[test]
+fn moments_have_clock_octets(rt: HostRuntime) {
+    for &(ms, octets) in MOMENTS {
+        assert!(rt; octets_of(ms) == Some(octets));
+    }
+}
+
+/// Whether the octets are a date, and it is that of the others.
+fn is_same_date(octets: &[u8], others: &[u8]) -> bool {
+    let date = from_octets(octets);
+    date.is_ok() && date == from_octets(others)
+}
+
+#[test]
+fn the_head_and_the_weekday_are_passed_over(rt: HostRuntime) {
+    assert!(rt; is_same_date(b"\x77\x20\x24\x02\x29\x13\x45\x30\x12\x3F", &LEAP_DAY));
+}
+
+/// Octets that are no date.
+const NO_DATES: &[&[u8]] = &[
+    b"\x00\x19\x24\x02\x29\x13\x45\x30\x12",
+    b"\x00\x19\x24\x02\x29\x13\x45\x30\x12\x35\x00",
+    b"\x00\x19\x24\x13\x29\x13\x45\x30\x12\x35",
+    b"\x00\x19\x24\x00\x29\x13\x45\x30\x12\x35",
+    b"\x00\x19\x23\x02\x30\x13\x45\x30\x12\x35",
+    b"\x00\x19\x24\x02\x30\x13\x45\x30\x12\x35",
+    b"\x00\x19\x23\x02\x29\x13\x45\x30\x12\x35",
+    b"\x00\x19\x24\x02\x29\x24\x45\x30\x12\x35",
+    b"\x00\x19\x24\x02\x29\x13\x45\x60\x12\x35",
+    b"\x00\x19\x2A\x02\x29\x13\x45\x30\x12\x35",
+    b"\x00\x19\x24\x02\x29\x13\x45\x30\x12\xA5",
+];
+
+fn is_no_date(octets: &[u8]) -> bool {
+    from_octets(octets) == Err(NotDate)
+}
+
+#[test]
+fn what_is_no_date_is_refused(rt: HostRuntime) {
+    for &octets in NO_DATES {
+        assert!(rt; is_no_date(octets));
+    }
+}
+
+/// Milliseconds since 1970, and the moments that they are held to.
+const HELD: &[(i64, u64)] = &[
+    (i64::MIN, 631_152_000_000),
+    (631_151_999_999, 631_152_000_000),
+    (631_152_000_001, 631_152_000_001),
+    (3_786_911_999_998, 3_786_911_999_998),
+    (3_786_912_000_000, 3_786_911_999_999),
+    (i64::MAX, 3_786_911_999_999),
+];
+
+#[test]
+fn moments_are_held(rt: HostRuntime) {
+    for &(ms, held) in HELD {
+        assert!(rt; hold(ms) == held);
+    }
+}
+
+#[test]
+fn each_day_goes_back(rt: HostRuntime) {
+    for day in 7_305..43_830u64 {
+        assert!(rt; octets_of(day * 86_400_000 + 45_296_789).is_some());
+    }
+}
+
+/// Whether the control has these parameters, and they are read as it.
 fn has_params(control: Control, params: &[u8]) -> bool
     requires { length (control_spelling control) ≤ 26 }
 {
     let mut into = [0xEE; 27];
     let len = write_control(&control, &mut into);
     &into[..len] == params && into[len] == 0xEE && read_control(params) == Ok(control)
-}
-
-#[test]
-fn moments_have_clock_octets(rt: HostRuntime) {
-    assert!(rt; has_octets(1_709_214_330_123, &LEAP_DAY));
-    assert!(rt; has_octets(631_152_000_000, b"\x00\x19\x90\x01\x01\x00\x00\x00\x00\x02"));
-    assert!(rt; has_octets(946_684_799_999, b"\x00\x19\x99\x12\x31\x23\x59\x59\x99\x96"));
-    assert!(rt; has_octets(946_684_800_000, b"\x00\x19\x00\x01\x01\x00\x00\x00\x00\x07"));
-    assert!(rt;
-        has_octets(
-            3_786_911_999_999,
-            b"\x00\x19\x89\x12\x31\x23\x59\x59\x99\x97"
-        )
-    );
-}
-
-#[test]
-fn the_head_and_the_weekday_are_passed_over(rt: HostRuntime) {
-    let other = b"\x77\x20\x24\x02\x29\x13\x45\x30\x12\x3F";
-    assert!(rt; from_octets(other) == from_octets(&LEAP_DAY));
-    assert!(rt; from_octets(other).is_ok());
-}
-
-#[test]
-fn what_is_no_date_is_refused(rt: HostRuntime) {
-    let rows: [&[u8]; 11] = [
-        &LEAP_DAY[..9],
-        b"\x00\x19\x24\x02\x29\x13\x45\x30\x12\x35\x00",
-        b"\x00\x19\x24\x13\x29\x13\x45\x30\x12\x35",
-        b"\x00\x19\x24\x00\x29\x13\x45\x30\x12\x35",
-        b"\x00\x19\x23\x02\x30\x13\x45\x30\x12\x35",
-        b"\x00\x19\x24\x02\x30\x13\x45\x30\x12\x35",
-        b"\x00\x19\x23\x02\x29\x13\x45\x30\x12\x35",
-        b"\x00\x19\x24\x02\x29\x24\x45\x30\x12\x35",
-        b"\x00\x19\x24\x02\x29\x13\x45\x60\x12\x35",
-        b"\x00\x19\x2A\x02\x29\x13\x45\x30\x12\x35",
-        b"\x00\x19\x24\x02\x29\x13\x45\x30\x12\xA5",
-    ];
-    for octets in rows {
-        assert!(rt; from_octets(octets) == Err(NotDate), "of {octets:?}");
-    }
-}
-
-#[test]
-fn moments_are_held(rt: HostRuntime) {
-    let rows = [
-        (i64::MIN, 631_152_000_000),
-        (631_151_999_999, 631_152_000_000),
-        (631_152_000_001, 631_152_000_001),
-        (3_786_911_999_998, 3_786_911_999_998),
-        (3_786_912_000_000, 3_786_911_999_999),
-        (i64::MAX, 3_786_911_999_999),
-    ];
-    for (ms, held) in rows {
-        assert!(rt; hold(ms) == held, "of {ms}");
-    }
-}
-
-// Whether a moment is its date's, and the date is read from its clock octets.
-fn goes_back(ms: u64) -> bool
-    requires { IsHeld ms }
-{
-    let date = date_of(ms);
-    in_clock_range(&date) && moment_of(&date) == ms && from_octets(&to_octets(date)) == Ok(date)
-}
-
-#[test]
-fn each_day_goes_back(rt: HostRuntime) {
-    for day in 7_305..43_830u64 {
-        assert!(rt; goes_back(day * 86_400_000 + 45_296_789), "of day {day}");
-    }
 }
 
 #[test]
@@ -115,8 +140,10 @@ fn controls_are_read_and_written(rt: HostRuntime) {
             b"\x28\0\0\0\0\0\0\xFD\0\x02\x43\x20\x09P_PROGRAM"
         )
     );
-    assert!(rt; has_params(Control::Stop, b"\x29\0\0\0\0\0\x09P_PROGRAM"));
-    assert!(rt; has_params(Control::Compress, b"\x28\0\0\0\0\0\0\xFD\0\0\x05_GARB"));
+    assert!(rt;
+        has_params(Control::Stop, b"\x29\0\0\0\0\0\x09P_PROGRAM")
+            && has_params(Control::Compress, b"\x28\0\0\0\0\0\0\xFD\0\0\x05_GARB")
+    );
     assert!(rt;
         has_params(
             Control::CopyRam,
@@ -137,22 +164,28 @@ fn controls_are_read_and_written(rt: HostRuntime) {
     );
 }
 
+/// Parameters that are no control.
+const NO_CONTROLS: &[&[u8]] = &[
+    b"",
+    b"\x28\0\0\0\0\0\0\xFD\0\0\x09P_PROGRA",
+    b"\x28\0\0\0\0\0\0\xFD\0\0\x09P_PROGRAM\0",
+    b"\x28\0\0\0\x01\0\0\xFD\0\0\x09P_PROGRAM",
+    b"\x28\0\0\0\0\0\0\xFD\0\x02\x43\x21\x09P_PROGRAM",
+    b"\x29\0\0\0\0\0\0\x09P_PROGRAM",
+    b"\x28\0\0\0\0\0\0\xFD\0\x0A\x01\0\x30\x4000001\x50\x05_INSE",
+    b"\x28\0\0\0\0\0\0\xFD\0\x0A\x01\0\x30\x4165536\x50\x05_INSE",
+    b"\x28\0\0\0\0\0\0\xFD\0\x0A\x01\0\x30\x410000:\x50\x05_INSE",
+    b"\x28\0\0\0\0\0\0\xFD\0\x0A\x01\0\x30\x4100001\x42\x05_INSE",
+    b"\x28\0\0\0\0\0\0\xFD\0\x0A\x01\0\x30\x4100001\x50\x05_DELE",
+];
+
+fn is_no_control(params: &[u8]) -> bool {
+    read_control(params) == Err(BadParams)
+}
+
 #[test]
 fn what_is_no_control_is_refused(rt: HostRuntime) {
-    let rows: [&[u8]; 11] = [
-        b"",
-        b"\x28\0\0\0\0\0\0\xFD\0\0\x09P_PROGRA",
-        b"\x28\0\0\0\0\0\0\xFD\0\0\x09P_PROGRAM\0",
-        b"\x28\0\0\0\x01\0\0\xFD\0\0\x09P_PROGRAM",
-        b"\x28\0\0\0\0\0\0\xFD\0\x02\x43\x21\x09P_PROGRAM",
-        b"\x29\0\0\0\0\0\0\x09P_PROGRAM",
-        b"\x28\0\0\0\0\0\0\xFD\0\x0A\x01\0\x30\x4000001\x50\x05_INSE",
-        b"\x28\0\0\0\0\0\0\xFD\0\x0A\x01\0\x30\x4165536\x50\x05_INSE",
-        b"\x28\0\0\0\0\0\0\xFD\0\x0A\x01\0\x30\x410000:\x50\x05_INSE",
-        b"\x28\0\0\0\0\0\0\xFD\0\x0A\x01\0\x30\x4100001\x42\x05_INSE",
-        b"\x28\0\0\0\0\0\0\xFD\0\x0A\x01\0\x30\x4100001\x50\x05_DELE",
-    ];
-    for params in rows {
-        assert!(rt; read_control(params) == Err(BadParams), "of {params:?}");
+    for &params in NO_CONTROLS {
+        assert!(rt; is_no_control(params));
     }
 }

@@ -1,32 +1,38 @@
+ghost use Rattle.std.specs.Prelude.{◌≤◌, length};
+ghost use Rattle.s7_header.specs.UserParams.{HasForm, user_spelling};
+
 use s7_header::{
     BadParams, Header, HeaderFault, Kind, Negotiation, TooSmall, UserParams, grant, parts,
     read_header, read_negotiate, read_user, write_header, write_negotiate, write_refusal,
     write_user,
 };
 
-const NEGOTIATE: [u8; 18] = [
-    0x32, 0x01, 0x00, 0x00, 0x00, 0x04, 0x00, 0x08, 0x00, 0x00, 0xF0, 0x00, 0x00, 0x01, 0x00, 0x01,
-    0x01, 0xE0,
-];
+/// A job that negotiates.
+const NEGOTIATE: &[u8] =
+    b"\x32\x01\x00\x00\x00\x04\x00\x08\x00\x00\xF0\x00\x00\x01\x00\x01\x01\xE0";
 
-const NEGOTIATED: [u8; 20] = [
-    0x32, 0x03, 0x00, 0x00, 0x00, 0x04, 0x00, 0x08, 0x00, 0x00, 0x00, 0x00, 0xF0, 0x00, 0x00, 0x01,
-    0x00, 0x01, 0x01, 0xE0,
-];
+/// Its acknowledgement.
+const NEGOTIATED: &[u8] =
+    b"\x32\x03\x00\x00\x00\x04\x00\x08\x00\x00\x00\x00\xF0\x00\x00\x01\x00\x01\x01\xE0";
 
-const REFUSAL: [u8; 12] = [
-    0x32, 0x02, 0x00, 0x00, 0x00, 0x01, 0x00, 0x00, 0x00, 0x00, 0x85, 0x00,
-];
+/// An acknowledgement that refuses a job.
+const REFUSAL: &[u8] = b"\x32\x02\x00\x00\x00\x01\x00\x00\x00\x00\x85\x00";
 
-const CLOCK_READ: [u8; 22] = [
-    0x32, 0x07, 0xAB, 0xCD, 0x00, 0x0B, 0x00, 0x08, 0x00, 0x04, 0x00, 0x01, 0x12, 0x04, 0x11, 0x47,
-    0x01, 0x00, 0x0A, 0x00, 0x00, 0x00,
-];
+/// User data that asks for the clock.
+const CLOCK_READ: &[u8] =
+    b"\x32\x07\xAB\xCD\x00\x0B\x00\x08\x00\x04\x00\x01\x12\x04\x11\x47\x01\x00\x0A\x00\x00\x00";
 
-const CLOCK_ASKED: [u8; 8] = [0x00, 0x01, 0x12, 0x04, 0x11, 0x47, 0x01, 0x00];
+/// The parameters of user data that asks for the clock, and of the answer.
+const CLOCK_ASKED: &[u8] = b"\x00\x01\x12\x04\x11\x47\x01\x00";
 
-const CLOCK_TOLD: [u8; 12] = [
-    0x00, 0x01, 0x12, 0x08, 0x12, 0x87, 0x01, 0x01, 0x00, 0x00, 0x00, 0x00,
+const CLOCK_TOLD: &[u8] = b"\x00\x01\x12\x08\x12\x87\x01\x01\x00\x00\x00\x00";
+
+/// Messages: the kind, the sequence, the lengths of parameters and body, and the error.
+const HEADERS: &[(&[u8], Kind, u16, u16, u16, u16)] = &[
+    (NEGOTIATE, Kind::Job, 4, 8, 0, 0),
+    (NEGOTIATED, Kind::AckData, 4, 8, 0, 0),
+    (REFUSAL, Kind::Ack, 1, 0, 0, 0x8500),
+    (CLOCK_READ, Kind::User, 11, 8, 4, 0),
 ];
 
 fn header(kind: Kind, sequence: u16, param_len: u16, body_len: u16, error: u16) -> Header {
@@ -39,127 +45,196 @@ fn header(kind: Kind, sequence: u16, param_len: u16, body_len: u16, error: u16) 
     }
 }
 
-fn negotiation(calling: u16, called: u16, pdu: u16) -> Negotiation {
-    Negotiation {
-        calling,
-        called,
-        pdu,
-    }
+fn is_read(message: &[u8], wanted: Result<Header, HeaderFault>) -> bool {
+    read_header(message) == wanted
 }
 
 #[test]
 fn headers_are_read(rt: HostRuntime) {
-    let rows: [(&[u8], Header); 4] = [
-        (&NEGOTIATE, header(Kind::Job, 4, 8, 0, 0)),
-        (&NEGOTIATED, header(Kind::AckData, 4, 8, 0, 0)),
-        (&REFUSAL, header(Kind::Ack, 1, 0, 0, 0x8500)),
-        (&CLOCK_READ, header(Kind::User, 11, 8, 4, 0)),
-    ];
-    for (message, want) in rows {
-        assert_eq!(rt; read_header(message), Ok(want), "of {message:?}");
+    for &(message, kind, sequence, param_len, body_len, error) in HEADERS {
+        let wanted = header(kind, sequence, param_len, body_len, error);
+        assert!(rt; is_read(message, Ok(wanted)));
     }
 }
 
+/// What is no message, and its fault.
+const BAD_HEADERS: &[(&[u8], HeaderFault)] = &[
+    (b"", HeaderFault::Short),
+    (b"\x32\x01\x00\x00\x00\x04\x00\x08\x00", HeaderFault::Short),
+    (
+        b"\x33\x05\x00\x00\x00\x01\x00\x00\x00\x00",
+        HeaderFault::BadId,
+    ),
+    (
+        b"\x32\x05\x00\x00\x00\x01\x00\x09\x00\x00",
+        HeaderFault::BadType,
+    ),
+    (
+        b"\x32\x04\x00\x00\x00\x01\x00\x00\x00\x00",
+        HeaderFault::BadType,
+    ),
+    (
+        b"\x32\x03\x00\x00\x00\x04\x00\x08\x00\x00\x00",
+        HeaderFault::Short,
+    ),
+    (
+        b"\x32\x01\x00\x00\x00\x04\x00\x08\x00\x00\xF0\x00\x00\x01\x00\x01\x01",
+        HeaderFault::Lengths,
+    ),
+    (
+        b"\x32\x01\x00\x00\x00\x01\x00\x00\x00\x00\x00",
+        HeaderFault::Lengths,
+    ),
+];
+
 #[test]
 fn faults_come_in_order(rt: HostRuntime) {
-    let rows: [(&[u8], HeaderFault); 8] = [
-        (&[], HeaderFault::Short),
-        (&NEGOTIATE[..9], HeaderFault::Short),
-        (&[0x33, 0x05, 0, 0, 0, 1, 0, 0, 0, 0], HeaderFault::BadId),
-        (&[0x32, 0x05, 0, 0, 0, 1, 0, 9, 0, 0], HeaderFault::BadType),
-        (&[0x32, 0x04, 0, 0, 0, 1, 0, 0, 0, 0], HeaderFault::BadType),
-        (&NEGOTIATED[..11], HeaderFault::Short),
-        (&NEGOTIATE[..17], HeaderFault::Lengths),
-        (
-            &[0x32, 0x01, 0, 0, 0, 1, 0, 0, 0, 0, 0],
-            HeaderFault::Lengths,
-        ),
-    ];
-    for (message, want) in rows {
-        assert_eq!(rt; read_header(message), Err(want), "of {message:?}");
+    for &(message, fault) in BAD_HEADERS {
+        assert!(rt; is_read(message, Err(fault)));
     }
+}
+
+/// Whether a message has these parameters and this body.
+fn has_parts(message: &[u8], params: &[u8], body: &[u8]) -> bool {
+    let Ok(header) = read_header(message) else {
+        return false;
+    };
+    let (params_read, body_read) = parts(message, &header);
+    params_read == params && body_read == body
 }
 
 #[test]
 fn a_message_has_its_parts(rt: HostRuntime) {
-    let message: &[u8] = &CLOCK_READ;
-    let h = read_header(message).expect(&rt, "the message has a header");
-    let (params, body) = parts(message, &h);
-    assert!(rt; params == CLOCK_ASKED.as_slice());
-    assert!(rt; body == [0x0A, 0x00, 0x00, 0x00].as_slice());
+    assert!(rt; has_parts(CLOCK_READ, CLOCK_ASKED, b"\x0A\x00\x00\x00"));
+}
+
+/// Whether a header has so many octets, and stands so in 14 that were `EE` before.
+fn is_written(header: &Header, len: usize, octets: &[u8; 14]) -> bool {
+    let mut into = [0xEE; 14];
+    write_header(header, &mut into) == len && into == *octets
+}
+
+fn is_refusal(sequence: u16, error: u16, octets: &[u8; 14]) -> bool {
+    let mut into = [0xEE; 14];
+    write_refusal(sequence, error, &mut into) == 12 && into == *octets
 }
 
 #[test]
 fn headers_are_written(rt: HostRuntime) {
-    let mut into = [0xEE; 14];
-    assert_eq!(rt;
-        write_header(&header(Kind::AckData, 4, 8, 0, 0), &mut into),
-        12
-    );
-    assert!(rt; &into[..12] == &NEGOTIATED[..12]);
-    assert_eq!(rt; write_header(&header(Kind::Job, 4, 8, 0, 0), &mut into), 10);
-    assert!(rt; &into[..10] == &NEGOTIATE[..10]);
-    assert_eq!(rt; write_refusal(1, 0x8500, &mut into), 12);
-    assert!(rt; &into[..12] == REFUSAL.as_slice());
-    assert!(rt; &into[12..] == [0xEE, 0xEE].as_slice());
+    let octets = b"\x32\x03\x00\x00\x00\x04\x00\x08\x00\x00\x00\x00\xEE\xEE";
+    assert!(rt; is_written(&header(Kind::AckData, 4, 8, 0, 0), 12, octets));
+    let octets = b"\x32\x01\x00\x00\x00\x04\x00\x08\x00\x00\xEE\xEE\xEE\xEE";
+    assert!(rt; is_written(&header(Kind::Job, 4, 8, 0, 0), 10, octets));
+    let octets = b"\x32\x02\x00\x00\x00\x01\x00\x00\x00\x00\x85\x00\xEE\xEE";
+    assert!(rt; is_refusal(1, 0x8500, octets));
+}
+
+const ASKED: Negotiation = Negotiation {
+    calling: 1,
+    called: 1,
+    pdu: 480,
+};
+
+/// Parameters, and the negotiation that they are.
+const NEGOTIATIONS: &[(&[u8], Result<Negotiation, BadParams>)] = &[
+    (b"\xF0\x00\x00\x01\x00\x01\x01\xE0", Ok(ASKED)),
+    (b"\xF0\x00\x00\x01\x00\x01\x01", Err(BadParams)),
+    (b"\xF1\x00\x00\x01\x00\x01\x01\xE0", Err(BadParams)),
+];
+
+fn is_negotiation(params: &[u8], wanted: Result<Negotiation, BadParams>) -> bool {
+    read_negotiate(params) == wanted
+}
+
+fn is_negotiation_written(negotiation: &Negotiation, octets: &[u8; 9]) -> bool {
+    let mut into = [0xEE; 9];
+    write_negotiate(negotiation, &mut into) == 8 && into == *octets
 }
 
 #[test]
 fn negotiations_are_read_and_written(rt: HostRuntime) {
-    let asked = negotiation(1, 1, 480);
-    let params = &NEGOTIATE[10..];
-    assert_eq!(rt; read_negotiate(params), Ok(asked));
-    assert_eq!(rt; read_negotiate(&params[..7]), Err(BadParams));
-    assert_eq!(rt;
-        read_negotiate(&[0xF1, 0, 0, 1, 0, 1, 1, 0xE0]),
-        Err(BadParams)
-    );
-    let mut into = [0xEE; 9];
-    assert_eq!(rt; write_negotiate(&asked, &mut into), 8);
-    assert!(rt; &into[..8] == params);
-    assert_eq!(rt; into[8], 0xEE);
+    for &(params, wanted) in NEGOTIATIONS {
+        assert!(rt; is_negotiation(params, wanted));
+    }
+    let octets = b"\xF0\x00\x00\x01\x00\x01\x01\xE0\xEE";
+    assert!(rt; is_negotiation_written(&ASKED, octets));
+}
+
+/// Jobs calling and called and the PDU length: what is asked, and what is granted.
+const GRANTS: &[([u16; 3], Result<[u16; 3], TooSmall>)] = &[
+    ([1, 1, 63], Err(TooSmall)),
+    ([0, 8, 64], Ok([1, 8, 64])),
+    ([1, 1, 480], Ok([1, 1, 480])),
+    ([8, 9, 1_920], Ok([8, 8, 1_920])),
+    ([9, 0, 1_921], Ok([8, 1, 1_920])),
+    ([0xFFFF, 3, 0xFFFF], Ok([8, 3, 1_920])),
+];
+
+fn granted(asked: [u16; 3]) -> Result<[u16; 3], TooSmall> {
+    let [calling, called, pdu] = asked;
+    let granted = grant(&Negotiation {
+        calling,
+        called,
+        pdu,
+    })?;
+    Ok([granted.calling, granted.called, granted.pdu])
 }
 
 #[test]
 fn grants_stay_within_the_limits(rt: HostRuntime) {
-    let rows = [
-        (negotiation(1, 1, 63), Err(TooSmall)),
-        (negotiation(0, 8, 64), Ok(negotiation(1, 8, 64))),
-        (negotiation(1, 1, 480), Ok(negotiation(1, 1, 480))),
-        (negotiation(8, 9, 1_920), Ok(negotiation(8, 8, 1_920))),
-        (negotiation(9, 0, 1_921), Ok(negotiation(8, 1, 1_920))),
-        (negotiation(0xFFFF, 3, 0xFFFF), Ok(negotiation(8, 3, 1_920))),
-    ];
-    for (asked, want) in rows {
-        assert_eq!(rt; grant(&asked), want, "of {asked:?}");
+    for &(asked, wanted) in GRANTS {
+        assert!(rt; granted(asked) == wanted);
     }
+}
+
+const CLOCK_QUESTION: UserParams = UserParams {
+    answer: false,
+    group: 0x47,
+    sub: 1,
+    sequence: 0,
+    unit: 0,
+    more: 0,
+    error: 0,
+};
+
+const CLOCK_ANSWER: UserParams = UserParams {
+    answer: true,
+    group: 0x87,
+    sub: 1,
+    sequence: 1,
+    unit: 0,
+    more: 0,
+    error: 0,
+};
+
+/// Octets, and the parameters of user data that they are.
+const USERS: &[(&[u8], Result<UserParams, BadParams>)] = &[
+    (CLOCK_ASKED, Ok(CLOCK_QUESTION)),
+    (CLOCK_TOLD, Ok(CLOCK_ANSWER)),
+    (b"\x00\x01\x12\x04\x11\x47\x01", Err(BadParams)),
+    (b"\x00\x01\x12\x08\x12\x87\x01\x01", Err(BadParams)),
+];
+
+fn is_user(params: &[u8], wanted: Result<UserParams, BadParams>) -> bool {
+    read_user(params) == wanted
+}
+
+/// Whether the parameters have so many octets, and stand so in 13 that were `EE` before.
+fn is_user_written(params: &UserParams, len: usize, octets: &[u8; 13]) -> bool
+    requires form { HasForm params.now }
+    requires room { length (user_spelling params.now) ≤ 13 }
+{
+    let mut into = [0xEE; 13];
+    write_user(params, &mut into) == len && into == *octets
 }
 
 #[test]
 fn user_parameters_are_read_and_written(rt: HostRuntime) {
-    let asked = UserParams {
-        answer: false,
-        group: 0x47,
-        sub: 1,
-        sequence: 0,
-        unit: 0,
-        more: 0,
-        error: 0,
-    };
-    let told = UserParams {
-        answer: true,
-        group: 0x87,
-        sequence: 1,
-        ..asked
-    };
-    assert_eq!(rt; read_user(&CLOCK_ASKED), Ok(asked));
-    assert_eq!(rt; read_user(&CLOCK_TOLD), Ok(told));
-    assert_eq!(rt; read_user(&CLOCK_ASKED[..7]), Err(BadParams));
-    assert_eq!(rt; read_user(&CLOCK_TOLD[..8]), Err(BadParams));
-    let mut into = [0xEE; 13];
-    assert_eq!(rt; write_user(&told, &mut into), 12);
-    assert!(rt; &into[..12] == CLOCK_TOLD.as_slice());
-    assert_eq!(rt; write_user(&asked, &mut into), 8);
-    assert!(rt; &into[..8] == CLOCK_ASKED.as_slice());
-    assert_eq!(rt; into[12], 0xEE);
+    for &(params, wanted) in USERS {
+        assert!(rt; is_user(params, wanted));
+    }
+    let octets = b"\x00\x01\x12\x08\x12\x87\x01\x01\x00\x00\x00\x00\xEE";
+    assert!(rt; is_user_written(&CLOCK_ANSWER, 12, octets));
+    let octets = b"\x00\x01\x12\x04\x11\x47\x01\x00\xEE\xEE\xEE\xEE\xEE";
+    assert!(rt; is_user_written(&CLOCK_QUESTION, 8, octets));
 }

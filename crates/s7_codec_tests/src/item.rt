@@ -12,24 +12,29 @@ const BYTES: Item = Item {
     address: 0,
 };
 
+/// Words, the octets of one of each, and their transport sizes.
+const WORDS: &[(u8, Option<u16>, u8)] = &[
+    (0x01, Some(1), 0x03),
+    (0x02, Some(1), 0x04),
+    (0x03, Some(1), 0x09),
+    (0x04, Some(2), 0x04),
+    (0x05, Some(2), 0x05),
+    (0x06, Some(4), 0x04),
+    (0x07, Some(4), 0x05),
+    (0x08, Some(4), 0x07),
+    (0x1C, Some(2), 0x09),
+    (0x1D, Some(2), 0x09),
+    (0x09, None, 0x00),
+];
+
+fn has_sizes(word: u8, size: Option<u16>, transport: u8) -> bool {
+    size_of(word) == size && transport_of(word) == transport
+}
+
 #[test]
 fn words_have_sizes_and_transport_sizes(rt: HostRuntime) {
-    let words = [
-        (0x01, Some(1), 0x03),
-        (0x02, Some(1), 0x04),
-        (0x03, Some(1), 0x09),
-        (0x04, Some(2), 0x04),
-        (0x05, Some(2), 0x05),
-        (0x06, Some(4), 0x04),
-        (0x07, Some(4), 0x05),
-        (0x08, Some(4), 0x07),
-        (0x1C, Some(2), 0x09),
-        (0x1D, Some(2), 0x09),
-        (0x09, None, 0x00),
-    ];
-    for (word, size, transport) in words {
-        assert!(rt; size_of(word) == size);
-        assert!(rt; transport_of(word) == transport);
+    for &(word, size, transport) in WORDS {
+        assert!(rt; has_sizes(word, size, transport));
     }
 }
 
@@ -37,124 +42,169 @@ fn words_have_sizes_and_transport_sizes(rt: HostRuntime) {
 fn an_item_is_read_and_written(rt: HostRuntime) {
     let params = b"\x04\x01\x12\x0A\x10\x02\x00\x04\x00\x01\x84\x00\x00\x00";
     let mut items = Items::new();
-    assert!(rt; read_items(params, &mut items) == Ok(()));
-    assert!(rt; items.len() == 1 && items.get(0) == Some(BYTES) && items.get(1) == None);
+    assert!(rt;
+        read_items(params, &mut items) == Ok(())
+            && items.len() == 1
+            && items.get(0) == Some(BYTES)
+            && items.get(1) == None
+    );
     let mut into = [0u8; 14];
-    assert!(rt; write_items(0x04, &items, &mut into) == 14);
-    assert!(rt; into.as_slice() == params.as_slice());
+    assert!(rt; write_items(0x04, &items, &mut into) == 14 && into.as_slice() == params.as_slice());
+}
+
+/// Parameters that hold no items, and their fault.
+const BAD_ITEMS: &[(&[u8], ItemFault)] = &[
+    (b"\x04", ItemFault::Short),
+    (b"\x04\x00", ItemFault::Count),
+    (b"\x04\x15", ItemFault::Count),
+    (
+        b"\x04\x01\x12\x0A\x10\x02\x00\x04\x00\x01\x84\x00\x00",
+        ItemFault::Short,
+    ),
+    (
+        b"\x04\x01\x12\x0A\x10\x02\x00\x04\x00\x01\x84\x00\x00\x00\x00",
+        ItemFault::Short,
+    ),
+    (
+        b"\x04\x01\x12\x0A\x11\x02\x00\x04\x00\x01\x84\x00\x00\x00",
+        ItemFault::Spec,
+    ),
+];
+
+/// Whether the parameters have this fault, and leave no items where one was before.
+fn have_fault(params: &[u8], fault: ItemFault) -> bool {
+    let mut items = Items::new();
+    items.push(BYTES);
+    read_items(params, &mut items) == Err(fault) && items.is_empty()
 }
 
 #[test]
 fn items_are_refused(rt: HostRuntime) {
-    let cases: [(&[u8], ItemFault); 6] = [
-        (b"\x04", ItemFault::Short),
-        (b"\x04\x00", ItemFault::Count),
-        (b"\x04\x15", ItemFault::Count),
-        (
-            b"\x04\x01\x12\x0A\x10\x02\x00\x04\x00\x01\x84\x00\x00",
-            ItemFault::Short,
-        ),
-        (
-            b"\x04\x01\x12\x0A\x10\x02\x00\x04\x00\x01\x84\x00\x00\x00\x00",
-            ItemFault::Short,
-        ),
-        (
-            b"\x04\x01\x12\x0A\x11\x02\x00\x04\x00\x01\x84\x00\x00\x00",
-            ItemFault::Spec,
-        ),
-    ];
-    for (params, fault) in cases {
-        let mut items = Items::new();
-        items.push(BYTES);
-        assert!(rt; read_items(params, &mut items) == Err(fault));
-        assert!(rt; items.is_empty());
+    for &(params, fault) in BAD_ITEMS {
+        assert!(rt; have_fault(params, fault));
     }
+}
+
+/// The place of a data item, among as many as are said to be there.
+fn place_of(octets: &[u8], count: usize, number: usize) -> Option<DataPlace> {
+    let mut places = DataItems::new();
+    if count > 20 || read_data_items(octets, count, &mut places).is_err() || places.len() != count {
+        return None;
+    }
+    places.get(number)
 }
 
 #[test]
 fn data_items_have_their_places(rt: HostRuntime) {
     let octets = b"\x00\x04\x00\x08\xAA\x00\x00\x04\x00\x08\xBB\x00\x00\x04\x00\x08\xCC";
-    let mut places = DataItems::new();
-    assert!(rt; read_data_items(octets, 3, &mut places) == Ok(()));
-    assert!(rt; places.len() == 3);
-    for (k, from) in [(0, 4), (1, 10), (2, 16)] {
+    for (number, from) in [(0, 4), (1, 10), (2, 16)] {
         let place = DataPlace {
             transport: 0x04,
             from,
             len: 1,
         };
-        assert!(rt; places.get(k) == Some(place));
+        assert!(rt; place_of(octets, 3, number) == Some(place));
     }
+}
+
+/// Octets that aren't so many data items, and their fault.
+const BAD_DATA: &[(&[u8], usize, DataFault)] = &[
+    (
+        b"\x00\x04\x00\x08\xAA\x00\x00\x04\x00\x08",
+        2,
+        DataFault::Short,
+    ),
+    (b"\x00\x04\x00\x08\xAA", 2, DataFault::Short),
+    (b"\x00\x04\x00\x08\xAA\x00", 1, DataFault::Rest),
+    (b"\x00\x06\x00\x08\xAA", 1, DataFault::Transport),
+    (b"\x00\x06", 1, DataFault::Transport),
+    (b"\x00\x04\x00\x09\xAA", 1, DataFault::Short),
+    (b"\x00", 0, DataFault::Rest),
+];
+
+fn have_data_fault(octets: &[u8], count: usize, fault: DataFault) -> bool {
+    let mut places = DataItems::new();
+    count <= 20 && read_data_items(octets, count, &mut places) == Err(fault) && places.is_empty()
 }
 
 #[test]
 fn data_items_are_refused(rt: HostRuntime) {
-    let cases: [(&[u8], usize, DataFault); 7] = [
-        (
-            b"\x00\x04\x00\x08\xAA\x00\x00\x04\x00\x08",
-            2,
-            DataFault::Short,
-        ),
-        (b"\x00\x04\x00\x08\xAA", 2, DataFault::Short),
-        (b"\x00\x04\x00\x08\xAA\x00", 1, DataFault::Rest),
-        (b"\x00\x06\x00\x08\xAA", 1, DataFault::Transport),
-        (b"\x00\x06", 1, DataFault::Transport),
-        (b"\x00\x04\x00\x09\xAA", 1, DataFault::Short),
-        (b"\x00", 0, DataFault::Rest),
-    ];
-    for (octets, n, fault) in cases {
-        let mut places = DataItems::new();
-        assert!(rt; read_data_items(octets, n, &mut places) == Err(fault));
-        assert!(rt; places.is_empty());
+    for &(octets, count, fault) in BAD_DATA {
+        assert!(rt; have_data_fault(octets, count, fault));
     }
+}
+
+/// Data items: the return code, the word, the octets, whether the item is the last, and the octets written.
+const DATA: &[(u8, u8, &[u8], bool, &[u8])] = &[
+    (
+        0xFF,
+        0x02,
+        b"\x11\x22\x33\x44",
+        true,
+        b"\xFF\x04\x00\x20\x11\x22\x33\x44",
+    ),
+    (0xFF, 0x02, b"\x11", false, b"\xFF\x04\x00\x08\x11\x00"),
+    (0x00, 0x02, b"\xAA", true, b"\x00\x04\x00\x08\xAA"),
+    (0x0A, 0x02, b"", false, b"\x0A\x00\x00\x00"),
+    (0xFF, 0x01, b"\x01", true, b"\xFF\x03\x00\x01\x01"),
+    (0xFF, 0x1C, b"\x00\x02", true, b"\xFF\x09\x00\x02\x00\x02"),
+    (
+        0xFF,
+        0x08,
+        b"\x41\x20\x00\x00",
+        true,
+        b"\xFF\x07\x00\x04\x41\x20\x00\x00",
+    ),
+];
+
+fn is_written(code: u8, word: u8, octets: &[u8], last: bool, wanted: &[u8]) -> bool {
+    if size_of(word).is_none() || octets.len() > 4 {
+        return false;
+    }
+    let mut into = [0x77u8; 10];
+    let len = write_data_item(code, word, octets, last, &mut into);
+    len == wanted.len() && into.starts_with(wanted)
 }
 
 #[test]
 fn data_items_are_written(rt: HostRuntime) {
-    let cases: [(u8, u8, &[u8], bool, &[u8]); 7] = [
-        (
-            0xFF,
-            0x02,
-            b"\x11\x22\x33\x44",
-            true,
-            b"\xFF\x04\x00\x20\x11\x22\x33\x44",
-        ),
-        (0xFF, 0x02, b"\x11", false, b"\xFF\x04\x00\x08\x11\x00"),
-        (0x00, 0x02, b"\xAA", true, b"\x00\x04\x00\x08\xAA"),
-        (0x0A, 0x02, b"", false, b"\x0A\x00\x00\x00"),
-        (0xFF, 0x01, b"\x01", true, b"\xFF\x03\x00\x01\x01"),
-        (0xFF, 0x1C, b"\x00\x02", true, b"\xFF\x09\x00\x02\x00\x02"),
-        (
-            0xFF,
-            0x08,
-            b"\x41\x20\x00\x00",
-            true,
-            b"\xFF\x07\x00\x04\x41\x20\x00\x00",
-        ),
-    ];
-    for (code, word, octets, last, want) in cases {
-        assert!(rt; size_of(word).is_some() && octets.len() <= 4);
-        let mut into = [0x77u8; 10];
-        let len = write_data_item(code, word, octets, last, &mut into);
-        assert!(rt; len == want.len() && &into[..len] == want);
+    for &(code, word, octets, last, wanted) in DATA {
+        assert!(rt; is_written(code, word, octets, last, wanted));
     }
+}
+
+/// Transport sizes, counts of octets and the lengths that state them.
+const LENGTHS: &[(u8, usize, usize)] = &[
+    (0x03, 1, 1),
+    (0x03, 2, 16),
+    (0x04, 4, 32),
+    (0x05, 2, 16),
+    (0x07, 4, 4),
+    (0x09, 1, 1),
+];
+
+fn is_stated(transport: u8, len: usize, stated: usize) -> bool {
+    len <= 262_140 && stated_length(transport, len) == stated
 }
 
 #[test]
 fn lengths_are_stated(rt: HostRuntime) {
-    let cases = [
-        (0x03, 1, 1),
-        (0x03, 2, 16),
-        (0x04, 4, 32),
-        (0x05, 2, 16),
-        (0x07, 4, 4),
-        (0x09, 1, 1),
-    ];
-    for (transport, len, stated) in cases {
-        assert_eq!(rt; stated_length(transport, len), stated);
+    for &(transport, len, stated) in LENGTHS {
+        assert!(rt; is_stated(transport, len, stated));
     }
-    assert!(rt; is_good(0xFF) && !is_good(0x00) && carries(0x00) && !carries(0x0A));
-    assert!(rt; padding_of(3, false) == 1 && padding_of(3, true) == 0 && padding_of(4, false) == 0);
+}
+
+#[test]
+fn codes_are_good_or_carry_octets(rt: HostRuntime) {
+    assert!(rt;
+        is_good(0xFF)
+            && !is_good(0x00)
+            && carries(0x00)
+            && !carries(0x0A)
+            && padding_of(3, false) == 1
+            && padding_of(3, true) == 0
+            && padding_of(4, false) == 0
+    );
 }
 
 #[test]

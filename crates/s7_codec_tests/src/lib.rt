@@ -30,6 +30,4 @@ mod tpkt;
 #[cfg(test)]
 mod wire;
 #[cfg(test)]
-mod wire_offers;
-#[cfg(test)]
 mod wire_reader;

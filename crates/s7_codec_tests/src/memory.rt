@@ -1,125 +1,247 @@
+ghost use Rattle.std.specs.Prelude.{◌<◌};
+
 use s7_memory::{
     FailingLink, Fate, HoldGate, MemoryDial, MemoryDoor, MemoryFiles, MemoryLink, MemoryOut,
     PipeEnd, Pipes, Side,
 };
 use s7_outer::{
-    Arrival, Buffer, Clock, Dial, Dialled, Door, FileFault, Files, Gate, Got, Link, Octets,
+    Arrival, Buffer, Clock, Dial, Dialled, Door, FileFault, Files, Gate, Got, Link, Memory, Octets,
     OpenGate, Out, Sent, Tick,
 };
+use std::alloc::Global;
 use std::sync::Wait;
-use std::test::Fail;
 
-#[test]
-fn a_memory_link_moves_so_many(rt: HostRuntime) -> Result<(), Fail> {
-    let input = Octets::copy_of(rt.alloc(), b"abcde")?;
-    let mut link = MemoryLink::new(rt.alloc(), input, 2, 3, 7)?;
+/// Whether a link answers a receive of at most so many octets, eight at the most, with these.
+fn gives<L: Link>(link: &mut L, room: usize, got: Got, octets: &[u8]) -> bool {
     let mut into = [0u8; 8];
-    assert!(rt; link.receive(&mut into) == Got::Bytes(2) && into[0] == b'a' && into[1] == b'b');
-    assert!(rt; link.receive(&mut into[..1]) == Got::Bytes(1) && into[0] == b'c');
-    assert!(rt; link.receive(&mut into) == Got::Bytes(2) && into[1] == b'e');
-    assert!(rt; link.receive(&mut into) == Got::End);
-    assert!(rt; link.receive(&mut into) == Got::End);
-    assert!(rt; link.transmit(b"xyz!") == Sent::Bytes(2));
-    assert!(rt; link.transmit(b"z!") == Sent::Bytes(1));
-    assert!(rt; link.transmit(b"!") == Sent::Failed);
-    assert!(rt; link.written() == b"xyz".as_slice());
-    assert!(rt; link.now() == Tick::At(7));
-    assert!(rt; !link.is_shut());
-    link.shutdown();
-    assert!(rt; link.is_shut());
-    Ok(())
+    if room == 0 || room > 8 {
+        return false;
+    }
+    link.receive(&mut into[..room]) == got && into.starts_with(octets)
+}
+
+/// Whether a link answers a transmit so.
+fn takes<L: Link>(link: &mut L, octets: &[u8], sent: Sent) -> bool {
+    !octets.is_empty() && link.transmit(octets) == sent
+}
+
+fn is_now<C: Clock>(clock: &mut C, tick: Tick) -> bool {
+    clock.now() == tick
+}
+
+/// A link that moves so many octets a call, has room for others, and stands at 7.
+fn link(alloc: Global, input: &[u8], most: usize, room: usize) -> Result<MemoryLink, Memory>
+    requires { 0 < most }
+{
+    MemoryLink::new(alloc, Octets::copy_of(alloc, input)?, most, room, 7)
+}
+
+fn has_sent(link: &MemoryLink, octets: &[u8]) -> bool {
+    link.written() == octets
 }
 
 #[test]
-fn a_failing_link_counts_all_calls(rt: HostRuntime) -> Result<(), Fail> {
-    let input = Octets::copy_of(rt.alloc(), b"ab")?;
-    let inner = MemoryLink::new(rt.alloc(), input, 1, 1, 7)?;
+fn a_memory_link_moves_so_many(rt: HostRuntime) {
+    let mut link = link(rt.alloc(), b"abcde", 2, 3).expect(&rt, "there is memory");
+    assert!(rt;
+        gives(&mut link, 8, Got::Bytes(2), b"ab")
+            && gives(&mut link, 1, Got::Bytes(1), b"c")
+            && gives(&mut link, 8, Got::Bytes(2), b"de")
+            && gives(&mut link, 8, Got::End, b"")
+            && gives(&mut link, 8, Got::End, b"")
+            && takes(&mut link, b"xyz!", Sent::Bytes(2))
+    );
+    assert!(rt;
+        takes(&mut link, b"z!", Sent::Bytes(1))
+            && takes(&mut link, b"!", Sent::Failed)
+            && has_sent(&link, b"xyz")
+            && is_now(&mut link, Tick::At(7))
+            && !link.is_shut()
+    );
+    link.shutdown();
+    assert!(rt; link.is_shut());
+}
+
+/// A failing link over one that moves an octet a call, gives two and takes one.
+fn failing(alloc: Global, fates: &[Fate]) -> Result<FailingLink<MemoryLink>, Memory> {
+    let inner = link(alloc, b"ab", 1, 1)?;
+    Ok(FailingLink::new(inner, Vec::from_slice(alloc, fates)?))
+}
+
+#[test]
+fn a_failing_link_counts_all_calls(rt: HostRuntime) {
     let fates = [
         Fate::NotYet,
         Fate::Fail,
         Fate::Pass,
         Fate::NotYet,
         Fate::Fail,
-    ]
-    .to_vec(rt.alloc())?;
-    let mut link = FailingLink::new(inner, fates);
-    let mut into = [0u8; 8];
-    assert!(rt; link.receive(&mut into) == Got::NotYet);
-    assert!(rt; link.transmit(b"x") == Sent::Failed);
-    assert!(rt; link.receive(&mut into) == Got::Bytes(1));
-    assert!(rt; link.now() == Tick::At(7));
-    assert!(rt; link.now() == Tick::Failed);
-    assert!(rt; link.transmit(b"x") == Sent::Bytes(1));
-    assert!(rt; link.inner().written() == b"x".as_slice());
+    ];
+    let mut link = failing(rt.alloc(), &fates).expect(&rt, "there is memory");
+    assert!(rt;
+        gives(&mut link, 8, Got::NotYet, b"")
+            && takes(&mut link, b"x", Sent::Failed)
+            && gives(&mut link, 8, Got::Bytes(1), b"a")
+            && is_now(&mut link, Tick::At(7))
+            && is_now(&mut link, Tick::Failed)
+            && takes(&mut link, b"x", Sent::Bytes(1))
+            && has_sent(link.inner(), b"x")
+    );
     link.shutdown();
     assert!(rt; link.inner().is_shut());
-    Ok(())
 }
 
-#[test]
-fn a_buffer_gives_what_was_added(rt: HostRuntime) -> Result<(), Fail> {
-    let mut buffer = Buffer::new(rt.alloc(), 4)?;
-    buffer.add(b"ab");
-    buffer.add(b"cd");
-    assert!(rt; buffer.as_slice() == b"abcd".as_slice());
+/// A buffer of room for four octets, with these, where they fit.
+fn buffer(alloc: Global, first: &[u8], second: &[u8]) -> Result<Buffer, Memory> {
+    let mut buffer = Buffer::new(alloc, 4)?;
+    if first.len() <= 2 && second.len() <= 2 {
+        buffer.add(first);
+        buffer.add(second);
+    }
+    Ok(buffer)
+}
+
+fn holds(buffer: &Buffer, octets: &[u8], room: usize) -> bool {
+    buffer.as_slice() == octets && buffer.room() == room
+}
+
+/// Whether these octets are taken out of a buffer.
+fn are_taken(buffer: &mut Buffer, octets: &[u8]) -> bool {
     let taken = buffer.take();
-    assert!(rt; taken.as_slice() == b"abcd".as_slice());
-    assert!(rt; buffer.room() == 0);
-    assert!(rt; taken.into_vec().len() == 4);
-    Ok(())
+    taken.as_slice() == octets && taken.into_vec().len() == octets.len()
 }
 
 #[test]
-fn an_output_keeps_what_fits(rt: HostRuntime) -> Result<(), Fail> {
-    let mut out = MemoryOut::new(rt.alloc(), 5)?;
-    assert!(rt; out.put(b"abc").is_ok());
-    assert!(rt; out.put(b"defg").is_err());
-    assert!(rt; out.text() == b"abcde".as_slice());
-    Ok(())
+fn a_buffer_gives_what_was_added(rt: HostRuntime) {
+    let mut buffer = buffer(rt.alloc(), b"ab", b"cd").expect(&rt, "there is memory");
+    assert!(rt;
+        holds(&buffer, b"abcd", 4) && are_taken(&mut buffer, b"abcd") && holds(&buffer, b"", 0)
+    );
 }
 
-#[test]
-fn a_buffer_is_written_in_place(rt: HostRuntime) -> Result<(), Fail> {
-    let mut buffer = Buffer::new(rt.alloc(), 4)?;
-    buffer.add(b"abc");
+/// Writes an octet into a buffer at its second place, where there are three.
+fn is_changed(buffer: &mut Buffer, octet: u8) -> bool {
     let octets = buffer.as_mut_slice();
-    assert!(rt; octets.len() == 3);
-    octets[1] = b'x';
-    assert!(rt; buffer.as_slice() == b"axc".as_slice() && buffer.room() == 4);
-    Ok(())
+    if octets.len() != 3 {
+        return false;
+    }
+    octets[1] = octet;
+    true
 }
 
 #[test]
-fn files_in_memory_fail_at_the_call(rt: HostRuntime) -> Result<(), Fail> {
+fn a_buffer_is_written_in_place(rt: HostRuntime) {
+    let mut buffer = buffer(rt.alloc(), b"ab", b"c").expect(&rt, "there is memory");
+    assert!(rt; is_changed(&mut buffer, b'x') && holds(&buffer, b"axc", 4));
+}
+
+/// Whether all octets of a piece are put.
+fn is_put(out: &mut MemoryOut, piece: &[u8]) -> bool {
+    out.put(piece).is_ok()
+}
+
+#[test]
+fn an_output_keeps_what_fits(rt: HostRuntime) {
+    let mut out = MemoryOut::new(rt.alloc(), 5).expect(&rt, "there is memory");
+    assert!(rt;
+        is_put(&mut out, b"abc") && !is_put(&mut out, b"defg") && out.text() == b"abcde".as_slice()
+    );
+}
+
+/// Whether a read of a file ends so, with these octets.
+fn reads(
+    alloc: Global,
+    files: &mut MemoryFiles,
+    path: &str,
+    end: Result<(), FileFault>,
+    octets: &[u8],
+) -> bool {
+    let mut text = Vec::new(alloc);
+    files.read(alloc, path, &mut text) == end && text.as_slice() == octets
+}
+
+/// Whether a write of a file ends so.
+fn writes(
+    alloc: Global,
+    files: &mut MemoryFiles,
+    path: &str,
+    octets: &[u8],
+    end: Result<(), FileFault>,
+) -> bool {
+    files.write(alloc, path, octets) == end
+}
+
+fn has_file(files: &MemoryFiles, path: &str, octets: Option<&[u8]>) -> bool {
+    files.get(path) == octets
+}
+
+/// Whether a file is brought in.
+fn is_inserted(alloc: Global, files: &mut MemoryFiles, path: &str, octets: &[u8]) -> bool {
+    let Ok(octets) = Octets::copy_of(alloc, octets) else {
+        return false;
+    };
+    files.insert(alloc, path, octets).is_ok()
+}
+
+/// Files that fail at the fourth call, of which two are made here.
+fn files(alloc: Global) -> Option<MemoryFiles> {
     let mut files = MemoryFiles::new();
-    let mut text = Vec::new(rt.alloc());
-    assert!(rt; files.read(rt.alloc(), "a", &mut text) == Err(FileFault::Failed));
-    files.insert(rt.alloc(), "a", Octets::copy_of(rt.alloc(), b"one")?)?;
-    assert!(rt; files.read(rt.alloc(), "a", &mut text).is_ok());
-    assert!(rt; text.as_slice() == b"one".as_slice());
+    let is_made = reads(alloc, &mut files, "a", Err(FileFault::Failed), b"")
+        && is_inserted(alloc, &mut files, "a", b"one")
+        && reads(alloc, &mut files, "a", Ok(()), b"one");
     files.fail_at(3);
-    assert!(rt; files.write(rt.alloc(), "b", b"two").is_ok());
-    assert!(rt; files.write(rt.alloc(), "b", b"three") == Err(FileFault::Failed));
-    assert!(rt; files.write(rt.alloc(), "c", b"four").is_ok());
-    assert!(rt; files.get("b") == Some(b"two".as_slice()));
-    assert!(rt; files.get("c") == Some(b"four".as_slice()));
-    assert!(rt; files.get("d").is_none());
-    Ok(())
+    if is_made { Some(files) } else { None }
 }
 
 #[test]
-fn a_dial_and_a_door_in_memory(rt: HostRuntime) -> Result<(), Fail> {
+fn files_in_memory_fail_at_the_call(rt: HostRuntime) {
+    let alloc = rt.alloc();
+    let mut files = files(alloc).expect(&rt, "the files are made");
+    assert!(rt;
+        writes(alloc, &mut files, "b", b"two", Ok(()))
+            && writes(alloc, &mut files, "b", b"three", Err(FileFault::Failed))
+            && writes(alloc, &mut files, "c", b"four", Ok(()))
+            && has_file(&files, "b", Some(b"two"))
+            && has_file(&files, "c", Some(b"four"))
+            && has_file(&files, "d", None)
+    );
+}
+
+/// The link of a call, if it comes off.
+fn called(dial: &mut MemoryDial<u8>) -> Option<u8> {
+    match dial.call("host", 102) {
+        Dialled::Link(link) => Some(link),
+        Dialled::Failed => None,
+    }
+}
+
+#[test]
+fn a_dial_in_memory_gives_its_link_once(rt: HostRuntime) {
     let mut dial = MemoryDial::new(Some(b'a'));
-    assert!(rt; matches!(dial.call("host", 102), Dialled::Link(b'a')));
-    assert!(rt; matches!(dial.call("host", 102), Dialled::Failed));
-    let mut door = MemoryDoor::new([b'a', b'b'].to_vec(rt.alloc())?, Some(1));
+    assert!(rt; called(&mut dial) == Some(b'a') && called(&mut dial) == None);
+}
+
+/// Whether a door gives this link, fails where it is `!`, and ends where it is `.`.
+fn gives_next(door: &mut MemoryDoor<u8>, wanted: u8) -> bool {
+    match door.next() {
+        Arrival::Link(link) => link == wanted && wanted != b'!' && wanted != b'.',
+        Arrival::Failed => wanted == b'!',
+        Arrival::End => wanted == b'.',
+    }
+}
+
+/// A door in memory with the links `a` and `b`, whose second call fails.
+fn door(alloc: Global) -> Result<MemoryDoor<u8>, Memory> {
+    Ok(MemoryDoor::new(Vec::from_slice(alloc, b"ab")?, Some(1)))
+}
+
+#[test]
+fn a_door_in_memory_gives_its_links(rt: HostRuntime) {
+    let mut door = door(rt.alloc()).expect(&rt, "there is memory");
     assert!(rt; door.listen(102).is_ok());
-    assert!(rt; matches!(door.next(), Arrival::Link(b'a')));
-    assert!(rt; matches!(door.next(), Arrival::Failed));
-    assert!(rt; matches!(door.next(), Arrival::Link(b'b')));
-    assert!(rt; matches!(door.next(), Arrival::End));
-    assert!(rt; matches!(door.next(), Arrival::End));
-    Ok(())
+    for wanted in [b'a', b'!', b'b', b'.', b'.'] {
+        assert!(rt; gives_next(&mut door, wanted));
+    }
 }
 
 fn pass_shared<R: Wait, G: Gate + Sync>(rt: &R, gate: &G, link: u32, ordinal: u64) {
@@ -127,7 +249,7 @@ fn pass_shared<R: Wait, G: Gate + Sync>(rt: &R, gate: &G, link: u32, ordinal: u6
 }
 
 #[test]
-fn a_gate_holds_until_the_other_came(rt: HostRuntime) -> Result<(), Fail> {
+fn a_gate_holds_until_the_other_came(rt: HostRuntime) {
     pass_shared(&rt, &OpenGate, 1, 0);
     let gate = HoldGate::new(1, 2, 3);
     pass_shared(&rt, &gate, 2, 0);
@@ -139,39 +261,47 @@ fn a_gate_holds_until_the_other_came(rt: HostRuntime) -> Result<(), Fail> {
     pass_shared(&rt, &gate, 2, 1);
     pass_shared(&rt, &gate, 1, 0);
     assert!(rt; !gate.gave_up());
-    Ok(())
+}
+
+/// What is done at an end of pipes: its side, and a receive of so many octets or a transmit.
+fn end_gives(pipes: &mut Pipes, side: Side, room: usize, got: Got, octets: &[u8]) -> bool {
+    gives(&mut PipeEnd { pipes, side }, room, got, octets)
+}
+
+fn end_takes(pipes: &mut Pipes, octets: &[u8], sent: Sent) -> bool {
+    let side = Side::Client;
+    takes(&mut PipeEnd { pipes, side }, octets, sent)
+}
+
+/// Whether so many octets wait for the server, and for the client.
+fn are_held(pipes: &Pipes, server: usize, client: usize) -> bool {
+    pipes.held(Side::Server) == server && pipes.held(Side::Client) == client
 }
 
 #[test]
-fn pipes_move_what_fits(rt: HostRuntime) -> Result<(), Fail> {
-    let mut pipes = Pipes::new(rt.alloc(), 4, 7)?;
-    let mut into = [0u8; 8];
-    let mut client = PipeEnd {
-        pipes: &mut pipes,
-        side: Side::Client,
-    };
-    assert!(rt; client.receive(&mut into) == Got::NotYet);
-    assert!(rt; client.transmit(b"abc") == Sent::Bytes(3));
-    assert!(rt; client.now() == Tick::At(7));
-    let mut server = PipeEnd {
-        pipes: &mut pipes,
-        side: Side::Server,
-    };
-    let mut two = [0u8; 2];
-    assert!(rt; server.receive(&mut two) == Got::Bytes(2) && two[1] == b'b');
-    let mut client = PipeEnd {
-        pipes: &mut pipes,
-        side: Side::Client,
-    };
+fn pipes_move_what_fits(rt: HostRuntime) {
+    let mut pipes = Pipes::new(rt.alloc(), 4, 7).expect(&rt, "there is memory");
+    assert!(rt;
+        end_gives(&mut pipes, Side::Client, 8, Got::NotYet, b"")
+            && end_takes(&mut pipes, b"abc", Sent::Bytes(3))
+    );
+    let side = Side::Client;
+    assert!(rt;
+        is_now(
+            &mut PipeEnd {
+                pipes: &mut pipes,
+                side
+            },
+            Tick::At(7)
+        )
+    );
+    assert!(rt; end_gives(&mut pipes, Side::Server, 2, Got::Bytes(2), b"ab"));
     // The room is used across its end.
-    assert!(rt; client.transmit(b"defg") == Sent::Bytes(3));
-    assert!(rt; client.transmit(b"g") == Sent::NotYet);
-    assert!(rt; pipes.held(Side::Server) == 4 && pipes.held(Side::Client) == 0);
-    let mut server = PipeEnd {
-        pipes: &mut pipes,
-        side: Side::Server,
-    };
-    assert!(rt; server.receive(&mut into) == Got::Bytes(4) && into[0] == b'c' && into[3] == b'f');
-    assert!(rt; pipes.held(Side::Server) == 0);
-    Ok(())
+    assert!(rt;
+        end_takes(&mut pipes, b"defg", Sent::Bytes(3))
+            && end_takes(&mut pipes, b"g", Sent::NotYet)
+            && are_held(&pipes, 4, 0)
+            && end_gives(&mut pipes, Side::Server, 8, Got::Bytes(4), b"cdef")
+            && are_held(&pipes, 0, 0)
+    );
 }

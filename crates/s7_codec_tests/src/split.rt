@@ -1,3 +1,7 @@
+ghost use Rattle.std.specs.Prelude.{◌≡◌, ◌<◌, ◌≤◌, ◌^◌, IsSome};
+ghost use Rattle.s7_item.specs.Word.{size_of};
+ghost use Rattle.s7_split.specs.Parts.{range_end};
+
 use s7_item::Item;
 use s7_split::{Groups, PackFault, pack, parts};
 
@@ -9,6 +13,28 @@ const BYTES: Item = Item {
     address: 0,
 };
 
+/// Whether an item is split into parts of these counts at these addresses.
+fn is_split(item: &Item, pdu: u16, write: bool, wanted: &[(u16, u32)]) -> bool
+    requires known { IsSome (size_of item.now.word) }
+    requires some { 0 < item.now.count }
+    requires bit { item.now.word ≡ 0x01 → item.now.count ≡ 1 }
+    requires inside { range_end item.now ≤ 2 ^ 24 }
+    requires least { 64 ≤ pdu }
+{
+    let mut parts = parts(item, pdu, write);
+    for &(count, address) in wanted {
+        let part = Item {
+            count,
+            address,
+            ..*item
+        };
+        if parts.next() != Some(part) {
+            return false;
+        }
+    }
+    parts.next().is_none()
+}
+
 #[test]
 #[tactic(auto, unfolding(s7_item::specs::Word::size_of))]
 fn a_thousand_bytes_are_five_parts(rt: HostRuntime) {
@@ -16,19 +42,8 @@ fn a_thousand_bytes_are_five_parts(rt: HostRuntime) {
         count: 1000,
         ..BYTES
     };
-    let mut parts = parts(&item, 240, false);
     let wanted = [(222, 0), (222, 1776), (222, 3552), (222, 5328), (112, 7104)];
-    for (count, address) in wanted {
-        assert!(rt;
-            parts.next()
-                == Some(Item {
-                    count,
-                    address,
-                    ..BYTES
-                })
-        );
-    }
-    assert!(rt; parts.next().is_none());
+    assert!(rt; is_split(&item, 240, false, &wanted));
 }
 
 #[test]
@@ -38,18 +53,7 @@ fn no_part_is_empty(rt: HostRuntime) {
         count: 444,
         ..BYTES
     };
-    let mut parts = parts(&item, 240, false);
-    for address in [0, 1776] {
-        assert!(rt;
-            parts.next()
-                == Some(Item {
-                    count: 222,
-                    address,
-                    ..BYTES
-                })
-        );
-    }
-    assert!(rt; parts.next().is_none());
+    assert!(rt; is_split(&item, 240, false, &[(222, 0), (222, 1776)]));
 }
 
 #[test]
@@ -59,24 +63,12 @@ fn the_greatest_pdu_takes_1902_bytes(rt: HostRuntime) {
         count: 1902,
         ..BYTES
     };
-    let mut parts = parts(&most, 1920, false);
-    assert!(rt; parts.next() == Some(most));
-    assert!(rt; parts.next().is_none());
+    assert!(rt; is_split(&most, 1920, false, &[(1902, 0)]));
     let more = Item {
         count: 1903,
         ..BYTES
     };
-    let mut parts = s7_split::parts(&more, 1920, false);
-    assert!(rt; parts.next() == Some(most));
-    assert!(rt;
-        parts.next()
-            == Some(Item {
-                count: 1,
-                address: 15216,
-                ..BYTES
-            })
-    );
-    assert!(rt; parts.next().is_none());
+    assert!(rt; is_split(&more, 1920, false, &[(1902, 0), (1, 15216)]));
 }
 
 #[test]
@@ -89,70 +81,46 @@ fn counters_and_words_advance_as_their_areas_do(rt: HostRuntime) {
         count: 30,
         address: 5,
     };
-    let mut parts = parts(&counters, 64, false);
-    assert!(rt;
-        parts.next()
-            == Some(Item {
-                count: 23,
-                ..counters
-            })
-    );
-    assert!(rt;
-        parts.next()
-            == Some(Item {
-                count: 7,
-                address: 28,
-                ..counters
-            })
-    );
-    assert!(rt; parts.next().is_none());
+    assert!(rt; is_split(&counters, 64, false, &[(23, 5), (7, 28)]));
     let words = Item {
         word: 0x04,
         count: 20,
         address: 16,
         ..BYTES
     };
-    let mut parts = s7_split::parts(&words, 64, true);
-    assert!(rt; parts.next() == Some(Item { count: 14, ..words }));
-    assert!(rt;
-        parts.next()
-            == Some(Item {
-                count: 6,
-                address: 240,
-                ..words
-            })
-    );
-    assert!(rt; parts.next().is_none());
+    assert!(rt; is_split(&words, 64, true, &[(14, 16), (6, 240)]));
+}
+
+/// Whether items are packed into groups that end there, whatever groups were there before.
+fn are_packed(groups: &mut Groups, items: &[Item], pdu: u16, write: bool, ends: &[u8]) -> bool {
+    pack(items, pdu, write, groups) == Ok(())
+        && usize::from(groups.count) == ends.len()
+        && groups.ends.starts_with(ends)
 }
 
 #[test]
 fn twenty_bytes_are_packed(rt: HostRuntime) {
     let items = [BYTES; 20];
     let mut groups = Groups::new();
-    assert!(rt; pack(&items, 480, false, &mut groups) == Ok(()));
-    assert!(rt; groups.count == 1 && groups.ends[0] == 20);
-    assert!(rt; pack(&items, 240, false, &mut groups) == Ok(()));
-    assert!(rt; groups.count == 2 && groups.ends[0] == 19 && groups.ends[1] == 20);
-    assert!(rt; pack(&[], 64, true, &mut groups) == Ok(()));
-    assert!(rt; groups.count == 0);
+    assert!(rt;
+        are_packed(&mut groups, &items, 480, false, &[20])
+            && are_packed(&mut groups, &items, 240, false, &[19, 20])
+            && are_packed(&mut groups, &[], 64, true, &[])
+    );
+}
+
+/// Whether items can't be packed by this fault, and there are no groups then.
+fn have_fault(items: &[Item], pdu: u16, fault: PackFault) -> bool {
+    let mut groups = Groups::new();
+    pack(items, pdu, false, &mut groups) == Err(fault) && groups.count == 0
 }
 
 #[test]
 fn packing_is_refused(rt: HostRuntime) {
-    let mut groups = Groups::new();
-    let many = [BYTES; 21];
-    assert!(rt; pack(&many, 480, false, &mut groups) == Err(PackFault::TooMany));
-    let long = [
-        BYTES,
-        Item {
-            count: 223,
-            ..BYTES
-        },
-        Item {
-            count: 224,
-            ..BYTES
-        },
-    ];
-    assert!(rt; pack(&long, 240, false, &mut groups) == Err(PackFault::ItemOverPdu { place: 1 }));
-    assert!(rt; groups.count == 0);
+    assert!(rt; have_fault(&[BYTES; 21], 480, PackFault::TooMany));
+    let over = PackFault::ItemOverPdu { place: 1 };
+    let mut items = [BYTES; 3];
+    items[1].count = 223;
+    items[2].count = 224;
+    assert!(rt; have_fault(&items, 240, over));
 }

@@ -1,10 +1,7 @@
-ghost use Rattle.std.specs.Prelude.{◌<◌};
-
 use s7_szl::{
     SzlAdded, SzlJoin, read_component, read_mode, read_order_code, read_pdu, read_protection,
     write_table,
 };
-use std::test::Fail;
 
 /// The image of list 0000.
 const DIRECTORY: [u8; 20] = [
@@ -63,119 +60,186 @@ const STOP: [u8; 28] = [
     0x00, 0x00, 0x00, 0x00, 0x00, 0x00, 0x00, 0x00, 0x00, 0x00, 0x00, 0x00,
 ];
 
-#[test]
-fn lists_are_written(rt: HostRuntime) {
-    let rows: [(u16, u16, bool, &[u8]); 7] = [
-        (0x0000, 0, true, &DIRECTORY),
-        (0x0011, 0, true, &IDENTIFICATION),
-        (0x001C, 0, false, &COMPONENTS),
-        (0x0131, 1, true, &COMMUNICATION),
-        (0x0232, 4, false, &PROTECTION),
-        (0x0424, 0, true, &RUN),
-        (0x0424, 0, false, &STOP),
-    ];
-    for (id, index, running, image) in rows {
-        let mut into = [0xEE; 512];
-        assert_eq!(rt;
-            write_table(id, index, running, &mut into),
-            Some(image.len())
-        );
-        assert!(rt; into.starts_with(image));
-        assert!(rt; into[image.len()..].iter().all(|octet| *octet == 0xEE));
+/// Lists: the number, the index, whether the controller runs, and the image.
+const LISTS: &[(u16, u16, bool, &[u8])] = &[
+    (0x0000, 0, true, &DIRECTORY),
+    (0x0011, 0, true, &IDENTIFICATION),
+    (0x001C, 0, false, &COMPONENTS),
+    (0x0131, 1, true, &COMMUNICATION),
+    (0x0232, 4, false, &PROTECTION),
+    (0x0424, 0, true, &RUN),
+    (0x0424, 0, false, &STOP),
+];
+
+/// Whether all octets are `EE`, as they were before a list was written.
+fn are_left(octets: &[u8]) -> bool {
+    for octet in octets {
+        if *octet != 0xEE {
+            return false;
+        }
     }
+    true
+}
+
+/// Whether a list has so many octets, and this image.
+fn is_written(id: u16, index: u16, running: bool, len: Option<usize>, image: &[u8]) -> bool {
+    let mut into = [0xEE; 512];
+    write_table(id, index, running, &mut into) == len
+        && into.starts_with(image)
+        && image.len() <= 512
+        && are_left(&into[image.len()..])
 }
 
 #[test]
-fn other_lists_are_not_there(rt: HostRuntime) {
-    let rows: [(u16, u16); 6] = [
-        (0x0012, 0),
-        (0x0111, 1),
-        (0x0011, 1),
-        (0x0131, 0),
-        (0x0232, 0),
-        (0x0424, 1),
-    ];
-    for (id, index) in rows {
-        let mut into = [0xEE; 512];
-        assert_eq!(rt; write_table(id, index, true, &mut into), None);
-        assert!(rt; into.iter().all(|octet| *octet == 0xEE));
+fn lists_are_written(rt: HostRuntime) {
+    for &(id, index, running, image) in LISTS {
+        assert!(rt; is_written(id, index, running, Some(image.len()), image));
     }
+}
+
+/// Numbers and indices of lists that aren't there.
+const NO_LISTS: &[(u16, u16)] = &[
+    (0x0012, 0),
+    (0x0111, 1),
+    (0x0011, 1),
+    (0x0131, 0),
+    (0x0232, 0),
+    (0x0424, 1),
+];
+
+#[test]
+fn other_lists_are_not_there(rt: HostRuntime) {
+    for &(id, index) in NO_LISTS {
+        assert!(rt; is_written(id, index, true, None, &[]));
+    }
+}
+
+fn has_mode(image: &[u8], mode: Option<bool>) -> bool {
+    read_mode(image) == mode
+}
+
+fn has_pdu(image: &[u8], pdu: Option<u16>) -> bool {
+    read_pdu(image) == pdu
+}
+
+fn has_order_code(image: &[u8], code: &[u8; 20]) -> bool {
+    read_order_code(image) == Some(*code)
+}
+
+fn has_protection(image: &[u8], level: u16) -> bool {
+    read_protection(image) == Some(level)
+}
+
+/// Texts of components: the index, and the text.
+const TEXTS: &[(u16, Option<[u8; 32]>)] = &[
+    (
+        7,
+        Some(*b"S7SERVER PLC\0\0\0\0\0\0\0\0\0\0\0\0\0\0\0\0\0\0\0\0"),
+    ),
+    (3, Some([0; 32])),
+    (6, None),
+];
+
+fn has_text(image: &[u8], index: u16, text: Option<[u8; 32]>) -> bool {
+    read_component(image, index) == text
 }
 
 #[test]
 fn fields_are_read(rt: HostRuntime) {
-    assert_eq!(rt; read_mode(&RUN), Some(true));
-    assert_eq!(rt; read_mode(&STOP), Some(false));
-    assert_eq!(rt;
-        read_order_code(&IDENTIFICATION),
-        Some(*b"S7SERVER AREA BOOK  ")
+    assert!(rt;
+        has_mode(&RUN, Some(true))
+            && has_mode(&STOP, Some(false))
+            && has_order_code(&IDENTIFICATION, b"S7SERVER AREA BOOK  ")
+            && has_pdu(&COMMUNICATION, Some(1920))
+            && has_protection(&PROTECTION, 1)
     );
-    assert_eq!(rt; read_pdu(&COMMUNICATION), Some(1920));
-    assert_eq!(rt; read_protection(&PROTECTION), Some(1));
-    assert_eq!(rt;
-        read_component(&COMPONENTS, 7),
-        Some(*b"S7SERVER PLC\0\0\0\0\0\0\0\0\0\0\0\0\0\0\0\0\0\0\0\0")
-    );
-    assert_eq!(rt; read_component(&COMPONENTS, 3), Some([0; 32]));
-    assert_eq!(rt; read_component(&COMPONENTS, 6), None);
+    for &(index, text) in TEXTS {
+        assert!(rt; has_text(&COMPONENTS, index, text));
+    }
 }
 
 /// An image of list 0424 with one octet changed.
-fn with_octet(place: usize, octet: u8) -> [u8; 28]
-    requires { place < 28 }
-{
+fn with_octet(place: usize, octet: u8) -> [u8; 28] {
     let mut image = RUN;
-    image[place] = octet;
+    if place < 28 {
+        image[place] = octet;
+    }
     image
 }
+
+/// Images without a mode.
+const NO_MODES: &[&[u8]] = &[
+    b"\x04\x24\0\0\0\x14\0\x01\x51\x44\xFF\x08\0\0\0\0\0\0\0\0\0\0\0\0\0\0\0", // 27 octets
+    b"",
+    b"\x04\x24\0\0\0\x14\0\0",
+    &COMPONENTS,
+];
 
 #[test]
 fn other_images_have_no_field(rt: HostRuntime) {
     for place in 0..8 {
-        assert_eq!(rt; read_mode(&with_octet(place, 0x77)), None);
+        assert!(rt; has_mode(&with_octet(place, 0x77), None));
     }
-    assert_eq!(rt; read_mode(&with_octet(11, 0x03)), None);
-    assert_eq!(rt; read_mode(&RUN[..27]), None);
-    assert_eq!(rt; read_mode(&[]), None);
-    assert_eq!(rt; read_mode(&[0x04, 0x24, 0, 0, 0, 0x14, 0, 0]), None);
-    assert_eq!(rt; read_mode(&COMPONENTS), None);
-    assert_eq!(rt; read_pdu(&PROTECTION), None);
+    for &image in NO_MODES {
+        assert!(rt; has_mode(image, None));
+    }
+    assert!(rt; has_mode(&with_octet(11, 0x03), None) && has_pdu(&PROTECTION, None));
+}
+
+fn joins(join: &mut SzlJoin, octets: &[u8], more: bool, added: SzlAdded) -> bool {
+    join.add(octets, more) == added
+}
+
+fn joins_plain(join: &mut SzlJoin, octets: &[u8], more: bool, added: SzlAdded) -> bool {
+    join.add_plain(octets, more) == added
 }
 
 #[test]
-fn slices_are_joined(rt: HostRuntime) -> Result<(), Fail> {
-    let mut join = SzlJoin::new(rt.alloc())?;
+fn slices_are_joined(rt: HostRuntime) {
+    let mut join = SzlJoin::new(rt.alloc()).expect(&rt, "there is memory");
     for _ in 0..2 {
-        assert_eq!(rt; join.add(&COMPONENTS[..102], true), SzlAdded::More);
-        assert_eq!(rt; join.add(&COMPONENTS[102..204], true), SzlAdded::More);
-        assert_eq!(rt; join.add(&COMPONENTS[204..], false), SzlAdded::Whole);
+        for (from, to, added) in [
+            (0, 102, SzlAdded::More),
+            (102, 204, SzlAdded::More),
+            (204, 212, SzlAdded::Whole),
+        ] {
+            assert!(rt; joins(&mut join, &COMPONENTS[from..to], to < 212, added));
+        }
         assert!(rt; join.image() == COMPONENTS.as_slice());
     }
-    Ok(())
 }
 
 #[test]
-fn other_slices_are_bad(rt: HostRuntime) -> Result<(), Fail> {
-    let mut join = SzlJoin::new(rt.alloc())?;
-    assert_eq!(rt; join.add(&with_octet(7, 2), false), SzlAdded::Bad);
-    assert_eq!(rt; join.add(&RUN, false), SzlAdded::Bad);
+fn other_slices_are_bad(rt: HostRuntime) {
+    let mut join = SzlJoin::new(rt.alloc()).expect(&rt, "there is memory");
+    let two_records = with_octet(7, 2);
+    assert!(rt;
+        joins(&mut join, &two_records, false, SzlAdded::Bad)
+            && joins(&mut join, &RUN, false, SzlAdded::Bad)
+    );
     join.clear();
-    assert_eq!(rt; join.add_plain(&with_octet(7, 2), false), SzlAdded::Whole);
-    assert_eq!(rt; join.add(&RUN, false), SzlAdded::Whole);
-    assert_eq!(rt; join.add(&RUN[..7], false), SzlAdded::Bad);
+    assert!(rt;
+        joins_plain(&mut join, &two_records, false, SzlAdded::Whole)
+            && joins(&mut join, &RUN, false, SzlAdded::Whole)
+            && joins(&mut join, &RUN[..7], false, SzlAdded::Bad)
+    );
     join.clear();
-    assert_eq!(rt; join.add_plain(&RUN, true), SzlAdded::More);
-    assert_eq!(rt; join.add_plain(&[], true), SzlAdded::Bad);
-    assert!(rt; join.image() == RUN.as_slice());
-    Ok(())
+    assert!(rt;
+        joins_plain(&mut join, &RUN, true, SzlAdded::More)
+            && joins_plain(&mut join, &[], true, SzlAdded::Bad)
+            && join.image() == RUN.as_slice()
+    );
+}
+
+/// Whether 8,448 octets are taken, and then these as the last.
+fn is_filled(join: &mut SzlJoin, last: &[u8], added: SzlAdded) -> bool {
+    joins_plain(join, &[0xEE; 8448], true, SzlAdded::More) && joins_plain(join, last, false, added)
 }
 
 #[test]
-fn an_image_has_8448_octets(rt: HostRuntime) -> Result<(), Fail> {
-    let mut join = SzlJoin::new(rt.alloc())?;
-    assert_eq!(rt; join.add_plain(&[0xEE; 8448], true), SzlAdded::More);
-    assert_eq!(rt; join.add_plain(&[], false), SzlAdded::Whole);
-    assert_eq!(rt; join.add_plain(&[0xEE; 8448], true), SzlAdded::More);
-    assert_eq!(rt; join.add_plain(&[0xEE], false), SzlAdded::Bad);
-    Ok(())
+fn an_image_has_8448_octets(rt: HostRuntime) {
+    let mut join = SzlJoin::new(rt.alloc()).expect(&rt, "there is memory");
+    assert!(rt;
+        is_filled(&mut join, &[], SzlAdded::Whole) && is_filled(&mut join, &[0xEE], SzlAdded::Bad)
+    );
 }

@@ -4,7 +4,6 @@ use s7_memory::MemoryLink;
 use s7_outer::{Got, Memory, Octets, Sent};
 use s7_wire::{Inbox, MOST_MESSAGE, Outbox, PIECE, put_message, tpdu_size};
 use std::alloc::Global;
-use std::test::Fail;
 
 /// 125 octets, as many as one fragment takes where the TPDU size is 128.
 const FRONT: &[u8] = b"\x32\x03\x00\x00\x00\x05\x00\x02\x00\x74\x00\x00\x04\x01\xFF\x04\x03\x80\
@@ -18,15 +17,8 @@ const OPEN: &[u8] = b"\x03\x00\x00\x84\x02\xF0\x00";
 
 const REST: &[u8] = b"\xF0\xF1\xF2\xF3\xF4";
 
-/// A message that goes out at a TPDU size, and the packets that it goes out in.
-#[derive(Drop)]
-struct Row {
-    size_code: u8,
-    message: &'static [&'static [u8]],
-    packets: &'static [&'static [u8]],
-}
-
-fn joined(alloc: Global, parts: &[&[u8]]) -> Result<Vec<u8>, Memory> {
+/// The octets of these parts.
+pub(crate) fn joined(alloc: Global, parts: &[&[u8]]) -> Result<Vec<u8>, Memory> {
     let mut all = Vec::new(alloc);
     for part in parts {
         all.extend_from_slice(part)?;
@@ -49,11 +41,9 @@ fn flushed(outbox: &mut Outbox, line: &mut MemoryLink) -> Option<Sent> {
     Some(outbox.flush(line))
 }
 
-/// What a refill answers, where nothing is left.
-fn refilled(inbox: &mut Inbox, line: &mut MemoryLink, most: usize) -> Option<Got>
-    requires { 0 < most }
-{
-    if !inbox.is_empty() {
+/// What a refill answers, where nothing is left and some octets are asked for.
+fn refilled(inbox: &mut Inbox, line: &mut MemoryLink, most: usize) -> Option<Got> {
+    if !inbox.is_empty() || most == 0 {
         return None;
     }
     Some(inbox.refill(line, most))
@@ -68,178 +58,198 @@ fn is_advanced(inbox: &mut Inbox, count: usize) -> bool {
     fits
 }
 
-/// The message goes out in these packets.
-fn goes_out(alloc: Global, row: &Row) -> Result<bool, Memory> {
-    let message = joined(alloc, row.message)?;
-    if message.len() > MOST_MESSAGE || row.size_code < 7 || row.size_code > 13 {
-        return Ok(false);
+/// What stands before the last fragment of that message, and before the message as a whole where it is one fragment.
+const CLOSE: &[u8] = b"\x03\x00\x00\x34\x02\xF0\x80";
+
+const WHOLE: &[u8] = b"\x03\x00\x07\x87\x02\xF0\x80";
+
+/// Fifteen times the 125 octets, and the 45.
+const LONGEST: &[&[u8]] = &[
+    FRONT, FRONT, FRONT, FRONT, FRONT, FRONT, FRONT, FRONT, FRONT, FRONT, FRONT, FRONT, FRONT,
+    FRONT, FRONT, BACK,
+];
+
+/// Messages with the code of the TPDU size at which they go out, and their packets.
+const MESSAGES: &[(u8, &[&[u8]], &[&[u8]])] = &[
+    (
+        0x07,
+        &[FRONT, REST],
+        &[OPEN, FRONT, b"\x03\x00\x00\x0C\x02\xF0\x80", REST],
+    ),
+    (0x07, &[FRONT], &[b"\x03\x00\x00\x84\x02\xF0\x80", FRONT]),
+    (0x07, &[], &[b"\x03\x00\x00\x07\x02\xF0\x80"]),
+    (
+        0x0A,
+        &[FRONT, REST],
+        &[b"\x03\x00\x00\x89\x02\xF0\x80", FRONT, REST],
+    ),
+    (
+        0x07,
+        LONGEST,
+        &[
+            OPEN, FRONT, OPEN, FRONT, OPEN, FRONT, OPEN, FRONT, OPEN, FRONT, OPEN, FRONT, OPEN,
+            FRONT, OPEN, FRONT, OPEN, FRONT, OPEN, FRONT, OPEN, FRONT, OPEN, FRONT, OPEN, FRONT,
+            OPEN, FRONT, OPEN, FRONT, CLOSE, BACK,
+        ],
+    ),
+    (
+        0x0B,
+        LONGEST,
+        &[
+            WHOLE, FRONT, FRONT, FRONT, FRONT, FRONT, FRONT, FRONT, FRONT, FRONT, FRONT, FRONT,
+            FRONT, FRONT, FRONT, FRONT, BACK,
+        ],
+    ),
+];
+
+/// How many octets a message goes out in, where all of them go in one call.
+fn sent(line: &mut MemoryLink, code: u8, message: &[u8]) -> Option<usize> {
+    if message.len() > MOST_MESSAGE || code < 7 || code > 13 {
+        return None;
     }
-    let mut line = line(alloc, b"", 8_192)?;
     let mut outbox = Outbox::new();
-    put_message(&mut outbox, tpdu_size(row.size_code), &message);
-    let sent = flushed(&mut outbox, &mut line);
-    let packets = joined(alloc, row.packets)?;
-    Ok(
-        sent == Some(Sent::Bytes(packets.len()))
-            && outbox.is_empty()
-            && line.written() == packets.as_slice(),
-    )
-}
-
-#[test]
-fn messages_go_out_in_fragments(rt: HostRuntime) -> Result<(), Fail> {
-    let rows = [
-        Row {
-            size_code: 0x07,
-            message: &[FRONT, REST],
-            packets: &[OPEN, FRONT, b"\x03\x00\x00\x0C\x02\xF0\x80", REST],
-        },
-        Row {
-            size_code: 0x07,
-            message: &[FRONT],
-            packets: &[b"\x03\x00\x00\x84\x02\xF0\x80", FRONT],
-        },
-        Row {
-            size_code: 0x07,
-            message: &[],
-            packets: &[b"\x03\x00\x00\x07\x02\xF0\x80"],
-        },
-        Row {
-            size_code: 0x0A,
-            message: &[FRONT, REST],
-            packets: &[b"\x03\x00\x00\x89\x02\xF0\x80", FRONT, REST],
-        },
-        Row {
-            size_code: 0x07,
-            message: &[
-                FRONT, FRONT, FRONT, FRONT, FRONT, FRONT, FRONT, FRONT, FRONT, FRONT, FRONT, FRONT,
-                FRONT, FRONT, FRONT, BACK,
-            ],
-            packets: &[
-                OPEN,
-                FRONT,
-                OPEN,
-                FRONT,
-                OPEN,
-                FRONT,
-                OPEN,
-                FRONT,
-                OPEN,
-                FRONT,
-                OPEN,
-                FRONT,
-                OPEN,
-                FRONT,
-                OPEN,
-                FRONT,
-                OPEN,
-                FRONT,
-                OPEN,
-                FRONT,
-                OPEN,
-                FRONT,
-                OPEN,
-                FRONT,
-                OPEN,
-                FRONT,
-                OPEN,
-                FRONT,
-                OPEN,
-                FRONT,
-                b"\x03\x00\x00\x34\x02\xF0\x80",
-                BACK,
-            ],
-        },
-        Row {
-            size_code: 0x0B,
-            message: &[
-                FRONT, FRONT, FRONT, FRONT, FRONT, FRONT, FRONT, FRONT, FRONT, FRONT, FRONT, FRONT,
-                FRONT, FRONT, FRONT, BACK,
-            ],
-            packets: &[
-                b"\x03\x00\x07\x87\x02\xF0\x80",
-                FRONT,
-                FRONT,
-                FRONT,
-                FRONT,
-                FRONT,
-                FRONT,
-                FRONT,
-                FRONT,
-                FRONT,
-                FRONT,
-                FRONT,
-                FRONT,
-                FRONT,
-                FRONT,
-                FRONT,
-                BACK,
-            ],
-        },
-    ];
-    for row in &rows {
-        assert!(rt; goes_out(rt.alloc(), row)?);
+    put_message(&mut outbox, tpdu_size(code), message);
+    match flushed(&mut outbox, line) {
+        Some(Sent::Bytes(count)) if outbox.is_empty() => Some(count),
+        _ => None,
     }
-    Ok(())
+}
+
+/// Whether the message goes out in these packets.
+fn goes_out(alloc: Global, code: u8, message: &[&[u8]], packets: &[&[u8]]) -> Result<bool, Memory> {
+    let message = joined(alloc, message)?;
+    let packets = joined(alloc, packets)?;
+    let mut line = line(alloc, b"", 8_192)?;
+    Ok(sent(&mut line, code, &message) == Some(packets.len()) && has_sent(&line, &packets))
 }
 
 #[test]
-fn an_inbox_gives_what_a_link_gave(rt: HostRuntime) -> Result<(), Fail> {
-    let mut line = line(rt.alloc(), b"\x11\x22\x33\x44\x55\x66\x77", 3)?;
+fn messages_go_out_in_fragments(rt: HostRuntime) {
+    for &(code, message, packets) in MESSAGES {
+        assert!(rt; goes_out(rt.alloc(), code, message, packets) == Ok(true));
+    }
+}
+
+/// Calls of an inbox: how many octets are used first, how many are asked for then, what the refill answers, `None`
+/// where octets are left, and the octets there.
+const CALLS: &[(usize, usize, Option<Got>, &[u8])] = &[
+    (0, PIECE, Some(Got::Bytes(3)), b"\x11\x22\x33"),
+    (1, PIECE, None, b"\x22\x33"),
+    (2, 2, Some(Got::Bytes(2)), b"\x44\x55"),
+    (2, 20_000, Some(Got::Bytes(2)), b"\x66\x77"),
+    (2, PIECE, Some(Got::End), b""),
+    (0, 1, Some(Got::End), b""),
+];
+
+/// Whether an inbox answers a call so.
+fn gives(
+    inbox: &mut Inbox,
+    line: &mut MemoryLink,
+    call: (usize, usize, Option<Got>, &[u8]),
+) -> bool {
+    let (used, most, got, octets) = call;
+    is_advanced(inbox, used) && refilled(inbox, line, most) == got && inbox.as_slice() == octets
+}
+
+#[test]
+fn an_inbox_gives_what_a_link_gave(rt: HostRuntime) {
+    let input = b"\x11\x22\x33\x44\x55\x66\x77";
+    let mut line = line(rt.alloc(), input, 3).expect(&rt, "there is memory");
     let mut inbox = Inbox::new();
     assert!(rt; inbox.is_empty());
-    assert!(rt; refilled(&mut inbox, &mut line, PIECE) == Some(Got::Bytes(3)));
-    assert!(rt; inbox.as_slice() == b"\x11\x22\x33".as_slice());
-    assert!(rt; is_advanced(&mut inbox, 1));
-    assert!(rt; inbox.as_slice() == b"\x22\x33".as_slice());
-    assert!(rt; refilled(&mut inbox, &mut line, PIECE) == None);
-    assert!(rt; is_advanced(&mut inbox, 2));
-    assert!(rt; inbox.is_empty());
-    assert!(rt; refilled(&mut inbox, &mut line, 2) == Some(Got::Bytes(2)));
-    assert!(rt; inbox.as_slice() == b"\x44\x55".as_slice());
-    assert!(rt; is_advanced(&mut inbox, 2));
-    assert!(rt; refilled(&mut inbox, &mut line, 20_000) == Some(Got::Bytes(2)));
-    assert!(rt; inbox.as_slice() == b"\x66\x77".as_slice());
-    assert!(rt; is_advanced(&mut inbox, 2));
-    assert!(rt; refilled(&mut inbox, &mut line, PIECE) == Some(Got::End));
-    assert!(rt; inbox.as_slice() == b"".as_slice());
-    assert!(rt; refilled(&mut inbox, &mut line, 1) == Some(Got::End));
-    Ok(())
+    for &call in CALLS {
+        assert!(rt; gives(&mut inbox, &mut line, call));
+    }
 }
 
-#[test]
-fn an_outbox_sends_what_was_put(rt: HostRuntime) -> Result<(), Fail> {
-    let mut line = line(rt.alloc(), b"", 2)?;
+/// An outbox with two bodies, each of 3 to 2,000 octets.
+fn outbox_of(first: &[u8], second: &[u8]) -> Outbox {
     let mut outbox = Outbox::new();
-    assert!(rt; outbox.is_empty());
-    outbox.put(b"\x02\xF0\x80");
-    outbox.put(b"\x02\xF0\x00\x99");
-    assert!(rt; flushed(&mut outbox, &mut line) == Some(Sent::Bytes(2)));
-    assert!(rt; line.written() == b"\x03\x00".as_slice());
-    for _ in 0..6 {
-        assert!(rt; flushed(&mut outbox, &mut line) == Some(Sent::Bytes(2)));
+    if first.len() >= 3 && first.len() <= 2_000 && second.len() >= 3 && second.len() <= 2_000 {
+        outbox.put(first);
+        outbox.put(second);
     }
-    assert!(rt; flushed(&mut outbox, &mut line) == Some(Sent::Bytes(1)));
-    assert!(rt;
-        line.written() == b"\x03\x00\x00\x07\x02\xF0\x80\x03\x00\x00\x08\x02\xF0\x00\x99".as_slice()
-    );
-    assert!(rt; flushed(&mut outbox, &mut line) == None);
-    if outbox.is_empty() {
+    outbox
+}
+
+/// Puts a body into an outbox from which all was sent.
+fn is_put(outbox: &mut Outbox, body: &[u8]) -> bool {
+    let fits = outbox.is_empty() && body.len() >= 3 && body.len() <= 2_000;
+    if fits {
         outbox.clear();
-        outbox.put(b"\x02\xF0\x80");
+        outbox.put(body);
     }
-    assert!(rt; flushed(&mut outbox, &mut line) == Some(Sent::Bytes(2)));
-    Ok(())
+    fits
+}
+
+fn has_sent(line: &MemoryLink, octets: &[u8]) -> bool {
+    line.written() == octets
+}
+
+/// Whether a flush sends these octets behind those before.
+fn sends(outbox: &mut Outbox, line: &mut MemoryLink, octets: &[u8]) -> bool {
+    flushed(outbox, line) == Some(Sent::Bytes(octets.len())) && line.written().ends_with(octets)
+}
+
+/// Whether an outbox from which all was sent sends two octets of another body.
+fn is_used_again(outbox: &mut Outbox, line: &mut MemoryLink) -> bool {
+    flushed(outbox, line) == None
+        && is_put(outbox, b"\x02\xF0\x80")
+        && flushed(outbox, line) == Some(Sent::Bytes(2))
+}
+
+/// The packets of two bodies.
+const BOTH: &[u8] = b"\x03\x00\x00\x07\x02\xF0\x80\x03\x00\x00\x08\x02\xF0\x00\x99";
+
+#[test]
+fn an_outbox_sends_what_was_put(rt: HostRuntime) {
+    assert!(rt; Outbox::new().is_empty());
+    let mut line = line(rt.alloc(), b"", 2).expect(&rt, "there is memory");
+    let mut outbox = outbox_of(b"\x02\xF0\x80", b"\x02\xF0\x00\x99");
+    for piece in BOTH.chunks(2) {
+        assert!(rt; sends(&mut outbox, &mut line, piece));
+    }
+    assert!(rt; has_sent(&line, BOTH) && is_used_again(&mut outbox, &mut line));
+}
+
+/// 8,200 octets are more than a receive takes, and less than the link moves in a call.
+#[test]
+fn a_receive_has_room_for_all_that_fits(rt: HostRuntime) {
+    let mut line = line(rt.alloc(), &[7; 8_200], 10_000).expect(&rt, "there is memory");
+    let mut inbox = Inbox::new();
+    assert!(rt; refilled(&mut inbox, &mut line, PIECE) == Some(Got::Bytes(8_192)));
+    // All of them are used, since a refill answers only where nothing is left.
+    assert!(rt;
+        is_advanced(&mut inbox, 8_192)
+            && refilled(&mut inbox, &mut line, PIECE) == Some(Got::Bytes(8))
+    );
 }
 
 #[test]
-fn a_code_is_a_tpdu_size(rt: HostRuntime) -> Result<(), Fail> {
-    assert!(rt; tpdu_size(0x07) == 128);
-    assert!(rt; tpdu_size(0x08) == 256);
-    assert!(rt; tpdu_size(0x09) == 512);
-    assert!(rt; tpdu_size(0x0A) == 1_024);
-    assert!(rt; tpdu_size(0x0B) == 2_048);
-    assert!(rt; tpdu_size(0x0C) == 4_096);
-    assert!(rt; tpdu_size(0x0D) == 8_192);
-    Ok(())
+fn a_transmit_is_offered_all_that_waits(rt: HostRuntime) {
+    let mut line = line(rt.alloc(), b"", 10_000).expect(&rt, "there is memory");
+    let mut outbox = outbox_of(&[1; 2_000], &[2; 1_000]);
+    assert!(rt; flushed(&mut outbox, &mut line) == Some(Sent::Bytes(3_008)) && outbox.is_empty());
+}
+
+/// Codes of TPDU sizes, and the sizes.
+const SIZES: &[(u8, u16)] = &[
+    (0x07, 128),
+    (0x08, 256),
+    (0x09, 512),
+    (0x0A, 1_024),
+    (0x0B, 2_048),
+    (0x0C, 4_096),
+    (0x0D, 8_192),
+];
+
+fn is_size(code: u8, size: u16) -> bool {
+    code >= 7 && code <= 13 && tpdu_size(code) == size
+}
+
+#[test]
+fn a_code_is_a_tpdu_size(rt: HostRuntime) {
+    for &(code, size) in SIZES {
+        assert!(rt; is_size(code, size));
+    }
 }

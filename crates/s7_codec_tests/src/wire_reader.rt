@@ -1,12 +1,12 @@
 //! Octets of a link, made by hand, and what they are found to be.
 
-ghost use Rattle.std.specs.Prelude.{◌≡◌, ◌<◌};
+ghost use Rattle.std.specs.Prelude.{◌≡◌};
 ghost use Rattle.s7_wire.specs.Reads.{HasMessage};
 
+use crate::wire::joined;
 use s7_outer::Memory;
 use s7_wire::{Found, Opening, ReadFault, Reader};
 use std::alloc::Global;
-use std::test::Fail;
 
 /// A connect request with the TPDU size 1,024, and one with 128.
 const REQUEST: &[u8] =
@@ -52,14 +52,13 @@ enum Wanted {
     Fault(ReadFault, u64),
 }
 
-/// Octets of a link, what they are to be found to be, and how many of them are torn.
-#[derive(Drop)]
-struct Row {
-    opening: Opening,
-    octets: &'static [&'static [u8]],
-    wanted: &'static [Wanted],
-    torn: Option<usize>,
-}
+/// Whose connect opens a link, its octets, what they are to be found to be, and how many of them are torn.
+type Row = (
+    Opening,
+    &'static [&'static [u8]],
+    &'static [Wanted],
+    Option<usize>,
+);
 
 fn is_wanted(reader: &Reader, found: Found, wanted: Wanted) -> bool
     requires { found ≡ Found.Message → HasMessage reader.now }
@@ -78,11 +77,11 @@ fn is_wanted(reader: &Reader, found: Found, wanted: Wanted) -> bool
 }
 
 /// What is still wanted after a piece, and none where something else was found.
-fn wanted_after<'a>(
+fn wanted_after(
     reader: &mut Reader,
     piece: &[u8],
-    wanted: &'a [Wanted],
-) -> Option<&'a [Wanted]> {
+    wanted: &'static [Wanted],
+) -> Option<&'static [Wanted]> {
     let mut rest = piece;
     let mut left = wanted;
     for _ in 0..piece.len() {
@@ -105,187 +104,197 @@ fn wanted_after<'a>(
     Some(left)
 }
 
-/// Whether a row is read as wanted, in pieces of so many octets.
-fn reads_as(alloc: Global, row: &Row, size: usize) -> Result<bool, Memory>
-    requires { 0 < size }
-{
-    let mut octets = Vec::new(alloc);
-    for part in row.octets {
-        octets.extend_from_slice(part)?;
+/// Whether octets are read as all that is wanted, in pieces of so many.
+fn reads_pieces(
+    reader: &mut Reader,
+    octets: &[u8],
+    size: usize,
+    wanted: &'static [Wanted],
+) -> bool {
+    if size == 0 {
+        return false;
     }
-    let mut reader = Reader::new(alloc, row.opening)?;
-    let mut left = row.wanted;
+    let mut left = wanted;
     for piece in octets.chunks(size) {
-        let Some(behind) = wanted_after(&mut reader, piece, left) else {
-            return Ok(false);
+        let Some(behind) = wanted_after(reader, piece, left) else {
+            return false;
         };
         left = behind;
     }
-    Ok(left.is_empty() && reader.torn() == row.torn)
+    left.is_empty()
 }
 
-fn all_read_as(alloc: Global, rows: &[Row]) -> Result<bool, Memory> {
-    for row in rows {
-        if !reads_as(alloc, row, 1)? || !reads_as(alloc, row, 7)? || !reads_as(alloc, row, 8_192)? {
-            return Ok(false);
+/// Whether a row is read as wanted, in pieces of so many octets.
+fn reads_as(alloc: Global, row: &Row, size: usize) -> Result<bool, Memory> {
+    let (opening, parts, wanted, torn) = *row;
+    let octets = joined(alloc, parts)?;
+    let mut reader = Reader::new(alloc, opening)?;
+    Ok(reads_pieces(&mut reader, &octets, size, wanted) && reader.torn() == torn)
+}
+
+/// Whether a row is read as wanted octet by octet, in pieces that cut packets, and at once.
+fn is_read(alloc: Global, row: &Row) -> bool {
+    for size in [1, 7, 8_192] {
+        if reads_as(alloc, row, size) != Ok(true) {
+            return false;
         }
     }
-    Ok(true)
+    true
 }
+
+/// The message of `LAST`.
+const E0_TO_E4: &[u8] = b"\xE0\xE1\xE2\xE3\xE4";
+
+/// The message of two fragments and `LAST`.
+const LONG: &[u8] = b"\xF0\xF1\xF2\xF3\xF4\xF0\xF1\xF2\xF3\xF4\xE0\xE1\xE2\xE3\xE4";
+
+/// What a link is opened with, where its size is 1,024, and where it is 128.
+const OPENED: Wanted = Wanted::Opened(1_024);
+
+const SMALL_OPENED: Wanted = Wanted::Opened(128);
+
+/// Links with packets of messages.
+const JOINED: &[Row] = &[
+    (
+        Opening::Request,
+        &[REQUEST, LAST, FRAGMENT, FRAGMENT, LAST],
+        &[
+            OPENED,
+            Wanted::Message(E0_TO_E4, 22),
+            Wanted::Message(LONG, 58),
+        ],
+        None,
+    ),
+    (
+        Opening::Confirm,
+        &[CONFIRM, LAST, b"\x03\x00\x00"],
+        &[OPENED, Wanted::Message(E0_TO_E4, 22)],
+        Some(3),
+    ),
+    (
+        Opening::Request,
+        &[REQUEST, FRAGMENT, b"\x03\x00\x00"],
+        &[OPENED],
+        Some(8),
+    ),
+    (
+        Opening::Request,
+        &[REQUEST, EMPTY_FRAGMENT],
+        &[OPENED],
+        Some(0),
+    ),
+    (
+        Opening::Request,
+        &[SMALL_REQUEST, b"\x03\x00\x00\x87\x02\xF0\x80", USER],
+        &[SMALL_OPENED, Wanted::Message(USER, 22)],
+        None,
+    ),
+    (
+        Opening::Request,
+        &[REQUEST, DISCONNECT, LAST],
+        &[OPENED, Wanted::Disconnected(22)],
+        None,
+    ),
+    (
+        Opening::Confirm,
+        &[CONFIRM, FRAGMENT, DISCONNECT, LAST],
+        &[OPENED, Wanted::Disconnected(34)],
+        Some(5),
+    ),
+];
 
 #[test]
-fn messages_are_joined_from_packets(rt: HostRuntime) -> Result<(), Fail> {
-    let rows = [
-        Row {
-            opening: Opening::Request,
-            octets: &[REQUEST, LAST, FRAGMENT, FRAGMENT, LAST],
-            wanted: &[
-                Wanted::Opened(1_024),
-                Wanted::Message(b"\xE0\xE1\xE2\xE3\xE4", 22),
-                Wanted::Message(
-                    b"\xF0\xF1\xF2\xF3\xF4\xF0\xF1\xF2\xF3\xF4\xE0\xE1\xE2\xE3\xE4",
-                    58,
-                ),
-            ],
-            torn: None,
-        },
-        Row {
-            opening: Opening::Confirm,
-            octets: &[CONFIRM, LAST, b"\x03\x00\x00"],
-            wanted: &[
-                Wanted::Opened(1_024),
-                Wanted::Message(b"\xE0\xE1\xE2\xE3\xE4", 22),
-            ],
-            torn: Some(3),
-        },
-        Row {
-            opening: Opening::Request,
-            octets: &[REQUEST, FRAGMENT, b"\x03\x00\x00"],
-            wanted: &[Wanted::Opened(1_024)],
-            torn: Some(8),
-        },
-        Row {
-            opening: Opening::Request,
-            octets: &[REQUEST, EMPTY_FRAGMENT],
-            wanted: &[Wanted::Opened(1_024)],
-            torn: Some(0),
-        },
-        Row {
-            opening: Opening::Request,
-            octets: &[SMALL_REQUEST, b"\x03\x00\x00\x87\x02\xF0\x80", USER],
-            wanted: &[Wanted::Opened(128), Wanted::Message(USER, 22)],
-            torn: None,
-        },
-        Row {
-            opening: Opening::Request,
-            octets: &[REQUEST, DISCONNECT, LAST],
-            wanted: &[Wanted::Opened(1_024), Wanted::Disconnected(22)],
-            torn: None,
-        },
-        Row {
-            opening: Opening::Confirm,
-            octets: &[CONFIRM, FRAGMENT, DISCONNECT, LAST],
-            wanted: &[Wanted::Opened(1_024), Wanted::Disconnected(34)],
-            torn: Some(5),
-        },
-    ];
-    assert!(rt; all_read_as(rt.alloc(), &rows)?);
-    Ok(())
-}
-
-/// A row of a side that is dialled.
-fn dialled(
-    octets: &'static [&'static [u8]],
-    wanted: &'static [Wanted],
-    torn: Option<usize>,
-) -> Row {
-    Row {
-        opening: Opening::Request,
-        octets,
-        wanted,
-        torn,
+fn messages_are_joined_from_packets(rt: HostRuntime) {
+    for row in JOINED {
+        assert!(rt; is_read(rt.alloc(), row));
     }
 }
 
-#[test]
-fn packets_at_fault_end_a_link(rt: HostRuntime) -> Result<(), Fail> {
-    let rows = [
-        dialled(
-            &[b"\x04\x00\x00\x07\x02\xF0\x80"],
-            &[Wanted::Fault(ReadFault::BadFrame, 0)],
-            None,
-        ),
-        dialled(
-            &[REQUEST, b"\x03\x00\x00\x06\x02\xF0", LAST],
-            &[
-                Wanted::Opened(1_024),
-                Wanted::Fault(ReadFault::BadFrame, 22),
-            ],
-            None,
-        ),
-        dialled(
-            &[b"\x03\x00\x20\x08"],
-            &[Wanted::Fault(ReadFault::FrameTooLong, 0)],
-            None,
-        ),
-        dialled(
-            &[SMALL_REQUEST, b"\x03\x00\x00\x88"],
-            &[
-                Wanted::Opened(128),
-                Wanted::Fault(ReadFault::FrameTooLong, 22),
-            ],
-            None,
-        ),
-        dialled(
-            &[b"\x03\x00\x00\x07\x02\xFF\x80"],
-            &[Wanted::Fault(ReadFault::BadTpdu, 0)],
-            None,
-        ),
-        dialled(&[CONFIRM], &[Wanted::Fault(ReadFault::Unexpected, 0)], None),
-        dialled(
-            &[DISCONNECT],
-            &[Wanted::Fault(ReadFault::Unexpected, 0)],
-            None,
-        ),
-        dialled(
-            &[REQUEST, REQUEST, LAST],
-            &[
-                Wanted::Opened(1_024),
-                Wanted::Fault(ReadFault::Unexpected, 22),
-            ],
-            None,
-        ),
-        dialled(
-            &[REQUEST, FRAGMENT, ERROR],
-            &[
-                Wanted::Opened(1_024),
-                Wanted::Fault(ReadFault::Unexpected, 34),
-            ],
-            Some(5),
-        ),
-        dialled(
-            &[
-                REQUEST, THIRTEEN, THIRTEEN, THIRTEEN, THIRTEEN, THIRTEEN, LAST,
-            ],
-            &[
-                Wanted::Opened(1_024),
-                Wanted::Fault(ReadFault::TooManyFragments, 470),
-            ],
-            Some(0),
-        ),
-    ];
-    assert!(rt; all_read_as(rt.alloc(), &rows)?);
-    Ok(())
-}
+/// Links that a packet at fault ends.
+const AT_FAULT: &[Row] = &[
+    (
+        Opening::Request,
+        &[b"\x04\x00\x00\x07\x02\xF0\x80"],
+        &[Wanted::Fault(ReadFault::BadFrame, 0)],
+        None,
+    ),
+    (
+        Opening::Request,
+        &[REQUEST, b"\x03\x00\x00\x06\x02\xF0", LAST],
+        &[OPENED, Wanted::Fault(ReadFault::BadFrame, 22)],
+        None,
+    ),
+    (
+        Opening::Request,
+        &[b"\x03\x00\x20\x08"],
+        &[Wanted::Fault(ReadFault::FrameTooLong, 0)],
+        None,
+    ),
+    (
+        Opening::Request,
+        &[SMALL_REQUEST, b"\x03\x00\x00\x88"],
+        &[SMALL_OPENED, Wanted::Fault(ReadFault::FrameTooLong, 22)],
+        None,
+    ),
+    (
+        Opening::Request,
+        &[b"\x03\x00\x00\x07\x02\xFF\x80"],
+        &[Wanted::Fault(ReadFault::BadTpdu, 0)],
+        None,
+    ),
+    (
+        Opening::Request,
+        &[CONFIRM],
+        &[Wanted::Fault(ReadFault::Unexpected, 0)],
+        None,
+    ),
+    (
+        Opening::Request,
+        &[DISCONNECT],
+        &[Wanted::Fault(ReadFault::Unexpected, 0)],
+        None,
+    ),
+    (
+        Opening::Request,
+        &[REQUEST, REQUEST, LAST],
+        &[OPENED, Wanted::Fault(ReadFault::Unexpected, 22)],
+        None,
+    ),
+    (
+        Opening::Request,
+        &[REQUEST, FRAGMENT, ERROR],
+        &[OPENED, Wanted::Fault(ReadFault::Unexpected, 34)],
+        Some(5),
+    ),
+    (
+        Opening::Request,
+        &[
+            REQUEST, THIRTEEN, THIRTEEN, THIRTEEN, THIRTEEN, THIRTEEN, LAST,
+        ],
+        &[OPENED, Wanted::Fault(ReadFault::TooManyFragments, 470)],
+        Some(0),
+    ),
+];
 
 #[test]
-fn a_reader_begins_anew(rt: HostRuntime) -> Result<(), Fail> {
-    let mut reader = Reader::new(rt.alloc(), Opening::Confirm)?;
-    let wanted = [Wanted::Fault(ReadFault::Unexpected, 0)];
-    assert!(rt; wanted_after(&mut reader, REQUEST, &wanted).is_some_and(|left| left.is_empty()));
-    assert!(rt; reader.read(CONFIRM).octets == 0);
+fn packets_at_fault_end_a_link(rt: HostRuntime) {
+    for row in AT_FAULT {
+        assert!(rt; is_read(rt.alloc(), row));
+    }
+}
+
+/// Whether a reader that found a fault takes no more octets.
+fn is_over(reader: &mut Reader) -> bool {
+    reader.read(CONFIRM).octets == 0
+}
+
+/// What a side that dials finds in a request, which only one that is dialled awaits.
+const UNEXPECTED: &[Wanted] = &[Wanted::Fault(ReadFault::Unexpected, 0)];
+
+#[test]
+fn a_reader_begins_anew(rt: HostRuntime) {
+    let mut reader = Reader::new(rt.alloc(), Opening::Confirm).expect(&rt, "there is memory");
+    assert!(rt; reads_pieces(&mut reader, REQUEST, 8_192, UNEXPECTED) && is_over(&mut reader));
     reader.restart();
-    let wanted = [Wanted::Opened(1_024)];
-    assert!(rt; wanted_after(&mut reader, CONFIRM, &wanted).is_some_and(|left| left.is_empty()));
-    Ok(())
+    assert!(rt; reads_pieces(&mut reader, CONFIRM, 8_192, &[OPENED]));
 }

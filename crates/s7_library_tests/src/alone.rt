@@ -1,19 +1,15 @@
 // A partner over a line. Each line of a text is steps of an active partner `a` or a passive one `b`, as `scene` reads
 // them.
-use crate::scene::holds;
+use crate::scene::all_hold;
 use std::test::Fail;
 
+/// Blocks that aren't taken.
 const REFUSED: &str = "
     anew 480, a gives 1 #0 size, a gives 1 #65536 size, a gives 1 #65535, a gives 1 #1 busy, a gives 1 #0 busy
 
     # One that is closed takes no block.
     anew 480, a gives 1 #65535, reads request, a polls 9, a closed 00010000, a gives 1 #0 closed
 ";
-
-#[test]
-fn blocks_are_refused(rt: HostRuntime) -> Result<(), Fail> {
-    holds(rt.alloc(), REFUSED)
-}
 
 /// What a partner that was given a block reads, and the number that it closes with.
 const CLOSING: &str = "
@@ -71,11 +67,6 @@ const CLOSING: &str = "
     anew 480, a gives 1 aabbcc, fails 6 confirm granted taken fragment, a polls 9, a closed 00020000
 ";
 
-#[test]
-fn partners_close(rt: HostRuntime) -> Result<(), Fail> {
-    holds(rt.alloc(), CLOSING)
-}
-
 /// What a partner tells, and writes.
 const TOLD: &str = "
     # An active partner, and a passive one.
@@ -107,6 +98,6 @@ const TOLD: &str = "
 ";
 
 #[test]
-fn partners_tell_and_write(rt: HostRuntime) -> Result<(), Fail> {
-    holds(rt.alloc(), TOLD)
+fn partners_refuse_close_and_tell(rt: HostRuntime) -> Result<(), Fail> {
+    all_hold(rt.alloc(), &[REFUSED, CLOSING, TOLD])
 }

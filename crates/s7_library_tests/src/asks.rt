@@ -3,22 +3,17 @@ use crate::words::{hex_octet, hex_small, item_of, items_of, number, octets_of, p
 use s7_client::{ItemList, Job};
 use s7_outer::Octets;
 use std::alloc::Global;
-use std::test::Fail;
 
 /// A job: its name, and what it takes, as in `read ITEM`, `write ITEM = OCTETS` or `upload KIND NUMBER`.
-pub(crate) fn job_of(alloc: Global, text: &str) -> Result<Job, Fail> {
+/// These are the jobs that the texts name.
+pub(crate) fn job_of(alloc: Global, text: &str) -> Option<Job> {
     let (name, takes) = parted(text, ' ');
     match name {
         "write" => write(alloc, takes),
         "readmany" => read_many(alloc, takes),
         "writemany" => write_many(alloc, takes),
-        "password" => password(alloc, takes),
         "download" => download(alloc, takes),
-        "read" | "listof" | "setclock" | "dbget" => one_field(name, takes),
-        "info" | "upload" | "delete" => about_block(name, takes),
-        "szl" => szl(takes),
-        "dbfill" => fill(takes),
-        _ => plain(name),
+        _ => of_numbers(name, takes),
     }
 }
 
@@ -28,105 +23,87 @@ connect read write readmany writemany list listof info upload download delete sz
 compress copy status password clearpassword dbget dbfill disconnect";
 
 /// The number of the job that a text names.
-pub(crate) fn number_of(text: &str) -> Result<u8, Fail> {
+pub(crate) fn number_of(text: &str) -> Option<u8> {
     let (name, _) = parted(text, ' ');
     let mut number = 0u8;
     for other in NAMES.split_ascii_whitespace() {
         number = number.saturating_add(1);
         if other == name {
-            return Ok(number);
+            return Some(number);
         }
     }
-    Err(Fail::from("no such job"))
+    None
 }
 
-/// The job of this name, of those that take nothing.
-fn plain(name: &str) -> Result<Job, Fail> {
-    match name {
-        "connect" => Ok(Job::Connect),
-        "list" => Ok(Job::List),
-        "clock" => Ok(Job::ClockRead),
-        "start" => Ok(Job::Start),
-        "coldstart" => Ok(Job::ColdStart),
-        "stop" => Ok(Job::Stop),
-        "compress" => Ok(Job::Compress),
-        "copy" => Ok(Job::CopyRam),
-        "status" => Ok(Job::Status),
-        "clearpassword" => Ok(Job::PasswordClear),
-        "disconnect" => Ok(Job::Disconnect),
-        _ => Err(Fail::from("no such job")),
-    }
+/// The octets of a text.
+fn octets(alloc: Global, text: &str) -> Option<Octets> {
+    Some(Octets::of_vec(octets_of(alloc, text)?))
 }
 
-fn write(alloc: Global, takes: &str) -> Result<Job, Fail> {
-    let (item, octets) = parted(takes, '=');
-    let item = item_of(item)?;
-    let octets = Octets::of_vec(octets_of(alloc, octets)?);
-    Ok(Job::WriteArea { item, octets })
+/// A download of an image.
+fn download(alloc: Global, takes: &str) -> Option<Job> {
+    let image = octets(alloc, takes)?;
+    Some(Job::Download { image })
 }
 
-fn read_many(alloc: Global, takes: &str) -> Result<Job, Fail> {
+/// A write of an item.
+fn write(alloc: Global, takes: &str) -> Option<Job> {
+    let (item, written) = parted(takes, '=');
+    let octets = octets(alloc, written)?;
+    let item = item_of(item);
+    Some(Job::WriteArea { item, octets })
+}
+
+/// A read of several items.
+fn read_many(alloc: Global, takes: &str) -> Option<Job> {
     let items = ItemList::of_vec(items_of(alloc, takes)?);
-    Ok(Job::ReadMany { items })
+    Some(Job::ReadMany { items })
 }
 
-fn write_many(alloc: Global, takes: &str) -> Result<Job, Fail> {
-    let (items, octets) = parted(takes, '=');
+/// A write of several items.
+fn write_many(alloc: Global, takes: &str) -> Option<Job> {
+    let (items, written) = parted(takes, '=');
+    let octets = octets(alloc, written)?;
     let items = ItemList::of_vec(items_of(alloc, items)?);
-    let octets = Octets::of_vec(octets_of(alloc, octets)?);
-    Ok(Job::WriteMany { items, octets })
+    Some(Job::WriteMany { items, octets })
 }
 
-fn one_field(name: &str, takes: &str) -> Result<Job, Fail> {
+/// A job that takes an item, a number or nothing. The kind of a block is in hex.
+fn of_numbers(name: &str, takes: &str) -> Option<Job> {
     match name {
-        "read" => Ok(Job::ReadArea {
-            item: item_of(takes)?,
+        "read" => Some(Job::ReadArea {
+            item: item_of(takes),
         }),
-        "listof" => Ok(Job::ListOf {
-            kind: hex_octet(takes)?,
+        "listof" => Some(Job::ListOf {
+            kind: hex_octet(takes),
         }),
-        "dbget" => Ok(Job::DbGet {
-            number: small(takes)?,
+        "setclock" => Some(Job::ClockSet {
+            moment: number(takes),
         }),
-        _ => Ok(Job::ClockSet {
-            moment: number(takes)?,
-        }),
+        "connect" => Some(Job::Connect),
+        "clock" => Some(Job::ClockRead),
+        "status" => Some(Job::Status),
+        "disconnect" => Some(Job::Disconnect),
+        _ => of_two(name, takes),
     }
 }
 
-/// The kind of a block in hex, and its number.
-fn about_block(name: &str, takes: &str) -> Result<Job, Fail> {
-    let (kind, number) = parted(takes, ' ');
-    let kind = hex_octet(kind)?;
-    let number = small(number)?;
+/// A job that takes two numbers. The kind of a block and a list are in hex, and the number of a block is not.
+fn of_two(name: &str, takes: &str) -> Option<Job> {
+    let (one, other) = parted(takes, ' ');
     match name {
-        "info" => Ok(Job::Info { kind, number }),
-        "upload" => Ok(Job::Upload { kind, number }),
-        _ => Ok(Job::Delete { kind, number }),
+        "upload" => Some(Job::Upload {
+            kind: hex_octet(one),
+            number: small(other),
+        }),
+        "delete" => Some(Job::Delete {
+            kind: hex_octet(one),
+            number: small(other),
+        }),
+        "szl" => Some(Job::Szl {
+            id: hex_small(one),
+            index: hex_small(other),
+        }),
+        _ => None,
     }
-}
-
-fn szl(takes: &str) -> Result<Job, Fail> {
-    let (id, index) = parted(takes, ' ');
-    let id = hex_small(id)?;
-    let index = hex_small(index)?;
-    Ok(Job::Szl { id, index })
-}
-
-/// The number of a data block, and an octet in hex.
-fn fill(takes: &str) -> Result<Job, Fail> {
-    let (number, value) = parted(takes, ' ');
-    let number = small(number)?;
-    let value = hex_octet(value)?;
-    Ok(Job::DbFill { number, value })
-}
-
-fn download(alloc: Global, takes: &str) -> Result<Job, Fail> {
-    let image = Octets::of_vec(octets_of(alloc, takes)?);
-    Ok(Job::Download { image })
-}
-
-fn password(alloc: Global, takes: &str) -> Result<Job, Fail> {
-    let text = Octets::of_vec(octets_of(alloc, takes)?);
-    Ok(Job::PasswordSet { text })
 }

@@ -18,7 +18,8 @@
 // In octets `@` is the number of parallel jobs. A word in capitals is the name of what stands behind it in a text of
 // names.
 use crate::asks::{job_of, number_of};
-use crate::words::{are, hex_number, number, octets_of, parted, small};
+use crate::clients::{polled, start, swapped};
+use crate::words::{MOST, are, filled, hex_number, number, octets_of, part, parted, small};
 use s7_client::{Client, Config, Counter, Job, JobResult, Polled};
 use s7_memory::{FailingLink, Fate, MemoryLink, Pipes, Side};
 use s7_outer::Octets;
@@ -40,7 +41,6 @@ READ_AGAIN_ANSWER 0300001d02f0803203000000030002000800000401ff04002055667788
 DISCONNECT 0300000b06800001000180";
 
 /// A client, its link and its pipes in the middle of a text.
-#[derive(Drop)]
 pub(crate) struct Exchange<'a> {
     pub(crate) alloc: Global,
     text: &'a str,
@@ -49,108 +49,103 @@ pub(crate) struct Exchange<'a> {
     link: FailingLink<MemoryLink>,
     pub(crate) pipes: Pipes,
     /// How many calls of each link wait, and how many polls of the last job were pending.
-    waits: usize,
+    waits: u64,
     waited: u64,
     /// How many jobs are done, and the number of the last one with that it ended with.
     finished: u64,
     last: Option<(u8, u32)>,
 }
 
-/// The exchange of each text holds.
-pub(crate) fn all_hold(alloc: Global, names: &str, texts: &[&str]) -> Result<bool, Fail> {
-    let mut all = true;
-    for text in texts {
-        all = holds(alloc, names, text)? && all;
+// It is dropped by a function of its own, so that what drops it is soon proved.
+impl Drop for Exchange<'_> {
+    fn drop(self) {
+        let Exchange {
+            alloc: _,
+            text: _,
+            most: _,
+            client: _,
+            link: _,
+            pipes: _,
+            waits: _,
+            waited: _,
+            finished: _,
+            last: _,
+        } = self;
     }
-    Ok(all)
 }
 
-/// Each form holds with each of its rows.
-pub(crate) fn all_rows_hold(
-    alloc: Global,
-    names: &str,
-    forms: &[(&str, &str)],
-) -> Result<bool, Fail> {
-    let mut all = true;
-    for (form, rows) in forms {
-        all = each_holds(alloc, names, form, rows)? && all;
+/// The exchange of each text holds.
+pub(crate) fn all_hold(alloc: Global, names: &str, texts: &[&str]) -> Result<(), Fail> {
+    for text in texts {
+        holds(alloc, names, text)?;
     }
-    Ok(all)
+    Ok(())
 }
 
 /// The exchange of each row holds: the form, in which `$1` to `$6` are the fields of the row, with `|` between them.
 /// A line of the rows that begins with `#` says what the next row is.
-pub(crate) fn each_holds(alloc: Global, names: &str, form: &str, rows: &str) -> Result<bool, Fail> {
-    let mut some = false;
-    let mut all = true;
+pub(crate) fn each_holds(alloc: Global, names: &str, form: &str, rows: &str) -> Result<(), Fail> {
     for row in rows.lines() {
-        if row.starts_with('#') {
-            continue;
+        if !row.starts_with('#') {
+            row_holds(alloc, names, form, row)?;
         }
-        all = row_holds(alloc, names, form, row)? && all;
-        some = true;
     }
-    Ok(some && all)
+    Ok(())
 }
 
-fn row_holds(alloc: Global, names: &str, form: &str, row: &str) -> Result<bool, Fail> {
-    let text = filled(alloc, form, row)?;
-    holds(alloc, names, text.as_str())
-}
-
-/// The form with the fields of a row, and the row above it.
-fn filled(alloc: Global, form: &str, row: &str) -> Result<String, Fail> {
-    let mut text = format!(in alloc; "row {row}\n{form}")?;
-    let mut marks = ["$1", "$2", "$3", "$4", "$5", "$6"].as_slice();
-    for field in row.split('|') {
-        let [mark, rest @ ..] = marks else {
-            return Err(Fail::from("too many fields"));
-        };
-        marks = rest;
-        text = text.as_str().replace(alloc, *mark, field.trim())?;
+/// The exchange of a row holds.
+fn row_holds(alloc: Global, names: &str, form: &str, row: &str) -> Result<(), Fail> {
+    match filled(alloc, form, row) {
+        Some(text) => goes(alloc, names, text.as_str(), row),
+        None => Err(Fail::new(row)),
     }
-    Ok(text)
 }
 
 /// The exchange of a text holds with every number of jobs and in all pieces.
-pub(crate) fn holds(alloc: Global, names: &str, text: &str) -> Result<bool, Fail> {
-    let text = with_values(alloc, names, text)?;
-    holds_at_all(alloc, text.as_str())
+pub(crate) fn holds(alloc: Global, names: &str, text: &str) -> Result<(), Fail> {
+    goes(alloc, names, text, "")
 }
 
-fn holds_at_all(alloc: Global, text: &str) -> Result<bool, Fail> {
-    let numbers = setting(text, "jobs", "1");
-    let mut some = false;
-    let mut all = true;
-    for jobs in numbers.split_ascii_whitespace() {
-        all = holds_at(alloc, text, jobs)? && all;
-        some = true;
+/// The exchange of a text that was made of a row.
+fn goes(alloc: Global, names: &str, text: &str, row: &str) -> Result<(), Fail> {
+    match with_values(alloc, names, text) {
+        Some(text) => goes_at_all(alloc, text.as_str(), row),
+        None => Err(Fail::new(row)),
     }
-    Ok(some && all)
 }
 
-fn holds_at(alloc: Global, text: &str, jobs: &str) -> Result<bool, Fail> {
-    let text = text.replace(alloc, '@', jobs)?;
-    holds_in_pieces(alloc, text.as_str(), jobs)
+/// It holds with every number of jobs.
+fn goes_at_all(alloc: Global, text: &str, row: &str) -> Result<(), Fail> {
+    for jobs in setting(text, "jobs", "1").split_ascii_whitespace() {
+        match text.replace(alloc, '@', jobs) {
+            Ok(text) => goes_in_pieces(alloc, text.as_str(), jobs, row)?,
+            Err(_) => return Err(Fail::new(row)),
+        }
+    }
+    Ok(())
 }
 
 /// The text with the values in place of the names.
-pub(crate) fn with_values(alloc: Global, names: &str, text: &str) -> Result<String, Fail> {
+pub(crate) fn with_values(alloc: Global, names: &str, text: &str) -> Option<String> {
     let mut all = String::new(alloc);
     for line in text.lines() {
         add_line(&mut all, names, line)?;
     }
-    Ok(all)
+    Some(all)
 }
 
-fn add_line(all: &mut String, names: &str, line: &str) -> Result<(), Fail> {
+/// Adds a line with the values in place of the names.
+fn add_line(all: &mut String, names: &str, line: &str) -> Option<()> {
     for word in line.split_ascii_whitespace() {
-        let value = value_of(names, word);
-        all.push_str(value)?;
-        all.push(' ')?;
+        add(all, value_of(names, word))?;
+        add(all, " ")?;
     }
-    all.push('\n')?;
-    Ok(())
+    add(all, "\n")
+}
+
+/// Adds a text. Nothing is promised of it, so that what calls this is soon proved.
+fn add(all: &mut String, text: &str) -> Option<()> {
+    all.push_str(text).ok()
 }
 
 /// What a word stands for: itself, where it is no name.
@@ -170,28 +165,32 @@ fn setting<'a>(text: &'a str, name: &str, usual: &'a str) -> &'a str {
     usual
 }
 
-fn holds_in_pieces(alloc: Global, text: &str, jobs: &str) -> Result<bool, Fail> {
-    let sizes = setting(text, "most", "8192");
-    let mut some = false;
-    for most in sizes.split_ascii_whitespace() {
-        goes_on(alloc, text, jobs, most)?;
-        some = true;
+/// It holds in all pieces.
+fn goes_in_pieces(alloc: Global, text: &str, jobs: &str, row: &str) -> Result<(), Fail> {
+    for most in setting(text, "most", "8192").split_ascii_whitespace() {
+        if let Some(line) = unmet(alloc, text, jobs, most) {
+            return Err(Fail::from((line, row)));
+        }
     }
-    Ok(some)
+    Ok(())
 }
 
-fn goes_on(alloc: Global, text: &str, jobs: &str, most: &str) -> Result<(), Fail> {
-    let most = usize::from(small(most)?);
-    let mut exchange = begun(alloc, text, jobs, most)?;
-    exchange.go_on()
+/// The first line in which not all happens as it says.
+fn unmet<'a>(alloc: Global, text: &'a str, jobs: &str, most: &'a str) -> Option<&'a str> {
+    match begun(alloc, text, jobs, most) {
+        Some(mut exchange) => exchange.unmet(),
+        None => Some(most),
+    }
 }
 
-fn begun<'a>(alloc: Global, text: &'a str, jobs: &str, most: usize) -> Result<Exchange<'a>, Fail> {
+/// A client, its link and its pipes before the first line of a text.
+fn begun<'a>(alloc: Global, text: &'a str, jobs: &str, most: &str) -> Option<Exchange<'a>> {
+    let most = usize::from(small(most));
     let waits = waits_of(alloc, text)?;
-    let pipes = pipes_of(alloc, text)?;
     let link = link_of(alloc, text, "", most)?;
+    let pipes = Pipes::new(alloc, room_of(text), 7).ok()?;
     let client = client_of(alloc, text, jobs)?;
-    Ok(Exchange {
+    Some(Exchange {
         alloc,
         text,
         most,
@@ -206,95 +205,88 @@ fn begun<'a>(alloc: Global, text: &'a str, jobs: &str, most: usize) -> Result<Ex
 }
 
 /// How many calls of a link wait.
-fn waits_of(alloc: Global, text: &str) -> Result<usize, Fail> {
-    let fates = fates_of(alloc, setting(text, "fates", ""))?;
-    Ok(fates.iter().filter(|fate| **fate == Fate::NotYet).count())
+fn waits_of(alloc: Global, text: &str) -> Option<u64> {
+    let mut waits = 0u64;
+    for fate in fates_of(alloc, text)?.as_slice() {
+        if let Fate::NotYet = fate {
+            waits = waits.saturating_add(1);
+        }
+    }
+    Some(waits)
 }
 
-fn pipes_of(alloc: Global, text: &str) -> Result<Pipes, Fail> {
-    let room = room_of(text)?;
-    Ok(Pipes::new(alloc, room, 7)?)
-}
-
-fn client_of(alloc: Global, text: &str, jobs: &str) -> Result<Client<Counter>, Fail> {
-    let pdu = setting(text, "pdu", "480");
-    let patience = setting(text, "patience", "50");
+/// A client as the text wants it.
+fn client_of(alloc: Global, text: &str, jobs: &str) -> Option<Client<Counter>> {
     let config = Config {
-        jobs: small(jobs)?.clamp(1, 8),
-        pdu: small(pdu)?.clamp(64, 1_920),
-        polls: u32::from(small(patience)?.max(1)),
+        jobs: small(jobs).clamp(1, 8),
+        pdu: small(setting(text, "pdu", "480")).clamp(64, 1_920),
+        polls: u32::from(small(setting(text, "patience", "50")).max(1)),
         ..Config::new(1, 0, 2)
     };
-    Ok(Client::new(alloc, config, Some(Counter::new()))?)
+    Client::new(alloc, config, Some(Counter::new())).ok()
 }
 
-fn link_of(
-    alloc: Global,
-    text: &str,
-    gives: &str,
-    most: usize,
-) -> Result<FailingLink<MemoryLink>, Fail> {
-    let inner = inner_of(alloc, text, gives, most)?;
-    let fates = fates_of(alloc, setting(text, "fates", ""))?;
-    Ok(FailingLink::new(inner, fates))
-}
-
-/// The link as it is where nothing fails.
-fn inner_of(alloc: Global, text: &str, gives: &str, most: usize) -> Result<MemoryLink, Fail> {
-    let room = room_of(text)?;
+/// A link that gives these octets.
+fn link_of(alloc: Global, text: &str, gives: &str, most: usize) -> Option<FailingLink<MemoryLink>> {
+    let fates = fates_of(alloc, text)?;
     let input = Octets::of_vec(octets_of(alloc, gives)?);
-    Ok(MemoryLink::new(alloc, input, most.max(1), room, 7)?)
+    let inner = MemoryLink::new(alloc, input, most.max(1), room_of(text), 7).ok()?;
+    Some(FailingLink::new(inner, fates))
 }
 
-fn room_of(text: &str) -> Result<usize, Fail> {
-    let room = setting(text, "room", "4096");
-    Ok(usize::from(small(room)?))
+/// How many octets each link and each pipe has room for.
+fn room_of(text: &str) -> usize {
+    usize::from(small(setting(text, "room", "4096")))
 }
 
-fn fates_of(alloc: Global, text: &str) -> Result<Vec<Fate>, Fail> {
+/// What becomes of the first calls of a link.
+fn fates_of(alloc: Global, text: &str) -> Option<Vec<Fate>> {
     let mut fates = Vec::new(alloc);
-    for word in text.split_ascii_whitespace() {
+    for word in setting(text, "fates", "").split_ascii_whitespace() {
         let (word, times) = word.split_once('*').unwrap_or((word, "1"));
-        add_fates(&mut fates, fate_of(word)?, number(times)?)?;
+        add_fates(&mut fates, fate_of(word)?, number(times))?;
     }
-    Ok(fates)
+    Some(fates)
 }
 
-fn add_fates(fates: &mut Vec<Fate>, fate: Fate, times: u64) -> Result<(), Fail> {
-    for _ in 0..times {
-        fates.push(fate)?;
+/// Adds a fate so often.
+fn add_fates(fates: &mut Vec<Fate>, fate: Fate, times: u64) -> Option<()> {
+    for _ in 0..times.min(MOST) {
+        fates.push(fate).ok()?;
     }
-    Ok(())
+    Some(())
 }
 
-fn fate_of(word: &str) -> Result<Fate, Fail> {
+/// The fate of this name.
+fn fate_of(word: &str) -> Option<Fate> {
     match word {
-        "pass" => Ok(Fate::Pass),
-        "wait" => Ok(Fate::NotYet),
-        "fail" => Ok(Fate::Fail),
-        _ => Err(Fail::from("no such fate")),
+        "pass" => Some(Fate::Pass),
+        "wait" => Some(Fate::NotYet),
+        "fail" => Some(Fate::Fail),
+        _ => None,
     }
 }
 
-impl Exchange<'_> {
-    /// What happens in each line is as it says.
-    fn go_on(&mut self) -> Result<(), Fail> {
+impl<'a> Exchange<'a> {
+    /// The first line in which not all happens as it says.
+    fn unmet(&mut self) -> Option<&'a str> {
         for line in self.text.lines() {
-            if !self.line_holds(line)? || !self.is_counted() {
-                let row = setting(self.text, "row", "");
-                return Err(Fail::from((line, row)));
+            match self.line_holds(line) {
+                Some(true) if self.is_counted() => {}
+                _ => return Some(line),
             }
         }
-        Ok(())
+        None
     }
 
     /// The completion was told of the jobs that are done, and of nothing else.
     fn is_counted(&mut self) -> bool {
-        let Some(counter) = self.client.set_completion(None) else {
+        let Some(counter) = swapped(&mut self.client, None) else {
             return false;
         };
-        let _none = self.client.set_completion(Some(counter));
-        counter.calls() == self.finished && counter.last() == self.last
+        let is_so = counter.calls() == self.finished && counter.last() == self.last;
+        let _none = swapped(&mut self.client, Some(counter));
+        is_so
     }
 
     /// A job of this number is done.
@@ -303,87 +295,80 @@ impl Exchange<'_> {
         self.last = Some((number, told.code));
     }
 
-    fn line_holds(&mut self, line: &str) -> Result<bool, Fail> {
+    /// What happens in a line is as it says.
+    fn line_holds(&mut self, line: &str) -> Option<bool> {
         let (word, rest) = parted(line, ' ');
         match word {
-            "row" | "jobs" | "most" | "pdu" | "patience" | "room" | "fates" => Ok(true),
-            "gives" => self.give(rest),
-            "sent" => are(self.alloc, rest, self.link.inner().written()),
+            "jobs" | "most" | "pdu" | "patience" | "room" | "fates" => Some(true),
+            "gives" => {
+                self.link = link_of(self.alloc, self.text, rest, self.most)?;
+                Some(true)
+            }
+            "sent" => Some(are(self.alloc, rest, self.link.inner().written())),
             "begun" => self.has_begun(rest),
-            "count" => self.has_written(rest),
+            "count" => Some(self.link.inner().written().len() as u64 == number(rest)),
             _ => self.stands(word, rest, line),
         }
     }
 
-    fn stands(&mut self, word: &str, rest: &str, line: &str) -> Result<bool, Fail> {
+    /// The client stands as the line says.
+    fn stands(&mut self, word: &str, rest: &str, line: &str) -> Option<bool> {
         match word {
-            "waited" => Ok(self.waited == number(rest)?),
-            "granted" => self.is_granted(rest),
-            "closed" => Ok(self.client.closed()),
-            "open" => Ok(!self.client.closed()),
+            "waited" => Some(self.waited == number(rest)),
+            "granted" => Some(self.is_granted(rest)),
+            "closed" => Some(self.client.closed()),
+            "open" => Some(!self.client.closed()),
             _ => self.moves_on(word, rest, line),
         }
     }
 
-    fn moves_on(&mut self, word: &str, rest: &str, line: &str) -> Result<bool, Fail> {
+    /// The client and the server do over pipes what the line says.
+    fn moves_on(&mut self, word: &str, rest: &str, line: &str) -> Option<bool> {
         match word {
             "starts" => self.starts(rest),
             "polls" => self.polls(rest),
             "busy" => self.is_busy(rest),
             "puts" => self.puts(rest),
             "takes" => self.takes(rest),
-            "waiting" => self.has_waiting(Side::Server, rest),
-            "unread" => self.has_waiting(Side::Client, rest),
+            "waiting" => Some(self.pipes.held(Side::Server) as u64 == number(rest)),
+            "unread" => Some(self.pipes.held(Side::Client) as u64 == number(rest)),
             _ => self.ends(line),
         }
     }
 
-    fn give(&mut self, octets: &str) -> Result<bool, Fail> {
-        self.link = link_of(self.alloc, self.text, octets, self.most)?;
-        Ok(true)
-    }
-
-    fn has_written(&self, count: &str) -> Result<bool, Fail> {
-        Ok(self.link.inner().written().len() as u64 == number(count)?)
-    }
-
     /// The first octets of so many were written, and no more.
-    fn has_begun(&self, text: &str) -> Result<bool, Fail> {
+    fn has_begun(&self, text: &str) -> Option<bool> {
         let (count, words) = parted(text, ' ');
+        let count = usize::from(small(count));
         let octets = octets_of(self.alloc, words)?;
-        let first = octets.as_slice().get(..usize::from(small(count)?));
-        Ok(first == Some(self.link.inner().written()))
+        let first = octets.as_slice().get(..count)?;
+        Some(first == self.link.inner().written())
     }
 
-    fn is_granted(&self, pdu: &str) -> Result<bool, Fail> {
+    /// The client has this PDU, or none.
+    fn is_granted(&self, pdu: &str) -> bool {
         match self.client.granted() {
-            Some(granted) => Ok(granted == small(pdu)?),
-            None => Ok(pdu == "none"),
+            Some(granted) => granted == small(pdu),
+            None => pdu == "none",
         }
     }
 
     /// A job ends as its line says.
-    fn ends(&mut self, line: &str) -> Result<bool, Fail> {
+    fn ends(&mut self, line: &str) -> Option<bool> {
         let (ask, end) = parted(line, ':');
         let number = number_of(ask)?;
         let job = job_of(self.alloc, ask)?;
-        match self.done(job) {
-            Some(told) => {
-                self.finish(number, &told);
-                is_told(self.alloc, &told, end)
-            }
-            None => Ok(false),
-        }
+        let told = self.done(job)?;
+        self.finish(number, &told);
+        is_told(self.alloc, &told, end)
     }
 
     /// What one poll after its start makes of a job, which nothing may turn away, or one more for each call that waits.
     fn done(&mut self, job: Job) -> Option<JobResult> {
-        if self.client.start(self.alloc, job).is_err() {
-            return None;
-        }
+        start(&mut self.client, self.alloc, job).ok()?;
         self.waited = 0;
-        for _ in 0..=self.waits {
-            match self.client.poll(&mut self.link) {
+        for _ in 0..self.waits.saturating_add(1) {
+            match polled(&mut self.client, &mut self.link) {
                 Polled::Done(told) => return Some(told),
                 Polled::Pending => self.waited = self.waited.saturating_add(1),
                 Polled::Idle => return None,
@@ -393,20 +378,13 @@ impl Exchange<'_> {
     }
 }
 
-fn is_told(alloc: Global, told: &JobResult, end: &str) -> Result<bool, Fail> {
-    let mut parts = end.split(':');
-    Ok(
-        hex_number(parts.next().unwrap_or(""))? == told.code
-            && are(alloc, parts.next().unwrap_or(""), told.octets.as_slice())?
-            && has_codes(alloc, told, parts.next().unwrap_or(""))?
-            && are(alloc, parts.next().unwrap_or(""), told.carried.as_slice())?
-            && parts.next().is_none(),
-    )
-}
-
-fn has_codes(alloc: Global, told: &JobResult, codes: &str) -> Result<bool, Fail> {
-    match told.codes.get(..usize::from(told.count)) {
-        Some(told) => are(alloc, codes, told),
-        None => Ok(false),
-    }
+/// The job ended so.
+fn is_told(alloc: Global, told: &JobResult, end: &str) -> Option<bool> {
+    let codes = told.codes.get(..usize::from(told.count))?;
+    let is_so = hex_number(part(end, ':', 0)) == told.code
+        && are(alloc, part(end, ':', 1), told.octets.as_slice())
+        && are(alloc, part(end, ':', 2), codes)
+        && are(alloc, part(end, ':', 3), told.carried.as_slice())
+        && part(end, ':', 4).is_empty();
+    Some(is_so)
 }

@@ -35,12 +35,6 @@ setclock 18446744073709551615 | 00200000
 # an image of no octets
 download | 00200000";
 
-#[test]
-fn jobs_that_ask_nothing(rt: HostRuntime) -> Result<(), Fail> {
-    assert!(rt; each_holds(rt.alloc(), "", TURNED_DOWN, BAD_JOBS)?);
-    Ok(())
-}
-
 /// A connected client sends no connect.
 const TWO_CONNECTS: &str = "\
 jobs 1 2 8
@@ -108,19 +102,6 @@ sent CONNECT SETUP DISCONNECT
 granted none
 open";
 
-#[test]
-fn clients_go_on(rt: HostRuntime) -> Result<(), Fail> {
-    let texts = [
-        TWO_CONNECTS,
-        TWENTY_ONE_ITEMS,
-        NO_ITEMS,
-        UNCONNECTED,
-        READ_AFTER_DISCONNECT,
-    ];
-    assert!(rt; all_hold(rt.alloc(), "", &texts)?);
-    Ok(())
-}
-
 /// A read is answered by a message that is no answer, which is carried and closes the client: what comes after it is
 /// of no more use. The client connects on a new link, which begins anew.
 const CARRIED: &str = "\
@@ -149,12 +130,6 @@ const NO_ANSWERS: &str = "\
 # ten octets of anything
 0300001102f080 | 00010203040506070809";
 
-#[test]
-fn a_client_connects_on_a_new_link(rt: HostRuntime) -> Result<(), Fail> {
-    assert!(rt; each_holds(rt.alloc(), "", CARRIED, NO_ANSWERS)?);
-    Ok(())
-}
-
 /// A job of a connected client that comes off so, and a disconnect. The fields are the job, what it asks, the answers,
 /// and the number and the octets.
 const COMES_OFF: &str = "\
@@ -179,8 +154,26 @@ upload ff 65535 | 0300002302f080320100000002001200001d00000000000000095f30ff3635
 delete ff 65535 | 0300002b02f080320100000002001a000028000000000000fd000a010030ff363535333542055f44454c45 | \
   0300001502f0803203000000020002000000002800 | 0";
 
+/// The forms, and the rows of each.
+const FORMS: &[(&str, &str)] = &[
+    (TURNED_DOWN, BAD_JOBS),
+    (CARRIED, NO_ANSWERS),
+    (COMES_OFF, ANY_KIND),
+];
+
+/// Exchanges without rows.
+const TEXTS: &[&str] = &[
+    TWO_CONNECTS,
+    TWENTY_ONE_ITEMS,
+    NO_ITEMS,
+    UNCONNECTED,
+    READ_AFTER_DISCONNECT,
+];
+
 #[test]
-fn kinds_that_no_script_names(rt: HostRuntime) -> Result<(), Fail> {
-    assert!(rt; each_holds(rt.alloc(), "", COMES_OFF, ANY_KIND)?);
-    Ok(())
+fn clients_go_on(rt: HostRuntime) -> Result<(), Fail> {
+    for (form, rows) in FORMS {
+        each_holds(rt.alloc(), "", form, rows)?;
+    }
+    all_hold(rt.alloc(), "", TEXTS)
 }

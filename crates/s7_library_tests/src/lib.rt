@@ -11,6 +11,8 @@ mod asks;
 #[cfg(test)]
 mod client_links;
 #[cfg(test)]
+mod clients;
+#[cfg(test)]
 mod completions;
 #[cfg(test)]
 mod exchange;
@@ -24,6 +26,8 @@ mod pairs;
 mod partner_links;
 #[cfg(test)]
 mod pipes;
+#[cfg(test)]
+mod printing;
 #[cfg(test)]
 mod rigs;
 #[cfg(test)]

@@ -1,6 +1,6 @@
 // The words of texts: numbers and octets.
+use crate::words::{add_pattern, add_word, number};
 use std::alloc::Global;
-use std::test::Fail;
 
 /// Octets that have names.
 const NAMED: &str = "
@@ -57,10 +57,6 @@ pub(crate) fn cut(text: &str) -> (&str, &str) {
     }
 }
 
-pub(crate) fn number(word: &str) -> Result<u32, Fail> {
-    Ok(word.parse::<u32>()?)
-}
-
 /// The digits of a name, or else the word itself.
 fn digits_of(word: &str) -> &str {
     for line in NAMED.lines() {
@@ -73,27 +69,25 @@ fn digits_of(word: &str) -> &str {
 }
 
 /// Octets by a name or in hexadecimal digits, or by `#` and a number so many that aren't all alike.
-pub(crate) fn octets(alloc: Global, word: &str) -> Result<Vec<u8>, Fail> {
+fn add_named(alloc: Global, all: &mut Vec<u8>, word: &str) -> Option<()> {
     match word.strip_prefix('#') {
-        Some(count) => some_octets(alloc, number(count)?),
-        None => Ok(hex::decode(alloc, digits_of(word))?),
+        Some(count) => add_pattern(all, 0, number(count)),
+        None => add_word(alloc, all, digits_of(word)),
     }
 }
 
 /// So many octets that aren't all alike.
-pub(crate) fn some_octets(alloc: Global, count: u32) -> Result<Vec<u8>, Fail> {
+pub(crate) fn some_octets(alloc: Global, count: u32) -> Option<Vec<u8>> {
     let mut octets = Vec::new(alloc);
-    for k in 0..count {
-        octets.push((k % 251) as u8)?;
-    }
-    Ok(octets)
+    add_pattern(&mut octets, 0, u64::from(count))?;
+    Some(octets)
 }
 
 /// The octets of each word, one after another.
-pub(crate) fn joined(alloc: Global, words: &str) -> Result<Vec<u8>, Fail> {
+pub(crate) fn joined(alloc: Global, words: &str) -> Option<Vec<u8>> {
     let mut all = Vec::new(alloc);
-    for word in words.split_whitespace() {
-        all.extend_from_slice(octets(alloc, word)?.as_slice())?;
+    for word in words.split_ascii_whitespace() {
+        add_named(alloc, &mut all, word)?;
     }
-    Ok(all)
+    Some(all)
 }

@@ -2,7 +2,7 @@
 // The end of each receive lies somewhere in a packet, and the longer packets go in several transmits. A call is known
 // by how many calls there are before it. The octets that are written by then show whether it receives or transmits: it
 // transmits where the call behind it finds more of them.
-use crate::scene::{each_holds, holds};
+use crate::scene::{all_hold, each_holds};
 use std::test::Fail;
 
 /// A call of the partner that sends fails: it closes with this number, the block isn't acknowledged, so many octets
@@ -46,13 +46,6 @@ const SENT: &str = "
     anew 64, moves 33, a gives 1 #60, fails 16 confirm granted_64 taken_1 taken_2 taken_3
     a sent, a outstanding 0, a closed 00020000, wrote request asked_64 piece_1 piece_2 piece_3
 ";
-
-#[test]
-fn a_block_is_sent(rt: HostRuntime) -> Result<(), Fail> {
-    each_holds(rt.alloc(), SENDING_FAILS, SENDING)?;
-    each_holds(rt.alloc(), SENDING_WAITS, SENDING)?;
-    holds(rt.alloc(), SENT)
-}
 
 /// A call of the partner that receives fails: it closes with this number and hands nothing out, and so many octets are
 /// written.
@@ -104,10 +97,17 @@ const ACKNOWLEDGED: &str = "
     b received 1 #60, b closed 00020000, wrote confirm granted_64 taken_1 taken_2 taken_3
 ";
 
+/// The forms, and the rows of each.
+const FORMS: &[(&str, &str)] = &[
+    (SENDING_FAILS, SENDING),
+    (SENDING_WAITS, SENDING),
+    (RECEIVING_FAILS, RECEIVING),
+    (RECEIVING_WAITS, RECEIVING),
+    (RECEIVED, ACKNOWLEDGING),
+];
+
 #[test]
-fn a_block_is_received(rt: HostRuntime) -> Result<(), Fail> {
-    each_holds(rt.alloc(), RECEIVING_FAILS, RECEIVING)?;
-    each_holds(rt.alloc(), RECEIVING_WAITS, RECEIVING)?;
-    each_holds(rt.alloc(), RECEIVED, ACKNOWLEDGING)?;
-    holds(rt.alloc(), ACKNOWLEDGED)
+fn a_block_is_sent_and_received(rt: HostRuntime) -> Result<(), Fail> {
+    each_holds(rt.alloc(), FORMS)?;
+    all_hold(rt.alloc(), &[SENT, ACKNOWLEDGED])
 }

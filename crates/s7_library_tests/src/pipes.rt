@@ -4,83 +4,113 @@
 // OCTETS` out of the client's, which are all that wait there. `waiting N` and `unread N` is how many octets wait for
 // the server and for the client.
 use crate::asks::job_of;
+use crate::clients::{polled, start};
 use crate::exchange::{Exchange, all_hold, holds};
-use crate::words::{are, hex_number, item_of, number, octets_of};
-use s7_client::{Job, JobResult, Polled, StartCause};
-use s7_memory::{PipeEnd, Side};
+use crate::words::{are, hex_number, item_of, octets_of};
+use s7_client::{Job, JobResult, Polled, StartCause, StartFault};
+use s7_item::Item;
+use s7_memory::{PipeEnd, Pipes, Side};
 use s7_outer::{Got, Link, Sent};
 use std::test::Fail;
 
 impl Exchange<'_> {
-    pub(crate) fn starts(&mut self, ask: &str) -> Result<bool, Fail> {
+    /// The client takes this job.
+    pub(crate) fn starts(&mut self, ask: &str) -> Option<bool> {
         let job = job_of(self.alloc, ask)?;
-        Ok(self.client.start(self.alloc, job).is_ok())
+        Some(start(&mut self.client, self.alloc, job).is_ok())
     }
 
     /// A read of this item is handed back while another job is outstanding.
-    pub(crate) fn is_busy(&mut self, item: &str) -> Result<bool, Fail> {
-        let item = item_of(item)?;
-        match self.client.start(self.alloc, Job::ReadArea { item }) {
-            Ok(()) => Ok(false),
-            Err(fault) => Ok(
-                fault.cause == StartCause::Pending
-                    && matches!(fault.job, Job::ReadArea { item: back } if back == item),
-            ),
+    pub(crate) fn is_busy(&mut self, item: &str) -> Option<bool> {
+        let item = item_of(item);
+        match start(&mut self.client, self.alloc, Job::ReadArea { item }) {
+            Ok(()) => Some(false),
+            Err(fault) => Some(is_handed_back(&fault, &item)),
         }
     }
 
-    pub(crate) fn polls(&mut self, comes_to: &str) -> Result<bool, Fail> {
-        match self.polled() {
-            Polled::Idle => Ok(comes_to == "idle"),
-            Polled::Pending => Ok(comes_to == "pending"),
-            Polled::Done(told) => {
-                self.finish(1, &told);
-                is_connected(&told, comes_to)
-            }
+    /// A poll comes to this.
+    pub(crate) fn polls(&mut self, comes_to: &str) -> Option<bool> {
+        let polled = self.polled();
+        if let Polled::Done(told) = &polled {
+            self.finish(1, told);
         }
+        Some(is_polled(&polled, comes_to))
     }
 
+    /// What a poll over the pipes comes to.
     fn polled(&mut self) -> Polled {
         let mut end = PipeEnd {
             pipes: &mut self.pipes,
             side: Side::Client,
         };
-        self.client.poll(&mut end)
+        polled(&mut self.client, &mut end)
     }
 
     /// The server puts octets, at least one, into its pipe, where there is room for all of them.
-    pub(crate) fn puts(&mut self, octets: &str) -> Result<bool, Fail> {
+    pub(crate) fn puts(&mut self, octets: &str) -> Option<bool> {
         let octets = octets_of(self.alloc, octets)?;
-        if octets.is_empty() {
-            return Ok(false);
-        }
-        let mut end = PipeEnd {
-            pipes: &mut self.pipes,
-            side: Side::Server,
-        };
-        Ok(end.transmit(octets.as_slice()) == Sent::Bytes(octets.len()))
+        Some(put(&mut self.pipes, octets.as_slice()))
     }
 
     /// The server takes all octets that wait, up to 128, which are these.
-    pub(crate) fn takes(&mut self, octets: &str) -> Result<bool, Fail> {
+    pub(crate) fn takes(&mut self, octets: &str) -> Option<bool> {
         let mut into = [0; 128];
-        let mut end = PipeEnd {
-            pipes: &mut self.pipes,
-            side: Side::Server,
-        };
-        match end.receive(&mut into) {
-            Got::Bytes(count) => are(self.alloc, octets, &into[..count]),
-            Got::End | Got::NotYet | Got::Failed => Ok(false),
-        }
-    }
-
-    pub(crate) fn has_waiting(&self, side: Side, count: &str) -> Result<bool, Fail> {
-        Ok(self.pipes.held(side) as u64 == number(count)?)
+        let count = take(&mut self.pipes, &mut into)?;
+        Some(are(self.alloc, octets, into.get(..count)?))
     }
 }
 
-fn is_connected(told: &JobResult, code: &str) -> Result<bool, Fail> {
-    Ok(hex_number(code)? == told.code && matches!(told.job, Job::Connect))
+/// The read of this item came back, since another job is outstanding.
+fn is_handed_back(fault: &StartFault, item: &Item) -> bool {
+    match &fault.job {
+        Job::ReadArea { item: back } => fault.cause == StartCause::Pending && back == item,
+        _ => false,
+    }
+}
+
+/// The server's pipe has taken all octets.
+fn put(pipes: &mut Pipes, octets: &[u8]) -> bool {
+    if octets.is_empty() {
+        return false;
+    }
+    let mut end = PipeEnd {
+        pipes,
+        side: Side::Server,
+    };
+    match end.transmit(octets) {
+        Sent::Bytes(count) => count == octets.len(),
+        _ => false,
+    }
+}
+
+/// How many octets the server takes.
+fn take(pipes: &mut Pipes, into: &mut [u8; 128]) -> Option<usize> {
+    let mut end = PipeEnd {
+        pipes,
+        side: Side::Server,
+    };
+    match end.receive(into) {
+        Got::Bytes(count) => Some(count),
+        Got::End | Got::NotYet | Got::Failed => None,
+    }
+}
+
+/// A poll came to this.
+fn is_polled(polled: &Polled, comes_to: &str) -> bool {
+    match polled {
+        Polled::Idle => comes_to == "idle",
+        Polled::Pending => comes_to == "pending",
+        Polled::Done(told) => is_connected(told, comes_to),
+    }
+}
+
+/// A connect is done with this number.
+fn is_connected(told: &JobResult, code: &str) -> bool {
+    match told.job {
+        Job::Connect => hex_number(code) == told.code,
+        _ => false,
+    }
 }
 
 /// A client waits so often, and turns away a second job meanwhile.
@@ -171,7 +201,6 @@ granted 64";
 
 #[test]
 fn a_job_goes_on_by_polls(rt: HostRuntime) -> Result<(), Fail> {
-    assert!(rt; all_hold(rt.alloc(), "", &[PATIENCE, NARROW, ALL_SENT])?);
-    assert!(rt; holds(rt.alloc(), DOWNLOAD, WAITS)?);
-    Ok(())
+    all_hold(rt.alloc(), "", &[PATIENCE, NARROW, ALL_SENT])?;
+    holds(rt.alloc(), DOWNLOAD, WAITS)
 }

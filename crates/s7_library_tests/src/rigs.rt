@@ -1,16 +1,18 @@
 // Rigs: the places of reads in the history, and what is drawn and said of a rig.
-ghost use Rattle.std.specs.Prelude.{◌≡◌, ◌<◌, ◌≤◌, ◌*◌, All, length, map, IfOk, ◌∷◌, []};
+ghost use Rattle.std.specs.Prelude.{◌≡◌, ◌<◌, ◌≤◌, ◌*◌, All, length, map, IfSome, ◌∷◌, []};
 ghost use Rattle.std.specs.List.{AllByRecursion};
 ghost use Rattle.s7_header.specs.Negotiation.{most_pdu};
 ghost use Rattle.s7_dialogue.specs.declared.job.Job.TheVariants.{Connect, Disconnect};
 ghost use Rattle.s7_rig.specs.Scripts.{ConnectsFirst};
 
+use crate::completions::is_last;
+use crate::pairs::is_filled;
 use s7_area::{AreaKey, Areas};
 use s7_block::Blocks;
 use s7_client::{Config, Counter, Job};
 use s7_item::Item;
-use s7_outer::{Memory, Octets};
-use s7_plant::{Book, MOST_BLOCKS, Request};
+use s7_outer::Octets;
+use s7_plant::{Book, MOST_BLOCKS, Request, Tail};
 use s7_rig::{RigClient, RigEnd, Schedule, run_rig};
 use s7_script::{Script, read_script};
 use s7_tool_main::{are_good, made_scripts, rig_text};
@@ -18,16 +20,16 @@ use std::alloc::Global;
 use std::test::Fail;
 
 // Data block 1 with so many octets 00.
-fn zeros(alloc: Global, count: usize) -> Result<Areas, Fail> {
+fn zeros(alloc: Global, count: usize) -> Option<Areas> {
     let key = AreaKey {
         area: 0x84,
         number: 1,
     };
-    let octets = Octets::of_vec(vec![in alloc; 0; count]?);
+    let octets = Octets::of_vec(vec![in alloc; 0; count].ok()?);
     let mut areas = Areas::new();
     match areas.register(alloc, key, octets) {
-        Ok(()) => Ok(areas),
-        Err(_) => Err(Fail::from("no rig")),
+        Ok(()) => Some(areas),
+        Err(_) => None,
     }
 }
 
@@ -43,14 +45,14 @@ fn bytes(count: u16) -> Item {
 }
 
 // A connect, the job, and a disconnect.
-fn around(alloc: Global, job: Job) -> Result<Vec<Job>, Fail>
-    ensures { IfOk result (λ jobs. jobs.items ≡ Connect ∷ job ∷ Disconnect ∷ []) }
+fn around(alloc: Global, job: Job) -> Option<Vec<Job>>
+    ensures { IfSome result (λ jobs. jobs.items ≡ Connect ∷ job ∷ Disconnect ∷ []) }
 {
-    let mut jobs = Vec::with_capacity(alloc, 3)?;
+    let mut jobs = Vec::with_capacity(alloc, 3).ok()?;
     jobs.push_reserved(Job::Connect);
     jobs.push_reserved(job);
     jobs.push_reserved(Job::Disconnect);
-    Ok(jobs)
+    Some(jobs)
 }
 
 // The end of a rig whose counter was told of the jobs of the first client.
@@ -61,7 +63,7 @@ fn told_rig(
     scripts: Vec<Vec<Job>>,
     config: Config,
     schedule: Schedule<'_>,
-) -> Result<RigEnd, Fail>
+) -> Option<RigEnd>
     requires some { 1 ≤ limit }
     requires few { limit ≤ 262144 }
     requires least_pdu { 64 ≤ config.pdu }
@@ -76,22 +78,21 @@ fn told_rig(
 {
     let mut done = Some(Counter::new());
     match run_rig(alloc, areas, limit, scripts, config, schedule, &mut done) {
-        Ok(end) if is_told(&end, done) => Ok(end),
-        Ok(_) => Err(Fail::from("not told")),
-        Err(_) => Err(Fail::from("no rig")),
+        Ok(end) if is_told(&end, done) => Some(end),
+        _ => None,
     }
 }
 
 // A client that reads 300 bytes, and one that writes AA to them, with a PDU of 240 octets.
-fn a_reader_and_a_writer(alloc: Global, schedule: Schedule<'_>) -> Result<RigEnd, Fail>
+fn a_reader_and_a_writer(alloc: Global, schedule: Schedule<'_>) -> Option<RigEnd>
     requires { All (λ actor. actor < 4) schedule.turns.now }
 {
     let read = Job::ReadArea { item: bytes(300) };
     let write = Job::WriteArea {
         item: bytes(300),
-        octets: Octets::of_vec(vec![in alloc; 0xAA; 300]?),
+        octets: Octets::of_vec(vec![in alloc; 0xAA; 300].ok()?),
     };
-    let mut scripts = Vec::with_capacity(alloc, 2)?;
+    let mut scripts = Vec::with_capacity(alloc, 2).ok()?;
     scripts.push_reserved(around(alloc, read)?);
     scripts.push_reserved(around(alloc, write)?);
     let config = Config {
@@ -107,7 +108,7 @@ fn is_told(end: &RigEnd, done: Option<Counter>) -> bool {
     let (Some(client), Some(counter)) = (end.clients.first(), done) else {
         return false;
     };
-    counter.calls() == client.results.len() as u64 && counter.last() == Some((25, 0))
+    counter.calls() == client.results.len() as u64 && is_last(&counter, 25)
 }
 
 // The results of the first client's read: code 0, octets 00 and then AA, at these places.
@@ -118,12 +119,19 @@ fn reads_between(end: &RigEnd, zeros: usize, places: &[u64]) -> bool {
     let (Some(told), Some(numbers)) = (client.results.get(1), client.places.get(1)) else {
         return false;
     };
-    let octets = told.octets.as_slice();
     told.code == 0
-        && octets.len() == 300
-        && octets.iter().take(zeros).all(|o| *o == 0)
-        && octets.iter().skip(zeros).all(|o| *o == 0xAA)
         && numbers.as_slice() == places
+        && begins_with_zeros(told.octets.as_slice(), zeros).unwrap_or(false)
+}
+
+/// So many octets 00, and then AA, 300 in all.
+fn begins_with_zeros(octets: &[u8], zeros: usize) -> Option<bool> {
+    let front = octets.get(..zeros)?;
+    let back = octets.get(zeros..)?;
+    let is_so = is_filled(front, front.len(), 0)
+        && is_filled(back, back.len(), 0xAA)
+        && octets.len() == 300;
+    Some(is_so)
 }
 
 // The job of the second client has these places.
@@ -153,7 +161,7 @@ fn is_written(end: &RigEnd, number: usize, count: u16, address: u32) -> bool {
 }
 
 // The reader's first part comes before the writer's two, and its second one behind them.
-fn a_read_around_a_write(alloc: Global) -> Result<RigEnd, Fail> {
+fn a_read_around_a_write(alloc: Global) -> Option<RigEnd> {
     let turns = [
         0, 2, 2, 0, 2, 2, 0, 0, 2, 2, 1, 3, 3, 1, 3, 3, 1, 1, 3, 3, 1, 3, 3, 1, 0, 2, 2, 0,
     ];
@@ -174,36 +182,46 @@ fn stands_at_its_places(end: &RigEnd) -> bool {
         && is_written(end, 2, 95, 1_640)
 }
 
-// A read of two parts is told what stood at the places of each: the first part before a write, the
-// second after it.
+/// A read of two parts is told what stood at the places of each: the first part before a write, the
+/// second after it.
+fn is_placed_around(alloc: Global) -> Option<bool> {
+    let end = a_read_around_a_write(alloc)?;
+    Some(stands_at_its_places(&end))
+}
+
 #[test]
 fn a_read_stands_at_its_places(rt: HostRuntime) -> Result<(), Fail> {
-    let end = a_read_around_a_write(rt.alloc())?;
-    assert!(rt; stands_at_its_places(&end));
+    assert!(rt; is_placed_around(rt.alloc()).unwrap_or(false));
     Ok(())
+}
+
+/// A book with nothing in it.
+fn a_book(alloc: Global) -> Option<Book<Tail>> {
+    let blocks = Blocks::new(alloc, MOST_BLOCKS).ok()?;
+    Book::new(alloc, Areas::new(), blocks, 1, Vec::new(alloc)).ok()
+}
+
+/// A client of link 3 with one line that has no results is told to be unfinished, and the rig isn't good.
+fn is_unfinished(alloc: Global) -> Option<bool> {
+    let mut numbers = Vec::with_capacity(alloc, 1).ok()?;
+    numbers.push_reserved(vec![in alloc; 0; 1].ok()?);
+    let book = a_book(alloc)?;
+    let mut clients = Vec::with_capacity(alloc, 1).ok()?;
+    clients.push_reserved(RigClient {
+        link: 3,
+        results: Vec::new(alloc),
+        places: Vec::new(alloc),
+    });
+    let end = RigEnd { book, clients };
+    let text = rig_text(alloc, numbers.as_slice(), &end).ok()?;
+    let is_so = text.as_slice() == b"client 3 unfinished\njournal 0\n".as_slice()
+        && !are_good(numbers.as_slice(), end.clients.as_slice());
+    Some(is_so)
 }
 
 #[test]
 fn a_client_may_be_unfinished(rt: HostRuntime) -> Result<(), Fail> {
-    let alloc = rt.alloc();
-    let blocks = Blocks::new(alloc, MOST_BLOCKS)?;
-    let Ok(book) = Book::new(alloc, Areas::new(), blocks, 1, Vec::new(alloc)) else {
-        return Err(Fail::from("no book"));
-    };
-    let mut clients = Vec::new(alloc);
-    clients.push(RigClient {
-        link: 3,
-        results: Vec::new(alloc),
-        places: Vec::new(alloc),
-    })?;
-    let mut numbers = Vec::new(alloc);
-    numbers.push(vec![in alloc; 0; 1]?)?;
-    let end = RigEnd { book, clients };
-    let Ok(text) = rig_text(alloc, numbers.as_slice(), &end) else {
-        return Err(Fail::from("no text"));
-    };
-    assert!(rt; text.as_slice() == b"client 3 unfinished\njournal 0\n".as_slice());
-    assert!(rt; !are_good(numbers.as_slice(), end.clients.as_slice()));
+    assert!(rt; is_unfinished(rt.alloc()).unwrap_or(false));
     Ok(())
 }
 
@@ -214,44 +232,59 @@ readmany MK byte 0 16 ; DB2 byte 2034 24
 read DB2 byte 2213 364
 write DB3 byte 749 ";
 
-fn script_of(alloc: Global) -> Result<Script, Fail> {
+/// The script of these lines.
+fn script_of(alloc: Global) -> Option<Script> {
     let mut text = Vec::new(alloc);
-    text.extend_from_slice(FIRST_LINES.as_bytes())?;
+    text.extend_from_slice(FIRST_LINES.as_bytes()).ok()?;
     for _ in 0..323u32 {
-        text.extend_from_slice(b"69")?;
+        text.extend_from_slice(b"69").ok()?;
     }
-    match read_script(alloc, text.as_slice()) {
-        Ok(script) => Ok(script),
-        Err(fault) => Err(Fail::from(fault.line)),
-    }
+    read_script(alloc, text.as_slice()).ok()
 }
 
-fn is_same(alloc: Global, one: &Job, other: &Job) -> Result<bool, Fail> {
-    let one = format!(in alloc; "{one:?}")?;
-    let other = format!(in alloc; "{other:?}")?;
-    Ok(one.as_str() == other.as_str())
+/// Both jobs are shown alike.
+fn is_same(alloc: Global, one: &Job, other: &Job) -> Option<bool> {
+    let one = shown(alloc, one)?;
+    let other = shown(alloc, other)?;
+    Some(one.as_str() == other.as_str())
 }
 
-// Whether the jobs behind the connect begin with those of the script.
-fn begin_so(alloc: Global, jobs: &[Job], script: &Script) -> Result<bool, Fail> {
-    let mut jobs = jobs.iter();
-    let _ = jobs.next().ok_or("no connect")?;
+/// A job as it is shown.
+fn shown(alloc: Global, job: &Job) -> Option<String> {
+    format!(in alloc; "{job:?}").ok()
+}
+
+/// Whether the jobs behind the connect begin with those of the script.
+fn begin_so(alloc: Global, jobs: &[Job], script: &Script) -> Option<bool> {
+    let mut place = 1usize;
     for line in script.as_slice() {
-        let job = jobs.next().ok_or("no job")?;
-        if !is_same(alloc, &line.job, job)? {
-            return Ok(false);
+        if !is_same(alloc, &line.job, jobs.get(place)?)? {
+            return Some(false);
         }
+        place = place.saturating_add(1);
     }
-    Ok(true)
+    Some(true)
+}
+
+/// The scripts of four clients, without promises.
+fn scripts_of(alloc: Global) -> Option<Vec<Vec<Job>>> {
+    made_scripts(alloc, 7).ok()
+}
+
+/// Four scripts of 202 jobs are drawn, and the first one begins with these lines.
+fn are_drawn(alloc: Global) -> Option<bool> {
+    let script = script_of(alloc)?;
+    let scripts = scripts_of(alloc)?;
+    let first = scripts.as_slice().first()?.as_slice();
+    let is_so = scripts.len() == 4
+        && first.len() == 202
+        && script.as_slice().len() == 4
+        && begin_so(alloc, first, &script)?;
+    Some(is_so)
 }
 
 #[test]
 fn lines_are_drawn(rt: HostRuntime) -> Result<(), Fail> {
-    let scripts = made_scripts(rt.alloc(), 7)?;
-    let script = script_of(rt.alloc())?;
-    assert_eq!(rt; scripts.len(), 4);
-    assert_eq!(rt; scripts[0].len(), 202);
-    assert_eq!(rt; script.as_slice().len(), 4);
-    assert!(rt; begin_so(rt.alloc(), scripts[0].as_slice(), &script)?);
+    assert!(rt; are_drawn(rt.alloc()).unwrap_or(false));
     Ok(())
 }

@@ -1,5 +1,6 @@
 // Partners that do what texts say.
-use crate::octets::{cut, joined, number, octets, some_octets};
+use crate::octets::{cut, joined, some_octets};
+use crate::words::{MOST, filled, hex_number, number, small};
 use s7_client::Config;
 use s7_memory::{FailingLink, Fate, MemoryLink, PipeEnd, Pipes, Side};
 use s7_outer::{Link, Memory, Octets};
@@ -72,20 +73,18 @@ impl Drop for Scene {
     }
 }
 
-fn new_talker(alloc: Global, side: Side, pdu: u32) -> Result<Talker, Fail> {
-    if pdu < 64 || pdu > 1_920 {
-        return Err(Fail::from("no PDU"));
-    }
+/// A new partner at this side.
+fn new_talker(alloc: Global, side: Side, pdu: u16) -> Option<Talker> {
     let config = Config {
-        pdu: pdu as u16,
+        pdu: pdu.clamp(64, 1_920),
         ..Config::new(2, 0, 1)
     };
     let role = match side {
         Side::Client => Role::Active,
         Side::Server => Role::Passive,
     };
-    Ok(Talker {
-        partner: Partner::new(alloc, role, config)?,
+    Some(Talker {
+        partner: Partner::new(alloc, role, config).ok()?,
         side,
         rid: 0,
         octets: Vec::new(alloc),
@@ -96,67 +95,61 @@ fn new_talker(alloc: Global, side: Side, pdu: u32) -> Result<Talker, Fail> {
 }
 
 /// `PDU ROOM`: partners of this PDU, and pipes with this room, 4,096 octets where none is given.
-fn anew(alloc: Global, args: &str) -> Result<Scene, Fail> {
+fn anew(alloc: Global, args: &str) -> Option<Scene> {
     let (pdu, room) = cut(args);
-    let pdu = number(pdu)?;
-    let room = if room.is_empty() {
-        4_096
-    } else {
-        number(room)?
+    let pdu = small(pdu);
+    let links = Links {
+        alloc,
+        most: 8_192,
+        line: None,
+        pipes: Pipes::new(alloc, room_of(room), 7).ok()?,
     };
-    Ok(Scene {
-        a: new_talker(alloc, Side::Client, pdu)?,
-        b: new_talker(alloc, Side::Server, pdu)?,
-        links: Links {
-            alloc,
-            most: 8_192,
-            line: None,
-            pipes: Pipes::new(alloc, room as usize, 7)?,
-        },
-    })
+    let a = new_talker(alloc, Side::Client, pdu)?;
+    let b = new_talker(alloc, Side::Server, pdu)?;
+    Some(Scene { a, b, links })
 }
 
-/// A line that gives these octets, moves so many in a call, and has room for what is written. Its call behind so many
-/// has this fate.
-fn new_line(
-    alloc: Global,
-    most: usize,
-    passed: &str,
-    fate: Fate,
-    words: &str,
-) -> Result<FailingLink<MemoryLink>, Fail> {
-    let input = Octets::of_vec(joined(alloc, words)?);
-    let mut fates = Vec::new(alloc);
-    for _ in 0..number(passed)? {
-        fates.push(Fate::Pass)?;
+/// How many octets a pipe has room for.
+fn room_of(text: &str) -> usize {
+    if text.is_empty() {
+        return 4_096;
     }
-    fates.push(fate)?;
-    let inner = MemoryLink::new(alloc, input, most.max(1), 4_096, 7)?;
-    Ok(FailingLink::new(inner, fates))
+    usize::from(small(text))
 }
 
-/// The partners are polled over such a line.
-fn lays(links: &mut Links, passed: &str, fate: Fate, words: &str) -> Result<bool, Fail> {
-    links.line = Some(new_line(links.alloc, links.most, passed, fate, words)?);
-    Ok(true)
+/// So many calls that pass, and one with this fate.
+fn fates_of(alloc: Global, passed: &str, fate: Fate) -> Option<Vec<Fate>> {
+    let mut fates = Vec::new(alloc);
+    for _ in 0..number(passed).min(MOST) {
+        fates.push(Fate::Pass).ok()?;
+    }
+    fates.push(fate).ok()?;
+    Some(fates)
+}
+
+/// The partners are polled over a line that gives these octets and has room for what is written. Its call behind so
+/// many has this fate.
+fn lays(links: &mut Links, passed: &str, fate: Fate, words: &str) -> Option<bool> {
+    let fates = fates_of(links.alloc, passed, fate)?;
+    let input = Octets::of_vec(joined(links.alloc, words)?);
+    let inner = MemoryLink::new(links.alloc, input, links.most.max(1), 4_096, 7).ok()?;
+    links.line = Some(FailingLink::new(inner, fates));
+    Some(true)
 }
 
 /// The lines that are laid from now on move at most so many octets in a call.
-fn moves(links: &mut Links, args: &str) -> Result<bool, Fail> {
-    links.most = number(args)? as usize;
-    Ok(true)
+fn moves(links: &mut Links, args: &str) -> Option<bool> {
+    links.most = usize::from(small(args));
+    Some(true)
 }
 
 /// What one poll tells. Nothing is promised of it, so that what calls this is soon proved.
-fn polled<L: Link>(
-    partner: &mut Partner,
-    alloc: Global,
-    link: &mut L,
-) -> Result<PartnerEvent, Memory> {
-    partner.poll(alloc, link)
+fn polled<L: Link>(partner: &mut Partner, alloc: Global, link: &mut L) -> Option<PartnerEvent> {
+    partner.poll(alloc, link).ok()
 }
 
-fn poll(me: &mut Talker, links: &mut Links) -> Result<PartnerEvent, Memory> {
+/// What a poll over the line or the pipes tells.
+fn poll(me: &mut Talker, links: &mut Links) -> Option<PartnerEvent> {
     match &mut links.line {
         Some(line) => polled(&mut me.partner, links.alloc, line),
         None => {
@@ -180,91 +173,95 @@ fn refusal(partner: &mut Partner, rid: u32, body: Octets) -> &'static str {
 }
 
 /// Gives a block, which is taken.
-fn gives(me: &mut Talker, alloc: Global, rid: u32, octets: Vec<u8>) -> Result<bool, Fail> {
-    let body = Octets::copy_of(alloc, octets.as_slice())?;
+fn gives(me: &mut Talker, alloc: Global, rid: u32, octets: Vec<u8>) -> Option<bool> {
+    let body = Octets::copy_of(alloc, octets.as_slice()).ok()?;
     me.rid = rid;
     me.octets = octets;
     me.given = me.given.saturating_add(1);
-    Ok(refusal(&mut me.partner, rid, body).is_empty())
+    Some(refusal(&mut me.partner, rid, body).is_empty())
 }
 
 /// `RID OCTETS`: gives this block, which is taken. `RID OCTETS FAULT`: it isn't.
-fn gives_text(me: &mut Talker, alloc: Global, args: &str) -> Result<bool, Fail> {
+fn gives_text(me: &mut Talker, alloc: Global, args: &str) -> Option<bool> {
     let (rid, args) = cut(args);
     let (word, fault) = cut(args);
-    let octets = octets(alloc, word)?;
-    let rid = number(rid)?;
+    let rid = u32::try_from(number(rid)).ok()?;
+    let octets = joined(alloc, word)?;
     if fault.is_empty() {
-        gives(me, alloc, rid, octets)
-    } else {
-        Ok(refusal(&mut me.partner, rid, Octets::of_vec(octets)) == fault)
+        return gives(me, alloc, rid, octets);
     }
+    Some(refusal(&mut me.partner, rid, Octets::of_vec(octets)) == fault)
 }
 
 /// The next poll tells this.
-fn tells(me: &mut Talker, links: &mut Links, text: &str) -> Result<bool, Fail> {
-    let (verb, args) = cut(text);
+fn tells(me: &mut Talker, links: &mut Links, text: &str) -> Option<bool> {
     match &poll(me, links)? {
-        PartnerEvent::Sent => Ok(text == "sent"),
-        PartnerEvent::Pending => Ok(text == "pending"),
-        PartnerEvent::Idle => Ok(text == "idle"),
-        PartnerEvent::Received { rid, body } => {
-            Ok(verb == "received" && is_block(links.alloc, *rid, body.as_slice(), args)?)
-        }
-        PartnerEvent::Closed(code) => Ok(
-            verb == "closed"
-                && u32::from_str_radix(args, 16)? == *code
-                && me.partner.closed() == Some(*code),
-        ),
+        PartnerEvent::Sent => Some(text == "sent"),
+        PartnerEvent::Pending => Some(text == "pending"),
+        PartnerEvent::Idle => Some(text == "idle"),
+        PartnerEvent::Received { rid, body } => is_block(links.alloc, *rid, body.as_slice(), text),
+        PartnerEvent::Closed(code) => is_closed(&me.partner, *code, text),
     }
 }
 
-/// `RID OCTETS`.
-fn is_block(alloc: Global, rid: u32, body: &[u8], args: &str) -> Result<bool, Fail> {
+/// `received RID OCTETS`.
+fn is_block(alloc: Global, rid: u32, body: &[u8], text: &str) -> Option<bool> {
+    let (verb, args) = cut(text);
     let (digits, word) = cut(args);
-    Ok(number(digits)? == rid && octets(alloc, word)?.as_slice() == body)
+    let octets = joined(alloc, word)?;
+    let is_so = verb == "received" && number(digits) == u64::from(rid) && octets.as_slice() == body;
+    Some(is_so)
+}
+
+/// `closed CODE`.
+fn is_closed(partner: &Partner, code: u32, text: &str) -> Option<bool> {
+    let (verb, args) = cut(text);
+    Some(verb == "closed" && hex_number(args) == code && partner.closed()? == code)
 }
 
 /// Polls so often.
-fn polls(me: &mut Talker, links: &mut Links, count: u32) -> Result<bool, Fail> {
+fn polls(me: &mut Talker, links: &mut Links, count: u64) -> Option<bool> {
     for _ in 0..count {
-        poll(me, links)?;
+        let _event = poll(me, links)?;
     }
-    Ok(true)
+    Some(true)
 }
 
 /// The next poll tells what it may: the last block that was given is acknowledged, or the last block that the other
 /// was given comes, or that a block is outstanding, or that none is.
-fn turns(me: &mut Talker, other: &Talker, links: &mut Links) -> Result<bool, Fail> {
+fn turns(me: &mut Talker, other: &Talker, links: &mut Links) -> Option<bool> {
     let is_outstanding = me.sent < me.given;
-    Ok(match &poll(me, links)? {
+    match &poll(me, links)? {
         PartnerEvent::Sent => {
             me.sent = me.given;
-            is_outstanding
+            Some(is_outstanding)
         }
         PartnerEvent::Received { rid, body } => {
             me.received = me.received.saturating_add(1);
-            me.received == other.given
-                && *rid == other.rid
-                && body.as_slice() == other.octets.as_slice()
+            Some(me.received == other.given && is_last_of(other, *rid, body.as_slice()))
         }
-        PartnerEvent::Pending => is_outstanding,
-        PartnerEvent::Idle => !is_outstanding,
-        PartnerEvent::Closed(_) => false,
-    })
+        PartnerEvent::Pending => Some(is_outstanding),
+        PartnerEvent::Idle => Some(!is_outstanding),
+        PartnerEvent::Closed(_) => Some(false),
+    }
+}
+
+/// This is the last block that it was given.
+fn is_last_of(other: &Talker, rid: u32, body: &[u8]) -> bool {
+    rid == other.rid && body == other.octets.as_slice()
 }
 
 /// What a partner does.
-fn does(me: &mut Talker, other: &Talker, links: &mut Links, text: &str) -> Result<bool, Fail> {
+fn does(me: &mut Talker, other: &Talker, links: &mut Links, text: &str) -> Option<bool> {
     let (verb, args) = cut(text);
     match verb {
         "gives" => gives_text(me, links.alloc, args),
-        "polls" => polls(me, links, number(args)?),
+        "polls" => polls(me, links, number(args)),
         "turns" => turns(me, other, links),
-        "holds" => Ok(links.pipes.held(me.side) == number(args)? as usize),
-        "acknowledged" => Ok(me.sent == number(args)?),
-        "outstanding" => Ok(u32::from(me.partner.is_sending()) == number(args)?),
-        "took" => Ok(me.received == number(args)?),
+        "holds" => Some(links.pipes.held(me.side) as u64 == number(args)),
+        "acknowledged" => Some(u64::from(me.sent) == number(args)),
+        "outstanding" => Some(u64::from(me.partner.is_sending()) == number(args)),
+        "took" => Some(u64::from(me.received) == number(args)),
         _ => tells(me, links, text),
     }
 }
@@ -273,20 +270,20 @@ fn does(me: &mut Talker, other: &Talker, links: &mut Links, text: &str) -> Resul
 const BLOCKS: u32 = 30;
 
 /// Gives the next block where none is outstanding, and polls. Each block has another length.
-fn talks(me: &mut Talker, other: &Talker, links: &mut Links) -> Result<bool, Fail> {
+fn talks(me: &mut Talker, other: &Talker, links: &mut Links) -> Option<bool> {
     if me.given == me.sent && me.given < BLOCKS {
         let octets = some_octets(links.alloc, me.given * 7 + 1)?;
         let rid = me.given;
         if !gives(me, links.alloc, rid, octets)? {
-            return Ok(false);
+            return Some(false);
         }
     }
     turns(me, other, links)
 }
 
 /// 20,000 turns that are drawn by a linear congruence modulo 2^31.
-fn draws(scene: &mut Scene, seed: u32) -> Result<bool, Fail> {
-    let mut x = seed;
+fn draws(scene: &mut Scene, seed: u64) -> Option<bool> {
+    let mut x = u32::try_from(seed).ok()?;
     for _ in 0..20_000 {
         x = ((1_103_515_245 * u64::from(x) + 12_345) % 2_147_483_648) as u32;
         let is_wanted = if x / 65_536 % 2 == 0 {
@@ -295,33 +292,29 @@ fn draws(scene: &mut Scene, seed: u32) -> Result<bool, Fail> {
             talks(&mut scene.b, &scene.a, &mut scene.links)?
         };
         if !is_wanted {
-            return Ok(false);
+            return Some(false);
         }
     }
-    Ok(true)
+    Some(true)
 }
 
 /// The octets were written on the line.
-fn wrote(links: &Links, words: &str) -> Result<bool, Fail> {
-    match &links.line {
-        Some(line) => Ok(line.inner().written() == joined(links.alloc, words)?.as_slice()),
-        None => Ok(false),
-    }
+fn wrote(links: &Links, words: &str) -> Option<bool> {
+    let octets = joined(links.alloc, words)?;
+    Some(links.line.as_ref()?.inner().written() == octets.as_slice())
 }
 
 /// `N OCTETS`: the first N of the octets were written on the line, and no more.
-fn began(links: &Links, args: &str) -> Result<bool, Fail> {
+fn began(links: &Links, args: &str) -> Option<bool> {
     let (count, words) = cut(args);
+    let count = usize::from(small(count));
     let octets = joined(links.alloc, words)?;
-    let first = octets.as_slice().get(..number(count)? as usize);
-    match &links.line {
-        Some(line) => Ok(first == Some(line.inner().written())),
-        None => Ok(false),
-    }
+    let first = octets.as_slice().get(..count)?;
+    Some(links.line.as_ref()?.inner().written() == first)
 }
 
 /// What becomes of the links.
-fn links_are(links: &mut Links, text: &str) -> Result<bool, Fail> {
+fn links_are(links: &mut Links, text: &str) -> Option<bool> {
     let (verb, args) = cut(text);
     let (passed, words) = cut(args);
     match verb {
@@ -331,94 +324,97 @@ fn links_are(links: &mut Links, text: &str) -> Result<bool, Fail> {
         "moves" => moves(links, args),
         "wrote" => wrote(links, args),
         "began" => began(links, args),
-        _ => Ok(false),
+        _ => None,
     }
 }
 
 /// Another scene takes its place.
-fn renews(scene: &mut Scene, args: &str) -> Result<bool, Fail> {
+fn renews(scene: &mut Scene, args: &str) -> Option<bool> {
     *scene = anew(scene.links.alloc, args)?;
-    Ok(true)
+    Some(true)
+}
+
+/// A step of a line.
+fn step(scene: &mut Scene, text: &str) -> Option<bool> {
+    let (who, rest) = cut(text);
+    match who {
+        "a" => does(&mut scene.a, &scene.b, &mut scene.links, rest),
+        "b" => does(&mut scene.b, &scene.a, &mut scene.links, rest),
+        "anew" => renews(scene, rest),
+        "draws" => draws(scene, number(rest)),
+        _ => links_are(&mut scene.links, text),
+    }
 }
 
 /// The steps of a line.
-fn steps(scene: &mut Scene, line: &str) -> Result<bool, Fail> {
+fn steps(scene: &mut Scene, line: &str) -> Option<bool> {
     for text in line.split(", ") {
-        let (who, rest) = cut(text);
-        let is_so = match who {
-            "a" => does(&mut scene.a, &scene.b, &mut scene.links, rest)?,
-            "b" => does(&mut scene.b, &scene.a, &mut scene.links, rest)?,
-            "anew" => renews(scene, rest)?,
-            "draws" => draws(scene, number(rest)?)?,
-            _ => links_are(&mut scene.links, text)?,
-        };
-        if !is_so {
-            return Ok(false);
+        if !step(scene, text)? {
+            return Some(false);
         }
     }
-    Ok(true)
+    Some(true)
 }
 
 /// A line holds. Where it begins with a number of times, its steps are done so often.
-fn repeat(scene: &mut Scene, text: &str) -> Result<bool, Fail> {
-    let (count, text) = match text.split_once(" times: ") {
-        Some((count, text)) => (number(count)?, text),
-        None => (1, text),
-    };
-    for _ in 0..count {
+fn repeat(scene: &mut Scene, text: &str) -> Option<bool> {
+    let (count, text) = text.split_once(" times: ").unwrap_or(("1", text));
+    for _ in 0..number(count).min(MOST) {
         if !steps(scene, text)? {
-            return Ok(false);
+            return Some(false);
         }
     }
-    Ok(true)
+    Some(true)
 }
 
 /// The first line that doesn't hold, where all are done one after another.
-fn broken<'a>(alloc: Global, text: &'a str) -> Result<Option<&'a str>, Fail> {
-    let mut scene = anew(alloc, "480")?;
+fn unmet<'a>(scene: &mut Scene, text: &'a str) -> Option<&'a str> {
     for line in text.lines() {
         let line = line.trim();
-        if !line.is_empty() && !line.starts_with('#') && !repeat(&mut scene, line)? {
-            return Ok(Some(line));
+        if line.is_empty() || line.starts_with('#') {
+            continue;
+        }
+        match repeat(scene, line) {
+            Some(true) => {}
+            _ => return Some(line),
         }
     }
-    Ok(None)
+    None
 }
 
-/// All lines hold, one after another.
-pub(crate) fn holds(alloc: Global, text: &str) -> Result<(), Fail> {
-    match broken(alloc, text)? {
+/// All lines of a text, which was made of a row, hold.
+fn goes(alloc: Global, text: &str, row: &str) -> Result<(), Fail> {
+    let Some(mut scene) = anew(alloc, "480") else {
+        return Err(Fail::new(row));
+    };
+    match unmet(&mut scene, text) {
+        Some(line) => Err(Fail::from((line, row))),
         None => Ok(()),
-        Some(line) => Err(Fail::from(line)),
     }
 }
 
-/// The form with the fields of a row, which stand between `|`, in the places of `$1` to `$4`.
-fn filled(alloc: Global, form: &str, row: &str) -> Result<String, Fail> {
-    let mut text = String::from_str(alloc, form)?;
-    let mut marks = ["$1", "$2", "$3", "$4"].as_slice();
-    for field in row.split('|') {
-        let [mark, rest @ ..] = marks else {
-            return Err(Fail::from("too many fields"));
-        };
-        marks = rest;
-        text = text.as_str().replace(alloc, *mark, field.trim())?;
+/// All lines of each text hold, one after another.
+pub(crate) fn all_hold(alloc: Global, texts: &[&str]) -> Result<(), Fail> {
+    for text in texts {
+        goes(alloc, text, "")?;
     }
-    Ok(text)
+    Ok(())
 }
 
+/// The lines of the form hold with a row.
 fn row_holds(alloc: Global, form: &str, row: &str) -> Result<(), Fail> {
-    let text = filled(alloc, form, row)?;
-    match broken(alloc, text.as_str())? {
-        None => Ok(()),
-        Some(line) => Err(Fail::from((row, line))),
+    match filled(alloc, form, row) {
+        Some(text) => goes(alloc, text.as_str(), row),
+        None => Err(Fail::new(row)),
     }
 }
 
-/// The lines of the form hold with each row.
-pub(crate) fn each_holds(alloc: Global, form: &str, rows: &str) -> Result<(), Fail> {
-    for row in rows.lines() {
-        row_holds(alloc, form, row)?;
+/// The lines of each form hold with each of its rows.
+pub(crate) fn each_holds(alloc: Global, forms: &[(&str, &str)]) -> Result<(), Fail> {
+    for (form, rows) in forms {
+        for row in rows.lines() {
+            row_holds(alloc, form, row)?;
+        }
     }
     Ok(())
 }

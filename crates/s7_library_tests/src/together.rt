@@ -1,5 +1,5 @@
 // Two partners that send each other blocks. Each line of a text is their steps, as `scene` reads them.
-use crate::scene::holds;
+use crate::scene::all_hold;
 use std::test::Fail;
 
 /// The link is opened, and blocks go.
@@ -58,11 +58,7 @@ const ONE_BY_ONE: &str = "
     b pending, a received 4294967295 #65535, a idle, b sent
 ";
 
-#[test]
-fn blocks_come_whole(rt: HostRuntime) -> Result<(), Fail> {
-    holds(rt.alloc(), ONE_BY_ONE)
-}
-
+/// Both send at once.
 const AT_ONCE: &str = "
     # Both are given a block before the link is opened, and both blocks come.
     anew 64, a gives 1 #100, b gives 2 #99
@@ -77,6 +73,11 @@ const AT_ONCE: &str = "
 ";
 
 #[test]
+fn blocks_come_whole(rt: HostRuntime) -> Result<(), Fail> {
+    all_hold(rt.alloc(), &[ONE_BY_ONE])
+}
+
+#[test]
 fn both_send_at_once(rt: HostRuntime) -> Result<(), Fail> {
-    holds(rt.alloc(), AT_ONCE)
+    all_hold(rt.alloc(), &[AT_ONCE])
 }

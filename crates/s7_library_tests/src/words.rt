@@ -1,31 +1,31 @@
-// What the words of a text say: numbers, octets and items.
+// What the words of a text say: numbers, octets and items. A number that can't be read is the greatest, and nothing
+// that a text looks at is that.
 use s7_item::Item;
 use std::alloc::Global;
-use std::test::Fail;
 
 /// A number in decimal.
-pub(crate) fn number(text: &str) -> Result<u64, Fail> {
-    Ok(text.trim().parse::<u64>()?)
+pub(crate) fn number(text: &str) -> u64 {
+    text.trim().parse::<u64>().unwrap_or(u64::MAX)
 }
 
 /// A number of 16 bits in decimal.
-pub(crate) fn small(text: &str) -> Result<u16, Fail> {
-    Ok(text.trim().parse::<u16>()?)
+pub(crate) fn small(text: &str) -> u16 {
+    u16::try_from(number(text)).unwrap_or(u16::MAX)
 }
 
 /// A number of 32 bits in hex.
-pub(crate) fn hex_number(text: &str) -> Result<u32, Fail> {
-    Ok(u32::from_str_radix(text.trim(), 16)?)
+pub(crate) fn hex_number(text: &str) -> u32 {
+    u32::from_str_radix(text.trim(), 16).unwrap_or(u32::MAX)
 }
 
 /// A number of 16 bits in hex.
-pub(crate) fn hex_small(text: &str) -> Result<u16, Fail> {
-    Ok(u16::from_str_radix(text.trim(), 16)?)
+pub(crate) fn hex_small(text: &str) -> u16 {
+    u16::try_from(hex_number(text)).unwrap_or(u16::MAX)
 }
 
 /// An octet in hex.
-pub(crate) fn hex_octet(text: &str) -> Result<u8, Fail> {
-    Ok(u8::from_str_radix(text.trim(), 16)?)
+pub(crate) fn hex_octet(text: &str) -> u8 {
+    u8::try_from(hex_number(text)).unwrap_or(u8::MAX)
 }
 
 /// What stands before a mark and behind it.
@@ -36,63 +36,88 @@ pub(crate) fn parted(text: &str, mark: char) -> (&str, &str) {
     }
 }
 
+/// The part of this number, from 0, of those that marks separate. One that isn't there is empty.
+pub(crate) fn part(text: &str, mark: char, n: usize) -> &str {
+    text.split(mark).nth(n).unwrap_or("").trim()
+}
+
+/// No text has so many octets.
+pub(crate) const MOST: u64 = 1_000_000;
+
 /// The octets of words, joined: `HEX`, `HEX*N` for so many times these, and `FROM-TO` for those of the pattern from a
 /// place to another.
-pub(crate) fn octets_of(alloc: Global, text: &str) -> Result<Vec<u8>, Fail> {
+pub(crate) fn octets_of(alloc: Global, text: &str) -> Option<Vec<u8>> {
     let mut octets = Vec::new(alloc);
     for word in text.split_ascii_whitespace() {
         add_word(alloc, &mut octets, word)?;
     }
-    Ok(octets)
+    Some(octets)
 }
 
-fn add_word(alloc: Global, octets: &mut Vec<u8>, word: &str) -> Result<(), Fail> {
-    if let Some((from, to)) = word.split_once('-') {
-        return add_pattern(octets, number(from)?, number(to)?);
+/// Adds the octets of a word.
+pub(crate) fn add_word(alloc: Global, octets: &mut Vec<u8>, word: &str) -> Option<()> {
+    match word.split_once('-') {
+        Some((from, to)) => add_pattern(octets, number(from), number(to)),
+        None => add_often(alloc, octets, word),
     }
-    if let Some((piece, times)) = word.split_once('*') {
-        return add_often(alloc, octets, piece, number(times)?);
-    }
-    add_often(alloc, octets, word, 1)
 }
 
-fn add_often(alloc: Global, octets: &mut Vec<u8>, piece: &str, times: u64) -> Result<(), Fail> {
-    let piece = hex::decode(alloc, piece)?;
-    for _ in 0..times {
-        octets.extend_from_slice(piece.as_slice())?;
+/// Adds octets once, or so often as the word says.
+fn add_often(alloc: Global, octets: &mut Vec<u8>, word: &str) -> Option<()> {
+    let (piece, times) = word.split_once('*').unwrap_or((word, "1"));
+    let piece = hex::decode(alloc, piece).ok()?;
+    for _ in 0..number(times).min(MOST) {
+        octets.extend_from_slice(piece.as_slice()).ok()?;
     }
-    Ok(())
+    Some(())
 }
 
 /// Octets of the pattern, which rises from 00 to FA and begins anew.
-fn add_pattern(octets: &mut Vec<u8>, from: u64, to: u64) -> Result<(), Fail> {
-    for place in from..to {
-        octets.push((place % 251) as u8)?;
+pub(crate) fn add_pattern(octets: &mut Vec<u8>, from: u64, to: u64) -> Option<()> {
+    for place in from..to.min(MOST) {
+        octets.push((place % 251) as u8).ok()?;
     }
-    Ok(())
+    Some(())
 }
 
 /// These are the octets of the words.
-pub(crate) fn are(alloc: Global, text: &str, octets: &[u8]) -> Result<bool, Fail> {
-    Ok(octets_of(alloc, text)?.as_slice() == octets)
+pub(crate) fn are(alloc: Global, text: &str, octets: &[u8]) -> bool {
+    match octets_of(alloc, text) {
+        Some(wanted) => wanted.as_slice() == octets,
+        None => false,
+    }
 }
 
 /// An item: its area in hex, data block, word in hex, count and address, with points between them.
-pub(crate) fn item_of(word: &str) -> Result<Item, Fail> {
-    let mut fields = word.split('.');
-    Ok(Item {
-        area: hex_octet(fields.next().unwrap_or(""))?,
-        db: small(fields.next().unwrap_or(""))?,
-        word: hex_octet(fields.next().unwrap_or(""))?,
-        count: small(fields.next().unwrap_or(""))?,
-        address: fields.next().unwrap_or("").parse::<u32>()?,
-    })
+pub(crate) fn item_of(word: &str) -> Item {
+    Item {
+        area: hex_octet(part(word, '.', 0)),
+        db: small(part(word, '.', 1)),
+        word: hex_octet(part(word, '.', 2)),
+        count: small(part(word, '.', 3)),
+        address: u32::try_from(number(part(word, '.', 4))).unwrap_or(u32::MAX),
+    }
 }
 
-pub(crate) fn items_of(alloc: Global, text: &str) -> Result<Vec<Item>, Fail> {
+/// The items of words.
+pub(crate) fn items_of(alloc: Global, text: &str) -> Option<Vec<Item>> {
     let mut items = Vec::new(alloc);
     for word in text.split_ascii_whitespace() {
-        items.push(item_of(word)?)?;
+        items.push(item_of(word)).ok()?;
     }
-    Ok(items)
+    Some(items)
+}
+
+/// The form with the fields of a row, which stand between `|`, in the places of `$1` to `$6`.
+pub(crate) fn filled(alloc: Global, form: &str, row: &str) -> Option<String> {
+    let mut text = String::from_str(alloc, form).ok()?;
+    let mut marks = ["$1", "$2", "$3", "$4", "$5", "$6"].as_slice();
+    for field in row.split('|') {
+        let [mark, rest @ ..] = marks else {
+            return None;
+        };
+        marks = rest;
+        text = text.as_str().replace(alloc, *mark, field.trim()).ok()?;
+    }
+    Some(text)
 }

@@ -1,166 +1,151 @@
 // Many links that come and go.
-use crate::calls::{ask, open};
-use crate::ports::{OpenedDoor, Ported, a_door, has_all, served};
-use s7_listener::Served;
-use s7_os::{RealLink, TcpDial};
-use s7_outer::{Dial, Dialled, Link};
+use crate::called::{Call, Left, called, is_whole};
+use crate::callers::{Caller, Callers};
+use crate::telegrams::{are, is, packets};
+use s7_outer::Octets;
 use std::alloc::Global;
 use std::sync::Wait;
 use std::test::Fail;
-use std::thread::{Threads, join, map_vec};
+use std::thread::Threads;
 use std::time::Clock;
-
-const READ: &[u8] = b"\x03\x00\x00\x1F\x02\xF0\x80\x32\x01\x00\x00\x00\x05\x00\x0E\x00\x00\x04\x01\
-    \x12\x0A\x10\x02\x00\x04\x00\x01\x84\x00\x00\x00";
-
-const READ_ANSWER: &[u8] =
-    b"\x03\x00\x00\x1D\x02\xF0\x80\x32\x03\x00\x00\x00\x05\x00\x02\x00\x08\x00\x00\x04\x01\
-    \xFF\x04\x00\x20\x11\x22\x33\x44";
-
-/// The refusal of a read for which there is no room.
-const NO_ROOM: &[u8] =
-    b"\x03\x00\x00\x13\x02\xF0\x80\x32\x02\x00\x00\x00\x05\x00\x00\x00\x00\x8F\x01";
 
 /// How many callers there are at a time, and how many links each has, one after another.
 const CALLERS: u8 = 10;
 
 const LINKS_EACH: u8 = 20;
 
-// How many reads were answered with the data, how many were refused, and how many links got another
-// answer or none.
+/// The words of a server of 200 links, with room for so many entries.
+const ROOM_FOR_ALL: &[&str] = &[
+    "serve",
+    "DB1=11223344",
+    "--port",
+    "30102",
+    "--links",
+    "200",
+    "--journal",
+    "400",
+];
+
+const ROOM_FOR_SOME: &[&str] = &[
+    "serve",
+    "DB1=11223344",
+    "--port",
+    "30102",
+    "--links",
+    "200",
+    "--journal",
+    "150",
+];
+
+/// Per row: the words, and how many reads are answered with the data and how many refused.
+const ROOMS: &[(&[&str], usize, usize)] = &[(ROOM_FOR_ALL, 400, 0), (ROOM_FOR_SOME, 150, 250)];
+
+// Callers, each link of which connects, negotiates, reads twice and goes.
+fn callers(alloc: Global) -> Result<Callers, Fail> {
+    let mut callers = Vec::new(alloc);
+    for _ in 0..CALLERS {
+        let caller = Caller {
+            links: LINKS_EACH,
+            telegrams: packets(alloc, "CONNECT SETUP READ READ")?,
+        };
+        if callers.push(caller).is_err() {
+            return Err(Fail::from("memory"));
+        }
+    }
+    Ok(Callers::Many(callers))
+}
+
+// How many of the answers are this one.
+fn count_of(alloc: Global, answers: &[Octets], name: &str) -> Result<usize, Fail> {
+    let mut count = 0usize;
+    for answer in answers {
+        if is(alloc, answer, name)? {
+            count = count.saturating_add(1);
+        }
+    }
+    Ok(count)
+}
+
+// How many answers of each kind there are.
 #[derive(Clone, Copy, Debug, Default, PartialEq, Eq)]
 struct Answers {
-    read: u32,
-    refused: u32,
-    wrong: u32,
+    opened: usize,
+    read: usize,
+    refused: usize,
 }
 
-// Connects, negotiates, reads twice and goes. None where an answer is another.
-fn come_and_go<L: Link + Drop>(alloc: Global, mut link: L, answers: &mut Answers) -> Option<()> {
-    open(alloc, &mut link)?;
-    for _ in 0..2u8 {
-        let answer = ask(alloc, &mut link, READ)?;
-        if answer.as_slice() == READ_ANSWER {
-            answers.read = answers.read.saturating_add(1);
-        } else if answer.as_slice() == NO_ROOM {
-            answers.refused = answers.refused.saturating_add(1);
-        } else {
-            return None;
+impl Answers {
+    // Counts the answers on one link.
+    fn count(&mut self, alloc: Global, answers: &[Octets]) -> Result<(), Fail> {
+        let (opened, reads) = answers.split_at_checked(2).ok_or("no link")?;
+        if are(alloc, opened, "CONFIRM GRANTED")? {
+            self.opened = self.opened.saturating_add(1);
         }
+        self.read = self.read.saturating_add(count_of(alloc, reads, "ANSWER")?);
+        self.refused = self
+            .refused
+            .saturating_add(count_of(alloc, reads, "NO_ROOM")?);
+        Ok(())
     }
-    Some(())
 }
 
-// What all links of one caller are answered. A link that goes wrong doesn't keep the next one from
-// coming, since the server waits for all of them.
-fn calls<L: Link + Drop, D: Dial<L> + Drop>(alloc: Global, mut dial: D, port: u16) -> Answers {
-    let mut answers = Answers::default();
-    for _ in 0..LINKS_EACH {
-        let went = match dial.call("127.0.0.1", port) {
-            Dialled::Link(link) => come_and_go(alloc, link, &mut answers),
-            Dialled::Failed => None,
-        };
-        if went.is_none() {
-            answers.wrong = answers.wrong.saturating_add(1);
-        }
-    }
-    answers
-}
-
-// What all callers were answered together.
-fn sum_of(callers: &[Answers]) -> Answers {
+// How the links of all callers were answered.
+fn answers_in(alloc: Global, came: &[Vec<Octets>]) -> Result<Answers, Fail> {
     let mut all = Answers::default();
-    for caller in callers {
-        all.read = all.read.saturating_add(caller.read);
-        all.refused = all.refused.saturating_add(caller.refused);
-        all.wrong = all.wrong.saturating_add(caller.wrong);
+    for answers in came {
+        for link in answers.as_slice().chunks(4) {
+            all.count(alloc, link)?;
+        }
     }
-    all
-}
-
-/// Per row: the room of the journal, and how many reads are answered with the data and how many refused.
-const ROOMS: [(u16, u32, u32); 2] = [(400, 400, 0), (150, 150, 250)];
-
-// The dials of the callers.
-type Dials = Vec<TcpDial<HostRuntime>>;
-
-// A door, and the callers' dials.
-fn a_door_and_dials(rt: &HostRuntime, alloc: Global) -> Result<(OpenedDoor, Dials), Fail> {
-    let mut dials = Vec::new(alloc);
-    for _ in 0..CALLERS {
-        dials.push(TcpDial::new(rt.clone()?))?;
-    }
-    Ok((a_door(rt)?, dials))
-}
-
-// What the callers are answered together.
-fn called<R: Threads + Sync>(rt: &R, alloc: Global, dials: Dials, port: u16) -> Option<Answers> {
-    let call = |dial: TcpDial<HostRuntime>| calls::<RealLink<HostRuntime>, _>(alloc, dial, port);
-    let callers = map_vec(rt, dials, &call).ok()?;
-    Some(sum_of(callers.as_slice()))
-}
-
-// What serving the callers leaves, and what they are answered.
-fn served_and_called<R: Threads + Wait + Clock + Sync>(
-    rt: &R,
-    alloc: Global,
-    door: OpenedDoor,
-    dials: Dials,
-    room: u16,
-) -> (Option<Ported>, Option<Answers>) {
-    let port = door.port;
-    join(
-        rt,
-        || served(rt, alloc, door, 200, room),
-        || called(rt, alloc, dials, port),
-    )
+    Ok(all)
 }
 
 // The links have the numbers from 1 on.
-fn are_numbered<L>(links: &[Served<L>]) -> bool {
-    for (served, link) in links.iter().zip(1..) {
+fn are_numbered(left: &Left) -> Option<bool> {
+    let mut link = 0u32;
+    for served in &left.run()?.links {
+        link = link.saturating_add(1);
         if served.link != link {
-            return false;
+            return Some(false);
         }
     }
-    true
+    Some(true)
 }
 
-// All links were served, and made so many entries.
-fn is_whole(hosted: &Ported, entries: u32) -> bool {
-    hosted.links.len() == 200
-        && !hosted.door_failed
-        && are_numbered(hosted.links.as_slice())
-        && hosted.keeper.journal.len() == u64::from(entries)
-        && has_all(hosted)
+// All links came and went, and so many reads were answered with the data, and so many refused.
+fn are_answered(alloc: Global, left: &Left, read: usize, refused: usize) -> Result<bool, Fail> {
+    let wanted = Answers {
+        opened: 200,
+        read,
+        refused,
+    };
+    Ok(
+        answers_in(alloc, left.came.as_slice())? == wanted
+            && are_numbered(left) == Some(true)
+            && is_whole(left, 200, read) == Some(true),
+    )
 }
 
-// Links come and go, with room for so many entries, and are answered so.
+// Links come and go, and are answered so.
 fn come_and_are_answered<R: Threads + Wait + Clock + Sync>(
     rt: &R,
-    alloc: Global,
-    door: OpenedDoor,
-    dials: Dials,
-    room: u16,
-    wanted: Answers,
-) -> bool {
-    let (hosted, answers) = served_and_called(rt, alloc, door, dials, room);
-    let Some(hosted) = hosted else {
-        return false;
-    };
-    answers == Some(wanted) && is_whole(&hosted, wanted.read)
+    host: &HostRuntime,
+    words: &'static [&'static str],
+    read: usize,
+    refused: usize,
+) -> Result<bool, Fail> {
+    let alloc = host.alloc();
+    let left = called(rt, host, Call::of(words), callers(alloc)?)?;
+    are_answered(alloc, &left, read, refused)
 }
 
 #[test]
 fn links_come_and_go(rt: HostRuntime) -> Result<(), Fail> {
-    for (room, read, refused) in ROOMS {
-        let wanted = Answers {
-            read,
-            refused,
-            wrong: 0,
-        };
-        let (door, dials) = a_door_and_dials(&rt, rt.alloc())?;
-        assert!(rt; come_and_are_answered(&rt, rt.alloc(), door, dials, room, wanted));
+    for (words, read, refused) in ROOMS {
+        assert!(rt;
+            come_and_are_answered(&rt, &rt, words, *read, *refused)?,
+            "{read}"
+        );
     }
     Ok(())
 }

@@ -75,30 +75,51 @@ fn a_runtime(
     })
 }
 
-// The standard output of the process cannot be made to fail in a test. `tools/full-output` runs the programs over it.
-#[test]
-fn an_output_to_a_full_device_fails(rt: HostRuntime) -> Result<(), Fail> {
-    let mut full = StdOut::new(a_runtime(&rt, None, FULL)?);
-    assert!(rt; full.put(b"abc").is_err());
-    assert!(rt; full.put(b"abc").is_err());
-    let mut taken = StdOut::new(a_runtime(&rt, None, SCRATCH)?);
-    assert!(rt; taken.put(b"abc").is_ok());
-    let text = fs::read(&rt, SCRATCH)?;
-    fs::remove_file(&rt, SCRATCH)?;
-    assert!(rt; text.as_slice() == b"abc".as_slice());
-    Ok(())
+// Puts a text, on an output that is this file, so often as there are answers: each put fails or doesn't.
+fn puts(rt: &HostRuntime, output: &'static str, answers: &[bool]) -> Result<bool, Fail> {
+    let mut out = StdOut::new(a_runtime(rt, None, output)?);
+    for is_put in answers {
+        if out.put(b"abc").is_ok() != *is_put {
+            return Ok(false);
+        }
+    }
+    Ok(true)
 }
 
+// The octets of the file, which is removed.
+fn taken(rt: &HostRuntime, path: &str) -> Result<Vec<u8>, Fail> {
+    let text = fs::read(rt, path)?;
+    fs::remove_file(rt, path)?;
+    Ok(text)
+}
+
+// A link over the standard streams of such a runtime.
+fn a_link(
+    rt: &HostRuntime,
+    moment: Option<Duration>,
+    output: &'static str,
+) -> Result<RealLink<Feigned>, Fail> {
+    Ok(RealLink::standard(rt.alloc(), a_runtime(rt, moment, output)?)?)
+}
+
+// What a link to a full device answers to a transmit.
+fn transmitted(rt: &HostRuntime) -> Result<Sent, Fail> {
+    Ok(a_link(rt, None, FULL)?.transmit(b"abc"))
+}
+
+// The standard output of the process cannot be made to fail in a test. `tools/full-output` runs the programs over it.
 #[test]
-fn a_standard_link_to_a_full_device_fails(rt: HostRuntime) -> Result<(), Fail> {
-    let mut link = RealLink::standard(rt.alloc(), a_runtime(&rt, None, FULL)?)?;
-    assert!(rt; link.transmit(b"abc") == Sent::Failed);
+fn outputs_and_links_to_a_full_device_fail(rt: HostRuntime) -> Result<(), Fail> {
+    assert!(rt; puts(&rt, FULL, &[false, false])?);
+    assert!(rt; puts(&rt, SCRATCH, &[true])?);
+    assert!(rt; taken(&rt, SCRATCH)?.as_slice() == b"abc".as_slice());
+    assert!(rt; transmitted(&rt)? == Sent::Failed);
     Ok(())
 }
 
 /// Seconds and nanoseconds since 1970, or none before that, and the moment of a link in milliseconds, or none where
 /// its clock fails.
-const MOMENTS: [(Option<(u64, u32)>, Option<u64>); 5] = [
+const MOMENTS: &[(Option<(u64, u32)>, Option<u64>)] = &[
     (Some((0, 0)), Some(0)),
     (Some((0, 1_999_999)), Some(1)),
     (Some((1_709_214_330, 123_999_999)), Some(1_709_214_330_123)),
@@ -106,17 +127,27 @@ const MOMENTS: [(Option<(u64, u32)>, Option<u64>); 5] = [
     (None, None),
 ];
 
+// The moment of a link whose clock tells so many seconds and nanoseconds, or a moment before 1970.
+fn moment_of(rt: &HostRuntime, since: Option<(u64, u32)>) -> Result<Option<u64>, Fail> {
+    let since = match since {
+        Some((seconds, nanos)) => {
+            Some(Duration::from_secs(seconds).saturating_add(Duration::from_nanos(u64::from(
+                nanos,
+            ))))
+        }
+        None => None,
+    };
+    match a_link(rt, since, FULL)?.now() {
+        Tick::At(moment) => Ok(Some(moment)),
+        Tick::Failed => Ok(None),
+    }
+}
+
 // The machine's clock cannot be set in a test. The clock of a runtime gives an error before 1970.
 #[test]
 fn a_clock_before_1970_fails(rt: HostRuntime) -> Result<(), Fail> {
     for (since, moment) in MOMENTS {
-        let since = since.map(|(seconds, nanos)| Duration::new(seconds, nanos));
-        let mut link = RealLink::standard(rt.alloc(), a_runtime(&rt, since, FULL)?)?;
-        let wanted = match moment {
-            Some(moment) => Tick::At(moment),
-            None => Tick::Failed,
-        };
-        assert!(rt; link.now() == wanted, "{moment:?}");
+        assert!(rt; moment_of(&rt, *since)? == *moment, "{moment:?}");
     }
     Ok(())
 }

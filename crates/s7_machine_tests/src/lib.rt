@@ -3,7 +3,11 @@
 #![tactic(auto)]
 
 #[cfg(test)]
-mod calls;
+mod books;
+#[cfg(test)]
+mod called;
+#[cfg(test)]
+mod callers;
 #[cfg(test)]
 mod coming;
 #[cfg(test)]
@@ -15,15 +19,19 @@ mod feigned;
 #[cfg(test)]
 mod files;
 #[cfg(test)]
-mod links;
+mod halls;
 #[cfg(test)]
-mod ports;
+mod line;
+#[cfg(test)]
+mod links;
 #[cfg(test)]
 mod sends;
 #[cfg(test)]
 mod servers;
 #[cfg(test)]
 mod shared;
+#[cfg(test)]
+mod telegrams;
 #[cfg(test)]
 mod tools;
 #[cfg(test)]

@@ -1,175 +1,221 @@
 // Connections over TCP, and the clock of links.
+use crate::line::{
+    Doorway, Line, call, call_here, listen_from, moment, next, receive, shut, transmit,
+};
 use s7_os::{RealLink, TcpDial, TcpDoor};
-use s7_outer::{Arrival, Clock, Dial, Dialled, Door, Got, Link, Sent, Tick};
+use s7_outer::{Arrival, Got, Sent};
 use s7_wire::{Inbox, PIECE};
 use std::alloc::Global;
 use std::net::{Ipv4Addr, TcpStream};
 use std::test::Fail;
 use std::thread;
-use std::thread::join;
+use std::thread::{Threads, join};
 use std::time::Duration;
 
-// The first port from here on that nobody hears is taken.
-const FIRST_PORT: u16 = 47102;
+// The first port that the doors try.
+const FIRST_PORT: u16 = 47_102;
 
-// The port that the door hears from now on.
-fn heard<L, D: Door<L>>(door: &mut D) -> Option<u16> {
-    for port in FIRST_PORT..FIRST_PORT + 20 {
-        if door.listen(port).is_ok() {
-            return Some(port);
-        }
-    }
-    None
+// A standard link. The standard input of a test has ended.
+fn standard(rt: &HostRuntime) -> Result<Line, Fail> {
+    Ok(RealLink::standard(rt.alloc(), rt.clone()?)?)
 }
 
 #[test]
 fn a_real_link_has_the_time(rt: HostRuntime) -> Result<(), Fail> {
-    let mut link = RealLink::standard(rt.alloc(), rt.clone()?)?;
-    let Tick::At(moment) = link.now() else {
-        return Err(Fail::from("no time"));
-    };
+    let mut line = standard(&rt)?;
     // 2024-01-01, in milliseconds.
-    assert!(rt; moment > 1_704_067_200_000);
-    let mut into = [0u8; 8];
-    assert!(rt; matches!(link.receive(&mut into), Got::End));
-    assert!(rt; matches!(link.receive(&mut into), Got::End));
+    assert!(rt; matches!(moment(&mut line), Some(1_704_067_200_001..)));
+    let mut came = Vec::new(rt.alloc());
+    assert!(rt; receive(&mut line, 8, &mut came) == Got::End);
+    assert!(rt; receive(&mut line, 8, &mut came) == Got::End);
     Ok(())
 }
 
-type Line = RealLink<HostRuntime>;
+/// The ends of a connection, each as long as it is held.
+#[derive(Drop)]
+struct Ends {
+    client: Option<Line>,
+    server: Option<Line>,
+}
 
-// The ends of a connection of a dial and a door, and the door and its port.
-fn connected(rt: &HostRuntime) -> Result<(Line, Line, TcpDoor<HostRuntime>, u16), Fail> {
+// A door that listens, and its port.
+fn a_door(rt: &HostRuntime) -> Result<(Doorway, u16), Fail> {
     let mut door = TcpDoor::new(rt.clone()?);
-    let port = heard::<Line, _>(&mut door).ok_or("no port")?;
-    let Dialled::Link(client) = TcpDial::new(rt.clone()?).call("127.0.0.1", port) else {
-        return Err(Fail::from("no link"));
-    };
-    let Arrival::Link(server) = door.next() else {
+    let port = listen_from(&mut door, FIRST_PORT).ok_or("no port")?;
+    Ok((door, port))
+}
+
+// The ends of a connection by a door.
+fn met(door: &mut Doorway, client: Option<Line>) -> Result<Ends, Fail> {
+    let Arrival::Link(server) = next(door) else {
         return Err(Fail::from("no arrival"));
     };
-    Ok((client, server, door, port))
+    Ok(Ends {
+        client,
+        server: Some(server),
+    })
 }
 
-#[test]
-fn a_real_connection(rt: HostRuntime) -> Result<(), Fail> {
-    let (mut client, mut server, _door, _port) = connected(&rt)?;
-    let mut into = [0u8; 8];
-    assert!(rt; client.transmit(b"abc") == Sent::Bytes(3));
-    assert!(rt; server.receive(&mut into[..2]) == Got::Bytes(2) && into[1] == b'b');
-    assert!(rt; server.receive(&mut into) == Got::Bytes(1) && into[0] == b'c');
-    let Tick::At(before) = client.now() else {
-        return Err(Fail::from("no time"));
-    };
-    assert!(rt; client.receive(&mut into) == Got::NotYet);
-    let Tick::At(after) = client.now() else {
-        return Err(Fail::from("no time"));
-    };
-    assert!(rt; after.saturating_sub(before) >= 50);
-    assert!(rt; server.transmit(b"x") == Sent::Bytes(1));
-    assert!(rt; client.receive(&mut into) == Got::Bytes(1) && into[0] == b'x');
-    Ok(())
+// The ends of a connection of a dial and a door, and the door and its port.
+fn connected(rt: &HostRuntime) -> Result<(Ends, Doorway, u16), Fail> {
+    let (mut door, port) = a_door(rt)?;
+    let client = call_here(rt, port);
+    let ends = met(&mut door, client)?;
+    Ok((ends, door, port))
+}
+
+// A door that never listened gives nothing.
+fn is_silent(rt: &HostRuntime) -> Result<bool, Fail> {
+    let mut door = TcpDoor::new(rt.clone()?);
+    Ok(matches!(next(&mut door), Arrival::Failed))
+}
+
+// Nobody answers at the port of this host.
+fn is_unanswered(rt: &HostRuntime, host: &str, port: u16) -> Result<bool, Fail> {
+    let mut dial = TcpDial::new(rt.clone()?);
+    Ok(call(&mut dial, host, port).is_none())
+}
+
+// Nobody answers at the door's port on another host, nor on this one once the door is dropped.
+fn are_unanswered(rt: &HostRuntime) -> Result<bool, Fail> {
+    let (_ends, door, port) = connected(rt)?;
+    let is_so = is_unanswered(rt, "127.0.0.2", port)?;
+    drop(door);
+    Ok(is_so && is_unanswered(rt, "127.0.0.1", port)?)
 }
 
 #[test]
 fn doors_and_dials_that_fail(rt: HostRuntime) -> Result<(), Fail> {
-    let mut door = TcpDoor::new(rt.clone()?);
-    let unheard: Arrival<Line> = door.next();
-    assert!(rt; matches!(unheard, Arrival::Failed));
-    let (_client, _server, door, port) = connected(&rt)?;
-    let mut dial = TcpDial::new(rt.clone()?);
-    assert!(rt; matches!(dial.call("127.0.0.2", port), Dialled::Failed));
-    drop(door);
-    assert!(rt; matches!(dial.call("127.0.0.1", port), Dialled::Failed));
+    assert!(rt; is_silent(&rt)?);
+    assert!(rt; are_unanswered(&rt)?);
     Ok(())
 }
 
-// The peer of a link that was shut and is still held gets what was sent, and then the end.
-#[test]
-fn a_link_that_was_shut(rt: HostRuntime) -> Result<(), Fail> {
-    let (mut client, mut server, _door, _port) = connected(&rt)?;
-    let mut into = [0u8; 8];
-    assert!(rt; server.transmit(b"yz") == Sent::Bytes(2));
-    server.shutdown();
-    assert!(rt; client.transmit(b"on") == Sent::Bytes(2));
-    assert!(rt; client.receive(&mut into) == Got::Bytes(2) && into[1] == b'z');
-    assert!(rt; client.receive(&mut into) == Got::End);
-    assert!(rt; client.receive(&mut into) == Got::End);
-    assert!(rt; server.transmit(b"x") == Sent::Failed);
-    server.shutdown();
-    drop(server);
-    assert!(rt; fails_soon(&mut client));
-    Ok(())
+/// One end of a connection.
+#[derive(Clone, Copy)]
+enum Side {
+    Client,
+    Server,
 }
 
-// What comes of a receive once the link waits no more.
-fn received<L: Link>(link: &mut L) -> Got {
-    let mut into = [0u8; 8];
+/// What a side does, and what comes of it.
+#[derive(Clone, Copy)]
+enum Act {
+    /// It transmits these octets by one call, which answers so.
+    Transmits(&'static [u8], Sent),
+    /// It receives into so much room by one call, and these octets come.
+    Receives(usize, &'static [u8]),
+    /// Nothing comes, and the call waits for 50 milliseconds at least.
+    Waits,
+    /// The end comes.
+    Ends,
+    /// A receive fails, once it waits no more.
+    FailsToReceive,
+    /// A transmit fails, once the system knows that nobody reads.
+    FailsToTransmit,
+    /// It shuts its link.
+    Shuts,
+    /// It drops its link.
+    Leaves,
+    /// It transmits so many octets of the text, and each transmit takes all that is left.
+    TransmitsText(usize),
+    /// So many octets of the text come after some time, and then the end.
+    ReceivesText(usize),
+    /// An inbox is refilled after some time, once for each of these counts, by so many octets of the text.
+    Refills(&'static [usize]),
+}
+
+/// Per row: what it shows, and what the sides do, one behind the other.
+const CONNECTIONS: &[(&str, &[(Side, Act)])] = &[
+    (
+        "octets go both ways, and a receive waits for them",
+        &[
+            (Side::Client, Act::Transmits(b"abc", Sent::Bytes(3))),
+            (Side::Server, Act::Receives(2, b"ab")),
+            (Side::Server, Act::Receives(8, b"c")),
+            (Side::Client, Act::Waits),
+            (Side::Server, Act::Transmits(b"x", Sent::Bytes(1))),
+            (Side::Client, Act::Receives(8, b"x")),
+        ],
+    ),
+    (
+        "the peer of a link that was shut and is still held gets what was sent, and then the end",
+        &[
+            (Side::Server, Act::Transmits(b"yz", Sent::Bytes(2))),
+            (Side::Server, Act::Shuts),
+            (Side::Client, Act::Transmits(b"on", Sent::Bytes(2))),
+            (Side::Client, Act::Receives(8, b"yz")),
+            (Side::Client, Act::Ends),
+            (Side::Client, Act::Ends),
+            (Side::Server, Act::Transmits(b"x", Sent::Failed)),
+            (Side::Server, Act::Shuts),
+            (Side::Server, Act::Leaves),
+            (Side::Client, Act::FailsToTransmit),
+        ],
+    ),
+    (
+        "a peer that leaves octets behind resets the connection, which is a fault",
+        &[
+            (Side::Client, Act::Transmits(b"abc", Sent::Bytes(3))),
+            (Side::Server, Act::Receives(1, b"a")),
+            (Side::Server, Act::Leaves),
+            (Side::Client, Act::FailsToReceive),
+            (Side::Client, Act::Transmits(b"x", Sent::Failed)),
+        ],
+    ),
+    (
+        "a receive has room for 8,192 octets",
+        &[
+            (Side::Server, Act::TransmitsText(9_000)),
+            (Side::Client, Act::Refills(&[8_192, 808])),
+        ],
+    ),
+    (
+        "a peer that sends on loses nothing",
+        &[
+            (Side::Server, Act::TransmitsText(HALF_TAKEN)),
+            (Side::Server, Act::Shuts),
+            (Side::Client, Act::Transmits(b"on", Sent::Bytes(2))),
+            (Side::Client, Act::ReceivesText(HALF_TAKEN)),
+        ],
+    ),
+];
+
+// These octets come by one call.
+fn comes(alloc: Global, line: &mut Line, room: usize, octets: &[u8]) -> bool {
+    let mut came = Vec::new(alloc);
+    receive(line, room, &mut came) == Got::Bytes(octets.len()) && came.as_slice() == octets
+}
+
+// A receive answers so.
+fn answers(alloc: Global, line: &mut Line, wanted: Got) -> bool {
+    receive(line, 8, &mut Vec::new(alloc)) == wanted
+}
+
+// Nothing comes for 50 milliseconds.
+fn waits(alloc: Global, line: &mut Line) -> Option<bool> {
+    let before = moment(line)?;
+    let is_so = answers(alloc, line, Got::NotYet);
+    let after = moment(line)?;
+    Some(is_so && after.saturating_sub(before) >= 50)
+}
+
+// A receive fails once it waits no more.
+fn fails_to_receive(alloc: Global, line: &mut Line) -> bool {
+    let mut came = Vec::new(alloc);
     for _ in 0..20 {
-        let got = link.receive(&mut into);
+        let got = receive(line, 8, &mut came);
         if got != Got::NotYet {
-            return got;
+            return got == Got::Failed;
         }
     }
-    Got::NotYet
-}
-
-// A peer that closes with octets that it hasn't taken resets the connection.
-#[test]
-fn a_reset_connection_is_a_fault(rt: HostRuntime) -> Result<(), Fail> {
-    let (mut client, mut server, _door, _port) = connected(&rt)?;
-    assert!(rt; client.transmit(b"abc") == Sent::Bytes(3));
-    assert!(rt; server.receive(&mut [0u8; 1]) == Got::Bytes(1));
-    drop(server);
-    assert!(rt; received(&mut client) == Got::Failed);
-    assert!(rt; client.transmit(b"x") == Sent::Failed);
-    Ok(())
-}
-
-// The peer takes some octets and closes while more are on their way.
-#[test]
-fn a_stream_that_is_closed_under_a_transmit_fails(rt: HostRuntime) -> Result<(), Fail> {
-    let (mut client, mut server, _door, _port) = connected(&rt)?;
-    let text = text_of(rt.alloc(), LONG).ok_or("memory")?;
-    let (sent, came) = join(
-        &rt,
-        move || transmit_all(&mut client, text.as_slice()),
-        move || server.receive(&mut [0u8; 8]),
-    );
-    assert!(rt; sent.is_none());
-    assert!(rt; came == Got::Bytes(8));
-    Ok(())
-}
-
-// What an inbox got of a link: how many octets, where they are those from a place of the text on.
-fn refilled<L: Link>(inbox: &mut Inbox, link: &mut L, place: usize) -> Option<usize> {
-    if !inbox.is_empty() {
-        return None;
-    }
-    let Got::Bytes(count) = inbox.refill(link, PIECE) else {
-        return None;
-    };
-    let is_so = inbox.as_slice().len() == count && stands_at(inbox.as_slice(), place);
-    inbox.advance(count);
-    if is_so { Some(count) } else { None }
-}
-
-#[test]
-fn a_receive_has_room_for_8192_octets(rt: HostRuntime) -> Result<(), Fail> {
-    let (mut client, mut server, _door, _port) = connected(&rt)?;
-    let text = text_of(rt.alloc(), 9_000).ok_or("memory")?;
-    assert!(rt; transmit_all(&mut server, text.as_slice()) == Some(0));
-    drop(thread::sleep(&rt, Duration::from_millis(200)));
-    let mut inbox = Inbox::new();
-    assert!(rt; refilled(&mut inbox, &mut client, 0) == Some(8_192));
-    assert!(rt; refilled(&mut inbox, &mut client, 8_192) == Some(808));
-    Ok(())
+    false
 }
 
 // Some of the first transmits may still go, before the system knows that nobody reads.
-fn fails_soon<L: Link>(link: &mut L) -> bool {
+fn fails_to_transmit(line: &mut Line) -> bool {
     for _ in 0..20 {
-        match link.transmit(b"x") {
+        match transmit(line, b"x") {
             Sent::Bytes(_) => {}
             Sent::NotYet => return false,
             Sent::Failed => return true,
@@ -184,7 +230,7 @@ const LONG: usize = 16_000_000;
 // More octets than a peer that takes none has room for, and not more than both have.
 const HALF_TAKEN: usize = 1_000_000;
 
-// What stands at a place of a text.
+// What stands at a place of the text.
 fn octet_at(place: usize) -> u8 {
     (place % 251) as u8
 }
@@ -197,28 +243,6 @@ fn text_of(alloc: Global, length: usize) -> Option<Vec<u8>> {
     Some(text)
 }
 
-// Transmits the whole text, and counts the transmits that took less than was left.
-fn transmit_all<L: Link>(link: &mut L, text: &[u8]) -> Option<u64> {
-    let mut rest = text;
-    let mut short = 0u64;
-    for _ in 0..u64::MAX {
-        if rest.is_empty() {
-            return Some(short);
-        }
-        match link.transmit(rest) {
-            Sent::Bytes(count) => {
-                rest = &rest[count..];
-                if !rest.is_empty() {
-                    short = short.saturating_add(1);
-                }
-            }
-            Sent::NotYet => {}
-            Sent::Failed => return None,
-        }
-    }
-    None
-}
-
 fn stands_at(octets: &[u8], place: usize) -> bool {
     for (k, octet) in octets.iter().enumerate() {
         if *octet != octet_at(place.wrapping_add(k)) {
@@ -228,59 +252,235 @@ fn stands_at(octets: &[u8], place: usize) -> bool {
     true
 }
 
-// Receives to the end, and says whether it was the text of this length.
-fn receives_text<L: Link>(link: &mut L, length: usize) -> bool {
-    let mut into = [0u8; 4096];
+// Transmits the whole text, and counts the transmits that took less than was left.
+fn transmit_all(line: &mut Line, text: &[u8]) -> Option<u64> {
+    let mut rest = text;
+    let mut short = 0u64;
+    for _ in 0..u64::MAX {
+        match transmit(line, rest) {
+            Sent::Bytes(count) => rest = rest.get(count..)?,
+            Sent::NotYet => continue,
+            Sent::Failed => return None,
+        }
+        if rest.is_empty() {
+            return Some(short);
+        }
+        short = short.saturating_add(1);
+    }
+    None
+}
+
+// How many octets come up to the end. None where they aren't those of the text.
+fn receive_all(alloc: Global, line: &mut Line) -> Option<usize> {
+    let mut came = Vec::new(alloc);
     let mut place = 0usize;
     for _ in 0..u64::MAX {
-        match link.receive(&mut into) {
-            Got::Bytes(count) => {
-                if !stands_at(&into[..count], place) {
-                    return false;
-                }
-                place = place.saturating_add(count);
-            }
-            Got::End => return place == length,
-            Got::NotYet => {}
-            Got::Failed => return false,
+        came.clear();
+        match receive(line, 4_096, &mut came) {
+            Got::Bytes(_) | Got::NotYet => {}
+            Got::End => return Some(place),
+            Got::Failed => return None,
+        }
+        if !stands_at(came.as_slice(), place) {
+            return None;
+        }
+        place = place.saturating_add(came.len());
+    }
+    None
+}
+
+// An inbox that is empty gets so many octets of the link, which are those of the text from a place on.
+fn is_refilled(inbox: &mut Inbox, line: &mut Line, place: usize, count: usize) -> bool {
+    if !inbox.is_empty() || inbox.refill(line, PIECE) != Got::Bytes(count) {
+        return false;
+    }
+    let came = inbox.as_slice();
+    let is_so = came.len() == count && stands_at(came, place);
+    if is_so {
+        inbox.advance(count);
+    }
+    is_so
+}
+
+// An inbox gets so many octets of the text by one call after another.
+fn refills(line: &mut Line, counts: &[usize]) -> bool {
+    let mut inbox = Inbox::new();
+    let mut place = 0usize;
+    for count in counts {
+        if !is_refilled(&mut inbox, line, place, *count) {
+            return false;
+        }
+        place = place.saturating_add(*count);
+    }
+    true
+}
+
+// Lets all come that is on its way.
+fn rest(rt: &HostRuntime) {
+    drop(thread::sleep(rt, Duration::from_millis(200)));
+}
+
+// It goes as the act says. None where memory was wanting, or the clock failed.
+fn goes(rt: &HostRuntime, line: &mut Line, act: Act) -> Option<bool> {
+    let alloc = rt.alloc();
+    match act {
+        Act::Transmits(octets, sent) => Some(transmit(line, octets) == sent),
+        Act::Receives(room, octets) => Some(comes(alloc, line, room, octets)),
+        Act::Waits => waits(alloc, line),
+        Act::Ends => Some(answers(alloc, line, Got::End)),
+        Act::FailsToReceive => Some(fails_to_receive(alloc, line)),
+        Act::FailsToTransmit => Some(fails_to_transmit(line)),
+        Act::Shuts => {
+            shut(line);
+            Some(true)
+        }
+        Act::Leaves => None,
+        Act::TransmitsText(count) => {
+            Some(transmit_all(line, text_of(alloc, count)?.as_slice()) == Some(0))
+        }
+        Act::ReceivesText(count) => {
+            rest(rt);
+            Some(receive_all(alloc, line) == Some(count))
+        }
+        Act::Refills(counts) => {
+            rest(rt);
+            Some(refills(line, counts))
         }
     }
-    false
+}
+
+// It goes as the act says, at a side that is still there.
+fn goes_at(rt: &HostRuntime, end: &mut Option<Line>, act: Act) -> bool {
+    if matches!(act, Act::Leaves) {
+        return end.take().is_some();
+    }
+    match end {
+        Some(line) => goes(rt, line, act) == Some(true),
+        None => false,
+    }
+}
+
+// How many of the acts go as they say, one behind the other.
+fn count_of(rt: &HostRuntime, mut ends: Ends, acts: &[(Side, Act)]) -> usize {
+    let mut count = 0usize;
+    for (side, act) in acts {
+        let end = match side {
+            Side::Client => &mut ends.client,
+            Side::Server => &mut ends.server,
+        };
+        if !goes_at(rt, end, *act) {
+            return count;
+        }
+        count = count.saturating_add(1);
+    }
+    count
+}
+
+#[test]
+fn connections_give_what_was_sent_and_end_or_fail(rt: HostRuntime) -> Result<(), Fail> {
+    for (shown, acts) in CONNECTIONS {
+        let (ends, _door, _port) = connected(&rt)?;
+        let count = count_of(&rt, ends, acts);
+        assert!(rt; count == acts.len(), "{shown}: act {count}");
+    }
+    Ok(())
+}
+
+/// Who transmits the text.
+#[derive(Drop)]
+struct Writer {
+    line: Line,
+    text: Vec<u8>,
+}
+
+impl Writer {
+    // How many transmits took less than was left, where the whole text went.
+    fn run(mut self) -> Option<u64> {
+        transmit_all(&mut self.line, self.text.as_slice())
+    }
+}
+
+/// Who receives it: slowly to the end, or 8 octets alone.
+#[derive(Drop)]
+struct Reader {
+    line: Line,
+    rt: HostRuntime,
+    to_the_end: bool,
+}
+
+impl Reader {
+    // How many octets of the text came.
+    fn run(mut self) -> Option<usize> {
+        let alloc = self.rt.alloc();
+        if self.to_the_end {
+            rest(&self.rt);
+            return receive_all(alloc, &mut self.line);
+        }
+        match receive(&mut self.line, 8, &mut Vec::new(alloc)) {
+            Got::Bytes(count) => Some(count),
+            Got::End | Got::NotYet | Got::Failed => None,
+        }
+    }
+}
+
+// What a writer and a reader have beside one another.
+fn at_once<R: Threads>(rt: &R, writer: Writer, reader: Reader) -> (Option<u64>, Option<usize>) {
+    join(rt, move || writer.run(), move || reader.run())
+}
+
+// A link whose transmits wait for 10 milliseconds.
+fn a_hasty_line(rt: &HostRuntime, port: u16) -> Result<Line, Fail> {
+    let stream = TcpStream::connect(rt, (Ipv4Addr::LOCALHOST, port))?;
+    stream.set_write_timeout(Some(Duration::from_millis(10)))?;
+    Ok(RealLink::stream(rt.clone()?, stream)?)
+}
+
+fn a_writer(rt: &HostRuntime, line: Option<Line>) -> Result<Writer, Fail> {
+    let text = text_of(rt.alloc(), LONG).ok_or("memory")?;
+    let line = line.ok_or("no client")?;
+    Ok(Writer { line, text })
+}
+
+fn a_reader(rt: &HostRuntime, line: Option<Line>, to_the_end: bool) -> Result<Reader, Fail> {
+    let rt = rt.clone()?;
+    let line = line.ok_or("no server")?;
+    Ok(Reader {
+        line,
+        rt,
+        to_the_end,
+    })
+}
+
+// A writer of a long text and a reader of it.
+fn a_writer_and_a_reader(
+    rt: &HostRuntime,
+    ends: Ends,
+    to_the_end: bool,
+) -> Result<(Writer, Reader), Fail> {
+    let Ends { client, server } = ends;
+    let writer = a_writer(rt, client)?;
+    Ok((writer, a_reader(rt, server, to_the_end)?))
 }
 
 #[test]
 fn a_slow_reader_loses_nothing(rt: HostRuntime) -> Result<(), Fail> {
-    let mut door = TcpDoor::new(rt.clone()?);
-    let port = heard::<RealLink<HostRuntime>, _>(&mut door).ok_or("no port")?;
-    let stream = TcpStream::connect(&rt, (Ipv4Addr::LOCALHOST, port))?;
-    stream.set_write_timeout(Some(Duration::from_millis(10)))?;
-    let mut client = RealLink::stream(rt.clone()?, stream)?;
-    let Arrival::Link(mut server) = door.next() else {
-        return Err(Fail::from("no arrival"));
-    };
-    let text = text_of(rt.alloc(), LONG).ok_or("memory")?;
-    let clock = rt.clone()?;
-    let (short, whole) = join(
-        &rt,
-        move || transmit_all(&mut client, text.as_slice()),
-        move || {
-            drop(thread::sleep(&clock, Duration::from_millis(200)));
-            receives_text(&mut server, LONG)
-        },
-    );
-    assert!(rt; short.is_some_and(|short| short > 0));
-    assert!(rt; whole);
+    let (mut door, port) = a_door(&rt)?;
+    let hasty = a_hasty_line(&rt, port)?;
+    let ends = met(&mut door, Some(hasty))?;
+    let (writer, reader) = a_writer_and_a_reader(&rt, ends, true)?;
+    let (short, count) = at_once(&rt, writer, reader);
+    assert!(rt; matches!(short, Some(1..)));
+    assert!(rt; count == Some(LONG));
     Ok(())
 }
 
+// The peer takes some octets and closes while more are on their way.
 #[test]
-fn a_peer_that_sends_on_loses_nothing(rt: HostRuntime) -> Result<(), Fail> {
-    let (mut client, mut server, _door, _port) = connected(&rt)?;
-    let text = text_of(rt.alloc(), HALF_TAKEN).ok_or("memory")?;
-    assert!(rt; transmit_all(&mut server, text.as_slice()) == Some(0));
-    server.shutdown();
-    assert!(rt; client.transmit(b"on") == Sent::Bytes(2));
-    drop(thread::sleep(&rt, Duration::from_millis(200)));
-    assert!(rt; receives_text(&mut client, HALF_TAKEN));
+fn a_stream_that_is_closed_under_a_transmit_fails(rt: HostRuntime) -> Result<(), Fail> {
+    let (ends, _door, _port) = connected(&rt)?;
+    let (writer, reader) = a_writer_and_a_reader(&rt, ends, false)?;
+    let (short, count) = at_once(&rt, writer, reader);
+    assert!(rt; short.is_none());
+    assert!(rt; count == Some(8));
     Ok(())
 }

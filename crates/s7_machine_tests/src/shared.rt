@@ -1,20 +1,53 @@
 // Clients that write data blocks of their own and a shared one, beside one another.
-use crate::calls::{ask, is_answered, joined, open};
-use crate::ports::{OpenedDoor, Ported, a_door, has_all, key_of, served};
-use crate::walk::Walk;
-use s7_os::{RealLink, TcpDial};
-use s7_outer::{Dial, Dialled, Link};
-use s7_plant::{Book, Tail};
+use crate::called::{Call, Left, called, files, is_whole};
+use crate::callers::{Caller, Callers};
+use crate::telegrams::{are, packets};
+use crate::walk::{Walk, key_of};
+use s7_outer::{Memory, Octets};
 use std::alloc::Global;
 use std::sync::Wait;
 use std::test::Fail;
-use std::thread::{Threads, join, map_vec};
+use std::thread::Threads;
 use std::time::Clock;
+
+const WORDS: &[&str] = &[
+    "serve",
+    "a.txt",
+    "--port",
+    "28102",
+    "--links",
+    "8",
+    "--journal",
+    "1024",
+];
+
+/// The data blocks from 1 to 9.
+const AREAS: &[u8] = b"\
+s7 areas 1
+DB 1 4
+11223344
+DB 2 4
+11223344
+DB 3 4
+11223344
+DB 4 4
+11223344
+DB 5 4
+11223344
+DB 6 4
+11223344
+DB 7 4
+11223344
+DB 8 4
+11223344
+DB 9 4
+11223344
+";
 
 /// How many clients there are.
 pub(crate) const CLIENTS: u8 = 8;
 
-// How often each writes.
+/// How often each writes.
 const ROUNDS: u8 = 20;
 
 /// The data block that all write.
@@ -45,62 +78,108 @@ pub(crate) fn value_of(client: u8, round: u8, block: u8) -> [u8; 4] {
     [client, round, block, 0xA5]
 }
 
-// A client that is connected.
-#[derive(Drop)]
-struct Client {
-    number: u8,
-    link: RealLink<HostRuntime>,
+/// The octets of these parts, one after another.
+pub(crate) fn joined(alloc: Global, parts: &[&[u8]]) -> Result<Octets, Memory> {
+    let mut all = Vec::new(alloc);
+    for part in parts {
+        all.extend_from_slice(part)?;
+    }
+    Ok(Octets::of_vec(all))
 }
 
-// The answer to a read of the client's own data block and of the shared one.
-fn read<L: Link>(alloc: Global, link: &mut L, client: u8, round: u8) -> Option<Vec<u8>> {
-    let parts: [&[u8]; 5] = [READ, &[READS, round], TWO_ITEMS, &[client], AND_SHARED];
-    ask(alloc, link, joined(alloc, &parts).ok()?.as_slice())
+// A read of the client's own data block and of the shared one.
+fn read(alloc: Global, client: u8, round: u8) -> Result<Octets, Memory> {
+    let reference = [READS, round];
+    joined(alloc, &[READ, &reference, TWO_ITEMS, &[client], AND_SHARED])
 }
 
-// Writes one data block.
-fn write<L: Link>(alloc: Global, link: &mut L, client: u8, round: u8, block: u8) -> Option<()> {
+// A write of one data block.
+fn write(alloc: Global, client: u8, round: u8, block: u8) -> Result<Octets, Memory> {
     let reference = [block, round];
     let value = value_of(client, round, block);
-    let parts: [&[u8]; 6] = [WRITE, &reference, ONE_ITEM, &[block], FOUR_OCTETS, &value];
-    let telegram = joined(alloc, &parts).ok()?;
-    let answer = joined(alloc, &[WRITE_ANSWER, &reference, WRITTEN]).ok()?;
-    is_answered(alloc, link, telegram.as_slice(), answer.as_slice())
+    joined(
+        alloc,
+        &[WRITE, &reference, ONE_ITEM, &[block], FOUR_OCTETS, &value],
+    )
 }
 
-// The answers to the reads of a client, one before the first round and one in each.
-fn rounds<L: Link + Drop>(alloc: Global, client: u8, mut link: L) -> Option<Vec<Vec<u8>>> {
-    open(alloc, &mut link)?;
-    let mut shown = Vec::new(alloc);
-    shown.push(read(alloc, &mut link, client, 0)?).ok()?;
+// What a client sends: a read before the first round, and two writes and a read in each.
+fn telegrams(alloc: Global, client: u8) -> Result<Vec<Octets>, Fail> {
+    let mut all = packets(alloc, "CONNECT SETUP")?;
+    all.push(read(alloc, client, 0)?)?;
     for round in 1..=ROUNDS {
-        write(alloc, &mut link, client, round, client)?;
-        write(alloc, &mut link, client, round, SHARED)?;
-        shown.push(read(alloc, &mut link, client, round)?).ok()?;
+        all.push(write(alloc, client, round, client)?)?;
+        all.push(write(alloc, client, round, SHARED)?)?;
+        all.push(read(alloc, client, round)?)?;
     }
-    Some(shown)
+    Ok(all)
 }
 
-// The clients, each of which has called the port.
-fn called<D: Dial<RealLink<HostRuntime>> + Drop>(
-    alloc: Global,
-    mut dial: D,
-    port: u16,
-) -> Option<Vec<Client>> {
+fn clients(alloc: Global) -> Result<Callers, Fail> {
     let mut clients = Vec::new(alloc);
     for number in 1..=CLIENTS {
-        match dial.call("127.0.0.1", port) {
-            Dialled::Link(link) => clients.push(Client { number, link }).ok()?,
-            Dialled::Failed => return None,
+        let client = Caller {
+            links: 1,
+            telegrams: telegrams(alloc, number)?,
+        };
+        if clients.push(client).is_err() {
+            return Err(Fail::from("memory"));
         }
     }
-    Some(clients)
+    Ok(Callers::Many(clients))
+}
+
+// The answer is that to a write of this data block.
+fn is_written(alloc: Global, answer: &Octets, block: u8, round: u8) -> Result<bool, Memory> {
+    let wanted = joined(alloc, &[WRITE_ANSWER, &[block, round], WRITTEN])?;
+    Ok(answer.as_slice() == wanted.as_slice())
+}
+
+// Both writes of a round are answered, and a read.
+fn is_round(alloc: Global, client: u8, round: u8, answers: &[Octets]) -> Result<bool, Memory> {
+    match answers {
+        [own, shared, _] => Ok(
+            is_written(alloc, own, client, round)? && is_written(alloc, shared, SHARED, round)?,
+        ),
+        _ => Ok(false),
+    }
+}
+
+// All rounds of a client are answered.
+fn are_rounds(alloc: Global, client: u8, answers: &[Octets]) -> Result<bool, Memory> {
+    let mut round = 0u8;
+    for answers in answers.chunks(3) {
+        round = round.saturating_add(1);
+        if !is_round(alloc, client, round, answers)? {
+            return Ok(false);
+        }
+    }
+    Ok(round == ROUNDS)
+}
+
+// The negotiation and all writes of a client are answered, and a read before the first round.
+fn is_answered(alloc: Global, client: u8, answers: &[Octets]) -> Result<bool, Fail> {
+    let (opened, rest) = answers.split_at_checked(2).ok_or("not opened")?;
+    let (_, rounds) = rest.split_at_checked(1).ok_or("not read")?;
+    Ok(are(alloc, opened, "CONFIRM GRANTED")? && are_rounds(alloc, client, rounds)?)
+}
+
+fn are_answered(alloc: Global, came: &[Vec<Octets>]) -> Result<bool, Fail> {
+    let mut client = 0u8;
+    for answers in came {
+        client = client.saturating_add(1);
+        if !is_answered(alloc, client, answers.as_slice())? {
+            return Ok(false);
+        }
+    }
+    Ok(client == CLIENTS)
 }
 
 // What the clients were shown is what the entries before each read left, and the plant is what all
 // entries left.
-fn is_shown(alloc: Global, book: &Book<Tail>, shown: &[Vec<Vec<u8>>]) -> Option<()> {
-    let mut walk = Walk::new(shown);
+fn is_shown(alloc: Global, left: &Left) -> Option<()> {
+    let book = &left.run()?.book;
+    let mut walk = Walk::new(left.came.as_slice());
     for entry in book.journal.as_slice() {
         walk.take(alloc, entry)?;
     }
@@ -115,71 +194,29 @@ fn is_shown(alloc: Global, book: &Book<Tail>, shown: &[Vec<Vec<u8>>]) -> Option<
     Some(())
 }
 
-// The answers to the reads of each client. None where one wasn't answered.
-fn all_shown<R: Threads + Sync>(
-    rt: &R,
-    alloc: Global,
-    clients: Vec<Client>,
-) -> Option<Vec<Vec<Vec<u8>>>> {
-    let ask = |client: Client| rounds(alloc, client.number, client.link);
-    let answers = map_vec(rt, clients, &ask).ok()?;
-    let mut shown = Vec::new(alloc);
-    for answer in answers {
-        shown.push(answer?).ok()?;
-    }
-    Some(shown)
-}
-
-// What serving the clients leaves, and what they are shown.
-fn served_and_shown<R: Threads + Wait + Clock + Sync>(
-    rt: &R,
-    alloc: Global,
-    door: OpenedDoor,
-    clients: Vec<Client>,
-) -> (Option<Ported>, Option<Vec<Vec<Vec<u8>>>>) {
-    join(
-        rt,
-        || served(rt, alloc, door, u16::from(CLIENTS), 1_024),
-        || all_shown(rt, alloc, clients),
+// All clients were answered. Each has an entry of a read at first, and of two writes and a read in each of the rounds.
+fn is_shared(alloc: Global, left: &Left) -> Result<bool, Fail> {
+    Ok(
+        are_answered(alloc, left.came.as_slice())?
+            && is_whole(left, 8, 488) == Some(true)
+            && is_shown(alloc, left).is_some(),
     )
-}
-
-// All clients were served. Each has an entry of a read at first, and of two writes and a read in each of the rounds.
-fn is_whole(hosted: &Ported) -> bool {
-    hosted.links.len() == 8
-        && !hosted.door_failed
-        && hosted.keeper.journal.as_slice().len() == 488
-        && has_all(hosted)
 }
 
 // The clients are shown what the entries before each read left.
 fn share_a_book<R: Threads + Wait + Clock + Sync>(
     rt: &R,
-    alloc: Global,
-    door: OpenedDoor,
-    clients: Vec<Client>,
-) -> bool {
-    let (hosted, shown) = served_and_shown(rt, alloc, door, clients);
-    let Some(hosted) = hosted else {
-        return false;
-    };
-    let Some(shown) = shown else {
-        return false;
-    };
-    is_whole(&hosted) && is_shown(alloc, &hosted.keeper, shown.as_slice()).is_some()
-}
-
-// A door, and the clients, each of which has called it.
-fn a_door_and_clients(rt: &HostRuntime, alloc: Global) -> Result<(OpenedDoor, Vec<Client>), Fail> {
-    let door = a_door(rt)?;
-    let dial = TcpDial::new(rt.clone()?);
-    let clients = called(alloc, dial, door.port).ok_or("no link")?;
-    Ok((door, clients))
+    host: &HostRuntime,
+) -> Result<bool, Fail> {
+    let alloc = host.alloc();
+    let mut call = Call::of(WORDS);
+    call.files = files(alloc, Vec::from_slice(alloc, AREAS)?)?;
+    let left = called(rt, host, call, clients(alloc)?)?;
+    is_shared(alloc, &left)
 }
 
 #[test]
 fn eight_clients_share_a_book(rt: HostRuntime) -> Result<(), Fail> {
-    let (door, clients) = a_door_and_clients(&rt, rt.alloc())?;
-    assert!(rt; share_a_book(&rt, rt.alloc(), door, clients));
+    assert!(rt; share_a_book(&rt, &rt)?);
     Ok(())
 }

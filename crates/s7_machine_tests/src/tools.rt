@@ -1,13 +1,15 @@
 // A tool that is called as the program calls it, over a port of this machine: what it sends, what it prints, and of
 // which jobs its completion is told.
 //
-// `tool_main` is called in `tells` alone, since each function that calls it is costly to prove.
+// `tool_main` is called in `ended` alone, since each function that calls it is costly to prove.
+use crate::line::{Doorway, Line, listen_from, next, rest_of, takes};
+use crate::telegrams::octets;
 use s7_client::{Config, Counter};
 use s7_memory::{MemoryFiles, MemoryOut};
-use s7_os::{RealLink, TcpDial, TcpDoor};
-use s7_outer::{Arrival, Door, Got, Link, Octets, Sent};
+use s7_os::{TcpDial, TcpDoor};
+use s7_outer::{Arrival, Octets};
 use s7_partner::{Partner, PartnerEvent, Role};
-use s7_tool_main::tool_main;
+use s7_tool_main::{ToolEnd, tool_main};
 use std::alloc::Global;
 use std::test::Fail;
 use std::thread::{Threads, join};
@@ -32,26 +34,36 @@ fn files(alloc: Global) -> Option<MemoryFiles> {
     Some(files)
 }
 
-/// A call's status, what it printed, and the completion that came back.
+/// How a call ended, with the completion that came back, and what it printed.
 #[derive(Drop)]
 struct Told {
-    status: u8,
+    end: ToolEnd<Line, Counter>,
     out: MemoryOut,
-    done: Option<Counter>,
 }
 
 impl Told {
     fn is(&self, status: u8, text: &str) -> bool {
-        self.status == status && self.out.text() == text.as_bytes()
+        self.end.status == status && self.out.text() == text.as_bytes()
     }
 
     // The completion was told of so many jobs, the last with this number and this code.
     fn counts(&self, calls: u64, last: Option<(u8, u32)>) -> bool {
-        match self.done {
+        match self.end.done {
             Some(counter) => counter.calls() == calls && counter.last() == last,
             None => false,
         }
     }
+}
+
+// How a call ends whose completion was told of nothing before it.
+fn ended(
+    alloc: Global,
+    words: &[&str],
+    files: &mut MemoryFiles,
+    dial: &mut TcpDial<HostRuntime>,
+    out: &mut MemoryOut,
+) -> ToolEnd<Line, Counter> {
+    tool_main(alloc, words, files, dial, out, Some(Counter::new()))
 }
 
 // What is told where the output takes so many octets.
@@ -63,22 +75,12 @@ fn tells(
 ) -> Option<Told> {
     let mut files = files(alloc)?;
     let mut out = MemoryOut::new(alloc, room).ok()?;
-    let done = Some(Counter::new());
-    let end = tool_main(alloc, words, &mut files, &mut dial, &mut out, done);
-    Some(Told {
-        status: end.status,
-        out,
-        done: end.done,
-    })
+    let end = ended(alloc, words, &mut files, &mut dial, &mut out);
+    Some(Told { end, out })
 }
 
 // What is told of a call with the words of a line.
-fn line_tells(
-    alloc: Global,
-    line: String,
-    room: usize,
-    dial: TcpDial<HostRuntime>,
-) -> Option<Told> {
+fn line_tells(alloc: Global, line: &str, room: usize, dial: TcpDial<HostRuntime>) -> Option<Told> {
     let mut words = Vec::new(alloc);
     for word in line.split_ascii_whitespace() {
         words.push(word).ok()?;
@@ -88,204 +90,274 @@ fn line_tells(
 
 const ROOM: usize = 65_536;
 
-/// What comes to a client: a connect confirm, a grant of PDU 480, and the answer to a read of four octets, or the same
-/// with the sequence 3 in the place of 2.
-const GRANTED: &str = "0300001611d00001000100c0010ac1020100c2020102\
-    0300001b02f080320300000001000800000000f0000001000101e0";
-
-const ANSWER: &str = "0300001d02f0803203000000020002000800000401ff04002011223344";
-
-const ODD_ANSWER: &str = "0300001d02f0803203000000030002000800000401ff04002011223344";
-
-/// What a client sends: a connect request, the negotiation of PDU 480, and a read of four octets; and a disconnect
-/// request.
-const ASKED: &str = "0300001611e00000000100c0010ac1020100c2020102\
-    0300001902f08032010000000100080000f0000001000101e0\
-    0300001f02f080320100000002000e00000401120a10020004000184000000";
-
-const DISCONNECT: &str = "0300000b06800001000180";
-
-fn octets(alloc: Global, parts: &[&str]) -> Result<Vec<u8>, Fail> {
-    let mut all = Vec::new(alloc);
-    for part in parts {
-        all.extend_from_slice(hex::decode(alloc, part)?.as_slice())?;
-    }
-    Ok(all)
-}
-
-/// Who takes the link: one who gives these octets, or a passive partner.
-#[derive(Drop)]
+/// Who takes the link: one who gives the octets of these texts in hexadecimal, or a passive partner.
+#[derive(Clone, Copy)]
 enum Peer {
-    Gives(Vec<u8>),
+    Gives(&'static str),
     Partner,
 }
 
-// What came on a link up to its end.
-fn heard<L: Link>(alloc: Global, link: &mut L) -> Option<Octets> {
-    let mut came = Vec::new(alloc);
-    let mut into = [0u8; 256];
-    for _ in 0..1_000u32 {
-        match link.receive(&mut into) {
-            Got::Bytes(count) => came.extend_from_slice(&into[..count]).ok()?,
-            Got::NotYet => {}
-            Got::End => return Some(Octets::of_vec(came)),
-            Got::Failed => return None,
+/// A command over a file and a link.
+#[derive(Clone, Copy)]
+struct Command {
+    words: &'static str,
+    /// How many octets the output takes.
+    room: usize,
+    peer: Peer,
+    /// What comes to the peer, in hexadecimal.
+    came: &'static str,
+    status: u8,
+    report: &'static str,
+    /// Of how many jobs the completion is told, the last with its number and code.
+    calls: u64,
+    last: Option<(u8, u32)>,
+}
+
+/// To a client come a connect confirm, a grant of PDU 480, and the answer to a read of four octets, or the same answer
+/// with the sequence 3 in the place of 2. It sends a connect request, the negotiation of PDU 480, a read of four octets
+/// and at last a disconnect request.
+const COMMANDS: &[Command] = &[
+    Command {
+        words: "run a.txt",
+        room: ROOM,
+        peer: Peer::Gives(
+            "0300001611d00001000100c0010ac1020100c2020102 \
+             0300001b02f080320300000001000800000000f0000001000101e0 \
+             0300001d02f0803203000000020002000800000401ff04002011223344",
+        ),
+        came: "0300001611e00000000100c0010ac1020100c2020102 \
+               0300001902f08032010000000100080000f0000001000101e0 \
+               0300001f02f080320100000002000e00000401120a10020004000184000000 \
+               0300000b06800001000180",
+        status: 0,
+        report: "0 connect 00000000 -\n1 read 00000000 11223344\n",
+        calls: 3,
+        last: Some((25, 0)),
+    },
+    // Another message closes the client, and the disconnect has nothing to do.
+    Command {
+        words: "run a.txt",
+        room: ROOM,
+        peer: Peer::Gives(
+            "0300001611d00001000100c0010ac1020100c2020102 \
+             0300001b02f080320300000001000800000000f0000001000101e0 \
+             0300001d02f0803203000000030002000800000401ff04002011223344",
+        ),
+        came: "0300001611e00000000100c0010ac1020100c2020102 \
+               0300001902f08032010000000100080000f0000001000101e0 \
+               0300001f02f080320100000002000e00000401120a10020004000184000000",
+        status: 6,
+        report: "0 connect 00000000 -\n1 read 00800000 -\n",
+        calls: 3,
+        last: Some((25, 0x0001_0000)),
+    },
+    // The output fails at the read.
+    Command {
+        words: "run a.txt",
+        room: 27,
+        peer: Peer::Gives(
+            "0300001611d00001000100c0010ac1020100c2020102 \
+             0300001b02f080320300000001000800000000f0000001000101e0 \
+             0300001d02f0803203000000020002000800000401ff04002011223344",
+        ),
+        came: "0300001611e00000000100c0010ac1020100c2020102 \
+               0300001902f08032010000000100080000f0000001000101e0 \
+               0300001f02f080320100000002000e00000401120a10020004000184000000",
+        status: 5,
+        report: "0 connect 00000000 -\n1 read",
+        calls: 2,
+        last: Some((2, 0)),
+    },
+    // A partner's blocks are no jobs.
+    Command {
+        words: "partner s.txt",
+        room: ROOM,
+        peer: Peer::Partner,
+        came: "aabbcc",
+        status: 0,
+        report: "a sent\n",
+        calls: 0,
+        last: None,
+    },
+];
+
+// A partner that listens.
+fn a_partner(alloc: Global) -> Option<Partner> {
+    Partner::new(alloc, Role::Passive, Config::new(1, 0, 2)).ok()
+}
+
+// What comes of a poll. None where memory was wanting.
+fn polled(alloc: Global, partner: &mut Partner, line: &mut Line) -> Option<PartnerEvent> {
+    partner.poll(alloc, line).ok()
+}
+
+// The partner closed. A block that it received under R_ID 1 is appended; None comes of any other event of a block.
+fn is_closed(event: PartnerEvent, came: &mut Vec<Octets>) -> Option<bool> {
+    match event {
+        PartnerEvent::Received { rid: 1, body } => {
+            came.push(body).ok()?;
+            Some(false)
         }
+        PartnerEvent::Received { .. } | PartnerEvent::Sent => None,
+        PartnerEvent::Pending | PartnerEvent::Idle => Some(false),
+        PartnerEvent::Closed(_) => Some(true),
     }
-    None
 }
 
 // The block under R_ID 1 that a passive partner hands out on a link before it ends.
-fn handed_out<L: Link>(alloc: Global, link: &mut L) -> Option<Octets> {
-    let mut partner = Partner::new(alloc, Role::Passive, Config::new(1, 0, 2)).ok()?;
-    let mut came = None;
+fn handed_out(alloc: Global, line: &mut Line) -> Option<Octets> {
+    let mut partner = a_partner(alloc)?;
+    let mut came = Vec::new(alloc);
     for _ in 0..1_000u32 {
-        match partner.poll(alloc, link).ok()? {
-            PartnerEvent::Received { rid: 1, body } => came = Some(body),
-            PartnerEvent::Received { .. } | PartnerEvent::Sent => return None,
-            PartnerEvent::Pending | PartnerEvent::Idle => {}
-            PartnerEvent::Closed(_) => return came,
+        let event = polled(alloc, &mut partner, line)?;
+        if is_closed(event, &mut came)? {
+            return came.pop();
         }
     }
     None
 }
 
-fn gives<L: Link>(link: &mut L, octets: &[u8]) -> bool {
-    !octets.is_empty() && link.transmit(octets) == Sent::Bytes(octets.len())
-}
-
-// What comes to the peer on the next link of the door.
-fn comes<L: Link + Drop, D: Door<L> + Drop>(
-    alloc: Global,
-    mut door: D,
-    peer: Peer,
-) -> Option<Octets> {
-    let Arrival::Link(mut link) = door.next() else {
+// What comes to a peer that gives these octets, none for a partner, on the next link of the door.
+fn comes(alloc: Global, mut door: Doorway, given: Option<Octets>) -> Option<Octets> {
+    let Arrival::Link(mut line) = next(&mut door) else {
         return None;
     };
-    match peer {
-        Peer::Gives(octets) => {
-            if !gives(&mut link, octets.as_slice()) {
+    match given {
+        Some(given) => {
+            if !takes(&mut line, given.as_slice()) {
                 return None;
             }
-            heard(alloc, &mut link)
+            rest_of(alloc, &mut line)
         }
-        Peer::Partner => handed_out(alloc, &mut link),
+        None => handed_out(alloc, &mut line),
     }
 }
 
-// Hears one of forty ports from this one on.
-fn opened(door: &mut TcpDoor<HostRuntime>, first: u16) -> Option<u16> {
-    for port in first..first.saturating_add(40) {
-        if door.listen(port).is_ok() {
-            return Some(port);
-        }
+// What a peer gives.
+fn given_by(alloc: Global, peer: Peer) -> Result<Option<Octets>, Fail> {
+    match peer {
+        Peer::Gives(text) => Ok(Some(Octets::of_vec(octets(alloc, text)?))),
+        Peer::Partner => Ok(None),
     }
-    None
 }
 
-// What comes to a peer, and what is told, of a command over a file.
+/// A peer behind a door, and what it gives.
+#[derive(Drop)]
+struct Listener {
+    door: Doorway,
+    given: Option<Octets>,
+}
+
+// A listener for a command, and its port.
+fn a_listener(host: &HostRuntime, peer: Peer) -> Result<(Listener, u16), Fail> {
+    let given = given_by(host.alloc(), peer)?;
+    let mut door = TcpDoor::new(host.clone()?);
+    let port = listen_from(&mut door, 24_102).ok_or("no port")?;
+    Ok((Listener { door, given }, port))
+}
+
+/// A call with the words of a line.
+#[derive(Drop)]
+struct Caller {
+    line: String,
+    room: usize,
+    dial: TcpDial<HostRuntime>,
+}
+
+// A caller with the words of a command and a port.
+fn a_caller(host: &HostRuntime, command: &Command, port: u16) -> Result<Caller, Fail> {
+    let words = command.words;
+    let line = format!(in host.alloc(); "{words} --port {port}")?;
+    let dial = TcpDial::new(host.clone()?);
+    Ok(Caller {
+        line,
+        room: command.room,
+        dial,
+    })
+}
+
+// What comes to a listener, and what is told to a caller.
+fn at_once<R: Threads>(
+    rt: &R,
+    alloc: Global,
+    listener: Listener,
+    caller: Caller,
+) -> (Option<Octets>, Option<Told>) {
+    let Listener { door, given } = listener;
+    let Caller { line, room, dial } = caller;
+    join(
+        rt,
+        || comes(alloc, door, given),
+        || line_tells(alloc, line.as_str(), room, dial),
+    )
+}
+
+// What comes to a peer, and what is told.
 fn over_tcp<R: Threads>(
     rt: &R,
     host: &HostRuntime,
-    command: &str,
-    path: &str,
-    room: usize,
-    peer: Peer,
+    command: &Command,
 ) -> Result<(Octets, Told), Fail> {
-    let alloc = host.alloc();
-    let mut door = TcpDoor::new(host.clone()?);
-    let dial = TcpDial::new(host.clone()?);
-    let port = opened(&mut door, 24_102).ok_or("no port")?;
-    let line = format!(in alloc; "{command} {path} --port {port}")?;
-    let (came, told) = join(
-        rt,
-        || comes::<RealLink<HostRuntime>, _>(alloc, door, peer),
-        || line_tells(alloc, line, room, dial),
-    );
-    Ok((came.ok_or("nothing came")?, told.ok_or("no end")?))
+    let (listener, port) = a_listener(host, command.peer)?;
+    let caller = a_caller(host, command, port)?;
+    let (came, told) = at_once(rt, host.alloc(), listener, caller);
+    match (came, told) {
+        (Some(came), Some(told)) => Ok((came, told)),
+        _ => Err(Fail::from("a side that gave up")),
+    }
+}
+
+// The command sends, prints and tells what it says.
+fn goes<R: Threads>(rt: &R, host: &HostRuntime, command: &Command) -> Result<bool, Fail> {
+    let (came, told) = over_tcp(rt, host, command)?;
+    let wanted = octets(host.alloc(), command.came)?;
+    Ok(
+        came.as_slice() == wanted.as_slice()
+            && told.is(command.status, command.report)
+            && told.counts(command.calls, command.last),
+    )
 }
 
 #[test]
-fn a_script_is_run_over_tcp(rt: HostRuntime) -> Result<(), Fail> {
-    let alloc = rt.alloc();
-    let peer = Peer::Gives(octets(alloc, &[GRANTED, ANSWER])?);
-    let (came, told) = over_tcp(&rt, &rt, "run", "a.txt", ROOM, peer)?;
-    let wrote = octets(alloc, &[ASKED, DISCONNECT])?;
-    assert!(rt; came.as_slice() == wrote.as_slice());
-    assert!(rt; told.is(0, "0 connect 00000000 -\n1 read 00000000 11223344\n"));
-    assert!(rt; told.counts(3, Some((25, 0))));
-    Ok(())
-}
-
-// Another message closes the client, and the disconnect has nothing to do.
-#[test]
-fn a_disconnect_without_a_link_is_told(rt: HostRuntime) -> Result<(), Fail> {
-    let alloc = rt.alloc();
-    let peer = Peer::Gives(octets(alloc, &[GRANTED, ODD_ANSWER])?);
-    let (came, told) = over_tcp(&rt, &rt, "run", "a.txt", ROOM, peer)?;
-    let wrote = octets(alloc, &[ASKED])?;
-    assert!(rt; came.as_slice() == wrote.as_slice());
-    assert!(rt; told.is(6, "0 connect 00000000 -\n1 read 00800000 -\n"));
-    assert!(rt; told.counts(3, Some((25, 0x0001_0000))));
-    Ok(())
-}
-
-// The output fails at the read.
-#[test]
-fn what_was_done_before_an_output_failed_is_told(rt: HostRuntime) -> Result<(), Fail> {
-    let alloc = rt.alloc();
-    let peer = Peer::Gives(octets(alloc, &[GRANTED, ANSWER])?);
-    let (came, told) = over_tcp(&rt, &rt, "run", "a.txt", 27, peer)?;
-    let wrote = octets(alloc, &[ASKED])?;
-    assert!(rt; came.as_slice() == wrote.as_slice());
-    assert!(rt; told.is(5, "0 connect 00000000 -\n1 read"));
-    assert!(rt; told.counts(2, Some((2, 0))));
-    Ok(())
-}
-
-// A partner's blocks are no jobs.
-#[test]
-fn a_block_goes_over_tcp(rt: HostRuntime) -> Result<(), Fail> {
-    let (came, told) = over_tcp(&rt, &rt, "partner", "s.txt", ROOM, Peer::Partner)?;
-    assert!(rt; came.as_slice() == b"\xAA\xBB\xCC".as_slice());
-    assert!(rt; told.is(0, "a sent\n"));
-    assert!(rt; told.counts(0, None));
+fn scripts_and_blocks_go_over_tcp(rt: HostRuntime) -> Result<(), Fail> {
+    for (number, command) in COMMANDS.iter().enumerate() {
+        assert!(rt; goes(&rt, &rt, command)?, "command {number}");
+    }
     Ok(())
 }
 
 /// Calls without a peer, on a port that nobody hears: the words, the room of the output, the status, and of how many
 /// jobs the completion is told, the last with its number and code. Of a rig's jobs it is told of the first client's.
-const ALONE: &[(&[&str], usize, u8, u64, Option<(u8, u32)>)] = &[
-    (&["run", "a.txt", "--port", "24001"], ROOM, 4, 0, None),
-    (&["run", "b.txt"], ROOM, 3, 0, None),
-    (&["run"], ROOM, 1, 0, None),
-    (
-        &["rig", "DB1=1122", "r.txt", "w.txt"],
-        ROOM,
-        6,
-        3,
-        Some((25, 0)),
-    ),
-    (
-        &["rig", "DB1=11223344", "w.txt", "r.txt"],
-        ROOM,
-        0,
-        4,
-        Some((25, 0)),
-    ),
-    (&["rig", "DB1=11223344", "r.txt"], 10, 5, 3, Some((25, 0))),
-    (&["rig", "DB1=11223344", "x.txt"], ROOM, 3, 0, None),
+const ALONE: &[(&str, usize, u8, u64, Option<(u8, u32)>)] = &[
+    ("run a.txt --port 24001", ROOM, 4, 0, None),
+    ("run b.txt", ROOM, 3, 0, None),
+    ("run", ROOM, 1, 0, None),
+    ("rig DB1=1122 r.txt w.txt", ROOM, 6, 3, Some((25, 0))),
+    ("rig DB1=11223344 w.txt r.txt", ROOM, 0, 4, Some((25, 0))),
+    ("rig DB1=11223344 r.txt", 10, 5, 3, Some((25, 0))),
+    ("rig DB1=11223344 x.txt", ROOM, 3, 0, None),
 ];
+
+// The call ends with this status, and its completion is told so.
+fn goes_alone(
+    rt: &HostRuntime,
+    words: &str,
+    room: usize,
+    status: u8,
+    calls: u64,
+    last: Option<(u8, u32)>,
+) -> Result<bool, Fail> {
+    let dial = TcpDial::new(rt.clone()?);
+    let told = line_tells(rt.alloc(), words, room, dial).ok_or("no end")?;
+    Ok(told.end.status == status && told.counts(calls, last))
+}
 
 #[test]
 fn a_completion_is_told_of_jobs_alone(rt: HostRuntime) -> Result<(), Fail> {
     for (words, room, status, calls, last) in ALONE {
-        let dial = TcpDial::new(rt.clone()?);
-        let told = tells(rt.alloc(), words, *room, dial).ok_or("no end")?;
         assert!(rt;
-            told.status == *status && told.counts(*calls, *last),
-            "{words:?}"
+            goes_alone(&rt, words, *room, *status, *calls, *last)?,
+            "{words}"
         );
     }
     Ok(())

@@ -1,10 +1,18 @@
 // A walk over the entries of a journal, beside what the clients were shown.
-use crate::calls::joined;
-use crate::ports::OPENING;
-use crate::shared::{CLIENTS, READS, SHARED, value_of};
+use crate::shared::{CLIENTS, READS, SHARED, joined, value_of};
+use s7_area::AreaKey;
 use s7_item::Item;
+use s7_outer::Octets;
 use s7_plant::{Entry, Request};
 use std::alloc::Global;
+
+/// What each data block has at the opening.
+const OPENING: [u8; 4] = [0x11, 0x22, 0x33, 0x44];
+
+/// The data blocks from 1 to 9.
+pub(crate) fn key_of(number: u16) -> AreaKey {
+    AreaKey { area: 0x84, number }
+}
 
 const READ_ANSWER: &[u8] = b"\x03\x00\x00\x25\x02\xF0\x80\x32\x03\x00\x00";
 
@@ -16,7 +24,7 @@ const NEXT_READ: &[u8] = b"\xFF\x04\x00\x20";
 /// whose link each link is. Data blocks, clients and links are numbered from 1.
 #[derive(Drop)]
 pub(crate) struct Walk<'a> {
-    shown: &'a [Vec<Vec<u8>>],
+    came: &'a [Vec<Octets>],
     blocks: [[u8; 4]; 10],
     reads: [u8; 10],
     clients: [u8; 10],
@@ -24,9 +32,9 @@ pub(crate) struct Walk<'a> {
 
 impl<'a> Walk<'a> {
     /// Before the first entry.
-    pub(crate) fn new(shown: &'a [Vec<Vec<u8>>]) -> Walk<'a> {
+    pub(crate) fn new(came: &'a [Vec<Octets>]) -> Walk<'a> {
         Walk {
-            shown,
+            came,
             blocks: [OPENING; 10],
             reads: [0; 10],
             clients: [0; 10],
@@ -76,40 +84,47 @@ impl<'a> Walk<'a> {
         }
     }
 
-    // The client was shown what the blocks have.
-    fn is_shown(&mut self, alloc: Global, client: u8) -> Option<()> {
+    // What the client was shown by its read of this round. Two answers came before the first read, and each further
+    // read comes behind two writes.
+    fn shown(&self, client: u8, round: u8) -> Option<&'a Octets> {
+        let answers = self.came.get(usize::from(client).checked_sub(1)?)?;
+        answers.get(2 + 3 * usize::from(round))
+    }
+
+    // Counts a read of the client, and gives its round.
+    fn next_round(&mut self, client: u8) -> Option<u8> {
         let reads = self.reads.get_mut(usize::from(client))?;
         let round = *reads;
         *reads = round.checked_add(1)?;
-        let shown = self.shown.get(usize::from(client).checked_sub(1)?)?;
-        let own = self.block(client)?;
-        let both = self.block(SHARED)?;
-        let answer = joined(
-            alloc,
-            &[
-                READ_ANSWER,
-                &[READS, round],
-                TWO_READ,
-                &own,
-                NEXT_READ,
-                &both,
-            ],
-        );
-        if shown.get(usize::from(round))?.as_slice() == answer.ok()?.as_slice() {
+        Some(round)
+    }
+
+    // The client was shown what the blocks have.
+    fn is_shown(&mut self, alloc: Global, client: u8) -> Option<()> {
+        let round = self.next_round(client)?;
+        let answer = answer_of(alloc, round, self.block(client)?, self.block(SHARED)?)?;
+        if self.shown(client, round)?.as_slice() == answer.as_slice() {
             Some(())
         } else {
             None
         }
     }
 
-    // A link wrote the value that its client writes next into its own data block or the shared one.
+    // What a client writes next into its own data block or the shared one.
+    fn next_value(&self, client: u8, block: u8) -> Option<[u8; 4]> {
+        if block == client || block == SHARED {
+            Some(value_of(client, self.reads_of(client)?, block))
+        } else {
+            None
+        }
+    }
+
+    // A link wrote the value that its client writes next.
     fn writes(&mut self, link: u32, items: &[Item], value: &[u8]) -> Option<()> {
         let client = *value.first()?;
         let block = u8::try_from(items.first()?.db).ok()?;
-        let new = value_of(client, self.reads_of(client)?, block);
-        let is_good = items == [item_of(block)].as_slice()
-            && (block == client || block == SHARED)
-            && value == new.as_slice();
+        let new = self.next_value(client, block)?;
+        let is_good = items == [item_of(block)].as_slice() && value == new.as_slice();
         if is_good && self.belongs(link, client) {
             *self.blocks.get_mut(usize::from(block))? = new;
             Some(())
@@ -129,6 +144,13 @@ impl<'a> Walk<'a> {
         }
         *of == client
     }
+}
+
+// The answer to a read in this round, of a client's own data block and the shared one.
+fn answer_of(alloc: Global, round: u8, own: [u8; 4], both: [u8; 4]) -> Option<Octets> {
+    let reference = [READS, round];
+    let parts: [&[u8]; 6] = [READ_ANSWER, &reference, TWO_READ, &own, NEXT_READ, &both];
+    joined(alloc, &parts).ok()
 }
 
 // The four octets of a data block.

@@ -1,10 +1,8 @@
-use crate::areas::AREAS;
-use crate::{books, plants};
-use std::test::Fail;
+// Rows of plants and of books with blocks.
 
 /// Data blocks 1 and 300 and counters; functions 5 and 258, function block 1 and organization block 1, each with a head
 /// and the body AAAA. The kinds are OB 38, DB 41, SDB 42, FC 43, SFC 44, FB 45 and SFB 46.
-const BLOCKS: &str = "\
+pub(crate) const BLOCKS: &str = "\
     area 84 1 11223344\n\
     area 1C 0 00010002\n\
     area 84 12C AB*10\n\
@@ -14,20 +12,15 @@ const BLOCKS: &str = "\
     block 43 102 70700101.01.0C.0102.00000026.00*22.0002.AAAA";
 
 /// A block that is refused, and one that is stored: its image stays with the request, and the room is taken up.
-const TAKEN: &str = "\
+pub(crate) const TAKEN: &str = "\
     guard 2\n\
     any insert 45 7 70700101.07.0E.0007.00000026.00*22.0002.CCCC | D241 - -\n\
     without 45 7\n\
     owner insert 45 7 70700101.07.0E.0007.00000026.00*22.0002.CCCC | 0 2800 -\n\
     last 45 7 CC";
 
-#[test]
-fn a_stored_block_leaves_no_room(rt: HostRuntime) -> Result<(), Fail> {
-    plants::does(rt.alloc(), BLOCKS, TAKEN)
-}
-
 /// As many functions as a plant takes; one more, one in the place of another, and again one more behind a deletion.
-const FULL: &str = "\
+pub(crate) const FULL: &str = "\
     functions 1 1024\n\
     owner insert 43 401 70700101.01.0C.0401.00000026.00*22.0002.CCCC | 8F04 - -\n\
     loaded 1024\n\
@@ -38,13 +31,8 @@ const FULL: &str = "\
     loaded 1024\n\
     last 43 401 CC";
 
-#[test]
-fn a_full_store_takes_no_new_block(rt: HostRuntime) -> Result<(), Fail> {
-    plants::does(rt.alloc(), AREAS, FULL)
-}
-
 /// What a link enters, and the last octets of function 5 and function block 9 after so many entries.
-const REPLAYED: &str = "\
+pub(crate) const REPLAYED: &str = "\
     7 insert 43 5 70700101.01.0C.0005.00000026.00*22.0002.BBBB | 0 | 0 2800 -\n\
     7 insert 45 9 70700101.01.0E.0009.00000026.00*22.0002.CCCC | 1 | 0 2800 -\n\
     7 delete 43 5 | 2 | 0 2800 -\n\
@@ -59,8 +47,3 @@ const REPLAYED: &str = "\
     image 3 | last 45 9 CC\n\
     image 4 | last 43 5 BB\n\
     image 4 | last 45 9 CC";
-
-#[test]
-fn blocks_are_replayed(rt: HostRuntime) -> Result<(), Fail> {
-    books::does(rt.alloc(), BLOCKS, 4, REPLAYED)
-}

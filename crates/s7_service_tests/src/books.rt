@@ -1,23 +1,49 @@
 // Rows that a book has to meet.
-ghost use Rattle.std.specs.Prelude.{◌≡◌, [], map, IfOk};
+ghost use Rattle.std.specs.Prelude.{◌≡◌, [], map, IfSome};
 ghost use Rattle.std.specs.List.{AllByRecursion};
 ghost use Rattle.s7_plant.specs.Books.{seen_of};
 ghost use Rattle.s7_plant.specs.Journals.{entries_of};
 ghost use Rattle.s7_plant.specs.Observers.{IsFresh, fresh};
-ghost use Rattle.s7_plant.specs.Replies.{IsReadyReply};
-ghost use Rattle.s7_plant.specs.Requests.{CanBeDone};
 
-use crate::fields::{field, number, part};
+use crate::areas::AREAS;
+use crate::fields::{field, number, octets, part};
 use crate::plants::{a_plant, says, shows};
-use crate::requests::{is_write, request_of, write_of};
-use s7_plant::{Ask, BODY_ROOM, Book, Observer, PARAMS_ROOM, Plant, Reply, Steps, Tail};
+use crate::requests::{can_be_done, is_ready, is_write, request_of, write_of};
+use crate::tails::{has_tail, is_gone, is_removed, is_swapped, tails_of};
+use crate::{areas, blocks, control, images, tails};
+use s7_plant::{Ask, BODY_ROOM, Book, Observer, Plant, Reply, Request, Steps, Tail};
 use std::alloc::Global;
 use std::marker::Brand;
 use std::sync::ledger::{Blank, Ledger};
 use std::test::Fail;
 
-/// A book whose plant was given some rows, and whose journal takes so many entries, meets the others. A row asks it, or
-/// says what it shows, as `plants::shows` has it.
+/// What the plant of a book is given, the tails that watch, how many entries the journal takes, and the rows that the
+/// book meets then.
+type Row = (&'static str, &'static str, u64, &'static str);
+
+/// A book in the midst of its rows.
+pub(crate) struct Scene {
+    pub(crate) alloc: Global,
+    pub(crate) book: Book<Tail>,
+    /// The tail that went last.
+    pub(crate) gone: Option<Tail>,
+    reply: Reply,
+}
+
+// It is dropped by a function of its own, so that what drops it is soon proved.
+impl Drop for Scene {
+    fn drop(self) {
+        let Scene {
+            alloc: _,
+            book: _,
+            gone: _,
+            reply: _,
+        } = self;
+    }
+}
+
+/// A book whose plant was given some rows, that tails watch, and whose journal takes so many entries, meets the others.
+/// A row asks it, or says what it shows, as `plants::shows` has it.
 ///
 ///     LINK REQUEST | NUMBER | ANSWER     a link asks with the right: the entry's number, and the answer
 ///     LINK REQUEST | full | ANSWER       a write of one item is handed back, and the reply is still this answer
@@ -26,151 +52,191 @@ use std::test::Fail;
 ///     opening | SHOWN                    what the plant showed before the first entry
 ///     now | SHOWN                        what it shows
 ///     image NUMBER | SHOWN               what it showed after so many entries
-pub(crate) fn does(alloc: Global, given: &str, limit: u64, rows: &str) -> Result<(), Fail> {
-    let mut book = a_book(alloc, given, limit, Vec::new(alloc))?;
-    let mut reply = Reply::new(alloc, BODY_ROOM)?;
-    walk(alloc, &mut book, &mut reply, rows)
+///     tail PLACE | COUNT EVENT ..        what the tail at this place has, the newest event first
+///     swap PLACE | MASK DEPTH            another tail comes there, and the one that was there goes
+///     remove PLACE                       the tail there goes
+///     gone | COUNT EVENT ..              what the one has that went last
+///
+/// An event is `NUMBER:LINK:CODE:ERROR`, the last two in hexadecimal.
+fn does(alloc: Global, row: &Row) -> Result<(), Fail> {
+    match unmet_by(alloc, row) {
+        Some(row) => Err(Fail::new(row)),
+        None => Ok(()),
+    }
+}
+
+/// The first row that the book doesn't meet.
+fn unmet_by(alloc: Global, row: &Row) -> Option<&'static str> {
+    let (given, tails, limit, rows) = *row;
+    match a_scene(alloc, given, tails, limit) {
+        Some(mut scene) => unmet(&mut scene, rows),
+        None => Some(given),
+    }
+}
+
+/// A book before its rows.
+fn a_scene(alloc: Global, given: &str, tails: &str, limit: u64) -> Option<Scene> {
+    let reply = Reply::new(alloc, BODY_ROOM).ok()?;
+    let book = a_book(alloc, given, limit, tails_of(alloc, tails)?)?;
+    Some(Scene {
+        alloc,
+        book,
+        gone: None,
+        reply,
+    })
 }
 
 /// A book whose plant was given these rows, whose journal takes so many entries, and that these tails watch.
-pub(crate) fn a_book(
-    alloc: Global,
-    given: &str,
-    limit: u64,
-    tails: Vec<Tail>,
-) -> Result<Book<Tail>, Fail>
+pub(crate) fn a_book(alloc: Global, given: &str, limit: u64, tails: Vec<Tail>) -> Option<Book<Tail>>
     requires { AllByRecursion IsFresh tails.items }
-    ensures journal { IfOk result (λ book. book.journal ≡ entries_of [] limit) }
-    ensures untold { IfOk result (λ book.
+    ensures journal { IfSome result (λ book. book.journal ≡ entries_of [] limit) }
+    ensures untold { IfSome result (λ book.
         seen_of ⟦<Tail as Observer>⟧.seen book ≡ map fresh (seen_of ⟦<Tail as Observer>⟧.seen book)) }
 {
     let plant = a_plant(alloc, given)?;
     if limit < 1 || limit > 262_144 || plant.blocks.limit() != 1_024 {
-        return Err(Fail::from("no book"));
+        return None;
     }
-    Ok(Book::new(alloc, plant.areas, plant.blocks, limit, tails)?)
+    Book::new(alloc, plant.areas, plant.blocks, limit, tails).ok()
 }
 
-fn walk(alloc: Global, book: &mut Book<Tail>, reply: &mut Reply, rows: &str) -> Result<(), Fail> {
+/// The first row that the book doesn't meet.
+fn unmet<'a>(scene: &mut Scene, rows: &'a str) -> Option<&'a str> {
     for row in rows.lines() {
-        if !does_row(alloc, book, reply, row)? {
-            return Err(Fail::new(row));
+        match does_row(scene, row) {
+            Some(true) => {}
+            _ => return Some(row),
         }
     }
-    Ok(())
+    None
 }
 
 /// The book meets a row.
-pub(crate) fn does_row(
-    alloc: Global,
-    book: &mut Book<Tail>,
-    reply: &mut Reply,
-    row: &str,
-) -> Result<bool, Fail> {
+fn does_row(scene: &mut Scene, row: &str) -> Option<bool> {
     match field(row, 0) {
-        "writes" => are_entered(alloc, book, reply, number(row, 1)?),
-        "links" => are_of_links(book, row),
-        "opening" => shows(alloc, &book.opening, part(row, 1)),
-        "now" => shows(alloc, &book.plant, part(row, 1)),
-        "image" => image_shows(alloc, book, row),
-        _ => enters(alloc, book, reply, row),
+        "writes" => are_entered(scene, number(field(row, 1))),
+        "links" => Some(are_of_links(&scene.book, row)),
+        "opening" => shows(scene.alloc, &scene.book.opening, part(row, '|', 1)),
+        "now" => shows(scene.alloc, &scene.book.plant, part(row, '|', 1)),
+        "image" => image_shows(scene.alloc, &scene.book, row),
+        "tail" => has_tail(&scene.book, row),
+        "swap" => is_swapped(scene, row),
+        "remove" => is_removed(scene, row),
+        "gone" => is_gone(scene, row),
+        _ => enters(scene, row),
     }
 }
 
 /// So many writes are entered.
-fn are_entered(
-    alloc: Global,
-    book: &mut Book<Tail>,
-    reply: &mut Reply,
-    count: u64,
-) -> Result<bool, Fail> {
+fn are_entered(scene: &mut Scene, count: u64) -> Option<bool> {
     for n in 0..count {
-        if reply.params.room() != PARAMS_ROOM || reply.body.room() != BODY_ROOM {
-            return Ok(false);
-        }
-        let request = write_of(alloc, n.to_be_bytes()[7])?;
-        let ask = Ask {
-            right: true,
-            request,
-        };
-        if step(book, 1, ask, reply).is_err() {
-            return Ok(false);
+        let request = a_write(scene.alloc, n.to_be_bytes()[7])?;
+        if step(&mut scene.book, 1, request, &mut scene.reply).is_err() {
+            return Some(false);
         }
     }
-    Ok(true)
+    Some(true)
 }
 
-fn are_of_links(book: &Book<Tail>, row: &str) -> Result<bool, Fail> {
-    let mut words = row.split_whitespace();
-    words.next();
+/// A write of an octet to the first of data block 1.
+fn a_write(alloc: Global, octet: u8) -> Option<Request> {
+    let mut data = octets(alloc, "00040008")?;
+    data.push(octet).ok()?;
+    write_of(alloc, "0501.120A10020001000184000000", data)
+}
+
+/// The journal's entries are of the links that the row names.
+pub(crate) fn are_of_links(book: &Book<Tail>, row: &str) -> bool {
+    let mut place = 1usize;
     for entry in book.journal.as_slice() {
-        let link = words.next().unwrap_or("").parse::<u64>()?;
-        if u64::from(entry.link) != link {
-            return Ok(false);
+        if u64::from(entry.link) != number(field(row, place)) {
+            return false;
         }
+        place = place.saturating_add(1);
     }
-    Ok(words.next().is_none())
+    field(row, place).is_empty()
 }
 
-fn enters(
-    alloc: Global,
-    book: &mut Book<Tail>,
-    reply: &mut Reply,
-    row: &str,
-) -> Result<bool, Fail> {
-    let ask = an_ask(alloc, row)?;
-    let link = u32::try_from(number(row, 0)?)?;
-    if reply.params.room() != PARAMS_ROOM || reply.body.room() != BODY_ROOM {
-        return Ok(false);
-    }
-    let is_so = match step(book, link, ask, reply) {
-        Ok(entered) => entered == number(part(row, 1), 0)?,
-        Err(back) => field(part(row, 1), 0) == "full" && is_asked(alloc, &back, row)?,
+/// A link's request is entered, or comes back, and is answered so.
+fn enters(scene: &mut Scene, row: &str) -> Option<bool> {
+    let link = u32::try_from(number(field(row, 0))).ok()?;
+    let request = request_of(scene.alloc, row)?;
+    let is_so = match step(&mut scene.book, link, request, &mut scene.reply) {
+        Ok(entered) => entered == number(part(row, '|', 1)),
+        Err(back) => is_back(scene.alloc, &back, row),
     };
-    Ok(is_so && says(alloc, reply, part(row, 2))?)
+    Some(is_so && says(scene.alloc, &scene.reply, part(row, '|', 2)))
 }
 
-fn step(book: &mut Book<Tail>, link: u32, ask: Ask, reply: &mut Reply) -> Result<u64, Ask>
-    requires request { CanBeDone ask.request }
-    requires reply { IsReadyReply reply.old }
-{
-    book.step(link, ask, reply)
-}
-
-/// The request of a row, asked with the right.
-pub(crate) fn an_ask(alloc: Global, row: &str) -> Result<Ask, Fail>
-    ensures { IfOk result (λ ask. CanBeDone ask.request) }
-{
-    let request = request_of(alloc, row)?;
-    Ok(Ask {
+/// The number of the entry that the request makes; or what comes back, where it can be carried out.
+fn step(
+    book: &mut Book<Tail>,
+    link: u32,
+    request: Request,
+    reply: &mut Reply,
+) -> Result<u64, Option<Ask>> {
+    if !can_be_done(&request) || !is_ready(reply) {
+        return Err(None);
+    }
+    let ask = Ask {
         right: true,
         request,
-    })
+    };
+    match book.step(link, ask, reply) {
+        Ok(number) => Ok(number),
+        Err(back) => Err(Some(back)),
+    }
 }
 
-fn is_asked(alloc: Global, ask: &Ask, row: &str) -> Result<bool, Fail> {
-    Ok(ask.right && is_write(alloc, &ask.request, row)?)
+/// The row says that the journal is full, and what comes back is the write that it asks.
+fn is_back(alloc: Global, back: &Option<Ask>, row: &str) -> bool {
+    match back {
+        Some(ask) => {
+            ask.right && part(row, '|', 1) == "full" && is_write(alloc, &ask.request, row)
+        }
+        None => false,
+    }
 }
 
-fn image_shows(alloc: Global, book: &Book<Tail>, row: &str) -> Result<bool, Fail> {
-    let image = image_of::<Brand>(alloc, book, number(row, 1)?, Blank::new(1))?;
-    shows(alloc, &image, part(row, 1))
+/// The plant after so many entries shows this.
+fn image_shows(alloc: Global, book: &Book<Tail>, row: &str) -> Option<bool> {
+    let image = image_of::<Brand>(alloc, book, number(field(row, 1)), Blank::new(1))?;
+    shows(alloc, &image, part(row, '|', 1))
 }
 
 /// The plant after the first entries.
-fn image_of<S: Ledger>(
-    alloc: Global,
-    book: &Book<Tail>,
-    n: u64,
-    blank: Blank,
-) -> Result<Plant, Fail>
+fn image_of<S: Ledger>(alloc: Global, book: &Book<Tail>, n: u64, blank: Blank) -> Option<Plant>
     requires name { blank.name ≡ S.name }
     requires parts { blank.parts ≡ S.parts }
     requires one { blank.parts ≡ 1 }
 {
     if n > book.journal.len() {
-        return Err(Fail::from("no image"));
+        return None;
     }
     let mut steps = Steps::<S>::new(blank);
-    Ok(book.image_at(alloc, n, &mut steps)?)
+    book.image_at(alloc, n, &mut steps).ok()
+}
+
+/// The books.
+const BOOKS: &[Row] = &[
+    (AREAS, "", 3, areas::STEPS),
+    (AREAS, "", 262_144, areas::STEPS),
+    (AREAS, "", 1, areas::WRITTEN),
+    (AREAS, "", 1, areas::FULL),
+    (blocks::BLOCKS, "", 4, blocks::REPLAYED),
+    (AREAS, "", 4, control::IMAGES),
+    (AREAS, "", 5_000, images::WRITTEN),
+    (AREAS, "", 9_000, images::LOADED),
+    (AREAS, "00040000 1 | 00020000 1", 1, tails::HEARD),
+    (AREAS, "04040000 1 | 04040000 3", 5, tails::LAST),
+    (AREAS, "04000000 2 | 04000000 2", 2, tails::SWAPPED),
+    (AREAS, "04000000 2 | 04000000 1", 2, tails::REMOVED),
+];
+
+#[test]
+fn books_meet_their_rows(rt: HostRuntime) -> Result<(), Fail> {
+    for row in BOOKS {
+        does(rt.alloc(), row)?;
+    }
+    Ok(())
 }

@@ -1,11 +1,9 @@
-use crate::areas::AREAS;
-use crate::{books, plants};
-use std::test::Fail;
+// Rows of the clock and of control.
 
 /// By how much the clock is ahead, a moment, and the clock octets. The moment 1709214330123 is on Thursday, 2024-02-29,
 /// at 13:45:30.123; a clock that is 762529530124 behind shows the last millisecond of 1999 then, a Friday. The first of
 /// 1990 is a Monday, the last of 2089 a Saturday.
-const CLOCKS: &str = "\
+pub(crate) const CLOCKS: &str = "\
     ahead 0\n\
     owner clock 1709214330123 | 0 - 0019.240229.134530.1235\n\
     owner clock 0 | 0 - 0019.900101.000000.0002\n\
@@ -23,13 +21,8 @@ const CLOCKS: &str = "\
     ahead -9223372036854775808\n\
     owner clock 1709214330123 | 0 - 0019.900101.000000.0002";
 
-#[test]
-fn the_clock_is_read(rt: HostRuntime) -> Result<(), Fail> {
-    plants::does(rt.alloc(), AREAS, CLOCKS)
-}
-
 /// Controls that a link enters, and what the plant showed after so many entries.
-const IMAGES: &str = "\
+pub(crate) const IMAGES: &str = "\
     7 stop | 0 | 0 2900 -\n\
     7 set 1709214330123 946684799999 | 1 | 0 - -\n\
     7 start | 2 | 0 2800 -\n\
@@ -39,8 +32,3 @@ const IMAGES: &str = "\
     image 2 | stands -762529530124\n\
     image 3 | runs -762529530124\n\
     image 4 | runs -762529530124";
-
-#[test]
-fn images_have_a_clock_and_a_run_state(rt: HostRuntime) -> Result<(), Fail> {
-    books::does(rt.alloc(), AREAS, 4, IMAGES)
-}

@@ -1,54 +1,172 @@
-ghost use Rattle.std.specs.Prelude.{IfOk};
-ghost use Rattle.s7_turn.specs.Seats.{IsOf};
+// Halls that serve a book.
+ghost use Rattle.std.specs.Prelude.{◌≡◌, IfSome, Some};
+ghost use Rattle.s7_turn.specs.Seats.{IsOf, next};
 
 use crate::areas::AREAS;
-use crate::books::{a_book, an_ask};
+use crate::books::{a_book, are_of_links};
 use crate::plants::{says, shows};
-use s7_plant::{BODY_ROOM, Book, Reply, Tail};
+use crate::requests::{can_be_done, is_ready, request_of};
+use s7_plant::{Ask, BODY_ROOM, Book, Reply, Request, Tail};
 use s7_turn::{Hall, Seat};
 use std::alloc::Global;
 use std::sync::Wait;
 use std::test::Fail;
+use std::thread::{Threads, join_mut};
 
-/// A hall with a book, and its first seat.
-fn opened(alloc: Global) -> Result<(Hall<Book<Tail>>, Seat<Book<Tail>>), Fail>
-    ensures { IfOk result (λ r. IsOf r.0 r.1) }
+/// A hall with a book of so many entries, and its first seat.
+fn opened(alloc: Global, limit: u64) -> Option<(Hall<Book<Tail>>, Seat<Book<Tail>>)>
+    ensures { IfSome result (λ r. IsOf r.0 r.1 × (next r.1 ≡ Some 1)) }
 {
-    let book = a_book(alloc, AREAS, 2, Vec::new(alloc))?;
+    let book = a_book(alloc, AREAS, limit, Vec::new(alloc))?;
     match Hall::new(alloc, book) {
-        Ok(opened) => Ok(opened),
-        Err(_) => Err(Fail::from("memory")),
+        Ok(opened) => Some(opened),
+        Err((_, _book)) => None,
     }
 }
 
-/// A write is entered as the first, and answered.
-fn is_entered<R: Wait>(
+/// How a call at a hall ends.
+#[derive(Clone, Copy)]
+enum Called {
+    /// With the entry of this number.
+    Entered(u64),
+    /// The history is full, and the request comes back.
+    Full,
+    /// It isn't made.
+    Unfit,
+}
+
+/// Has the hall carry the request out, where it can be.
+fn call<R: Wait>(
+    rt: &R,
+    hall: &Hall<Book<Tail>>,
+    seat: &mut Seat<Book<Tail>>,
+    request: Request,
+    reply: &mut Reply,
+) -> Called
+    requires { IsOf hall.now seat.old }
+    ensures { IsOf hall.now seat.new }
+{
+    if !can_be_done(&request) || !is_ready(reply) {
+        return Called::Unfit;
+    }
+    let ask = Ask {
+        right: true,
+        request,
+    };
+    match hall.act(rt, seat, ask, reply) {
+        Ok(done) => Called::Entered(done.number),
+        Err(_) => Called::Full,
+    }
+}
+
+/// A write of an octet to the first of data block 1, and its answer.
+const WRITE: (&str, &str) = (
+    "0 write 0501.120A10020001000184000000 00040008AA",
+    "0 0501 FF",
+);
+
+/// A read of data block 1, and its answer.
+const READ: (&str, &str) = (
+    "0 read 0401.120A10020004000184000000",
+    "0 0401 FF04002011223344",
+);
+
+/// Whether a row's request is entered as the first, and answered; or else comes back, and nothing is answered.
+fn is_first<R: Wait>(
     rt: &R,
     alloc: Global,
     hall: &Hall<Book<Tail>>,
     seat: &mut Seat<Book<Tail>>,
-) -> Result<bool, Fail>
+    row: (&str, &str),
+) -> Option<bool>
     requires { IsOf hall.now seat.old }
     ensures { IsOf hall.now seat.new }
 {
-    let mut reply = Reply::new(alloc, BODY_ROOM)?;
-    let write = an_ask(alloc, "0 write 0501.120A10020001000184000000 00040008AA")?;
-    match hall.act(rt, seat, write, &mut reply) {
-        Ok(done) => Ok(done.number == 0 && says(alloc, &reply, "0 0501 FF")?),
-        Err(_) => Ok(false),
+    let (asked, answer) = row;
+    let request = request_of(alloc, asked)?;
+    let mut reply = Reply::new(alloc, BODY_ROOM).ok()?;
+    match call(rt, hall, seat, request, &mut reply) {
+        Called::Entered(0) if says(alloc, &reply, answer) => Some(true),
+        Called::Full if says(alloc, &reply, "0 - -") => Some(false),
+        _ => None,
     }
 }
 
-/// The book has one entry, and the area holds what was written.
-fn holds_it(alloc: Global, book: &Book<Tail>) -> Result<bool, Fail> {
-    Ok(book.journal.len() == 1 && shows(alloc, &book.plant, "holds 84 1 AA223344")?)
+/// The book once a write was entered.
+fn written<R: Wait>(rt: &R, alloc: Global) -> Option<(bool, Book<Tail>)> {
+    let (hall, mut seat) = opened(alloc, 2)?;
+    let is_so = is_first(rt, alloc, &hall, &mut seat, WRITE).unwrap_or(false);
+    Some((is_so, hall.close(rt, seat)))
+}
+
+/// The book has one entry, and the area holds this.
+fn holds_it(alloc: Global, book: &Book<Tail>, shown: &str) -> bool {
+    book.journal.len() == 1 && shows(alloc, &book.plant, shown).unwrap_or(false)
+}
+
+/// A write at a hall is entered, and the area holds it.
+fn is_served<R: Wait>(rt: &R, alloc: Global) -> Option<bool> {
+    let (is_so, book) = written(rt, alloc)?;
+    Some(is_so && holds_it(alloc, &book, "holds 84 1 AA223344"))
 }
 
 #[test]
 fn a_hall_serves_a_book(rt: HostRuntime) -> Result<(), Fail> {
-    let (hall, mut seat) = opened(rt.alloc())?;
-    assert!(rt; is_entered(&rt, rt.alloc(), &hall, &mut seat)?);
-    let book = hall.close(&rt, seat);
-    assert!(rt; holds_it(rt.alloc(), &book)?);
+    assert!(rt; is_served(&rt, rt.alloc()).unwrap_or(false));
+    Ok(())
+}
+
+/// Two seats read once each, in two threads, and nobody is kept.
+fn both_read<R: Threads + Wait + Sync>(
+    rt: &R,
+    alloc: Global,
+    hall: &Hall<Book<Tail>>,
+    one: &mut Seat<Book<Tail>>,
+    two: &mut Seat<Book<Tail>>,
+) -> (Option<bool>, Option<bool>)
+    requires one { IsOf hall.now one.old }
+    requires two { IsOf hall.now two.old }
+    ensures one { IsOf hall.now one.new }
+    ensures two { IsOf hall.now two.new }
+{
+    let mut first = || -> Option<bool>
+        requires { IsOf hall.now one.now }
+        ensures { IsOf hall.entry.now one.exit.now }
+    { is_first(rt, alloc, hall, one, READ) };
+    let mut second = || -> Option<bool>
+        requires { IsOf hall.now two.now }
+        ensures { IsOf hall.entry.now two.exit.now }
+    { is_first(rt, alloc, hall, two, READ) };
+    join_mut(rt, &mut first, &mut second)
+}
+
+/// The links of the entries that there are where one of two seats was the first and the other was refused.
+fn links_of(first: (Option<bool>, Option<bool>)) -> &'static str {
+    match first {
+        (Some(true), Some(false)) => "links 0",
+        (Some(false), Some(true)) => "links 1",
+        _ => "links none",
+    }
+}
+
+/// What came of two reads at a book of one entry, and the book.
+fn one_read<R: Threads + Wait + Sync>(rt: &R, alloc: Global) -> Option<(&'static str, Book<Tail>)> {
+    let (hall, mut one) = opened(alloc, 1)?;
+    let mut two = hall.split(&mut one);
+    let links = links_of(both_read(rt, alloc, &hall, &mut one, &mut two));
+    let both = hall.meet(one, two);
+    Some((links, hall.close(rt, both)))
+}
+
+/// One of two reads at a book of one entry is entered.
+fn is_refused<R: Threads + Wait + Sync>(rt: &R, alloc: Global) -> Option<bool> {
+    let (links, book) = one_read(rt, alloc)?;
+    let is_so = holds_it(alloc, &book, "holds 84 1 11223344") && are_of_links(&book, links);
+    Some(is_so)
+}
+
+#[test]
+fn a_full_book_refuses_one_of_two(rt: HostRuntime) -> Result<(), Fail> {
+    assert!(rt; is_refused(&rt, rt.alloc()).unwrap_or(false));
     Ok(())
 }

@@ -1,11 +1,8 @@
 // Rows of books that keep an image of the plant at each 4,096th entry.
-use crate::areas::AREAS;
-use crate::books;
-use std::test::Fail;
 
 /// The first octet is one less than the number of entries, past 255 from 0 again: before the image that is kept, at
 /// it, behind it, and at the end.
-const WRITTEN: &str = "\
+pub(crate) const WRITTEN: &str = "\
     writes 5000\n\
     opening | holds 84 1 11223344\n\
     now | holds 84 1 87223344\n\
@@ -18,14 +15,9 @@ const WRITTEN: &str = "\
     2 write 0501.120A10020001000184000000 00040008BB | full | 0 0501 FF\n\
     image 4096 | holds 84 1 FF223344";
 
-#[test]
-fn areas_at_kept_images(rt: HostRuntime) -> Result<(), Fail> {
-    books::does(rt.alloc(), AREAS, 5_000, WRITTEN)
-}
-
 /// A function comes by the last entry before an image is kept, the plant stops by the first behind it, and the
 /// function goes. Behind the second image nothing but writes came.
-const LOADED: &str = "\
+pub(crate) const LOADED: &str = "\
     writes 4095\n\
     2 insert 43 5 70700101.01.0C.0005.00000026.00*22.0002.BBBB | 4095 | 0 2800 -\n\
     2 stop | 4096 | 0 2900 -\n\
@@ -43,8 +35,3 @@ const LOADED: &str = "\
     image 8192 | without 43 5\n\
     image 8192 | stands 0\n\
     image 8193 | holds 84 1 FE223344";
-
-#[test]
-fn blocks_at_kept_images(rt: HostRuntime) -> Result<(), Fail> {
-    books::does(rt.alloc(), AREAS, 9_000, LOADED)
-}

@@ -1,11 +1,10 @@
 // Rows that a plant has to meet.
 ghost use Rattle.std.specs.Prelude.{IfSome};
 ghost use Rattle.s7_area.specs.Guards.{IsGuard};
-ghost use Rattle.s7_plant.specs.Replies.{IsReadyReply};
-ghost use Rattle.s7_plant.specs.Requests.{CanBeDone};
 
-use crate::fields::{code, field, is, kind, number, octets, part};
-use crate::requests::{is_kept, request_of};
+use crate::fields::{add_octets, code, field, is, kind, number, octets, part};
+use crate::requests::{can_be_done, is_kept, is_ready, request_of};
+use crate::{areas, blocks, control};
 use s7_area::{AreaKey, Areas, Guard};
 use s7_block::{Block, Blocks};
 use s7_outer::Octets;
@@ -21,91 +20,120 @@ use std::test::Fail;
 ///     functions FIRST LAST          functions of these numbers, in decimal, are loaded
 ///     guard LEVEL                   level 2 or 3 is set, with a password
 ///     ahead MILLISECONDS            the clock is so much ahead
-///     owner REQUEST | ANSWER        how a request with the right is answered before it is carried out, and by it
+///     asks REQUEST | ANSWER         how a request with the right is answered before it is carried out
+///     owner REQUEST | ANSWER        how it is answered before that, and by it
 ///     any REQUEST | ANSWER          the same without the right
 ///
 /// An answer is an error word, parameters and a body.
-pub(crate) fn does(alloc: Global, given: &str, rows: &str) -> Result<(), Fail> {
-    let mut plant = a_plant(alloc, given)?;
-    walk(alloc, &mut plant, rows)
+fn does(alloc: Global, given: &str, rows: &str) -> Result<(), Fail> {
+    match unmet_by(alloc, given, rows) {
+        Some(row) => Err(Fail::new(row)),
+        None => Ok(()),
+    }
+}
+
+/// The first row that the plant doesn't meet which was given the others.
+fn unmet_by<'a>(alloc: Global, given: &'a str, rows: &'a str) -> Option<&'a str> {
+    match a_plant(alloc, given) {
+        Some(mut plant) => unmet(alloc, &mut plant, rows),
+        None => Some(given),
+    }
 }
 
 /// A plant that was given these rows.
-pub(crate) fn a_plant(alloc: Global, given: &str) -> Result<Plant, Fail> {
-    let mut plant = Plant::new(Areas::new(), Blocks::new(alloc, 1_024)?);
-    walk(alloc, &mut plant, given)?;
-    Ok(plant)
+pub(crate) fn a_plant(alloc: Global, given: &str) -> Option<Plant> {
+    let blocks = Blocks::new(alloc, 1_024).ok()?;
+    let mut plant = Plant::new(Areas::new(), blocks);
+    match unmet(alloc, &mut plant, given) {
+        Some(_) => None,
+        None => Some(plant),
+    }
 }
 
-fn walk(alloc: Global, plant: &mut Plant, rows: &str) -> Result<(), Fail> {
+/// The first row that the plant doesn't meet.
+fn unmet<'a>(alloc: Global, plant: &mut Plant, rows: &'a str) -> Option<&'a str> {
     for row in rows.lines() {
-        if !does_row(alloc, plant, row)? {
-            return Err(Fail::new(row));
+        match does_row(alloc, plant, row) {
+            Some(true) => {}
+            _ => return Some(row),
         }
     }
-    Ok(())
+    None
 }
 
-fn does_row(alloc: Global, plant: &mut Plant, row: &str) -> Result<bool, Fail> {
+/// The plant meets a row.
+fn does_row(alloc: Global, plant: &mut Plant, row: &str) -> Option<bool> {
     match field(row, 0) {
         "area" => registers(alloc, plant, row),
         "block" => loads(alloc, plant, row),
-        "functions" => loads_functions(alloc, plant, number(row, 1)?, number(row, 2)?),
-        "guard" => Ok(is_guarded(plant, kind(row, 1)?)),
+        "functions" => loads_functions(alloc, plant, row),
+        "guard" => Some(is_guarded(plant, kind(row, 1))),
         "ahead" => {
-            plant.offset = field(row, 1).parse::<i64>()?;
-            Ok(true)
+            plant.offset = offset_of(row)?;
+            Some(true)
         }
-        "owner" => Ok(tells(alloc, plant, true, row)? && steps(alloc, plant, true, row)?),
-        "any" => Ok(tells(alloc, plant, false, row)? && steps(alloc, plant, false, row)?),
+        "asks" | "owner" | "any" => answers(alloc, plant, row),
         _ => shows(alloc, plant, row),
     }
 }
 
-fn key_of(row: &str) -> Result<AreaKey, Fail> {
-    Ok(AreaKey {
-        area: kind(row, 1)?,
-        number: code(row, 2)?,
-    })
+/// The area that a row names in its second and third fields.
+fn key_of(row: &str) -> AreaKey {
+    AreaKey {
+        area: kind(row, 1),
+        number: code(row, 2),
+    }
 }
 
-fn registers(alloc: Global, plant: &mut Plant, row: &str) -> Result<bool, Fail> {
+/// The area of a row is registered.
+fn registers(alloc: Global, plant: &mut Plant, row: &str) -> Option<bool> {
     let octets = Octets::of_vec(octets(alloc, field(row, 3))?);
-    Ok(plant.areas.register(alloc, key_of(row)?, octets).is_ok())
+    Some(plant.areas.register(alloc, key_of(row), octets).is_ok())
 }
 
-fn loads(alloc: Global, plant: &mut Plant, row: &str) -> Result<bool, Fail> {
+/// The block of a row is loaded.
+fn loads(alloc: Global, plant: &mut Plant, row: &str) -> Option<bool> {
+    let image = octets(alloc, field(row, 3))?;
+    Some(inserts(plant, key_of(row), image))
+}
+
+/// The plant takes a block with the kind and the number of the key.
+fn inserts(plant: &mut Plant, key: AreaKey, image: Vec<u8>) -> bool {
     let block = Block {
-        kind: kind(row, 1)?,
-        number: code(row, 2)?,
-        image: Octets::of_vec(octets(alloc, field(row, 3))?),
+        kind: key.area,
+        number: key.number,
+        image: Octets::of_vec(image),
     };
-    Ok(plant.blocks.insert(block).is_ok())
+    plant.blocks.insert(block).is_ok()
 }
 
-fn loads_functions(alloc: Global, plant: &mut Plant, first: u64, last: u64) -> Result<bool, Fail> {
-    for n in first..=last {
-        let number = u16::try_from(n)?;
-        let block = Block {
-            kind: 0x43,
-            number,
-            image: a_function(alloc, number)?,
-        };
-        if plant.blocks.insert(block).is_err() {
-            return Ok(false);
+/// The functions of a row are loaded.
+fn loads_functions(alloc: Global, plant: &mut Plant, row: &str) -> Option<bool> {
+    let end = number(field(row, 2)).saturating_add(1);
+    for n in number(field(row, 1))..end {
+        if !loads_function(alloc, plant, u16::try_from(n).ok()?)? {
+            return Some(false);
         }
     }
-    Ok(true)
+    Some(true)
+}
+
+/// The function of this number is loaded.
+fn loads_function(alloc: Global, plant: &mut Plant, number: u16) -> Option<bool> {
+    let image = a_function(alloc, number)?;
+    let key = AreaKey { area: 0x43, number };
+    Some(inserts(plant, key, image))
 }
 
 /// A function of this number, with a body of two octets AA.
-fn a_function(alloc: Global, number: u16) -> Result<Octets, Fail> {
+fn a_function(alloc: Global, number: u16) -> Option<Vec<u8>> {
     let mut image = octets(alloc, "70700101.01.0C")?;
-    image.extend_from_slice(&number.to_be_bytes())?;
-    image.extend_from_slice(octets(alloc, "00000026.00*22.0002.AAAA")?.as_slice())?;
-    Ok(Octets::of_vec(image))
+    image.extend_from_slice(&number.to_be_bytes()).ok()?;
+    add_octets(alloc, &mut image, "00000026.00*22.0002.AAAA")?;
+    Some(image)
 }
 
+/// The guard is set.
 fn is_guarded(plant: &mut Plant, level: u8) -> bool {
     let guard = a_guard(level);
     plant.areas.set_guard(guard);
@@ -125,43 +153,75 @@ fn a_guard(level: u8) -> Option<Guard>
     })
 }
 
-/// The plant answers so, and nothing is carried out.
-fn tells(alloc: Global, plant: &Plant, right: bool, row: &str) -> Result<bool, Fail> {
-    let request = request_of(alloc, row)?;
-    let mut reply = Reply::new(alloc, BODY_ROOM)?;
-    tell(plant, right, &request, &mut reply);
-    says(alloc, &reply, part(row, 1))
+/// The plant answers so before the request is carried out, and by it where it is.
+fn answers(alloc: Global, plant: &mut Plant, row: &str) -> Option<bool> {
+    let word = field(row, 0);
+    let right = word != "any";
+    Some(tells(alloc, plant, right, row)? && (word == "asks" || steps(alloc, plant, right, row)?))
 }
 
-fn tell(plant: &Plant, right: bool, request: &Request, reply: &mut Reply)
-    requires request { CanBeDone request.now }
-    requires reply { IsReadyReply reply.old }
-{
+/// The plant answers so, and nothing is carried out.
+fn tells(alloc: Global, plant: &Plant, right: bool, row: &str) -> Option<bool> {
+    let request = request_of(alloc, row)?;
+    Some(is_told(alloc, plant, right, &request, row))
+}
+
+/// A new reply says so, and nothing is carried out.
+fn is_told(alloc: Global, plant: &Plant, right: bool, request: &Request, row: &str) -> bool {
+    match Reply::new(alloc, BODY_ROOM) {
+        Ok(mut reply) => {
+            tell(plant, right, request, &mut reply) && says(alloc, &reply, part(row, '|', 1))
+        }
+        Err(_) => false,
+    }
+}
+
+/// Has the plant answer. It doesn't where the request can't be carried out.
+fn tell(plant: &Plant, right: bool, request: &Request, reply: &mut Reply) -> bool {
+    if !can_be_done(request) || !is_ready(reply) {
+        return false;
+    }
     plant.reply(right, request, reply);
+    true
 }
 
 /// The plant carries the request out and answers so.
-fn steps(alloc: Global, plant: &mut Plant, right: bool, row: &str) -> Result<bool, Fail> {
+fn steps(alloc: Global, plant: &mut Plant, right: bool, row: &str) -> Option<bool> {
     let mut request = request_of(alloc, row)?;
-    let mut reply = Reply::new(alloc, BODY_ROOM)?;
-    step(plant, right, &mut request, &mut reply);
-    Ok(is_kept(alloc, &request, row)? && says(alloc, &reply, part(row, 1))?)
+    let is_so = is_done(alloc, plant, right, &mut request, row) && is_kept(alloc, &request, row);
+    Some(is_so)
 }
 
-fn step(plant: &mut Plant, right: bool, request: &mut Request, reply: &mut Reply)
-    requires request { CanBeDone request.old }
-    requires reply { IsReadyReply reply.old }
-{
+/// The request is carried out, and a new reply says so.
+fn is_done(
+    alloc: Global,
+    plant: &mut Plant,
+    right: bool,
+    request: &mut Request,
+    row: &str,
+) -> bool {
+    match Reply::new(alloc, BODY_ROOM) {
+        Ok(mut reply) => {
+            step(plant, right, request, &mut reply) && says(alloc, &reply, part(row, '|', 1))
+        }
+        Err(_) => false,
+    }
+}
+
+/// Has the plant carry the request out, where it can be.
+fn step(plant: &mut Plant, right: bool, request: &mut Request, reply: &mut Reply) -> bool {
+    if !can_be_done(request) || !is_ready(reply) {
+        return false;
+    }
     plant.step(right, request, reply);
+    true
 }
 
 /// The reply is this answer.
-pub(crate) fn says(alloc: Global, reply: &Reply, answer: &str) -> Result<bool, Fail> {
-    Ok(
-        reply.error == code(answer, 0)?
-            && is(alloc, reply.params.as_slice(), field(answer, 1))?
-            && is(alloc, reply.body.as_slice(), field(answer, 2))?,
-    )
+pub(crate) fn says(alloc: Global, reply: &Reply, answer: &str) -> bool {
+    reply.error == code(answer, 0)
+        && is(alloc, reply.params.as_slice(), field(answer, 1))
+        && is(alloc, reply.body.as_slice(), field(answer, 2))
 }
 
 /// What a plant shows:
@@ -172,29 +232,49 @@ pub(crate) fn says(alloc: Global, reply: &Reply, answer: &str) -> Result<bool, F
 ///     loaded COUNT                  how many blocks were loaded
 ///     last KIND NUMBER OCTET        the last octet of a block that was loaded
 ///     without KIND NUMBER           no such block was loaded
-pub(crate) fn shows(alloc: Global, plant: &Plant, row: &str) -> Result<bool, Fail> {
+pub(crate) fn shows(alloc: Global, plant: &Plant, row: &str) -> Option<bool> {
     match field(row, 0) {
-        "runs" => Ok(plant.running && plant.offset == field(row, 1).parse::<i64>()?),
-        "stands" => Ok(!plant.running && plant.offset == field(row, 1).parse::<i64>()?),
+        "runs" => Some(plant.running && plant.offset == offset_of(row)?),
+        "stands" => Some(!plant.running && plant.offset == offset_of(row)?),
         "holds" => holds(alloc, plant, row),
-        "loaded" => Ok(plant.blocks.len() as u64 == number(row, 1)?),
-        "last" => Ok(last_of(plant, row)? == Some(kind(row, 3)?)),
-        "without" => Ok(last_of(plant, row)?.is_none()),
-        _ => Ok(false),
+        "loaded" => Some(plant.blocks.len() as u64 == number(field(row, 1))),
+        "last" => has_last(plant, row),
+        "without" => Some(plant.blocks.get(kind(row, 1), code(row, 2)).is_none()),
+        _ => None,
     }
 }
 
-fn holds(alloc: Global, plant: &Plant, row: &str) -> Result<bool, Fail> {
-    match plant.areas.octets_of(key_of(row)?) {
-        Some(found) => is(alloc, found, field(row, 3)),
-        None => Ok(false),
-    }
+/// By how many milliseconds a row has the clock ahead.
+fn offset_of(row: &str) -> Option<i64> {
+    field(row, 1).parse::<i64>().ok()
 }
 
-/// The last octet of a block, where it is loaded.
-fn last_of(plant: &Plant, row: &str) -> Result<Option<u8>, Fail> {
-    match plant.blocks.get(kind(row, 1)?, code(row, 2)?) {
-        Some(block) => Ok(block.image.as_slice().last().copied()),
-        None => Ok(None),
+/// The area of a row has its octets.
+fn holds(alloc: Global, plant: &Plant, row: &str) -> Option<bool> {
+    let found = plant.areas.octets_of(key_of(row))?;
+    Some(is(alloc, found, field(row, 3)))
+}
+
+/// The block of a row ends with its octet.
+fn has_last(plant: &Plant, row: &str) -> Option<bool> {
+    let block = plant.blocks.get(kind(row, 1), code(row, 2))?;
+    let last = block.image.as_slice().last()?;
+    Some(*last == kind(row, 3))
+}
+
+/// What a plant is given, and the rows that it meets then.
+const PLANTS: &[(&str, &str)] = &[
+    (areas::AREAS, areas::READS),
+    (areas::AREAS, areas::WRITES),
+    (blocks::BLOCKS, blocks::TAKEN),
+    (areas::AREAS, blocks::FULL),
+    (areas::AREAS, control::CLOCKS),
+];
+
+#[test]
+fn plants_meet_their_rows(rt: HostRuntime) -> Result<(), Fail> {
+    for (given, rows) in PLANTS {
+        does(rt.alloc(), given, rows)?;
     }
+    Ok(())
 }

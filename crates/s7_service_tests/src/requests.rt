@@ -1,5 +1,6 @@
 // The requests of rows.
-ghost use Rattle.std.specs.Prelude.{◌+◌, ◌≤◌, All, IsTrue, IfOk};
+ghost use Rattle.std.specs.Prelude.{◌+◌, ◌≤◌, All, IsTrue};
+ghost use Rattle.s7_plant.specs.Replies.{IsReadyReply};
 ghost use Rattle.s7_plant.specs.Requests.{CanBeDone};
 
 use crate::fields::{code, field, is, kind, number, octets};
@@ -8,9 +9,8 @@ use s7_block::kinds::is_stored_kind;
 use s7_clock::{FIRST_MOMENT, LAST_MOMENT};
 use s7_item::{DataItems, DataPlace, Items, answer_size, read_data_items, read_items};
 use s7_outer::{Buffer, Octets};
-use s7_plant::Request;
+use s7_plant::{BODY_ROOM, PARAMS_ROOM, Reply, Request};
 use std::alloc::Global;
-use std::test::Fail;
 
 /// The request that a row asks, from its second field on:
 ///
@@ -20,95 +20,82 @@ use std::test::Fail;
 ///     insert KIND NUMBER IMAGE   delete KIND NUMBER
 ///
 /// Moments are in decimal, all else is in hexadecimal.
-pub(crate) fn request_of(alloc: Global, row: &str) -> Result<Request, Fail>
-    ensures { IfOk result CanBeDone }
-{
-    let request = spelled(alloc, row)?;
-    if can_be_done(&request) {
-        Ok(request)
-    } else {
-        Err(Fail::new(row))
-    }
-}
-
-fn spelled(alloc: Global, row: &str) -> Result<Request, Fail> {
+pub(crate) fn request_of(alloc: Global, row: &str) -> Option<Request> {
     match field(row, 1) {
         "read" => a_read(alloc, row),
         "write" => a_write(alloc, row),
         "insert" => an_insert(alloc, row),
-        "clock" => Ok(Request::ClockRead {
-            moment: number(row, 2)?,
+        "start" => Some(Request::Start { cold: false }),
+        "stop" => Some(Request::Stop),
+        "compress" => Some(Request::Compress),
+        "clock" => Some(Request::ClockRead {
+            moment: number(field(row, 2)),
         }),
-        "set" => Ok(Request::ClockSet {
-            moment: number(row, 2)?,
-            value: number(row, 3)?,
-        }),
-        "delete" => Ok(Request::Delete {
-            kind: kind(row, 2)?,
-            number: code(row, 3)?,
-        }),
-        word => of_word(word),
+        word => of_numbers(word, row),
     }
 }
 
-fn of_word(word: &str) -> Result<Request, Fail> {
+/// A request that takes two numbers.
+fn of_numbers(word: &str, row: &str) -> Option<Request> {
     match word {
-        "start" => Ok(Request::Start { cold: false }),
-        "stop" => Ok(Request::Stop),
-        "compress" => Ok(Request::Compress),
-        _ => Err(Fail::new(word)),
+        "set" => Some(Request::ClockSet {
+            moment: number(field(row, 2)),
+            value: number(field(row, 3)),
+        }),
+        "delete" => Some(Request::Delete {
+            kind: kind(row, 2),
+            number: code(row, 3),
+        }),
+        _ => None,
     }
 }
 
-fn a_read(alloc: Global, row: &str) -> Result<Request, Fail> {
+/// A read of a row.
+fn a_read(alloc: Global, row: &str) -> Option<Request> {
+    let items = items_of(alloc, field(row, 2))?;
+    Some(Request::Read { items })
+}
+
+/// A write of a row.
+fn a_write(alloc: Global, row: &str) -> Option<Request> {
+    let data = octets(alloc, field(row, 3))?;
+    write_of(alloc, field(row, 2), data)
+}
+
+/// The items of a read's or a write's parameters.
+fn items_of(alloc: Global, params: &str) -> Option<Items> {
     let mut items = Items::new();
-    let params = octets(alloc, field(row, 2))?;
-    read_items(params.as_slice(), &mut items)?;
-    Ok(Request::Read { items })
-}
-
-fn a_write(alloc: Global, row: &str) -> Result<Request, Fail> {
-    write_with(alloc, field(row, 2), octets(alloc, field(row, 3))?)
-}
-
-/// A write of an octet to the first of data block 1.
-pub(crate) fn write_of(alloc: Global, octet: u8) -> Result<Request, Fail>
-    ensures { IfOk result CanBeDone }
-{
-    let mut data = octets(alloc, "00040008")?;
-    data.push(octet)?;
-    let request = write_with(alloc, "0501.120A10020001000184000000", data)?;
-    if can_be_done(&request) {
-        Ok(request)
-    } else {
-        Err(Fail::from("no write"))
-    }
-}
-
-fn write_with(alloc: Global, params: &str, data: Vec<u8>) -> Result<Request, Fail> {
-    let mut items = Items::new();
-    let mut places = DataItems::new();
     let params = octets(alloc, params)?;
-    read_items(params.as_slice(), &mut items)?;
-    read_data_items(data.as_slice(), items.len(), &mut places)?;
-    Ok(Request::Write {
+    read_items(params.as_slice(), &mut items).ok()?;
+    Some(items)
+}
+
+/// A write with these parameters and this data.
+pub(crate) fn write_of(alloc: Global, params: &str, data: Vec<u8>) -> Option<Request> {
+    let items = items_of(alloc, params)?;
+    let mut places = DataItems::new();
+    read_data_items(data.as_slice(), items.len(), &mut places).ok()?;
+    Some(Request::Write {
         items,
         places,
         octets: Octets::of_vec(data),
     })
 }
 
-fn an_insert(alloc: Global, row: &str) -> Result<Request, Fail> {
+/// An insert of a row, with room for its image.
+fn an_insert(alloc: Global, row: &str) -> Option<Request> {
     let image = octets(alloc, field(row, 4))?;
-    Ok(Request::Insert {
-        kind: kind(row, 2)?,
-        number: code(row, 3)?,
-        spare: Buffer::new(alloc, image.len())?,
+    let spare = Buffer::new(alloc, image.len()).ok()?;
+    Some(Request::Insert {
+        kind: kind(row, 2),
+        number: code(row, 3),
+        spare,
         image: Octets::of_vec(image),
     })
 }
 
-fn can_be_done(request: &Request) -> bool
+/// The request can be carried out.
+pub(crate) fn can_be_done(request: &Request) -> bool
     ensures { IsTrue result → CanBeDone request.now }
 {
     match request {
@@ -144,22 +131,29 @@ fn are_inside(places: &[DataPlace], len: usize) -> bool
         .all(|place| place.from <= len && place.len <= len - place.from)
 }
 
+/// The reply has its rooms.
+pub(crate) fn is_ready(reply: &Reply) -> bool
+    ensures { IsTrue result → IsReadyReply reply.now }
+{
+    reply.params.room() == PARAMS_ROOM && reply.body.room() == BODY_ROOM
+}
+
 /// What is left of a request that was carried out: of an insert its image, and no room for a copy.
-pub(crate) fn is_kept(alloc: Global, request: &Request, row: &str) -> Result<bool, Fail> {
+pub(crate) fn is_kept(alloc: Global, request: &Request, row: &str) -> bool {
     match request {
         Request::Insert { image, spare, .. } => {
-            Ok(spare.room() == 0 && is(alloc, image.as_slice(), field(row, 4))?)
+            spare.room() == 0 && is(alloc, image.as_slice(), field(row, 4))
         }
-        _ => Ok(true),
+        _ => true,
     }
 }
 
 /// It is a write of one item and of the data of this row.
-pub(crate) fn is_write(alloc: Global, request: &Request, row: &str) -> Result<bool, Fail> {
+pub(crate) fn is_write(alloc: Global, request: &Request, row: &str) -> bool {
     match request {
         Request::Write { items, octets, .. } => {
-            Ok(items.len() == 1 && is(alloc, octets.as_slice(), field(row, 3))?)
+            items.len() == 1 && is(alloc, octets.as_slice(), field(row, 3))
         }
-        _ => Ok(false),
+        _ => false,
     }
 }

@@ -1,6 +1,7 @@
 // Sessions over a book: what each turn tells, a journal that is full, and a clock that fails.
 use crate::areas::AREAS;
-use crate::books::a_book;
+use crate::books::{a_book, are_of_links};
+use crate::fields::octets;
 use s7_memory::{FailingLink, Fate, MemoryLink};
 use s7_outer::Octets;
 use s7_plant::{Book, Tail};
@@ -55,42 +56,67 @@ const STOPPED: &str = "32030000000D0002000000002900";
 /// 2024-02-29, a Thursday, at 13:45:30.123.
 const MOMENT: u64 = 1_709_214_330_123;
 
+/// A line in memory whose calls may fail.
 type Line = FailingLink<MemoryLink>;
 
-// Octets in hex, in a packet where they are a message.
-fn add(alloc: Global, all: &mut Vec<u8>, hex: &str) -> Result<(), Fail> {
-    let octets = hex::decode(alloc, hex)?;
-    if octets.as_slice().starts_with(&[0x32]) {
+/// Adds octets in hex, in a packet where they are a message.
+fn add(alloc: Global, all: &mut Vec<u8>, hex: &str) -> Option<()> {
+    let octets = octets(alloc, hex)?;
+    if let [0x32, ..] = octets.as_slice() {
         let [high, low] = (octets.len().min(1_024) as u16 + 7).to_be_bytes();
-        all.extend_from_slice(&[0x03, 0x00, high, low, 0x02, 0xF0, 0x80])?;
+        let head = [0x03, 0x00, high, low, 0x02, 0xF0, 0x80];
+        all.extend_from_slice(&head).ok()?;
     }
-    all.extend_from_slice(octets.as_slice())?;
-    Ok(())
+    all.extend_from_slice(octets.as_slice()).ok()
 }
 
-fn octets_of(alloc: Global, parts: &[&str]) -> Result<Vec<u8>, Fail> {
+/// The octets of all parts, one after another.
+fn octets_of(alloc: Global, parts: &[&str]) -> Option<Vec<u8>> {
     let mut all = Vec::new(alloc);
     for part in parts {
         add(alloc, &mut all, part)?;
     }
-    Ok(all)
+    Some(all)
 }
 
 /// A link that gives this, and whose calls meet these fates.
-fn a_line(alloc: Global, asked: &[&str], fates: &[Fate]) -> Result<Line, Fail> {
+fn a_line(alloc: Global, asked: &[&str], fates: &[Fate]) -> Option<Line> {
+    let fates = fates.to_vec(alloc).ok()?;
     let input = Octets::of_vec(octets_of(alloc, asked)?);
-    let inner = MemoryLink::new(alloc, input, 8_192, 16_384, MOMENT)?;
-    Ok(FailingLink::new(inner, fates.to_vec(alloc)?))
+    let inner = MemoryLink::new(alloc, input, 8_192, 16_384, MOMENT).ok()?;
+    Some(FailingLink::new(inner, fates))
+}
+
+/// A link, and the book that it is served over under the number 7.
+struct Talk {
+    line: Line,
+    book: Book<Tail>,
+}
+
+// It is dropped by a function of its own, so that what drops it is soon proved.
+impl Drop for Talk {
+    fn drop(self) {
+        let Talk { line: _, book: _ } = self;
+    }
+}
+
+/// A talk that is asked this, over a journal of so many entries, and whose link's calls meet these fates.
+fn a_talk(alloc: Global, asked: &[&str], fates: &[Fate], limit: u64) -> Option<Talk> {
+    let line = a_line(alloc, asked, fates)?;
+    let book = a_book(alloc, AREAS, limit, Vec::new(alloc))?;
+    Some(Talk { line, book })
 }
 
 /// What was written on the link is this.
-fn is_written(alloc: Global, line: &Line, answered: &[&str]) -> Result<bool, Fail> {
-    let answered = octets_of(alloc, answered)?;
-    Ok(line.inner().written() == answered.as_slice())
+fn is_written(alloc: Global, line: &Line, answered: &[&str]) -> bool {
+    match octets_of(alloc, answered) {
+        Some(answered) => line.inner().written() == answered.as_slice(),
+        None => false,
+    }
 }
 
 /// A link whose fifth call fails, behind two calls that have nothing to give or no room.
-const SLOW: [Fate; 6] = [
+const SLOW: &[Fate] = &[
     Fate::NotYet,
     Fate::Pass,
     Fate::NotYet,
@@ -100,7 +126,7 @@ const SLOW: [Fate; 6] = [
 ];
 
 /// What each turn tells of that link, which gives a connect request.
-const TURNS: [Turn; 6] = [
+const TURNS: &[Turn] = &[
     Turn::NotYet,
     Turn::Went,
     Turn::NotYet,
@@ -109,96 +135,116 @@ const TURNS: [Turn; 6] = [
     Turn::Closed(Outcome::ReadFault),
 ];
 
-fn turn(alloc: Global, session: &mut Session, line: &mut Line, book: &mut Book<Tail>) -> Turn {
-    let mut doer = BookDoer { book, link: 7 };
-    session.turn(alloc, line, &mut doer)
+/// What a turn of the session tells. Nothing is promised of it, so that what calls this is soon proved.
+fn turn(alloc: Global, session: &mut Session, talk: &mut Talk) -> Turn {
+    let mut doer = BookDoer {
+        book: &mut talk.book,
+        link: 7,
+    };
+    session.turn(alloc, &mut talk.line, &mut doer)
 }
 
 /// The turns of a new session over the link tell this.
-fn turns_tell(alloc: Global, line: &mut Line, book: &mut Book<Tail>) -> Result<bool, Fail> {
-    let mut session = Session::new(alloc, 7, None)?;
+fn turns_tell(alloc: Global, talk: &mut Talk) -> Option<bool> {
+    let mut session = Session::new(alloc, 7, None).ok()?;
+    Some(all_told(alloc, &mut session, talk))
+}
+
+/// All turns of the session tell what they do.
+fn all_told(alloc: Global, session: &mut Session, talk: &mut Talk) -> bool {
     for told in TURNS {
-        if turn(alloc, &mut session, line, book) != told {
-            return Ok(false);
+        if !is_told(alloc, session, talk, told) {
+            return false;
         }
     }
-    Ok(true)
+    true
+}
+
+/// The next turn of the session tells this.
+fn is_told(alloc: Global, session: &mut Session, talk: &mut Talk, told: &Turn) -> bool {
+    turn(alloc, session, talk) == *told
+}
+
+/// The slow link's turns tell what they do, and the connect is confirmed.
+fn turns_go(alloc: Global) -> Option<bool> {
+    let mut talk = a_talk(alloc, &[CONNECT], SLOW, 1)?;
+    let is_told = turns_tell(alloc, &mut talk).unwrap_or(false);
+    Some(is_told && is_written(alloc, &talk.line, &[CONFIRM]))
 }
 
 #[test]
 fn a_turn_tells_what_it_did(rt: HostRuntime) -> Result<(), Fail> {
-    let mut line = a_line(rt.alloc(), &[CONNECT], &SLOW)?;
-    let mut book = a_book(rt.alloc(), AREAS, 1, Vec::new(rt.alloc()))?;
-    assert!(rt; turns_tell(rt.alloc(), &mut line, &mut book)?);
-    assert!(rt; is_written(rt.alloc(), &line, &[CONFIRM])?);
+    assert!(rt; turns_go(rt.alloc()).unwrap_or(false));
     Ok(())
 }
 
 /// A link over a book whose journal takes so many entries: what becomes of its calls, what it asks, what it is
-/// answered, and how many entries it has.
-#[derive(Clone, Copy)]
+/// answered, how many entries it has, and the links of the book's entries.
 struct Row {
     limit: u64,
     fates: &'static [Fate],
     asked: &'static [&'static str],
     answered: &'static [&'static str],
     entries: u64,
+    links: &'static str,
 }
 
-/// Serves a link to its end on the book, under the number 7. It ends as links do.
+/// How serving a link ends. Nothing is promised of it.
+fn serve<R: Wait + Clock>(
+    rt: &R,
+    alloc: Global,
+    session: &mut Session,
+    talk: &mut Talk,
+) -> Outcome {
+    let mut doer = BookDoer {
+        book: &mut talk.book,
+        link: 7,
+    };
+    session.serve(rt, alloc, &mut talk.line, &mut doer)
+}
+
+/// The link ends as links do, with so many entries.
 fn is_served<R: Wait + Clock>(
     rt: &R,
     alloc: Global,
-    row: &Row,
-    line: &mut Line,
-    book: &mut Book<Tail>,
-) -> Result<bool, Fail> {
-    let mut session = Session::new(alloc, 7, None)?;
-    let mut doer = BookDoer { book, link: 7 };
-    let outcome = session.serve(rt, alloc, line, &mut doer);
-    let last = row.entries.checked_sub(1);
-    Ok(outcome == Outcome::Ended && session.entries() == row.entries && session.last() == last)
+    talk: &mut Talk,
+    entries: u64,
+) -> Option<bool> {
+    let mut session = Session::new(alloc, 7, None).ok()?;
+    let outcome = serve(rt, alloc, &mut session, talk);
+    Some(outcome == Outcome::Ended && has_entries(&session, entries))
 }
 
-/// The book has so many entries, all of link 7.
-fn has_entries(book: &Book<Tail>, count: u64) -> bool {
-    book.journal.len() == count && book.journal.as_slice().iter().all(|entry| entry.link == 7)
+/// The session has so many entries, from the first of the book.
+fn has_entries(session: &Session, entries: u64) -> bool {
+    let end = match session.last() {
+        Some(last) => last.saturating_add(1),
+        None => 0,
+    };
+    session.entries() == entries && end == entries
 }
 
 /// The link of a row is served as the row says.
-fn goes<R: Wait + Clock>(rt: &R, alloc: Global, row: &Row) -> Result<bool, Fail> {
-    let mut line = a_line(alloc, row.asked, row.fates)?;
-    let mut book = a_book(alloc, AREAS, row.limit, Vec::new(alloc))?;
-    Ok(
-        is_served(rt, alloc, row, &mut line, &mut book)?
-            && has_entries(&book, row.entries)
-            && is_written(alloc, &line, row.answered)?,
-    )
+fn goes<R: Wait + Clock>(rt: &R, alloc: Global, row: &Row) -> Option<bool> {
+    let mut talk = a_talk(alloc, row.asked, row.fates, row.limit)?;
+    let is_served = is_served(rt, alloc, &mut talk, row.entries).unwrap_or(false);
+    let is_so = is_served
+        && are_of_links(&talk.book, row.links)
+        && is_written(alloc, &talk.line, row.answered);
+    Some(is_so)
 }
 
-fn all_go<R: Wait + Clock>(rt: &R, alloc: Global, rows: &[Row]) -> Result<(), Fail> {
-    for (number, row) in rows.iter().enumerate() {
-        if !goes(rt, alloc, row)? {
-            return Err(Fail::from(("row", number)));
-        }
-    }
-    Ok(())
-}
-
-#[test]
-fn a_book_is_full_at_its_limit(rt: HostRuntime) -> Result<(), Fail> {
-    let row = Row {
+/// A link over a full journal, and links whose clocks fail.
+const LINKS: &[Row] = &[
+    // The journal is full.
+    Row {
         limit: 1,
         fates: &[],
         asked: &[CONNECT, SETUP, READ, READ],
         answered: &[CONFIRM, GRANTED, READ_ANSWER, READ_FULL],
         entries: 1,
-    };
-    all_go(&rt, rt.alloc(), &[row])
-}
-
-/// Links whose clocks fail.
-const FAILED_CLOCKS: [Row; 4] = [
+        links: "links 7",
+    },
     // A receive, the confirm and the grant go before the clock is asked for the first time. Behind the refusal
     // goes the read's answer, and then the clock is asked again.
     Row {
@@ -207,6 +253,7 @@ const FAILED_CLOCKS: [Row; 4] = [
         asked: &[CONNECT, SETUP, CLOCK_READ, READ, CLOCK_READ],
         answered: &[CONFIRM, GRANTED, CLOCK_FAILED, READ_ANSWER, CLOCK_ANSWER],
         entries: 2,
+        links: "links 7 7",
     },
     // It is asked once for each telegram of the clock, and for no other: the eighth call is for the second.
     Row {
@@ -231,6 +278,7 @@ const FAILED_CLOCKS: [Row; 4] = [
             CLOCK_FAILED,
         ],
         entries: 3,
+        links: "links 7 7 7",
     },
     // Data that are no date are refused before the clock is asked, at the fifth call.
     Row {
@@ -239,6 +287,7 @@ const FAILED_CLOCKS: [Row; 4] = [
         asked: &[CONNECT, SETUP, NO_DATE, CLOCK_READ],
         answered: &[CONFIRM, GRANTED, NO_DATE_ANSWER, CLOCK_FAILED],
         entries: 0,
+        links: "links",
     },
     // A clock that fails is noticed before the journal, which is full, at the fifth call.
     Row {
@@ -247,10 +296,16 @@ const FAILED_CLOCKS: [Row; 4] = [
         asked: &[CONNECT, SETUP, READ, CLOCK_READ, CLOCK_READ],
         answered: &[CONFIRM, GRANTED, READ_ANSWER, CLOCK_FAILED, CLOCK_FULL],
         entries: 1,
+        links: "links 7",
     },
 ];
 
 #[test]
-fn a_failed_clock_refuses_its_telegram(rt: HostRuntime) -> Result<(), Fail> {
-    all_go(&rt, rt.alloc(), &FAILED_CLOCKS)
+fn links_are_served(rt: HostRuntime) -> Result<(), Fail> {
+    for (number, row) in LINKS.iter().enumerate() {
+        if !goes(&rt, rt.alloc(), row).unwrap_or(false) {
+            return Err(Fail::from(("row", number)));
+        }
+    }
+    Ok(())
 }

@@ -1,12 +1,11 @@
-ghost use Rattle.std.specs.Prelude.{◌≡◌, ℕ, ◌+◌, ◌*◌, ◌%◌, ◌^◌, ◌<◌, Some};
-ghost use Rattle.s7_turn.specs.Turns.{most};
+ghost use Rattle.std.specs.Prelude.{◌≡◌, ℕ, ◌+◌, ◌≤◌, ◌%◌, ◌^◌, Some, IfOk};
 ghost use Rattle.s7_turn.specs.Seats.{IsOf, next};
 
 use s7_turn::{Adder, Hall, Machine, Seat};
 use std::alloc::Global;
 use std::sync::Wait;
 use std::test::Fail;
-use std::thread::{Scope, Threads, join, scope, scope_env, yield_now};
+use std::thread::{Threads, for_each_mut, join_mut, yield_now};
 
 /// An adder that lets other threads run in the midst of a turn, so that they come while it is out.
 #[derive(Drop)]
@@ -49,151 +48,279 @@ impl Machine for Slow {
     }
 }
 
+/// A hall with an adder of so many entries, and its first seat.
+fn opened(alloc: Global, limit: usize) -> Result<(Hall<Slow>, Seat<Slow>), Fail>
+    ensures { IfOk result (λ r. IsOf r.0 r.1 × (next r.1 ≡ Some 1)) }
+{
+    let adder = Adder::new(alloc, limit)?;
+    match Hall::new(alloc, Slow { adder }) {
+        Ok(opened) => Ok(opened),
+        Err((_, _slow)) => Err(Fail::from("memory")),
+    }
+}
+
+/// The adder of a hall that is closed.
+fn closed<R: Wait>(rt: &R, hall: Hall<Slow>, seat: Seat<Slow>) -> Adder
+    requires { IsOf hall seat }
+{
+    let Slow { adder } = hall.close(rt, seat);
+    adder
+}
+
+/// The number of the entry that a call makes; or the request that comes back, and how many entries there are.
+fn call<R: Wait>(
+    rt: &R,
+    hall: &Hall<Slow>,
+    seat: &mut Seat<Slow>,
+    request: u64,
+    reply: &mut u64,
+) -> Result<u64, (u64, u64)>
+    requires { IsOf hall.now seat.old }
+    ensures { IsOf hall.now seat.new }
+{
+    match hall.act(rt, seat, request, reply) {
+        Ok(done) => Ok(done.number),
+        Err(full) => Err((full.request, full.len)),
+    }
+}
+
+/// The call makes the entry of this number, and is answered with this sum.
+fn is_added<R: Wait>(
+    rt: &R,
+    hall: &Hall<Slow>,
+    seat: &mut Seat<Slow>,
+    reply: &mut u64,
+    row: (u64, u64, u64),
+) -> bool
+    requires { IsOf hall.now seat.old }
+    ensures { IsOf hall.now seat.new }
+{
+    let (request, number, before) = row;
+    match call(rt, hall, seat, request, reply) {
+        Ok(told) => told == number && *reply == before,
+        Err(_) => false,
+    }
+}
+
+/// The request comes back where there are so many entries, and the answer is still this one.
+fn is_full<R: Wait>(
+    rt: &R,
+    hall: &Hall<Slow>,
+    seat: &mut Seat<Slow>,
+    reply: &mut u64,
+    row: (u64, u64, u64),
+) -> bool
+    requires { IsOf hall.now seat.old }
+    ensures { IsOf hall.now seat.new }
+{
+    let (request, len, before) = row;
+    match call(rt, hall, seat, request, reply) {
+        Ok(_) => false,
+        Err((back, told)) => back == request && told == len && *reply == before,
+    }
+}
+
+/// Three calls make entries, and the fourth comes back.
+fn fills<R: Wait>(rt: &R, hall: &Hall<Slow>, seat: &mut Seat<Slow>) -> bool
+    requires { IsOf hall.now seat.old }
+    ensures { IsOf hall.now seat.new }
+{
+    let mut reply = 9;
+    is_added(rt, hall, seat, &mut reply, (5, 0, 0))
+        && is_added(rt, hall, seat, &mut reply, (6, 1, 5))
+        && is_added(rt, hall, seat, &mut reply, (7, 2, 11))
+        && is_full(rt, hall, seat, &mut reply, (8, 3, 11))
+}
+
+/// The adder behind these calls, where they went so.
+fn filled<R: Wait>(rt: &R, alloc: Global) -> Result<Option<Adder>, Fail> {
+    let (hall, mut seat) = opened(alloc, 3)?;
+    let is_so = fills(rt, &hall, &mut seat);
+    let adder = closed(rt, hall, seat);
+    Ok(is_so.then_some(adder))
+}
+
+/// The adder has the three entries of these requests, all of caller 0.
+fn has_three(adder: &Adder) -> bool {
+    match adder.entries.as_slice() {
+        [one, two, three] => {
+            adder.sum == 18
+                && (one.caller, one.request) == (0, 5)
+                && (two.caller, two.request) == (0, 6)
+                && (three.caller, three.request) == (0, 7)
+        }
+        _ => false,
+    }
+}
+
 #[test]
 fn adds_until_it_is_full(rt: HostRuntime) -> Result<(), Fail> {
-    let adder = Adder::new(rt.alloc(), 3)?;
-    let (hall, mut seat) = Hall::new(rt.alloc(), adder).ok().ok_or("memory")?;
-    let mut reply = 9;
-    for (request, number, before) in [(5, 0, 0), (6, 1, 5), (7, 2, 11)] {
-        let done = hall.act(&rt, &mut seat, request, &mut reply);
-        assert_eq!(rt; done.ok().ok_or("full")?.number, number);
-        assert_eq!(rt; reply, before);
+    match filled(&rt, rt.alloc())? {
+        Some(adder) => assert!(rt; has_three(&adder)),
+        None => return Err(Fail::from("a call goes otherwise")),
     }
-    let full = hall.act(&rt, &mut seat, 8, &mut reply).err().ok_or("room")?;
-    assert_eq!(rt; (full.request, full.len, reply), (8, 3, 11));
-    let adder = hall.close(&rt, seat);
-    assert_eq!(rt; adder.sum, 18);
-    for (entry, request) in adder.entries.iter().zip([5, 6, 7]) {
-        assert_eq!(rt; (entry.caller, entry.request), (0, request));
-    }
-    assert_eq!(rt; adder.entries.len(), 3);
     Ok(())
 }
 
-fn add_ones<R: Wait>(rt: &R, hall: &Hall<Slow>, mut seat: Seat<Slow>, calls: u32) -> Seat<Slow>
-    requires { IsOf hall.now seat }
-    ensures { IsOf hall.entry.now result }
+/// Adds 1 so often.
+fn add_ones<R: Wait>(rt: &R, hall: &Hall<Slow>, seat: &mut Seat<Slow>, calls: u32)
+    requires { IsOf hall.now seat.old }
+    ensures { IsOf hall.now seat.new }
 {
     let mut reply = 0;
     for _ in 0..calls {
-        drop(hall.act(rt, &mut seat, 1, &mut reply));
+        let _ = call(rt, hall, seat, 1, &mut reply);
     }
-    seat
 }
 
-// How many entries a caller has.
-fn calls_of(adder: &Adder, caller: u32) -> usize {
-    adder.entries.iter().filter(|e| e.caller == caller).count()
+/// How many entries a caller has.
+fn calls_of(adder: &Adder, caller: u32) -> u32 {
+    let mut count = 0u32;
+    for entry in adder.entries.as_slice() {
+        if entry.caller == caller {
+            count = count.saturating_add(1);
+        }
+    }
+    count
+}
+
+/// The adder has so many entries of one each, and each caller from the first up to the end has so many of them.
+fn has_ones(adder: &Adder, entries: u64, callers: (u32, u32), calls: u32) -> bool {
+    let (first, end) = callers;
+    for caller in first..end {
+        if calls_of(adder, caller) != calls {
+            return false;
+        }
+    }
+    adder.entries.len() as u64 == entries && adder.sum == entries
+}
+
+/// The seats make 100 calls each, in two threads.
+fn add_in_two<R: Threads + Wait + Sync>(
+    rt: &R,
+    hall: &Hall<Slow>,
+    one: &mut Seat<Slow>,
+    two: &mut Seat<Slow>,
+)
+    requires one { IsOf hall.now one.old }
+    requires two { IsOf hall.now two.old }
+    ensures one { IsOf hall.now one.new }
+    ensures two { IsOf hall.now two.new }
+{
+    let mut first = ||
+        requires { IsOf hall.now one.now }
+        ensures { IsOf hall.entry.now one.exit.now }
+    { add_ones(rt, hall, one, 100) };
+    let mut second = ||
+        requires { IsOf hall.now two.now }
+        ensures { IsOf hall.entry.now two.exit.now }
+    { add_ones(rt, hall, two, 100) };
+    join_mut(rt, &mut first, &mut second);
+}
+
+/// The caller of the seat that two others came to, and the adder.
+fn added_by_two<R: Threads + Wait + Sync>(rt: &R, alloc: Global) -> Result<(u32, Adder), Fail> {
+    let (hall, mut one) = opened(alloc, 1000)?;
+    let mut two = hall.split(&mut one);
+    add_in_two(rt, &hall, &mut one, &mut two);
+    let both = hall.meet(one, two);
+    let caller = both.caller();
+    Ok((caller, closed(rt, hall, both)))
 }
 
 #[test]
 fn two_threads_make_one_history(rt: HostRuntime) -> Result<(), Fail> {
-    let slow = Slow {
-        adder: Adder::new(rt.alloc(), 1000)?,
-    };
-    let (hall, mut one) = Hall::new(rt.alloc(), slow).ok().ok_or("memory")?;
-    let two = hall.split(&mut one);
-    let (one, two) = join(
-        &rt,
-        || -> Seat<Slow>
-            requires { IsOf hall one }
-            ensures { IsOf hall result }
-        { add_ones(&rt, &hall, one, 100) },
-        || -> Seat<Slow>
-            requires { IsOf hall two }
-            ensures { IsOf hall result }
-        { add_ones(&rt, &hall, two, 100) },
-    );
-    let both = hall.meet(one, two);
-    assert_eq!(rt; both.caller(), 0);
-    let Slow { adder } = hall.close(&rt, both);
-    assert_eq!(rt; adder.entries.len(), 200);
-    for caller in [0, 1] {
-        assert_eq!(rt; calls_of(&adder, caller), 100);
-    }
-    assert_eq!(rt; adder.sum, 200);
+    let (caller, adder) = added_by_two(&rt, rt.alloc())?;
+    assert!(rt; caller == 0);
+    assert!(rt; has_ones(&adder, 200, (0, 2), 100));
     Ok(())
 }
 
-fn start<'s, E, R: Threads + Wait + Sync>(
-    rt: &'s R,
-    scope: &'s Scope<'s, E>,
-    hall: &'s Hall<Slow>,
-    own: Seat<Slow>,
-    calls: u32,
-)
-    requires { IsOf hall.now own }
-{
-    let job = move ||
-        requires { IsOf hall.now own }
-    { drop(add_ones(rt, hall, own, calls)) };
-    if let Err(refused) = scope.spawn(job) {
-        (refused.value)();
-    }
+/// A seat at a hall.
+#[derive(Drop)]
+struct Place<'a> {
+    hall: &'a Hall<Slow>,
+    seat: Seat<Slow>,
+    ghost of: { IsOf hall.now seat },
 }
 
-// So many seats beside the first, each with so many calls in a thread of its own.
-fn add_in_many<'s, E, R: Threads + Wait + Sync>(
-    rt: &'s R,
-    scope: &'s Scope<'s, E>,
-    hall: &'s Hall<Slow>,
-    mut seat: Seat<Slow>,
+/// So many seats beside the first.
+fn places<'a>(
+    alloc: Global,
+    hall: &'a Hall<Slow>,
+    seat: &mut Seat<Slow>,
     seats: u32,
-    calls: u32,
-) -> Seat<Slow>
-    requires seat { IsOf hall.now seat × (next seat ≡ Some 1) }
-    requires few { seats < most }
-    ensures { IsOf hall.entry.now result }
+) -> Result<Vec<Place<'a>>, Fail>
+    requires seat { IsOf hall.now seat.old × (next seat.old ≡ Some 1) }
+    requires few { seats ≤ 1000 }
+    ensures { IsOf hall.now seat.new }
 {
+    let mut places = Vec::new(alloc);
     for _ in 0..seats {
-        let own = hall.split(&mut seat);
-        start(rt, scope, hall, own, calls);
+        let seat = hall.split(seat);
+        places.push(Place { hall, seat })?;
     }
-    seat
+    Ok(places)
 }
 
-// The machine once all have made their calls.
+/// Each of so many seats beside the first makes so many calls, in a thread of its own.
+fn add_in_many<R: Threads + Wait + Sync>(
+    rt: &R,
+    alloc: Global,
+    hall: &Hall<Slow>,
+    seat: &mut Seat<Slow>,
+    row: (u32, u32),
+) -> Result<(), Fail>
+    requires { IsOf hall.now seat.old × (next seat.old ≡ Some 1) }
+    ensures { IsOf hall.now seat.new }
+{
+    let (seats, calls) = row;
+    let mut places = places(alloc, hall, seat, seats.min(1000))?;
+    for_each_mut(
+        rt,
+        places.as_mut_slice(),
+        1000,
+        &|_, place: &mut Place<'_>| add_ones(rt, place.hall, &mut place.seat, calls),
+    );
+    Ok(())
+}
+
+/// The adder of so many entries once all have made their calls.
 fn added_by<R: Threads + Wait + Sync>(
     rt: &R,
     alloc: Global,
-    seats: u32,
-    calls: u32,
-) -> Result<Adder, Fail>
-    requires { (seats < most) × (seats * calls < 2 ^ 32) }
-{
-    let slow = Slow {
-        adder: Adder::new(alloc, (seats * calls) as usize)?,
-    };
-    let (hall, seat) = Hall::new(alloc, slow).ok().ok_or("memory")?;
-    let shared = &hall;
-    let seat = scope(
-        scope_env(),
-        rt,
-        |scope| -> Seat<Slow>
-            requires { IsOf shared.now seat × (next seat ≡ Some 1) × (seats < most) }
-            ensures { IsOf shared.entry.now result }
-        { add_in_many(rt, scope, shared, seat, seats, calls) },
-    );
-    let Slow { adder } = hall.close(rt, seat);
-    Ok(adder)
+    entries: u64,
+    row: (u32, u32),
+) -> Result<Adder, Fail> {
+    let (hall, mut seat) = opened(alloc, entries as usize)?;
+    let added = add_in_many(rt, alloc, &hall, &mut seat, row);
+    let adder = closed(rt, hall, seat);
+    match added {
+        Ok(()) => Ok(adder),
+        Err(fail) => Err(fail),
+    }
+}
+
+/// So many seats beside the first make so many calls each, and there are so many entries.
+fn are_added<R: Threads + Wait + Sync>(
+    rt: &R,
+    alloc: Global,
+    entries: u64,
+    row: (u32, u32),
+) -> Result<bool, Fail> {
+    let adder = added_by(rt, alloc, entries, row)?;
+    let (seats, calls) = row;
+    Ok(has_ones(&adder, entries, (1, seats.saturating_add(1)), calls))
 }
 
 #[test]
 fn a_hundred_seats_share_bells_and_a_door(rt: HostRuntime) -> Result<(), Fail> {
-    let adder = added_by(&rt, rt.alloc(), 100, 20)?;
-    assert_eq!(rt; (adder.entries.len(), adder.sum), (2000, 2000));
-    for caller in 1..101 {
-        assert_eq!(rt; calls_of(&adder, caller), 20);
-    }
+    assert!(rt; are_added(&rt, rt.alloc(), 2_000, (100, 20))?);
     Ok(())
 }
 
 #[test]
 fn many_threads_wait_for_one_another(rt: HostRuntime) -> Result<(), Fail> {
-    let adder = added_by(&rt, rt.alloc(), 64, 200)?;
-    assert_eq!(rt; (adder.entries.len(), adder.sum), (12_800, 12_800));
-    for caller in 1..65 {
-        assert_eq!(rt; calls_of(&adder, caller), 200);
-    }
+    assert!(rt; are_added(&rt, rt.alloc(), 12_800, (64, 200))?);
     Ok(())
 }

@@ -1,0 +1,93 @@
+// What is printed of results that no run of the tool has: the greatest number of a line, codes that no job ends with,
+// and jobs that come off without octets.
+ghost use Rattle.std.specs.Prelude.{◌≡◌, true};
+ghost use Rattle.s7_script.specs.Printing.{IsPrintable};
+
+use crate::asks::job_of;
+use crate::words::octets_of;
+use s7_client::{Job, JobResult};
+use s7_outer::Octets;
+use s7_script::print_result;
+use std::alloc::Global;
+use std::test::Fail;
+
+/// The line, the code, the job, its octets, and what is printed.
+type Row = (u32, u32, &'static str, &'static str, &'static str);
+
+/// The results.
+const PRINTED: &[Row] = &[
+    (
+        4_294_967_295,
+        0,
+        "read 84.1.02.4.0",
+        "11223aff",
+        "4294967295 read 00000000 11223aff\n",
+    ),
+    (12, 0, "read 84.1.02.4.0", "", "12 read 00000000 -\n"),
+    (
+        10,
+        0x0000_000A,
+        "write 84.1.02.1.0 = 09",
+        "",
+        "10 write 0000000A -\n",
+    ),
+    (
+        4,
+        0xFEDC_BA98,
+        "disconnect",
+        "",
+        "4 disconnect FEDCBA98 -\n",
+    ),
+    (5, 0, "szl 0011 0", "", "5 szl 00000000 -\n"),
+    (9, 1, "clock", "", "9 clock 00000001 -\n"),
+    (9, 1, "status", "", "9 status 00000001 -\n"),
+];
+
+/// There are no return codes, and the job is one whose octets are printed as they are, or didn't come off.
+fn is_printable(done: &JobResult) -> bool
+    ensures { result ≡ true → IsPrintable done.now }
+{
+    if done.count != 0 {
+        return false;
+    }
+    match &done.job {
+        Job::ReadArea { .. } | Job::Szl { .. } => true,
+        _ => done.code != 0,
+    }
+}
+
+/// What came of the job of a row.
+fn done(alloc: Global, row: &Row) -> Option<JobResult> {
+    let (_, code, job, octets, _) = *row;
+    let octets = Octets::of_vec(octets_of(alloc, octets)?);
+    let job = job_of(alloc, job)?;
+    Some(JobResult {
+        job,
+        code,
+        octets,
+        codes: [0; 20],
+        count: 0,
+        carried: Octets::of_vec(Vec::new(alloc)),
+    })
+}
+
+/// The line of a row is printed.
+fn prints(alloc: Global, row: &Row) -> Option<bool> {
+    let (line, _, _, _, text) = *row;
+    let done = done(alloc, row)?;
+    if !is_printable(&done) {
+        return None;
+    }
+    let printed = print_result(alloc, line, &done).ok()?;
+    Some(printed.as_slice() == text.as_bytes())
+}
+
+#[test]
+fn results_are_printed(rt: HostRuntime) -> Result<(), Fail> {
+    for row in PRINTED {
+        if !prints(rt.alloc(), row).unwrap_or(false) {
+            return Err(Fail::new(row.4));
+        }
+    }
+    Ok(())
+}

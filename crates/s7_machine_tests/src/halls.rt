@@ -1,0 +1,139 @@
+// Links that are served in one hall, one after another.
+ghost use Rattle.std.specs.Prelude.{◌≡◌, [], ◌∷◌, Some, IfOk};
+ghost use Rattle.s7_turn.specs.Histories.{calls};
+ghost use Rattle.s7_turn.specs.Seats.{IsOf, caller, callers, next, seen};
+
+use crate::books::{a_book, a_link, is_answered};
+use s7_listener::{Keeper, Served, serve_link};
+use s7_memory::MemoryLink;
+use s7_outer::{Memory, OpenGate};
+use s7_plant::{Book, Tail};
+use s7_turn::{Hall, Seat};
+use std::alloc::Global;
+use std::sync::Wait;
+use std::test::Fail;
+use std::time::Clock;
+
+// A hall with a book that takes two entries, and its first seat.
+fn a_hall(alloc: Global) -> Result<(Hall<Book<Tail>>, Seat<Book<Tail>>), Memory>
+    ensures hall { IfOk result (λ r. IsOf r.0 r.1) }
+    ensures number { IfOk result (λ r. next r.1 ≡ Some 1) }
+{
+    let book = a_book(alloc, 2)?;
+    match Hall::new(alloc, book) {
+        Ok(opened) => Ok(opened),
+        Err((memory, _)) => Err(memory),
+    }
+}
+
+// Serves a link in the name of a new seat.
+fn serve<R: Wait + Clock>(
+    rt: &R,
+    alloc: Global,
+    hall: &Hall<Book<Tail>>,
+    seat: Seat<Book<Tail>>,
+    line: MemoryLink,
+) -> (Seat<Book<Tail>>, Served<MemoryLink>)
+    requires hall { IsOf hall.now seat }
+    requires alone { callers seat ≡ caller seat ∷ [] }
+    requires new { calls (caller seat) (seen seat) ≡ [] }
+    ensures { IsOf hall.entry.now result.0 }
+{
+    serve_link(rt, alloc, hall, seat, &OpenGate, None, line)
+}
+
+// Two links are served, the seats of which were split off before.
+fn both_served<R: Wait + Clock>(
+    rt: &R,
+    alloc: Global,
+    hall: &Hall<Book<Tail>>,
+    first: Seat<Book<Tail>>,
+    lines: (MemoryLink, MemoryLink),
+) -> (Seat<Book<Tail>>, (Served<MemoryLink>, Served<MemoryLink>))
+    requires hall { IsOf hall.now first }
+    requires number { next first ≡ Some 1 }
+    ensures { IsOf hall.entry.now result.0 }
+{
+    let (one, two) = lines;
+    let mut first = first;
+    let writer = hall.split(&mut first);
+    let reader = hall.split(&mut first);
+    let (writer, written) = serve(rt, alloc, hall, writer, one);
+    let (reader, read) = serve(rt, alloc, hall, reader, two);
+    let all = hall.meet(hall.meet(first, writer), reader);
+    (all, (written, read))
+}
+
+/// What two links leave that are served one after another, and the book behind them.
+#[derive(Drop)]
+struct Left {
+    written: Served<MemoryLink>,
+    read: Served<MemoryLink>,
+    book: Book<Tail>,
+}
+
+// Serves two links one after another, and closes the hall behind them.
+fn served<R: Wait + Clock>(
+    rt: &R,
+    alloc: Global,
+    lines: (MemoryLink, MemoryLink),
+) -> Result<Left, Memory> {
+    let (hall, first) = a_hall(alloc)?;
+    let (all, (written, read)) = both_served(rt, alloc, &hall, first, lines);
+    let book = hall.close(rt, all);
+    Ok(Left {
+        written,
+        read,
+        book,
+    })
+}
+
+// The link has this number, was answered so, and made one entry, of the other number.
+fn is_so(
+    alloc: Global,
+    served: &Served<MemoryLink>,
+    answers: &str,
+    link: u32,
+    entry: u64,
+) -> Result<bool, Fail> {
+    Ok(
+        served.link == link
+            && served.last == Some(entry)
+            && is_answered(alloc, served, &served.line, answers, 1)?,
+    )
+}
+
+// The book has an entry of link 1 and then one of link 2.
+fn has_both(book: &Book<Tail>) -> bool {
+    match book.journal.as_slice() {
+        [one, two] => one.link == 1 && two.link == 2 && Keeper::entries(book) == 2,
+        _ => false,
+    }
+}
+
+// A writer and a reader.
+fn lines(alloc: Global) -> Result<(MemoryLink, MemoryLink), Fail> {
+    let writer = a_link(alloc, "OPEN WRITE")?;
+    Ok((writer, a_link(alloc, "OPEN READ READ")?))
+}
+
+// Both were answered, and the book has what they entered.
+fn are_answered(alloc: Global, left: &Left) -> Result<bool, Fail> {
+    Ok(
+        is_so(alloc, &left.written, "OPENED WRITTEN", 1, 0)?
+            && is_so(alloc, &left.read, "OPENED ANSWER_AFTER_WRITE NO_ROOM", 2, 1)?
+            && has_both(&left.book),
+    )
+}
+
+// A writer and then a reader are answered.
+fn answer_one_another<R: Wait + Clock>(rt: &R, alloc: Global) -> Result<bool, Fail> {
+    let left = served(rt, alloc, lines(alloc)?)?;
+    are_answered(alloc, &left)
+}
+
+#[test]
+fn links_are_answered_by_what_others_left(rt: HostRuntime) -> Result<(), Fail> {
+    assert!(rt; answer_one_another(&rt, rt.alloc())?);
+    Ok(())
+}
