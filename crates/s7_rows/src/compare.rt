@@ -1,159 +1,153 @@
 // What came is compared with what a row states, and differences are noted.
-use crate::objects::{meant, path_of};
-use crate::octets::{octets_of, plain_octets};
+use crate::octets::{add_items, plain_octets};
+use crate::parts::{cut, number};
 use crate::row::Row;
-use crate::texts::{path_text, text_of};
-use crate::way::Way;
-use anyhow::{Context, Result};
-use s7_memory::MemoryFiles;
-use std::alloc::Global;
+use crate::texts::{digits_of, hex_of, text_of};
+use crate::wrong::Wrong;
 
-/// Notes a difference of octets, where there is one.
-pub fn compare_octets(
-    alloc: Global,
-    what: &str,
-    wanted: &[u8],
-    came: &[u8],
-    differences: &mut String,
-) -> Result<()> {
-    if wanted != came {
-        let wanted = hex::encode(alloc, wanted)?;
-        let came = hex::encode(alloc, came)?;
-        note(alloc, what, wanted.as_str(), came.as_str(), differences)?;
+/// Notes what was wanted and what came.
+pub fn note(what: &str, wanted: &str, came: &str, differences: &mut String) -> Result<(), Wrong> {
+    for part in [
+        "  ",
+        what,
+        "\n    wanted ",
+        wanted,
+        "\n    came   ",
+        came,
+        "\n",
+    ] {
+        differences.push_str(part)?;
     }
     Ok(())
 }
 
 /// Notes a difference of numbers, where there is one.
 pub fn compare_numbers(
-    alloc: Global,
     what: &str,
     wanted: u64,
     came: u64,
     differences: &mut String,
-) -> Result<()> {
-    if wanted != came {
-        let wanted = format!(in alloc; "{wanted}")?;
-        let came = format!(in alloc; "{came}")?;
-        note(alloc, what, wanted.as_str(), came.as_str(), differences)?;
+) -> Result<(), Wrong> {
+    if wanted == came {
+        return Ok(());
     }
-    Ok(())
+    let alloc = *differences.allocator();
+    let wanted = digits_of(alloc, wanted)?;
+    let came = digits_of(alloc, came)?;
+    note(what, wanted.as_str(), came.as_str(), differences)
 }
 
-/// Notes what was wanted and what came.
-pub fn note(
-    alloc: Global,
-    what: &str,
-    wanted: &str,
+/// Notes a difference of a number from what the row states, where it states one.
+pub fn compare_count(
+    row: &Row<'_>,
+    link: u64,
+    word: &str,
+    came: u64,
+    differences: &mut String,
+) -> Result<(), Wrong> {
+    let wanted = row.number_or(link, word, came)?;
+    compare_numbers(word, wanted, came, differences)
+}
+
+/// Notes a difference of a line of text from what the row states, where it states one.
+pub fn compare_line(
+    row: &Row<'_>,
+    link: u64,
+    word: &str,
     came: &str,
     differences: &mut String,
-) -> Result<()> {
-    let text = format!(in alloc; "  {what}\n    wanted {wanted}\n    came   {came}\n")?;
-    differences.push_str(text.as_str())?;
-    Ok(())
+) -> Result<(), Wrong> {
+    let wanted = row.value(link, word).unwrap_or(came);
+    if wanted == came {
+        return Ok(());
+    }
+    note(word, wanted, came, differences)
+}
+
+/// Notes a difference of octets, where there is one.
+pub fn compare_octets(
+    what: &str,
+    wanted: &[u8],
+    came: &[u8],
+    differences: &mut String,
+) -> Result<(), Wrong> {
+    if wanted == came {
+        return Ok(());
+    }
+    let alloc = *differences.allocator();
+    let wanted = hex_of(alloc, wanted)?;
+    let came = hex_of(alloc, came)?;
+    note(what, wanted.as_str(), came.as_str(), differences)
 }
 
 /// Notes a difference of texts, where there is one.
 pub fn compare_texts(
-    alloc: Global,
     what: &str,
     wanted: &str,
     came: &[u8],
     differences: &mut String,
-) -> Result<()> {
-    if wanted.as_bytes() != came {
-        let came = String::from_utf8_lossy(alloc, came)?;
-        let wanted = format!(in alloc; "{wanted:?}")?;
-        let came = format!(in alloc; "{came:?}")?;
-        note(alloc, what, wanted.as_str(), came.as_str(), differences)?;
+) -> Result<(), Wrong> {
+    if wanted.as_bytes() == came {
+        return Ok(());
     }
-    Ok(())
+    let alloc = *differences.allocator();
+    let came = String::from_utf8_lossy(alloc, came)?;
+    note(what, wanted, came.as_str(), differences)
 }
 
 /// Notes a difference of what was printed from what the word states.
 pub fn compare_printed(
-    alloc: Global,
     row: &Row<'_>,
-    way: &Way,
+    first: u64,
     word: &str,
     came: &[u8],
     differences: &mut String,
-) -> Result<()> {
-    match text_of(alloc, row, way, word)? {
-        Some(wanted) => compare_texts(alloc, word, wanted.as_str(), came, differences),
-        None => Ok(()),
+) -> Result<(), Wrong> {
+    if row.value(0, word).is_none() {
+        return Ok(());
     }
+    let wanted = text_of(row, first, word)?;
+    compare_texts(word, wanted.as_str(), came, differences)
 }
 
 /// Notes differences of what was written on a link from what the row states for it. A word `wrote` says that only so
 /// many of the octets stated were written.
 pub fn compare_written(
-    alloc: Global,
     row: &Row<'_>,
-    link: u32,
+    link: u64,
     came: &[u8],
     differences: &mut String,
-) -> Result<()> {
+) -> Result<(), Wrong> {
     let Some(items) = row.value(link, "out") else {
         return Ok(());
     };
-    let mut wanted = octets_of(alloc, row.file.names.as_slice(), items)?;
-    if let Some(count) = row.number(link, "wrote")? {
-        wanted.truncate(count as usize);
-    }
+    let mut wanted = Vec::new(row.alloc);
+    add_items(&row.scope, items, &mut wanted)?;
+    wanted.truncate(row.number_or(link, "wrote", u64::MAX)? as usize);
     let skipped = row.number_or(link, "after", 0)? as usize;
     let came = came.get(skipped..).unwrap_or(&[]);
-    let what = format!(in alloc; "out of link {link}")?;
-    compare_octets(alloc, what.as_str(), wanted.as_slice(), came, differences)
+    let mut what = digits_of(row.alloc, link)?;
+    what.push_str(" out")?;
+    compare_octets(what.as_str(), wanted.as_slice(), came, differences)
 }
 
-/// Notes differences of the files that are left from what the row states.
-pub fn compare_files(
-    alloc: Global,
-    row: &Row<'_>,
-    way: &Way,
-    files: &MemoryFiles,
-    differences: &mut String,
-) -> Result<()> {
-    for line in row.source(0, "left") {
-        if line.is(0, "left") {
-            let path = path_of(line.value.as_str());
-            let wanted = path_text(alloc, row, way, "left", path)?;
-            let came = files.get(meant(path)).unwrap_or(b"");
-            compare_texts(
-                alloc,
-                line.value.as_str(),
-                wanted.as_str(),
-                came,
-                differences,
-            )?;
-        }
+/// The number of a data block and the item of its octets, which the value of a line `block` states.
+pub fn block_of(value: &str) -> Result<(u16, &str), Wrong> {
+    let (name, item) = cut(value);
+    match name.strip_prefix("DB") {
+        Some(digits) => Ok((number(digits)?.min(0xFFFF) as u16, item)),
+        None => Err(Wrong::Block),
     }
-    compare_absent(alloc, row, files, differences)
 }
 
-fn compare_absent(
-    alloc: Global,
+/// Notes a difference of octets from those of an item.
+pub fn compare_item(
     row: &Row<'_>,
-    files: &MemoryFiles,
+    what: &str,
+    item: &str,
+    came: &[u8],
     differences: &mut String,
-) -> Result<()> {
-    for line in row.source(0, "absent") {
-        if line.is(0, "absent") && files.get(meant(line.value.as_str())).is_some() {
-            note(alloc, "absent", "no file", line.value.as_str(), differences)?;
-        }
-    }
-    Ok(())
-}
-
-/// The number and the octets of a data block that a line `block` states.
-pub fn block_of(alloc: Global, row: &Row<'_>, value: &str) -> Result<(u16, Vec<u8>)> {
-    let (name, item) = value
-        .split_once(' ')
-        .context(format_args!("block {value}"))?;
-    let number = name
-        .strip_prefix("DB")
-        .context(format_args!("block {value}"))?;
-    let octets = plain_octets(alloc, row.file.names.as_slice(), item)?;
-    Ok((number.parse::<u16>()?, octets))
+) -> Result<(), Wrong> {
+    let wanted = plain_octets(row.alloc, &row.scope, item)?;
+    compare_octets(what, wanted.as_slice(), came, differences)
 }

@@ -1,24 +1,24 @@
-//! Runs the rows of files through `server_main` over objects in memory, and prints what differs from what the rows
-//! state. `docs/ROWS.md` describes the language of the rows.
+//! Runs the rows of files through `server_main` and `tool_main` over objects in memory, and prints what differs from
+//! what the rows state. `docs/ROWS.md` describes the language of the rows.
 #![tactic(auto)]
 
+mod book;
 mod compare;
 mod file;
-mod line;
 mod objects;
-mod observers;
 mod octets;
+mod parts;
 mod row;
 mod server;
 mod texts;
 mod tool;
 mod tool_compare;
 mod tool_dial;
-mod tool_lines;
 mod way;
+mod wrong;
 
-use anyhow::{Context, Result};
-use file::RowFile;
+use file::{Name, joined, names_of};
+use octets::Scope;
 use row::Row;
 use std::alloc::Global;
 use std::process::ExitCode;
@@ -27,6 +27,7 @@ use std::sync::Wait;
 use std::thread::Threads;
 use std::time::Clock;
 use std::{env, fs};
+use wrong::Wrong;
 
 /// How many rows were run, and how many of them differ from what they state.
 #[derive(Clone, Copy)]
@@ -35,11 +36,24 @@ struct Tally {
     differing: u64,
 }
 
+/// A file of rows: its path, the names of octets in it, and whether its rows run the tool.
+#[derive(Clone, Copy)]
+struct RowFile<'a> {
+    alloc: Global,
+    path: &'a str,
+    names: &'a [Name<'a>],
+    is_tool: bool,
+}
+
 fn main(rt: HostRuntime) -> ExitCode {
-    match run(&rt) {
-        Ok(tally) => report(&rt, tally),
-        Err(error) => {
-            let _ = rt.println(format_args!("{error:#}"));
+    let mut tally = Tally {
+        rows: 0,
+        differing: 0,
+    };
+    match run(&rt, &mut tally) {
+        Ok(()) => report(&rt, tally),
+        Err(wrong) => {
+            let _ = rt.println(format_args!("{}", wrong.text()));
             ExitCode::from(2)
         }
     }
@@ -61,65 +75,123 @@ fn report<R: Print>(rt: &R, tally: Tally) -> ExitCode {
 }
 
 /// Runs the rows of each file that the command line names.
-fn run<R>(rt: &R) -> Result<Tally>
-where
-    R: Print + Files + Env + AllocGlobal + Threads + Wait + Clock + Sync,
-{
-    let mut tally = Tally {
-        rows: 0,
-        differing: 0,
+fn run<R: Print + Files + Env + AllocGlobal + Threads + Wait + Clock + Sync>(
+    rt: &R,
+    tally: &mut Tally,
+) -> Result<(), Wrong> {
+    let Ok(paths) = env::args(rt) else {
+        return Err(Wrong::File);
     };
-    for path in env::args(rt)?.skip(1) {
-        run_file(rt, path.as_str(), &mut tally)?;
-    }
-    Ok(tally)
-}
-
-/// Runs the rows of one file.
-fn run_file<R>(rt: &R, path: &str, tally: &mut Tally) -> Result<()>
-where
-    R: Print + Files + AllocGlobal + Threads + Wait + Clock + Sync,
-{
-    let text = fs::read_to_string(rt, path).context(format_args!("reading {path}"))?;
-    let file = RowFile::read(rt.alloc(), text.as_str()).context(format_args!("reading {path}"))?;
-    for table in file.tables.iter() {
-        for row in table.rows.iter() {
-            let row = Row {
-                file: &file,
-                table: table.lines.as_slice(),
-                lines: row.lines.as_slice(),
-                title: row.title.as_str(),
-            };
-            run_row(rt, path, &row, tally)?;
-        }
+    for path in paths.skip(1) {
+        run_file(rt, path.as_str(), tally)?;
     }
     Ok(())
 }
 
+/// Runs the rows of one file.
+fn run_file<R: Print + Files + AllocGlobal + Threads + Wait + Clock + Sync>(
+    rt: &R,
+    path: &str,
+    tally: &mut Tally,
+) -> Result<(), Wrong> {
+    let Ok(text) = fs::read_to_string(rt, path) else {
+        return unread(rt, path, Wrong::File);
+    };
+    match run_text(rt, rt.alloc(), path, text.as_str(), tally) {
+        Ok(()) => Ok(()),
+        Err(wrong) => unread(rt, path, wrong),
+    }
+}
+
+/// Says which file, or which row, can't be run.
+fn unread<R: Print>(rt: &R, what: &str, wrong: Wrong) -> Result<(), Wrong> {
+    let _ = rt.println(format_args!("can't be run: {what}"));
+    Err(wrong)
+}
+
+fn run_text<R: Print + Threads + Wait + Clock + Sync>(
+    rt: &R,
+    alloc: Global,
+    path: &str,
+    text: &str,
+    tally: &mut Tally,
+) -> Result<(), Wrong> {
+    let lines = joined(alloc, text)?;
+    let names = names_of(alloc, lines.as_str())?;
+    let file = RowFile {
+        alloc,
+        path,
+        names: names.as_slice(),
+        is_tool: lines.contains("\nprogram s7tool"),
+    };
+    for table in lines.split("\ntable") {
+        run_table(rt, &file, table, tally)?;
+    }
+    Ok(())
+}
+
+/// Runs the rows of a table, which stand behind the lines that they share.
+fn run_table<'a, R: Print + Threads + Wait + Clock + Sync>(
+    rt: &R,
+    file: &RowFile<'a>,
+    table: &'a str,
+    tally: &mut Tally,
+) -> Result<(), Wrong> {
+    let Some((shared, rows)) = table.split_once("\nrow") else {
+        return Ok(());
+    };
+    for own in rows.split("\nrow") {
+        let row = row_of(file, shared, own);
+        run_row(rt, file, &row, tally)?;
+    }
+    Ok(())
+}
+
+fn row_of<'a>(file: &RowFile<'a>, table: &'a str, own: &'a str) -> Row<'a> {
+    let (title, _) = own.split_once('\n').unwrap_or((own, ""));
+    let scope = Scope {
+        names: file.names,
+        with: "",
+        jobs: 1,
+    };
+    Row {
+        alloc: file.alloc,
+        scope,
+        table,
+        own,
+        title: title.trim(),
+    }
+}
+
 /// Runs one row, and prints what differs.
-fn run_row<R>(rt: &R, path: &str, row: &Row<'_>, tally: &mut Tally) -> Result<()>
-where
-    R: Print + AllocGlobal + Threads + Wait + Clock + Sync,
-{
-    let alloc = rt.alloc();
-    let title = row.title;
-    let mut differences = String::new(alloc);
+fn run_row<R: Print + Threads + Wait + Clock + Sync>(
+    rt: &R,
+    file: &RowFile<'_>,
+    row: &Row<'_>,
+    tally: &mut Tally,
+) -> Result<(), Wrong> {
+    let (path, title) = (file.path, row.title);
+    let mut differences = String::new(row.alloc);
     tally.rows = tally.rows.saturating_add(1);
-    play(rt, alloc, row, &mut differences).context(format_args!("{path}: {title}"))?;
+    if let Err(wrong) = play(rt, file.is_tool, row, &mut differences) {
+        return unread(rt, title, wrong);
+    }
     if !differences.is_empty() {
         tally.differing = tally.differing.saturating_add(1);
-        println!(rt; "{path}: {title}\n{differences}")?;
+        let _ = rt.println(format_args!("{path}: {title}\n{differences}"));
     }
     Ok(())
 }
 
 /// Runs one row by the program that its file names, and notes what differs.
-fn play<R>(rt: &R, alloc: Global, row: &Row<'_>, differences: &mut String) -> Result<()>
-where
-    R: Threads + Wait + Clock + Sync,
-{
-    if row.file.is_tool {
-        return tool::play(alloc, row, differences);
+fn play<R: Threads + Wait + Clock + Sync>(
+    rt: &R,
+    is_tool: bool,
+    row: &Row<'_>,
+    differences: &mut String,
+) -> Result<(), Wrong> {
+    if is_tool {
+        return tool::play(row, differences);
     }
-    server::play(rt, alloc, row, differences)
+    server::play(rt, row, differences)
 }

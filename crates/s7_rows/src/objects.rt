@@ -1,11 +1,13 @@
 // The links, the door, the files and the output of a row.
-use crate::octets::octets_of;
+use crate::compare::{compare_texts, note};
+use crate::octets::add_items;
+use crate::parts::cut;
 use crate::row::Row;
 use crate::texts::path_text;
 use crate::way::{Way, fates_of};
-use anyhow::{Context, Result, anyhow};
-use s7_memory::{FailingLink, HoldGate, MemoryDoor, MemoryFiles, MemoryLink, MemoryOut};
-use s7_outer::{Memory, Octets};
+use crate::wrong::Wrong;
+use s7_memory::{FailingLink, Fate, MemoryDoor, MemoryFiles, MemoryLink, MemoryOut};
+use s7_outer::Octets;
 use std::alloc::Global;
 
 /// A link of a row.
@@ -17,109 +19,174 @@ const ROOM: u64 = 65_536;
 /// The moment of each link's clock: 2024-02-29, a Thursday, at 13:45:30.123.
 const MOMENT: u64 = 1_709_214_330_123;
 
-/// How often a link that is held looks for the other one.
-const LOOKS: u64 = 1_000_000_000;
-
-/// The error where memory was wanting.
-pub fn no_memory(_: Memory) -> anyhow::Error {
-    anyhow!("no memory")
-}
-
-/// What comes on a link, as far as the way gives it.
-fn input_of(alloc: Global, row: &Row<'_>, way: &Way, link: u32) -> Result<Vec<u8>> {
-    let mut input = match row.value(link, "in") {
-        Some(items) => octets_of(alloc, row.file.names.as_slice(), items)?,
-        None => Vec::new(alloc),
-    };
-    input.truncate(way.first);
-    Ok(input)
+/// What a link has: what comes on it, how many octets a call moves, its room, the moment of its clock, and the fates of
+/// its calls.
+#[derive(Drop)]
+struct Wire {
+    input: Vec<u8>,
+    most: u64,
+    room: u64,
+    moment: u64,
+    fates: Vec<Fate>,
 }
 
 /// The link of this number.
-pub fn link_of(alloc: Global, row: &Row<'_>, way: &Way, link: u32) -> Result<RowLink> {
-    let input = Octets::of_vec(input_of(alloc, row, way, link)?);
-    let space = row.number_or(link, "space", ROOM)? as usize;
-    let moment = row.number_or(link, "moment", MOMENT)?;
-    let inner = MemoryLink::new(alloc, input, way.most.max(1), space, moment);
-    let fates = fates_of(alloc, row.value(link, "fates").unwrap_or(""), way)?;
-    Ok(FailingLink::new(inner.map_err(no_memory)?, fates))
+pub fn link_of(row: &Row<'_>, way: &Way, link: u64) -> Result<RowLink, Wrong> {
+    let wire = Wire {
+        input: input_of(row, way, link)?,
+        most: way.most,
+        room: row.number_or(link, "space", ROOM)?,
+        moment: row.number_or(link, "moment", MOMENT)?,
+        fates: fates_of(row, way, link)?,
+    };
+    wired(row.alloc, wire)
+}
+
+/// What comes on a link, as far as the way gives it.
+fn input_of(row: &Row<'_>, way: &Way, link: u64) -> Result<Vec<u8>, Wrong> {
+    let mut input = Vec::new(row.alloc);
+    if let Some(items) = row.value(link, "in") {
+        add_items(&row.scope, items, &mut input)?;
+    }
+    input.truncate(way.first as usize);
+    Ok(input)
+}
+
+fn wired(alloc: Global, wire: Wire) -> Result<RowLink, Wrong> {
+    let (most, room) = (wire.most.max(1) as usize, wire.room as usize);
+    let inner = MemoryLink::new(alloc, Octets::of_vec(wire.input), most, room, wire.moment)?;
+    Ok(FailingLink::new(inner, wire.fates))
+}
+
+/// What was written on a link.
+pub fn written(link: &RowLink) -> &[u8] {
+    link.inner().written()
 }
 
 /// The door with the row's links.
-pub fn door_of(alloc: Global, row: &Row<'_>, way: &Way) -> Result<MemoryDoor<RowLink>> {
-    let mut links = Vec::new(alloc);
-    for number in 0..row.links() {
-        links.push(link_of(alloc, row, way, number + 1)?)?;
+pub fn door_of(row: &Row<'_>, way: &Way) -> Result<MemoryDoor<RowLink>, Wrong> {
+    let links = links_of(row, way)?;
+    let fail_at = row.number_or(0, "door", u64::MAX)?;
+    Ok(MemoryDoor::new(links, Some(fail_at as usize)))
+}
+
+fn links_of(row: &Row<'_>, way: &Way) -> Result<Vec<RowLink>, Wrong> {
+    let mut links = Vec::new(row.alloc);
+    for before in 0..row.links()? {
+        links.push(link_of(row, way, before.saturating_add(1))?)?;
     }
-    let fail_at = row.number(0, "door")?.map(|place| place as usize);
-    Ok(MemoryDoor::new(links, fail_at))
+    Ok(links)
 }
 
 /// The row's files.
-pub fn files_of(alloc: Global, row: &Row<'_>, way: &Way) -> Result<MemoryFiles> {
+pub fn files_of(row: &Row<'_>, first: u64) -> Result<MemoryFiles, Wrong> {
     let mut files = MemoryFiles::new();
-    for line in row.source(0, "file") {
-        if line.is(0, "file") {
-            add_text(alloc, row, way, path_of(line.value.as_str()), &mut files)?;
-        }
-    }
-    for line in row.source(0, "octets") {
-        if line.is(0, "octets") {
-            add_octets(alloc, row, line.value.as_str(), &mut files)?;
-        }
-    }
-    if let Some(call) = row.number(0, "fails")? {
-        files.fail_at(call);
-    }
+    add_texts(row, first, &mut files)?;
+    add_octets(row, &mut files)?;
+    files.fail_at(row.number_or(0, "fails", u64::MAX)?);
     Ok(files)
 }
 
-/// The path with which a value begins.
-pub fn path_of(value: &str) -> &str {
-    let (path, _) = value.split_once(' ').unwrap_or((value, ""));
-    path
+fn add_texts(row: &Row<'_>, first: u64, files: &mut MemoryFiles) -> Result<(), Wrong> {
+    for k in 0..u64::MAX {
+        let Some(value) = row.nth(0, "file", k) else {
+            break;
+        };
+        add_text(row, first, value, files)?;
+    }
+    Ok(())
+}
+
+fn add_text(row: &Row<'_>, first: u64, value: &str, files: &mut MemoryFiles) -> Result<(), Wrong> {
+    let (path, _) = cut(value);
+    let text = path_text(row, first, "file", path)?;
+    insert(row.alloc, path, text.as_bytes(), files)
+}
+
+fn add_octets(row: &Row<'_>, files: &mut MemoryFiles) -> Result<(), Wrong> {
+    for k in 0..u64::MAX {
+        let Some(value) = row.nth(0, "octets", k) else {
+            break;
+        };
+        add_file(row, value, files)?;
+    }
+    Ok(())
+}
+
+fn add_file(row: &Row<'_>, value: &str, files: &mut MemoryFiles) -> Result<(), Wrong> {
+    let (path, items) = cut(value);
+    let mut octets = Vec::new(row.alloc);
+    add_items(&row.scope, items, &mut octets)?;
+    insert(row.alloc, path, octets.as_slice(), files)
+}
+
+fn insert(alloc: Global, path: &str, octets: &[u8], files: &mut MemoryFiles) -> Result<(), Wrong> {
+    let octets = Octets::copy_of(alloc, octets)?;
+    Ok(files.insert(alloc, meant(path), octets)?)
 }
 
 /// The path that is meant: an empty one is written as two quotes.
-pub fn meant(path: &str) -> &str {
+fn meant(path: &str) -> &str {
     if path == "\"\"" { "" } else { path }
 }
 
-fn add_text(
-    alloc: Global,
-    row: &Row<'_>,
-    way: &Way,
-    path: &str,
-    files: &mut MemoryFiles,
-) -> Result<()> {
-    let text = path_text(alloc, row, way, "file", path)?;
-    let octets = Octets::copy_of(alloc, text.as_bytes()).map_err(no_memory)?;
-    files.insert(alloc, meant(path), octets).map_err(no_memory)
+/// The octets of a file.
+fn file<'a>(files: &'a MemoryFiles, path: &str) -> Option<&'a [u8]> {
+    files.get(meant(path))
 }
 
-fn add_octets(alloc: Global, row: &Row<'_>, value: &str, files: &mut MemoryFiles) -> Result<()> {
-    let (path, items) = value
-        .split_once(' ')
-        .context(format_args!("octets {value}"))?;
-    let octets = octets_of(alloc, row.file.names.as_slice(), items)?;
-    files
-        .insert(alloc, meant(path), Octets::of_vec(octets))
-        .map_err(no_memory)
+/// Notes differences of the files that are left from what the row states.
+pub fn compare_files(
+    row: &Row<'_>,
+    first: u64,
+    files: &MemoryFiles,
+    differences: &mut String,
+) -> Result<(), Wrong> {
+    for k in 0..u64::MAX {
+        let Some(value) = row.nth(0, "left", k) else {
+            break;
+        };
+        compare_file(row, first, value, files, differences)?;
+    }
+    compare_absent(row, files, differences)
+}
+
+fn compare_file(
+    row: &Row<'_>,
+    first: u64,
+    value: &str,
+    files: &MemoryFiles,
+    differences: &mut String,
+) -> Result<(), Wrong> {
+    let (path, _) = cut(value);
+    let wanted = path_text(row, first, "left", path)?;
+    let came = file(files, path).unwrap_or(b"");
+    compare_texts(value, wanted.as_str(), came, differences)
+}
+
+fn compare_absent(
+    row: &Row<'_>,
+    files: &MemoryFiles,
+    differences: &mut String,
+) -> Result<(), Wrong> {
+    for k in 0..u64::MAX {
+        let Some(path) = row.nth(0, "absent", k) else {
+            break;
+        };
+        if file(files, path).is_some() {
+            note("absent", "no file", path, differences)?;
+        }
+    }
+    Ok(())
 }
 
 /// The row's output.
-pub fn out_of(alloc: Global, row: &Row<'_>) -> Result<MemoryOut> {
-    let room = row.number_or(0, "room", ROOM)? as usize;
-    MemoryOut::new(alloc, room).map_err(no_memory)
+pub fn out_of(row: &Row<'_>) -> Result<MemoryOut, Wrong> {
+    let room = row.number_or(0, "room", ROOM)?;
+    Ok(MemoryOut::new(row.alloc, room as usize)?)
 }
 
-/// The row's gate, which keeps one link until another one has sent two requests.
-pub fn gate_of(row: &Row<'_>) -> Result<HoldGate> {
-    let Some(text) = row.value(0, "hold") else {
-        return Ok(HoldGate::new(0, 0, 0));
-    };
-    let (held, until) = text
-        .split_once(" until ")
-        .context(format_args!("hold {text}"))?;
-    Ok(HoldGate::new(held.parse::<u32>()?, until.parse::<u32>()?, LOOKS))
+/// What was printed.
+pub fn printed(out: &MemoryOut) -> &[u8] {
+    out.text()
 }

@@ -1,76 +1,72 @@
 // A row with what its table and its file say.
-use crate::file::RowFile;
-use crate::line::Line;
-use anyhow::{Context, Result, anyhow};
+use crate::octets::Scope;
+use crate::parts::{cut, number};
+use crate::wrong::Wrong;
+use std::alloc::Global;
 
-/// A row, its table's lines, and its file.
+/// A row: its title and its own lines, the lines of its table, and what its words may name.
 #[derive(Clone, Copy)]
 pub struct Row<'a> {
-    pub file: &'a RowFile,
-    pub table: &'a [Line],
-    pub lines: &'a [Line],
+    pub alloc: Global,
+    pub scope: Scope<'a>,
+    pub table: &'a str,
+    pub own: &'a str,
     pub title: &'a str,
 }
 
 impl<'a> Row<'a> {
-    /// The lines among which a word is to be looked up: the row's own where it has such a line, else its table's.
-    pub fn source(&self, link: u32, word: &str) -> &'a [Line] {
-        if self.lines.iter().any(|line| line.is(link, word)) {
-            self.lines
+    /// The value of a line with the word, behind so many others of them: of the row's own lines where it has such a
+    /// line, else of its table's.
+    pub fn nth(&self, link: u64, word: &str, before: u64) -> Option<&'a str> {
+        if find(self.own, link, word, 0).is_some() {
+            find(self.own, link, word, before)
         } else {
-            self.table
+            find(self.table, link, word, before)
         }
     }
 
-    /// The text of the first line with the word.
-    pub fn value(&self, link: u32, word: &str) -> Option<&'a str> {
-        for line in self.source(link, word) {
-            if line.is(link, word) {
-                return Some(line.value.as_str());
-            }
-        }
-        None
-    }
-
-    /// The row or its table has a line with the word.
-    pub fn has(&self, link: u32, word: &str) -> bool {
-        self.value(link, word).is_some()
-    }
-
-    /// The number after a word, where there is a line with it.
-    pub fn number(&self, link: u32, word: &str) -> Result<Option<u64>> {
-        match self.value(link, word) {
-            Some(text) => {
-                let number = text.parse::<u64>();
-                Ok(Some(number.context(format_args!("{word} {text}"))?))
-            }
-            None => Ok(None),
-        }
+    /// The value of the first line with the word.
+    pub fn value(&self, link: u64, word: &str) -> Option<&'a str> {
+        self.nth(link, word, 0)
     }
 
     /// The number after a word, or else this one.
-    pub fn number_or(&self, link: u32, word: &str, other: u64) -> Result<u64> {
-        Ok(self.number(link, word)?.unwrap_or(other))
+    pub fn number_or(&self, link: u64, word: &str, other: u64) -> Result<u64, Wrong> {
+        match self.value(link, word) {
+            Some(text) => number(text),
+            None => Ok(other),
+        }
     }
 
     /// How many links the door has: the greatest number of a line `link`.
-    pub fn links(&self) -> u32 {
-        most(self.lines).max(most(self.table))
+    pub fn links(&self) -> Result<u64, Wrong> {
+        Ok(most(self.own)?.max(most(self.table)?))
     }
 }
 
-fn most(lines: &[Line]) -> u32 {
+fn find<'a>(lines: &'a str, link: u64, word: &str, before: u64) -> Option<&'a str> {
+    let mut of = 0;
+    let mut left = before;
+    for line in lines.split('\n') {
+        let (first, value) = cut(line);
+        if first == "link" {
+            of = number(value).unwrap_or(0);
+        } else if first == word && of == link {
+            if left == 0 {
+                return Some(value);
+            }
+            left -= 1;
+        }
+    }
+    None
+}
+
+fn most(lines: &str) -> Result<u64, Wrong> {
     let mut most = 0;
-    for line in lines {
-        most = line.link.max(most);
+    for line in lines.split('\n') {
+        if let Some(link) = line.strip_prefix("link ") {
+            most = number(link)?.max(most);
+        }
     }
-    most
-}
-
-/// The two numbers of a range.
-pub fn range_of(text: &str) -> Result<(u32, u32)> {
-    let Some((from, to)) = text.split_once("..") else {
-        return Err(anyhow!("no range: {text}"));
-    };
-    Ok((from.parse::<u32>()?, to.parse::<u32>()?))
+    Ok(most)
 }

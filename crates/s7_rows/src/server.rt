@@ -1,30 +1,34 @@
 // A row that runs the server.
+ghost use Rattle.std.specs.Prelude.{IfOk};
 ghost use Rattle.std.specs.List.{AllByRecursion};
 ghost use Rattle.s7_plant.specs.Observers.{IsFresh};
 
-use crate::compare::{
-    block_of, compare_files, compare_numbers, compare_octets, compare_printed, compare_written,
-    note,
+use crate::book::{compare_asked, compare_book, entries};
+use crate::compare::{compare_count, compare_numbers, compare_printed, compare_written, note};
+use crate::objects::{
+    RowLink, compare_files, door_of, files_of, link_of, out_of, printed, written,
 };
-use crate::objects::{RowLink, door_of, files_of, gate_of, link_of, out_of};
-use crate::observers::{compare_told, observers_of};
+use crate::parts::number;
 use crate::row::Row;
-use crate::texts::words_of;
+use crate::texts::{lent, words_of};
 use crate::way::{Way, ways_of};
-use anyhow::Result;
-use s7_area::AreaKey;
+use crate::wrong::Wrong;
+use s7_listener::Served;
 use s7_memory::{HoldGate, MemoryDoor, MemoryFiles, MemoryOut};
-use s7_plant::{Book, Tail};
+use s7_plant::Tail;
 use s7_server_main::{Run, ServerEnd, server_main};
-use std::alloc::{AllocError, Global};
+use std::alloc::Global;
 use std::sync::Wait;
 use std::thread::Threads;
 use std::time::Clock;
 
+/// How often a link that is held looks for the other one.
+const LOOKS: u64 = 1_000_000_000;
+
 /// What the server leaves.
 type Left = ServerEnd<RowLink, Tail>;
 
-/// What a server is given but its words and its link.
+/// What a server is given but its words, its link and its observer.
 #[derive(Drop)]
 struct Outside {
     files: MemoryFiles,
@@ -36,44 +40,100 @@ struct Outside {
 /// Runs a row in each of its ways, and notes what differs.
 pub fn play<R: Threads + Wait + Clock + Sync>(
     rt: &R,
-    alloc: Global,
     row: &Row<'_>,
     differences: &mut String,
-) -> Result<()> {
-    for way in ways_of(alloc, row)?.iter() {
-        play_way(rt, alloc, row, way, differences)?;
+) -> Result<(), Wrong> {
+    for way in ways_of(row)?.iter() {
+        play_way(rt, row, way, differences)?;
     }
     Ok(())
 }
 
 fn play_way<R: Threads + Wait + Clock + Sync>(
     rt: &R,
-    alloc: Global,
     row: &Row<'_>,
     way: &Way,
     differences: &mut String,
-) -> Result<()> {
-    let mut outside = outside_of(alloc, row, way)?;
-    let pipe = link_of(alloc, row, way, 0)?;
-    let owned = words_of(alloc, row, way)?;
-    let words = lent_words(alloc, owned.as_slice())?;
-    let observers = observers_of(alloc, row)?;
-    let left = serve(rt, alloc, words.as_slice(), pipe, &mut outside, observers);
-    compare(alloc, row, way, &left, &outside, differences)
+) -> Result<(), Wrong> {
+    let mut outside = outside_of(row, way)?;
+    play_in(rt, row, way, &mut outside, differences)
 }
 
-fn outside_of(alloc: Global, row: &Row<'_>, way: &Way) -> Result<Outside> {
+fn play_in<R: Threads + Wait + Clock + Sync>(
+    rt: &R,
+    row: &Row<'_>,
+    way: &Way,
+    outside: &mut Outside,
+    differences: &mut String,
+) -> Result<(), Wrong> {
+    let owned = words_of(row, way.first)?;
+    let words = lent(row.alloc, owned.as_slice())?;
+    play_words(rt, row, way, words.as_slice(), outside, differences)?;
+    compare_outside(row, way.first, outside, differences)
+}
+
+fn play_words<R: Threads + Wait + Clock + Sync>(
+    rt: &R,
+    row: &Row<'_>,
+    way: &Way,
+    words: &[&str],
+    outside: &mut Outside,
+    differences: &mut String,
+) -> Result<(), Wrong> {
+    let observers = observers_of(row)?;
+    let pipe = link_of(row, way, 0)?;
+    let left = serve(rt, row.alloc, words, pipe, outside, observers);
+    compare_left(row, &left, differences)
+}
+
+fn outside_of(row: &Row<'_>, way: &Way) -> Result<Outside, Wrong> {
+    let gate = gate_of(row)?;
+    let out = out_of(row)?;
+    let files = files_of(row, way.first)?;
+    let door = door_of(row, way)?;
     Ok(Outside {
-        files: files_of(alloc, row, way)?,
-        door: door_of(alloc, row, way)?,
-        gate: gate_of(row)?,
-        out: out_of(alloc, row)?,
+        files,
+        door,
+        gate,
+        out,
     })
 }
 
-/// The words, lent.
-pub fn lent_words(alloc: Global, owned: &[String]) -> Result<Vec<&str>, AllocError> {
-    owned.iter().map(|word| word.as_str()).collect(alloc)
+/// The row's gate, which keeps one link until another one has sent two requests.
+fn gate_of(row: &Row<'_>) -> Result<HoldGate, Wrong> {
+    let Some(text) = row.value(0, "hold") else {
+        return Ok(HoldGate::new(0, 0, 0));
+    };
+    match text.split_once(" until ") {
+        Some((held, until)) => Ok(HoldGate::new(link_number(held)?, link_number(until)?, LOOKS)),
+        None => Err(Wrong::Hold),
+    }
+}
+
+fn link_number(text: &str) -> Result<u32, Wrong> {
+    Ok(number(text)?.min(0xFFFF_FFFF) as u32)
+}
+
+/// The row's observer, which hears the codes of a mask and keeps its newest event, or none.
+fn observers_of(row: &Row<'_>) -> Result<Vec<Tail>, Wrong>
+    ensures { IfOk result (λ tails. AllByRecursion (λ o. IsFresh o) tails.items) }
+{
+    match row.value(0, "observer") {
+        Some(mask) => one_observer(row.alloc, mask),
+        None => Ok(Vec::new(row.alloc)),
+    }
+}
+
+fn one_observer(alloc: Global, mask: &str) -> Result<Vec<Tail>, Wrong>
+    ensures { IfOk result (λ tails. AllByRecursion (λ o. IsFresh o) tails.items) }
+{
+    let Ok(mask) = u32::from_str_radix(mask, 16) else {
+        return Err(Wrong::Number);
+    };
+    let tail = Tail::new(alloc, mask, 1)?;
+    let mut tails = Vec::new(alloc);
+    tails.push(tail)?;
+    Ok(tails)
 }
 
 /// Calls the server.
@@ -100,103 +160,58 @@ fn serve<R: Threads + Wait + Clock + Sync>(
     )
 }
 
-fn compare(
-    alloc: Global,
+// What was printed and the files are as the row states, and the gate didn't give up.
+fn compare_outside(
     row: &Row<'_>,
-    way: &Way,
-    left: &Left,
+    first: u64,
     outside: &Outside,
     differences: &mut String,
-) -> Result<()> {
-    let status = row.number_or(0, "status", 0)?;
-    compare_numbers(alloc, "status", status, u64::from(left.status), differences)?;
-    compare_printed(alloc, row, way, "report", outside.out.text(), differences)?;
-    compare_files(alloc, row, way, &outside.files, differences)?;
+) -> Result<(), Wrong> {
+    compare_printed(row, first, "report", printed(&outside.out), differences)?;
+    compare_files(row, first, &outside.files, differences)?;
     if outside.gate.gave_up() {
-        note(alloc, "hold", "the other link", "none", differences)?;
+        note("hold", "the other link", "none", differences)?;
     }
+    Ok(())
+}
+
+fn compare_left(row: &Row<'_>, left: &Left, differences: &mut String) -> Result<(), Wrong> {
+    let status = row.number_or(0, "status", 0)?;
+    compare_numbers("status", status, u64::from(left.status), differences)?;
     match &left.run {
-        Some(run) => compare_run(alloc, row, run, differences),
+        Some(run) => compare_run(row, run, differences),
         None => Ok(()),
     }
 }
 
 fn compare_run(
-    alloc: Global,
     row: &Row<'_>,
     run: &Run<RowLink, Tail>,
     differences: &mut String,
-) -> Result<()> {
-    let of_door = row.links() != 0;
+) -> Result<(), Wrong> {
+    let entries = entries(&run.book);
+    let of_door = row.links()? != 0;
     for served in run.links.iter() {
-        let link = if of_door { served.link } else { 0 };
-        compare_last(alloc, row, link, served.last, differences)?;
-        compare_written(alloc, row, link, served.line.inner().written(), differences)?;
+        let place = if of_door { u64::from(served.link) } else { 0 };
+        compare_link(row, place, served, differences)?;
+        compare_asked(row, place, served.link, entries, differences)?;
     }
-    compare_blocks(alloc, row, &run.book, differences)?;
-    compare_told(alloc, row, &run.book, differences)?;
-    let entries = run.book.journal.len();
-    let wanted = row.number_or(0, "entries", entries)?;
-    compare_numbers(alloc, "entries", wanted, entries, differences)?;
-    match row.value(0, "rights") {
-        Some(wanted) => compare_rights(alloc, wanted, &run.book, differences),
-        None => Ok(()),
-    }
+    compare_book(row, &run.book, differences)
 }
 
-// The number of the link's newest entry is the one that the row states.
-fn compare_last(
-    alloc: Global,
+// What was written on a link, and the number of its newest entry, are as the row states.
+fn compare_link(
     row: &Row<'_>,
-    link: u32,
-    last: Option<u64>,
+    place: u64,
+    served: &Served<RowLink>,
     differences: &mut String,
-) -> Result<()> {
-    match row.number(link, "last")? {
-        Some(wanted) => {
-            compare_numbers(alloc, "last", wanted, last.unwrap_or(u64::MAX), differences)
-        }
-        None => Ok(()),
-    }
-}
-
-// Data blocks have the octets that the row states, and so many blocks are loaded.
-fn compare_blocks(
-    alloc: Global,
-    row: &Row<'_>,
-    book: &Book<Tail>,
-    differences: &mut String,
-) -> Result<()> {
-    for line in row.source(0, "block") {
-        if line.is(0, "block") {
-            let (number, wanted) = block_of(alloc, row, line.value.as_str())?;
-            let came = octets_of_block(book, number);
-            compare_octets(alloc, "block", wanted.as_slice(), came, differences)?;
-        }
-    }
-    let loaded = book.plant.blocks.len() as u64;
-    let wanted = row.number_or(0, "loaded", loaded)?;
-    compare_numbers(alloc, "loaded", wanted, loaded, differences)
-}
-
-fn octets_of_block(book: &Book<Tail>, number: u16) -> &[u8] {
-    let key = AreaKey { area: 0x84, number };
-    book.plant.areas.octets_of(key).unwrap_or(&[])
-}
-
-// The entries were asked for with these rights: a letter for each, + with the right and - without it.
-fn compare_rights(
-    alloc: Global,
-    wanted: &str,
-    book: &Book<Tail>,
-    differences: &mut String,
-) -> Result<()> {
-    let mut came = String::new(alloc);
-    for entry in book.journal.as_slice() {
-        came.push(if entry.ask.right { '+' } else { '-' })?;
-    }
-    if came.as_str() != wanted {
-        note(alloc, "rights", wanted, came.as_str(), differences)?;
-    }
-    Ok(())
+) -> Result<(), Wrong> {
+    compare_count(
+        row,
+        place,
+        "last",
+        served.last.unwrap_or(u64::MAX),
+        differences,
+    )?;
+    compare_written(row, place, written(&served.line), differences)
 }

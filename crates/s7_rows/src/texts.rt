@@ -1,129 +1,162 @@
 // Texts that lines state.
-use crate::octets::pattern_of;
+use crate::octets::add_octets;
+use crate::parts::{cut, number};
 use crate::row::Row;
-use crate::way::Way;
-use anyhow::{Context, Result};
+use crate::wrong::Wrong;
 use std::alloc::Global;
 
-/// The text of a word's lines: each part between two ` / ` is a line of it. None where no line has the word.
-pub fn text_of(alloc: Global, row: &Row<'_>, way: &Way, word: &str) -> Result<Option<String>> {
-    if !row.has(0, word) {
-        return Ok(None);
-    }
-    let mut text = String::new(alloc);
-    for line in row.source(0, word) {
-        if line.is(0, word) {
-            add_lines(line.value.as_str(), way, &mut text)?;
-        }
-    }
-    Ok(Some(text))
-}
-
-/// The text of a path: that of each line of the word that begins with the path.
-pub fn path_text(
-    alloc: Global,
-    row: &Row<'_>,
-    way: &Way,
-    word: &str,
-    path: &str,
-) -> Result<String> {
-    let mut text = String::new(alloc);
-    for line in row.source(0, word) {
-        let (first, rest) = line
-            .value
-            .split_once(' ')
-            .unwrap_or((line.value.as_str(), ""));
-        if line.is(0, word) && first == path {
-            add_lines(rest, way, &mut text)?;
-        }
+/// The text of a word's lines: each part between two ` / ` is a line of it.
+pub fn text_of(row: &Row<'_>, first: u64, word: &str) -> Result<String, Wrong> {
+    let mut text = String::new(row.alloc);
+    for k in 0..u64::MAX {
+        let Some(value) = row.nth(0, word, k) else {
+            break;
+        };
+        add_lines(row, value, first, &mut text)?;
     }
     Ok(text)
 }
 
-/// Adds the lines of a value. A value that ends with `^` has no newline at its end.
-fn add_lines(value: &str, way: &Way, text: &mut String) -> Result<()> {
-    let (value, end) = match value.strip_suffix('^') {
-        Some(value) => (value, ""),
-        None => (value, "\n"),
-    };
-    for (k, part) in value.split(" / ").enumerate() {
-        if k != 0 {
-            text.push('\n')?;
-        }
-        add_part(part, way, text)?;
+/// The text of a path: that of each line of the word that begins with the path.
+pub fn path_text(row: &Row<'_>, first: u64, word: &str, path: &str) -> Result<String, Wrong> {
+    let mut text = String::new(row.alloc);
+    for k in 0..u64::MAX {
+        let Some(value) = row.nth(0, word, k) else {
+            break;
+        };
+        add_path_lines(row, value, first, path, &mut text)?;
     }
-    text.push_str(end)?;
+    Ok(text)
+}
+
+fn add_path_lines(
+    row: &Row<'_>,
+    value: &str,
+    first: u64,
+    path: &str,
+    text: &mut String,
+) -> Result<(), Wrong> {
+    let (of, rest) = cut(value);
+    if of == path {
+        add_lines(row, rest, first, text)?;
+    }
     Ok(())
+}
+
+/// Adds the lines of a value. A value that ends with `^` has no newline at its end.
+fn add_lines(row: &Row<'_>, value: &str, first: u64, text: &mut String) -> Result<(), Wrong> {
+    match value.strip_suffix('^') {
+        Some(value) => add_part(row, value, first, text),
+        None => {
+            add_part(row, value, first, text)?;
+            Ok(text.push('\n')?)
+        }
+    }
 }
 
 /// Adds a text in which what stands between two `~` is put in place of it.
-pub fn add_part(part: &str, way: &Way, text: &mut String) -> Result<()> {
-    for (k, piece) in part.split('~').enumerate() {
-        if k % 2 == 0 {
-            text.push_str(piece)?;
+pub fn add_part(row: &Row<'_>, part: &str, first: u64, text: &mut String) -> Result<(), Wrong> {
+    let mut is_placed = false;
+    for piece in part.split('~') {
+        if is_placed {
+            add_placed(row, piece, first, text)?;
         } else {
-            add_placed(piece, way, text)?;
+            add_plain(piece, text)?;
         }
+        is_placed = !is_placed;
     }
     Ok(())
 }
 
-// Adds a carriage return, a tilde, the number of octets of the way less another, a pattern, or a text so many times.
-fn add_placed(piece: &str, way: &Way, text: &mut String) -> Result<()> {
-    if piece == "r" || piece == "t" {
-        text.push(if piece == "r" { '\r' } else { '~' })?;
-        return Ok(());
+// Adds a text with a newline for each ` / `.
+fn add_plain(piece: &str, text: &mut String) -> Result<(), Wrong> {
+    let mut is_first = true;
+    for line in piece.split(" / ") {
+        if !is_first {
+            text.push('\n')?;
+        }
+        text.push_str(line)?;
+        is_first = false;
+    }
+    Ok(())
+}
+
+// Adds a carriage return, a tilde, a number, a text so many times, or the digits of the octets of a word.
+fn add_placed(row: &Row<'_>, piece: &str, first: u64, text: &mut String) -> Result<(), Wrong> {
+    match piece {
+        "r" => return Ok(text.push('\r')?),
+        "t" => return Ok(text.push('~')?),
+        _ => {}
     }
     if let Some(less) = piece.strip_prefix("n-") {
-        return add_number(way.first.saturating_sub(less.parse::<usize>()?), text);
+        return add_number(first.saturating_sub(number(less)?), text);
     }
-    if piece.contains("..") {
-        return add_pattern(piece, text);
+    match piece.split_once('x') {
+        Some((times, repeated)) => add_repeated(repeated, number(times)?, text),
+        None => add_digits(row, piece, text),
     }
-    let (times, repeated) = piece.split_once('x').context(format_args!("~{piece}~"))?;
-    let times = times
-        .trim()
-        .parse::<u32>()
-        .context(format_args!("~{piece}~"))?;
+}
+
+fn add_repeated(repeated: &str, times: u64, text: &mut String) -> Result<(), Wrong> {
     for _ in 0..times {
         text.push_str(repeated)?;
     }
     Ok(())
 }
 
-// Adds the octets of a pattern in hex.
-fn add_pattern(piece: &str, text: &mut String) -> Result<()> {
-    let alloc = *text.allocator();
-    let octets = pattern_of(alloc, piece)?;
-    text.push_str(hex::encode(alloc, octets.as_slice())?.as_str())?;
-    Ok(())
+// Adds the octets of a word in hexadecimal digits.
+fn add_digits(row: &Row<'_>, word: &str, text: &mut String) -> Result<(), Wrong> {
+    let mut octets = Vec::new(row.alloc);
+    add_octets(&row.scope, word, &mut octets)?;
+    let digits = hex_of(row.alloc, octets.as_slice())?;
+    Ok(text.push_str(digits.as_str())?)
 }
 
-fn add_number(number: usize, text: &mut String) -> Result<()> {
-    let alloc = *text.allocator();
-    text.push_str(format!(in alloc; "{number}")?.as_str())?;
-    Ok(())
+/// The hexadecimal digits of octets.
+pub fn hex_of(alloc: Global, octets: &[u8]) -> Result<String, Wrong> {
+    Ok(hex::encode(alloc, octets)?)
+}
+
+/// The digits of a number.
+pub fn digits_of(alloc: Global, number: u64) -> Result<String, Wrong> {
+    Ok(format!(in alloc; "{number}")?)
+}
+
+/// Adds a number.
+pub fn add_number(number: u64, text: &mut String) -> Result<(), Wrong> {
+    let digits = digits_of(*text.allocator(), number)?;
+    Ok(text.push_str(digits.as_str())?)
 }
 
 /// The words of a command line. A word in quotes may have blanks or be empty.
-pub fn words_of(alloc: Global, row: &Row<'_>, way: &Way) -> Result<Vec<String>> {
-    let mut words = Vec::new(alloc);
-    let value = row.value(0, "words").unwrap_or("");
-    for (k, piece) in value.split('"').enumerate() {
-        if k % 2 == 0 {
-            add_words(alloc, piece, way, &mut words)?;
+pub fn words_of(row: &Row<'_>, first: u64) -> Result<Vec<String>, Wrong> {
+    let mut words = Vec::new(row.alloc);
+    let mut is_quoted = false;
+    for piece in row.value(0, "words").unwrap_or("").split('"') {
+        if is_quoted {
+            words.push(String::from_str(row.alloc, piece)?)?;
         } else {
-            words.push(String::from_str(alloc, piece)?)?;
+            add_words(row, piece, first, &mut words)?;
         }
+        is_quoted = !is_quoted;
     }
     Ok(words)
 }
 
-fn add_words(alloc: Global, piece: &str, way: &Way, words: &mut Vec<String>) -> Result<()> {
+fn add_words(row: &Row<'_>, piece: &str, first: u64, words: &mut Vec<String>) -> Result<(), Wrong> {
     for word in piece.split_ascii_whitespace() {
-        let mut text = String::new(alloc);
-        add_part(word, way, &mut text)?;
+        let mut text = String::new(row.alloc);
+        add_part(row, word, first, &mut text)?;
         words.push(text)?;
     }
     Ok(())
+}
+
+/// The words, lent.
+pub fn lent(alloc: Global, owned: &[String]) -> Result<Vec<&str>, Wrong> {
+    let mut words = Vec::new(alloc);
+    for word in owned {
+        words.push(word.as_str())?;
+    }
+    Ok(words)
 }

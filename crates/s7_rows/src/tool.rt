@@ -1,25 +1,20 @@
 // A row that runs the tool.
-use crate::objects::{RowLink, files_of, link_of, out_of};
-use crate::row::{Row, range_of};
-use crate::server::lent_words;
-use crate::texts::words_of;
-use crate::tool_compare::compare;
+use crate::objects::{RowLink, files_of, link_of, out_of, printed};
+use crate::octets::Scope;
+use crate::parts::number;
+use crate::row::Row;
+use crate::texts::{lent, words_of};
+use crate::tool_compare::{compare_left, compare_text};
 use crate::tool_dial::CountedDial;
-use crate::tool_lines::lines_for;
-use crate::way::Way;
-use anyhow::{Context, Result};
+use crate::way::{Way, ways_of};
+use crate::wrong::Wrong;
 use s7_client::Counter;
 use s7_memory::{MemoryDial, MemoryFiles, MemoryOut};
 use s7_tool_main::{ToolEnd, tool_main};
 use std::alloc::Global;
 
-/// What the tool leaves: its end, its output, and how often it dialled.
-#[derive(Drop)]
-pub struct ToolLeft {
-    pub end: ToolEnd<RowLink, Counter>,
-    pub out: MemoryOut,
-    pub dialled: u64,
-}
+/// What the tool leaves.
+pub type Left = ToolEnd<RowLink, Counter>;
 
 /// What the tool is given but its words.
 #[derive(Drop)]
@@ -30,96 +25,108 @@ struct Outside {
 }
 
 /// Runs a row with each of its numbers of jobs and in each of its ways, and notes what differs.
-pub fn play(alloc: Global, row: &Row<'_>, differences: &mut String) -> Result<()> {
+pub fn play(row: &Row<'_>, differences: &mut String) -> Result<(), Wrong> {
+    let with = row.value(0, "with").unwrap_or("");
     for jobs in row.value(0, "jobs").unwrap_or("").split(' ') {
-        let lines = lines_for(alloc, row, jobs)?;
-        let row = Row {
-            table: &[],
-            lines: lines.as_slice(),
-            ..*row
+        let scope = Scope {
+            with,
+            jobs: count_of(jobs)?,
+            ..row.scope
         };
-        play_ways(alloc, &row, jobs, differences)?;
+        play_ways(&Row { scope, ..*row }, jobs, differences)?;
     }
     Ok(())
+}
+
+/// How many jobs may be under way, where nothing is said one.
+fn count_of(jobs: &str) -> Result<u8, Wrong> {
+    if jobs.is_empty() {
+        return Ok(1);
+    }
+    Ok(number(jobs)?.min(255) as u8)
 }
 
 /// Runs a row in each of its ways, each of which prints the same.
-fn play_ways(alloc: Global, row: &Row<'_>, jobs: &str, differences: &mut String) -> Result<()> {
-    let mut first: Option<MemoryOut> = None;
-    for way in ways_of(alloc, row)?.iter() {
-        let left = left_of(alloc, row, jobs, way)?;
-        compare(alloc, row, way, &left, differences)?;
-        if let Some(out) = &first
-            && out.text() != left.out.text()
-        {
-            differences.push_str("  prints another text in another way\n")?;
+fn play_ways(row: &Row<'_>, jobs: &str, differences: &mut String) -> Result<(), Wrong> {
+    let mut first: Option<Vec<u8>> = None;
+    for way in ways_of(row)?.iter() {
+        let text = play_way(row, jobs, way, differences)?;
+        if let Some(first) = &first {
+            compare_ways(first.as_slice(), text.as_slice(), differences)?;
         }
-        first = Some(left.out);
+        first = Some(text);
     }
     Ok(())
 }
 
-/// The ways of a row: of each number of octets that a call of the link moves those of each call that waits.
-fn ways_of(alloc: Global, row: &Row<'_>) -> Result<Vec<Way>> {
-    let mut ways = Vec::new(alloc);
-    for cut in row.value(0, "cut").unwrap_or("8192").split(' ') {
-        let most = cut.parse::<usize>().context(format_args!("cut {cut}"))?;
-        add_ways(row, most, &mut ways)?;
-    }
-    Ok(ways)
-}
-
-fn add_ways(row: &Row<'_>, most: usize, ways: &mut Vec<Way>) -> Result<()> {
-    let way = Way {
-        most,
-        first: usize::MAX,
-        waits: None,
-    };
-    let Some(range) = row.value(0, "waits") else {
-        return Ok(ways.push(way)?);
-    };
-    let (from, to) = range_of(range)?;
-    for passing in from..to {
-        ways.push(Way {
-            waits: Some(passing),
-            ..way
-        })?;
+fn compare_ways(first: &[u8], text: &[u8], differences: &mut String) -> Result<(), Wrong> {
+    if first != text {
+        differences.push_str("  prints another text in another way\n")?;
     }
     Ok(())
 }
 
-fn left_of(alloc: Global, row: &Row<'_>, jobs: &str, way: &Way) -> Result<ToolLeft> {
-    let mut owned = words_of(alloc, row, way)?;
+/// Runs a row in a way, and gives what was printed.
+fn play_way(
+    row: &Row<'_>,
+    jobs: &str,
+    way: &Way,
+    differences: &mut String,
+) -> Result<Vec<u8>, Wrong> {
+    let mut outside = outside_of(row, way)?;
+    play_in(row, jobs, way, &mut outside, differences)
+}
+
+fn play_in(
+    row: &Row<'_>,
+    jobs: &str,
+    way: &Way,
+    outside: &mut Outside,
+    differences: &mut String,
+) -> Result<Vec<u8>, Wrong> {
+    let owned = words_of(row, way.first)?;
+    let mut words = lent(row.alloc, owned.as_slice())?;
     if !jobs.is_empty() {
-        owned.push(String::from_str(alloc, "--jobs")?)?;
-        owned.push(String::from_str(alloc, jobs)?)?;
+        words.extend_from_slice(&["--jobs", jobs])?;
     }
-    let words = lent_words(alloc, owned.as_slice())?;
-    let mut outside = Outside {
-        files: files_of(alloc, row, way)?,
-        dial: dial_of(alloc, row, way)?,
-        out: out_of(alloc, row)?,
-    };
-    let end = called(alloc, words.as_slice(), &mut outside);
-    let Outside { dial, out, .. } = outside;
-    Ok(ToolLeft {
-        end,
-        out,
-        dialled: dial.calls(),
-    })
+    play_words(row, words.as_slice(), outside, differences)?;
+    compare_text(row, way.first, printed(&outside.out), differences)?;
+    Ok(Vec::from_slice(row.alloc, printed(&outside.out))?)
 }
 
-/// The dial, which has a link where something may come and `nobody` doesn't stand there.
-fn dial_of(alloc: Global, row: &Row<'_>, way: &Way) -> Result<CountedDial<MemoryDial<RowLink>>> {
-    if row.has(0, "nobody") || !row.has(0, "in") {
-        return Ok(CountedDial::new(MemoryDial::new(None)));
+fn play_words(
+    row: &Row<'_>,
+    words: &[&str],
+    outside: &mut Outside,
+    differences: &mut String,
+) -> Result<(), Wrong> {
+    let left = called(row.alloc, words, outside);
+    compare_left(row, &left, outside.dial.calls(), differences)
+}
+
+fn outside_of(row: &Row<'_>, way: &Way) -> Result<Outside, Wrong> {
+    let out = out_of(row)?;
+    let files = files_of(row, way.first)?;
+    let dial = CountedDial::new(MemoryDial::new(line_of(row, way)?));
+    Ok(Outside { files, dial, out })
+}
+
+/// The link that the dial gives, where something may come and `nobody` doesn't stand there.
+fn line_of(row: &Row<'_>, way: &Way) -> Result<Option<RowLink>, Wrong> {
+    if has_line(row) {
+        Ok(Some(link_of(row, way, 0)?))
+    } else {
+        Ok(None)
     }
-    let link = link_of(alloc, row, way, 0)?;
-    Ok(CountedDial::new(MemoryDial::new(Some(link))))
+}
+
+/// The dial has a link.
+pub fn has_line(row: &Row<'_>) -> bool {
+    row.value(0, "in").is_some() && row.value(0, "nobody").is_none()
 }
 
 /// Calls the tool.
-fn called(alloc: Global, words: &[&str], outside: &mut Outside) -> ToolEnd<RowLink, Counter> {
+fn called(alloc: Global, words: &[&str], outside: &mut Outside) -> Left {
     tool_main(
         alloc,
         words,
