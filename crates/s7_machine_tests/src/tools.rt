@@ -75,7 +75,9 @@ fn tells(
 ) -> Option<Told> {
     let mut files = files(alloc)?;
     let mut out = MemoryOut::new(alloc, room).ok()?;
-    let end = ended(alloc, words, &mut files, &mut dial, &mut out);
+    let mut end = ended(alloc, words, &mut files, &mut dial, &mut out);
+    // The link is closed here: its peer waits for the end of what comes.
+    drop(end.run.take());
     Some(Told { end, out })
 }
 
