@@ -16,4 +16,5 @@ pub use db_numbers::DbNumbers;
 pub use guard::Guard;
 pub use key::AreaKey;
 pub use laws::{areas_join, bits_stand_alone, writes_keep_the_shape, written_is_read};
+pub use place::{is_inside, is_misfit, key_of};
 pub use register::{RegisterFault, Unknown};

@@ -15,7 +15,7 @@ const ON: [u8; 1] = [0x01];
 
 /// The word is unknown, or word, area and count don't go together.
 #[tactic(auto, unfolding(crate::specs::Places::is_misfit))]
-pub(crate) fn is_misfit(item: &Item) -> bool
+pub fn is_misfit(item: &Item) -> bool
     ensures { result ≡ is_misfit item.now }
 {
     size_of(item.word).is_none()
@@ -25,7 +25,7 @@ pub(crate) fn is_misfit(item: &Item) -> bool
 }
 
 /// The name of the item's area. The number counts for data blocks alone.
-pub(crate) fn key_of(item: &Item) -> AreaKey
+pub fn key_of(item: &Item) -> AreaKey
     ensures { result ≡ key_of item.now }
 {
     AreaKey {
@@ -47,7 +47,7 @@ fn start_of(item: &Item) -> usize
 }
 
 /// The place has octets, and all of them lie inside an area of this length.
-pub(crate) fn is_inside(item: &Item, len: usize) -> bool
+pub fn is_inside(item: &Item, len: usize) -> bool
     ensures { result ≡ is_inside item.now len }
 {
     item.count != 0 && start_of(item) + item.octet_count() <= len

@@ -41,6 +41,7 @@ run_told_of r = record {
   pdu = r.pdu;
   polls = r.polls;
   jobs = r.jobs;
+  tags = option_map (λ s. s.now) r.tags;
 }
 
 abbrev pub rig_told_of : RigWords → RigTold
@@ -53,6 +54,7 @@ rig_told_of r = record {
   pdu = r.pdu;
   journal = r.journal;
   jobs = r.jobs;
+  tags = option_map (λ s. s.now) r.tags;
 }
 
 abbrev pub partner_told_of : PartnerWords → PartnerTold

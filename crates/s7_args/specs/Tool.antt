@@ -6,7 +6,8 @@ use Rattle.std.specs.Str.{bytes_eq}
 use Rattle.s7_args.specs.CommandLine.{Text, Field, CommandLine, Given, given_by, is_number, number_of, value_of, values_of}
 use Rattle.s7_args.specs.Fields.{operand, operands, optional, numeral, text, number, areas, port, journal, text_or, number_or}
 
--- how a script is run: against which controller, over which connection, with how many polls and parallel jobs
+-- how a script is run: against which controller, over which connection, with how many polls and parallel jobs, and
+-- with the tags of which file
 pub record RunTold : Type 0 where
   pub script : Text
   pub host : Text
@@ -17,9 +18,10 @@ pub record RunTold : Type 0 where
   pub pdu : ℕ
   pub polls : ℕ
   pub jobs : ℕ
+  pub tags : Option Text
 
 -- how scripts are run together: on which areas, in which turns, over which connections, with how
--- large a journal and how many parallel jobs
+-- large a journal and how many parallel jobs, and with the tags of which file
 pub record RigTold : Type 0 where
   pub areas : Text
   pub scripts : List Text
@@ -29,6 +31,7 @@ pub record RigTold : Type 0 where
   pub pdu : ℕ
   pub journal : ℕ
   pub jobs : ℕ
+  pub tags : Option Text
 
 -- what partners send, and where the second one is: a file of its own, or over a link
 pub record PartnerTold : Type 0 where
@@ -73,10 +76,14 @@ polls = number (codes "polls") 1 4294967295
 abbrev pub jobs : Field
 jobs = number (codes "jobs") 1 8
 
+-- the tag file
+abbrev pub tags : Field
+tags = text (codes "tags")
+
 abbrev pub run_line : CommandLine
 run_line = record {
   operands = script ∷ [];
-  options = host ∷ port ∷ kind ∷ rack ∷ slot ∷ pdu ∷ polls ∷ jobs ∷ [];
+  options = host ∷ port ∷ kind ∷ rack ∷ slot ∷ pdu ∷ polls ∷ jobs ∷ tags ∷ [];
 }
 
 abbrev pub run_of : Given → ToolTold
@@ -90,6 +97,7 @@ run_of given = run (record {
   pdu = number_or given pdu 480;
   polls = number_or given polls 50;
   jobs = number_or given jobs 1;
+  tags = value_of given tags.name;
 })
 
 -- ---- rig AREAS SCRIPT.., with these options
@@ -109,7 +117,7 @@ steps = number (codes "steps") 0 1000000
 abbrev pub rig_line : CommandLine
 rig_line = record {
   operands = areas ∷ scripts ∷ [];
-  options = turns ∷ seed ∷ steps ∷ pdu ∷ journal ∷ jobs ∷ [];
+  options = turns ∷ seed ∷ steps ∷ pdu ∷ journal ∷ jobs ∷ tags ∷ [];
 }
 
 abbrev pub most_scripts : ℕ
@@ -147,6 +155,7 @@ rig_with given paths order = rig (record {
   pdu = number_or given pdu 480;
   journal = number_or given journal 65536;
   jobs = number_or given jobs 1;
+  tags = value_of given tags.name;
 })
 
 abbrev pub rig_of : Given → Option ToolTold

@@ -43,6 +43,7 @@ pub(crate) fn read_rig<'a>(
         pdu: matches.get_one::<u16>("pdu").unwrap_or(480),
         journal: matches.get_one::<u64>("journal").unwrap_or(65_536),
         jobs: matches.get_one::<u16>("jobs").unwrap_or(1),
+        tags: matches.get_str("tags"),
     };
     Ok(Some(ToolWords::Rig(rig)))
 }
@@ -58,5 +59,6 @@ fn rig_command<'a>(alloc: Global) -> Result<Command<'a>, AllocError>
         .arg(number(alloc, "steps", 0, 1_000_000))?
         .arg(number(alloc, "pdu", 64, 1_920))?
         .arg(number(alloc, "journal", 1, 262_144))?
-        .arg(number(alloc, "jobs", 1, 8))
+        .arg(number(alloc, "jobs", 1, 8))?
+        .arg(text(alloc, "tags"))
 }

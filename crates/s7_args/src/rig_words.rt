@@ -21,6 +21,8 @@ pub struct RigWords<'a> {
     pub journal: u64,
     /// `--jobs`, the number of parallel jobs that is asked for, 1 to 8: 1 where it isn't given.
     pub jobs: u16,
+    /// `--tags`, the path of the tag file whose tags the scripts may name: any text, none where it isn't given.
+    pub tags: Option<&'a str>,
     ghost least_scripts: { 1 ≤ vec_len scripts },
     ghost most_scripts: { vec_len scripts ≤ 1024 },
     ghost actors: { All (λ turn. turn < 2 * vec_len scripts) turns.items },

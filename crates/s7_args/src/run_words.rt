@@ -22,6 +22,8 @@ pub struct RunWords<'a> {
     pub polls: u32,
     /// `--jobs`, the number of parallel jobs that is asked for, 1 to 8: 1 where it isn't given.
     pub jobs: u16,
+    /// `--tags`, the path of the tag file whose tags the script may name: any text, none where it isn't given.
+    pub tags: Option<&'a str>,
     ghost least_port: { 1 ≤ port },
     ghost least_kind: { 1 ≤ kind },
     ghost most_kind: { kind ≤ 3 },

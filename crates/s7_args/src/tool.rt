@@ -18,11 +18,11 @@ use std::alloc::{AllocError, Global};
 #[derive(Debug, PartialEq, Eq, Drop)]
 pub enum ToolWords<'a> {
     /// `run SCRIPT [--host HOST] [--port N] [--type N] [--rack N] [--slot N] [--pdu N] [--polls N]
-    /// [--jobs N]`: runs a script against a controller. The fields of `RunWords` have the ranges and
+    /// [--jobs N] [--tags PATH]`: runs a script against a controller. The fields of `RunWords` have the ranges and
     /// defaults.
     Run(RunWords<'a>),
-    /// `rig AREAS SCRIPT... [--turns LIST] [--seed N] [--steps N] [--pdu N] [--journal N] [--jobs N]`:
-    /// runs scripts together, on one set of areas. LIST is one or more numbers, joined by `,`. The
+    /// `rig AREAS SCRIPT... [--turns LIST] [--seed N] [--steps N] [--pdu N] [--journal N] [--jobs N]
+    /// [--tags PATH]`: runs scripts together, on one set of areas. LIST is one or more numbers, joined by `,`. The
     /// fields of `RigWords` have the ranges and defaults.
     Rig(RigWords<'a>),
     /// `gen N`: makes areas and scripts from N, 0 to 4,294,967,295, and runs them together.
@@ -74,6 +74,7 @@ fn read_run<'a>(alloc: Global, words: &'a [&'a str]) -> Result<Option<ToolWords<
         pdu: matches.get_one::<u16>("pdu").unwrap_or(480),
         polls: matches.get_one::<u32>("polls").unwrap_or(50),
         jobs: matches.get_one::<u16>("jobs").unwrap_or(1),
+        tags: matches.get_str("tags"),
     };
     Ok(Some(ToolWords::Run(run)))
 }
@@ -90,7 +91,8 @@ fn run_command<'a>(alloc: Global) -> Result<Command<'a>, AllocError>
         .arg(number(alloc, "slot", 0, 31))?
         .arg(number(alloc, "pdu", 64, 1_920))?
         .arg(number(alloc, "polls", 1, 4_294_967_295))?
-        .arg(number(alloc, "jobs", 1, 8))
+        .arg(number(alloc, "jobs", 1, 8))?
+        .arg(text(alloc, "tags"))
 }
 
 fn read_gen<'a>(alloc: Global, words: &'a [&'a str]) -> Result<Option<ToolWords<'a>>, Memory>

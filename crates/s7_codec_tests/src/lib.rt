@@ -24,6 +24,8 @@ mod schedule;
 #[cfg(test)]
 mod split;
 #[cfg(test)]
+mod symbol;
+#[cfg(test)]
 mod szl;
 #[cfg(test)]
 mod tpkt;

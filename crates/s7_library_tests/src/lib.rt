@@ -39,6 +39,8 @@ mod sends;
 #[cfg(test)]
 mod server_words;
 #[cfg(test)]
+mod tag_scripts;
+#[cfg(test)]
 mod together;
 #[cfg(test)]
 mod tool_words;

@@ -15,7 +15,7 @@ use s7_outer::Octets;
 use s7_plant::{Book, MOST_BLOCKS, Request, Tail};
 use s7_rig::{RigClient, RigEnd, Schedule, run_rig};
 use s7_script::{Script, read_script};
-use s7_tool_main::{are_good, made_scripts, rig_text};
+use s7_tool_main::{Head, are_good, made_scripts, rig_text};
 use std::alloc::Global;
 use std::test::Fail;
 
@@ -203,8 +203,10 @@ fn a_book(alloc: Global) -> Option<Book<Tail>> {
 
 /// A client of link 3 with one line that has no results is told to be unfinished, and the rig isn't good.
 fn is_unfinished(alloc: Global) -> Option<bool> {
-    let mut numbers = Vec::with_capacity(alloc, 1).ok()?;
-    numbers.push_reserved(vec![in alloc; 0; 1].ok()?);
+    let mut lines = Vec::with_capacity(alloc, 1).ok()?;
+    lines.push_reserved(Head { line: 0, tag: None });
+    let mut heads = Vec::with_capacity(alloc, 1).ok()?;
+    heads.push_reserved(lines);
     let book = a_book(alloc)?;
     let mut clients = Vec::with_capacity(alloc, 1).ok()?;
     clients.push_reserved(RigClient {
@@ -213,9 +215,9 @@ fn is_unfinished(alloc: Global) -> Option<bool> {
         places: Vec::new(alloc),
     });
     let end = RigEnd { book, clients };
-    let text = rig_text(alloc, numbers.as_slice(), &end).ok()?;
+    let text = rig_text(alloc, heads.as_slice(), &end).ok()?;
     let is_so = text.as_slice() == b"client 3 unfinished\njournal 0\n".as_slice()
-        && !are_good(numbers.as_slice(), end.clients.as_slice());
+        && !are_good(heads.as_slice(), end.clients.as_slice());
     Some(is_so)
 }
 

@@ -11,6 +11,8 @@ const WRONG_LINES: &[Row] = &[
         1,
         ScriptKind::Word,
         "raed DB1 byte 0 1|\
+         get Speed|\
+         put Speed 1|\
          \x20read DB1 byte 0 1|\
          Read DB1 byte 0 1|\
          read |\

@@ -10,9 +10,9 @@ use Rattle.std.proofs.lemmas.Fmt.{decimal_is_IsNumeral}
 use Rattle.s7_area.specs.Guards.{IsGuard, IsPassword}
 use Rattle.s7_area.specs.Memory.{Memory, no_areas}
 use Rattle.s7_area.specs.declared.guard.Guard.{Guard}
-use Rattle.s7_script.specs.Lines.{Text, lines}
-use Rattle.s7_script.specs.Fields.{fields_after, first_field, is_space, number_of, number_within}
-use Rattle.s7_script.specs.Reading.{State, ◌>>=◌, by_current, guard_line, guarded, is_graphic, is_word, next_line, nothing_read, password_of, read_lines, with_guard, with_line, with_word}
+use Rattle.s7_text.specs.Lines.{Text, lines, next_line}
+use Rattle.s7_text.specs.Fields.{fields_after, first_field, is_space, number_of}
+use Rattle.s7_script.specs.Reading.{State, ◌>>=◌, by_current, guard_line, guarded, is_graphic, is_word, nothing_read, number_within, password_of, read_lines, with_guard, with_line, with_word}
 use Rattle.s7_script.specs.Spelling.{guard_head, guard_text, word_of}
 use Rattle.s7_script.specs.declared.areas.fault.AreasFault.{AreasFault}
 use Rattle.s7_script.specs.declared.areas.fault.AreasKind.TheVariants as kind

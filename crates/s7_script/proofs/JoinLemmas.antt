@@ -10,7 +10,7 @@ use Rattle.s7_area.specs.declared.key.AreaKey.{AreaKey}
 use Rattle.s7_area.specs.declared.register.RegisterFault.{RegisterFault}
 use Rattle.s7_area.specs.declared.register.RegisterFault.TheVariants as fault
 use Rattle.s7_area.specs.Laws.{AreasJoin}
-use Rattle.s7_script.specs.Lines.{Text}
+use Rattle.s7_text.specs.Lines.{Text}
 use Rattle.s7_script.specs.Reading.{Open, State, ◌>>=◌, FailsAs, filled, joined, kind_of, registered, run_octets, run_of, with_octets}
 use Rattle.s7_script.specs.declared.areas.fault.AreasFault.{AreasFault}
 use Rattle.s7_script.specs.declared.areas.fault.AreasKind.{AreasKind}

@@ -12,12 +12,12 @@ use Rattle.std.proofs.lemmas.Fmt.{decimal_is_IsNumeral, length-decimal-le}
 use Rattle.s7_area.specs.Memory.{Memory}
 use Rattle.s7_area.specs.Registers.{most_octets, is_wrong_size}
 use Rattle.s7_area.specs.declared.key.AreaKey.{AreaKey}
-use Rattle.s7_script.specs.Lines.{Text, lines, with_first}
-use Rattle.s7_script.specs.Fields.{fields_after, first_field, is_space, number_of, parts_around, parts_at}
-use Rattle.s7_script.specs.Reading.{State, area_line, area_named, block_line, is_guard_line, is_passed, named_line, with_line, with_size}
+use Rattle.s7_text.specs.Lines.{Text, lines, with_first, is_passed}
+use Rattle.s7_text.specs.Fields.{fields_after, first_field, is_space, number_of, parts_around, parts_at}
+use Rattle.s7_script.specs.Reading.{State, area_line, area_named, block_line, is_guard_line, named_line, with_line, with_size}
 use Rattle.s7_script.specs.Spelling.{head_text}
 use Rattle.s7_script.specs.declared.areas.version.Version.TheVariants.{Two}
-use Rattle.s7_script.proofs.LineLemmas.{isn't}
+use Rattle.s7_text.proofs.LineLemmas.{isn't}
 
 -- ---- lines
 

@@ -1,4 +1,3 @@
-pub mod LineLemmas
 pub mod ReadLemmas
 pub mod WriteLemmas
 pub mod KeptLemmas
@@ -15,5 +14,4 @@ pub mod PartLemmas
 pub mod PrintLemmas
 pub mod FormLemmas
 pub mod MoveLemmas
-pub mod MomentLemmas
-pub mod MomentPrintLemmas
+pub mod TagLineLemmas

@@ -4,7 +4,7 @@ use Rattle.std.specs.Prelude.{IsTrue}
 use Rattle.s7_outer.specs.FilesShown.{FilesShown}
 use Rattle.s7_outer.specs.Files.{file_limit, NonePathFell}
 use Rattle.s7_area.specs.Memory.{Memory}
-use Rattle.s7_script.specs.Lines.{Text}
+use Rattle.s7_text.specs.Lines.{Text}
 use Rattle.s7_script.specs.Reading.{areas}
 use Rattle.s7_script.specs.Naming.{path}
 use Rattle.s7_script.specs.Loading.{Answers, Loads, file_gives, with_line_fault}

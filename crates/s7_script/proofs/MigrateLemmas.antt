@@ -17,9 +17,9 @@ use Rattle.s7_area.specs.declared.key.AreaKey.{AreaKey}
 use Rattle.s7_area.specs.declared.register.RegisterFault.{RegisterFault}
 use Rattle.s7_area.specs.declared.register.RegisterFault.TheVariants as refusal
 use Rattle.s7_area.proofs.MemoryLemmas.{IsMemory-with_area, Keeps-none}
-use Rattle.s7_script.specs.Lines.{Text, lines}
-use Rattle.s7_script.specs.Fields.{fields_after, first_field, is_space, number_of, number_within}
-use Rattle.s7_script.specs.Reading.{Open, State, ◌>>=◌, after_header, area_line, area_named, areas, block_line, by_current, by_version, closed, ended, filled, guard_line, guarded, hex_octets, is_guard_line, is_passed, joined, line_octets, named_line, next_line, nothing_read, octets_by, opened, read_lines, registered, run_octet, run_of, run_parts, version_of, with_guard, with_line, with_more, with_octets, with_size}
+use Rattle.s7_text.specs.Lines.{Text, lines, is_passed, next_line}
+use Rattle.s7_text.specs.Fields.{fields_after, first_field, is_space, number_of}
+use Rattle.s7_script.specs.Reading.{Open, State, ◌>>=◌, after_header, area_line, area_named, areas, block_line, by_current, by_version, closed, ended, filled, guard_line, guarded, hex_octets, is_guard_line, joined, line_octets, named_line, nothing_read, number_within, octets_by, opened, read_lines, registered, run_octet, run_of, run_parts, version_of, with_guard, with_line, with_more, with_octets, with_size}
 use Rattle.s7_script.specs.Spelling.{IsInRange, block, order, single, spelling}
 use Rattle.s7_script.specs.declared.areas.fault.AreasFault.{AreasFault}
 use Rattle.s7_script.specs.declared.areas.fault.AreasKind.TheVariants as kind

@@ -7,13 +7,16 @@ use Rattle.s7_item.specs.declared.item.Item.{Item}
 use Rattle.s7_block.specs.declared.block.BlockName.{BlockName}
 use Rattle.s7_dialogue.specs.declared.job.Job.{Job}
 use Rattle.s7_dialogue.specs.declared.job.Job.TheVariants as job
-use Rattle.s7_script.specs.Lines.{Text, lines}
-use Rattle.s7_script.specs.Reading.{is_passed, next_line}
+use Rattle.s7_text.specs.Lines.{Text, lines, is_passed, next_line}
 use Rattle.hex.specs.Hex.{decode_of}
 use Rattle.hex.specs.declared.error.FromHexError.{FromHexError}
-use Rattle.s7_script.specs.Fields.{number_of}
-use Rattle.s7_script.specs.Moments.{moment_named}
-use Rattle.s7_script.specs.Script.{Written, parts, read_item, read_items, written_item, written_items, read_job, write_job, read_many_job, write_many_job, word_of, within, kind_named, list_of_job, block_named, info_job, upload_job, with_image, download_job, delete_job, db_get_job, octet_in, with_value, db_fill_job, two_octets_in, with_index, list_job, moment_job, set_clock_job, is_printable, password_job, plain_job, or_unknown, ended, job_named, job_of, at_line, line_jobs, script_lines, script, field_of, rest_of, ◌>>=◌}
+use Rattle.s7_text.specs.Fields.{number_of, field_of, rest_of}
+use Rattle.s7_text.specs.Moments.{moment_named}
+use Rattle.s7_script.specs.Script.{Written, parts, read_item, read_items, written_item, written_items, read_job, write_job, read_many_job, write_many_job, word_of, within, kind_named, list_of_job, block_named, info_job, upload_job, with_image, download_job, delete_job, db_get_job, octet_in, with_value, db_fill_job, two_octets_in, with_index, list_job, moment_job, set_clock_job, is_printable, password_job, plain_job, or_unknown, ended, job_named, ◌>>=◌}
+use Rattle.s7_symbol.specs.Values.{octets_said}
+use Rattle.s7_symbol.specs.declared.kind.TagKind.{TagKind}
+use Rattle.s7_symbol.specs.declared.tag.Tag.{Tag}
+use Rattle.s7_script.specs.Tagged.{Tagged, at_line, get_job, line_jobs, put_job, put_value, script_by, script_lines, tag_named, tagged_by, tagged_of, untagged, value_or_fault}
 use Rattle.s7_script.specs.Laws.{KeepsLink}
 use Rattle.s7_script.specs.declared.scripts.script_list.ScriptLine.{ScriptLine}
 use Rattle.s7_script.specs.declared.scripts.script_fault.ScriptFault.{ScriptFault}
@@ -164,17 +167,65 @@ named_keeps name rest =
     (either KeepsLink (bytes_eq name (codes "password")) (password_job rest) (or_unknown (plain_job name) rest) (password_keeps rest)
     (unknown_keeps (plain_job name) rest (plain_keeps name)))))))))))))))
 
+-- ---- where tags have names
+
+abbrev Keeps : Tagged → Type 0
+Keeps named = KeepsLink named.0
+
+untagged_keeps : (r : Result Job ScriptKind) → IfOk r KeepsLink → IfOk (untagged r) Keeps
+untagged_keeps (Ok job) keeps = keeps
+untagged_keeps (Err e) keeps = tt
+
+tag_ended_keeps : (j : Job) (of : Option TagKind) (rest : Option Text) → KeepsLink j → IfOk (ended (j, of) rest) Keeps
+tag_ended_keeps j of None keeps = keeps
+tag_ended_keeps j of (Some text) keeps = tt
+
+got_keeps : (r : Result Tag ScriptKind) (rest : Option Text)
+    → IfOk (r >>= (λ (tag : Tag). ended (job.ReadArea tag.item, Some tag.kind) rest)) Keeps
+got_keeps (Ok tag) rest = tag_ended_keeps (job.ReadArea tag.item) (Some tag.kind) rest tt
+got_keeps (Err e) rest = tt
+
+tag_get_keeps : (tags : List Tag) (rest : Option Text) → IfOk (get_job tags rest) Keeps
+tag_get_keeps tags None = tt
+tag_get_keeps tags (Some text) = got_keeps (tag_named (field_of text) tags) (rest_of text)
+
+valued_keeps : (tag : Tag) (r : Result (List ℕ) ScriptKind) (rest : Option Text)
+    → IfOk (r >>= (λ (octets : List ℕ). ended (job.WriteArea tag.item octets, Some tag.kind) rest)) Keeps
+valued_keeps tag (Ok octets) rest = tag_ended_keeps (job.WriteArea tag.item octets) (Some tag.kind) rest tt
+valued_keeps tag (Err e) rest = tt
+
+put_value_keeps : (tag : Tag) (rest : Option Text) → IfOk (put_value tag rest) Keeps
+put_value_keeps tag None = tt
+put_value_keeps tag (Some text) = valued_keeps tag (value_or_fault (octets_said tag.kind (field_of text))) (rest_of text)
+
+putting_keeps : (r : Result Tag ScriptKind) (rest : Option Text) → IfOk (r >>= (λ (tag : Tag). put_value tag rest)) Keeps
+putting_keeps (Ok tag) rest = put_value_keeps tag rest
+putting_keeps (Err e) rest = tt
+
+tag_put_keeps : (tags : List Tag) (rest : Option Text) → IfOk (put_job tags rest) Keeps
+tag_put_keeps tags None = tt
+tag_put_keeps tags (Some text) = putting_keeps (tag_named (field_of text) tags) (rest_of text)
+
+tagged_keeps : (tags : Option (List Tag)) (name : Text) (rest : Option Text) → IfOk (tagged_by tags name rest) Keeps
+tagged_keeps None name rest = untagged_keeps (job_named name rest) (named_keeps name rest)
+tagged_keeps (Some tags) name rest =
+    either Keeps (bytes_eq name (codes "get")) (get_job tags rest) _ (tag_get_keeps tags rest)
+    (either Keeps (bytes_eq name (codes "put")) (put_job tags rest) (untagged (job_named name rest)) (tag_put_keeps tags rest)
+    (untagged_keeps (job_named name rest) (named_keeps name rest)))
+
 -- ---- the lines
 
 abbrev AllKeep : List ScriptLine → Type 0
 AllKeep lines = AllByRecursion (λ (l : ScriptLine). KeepsLink l.job) lines
 
-at_line_keeps : (line : ℕ) (r : Result Job ScriptKind) → IfOk r KeepsLink → IfOk (at_line line r) AllKeep
-at_line_keeps line (Ok job) keeps = (keeps, tt)
+at_line_keeps : (line : ℕ) (r : Result Tagged ScriptKind) → IfOk r Keeps → IfOk (at_line line r) AllKeep
+at_line_keeps line (Ok named) keeps = (keeps, tt)
 at_line_keeps line (Err e) keeps = tt
 
-line_keeps : (line : ℕ) (text : Text) → IfOk (line_jobs line text) AllKeep
-line_keeps line text = either AllKeep (is_passed text) (Ok []) (at_line line (job_of text)) tt (at_line_keeps line (job_of text) (named_keeps (field_of text) (rest_of text)))
+line_keeps : (tags : Option (List Tag)) (line : ℕ) (text : Text) → IfOk (line_jobs tags line text) AllKeep
+line_keeps tags line text =
+    either AllKeep (is_passed text) (Ok []) (at_line line (tagged_of tags text)) tt
+    (at_line_keeps line (tagged_of tags text) (tagged_keeps tags (field_of text) (rest_of text)))
 
 both_keep : (xs ys : List ScriptLine) → AllKeep xs → AllKeep ys → AllKeep (xs ++ ys)
 both_keep [] ys p q = q
@@ -185,11 +236,12 @@ joined_keep (Ok xs) (Ok ys) p q = both_keep xs ys p q
 joined_keep (Ok xs) (Err e) p q = tt
 joined_keep (Err e) s p q = tt
 
-lines_keep : (line : ℕ) (texts : List Text) → IfOk (script_lines line texts) AllKeep
+lines_keep : (tags : Option (List Tag)) (line : ℕ) (texts : List Text) → IfOk (script_lines tags line texts) AllKeep
 unfolding script_lines
-lines_keep line [] = tt
-lines_keep line (text ∷ rest) =
-    joined_keep (line_jobs line text) (script_lines (next_line line) rest) (line_keeps line text) (lines_keep (next_line line) rest)
+lines_keep tags line [] = tt
+lines_keep tags line (text ∷ rest) =
+    joined_keep (line_jobs tags line text) (script_lines tags (next_line line) rest) (line_keeps tags line text)
+    (lines_keep tags (next_line line) rest)
 
-pub scripts_keep : (text : Text) (lines : List ScriptLine) → script text ≡ Ok lines → AllKeep lines
-scripts_keep text found is = subst (λ r. IfOk r AllKeep) is (lines_keep 1 (lines text))
+pub scripts_keep : (tags : Option (List Tag)) (text : Text) (lines : List ScriptLine) → script_by tags text ≡ Ok lines → AllKeep lines
+scripts_keep tags text found is = subst (λ r. IfOk r AllKeep) is (lines_keep tags 1 (lines text))

@@ -13,11 +13,11 @@ use Rattle.hex.proofs.HexLemmas.{decode_of-encode_lower, decode_of-ok, decode_si
 use Rattle.s7_area.specs.Memory.{Memory, with_area}
 use Rattle.s7_area.specs.Registers.{most_octets, fault_of}
 use Rattle.s7_area.specs.declared.key.AreaKey.{AreaKey}
-use Rattle.s7_script.specs.Lines.{Text, lines}
-use Rattle.s7_script.specs.Reading.{State, filled, hex_octets, is_guard_line, is_passed, line_octets, next_line, octets_by, read_lines, run_octets, with_line}
+use Rattle.s7_text.specs.Lines.{Text, lines, is_passed, next_line}
+use Rattle.s7_script.specs.Reading.{State, filled, hex_octets, is_guard_line, line_octets, octets_by, read_lines, run_octets, with_line}
 use Rattle.s7_script.specs.Spelling.{before_run, begins_run, front_of, line_length, line_text, octet_lines}
 use Rattle.s7_script.specs.declared.areas.version.Version.TheVariants.{Two}
-use Rattle.s7_script.proofs.LineLemmas.{isn't}
+use Rattle.s7_text.proofs.LineLemmas.{isn't}
 use Rattle.s7_script.proofs.LawLemmas.{AllPlain, Lacks, between, digit_range, digits_lack, digits_plain, inside, line_then, no_guard, number_of-decimal, parts_none, parts_split, plain-append}
 use Rattle.s7_script.proofs.ReadLemmas.{line_passes}
 use Rattle.s7_script.proofs.WriteLemmas.{front-repeats, front-within, some-before, some-line}

@@ -3,7 +3,7 @@ use Rattle.std.proofs.Common.{◌≡◌, ◌∙◌, ◌<◌, ◌≤◌, ℕ, Opt
 use Rattle.std.proofs.lemmas.Grind.{common_steps}
 use Rattle.std.specs.Prelude.{codes, ◌==◌, ◌&&◌}
 use Rattle.std.specs.Str.{bytes_eq}
-use Rattle.s7_script.specs.Lines.{Text, with_first}
+use Rattle.s7_text.specs.Lines.{Text, with_first}
 use Rattle.s7_script.specs.Script.{parts}
 
 -- the parts of a text, of which the first octets have been seen

@@ -3,7 +3,7 @@ use Rattle.std.proofs.Common.{◌≡◌, ◌∙◌, ◌<◌, ◌≤◌, ◌+◌,
 use Rattle.std.specs.List.{flat_map}
 use Rattle.hex.specs.Hex.{encode_lower}
 use Rattle.s7_item.specs.declared.item.Item.{Item}
-use Rattle.s7_script.specs.Lines.{Text}
+use Rattle.s7_text.specs.Lines.{Text}
 use Rattle.s7_client.specs.Form.{count_read, octets_read}
 use Rattle.std.specs.Fmt.{decimal}
 use Rattle.s7_script.specs.Printing.{code_text, number_in, numbers_told, read_values, spaced}

@@ -1,7 +1,7 @@
 -- The lines one by one.
 use Rattle.std.proofs.Common.{◌≡◌, ℕ, refl, ap, List, [], ◌∷◌, Result, Ok}
-use Rattle.s7_script.specs.Lines.{Text}
-use Rattle.s7_script.specs.Reading.{State, FailsAs, with_line, read_lines, closed, next_line, ◌>>=◌}
+use Rattle.s7_text.specs.Lines.{Text, next_line}
+use Rattle.s7_script.specs.Reading.{State, FailsAs, with_line, read_lines, closed, ◌>>=◌}
 use Rattle.s7_script.specs.declared.areas.fault.AreasFault.{AreasFault}
 use Rattle.s7_script.specs.declared.areas.fault.AreasKind.{AreasKind}
 use Rattle.s7_script.specs.declared.areas.fault.AreasKind.TheVariants as kind

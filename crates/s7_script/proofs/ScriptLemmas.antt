@@ -1,14 +1,15 @@
 -- Items, lines and jobs one by one.
-use Rattle.std.proofs.Common.{◌≡◌, ◌≢◌, ◌∙◌, ◌<◌, ℕ, Bool, true, false, refl, sym, ap, arith, List, [], ◌∷◌, ◌++◌, length, Result, Ok, Err, append_assoc, append-nil, cond, None, Some, option_map}
+use Rattle.std.proofs.Common.{◌≡◌, ◌≢◌, ◌∙◌, ◌<◌, ℕ, Bool, true, false, refl, sym, ap, arith, List, [], ◌∷◌, ◌++◌, length, Result, Ok, Err, append_assoc, append-nil, cond, Option, None, Some, option_map}
 use Rattle.std.specs.Prelude.{◌==◌, unwrap_or}
 use Rattle.hex.specs.Hex.{decode_of, decode_sized}
 use Rattle.hex.specs.declared.error.FromHexError.{FromHexError}
 use Rattle.hex.proofs.HexLemmas.{decode_of-ok, decode_sized-twice}
 use Rattle.s7_item.specs.declared.item.Item.{Item}
 use Rattle.s7_item.specs.Word.{Row, of_size, size_of}
-use Rattle.s7_script.specs.Lines.{Text}
-use Rattle.s7_script.specs.Reading.{next_line}
-use Rattle.s7_script.specs.Script.{FailsAs, LineFails, Written, element_size, line_jobs, read_item, read_items, script_lines, written_item, written_items, ◌>>=◌}
+use Rattle.s7_symbol.specs.declared.tag.Tag.{Tag}
+use Rattle.s7_text.specs.Lines.{Text, next_line}
+use Rattle.s7_script.specs.Script.{FailsAs, LineFails, Written, element_size, read_item, read_items, written_item, written_items, ◌>>=◌}
+use Rattle.s7_script.specs.Tagged.{line_jobs, script_lines}
 use Rattle.s7_script.specs.ScriptShown.{appended, written_after}
 use Rattle.s7_script.specs.declared.scripts.script_list.ScriptLine.{ScriptLine}
 use Rattle.s7_script.specs.declared.scripts.script_fault.ScriptFault.{ScriptFault}
@@ -98,15 +99,19 @@ append-fail found r more e h =
     line_fails_on e e.kind (r >>= (λ first. more >>= (λ others. Ok (first ++ others)))) (λ others. Ok (found ++ others))
     (line_fails_on e e.kind r (λ first. more >>= (λ others. Ok (first ++ others))) h)
 
-pub lines-step : (found new : List ScriptLine) (line : ℕ) (text : Text) (rest : List Text) → appended found (line_jobs line text) ≡ Ok new
-    → appended found (script_lines line (text ∷ rest)) ≡ appended new (script_lines (next_line line) rest)
+pub lines-step : (tags : Option (List Tag)) (found new : List ScriptLine) (line : ℕ) (text : Text) (rest : List Text)
+    → appended found (line_jobs tags line text) ≡ Ok new
+    → appended found (script_lines tags line (text ∷ rest)) ≡ appended new (script_lines tags (next_line line) rest)
 unfolding script_lines
-lines-step found new line text rest h = append-step found new (line_jobs line text) (script_lines (next_line line) rest) h
+lines-step tags found new line text rest h =
+    append-step found new (line_jobs tags line text) (script_lines tags (next_line line) rest) h
 
-pub lines-fail : (found : List ScriptLine) (line : ℕ) (text : Text) (rest : List Text) (e : ScriptFault) → LineFails e e.kind (line_jobs line text)
-    → LineFails e e.kind (appended found (script_lines line (text ∷ rest)))
+pub lines-fail : (tags : Option (List Tag)) (found : List ScriptLine) (line : ℕ) (text : Text) (rest : List Text) (e : ScriptFault)
+    → LineFails e e.kind (line_jobs tags line text)
+    → LineFails e e.kind (appended found (script_lines tags line (text ∷ rest)))
 unfolding script_lines
-lines-fail found line text rest e h = append-fail found (line_jobs line text) (script_lines (next_line line) rest) e h
+lines-fail tags found line text rest e h =
+    append-fail found (line_jobs tags line text) (script_lines tags (next_line line) rest) e h
 
 -- no element is empty
 some_size : (a b c d e f g h i j : Bool)
@@ -129,9 +134,9 @@ some-size word =
     some_size (word == 0x01) (word == 0x02) (word == 0x03) (word == 0x04) (word == 0x05) (word == 0x06) (word == 0x07) (word == 0x08) (word == 0x1C) (word == 0x1D)
 
 -- nothing is left
-pub lines-ended : (found : List ScriptLine) (line : ℕ) → appended found (script_lines line []) ≡ Ok found
+pub lines-ended : (tags : Option (List Tag)) (found : List ScriptLine) (line : ℕ) → appended found (script_lines tags line []) ≡ Ok found
 unfolding script_lines
-lines-ended found line = ap Ok (append-nil found)
+lines-ended tags found line = ap Ok (append-nil found)
 
 pub items-ended : (items : List Item) → appended items (read_items []) ≡ Ok items
 unfolding read_items

@@ -9,9 +9,9 @@ use Rattle.std.specs.Str.{bytes_eq}
 use Rattle.hex.specs.Hex.{decode_of}
 use Rattle.hex.specs.declared.error.FromHexError.{FromHexError}
 use Rattle.hex.proofs.HexLemmas.{decode_of-ok}
-use Rattle.s7_script.specs.Lines.{Text, lines}
-use Rattle.s7_script.specs.Reading.{is_passed, next_line}
-use Rattle.s7_script.specs.Script.{LineFails, ◌>>=◌, field_of, rest_of, ended}
+use Rattle.s7_text.specs.Lines.{Text, lines, is_passed, next_line}
+use Rattle.s7_text.specs.Fields.{field_of, rest_of}
+use Rattle.s7_script.specs.Script.{LineFails, ◌>>=◌, ended}
 use Rattle.s7_script.specs.ScriptShown.{appended}
 use Rattle.s7_script.specs.Sends.{Send, IsSized, four_octets_in, with_body, with_digits, with_hex, block_sent, send_of}
 use Rattle.s7_script.specs.Sends.{at_line, line_sends, send_lines, sends}

@@ -19,11 +19,11 @@ use Rattle.s7_area.specs.Memory.{AreaList, Memory, key_cmp, area_octets}
 use Rattle.s7_area.specs.Registers.{IsArea, IsMemory, most_octets, most_in_all, most_dbs, db_numbers, fault_of, total_of}
 use Rattle.s7_area.specs.declared.key.AreaKey.{AreaKey}
 use Rattle.s7_area.specs.Laws.{AreasJoin}
-use Rattle.s7_script.specs.Lines.{Text, lines}
-use Rattle.s7_script.specs.Reading.{after_header, areas, next_line, read_lines}
+use Rattle.s7_text.specs.Lines.{Text, lines, next_line}
+use Rattle.s7_script.specs.Reading.{after_header, areas, read_lines}
 use Rattle.s7_script.specs.Spelling.{IsInRange, area_text, block, guard_text, head_text, header, octet_lines, order, part, part_of, single, singles, spelling}
 use Rattle.s7_script.proofs.KeptLemmas.{added, kept, all-found, all_kept, insert-kept, kept-none, lookup-kept, sorted-kept, sum-kept}
-use Rattle.s7_script.proofs.LineLemmas.{isn't}
+use Rattle.s7_text.proofs.LineLemmas.{isn't}
 use Rattle.s7_script.proofs.LawLemmas.{IsWritten, between, block_written, counters_written, flags_written, inputs_written, inside, line_then, opens, outputs_written, plain_by_test, timers_written}
 use Rattle.s7_script.proofs.GuardLemmas.{starts}
 use Rattle.s7_script.proofs.OctetLemmas.{bytes_of, octets_register}

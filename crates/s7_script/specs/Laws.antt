@@ -1,5 +1,5 @@
 -- Laws of area files, of printing and of scripts.
-use Rattle.std.specs.Prelude.{◌≡◌, ℕ, List, Ok}
+use Rattle.std.specs.Prelude.{◌≡◌, ℕ, List, Option, Ok}
 use Rattle.std.specs.List.{AllByRecursion}
 use Rattle.s7_area.specs.Memory.{Memory}
 use Rattle.s7_dialogue.specs.declared.job.Job.{Job}
@@ -8,11 +8,12 @@ use Rattle.s7_dialogue.specs.declared.job.JobResult.{JobResult}
 use Rattle.s7_dialogue.specs.Dialogue.{End}
 use Rattle.s7_client.specs.Form.{HasForm}
 use Rattle.s7_dialogue.specs.Running.{IsResult}
-use Rattle.s7_script.specs.Lines.{Text}
+use Rattle.s7_text.specs.Lines.{Text}
 use Rattle.s7_script.specs.Reading.{areas}
 use Rattle.s7_script.specs.Spelling.{spelling}
 use Rattle.s7_script.specs.Printing.{IsPrintable}
-use Rattle.s7_script.specs.Script.{script}
+use Rattle.s7_symbol.specs.declared.tag.Tag.{Tag}
+use Rattle.s7_script.specs.Tagged.{script_by}
 use Rattle.s7_script.specs.declared.scripts.script_list.ScriptLine.{ScriptLine}
 
 -- What is written for what a text names, of either version, is read as what the text names.
@@ -30,7 +31,7 @@ KeepsLink job.Connect = ⊥
 KeepsLink job.Disconnect = ⊥
 KeepsLink _ = Unit {0}
 
--- No line of a script connects or disconnects.
+-- No line of a script connects or disconnects, with tags or without.
 pub record ScriptsKeepLinks : Type 0 where
-  pub keeps : (text : Text) (lines : List ScriptLine) → script text ≡ Ok lines
+  pub keeps : (tags : Option (List Tag)) (text : Text) (lines : List ScriptLine) → script_by tags text ≡ Ok lines
       → AllByRecursion (λ (l : ScriptLine). KeepsLink l.job) lines

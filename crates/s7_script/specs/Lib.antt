@@ -1,14 +1,13 @@
-pub mod Lines
-pub mod Fields
 pub mod Reading
 pub mod Spelling
 pub mod Shown
 pub mod Naming
 pub mod Loading
-pub mod Moments
 pub mod Script
+pub mod Tagged
 pub mod ScriptShown
 pub mod Sends
 pub mod SendsShown
 pub mod Printing
+pub mod TagPrinting
 pub mod Laws

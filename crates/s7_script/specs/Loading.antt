@@ -5,7 +5,7 @@ use Rattle.s7_outer.specs.FilesShown.{FilesShown}
 use Rattle.s7_outer.specs.Files.{file_limit, NonePathFell, NoPathRoseTwice}
 use Rattle.s7_item.specs.Codes.{data_blocks}
 use Rattle.s7_area.specs.Memory.{Memory, no_areas, with_area}
-use Rattle.s7_script.specs.Lines.{Text}
+use Rattle.s7_text.specs.Lines.{Text}
 use Rattle.s7_script.specs.Reading.{areas}
 use Rattle.s7_script.specs.Naming.{Named, path, block, faulty}
 use Rattle.s7_script.specs.declared.areas.fault.AreasFault.{AreasFault}

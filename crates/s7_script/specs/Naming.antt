@@ -5,8 +5,8 @@ use Rattle.std.specs.Str.{bytes_eq}
 use Rattle.hex.specs.Hex.{decode_of}
 use Rattle.hex.specs.declared.error.FromHexError.{FromHexError}
 use Rattle.s7_area.specs.Registers.{most_octets}
-use Rattle.s7_script.specs.Lines.{Text}
-use Rattle.s7_script.specs.Fields.{number_of, parts_around}
+use Rattle.s7_text.specs.Lines.{Text}
+use Rattle.s7_text.specs.Fields.{number_of, parts_around}
 
 pub data Named : Type 0 where
   path : Text → Named

@@ -12,8 +12,8 @@ use Rattle.s7_dialogue.specs.declared.job.Job.{Job}
 use Rattle.s7_dialogue.specs.declared.job.Job.TheVariants as job
 use Rattle.s7_dialogue.specs.declared.job.JobResult.{JobResult}
 use Rattle.s7_client.specs.Form.{count_read, octets_read}
-use Rattle.s7_script.specs.Lines.{Text}
-use Rattle.s7_script.specs.Moments.{Parts, date_text}
+use Rattle.s7_text.specs.Lines.{Text}
+use Rattle.s7_text.specs.Moments.{clock_values}
 
 -- the word of a job
 abbrev pub word_of : Job → Text
@@ -77,11 +77,6 @@ numbers_told at (a ∷ b ∷ c ∷ d ∷ rest) = decimal (number_in (a ∷ b ∷
 
 abbrev pub codes_of : JobResult → List ℕ
 codes_of r = take r.count r.codes
-
--- the date and time that the octets of a clock show
-abbrev pub clock_values : Option Parts → List Text
-clock_values None = []
-clock_values (Some parts) = date_text parts ∷ []
 
 -- whether the controller runs
 abbrev pub mode_values : Option Bool → List Text

@@ -1,6 +1,6 @@
 -- What an area file says: its guard and its areas, or the first faulty line.
-use Rattle.std.specs.Prelude.{ℕ, Bool, true, false, ◌==◌, ◌&&◌, ◌+◌, ◌-◌, ◌≡◌, nat_lt, nat_le, List, [], ◌∷◌, ◌++◌, length, replicate, slice_index, min, codes, Option, Some, None, Result, Ok, Err, if◌then◌else◌}
-use Rattle.std.specs.List.{list_all, position}
+use Rattle.std.specs.Prelude.{ℕ, Bool, true, false, ◌==◌, ◌&&◌, ◌+◌, ◌-◌, ◌≡◌, nat_lt, nat_le, List, [], ◌∷◌, ◌++◌, length, replicate, slice_index, codes, Option, Some, None, Result, Ok, Err, if◌then◌else◌}
+use Rattle.std.specs.List.{list_all}
 use Rattle.std.specs.Str.{bytes_eq}
 use Rattle.hex.specs.Hex.{decode_of, decode_sized}
 use Rattle.hex.specs.declared.error.FromHexError.{FromHexError}
@@ -11,8 +11,8 @@ use Rattle.s7_area.specs.declared.guard.Guard.{Guard}
 use Rattle.s7_area.specs.declared.key.AreaKey.{AreaKey}
 use Rattle.s7_area.specs.declared.register.RegisterFault.{RegisterFault}
 use Rattle.s7_area.specs.declared.register.RegisterFault.TheVariants as refusal
-use Rattle.s7_script.specs.Lines.{Text, lines}
-use Rattle.s7_script.specs.Fields.{fault_at, is_space, first_field, fields_after, parts_around, number_of, number_within}
+use Rattle.s7_text.specs.Lines.{Text, is_passed, lines, next_line}
+use Rattle.s7_text.specs.Fields.{field_of, number_of, parts_around, rest_of}
 use Rattle.s7_script.specs.declared.areas.version.Version.{Version}
 use Rattle.s7_script.specs.declared.areas.version.Version.TheVariants.{One, Two}
 use Rattle.s7_script.specs.declared.areas.fault.AreasFault.{AreasFault}
@@ -23,6 +23,15 @@ infixl 10 ◌>>=◌
 abbrev pub ◌>>=◌ : {A B : Type 0} → Result A AreasFault → (A → Result B AreasFault) → Result B AreasFault
 (Ok x) >>= f = f x
 (Err e) >>= f = Err e
+
+abbrev pub fault_at : {A : Type 0} → ℕ → AreasKind → Result A AreasFault
+fault_at line kind = Err (record { line = line; kind = kind })
+
+-- a number that fits its field
+abbrev pub number_within : ℕ → ℕ → Option ℕ → ℕ → Result ℕ AreasFault
+number_within low high None line = fault_at line kind.Number
+number_within low high (Some n) line =
+    if nat_le low n && nat_le n high then Ok n else fault_at line kind.Number
 
 -- the version that the first line names
 abbrev pub version_of : Text → Option Version
@@ -55,8 +64,8 @@ with_word line level (Some text) =
 abbrev pub guard_line : ℕ → Option Text → Result Guard AreasFault
 guard_line line None = fault_at line kind.Line
 guard_line line (Some text) = do
-  level ← number_within 2 3 (number_of (first_field text (position is_space text))) line
-  with_word line level (fields_after text (position is_space text))
+  level ← number_within 2 3 (number_of (field_of text)) line
+  with_word line level (rest_of text)
 
 -- ---- a line that begins an area
 
@@ -79,15 +88,15 @@ ended line area (Some rest) = fault_at line kind.Line
 abbrev pub with_size : ℕ → AreaKey → Option Text → Result (AreaKey × ℕ) AreasFault
 with_size line key None = fault_at line kind.Line
 with_size line key (Some text) = do
-  size ← number_within 0 9999999999 (number_of (first_field text (position is_space text))) line
-  ended line (key, size) (fields_after text (position is_space text))
+  size ← number_within 0 9999999999 (number_of (field_of text)) line
+  ended line (key, size) (rest_of text)
 
 -- the number of a data block, and its length
 abbrev pub block_line : ℕ → Option Text → Result (AreaKey × ℕ) AreasFault
 block_line line None = fault_at line kind.Line
 block_line line (Some text) = do
-  number ← number_within 1 65535 (number_of (first_field text (position is_space text))) line
-  with_size line (record { area = data_blocks; number = number }) (fields_after text (position is_space text))
+  number ← number_within 1 65535 (number_of (field_of text)) line
+  with_size line (record { area = data_blocks; number = number }) (rest_of text)
 
 abbrev pub named_line : ℕ → Option ℕ → Option Text → Result (AreaKey × ℕ) AreasFault
 named_line line None rest = fault_at line kind.Line
@@ -97,8 +106,8 @@ named_line line (Some area) rest =
 
 -- the name and the length of an area
 abbrev pub area_line : ℕ → Text → Result (AreaKey × ℕ) AreasFault
-area_line line text = named_line line (area_named (first_field text (position is_space text)))
-    (fields_after text (position is_space text))
+area_line line text = named_line line (area_named (field_of text))
+    (rest_of text)
 
 -- ---- a line of octets
 
@@ -154,14 +163,9 @@ pub record State : Type 0 where
   pub areas : Memory
   pub current : Option Open
 
--- empty lines and comments
-abbrev pub is_passed : Text → Bool
-is_passed [] = true
-is_passed (b ∷ bs) = b == 35
-
 -- a line that gives a guard, wherever it stands
 abbrev pub is_guard_line : Text → Bool
-is_guard_line text = bytes_eq (first_field text (position is_space text)) (codes "protect")
+is_guard_line text = bytes_eq (field_of text) (codes "protect")
 
 -- the fault of an area that isn't taken
 abbrev pub kind_of : RegisterFault → AreasKind
@@ -221,12 +225,8 @@ by_current line s (Some a) text = with_octets line s a (line_octets line s.versi
 unfoldable pub with_line : ℕ → State → Text → Result State AreasFault
 with_line line s text =
     if is_passed text then Ok s
-    else (if is_guard_line text then guarded line s (fields_after text (position is_space text))
+    else (if is_guard_line text then guarded line s (rest_of text)
     else by_current line s s.current text)
-
--- the number of the next line
-abbrev pub next_line : ℕ → ℕ
-next_line line = min (line + 1) 4294967295
 
 abbrev pub closed : ℕ → State → Option Open → Result Memory AreasFault
 closed line s None = Ok s.areas

@@ -1,4 +1,4 @@
--- What a script says: its jobs line by line, or the first faulty line.
+-- What the lines of scripts say: the jobs that they name.
 use Rattle.std.specs.Prelude.{ℕ, Bool, ◌≡◌, ◌==◌, ◌&&◌, ◌+◌, ◌*◌, ◌/◌, ◌%◌, ◌||◌, nat_le, List, [], ◌∷◌, ◌++◌, length, take, drop, codes, unwrap_or, Option, Some, None, Result, Ok, Err, if◌then◌else◌}
 use Rattle.std.specs.List.{position, list_all}
 use Rattle.std.specs.Str.{bytes_eq}
@@ -11,11 +11,10 @@ use Rattle.s7_item.specs.declared.item.Item.{Item}
 use Rattle.s7_block.specs.declared.block.BlockName.{BlockName}
 use Rattle.s7_dialogue.specs.declared.job.Job.{Job}
 use Rattle.s7_dialogue.specs.declared.job.Job.TheVariants as job
-use Rattle.s7_script.specs.Lines.{Text, lines, with_first}
-use Rattle.s7_script.specs.Fields.{is_space, first_field, fields_after, number_of}
-use Rattle.s7_script.specs.Moments.{moment_named}
-use Rattle.s7_script.specs.Reading.{area_named, is_passed, next_line}
-use Rattle.s7_script.specs.declared.scripts.script_list.ScriptLine.{ScriptLine}
+use Rattle.s7_text.specs.Lines.{Text, with_first}
+use Rattle.s7_text.specs.Fields.{field_of, number_of, rest_of}
+use Rattle.s7_text.specs.Moments.{moment_named}
+use Rattle.s7_script.specs.Reading.{area_named}
 use Rattle.s7_script.specs.declared.scripts.script_fault.ScriptFault.{ScriptFault}
 use Rattle.s7_script.specs.declared.scripts.script_fault.ScriptKind.{ScriptKind}
 use Rattle.s7_script.specs.declared.scripts.script_fault.ScriptKind.TheVariants as kind
@@ -26,12 +25,6 @@ abbrev pub ◌>>=◌ : {A B E : Type 0} → Result A E → (A → Result B E) �
 (Err e) >>= f = Err e
 
 -- ---- fields, of which the first wrong one from the left decides
-
-abbrev pub field_of : Text → Text
-field_of text = first_field text (position is_space text)
-
-abbrev pub rest_of : Text → Option Text
-rest_of text = fields_after text (position is_space text)
 
 -- a number in a range
 abbrev pub within : ℕ → ℕ → Option ℕ → Result ℕ ScriptKind
@@ -393,32 +386,6 @@ job_named name rest =
     else (if bytes_eq name (codes "setclock") then set_clock_job rest
     else (if bytes_eq name (codes "password") then password_job rest
     else or_unknown (plain_job name) rest)))))))))))))
-
--- the job that a line names
-abbrev pub job_of : Text → Result Job ScriptKind
-job_of text = job_named (field_of text) (rest_of text)
-
--- ---- the lines in order
-
-abbrev pub at_line : ℕ → Result Job ScriptKind → Result (List ScriptLine) ScriptFault
-at_line line (Ok job) = Ok (record { line = line; job = job } ∷ [])
-at_line line (Err kind) = Err (record { line = line; kind = kind })
-
--- empty lines and comments have no job, every other line has one
-abbrev pub line_jobs : ℕ → Text → Result (List ScriptLine) ScriptFault
-line_jobs line text = if is_passed text then Ok [] else at_line line (job_of text)
-
--- the lines from this number on
-unfoldable pub script_lines : ℕ → List Text → Result (List ScriptLine) ScriptFault
-script_lines line [] = Ok []
-script_lines line (text ∷ rest) = do
-  jobs ← line_jobs line text
-  more ← script_lines (next_line line) rest
-  Ok (jobs ++ more)
-
--- the jobs that a script names, or its first faulty line
-abbrev pub script : Text → Result (List ScriptLine) ScriptFault
-script text = script_lines 1 (lines text)
 
 -- ---- what a call returned is this, unless memory ran out
 

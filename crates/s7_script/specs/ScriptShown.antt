@@ -4,11 +4,13 @@ use Rattle.std.specs.Option.{option_map}
 use Rattle.hex.specs.Hex.{decode_of}
 use Rattle.hex.specs.declared.error.FromHexError.{FromHexError}
 use Rattle.s7_item.specs.declared.item.Item.{Item}
-use Rattle.s7_script.specs.Lines.{Text}
+use Rattle.s7_text.specs.Lines.{Text}
 use Rattle.s7_script.specs.Script.{Place, Written, parts, ◌>>=◌}
 use Rattle.s7_script.specs.declared.scripts.script_fault.ScriptKind.{ScriptKind}
 use Rattle.s7_script.specs.declared.scripts.script_fault.ScriptKind.TheVariants as kind
 use Rattle.s7_script.specs.declared.scripts.item_text.Placed.{Placed}
+use Rattle.s7_script.specs.Tagged.{Tagged}
+use Rattle.s7_script.specs.declared.scripts.tag_line.TaggedJob.{TaggedJob}
 use Rattle.s7_script.specs.declared.scripts.written.WrittenItem.{WrittenItem}
 use Rattle.s7_script.specs.declared.scripts.written.WrittenItems.{WrittenItems}
 
@@ -20,6 +22,9 @@ written_of w = (w.item, w.octets.items)
 
 abbrev pub all_written : WrittenItems → List Item × List ℕ
 all_written w = (w.items.items, w.octets.items)
+
+abbrev pub tagged_told : TaggedJob → Tagged
+tagged_told t = (t.job, t.tag)
 
 -- the octets of a field, an even number of hexadecimal digits
 abbrev pub octets_or_fault : Result (List ℕ) FromHexError → Result (List ℕ) ScriptKind

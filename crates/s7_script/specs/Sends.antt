@@ -4,9 +4,9 @@ use Rattle.std.specs.Prelude.{Result, Ok, Err, if◌then◌else◌}
 use Rattle.std.specs.Str.{bytes_eq}
 use Rattle.hex.specs.Hex.{decode_of}
 use Rattle.hex.specs.declared.error.FromHexError.{FromHexError}
-use Rattle.s7_script.specs.Lines.{Text, lines}
-use Rattle.s7_script.specs.Reading.{is_passed, next_line}
-use Rattle.s7_script.specs.Script.{◌>>=◌, field_of, rest_of, ended}
+use Rattle.s7_text.specs.Lines.{Text, lines, is_passed, next_line}
+use Rattle.s7_text.specs.Fields.{field_of, rest_of}
+use Rattle.s7_script.specs.Script.{◌>>=◌, ended}
 use Rattle.s7_script.specs.declared.sends.send_list.SendLine.{SendLine}
 use Rattle.s7_script.specs.declared.scripts.script_fault.ScriptFault.{ScriptFault}
 use Rattle.s7_script.specs.declared.scripts.script_fault.ScriptKind.{ScriptKind}

@@ -1,6 +1,6 @@
 -- The one text that is written for areas and their guard.
 use Rattle.std.specs.Prelude.{ℕ, zero, suc, Bool, ◌+◌, ◌==◌, ◌<◌, nat_le, List, [], ◌∷◌, ◌++◌, length, map, min, codes, take, drop, Option, None, Some, IfSome, if◌then◌else◌}
-use Rattle.std.specs.List.{flat_map, position, prefix_len}
+use Rattle.std.specs.List.{flat_map, prefix_len}
 use Rattle.std.specs.Map.{keys_of}
 use Rattle.std.specs.Fmt.{decimal}
 use Rattle.hex.specs.Hex.{IsBytes, encode_lower}
@@ -9,8 +9,8 @@ use Rattle.s7_area.specs.Memory.{Memory, area_octets}
 use Rattle.s7_area.specs.Registers.{db_numbers}
 use Rattle.s7_area.specs.declared.guard.Guard.{Guard}
 use Rattle.s7_area.specs.declared.key.AreaKey.{AreaKey}
-use Rattle.s7_script.specs.Lines.{Text}
-use Rattle.s7_script.specs.Fields.{first_field, is_space}
+use Rattle.s7_text.specs.Lines.{Text}
+use Rattle.s7_text.specs.Fields.{field_of}
 
 -- the first line
 abbrev pub header : Text
@@ -20,7 +20,7 @@ header = codes "s7 areas 2"
 
 -- a password without the spaces that fill it up
 abbrev pub word_of : List ℕ → Text
-word_of password = first_field password (position is_space password)
+word_of password = field_of password
 
 -- the line that gives a guard
 abbrev pub guard_head : Guard → Text

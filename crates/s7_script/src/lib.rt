@@ -4,11 +4,10 @@
 
 mod areas;
 mod laws;
-mod lines;
-mod moment;
 mod print;
 mod scripts;
 mod sends;
+mod tag_print;
 
 pub use areas::fault::{AreasFault, AreasKind};
 pub use areas::load::{LoadFault, load_areas};
@@ -16,8 +15,9 @@ pub use areas::read::read_areas;
 pub use areas::write::write_areas;
 pub use laws::{areas_migrate, ends_print, scripts_keep_links};
 pub use print::print_result;
-pub use scripts::reading::read_script;
+pub use scripts::reading::{read_script, read_tag_script};
 pub use scripts::script_fault::{ScriptFault, ScriptKind};
 pub use scripts::script_list::{Script, ScriptLine};
 pub use sends::read_sends;
 pub use sends::send_list::{SendLine, Sends};
+pub use tag_print::print_tag;

@@ -7,17 +7,18 @@ ghost use Rattle.s7_clock.specs.Clock.{parts_in};
 ghost use Rattle.s7_clock.specs.Moment.{moment_in};
 ghost use Rattle.s7_szl.specs.Readers.{mode_of};
 ghost use Rattle.s7_client.specs.Form.{count_read, octets_read};
-ghost use Rattle.s7_script.specs.Printing.{IsPrintable, IsPrintableOf, clock_values, code_text, four_octets};
+ghost use Rattle.s7_text.specs.Moments.{clock_values};
+ghost use Rattle.s7_script.specs.Printing.{IsPrintable, IsPrintableOf, code_text, four_octets};
 ghost use Rattle.s7_script.specs.Printing.{job_values, mode_values, number_in, numbers_told, octets_value, print};
 ghost use Rattle.s7_script.specs.Printing.{read_values};
 ghost use Rattle.s7_script.specs.Printing.{spaced, values, values_text, word_of};
 
-use crate::moment::clock_text;
 use s7_client::{Job, JobResult};
 use s7_item::Item;
 use s7_item::codes::GOOD;
 use s7_outer::{Memory, Octets};
 use s7_szl::read_mode;
+use s7_text::clock_text;
 use std::alloc::Global;
 
 /// The octets of each kind that is counted, and of each block that is listed.
@@ -42,7 +43,7 @@ pub fn print_result(alloc: Global, line: u32, done: &JobResult) -> Result<Octets
     ensures { IfOk result (λ text. text ≡ print line done.now) }
 {
     let mut text = Vec::new(alloc);
-    add_head(alloc, &mut text, line, done)?;
+    add_head(alloc, &mut text, line, word_of(&done.job), done.code)?;
     let values = values_text(alloc, done)?;
     if values.is_empty() {
         text.extend_from_slice(b" -")?;
@@ -54,19 +55,24 @@ pub fn print_result(alloc: Global, line: u32, done: &JobResult) -> Result<Octets
 }
 
 /// Adds the line's number, the job's word and the code.
-fn add_head(alloc: Global, text: &mut Vec<u8>, line: u32, done: &JobResult) -> Result<(), Memory>
+pub(crate) fn add_head(
+    alloc: Global,
+    text: &mut Vec<u8>,
+    line: u32,
+    word: &str,
+    code: u32,
+) -> Result<(), Memory>
     ensures { OnOk result (text.new.items ≡ text.old.items
-        ++ (decimal line ++ 32 ∷ word_of done.now.job ++ 32 ∷ encode_upper (four_octets done.now.code))) }
+        ++ (decimal line ++ 32 ∷ word.now ++ 32 ∷ encode_upper (four_octets code))) }
 {
-    let word = word_of(&done.job);
     let head = format!(in alloc; "{line} {word} ")?;
-    let code = hex::encode_upper(alloc, four_octets(done.code).as_slice())?;
+    let code = hex::encode_upper(alloc, four_octets(code).as_slice())?;
     text.extend_from_slice(head.as_bytes())?;
     text.extend_from_slice(code.as_bytes())?;
     Ok(())
 }
 
-fn word_of(job: &Job) -> &'static str
+pub(crate) fn word_of(job: &Job) -> &'static str
     ensures { result.now ≡ word_of job.now }
 {
     match job {

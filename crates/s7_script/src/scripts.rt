@@ -7,4 +7,5 @@ pub(crate) mod reading;
 pub(crate) mod script_fault;
 pub(crate) mod script_line;
 pub(crate) mod script_list;
+pub(crate) mod tag_line;
 pub(crate) mod written;

@@ -4,11 +4,11 @@ ghost use Rattle.s7_script.specs.Script.{GivesScript, LineFails};
 ghost use Rattle.s7_script.specs.ScriptShown.{appended};
 ghost use Rattle.s7_script.specs.Sends.{IsSized, line_sends, sends};
 
-use crate::lines::first_line;
 use crate::scripts::reading::add_line;
 use crate::sends::send_line::{NamedBlock, send_of};
 use crate::sends::send_list::{SendLine, Sends};
 use crate::{ScriptFault, ScriptKind};
+use s7_text::first_line;
 use std::alloc::Global;
 
 pub(crate) mod send_line;

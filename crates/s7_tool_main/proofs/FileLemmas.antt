@@ -1,5 +1,5 @@
 -- What was read of files, from call to call.
-use Rattle.std.proofs.Common.{◌≡◌, ◌∙◌, ℕ, ◌+◌, ◌<◌, refl, sym, ap, subst, inl, inr, List, [], ◌∷◌, ◌++◌, Ok, Err}
+use Rattle.std.proofs.Common.{◌≡◌, ◌∙◌, ℕ, ◌+◌, ◌<◌, refl, sym, ap, subst, inl, inr, List, [], ◌∷◌, ◌++◌, Ok, Err, Option}
 use Rattle.std.proofs.Common.{drop, length, map, slice_index_or, take}
 use Rattle.std.specs.Prelude.{Result}
 use Rattle.std.proofs.lemmas.List.{drop_more, map-append, take-append-drop}
@@ -10,8 +10,7 @@ use Rattle.s7_script.specs.declared.areas.load.LoadFault.{LoadFault as AreasFaul
 use Rattle.s7_script.specs.declared.areas.load.LoadFault.TheVariants as areas
 use Rattle.s7_script.specs.Naming.{Named, path, block, faulty}
 use Rattle.s7_script.specs.declared.scripts.script_list.ScriptLine.{ScriptLine}
-use Rattle.s7_tool_main.specs.declared.load.LoadFault.{LoadFault}
-use Rattle.s7_tool_main.specs.declared.load.LoadFault.TheVariants as fault
+use Rattle.s7_symbol.specs.declared.tag.Tag.{Tag}
 use Rattle.s7_tool_main.specs.Loading.{KeepsPaths, ReadsScript}
 use Rattle.s7_tool_main.specs.Scripts.{AddsScript, ReadsScripts}
 
@@ -48,22 +47,24 @@ map_split f xs i d lt =
     ap (map f) (sym (take-append-drop i xs)) ∙ map-append f (take i xs) (drop i xs)
     ∙ ap (λ t. map f (take i xs) ++ map f t) (drop_more xs i d lt)
 
-reads_push : (ps : List (List ℕ)) (p : List ℕ) (ss : List (List ScriptLine)) (s : List ScriptLine) (f : FilesShown)
-    → ReadsScripts ps f ss → ReadsScript p f (λ read. read ≡ s) → ReadsScripts (ps ++ p ∷ []) f (ss ++ s ∷ [])
-unfolding ReadsScripts
-reads_push [] p [] s f h k = (k, tt)
-reads_push [] p (t ∷ ss) s f h k = absurd h
-reads_push (q ∷ ps) p [] s f h k = absurd h
-reads_push (q ∷ ps) p (t ∷ ss) s f h k = (h.0, reads_push ps p ss s f h.1 k)
+module _ (known : Option (List Tag)) where
+  reads_push : (ps : List (List ℕ)) (p : List ℕ) (ss : List (List ScriptLine)) (s : List ScriptLine) (f : FilesShown)
+      → ReadsScripts known ps f ss → ReadsScript known p f (λ read. read ≡ s)
+      → ReadsScripts known (ps ++ p ∷ []) f (ss ++ s ∷ [])
+  unfolding ReadsScripts
+  reads_push [] p [] s f h k = (k, tt)
+  reads_push [] p (t ∷ ss) s f h k = absurd h
+  reads_push (q ∷ ps) p [] s f h k = absurd h
+  reads_push (q ∷ ps) p (t ∷ ss) s f h k = (h.0, reads_push ps p ss s f h.1 k)
 
--- one script more
-pub reads_more : (ps : List (List ℕ)) (p : List ℕ) (ss ss' : List (List ScriptLine)) (f : FilesShown)
-    → ReadsScripts ps f ss → AddsScript p f ss ss' → ReadsScripts (ps ++ p ∷ []) f ss'
-reads_more ps p ss ss' f h k =
-    subst (ReadsScripts (ps ++ p ∷ []) f) (sym k.so)
-    (reads_push ps p ss k.lines f h
-    (record { octets = k.octets; lines = k.lines; held = k.held; named = k.named; so = refl }))
+  -- one script more
+  pub reads_more : (ps : List (List ℕ)) (p : List ℕ) (ss ss' : List (List ScriptLine)) (f : FilesShown)
+      → ReadsScripts known ps f ss → AddsScript known p f ss ss' → ReadsScripts known (ps ++ p ∷ []) f ss'
+  reads_more ps p ss ss' f h k =
+      subst (ReadsScripts known (ps ++ p ∷ []) f) (sym k.so)
+      (reads_push ps p ss k.lines f h
+      (record { octets = k.octets; lines = k.lines; sized = k.sized; held = k.held; named = k.named; so = refl }))
 
-pub reads_none : (f : FilesShown) → ReadsScripts [] f []
-unfolding ReadsScripts
-reads_none f = tt
+  pub reads_none : (f : FilesShown) → ReadsScripts known [] f []
+  unfolding ReadsScripts
+  reads_none f = tt

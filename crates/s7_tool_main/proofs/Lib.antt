@@ -1,10 +1,12 @@
 pub mod AreasLemmas
 pub mod ConnectsLemmas
 pub mod DrawnLemmas
+pub mod EndLemmas
 pub mod FileLemmas
 pub mod NamesLemmas
 pub mod RanLemmas
 pub mod PartnerLemmas
 pub mod RunLemmas
+pub mod TagLemmas
 pub mod TextLemmas
 pub mod ToldLemmas

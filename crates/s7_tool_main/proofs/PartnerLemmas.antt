@@ -34,6 +34,7 @@ module _ (told : PartnerTold) (one other : List SendLine) (path : List ℕ) (fil
   ran_pair how text text' done t same printed = record {
     octets = read.octets;
     lines = read.lines;
+    sized = read.sized;
     held = read.held;
     named = read.named;
     so = subst (λ lines. RanPair told one lines out out' how) (sym read.so) (record {
@@ -153,6 +154,7 @@ module _ {L : Type 0} (shows : L → Shown) where
     with_both how r = record {
       octets = read.octets;
       lines = read.lines;
+      sized = read.sized;
       held = read.held;
       named = read.named;
       so =
@@ -162,7 +164,7 @@ module _ {L : Type 0} (shows : L → Shown) where
 
     with_first : (P : Type 0) → P → ReadsSends told.one files (λ lines. P)
     with_first P p =
-        record { octets = read.octets; lines = read.lines; held = read.held; named = read.named; so = p }
+        record { octets = read.octets; lines = read.lines; sized = read.sized; held = read.held; named = read.named; so = p }
 
     pub both_by : (how : Ended) → told.other ≡ Some path → BothEnd told one path middle files' out out' how
         → PartnerEnds shows told files files' dial dial' out out' None how

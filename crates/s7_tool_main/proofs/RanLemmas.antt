@@ -1,5 +1,5 @@
 -- What a rig gives, and how it ended.
-use Rattle.std.proofs.Common.{◌≡◌, refl, inr, List, ℕ, map, None, Some, Result, Ok, Err}
+use Rattle.std.proofs.Common.{◌≡◌, ◌⊎◌, refl, ap, inl, inr, List, ℕ, map, None, Some, Option, Result, Ok, Err}
 use Rattle.std.specs.Prelude.{All, IfOk, IsSomeAnd}
 use Rattle.std.proofs.lemmas.List.Elements.{All-weaker}
 use Rattle.s7_outer.specs.FilesShown.{FilesShown}
@@ -12,12 +12,14 @@ use Rattle.s7_rig.specs.Formed.{AreFormed, IsFormed, RigsAreFormed}
 use Rattle.s7_rig.specs.Rigs.{RigRan, Turning}
 use Rattle.s7_rig.specs.Shown.{EndTold, end_told}
 use Rattle.s7_script.specs.Laws.{EndsPrint}
-use Rattle.s7_script.specs.Loading.{NamedGives}
+use Rattle.s7_script.specs.Loading.{HasFailed, Loads, NamedGives, PathFailed}
+use Rattle.s7_script.specs.Naming.{Named, block_named, block_with, inline_parts, named_by}
 use Rattle.s7_script.specs.Naming.{naming}
 use Rattle.s7_script.specs.Printing.{IsPrintable}
-use Rattle.s7_script.specs.Script.{script}
-use Rattle.s7_script.specs.declared.scripts.script_fault.ScriptFault.{ScriptFault}
+use Rattle.s7_script.specs.declared.areas.load.LoadFault.{LoadFault as AreasFault}
+use Rattle.s7_script.specs.declared.areas.load.LoadFault.TheVariants as areas
 use Rattle.s7_script.specs.declared.scripts.script_list.ScriptLine.{ScriptLine}
+use Rattle.s7_symbol.specs.declared.tag.Tag.{Tag}
 use Rattle.s7_args.specs.Tool.{RigTold}
 use Rattle.s7_tool_main.specs.declared.ended.Ended.{Ended}
 use Rattle.s7_tool_main.specs.declared.ended.Ended.TheVariants as ended
@@ -26,12 +28,14 @@ use Rattle.s7_tool_main.specs.declared.load.LoadFault.TheVariants as fault
 use Rattle.s7_tool_main.specs.Drawn.{made_scripts}
 use Rattle.s7_tool_main.specs.Gen.{GenEnds, made_areas, made_config, made_turning}
 use Rattle.s7_tool_main.specs.GenText.{are_made_good, made_text}
-use Rattle.s7_tool_main.specs.Loading.{IsRefusedFor, RefusesText, refusal_line}
-use Rattle.s7_tool_main.specs.Report.{Printed, PrintsText, TellsFault}
+use Rattle.s7_tool_main.specs.Loading.{ReadsTags, StopsAtTags, refusal_line, script_reader}
+use Rattle.s7_tool_main.specs.Report.{Printed, PrintsText, TellsFault, script_line, tags_line}
 use Rattle.s7_tool_main.specs.RigText.{ArePrintable, are_clients_good, rig_text}
-use Rattle.s7_tool_main.specs.Rigging.{ComesTo, RanJobs, RanRig, RigEnds}
+use Rattle.s7_tool_main.specs.Rigging.{ComesTo, FailsOther, IsPathOf, RanJobs, RanRig, RefusesAreas, RefusesOneScript}
+use Rattle.s7_tool_main.specs.Rigging.{RigEnds, areas_refusal_line}
 use Rattle.s7_tool_main.specs.Run.{jobs_of}
 use Rattle.s7_tool_main.specs.Scripts.{ReadsScripts, StopsAt}
+use Rattle.s7_tool_main.proofs.TagLemmas.{fails_tags, refuses_tags, refuses_text, with_tags}
 
 -- all its results can be printed
 pub rig_prints : EndsPrint → RigsAreFormed → (opening : Memory) (limit : ℕ) (config : Config)
@@ -47,70 +51,143 @@ pub if_ok : {A E : Type 0} (P Q : A → Type 0) (r : Result A E) → ((a : A) �
 if_ok P Q (Ok a) f h = f a h
 if_ok P Q (Err e) f h = tt
 
+-- ---- areas that weren't loaded
+
+block_unfailed : (number : ℕ) (octets : Option (List ℕ)) (old new : FilesShown)
+    → HasFailed (block_with number octets) old new → ⊥
+block_unfailed number None old new h = h
+block_unfailed number (Some octets) old new h = h
+
+named_unfailed : (number : Option ℕ) (digits : List ℕ) (old new : FilesShown)
+    → HasFailed (block_named number digits) old new → ⊥
+named_unfailed None digits old new h = h
+named_unfailed (Some number) digits old new h = block_unfailed number _ old new h
+
+failed_by : (word : List ℕ) (parts : Option (List ℕ × List ℕ)) (old new : FilesShown)
+    → HasFailed (named_by word parts) old new
+    → IsPathOf (named_by word parts) word × PathFailed word old.faults new.faults
+failed_by word None old new h = (refl, h)
+failed_by word (Some parts) old new h = absurd (named_unfailed _ parts.1 old new h)
+
+-- only a path fails, and that path is the word
+word_failed : (word : List ℕ) (old new : FilesShown) → HasFailed (naming word) old new
+    → IsPathOf (naming word) word × PathFailed word old.faults new.faults
+word_failed word old new h = failed_by word (inline_parts word) old new h
+
+refuses_areas : (named : Named) (why : AreasFault) (old new : FilesShown) (P : List ℕ → Type 0)
+    → Loads named old new (Err why) → IsSomeAnd (areas_refusal_line why) P → RefusesAreas named old P
+refuses_areas named areas.Failed old new P h printed = absurd printed
+refuses_areas named areas.TooLong old new P h printed =
+    record { fault = areas.TooLong; line = _; refused = h.answers; line_is = refl; is_printed = printed }
+refuses_areas named (areas.Line k) old new P h printed =
+    record { fault = areas.Line k; line = _; refused = h.answers; line_is = refl; is_printed = printed }
+refuses_areas named areas.Memory old new P h printed = absurd printed
+
 -- ---- how it ended
 
-pub refuses_text : {A : Type 0} (reader : List ℕ → Result (List A) ScriptFault) (p : List ℕ) (f : LoadFault)
-    (files : FilesShown) (P : List ℕ → Type 0) → IsRefusedFor reader p files f → IsSomeAnd (refusal_line f) P
-    → RefusesText reader p files P
-refuses_text reader p fault.Failed files P h printed = absurd printed
-refuses_text reader p fault.TooLong files P h printed =
-    record { fault = fault.TooLong; line = _; refused = h; line_is = refl; is_printed = printed }
-refuses_text reader p (fault.Line k) files P h printed =
-    record { fault = fault.Line k; line = _; refused = h; line_is = refl; is_printed = printed }
-refuses_text reader p fault.Memory files P h printed = absurd printed
-
 module _ (told : RigTold) (old new : FilesShown) (out out' : OutShown) where
-  comes_to : (m : Memory) (p : List ℕ) (f : LoadFault) → NamedGives (naming told.areas) old (Ok m)
-      → StopsAt told.scripts old new p f → ComesTo told old p
-  comes_to m p f opened h = record { opening = m; opened = opened; next = h.next }
+  -- the tag file wasn't loaded
+  pub rig_untagged : (p : List ℕ) (f : LoadFault) (how : Ended) → StopsAtTags told.tags old new p f
+      → TellsFault (refusal_line tags_line f) (f ≡ fault.Failed) p out out' how → RigEnds told old new out out' None how
+  rig_untagged p f ended.Refused h t = (refl, inl (refuses_tags old new p f (Printed out out') told.tags h t))
+  rig_untagged p f ended.File h t = (refl, inl (fails_tags old new p f (Printed out out') told.tags h t.0 t.1))
+  rig_untagged p f ended.Memory h t = (refl, t)
+  rig_untagged p f ended.Done h t = absurd t
+  rig_untagged p f ended.Jobs h t = absurd t
+  rig_untagged p f ended.Output h t = absurd t
+  rig_untagged p f ended.Dial h t = absurd t
 
-  -- a script wasn't loaded
-  pub script_unloaded : (m : Memory) (p : List ℕ) (f : LoadFault) (how : Ended)
-      → NamedGives (naming told.areas) old (Ok m) → StopsAt told.scripts old new p f
-      → TellsFault (refusal_line f) (f ≡ fault.Failed) p out out' how
-      → RigEnds told old new out out' None how
-  script_unloaded m p f ended.Refused opened h t = (
-    refl,
-    inr (record {
-      path = p;
-      next = comes_to m p f opened h;
-      refused = refuses_text script p f old (Printed out out') h.unloaded.refused t;
-    }),
-  )
-  script_unloaded m p f ended.File opened h t = (
-    refl,
-    record {
-      path = p;
-      named = inr (comes_to m p f opened h);
-      fails = record { rose = h.unloaded.failed t.0; is_printed = t.1 };
-    },
-  )
-  script_unloaded m p f ended.Memory opened h t = (refl, t)
-  script_unloaded m p f ended.Done opened h t = absurd t
-  script_unloaded m p f ended.Jobs opened h t = absurd t
-  script_unloaded m p f ended.Output opened h t = absurd t
-  script_unloaded m p f ended.Dial opened h t = absurd t
+  module _ (known : Option (List Tag)) (tagged : ReadsTags told.tags old (λ found. found ≡ known)) where
+    refuses : RefusesAreas (naming told.areas) old (Printed out out') ⊎ RefusesOneScript known told old (Printed out out')
+        → ReadsTags told.tags old
+        (λ k. RefusesAreas (naming told.areas) old (Printed out out') ⊎ RefusesOneScript k told old (Printed out out'))
+    refuses h =
+        with_tags told.tags old known
+        (λ k. RefusesAreas (naming told.areas) old (Printed out out') ⊎ RefusesOneScript k told old (Printed out out'))
+        tagged h
 
-  -- a rig ran
-  module _ (m : Memory) (scripts : List (List ScriptLine)) (rig : RigEnd) where
-    rig_ran : (how : Ended) → NamedGives (naming told.areas) old (Ok m) → ReadsScripts told.scripts old scripts
-        → RanJobs told m (map jobs_of scripts) (end_told rig)
-        → PrintsText (rig_text scripts (end_told rig)) (are_clients_good scripts (end_told rig).clients) out out' how
-        → RanRig told old out out' (end_told rig) how
-    rig_ran how opened read ran printed =
-        record { opening = m; opened = opened; scripts = scripts; read = read; ran = ran; printed = printed }
+    fails : FailsOther known told old new (Printed out out')
+        → ReadsTags told.tags old (λ k. FailsOther k told old new (Printed out out'))
+    fails h = with_tags told.tags old known (λ k. FailsOther k told old new (Printed out out')) tagged h
 
-    pub rigged : (how : Ended) → NamedGives (naming told.areas) old (Ok m) → ReadsScripts told.scripts old scripts
-        → RanJobs told m (map jobs_of scripts) (end_told rig)
-        → PrintsText (rig_text scripts (end_told rig)) (are_clients_good scripts (end_told rig).clients) out out' how
-        → RigEnds told old new out out' (Some rig) how
-    rigged ended.Done opened read ran printed = rig_ran ended.Done opened read ran printed
-    rigged ended.Jobs opened read ran printed = rig_ran ended.Jobs opened read ran printed
-    rigged ended.Output opened read ran printed = rig_ran ended.Output opened read ran printed
-    rigged ended.Memory opened read ran printed = absurd printed
-    rigged ended.Refused opened read ran printed = absurd printed
-    rigged ended.File opened read ran printed = absurd printed
-    rigged ended.Dial opened read ran printed = absurd printed
+    -- the areas weren't loaded
+    pub rig_unopened : (f : AreasFault) (how : Ended) → Loads (naming told.areas) old new (Err f)
+        → TellsFault (areas_refusal_line f) (f ≡ areas.Failed) told.areas out out' how
+        → RigEnds told old new out out' None how
+    rig_unopened f ended.Refused h t =
+        (refl, inr (refuses (inl (refuses_areas (naming told.areas) f old new (Printed out out') h t))))
+    rig_unopened f ended.File h t =
+        let failed = word_failed told.areas old new (h.failed (ap (λ x. Err x) t.0)) in (
+          refl,
+          inr (fails (record {
+            path = told.areas;
+            named = inl failed.0;
+            fails = record { rose = failed.1; is_printed = t.1 };
+          })),
+        )
+    rig_unopened f ended.Memory h t = (refl, t)
+    rig_unopened f ended.Done h t = absurd t
+    rig_unopened f ended.Jobs h t = absurd t
+    rig_unopened f ended.Output h t = absurd t
+    rig_unopened f ended.Dial h t = absurd t
+
+    module _ (m : Memory) (opened : NamedGives (naming told.areas) old (Ok m)) where
+      comes_to : (p : List ℕ) (f : LoadFault) → StopsAt known told.scripts old new p f → ComesTo known told old p
+      comes_to p f h = record { opening = m; opened = opened; next = h.next }
+
+      -- a script wasn't loaded
+      pub rig_unread : (p : List ℕ) (f : LoadFault) (how : Ended) → StopsAt known told.scripts old new p f
+          → TellsFault (refusal_line script_line f) (f ≡ fault.Failed) p out out' how
+          → RigEnds told old new out out' None how
+      rig_unread p f ended.Refused h t = (
+        refl,
+        inr (refuses (inr (record {
+          path = p;
+          next = comes_to p f h;
+          refused = refuses_text (script_reader known) script_line p f old (Printed out out') h.unloaded.refused t;
+        }))),
+      )
+      rig_unread p f ended.File h t = (
+        refl,
+        inr (fails (record {
+          path = p;
+          named = inr (comes_to p f h);
+          fails = record { rose = h.unloaded.failed t.0; is_printed = t.1 };
+        })),
+      )
+      rig_unread p f ended.Memory h t = (refl, t)
+      rig_unread p f ended.Done h t = absurd t
+      rig_unread p f ended.Jobs h t = absurd t
+      rig_unread p f ended.Output h t = absurd t
+      rig_unread p f ended.Dial h t = absurd t
+
+      -- a rig ran
+      module _ (scripts : List (List ScriptLine)) (read : ReadsScripts known told.scripts old scripts) (rig : RigEnd)
+          (ran : RanJobs told m (map jobs_of scripts) (end_told rig)) where
+        abbrev PrintsRig : Ended → Type 0
+        PrintsRig how =
+            PrintsText (rig_text scripts (end_told rig)) (are_clients_good scripts (end_told rig).clients) out out' how
+
+        rig_ran : (how : Ended) → PrintsRig how → RanRig told old out out' (end_told rig) how
+        rig_ran how printed = record {
+          known = known;
+          tagged = tagged;
+          opening = m;
+          opened = opened;
+          scripts = scripts;
+          read = read;
+          ran = ran;
+          printed = printed;
+        }
+
+        pub rigged : (how : Ended) → PrintsRig how → RigEnds told old new out out' (Some rig) how
+        rigged ended.Done printed = rig_ran ended.Done printed
+        rigged ended.Jobs printed = rig_ran ended.Jobs printed
+        rigged ended.Output printed = rig_ran ended.Output printed
+        rigged ended.Memory printed = absurd printed
+        rigged ended.Refused printed = absurd printed
+        rigged ended.File printed = absurd printed
+        rigged ended.Dial printed = absurd printed
 
 -- the rig of a seed ran
 module _ (seed : ℕ) (out out' : OutShown) (rig : RigEnd) where

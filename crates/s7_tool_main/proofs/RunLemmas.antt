@@ -11,10 +11,9 @@ use Rattle.s7_dialogue.specs.declared.job.JobResult.{JobResult}
 use Rattle.s7_client.specs.declared.connection.Connection.{Connection}
 use Rattle.s7_client.specs.Polling.{config_of}
 use Rattle.s7_client.specs.Runs.{Between, JobRun, between_of, fresh}
-use Rattle.s7_script.specs.Printing.{print}
 use Rattle.s7_script.specs.declared.scripts.script_list.ScriptLine.{ScriptLine}
 use Rattle.s7_tool_main.specs.declared.ended.Ended.{Ended}
-use Rattle.s7_tool_main.specs.Report.{Gains, report}
+use Rattle.s7_tool_main.specs.Report.{Gains, line_text, report}
 use Rattle.s7_tool_main.specs.Run.{RunsJobs, Place, DoesJob, DoesLines, DoesFirst, EndsEarly, DoesAll, Goes}
 use Rattle.s7_tool_main.specs.Run.{connect_line, first_place, job_in}
 
@@ -51,9 +50,9 @@ runs_both c b m a (j ∷ js) ks l lm l' (r ∷ rs) ts h k =
 
 -- ---- reports
 
-report_one : (next : ScriptLine) (r : JobResult) → report (next ∷ []) (r ∷ []) ≡ print next.line r
+report_one : (next : ScriptLine) (r : JobResult) → report (next ∷ []) (r ∷ []) ≡ line_text next r
 unfolding report
-report_one next r = append-nil (print next.line r)
+report_one next r = append-nil (line_text next r)
 
 report_both : (c : Config) (b a : Between) (ls ms : List ScriptLine) (l l' : Shown) (rs ts : List JobResult)
     → RunsJobs c b (map job_in ls) l rs l' a → report (ls ++ ms) (rs ++ ts) ≡ report ls rs ++ report ms ts
@@ -62,8 +61,8 @@ report_both c b a [] ms l l' [] ts h = refl
 report_both c b a [] ms l l' (r ∷ rs) ts h = absurd h
 report_both c b a (x ∷ ls) ms l l' [] ts h = absurd h
 report_both c b a (x ∷ ls) ms l l' (r ∷ rs) ts h =
-    ap (λ t. print x.line r ++ t) (report_both c h.1 a ls ms h.0 l' rs ts h.3)
-    ∙ sym (append_assoc (print x.line r) (report ls rs) (report ms ts))
+    ap (λ t. line_text x r ++ t) (report_both c h.1 a ls ms h.0 l' rs ts h.3)
+    ∙ sym (append_assoc (line_text x r) (report ls rs) (report ms ts))
 
 -- results past the last line are not reported
 report_past : (c : Config) (b a : Between) (ls : List ScriptLine) (l l' : Shown) (rs ts : List JobResult)
@@ -72,7 +71,7 @@ unfolding RunsJobs report
 report_past c b a [] l l' [] ts h = refl
 report_past c b a [] l l' (r ∷ rs) ts h = absurd h
 report_past c b a (x ∷ ls) l l' [] ts h = absurd h
-report_past c b a (x ∷ ls) l l' (r ∷ rs) ts h = ap (λ t. print x.line r ++ t) (report_past c h.1 a ls h.0 l' rs ts h.3)
+report_past c b a (x ∷ ls) l l' (r ∷ rs) ts h = ap (λ t. line_text x r ++ t) (report_past c h.1 a ls h.0 l' rs ts h.3)
 
 -- ---- lines
 
@@ -82,7 +81,7 @@ does_none c p =
     record { told = []; runs = (refl, refl); results = sym (append-nil p.results); text = text_none p.out.text }
 
 pub does_one : (c : Config) (next : ScriptLine) (p q : Place) (d : DoesJob c next.job p q)
-    → Gains p.out q.out (print next.line d.told) → DoesLines c (next ∷ []) p q
+    → Gains p.out q.out (line_text next d.told) → DoesLines c (next ∷ []) p q
 does_one c next p q d t = record {
   told = d.told ∷ [];
   runs = runs_one c p.between next.job p.link q.link d.told q.between d.run;
@@ -116,7 +115,7 @@ early_before w c ls p q same =
 
 -- after it
 pub early_at : (w : Prints) (c : Config) (next : ScriptLine) (p q : Place) (d : DoesJob c next.job p q)
-    → w p.out q.out (print next.line d.told) → EndsEarly w c (next ∷ []) p q
+    → w p.out q.out (line_text next d.told) → EndsEarly w c (next ∷ []) p q
 early_at w c next p q d t = record {
   front = [];
   rest = next ∷ [];

@@ -11,6 +11,7 @@ use Rattle.s7_outer.specs.OutShown.{OutShown}
 use Rattle.s7_script.specs.Loading.{NamedGives}
 use Rattle.s7_script.specs.Naming.{naming}
 use Rattle.s7_script.specs.declared.scripts.script_list.ScriptLine.{ScriptLine}
+use Rattle.s7_symbol.specs.declared.tag.Tag.{Tag}
 use Rattle.s7_args.specs.Tool.{RigTold, ToolTold, gen, partner, rig, run}
 use Rattle.s7_client.specs.Completions.{Told, told_of_result, told_of_results}
 use Rattle.s7_rig.specs.Rigs.{ToldWanting, Turning}
@@ -19,6 +20,7 @@ use Rattle.s7_rig.proofs.TellsLemmas.{tells_none}
 use Rattle.s7_tool_main.specs.declared.ended.Ended.{Ended}
 use Rattle.s7_tool_main.specs.declared.ended.Ended.TheVariants as ended
 use Rattle.s7_tool_main.specs.End.{HeardWanting}
+use Rattle.s7_tool_main.specs.Loading.{ReadsTags}
 use Rattle.s7_tool_main.specs.Report.{PrintsText}
 use Rattle.s7_tool_main.specs.Rigging.{JobsWanting, RigWanting}
 use Rattle.s7_tool_main.specs.Run.{jobs_of}
@@ -71,11 +73,19 @@ wanting_same r areas areas' limit config config' jobs jobs' turns turns' seed st
     (subst (λ z. OnErr r (ToldWanting areas limit config jobs (turning z) x y)) t h)))
 
 -- a rig over the files that were read
-pub rig_wanting : (told : RigTold) (files : FilesShown) (opening : Memory) (scripts : List (List ScriptLine))
-    (x y : Option Told) → NamedGives (naming told.areas) files (Ok opening) → ReadsScripts told.scripts files scripts
+pub rig_wanting : (told : RigTold) (files : FilesShown) (known : Option (List Tag)) (opening : Memory)
+    (scripts : List (List ScriptLine)) (x y : Option Told) → ReadsTags told.tags files (λ found. found ≡ known)
+    → NamedGives (naming told.areas) files (Ok opening) → ReadsScripts known told.scripts files scripts
     → JobsWanting told opening (map jobs_of scripts) x y → RigWanting told files x y
-rig_wanting told files opening scripts x y opened read wanting =
-    inr (record { opening = opening; opened = opened; scripts = scripts; read = read; wanting = wanting })
+rig_wanting told files known opening scripts x y tagged opened read wanting = inr (record {
+  known = known;
+  tagged = tagged;
+  opening = opening;
+  opened = opened;
+  scripts = scripts;
+  read = read;
+  wanting = wanting;
+})
 
 -- whatever the words are, of nothing
 pub heard_nothing : (words : Option ToolTold) (files : FilesShown) (x y : Option Told) → y ≡ x

@@ -15,9 +15,8 @@ use Rattle.s7_tool_main.specs.declared.ended.RunEnd.{RunEnd}
 use Rattle.s7_tool_main.specs.declared.ended.ToolEnd.{ToolEnd}
 use Rattle.s7_tool_main.specs.Drawn.{made_scripts}
 use Rattle.s7_tool_main.specs.Gen.{RanGen, made_areas, made_config, made_turning}
-use Rattle.s7_tool_main.specs.Loading.{PathFails, RefusesScript}
 use Rattle.s7_tool_main.specs.Partners.{CallFailsFor, FailsOne, PartnersLack, RanPartners, RefusesOne}
-use Rattle.s7_tool_main.specs.Ran.{CallFails, RanScript, RunLacksMemory}
+use Rattle.s7_tool_main.specs.Ran.{CallFails, FailsRun, RanScript, RefusesRun, RunLacksMemory}
 use Rattle.s7_tool_main.specs.Report.{Printed, memory_line}
 use Rattle.s7_tool_main.specs.Rigging.{FailsOneFile, RanRig, RefusesFile, RigWanting}
 
@@ -49,18 +48,18 @@ LacksMemory shows (Some (partner told)) files dial out out' end =
 
 -- ---- what was refused, and what failed
 
--- A FILE WAS REFUSED: the script, or the first of the files of `rig` or `partner` that can't be read; `gen` reads none
+-- A FILE WAS REFUSED: the first of the files of `run`, `rig` or `partner` that can't be read; `gen` reads none
 abbrev pub Refuses : Option ToolTold → FilesShown → (List ℕ → Type 0) → Type 0
 Refuses None files printed = ⊥
-Refuses (Some (run told)) files printed = RefusesScript told.script files printed
+Refuses (Some (run told)) files printed = RefusesRun told files printed
 Refuses (Some (rig told)) files printed = RefusesFile told files printed
 Refuses (Some (gen seed)) files printed = ⊥
 Refuses (Some (partner told)) files printed = RefusesOne told told.other files printed
 
--- A FILE FAILED: the script's, or the one that came next for `rig` or `partner`
+-- A FILE FAILED: the one that came next for `run`, `rig` or `partner`
 abbrev pub FileFails : Option ToolTold → FilesShown → FilesShown → (List ℕ → Type 0) → Type 0
 FileFails None files files' printed = ⊥
-FileFails (Some (run told)) files files' printed = PathFails told.script files files' printed
+FileFails (Some (run told)) files files' printed = FailsRun told files files' printed
 FileFails (Some (rig told)) files files' printed = FailsOneFile told files files' printed
 FileFails (Some (gen seed)) files files' printed = ⊥
 FileFails (Some (partner told)) files files' printed = FailsOne told told.other files files' printed

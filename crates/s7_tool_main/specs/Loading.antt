@@ -1,50 +1,70 @@
--- What became of the file of a script, or of a sends file.
-use Rattle.std.specs.Prelude.{◌≡◌, ◌≢◌, ℕ, ◌+◌, List, length, Option, Some, None, Result, Ok, Err, IsTrue}
+-- What became of a tag file, of the file of a script, or of a sends file.
+use Rattle.std.specs.Prelude.{◌≡◌, ◌≢◌, ◌≤◌, ℕ, ◌+◌, List, length, Option, Some, None, Result, Ok, Err, IsTrue}
 use Rattle.s7_outer.specs.declared.files.FileFault.{FileFault}
 use Rattle.s7_outer.specs.declared.files.FileFault.TheVariants as file
 use Rattle.s7_outer.specs.FilesShown.{FilesShown}
 use Rattle.s7_outer.specs.Files.{file_limit, IsCutFrom}
 use Rattle.s7_script.specs.Loading.{FailedOnce, PathFailed}
-use Rattle.s7_script.specs.Script.{script}
+use Rattle.s7_script.specs.Tagged.{script_by}
 use Rattle.s7_script.specs.Sends.{sends}
 use Rattle.s7_script.specs.declared.scripts.script_fault.ScriptFault.{ScriptFault}
 use Rattle.s7_script.specs.declared.sends.send_list.SendLine.{SendLine}
 use Rattle.s7_script.specs.declared.scripts.script_list.ScriptLine.{ScriptLine}
+use Rattle.s7_symbol.specs.Tags.{tags}
+use Rattle.s7_symbol.specs.declared.fault.TagFault.{TagFault}
+use Rattle.s7_symbol.specs.declared.tag.Tag.{Tag}
 use Rattle.s7_tool_main.specs.declared.load.LoadFault.{LoadFault}
 use Rattle.s7_tool_main.specs.declared.load.LoadFault.TheVariants as fault
-use Rattle.s7_tool_main.specs.Report.{file_line, script_line, too_long_line}
+use Rattle.s7_tool_main.specs.declared.load.TextKind.{TextKind}
+use Rattle.s7_tool_main.specs.declared.load.TextKind.TheVariants as kind
+use Rattle.s7_tool_main.specs.Report.{file_line, script_line, tags_line, too_long_line}
 
 -- NO PATH CHANGES, and at most one call on a path failed
 pub record KeepsPaths (old new : FilesShown) : Type 0 where
   pub kept : new ≡ record old { faults = new.faults }
   pub counts : FailedOnce old.faults new.faults
 
--- ---- a text that was read: a script or a sends file, by what its reader makes of it
+-- ---- readers
 
--- THE TEXT WAS READ: these octets, which are those of the file where that is told, name these lines
-pub record ReadsText {A : Type 0} (reader : List ℕ → Result (List A) ScriptFault) (path : List ℕ) (files : FilesShown)
-    (then : List A → Type 0) : Type 0 where
+-- what a reader makes of a text: what it names, or the number of its first faulty line
+abbrev pub Reader : Type 0 → Type 0
+Reader A = List ℕ → Result (List A) ℕ
+
+abbrev pub numbered : {A E : Type 0} → (E → ℕ) → Result A E → Result A ℕ
+numbered line_of (Ok named) = Ok named
+numbered line_of (Err e) = Err (line_of e)
+
+abbrev pub tag_reader : Reader Tag
+tag_reader text = numbered (λ (e : TagFault). e.line) (tags text)
+
+-- of scripts whose lines may name these tags
+abbrev pub script_reader : Option (List Tag) → Reader ScriptLine
+script_reader known text = numbered (λ (e : ScriptFault). e.line) (script_by known text)
+
+abbrev pub sends_reader : Reader SendLine
+sends_reader text = numbered (λ (e : ScriptFault). e.line) (sends text)
+
+-- ---- a text that was read: a tag file, a script or a sends file, by what its reader makes of it
+
+-- THE TEXT WAS READ: these octets, no more than the limit and those of the file where that is told, name these lines
+pub record ReadsText {A : Type 0} (reader : Reader A) (path : List ℕ) (files : FilesShown) (then : List A → Type 0)
+    : Type 0 where
   pub octets : List ℕ
   pub lines : List A
+  pub sized : length octets ≤ file_limit
   pub held : IsTrue files.tells → files.held path ≡ Some octets
   pub named : reader octets ≡ Ok lines
   pub so : then lines
 
 -- ---- a text that wasn't
 
--- a text has its first faulty line there
-pub record FailsAtLine {A : Type 0} (reader : List ℕ → Result (List A) ScriptFault) (text : List ℕ) (n : ℕ)
+-- the octets read, no more than the limit and those of the file where that is told, have their first faulty line there
+pub record HasFaultyLine {A : Type 0} (reader : Reader A) (path : List ℕ) (files : FilesShown) (n : ℕ)
     : Type 0 where
-  pub first : ScriptFault
-  pub wrong : reader text ≡ Err first
-  pub line : first.line ≡ n
-
--- the octets read, which are those of the file where that is told, have their first faulty line there
-pub record HasFaultyLine {A : Type 0} (reader : List ℕ → Result (List A) ScriptFault) (path : List ℕ)
-    (files : FilesShown) (n : ℕ) : Type 0 where
   pub octets : List ℕ
+  pub sized : length octets ≤ file_limit
   pub held : IsTrue files.tells → files.held path ≡ Some octets
-  pub fails : FailsAtLine reader octets n
+  pub fails : reader octets ≡ Err n
 
 -- more octets than the limit were read, the first of a longer file where that is told
 pub record IsTooLong (path : List ℕ) (files : FilesShown) : Type 0 where
@@ -53,27 +73,25 @@ pub record IsTooLong (path : List ℕ) (files : FilesShown) : Type 0 where
   pub cut : IsTrue files.tells → IsCutFrom (files.held path) octets
 
 -- why the text can't be read; a file that failed and want of memory say nothing of it
-abbrev pub IsRefusedFor : {A : Type 0} → (List ℕ → Result (List A) ScriptFault) → List ℕ → FilesShown → LoadFault
-    → Type 0
+abbrev pub IsRefusedFor : {A : Type 0} → Reader A → List ℕ → FilesShown → LoadFault → Type 0
 IsRefusedFor reader path files fault.Failed = Unit {0}
 IsRefusedFor reader path files fault.TooLong = IsTooLong path files
 IsRefusedFor reader path files (fault.Line n) = HasFaultyLine reader path files n
 IsRefusedFor reader path files fault.Memory = Unit {0}
 
 -- the text wasn't loaded: it can't be read, or the call on its path failed, or memory ran out; no other call failed
-pub record IsUnloaded {A : Type 0} (reader : List ℕ → Result (List A) ScriptFault) (path : List ℕ)
-    (old new : FilesShown) (why : LoadFault) : Type 0 where
+pub record IsUnloaded {A : Type 0} (reader : Reader A) (path : List ℕ) (old new : FilesShown) (why : LoadFault)
+    : Type 0 where
   pub refused : IsRefusedFor reader path old why
   pub failed : why ≡ fault.Failed → PathFailed path old.faults new.faults
   pub unfailed : why ≢ fault.Failed → new ≡ old
 
 -- what was answered for octets that were read
-abbrev pub AnswersText : {A : Type 0} → (List ℕ → Result (List A) ScriptFault) → List ℕ
-    → Result (List A) LoadFault → Type 0
+abbrev pub AnswersText : {A : Type 0} → Reader A → List ℕ → Result (List A) LoadFault → Type 0
 AnswersText reader text (Ok lines) = reader text ≡ Ok lines
 AnswersText reader text (Err fault.Failed) = ⊥
 AnswersText reader text (Err fault.TooLong) = ⊥
-AnswersText reader text (Err (fault.Line n)) = FailsAtLine reader text n
+AnswersText reader text (Err (fault.Line n)) = reader text ≡ Err n
 AnswersText reader text (Err fault.Memory) = Unit {0}
 
 -- why a file was not loaded
@@ -84,20 +102,26 @@ fault_of file.Memory = fault.Memory
 
 -- ---- what is printed of it
 
--- the line for a text that can't be read; there is none for a file that failed, nor for want of memory
-abbrev pub refusal_line : LoadFault → Option (List ℕ)
-refusal_line (fault.Line n) = Some (script_line n)
-refusal_line fault.TooLong = Some too_long_line
-refusal_line fault.Failed = None
-refusal_line fault.Memory = None
+-- how a faulty line of a text of this kind is told
+abbrev pub faulty_line : TextKind → ℕ → List ℕ
+faulty_line kind.Tags = tags_line
+faulty_line kind.Script = script_line
+
+-- the line for a text that can't be read, where a faulty line is told so; there is none for a file that failed, nor for
+-- want of memory
+abbrev pub refusal_line : (ℕ → List ℕ) → LoadFault → Option (List ℕ)
+refusal_line faulty (fault.Line n) = Some (faulty n)
+refusal_line faulty fault.TooLong = Some too_long_line
+refusal_line faulty fault.Failed = None
+refusal_line faulty fault.Memory = None
 
 -- THE TEXT WAS REFUSED for its first faulty line or its length, and the line for this was printed
-pub record RefusesText {A : Type 0} (reader : List ℕ → Result (List A) ScriptFault) (path : List ℕ)
-    (files : FilesShown) (printed : List ℕ → Type 0) : Type 0 where
+pub record RefusesText {A : Type 0} (reader : Reader A) (faulty : ℕ → List ℕ) (path : List ℕ) (files : FilesShown)
+    (printed : List ℕ → Type 0) : Type 0 where
   pub fault : LoadFault
   pub line : List ℕ
   pub refused : IsRefusedFor reader path files fault
-  pub line_is : refusal_line fault ≡ Some line
+  pub line_is : refusal_line faulty fault ≡ Some line
   pub is_printed : printed line
 
 -- THE FILE OF A PATH FAILED: one call on the path failed, and the line for this was printed
@@ -105,16 +129,37 @@ pub record PathFails (path : List ℕ) (old new : FilesShown) (printed : List �
   pub rose : PathFailed path old.faults new.faults
   pub is_printed : printed (file_line path)
 
--- ---- scripts and sends files
+-- ---- tag files, scripts and sends files
 
-abbrev pub ReadsScript : List ℕ → FilesShown → (List ScriptLine → Type 0) → Type 0
-ReadsScript path files so = ReadsText script path files so
+-- THE TAGS that lines of scripts may name were read: those of the tag file, and none where no such file is named
+abbrev pub ReadsTags : Option (List ℕ) → FilesShown → (Option (List Tag) → Type 0) → Type 0
+ReadsTags None files so = so None
+ReadsTags (Some path) files so = ReadsText tag_reader path files (λ found. so (Some found))
 
-abbrev pub RefusesScript : List ℕ → FilesShown → (List ℕ → Type 0) → Type 0
-RefusesScript path files printed = RefusesText script path files printed
+-- the tag file was refused, where one is named
+abbrev pub RefusesTags : Option (List ℕ) → FilesShown → (List ℕ → Type 0) → Type 0
+RefusesTags None files printed = ⊥
+RefusesTags (Some path) files printed = RefusesText tag_reader tags_line path files printed
+
+-- the tag file that is named wasn't loaded, and why
+pub record StopsAtTags (named : Option (List ℕ)) (old new : FilesShown) (path : List ℕ) (why : LoadFault)
+    : Type 0 where
+  pub is : named ≡ Some path
+  pub unloaded : IsUnloaded tag_reader path old new why
+
+-- the tag file failed, where one is named
+abbrev pub FailsTags : Option (List ℕ) → FilesShown → FilesShown → (List ℕ → Type 0) → Type 0
+FailsTags None old new printed = ⊥
+FailsTags (Some path) old new printed = PathFails path old new printed
+
+abbrev pub ReadsScript : Option (List Tag) → List ℕ → FilesShown → (List ScriptLine → Type 0) → Type 0
+ReadsScript known path files so = ReadsText (script_reader known) path files so
+
+abbrev pub RefusesScript : Option (List Tag) → List ℕ → FilesShown → (List ℕ → Type 0) → Type 0
+RefusesScript known path files printed = RefusesText (script_reader known) script_line path files printed
 
 abbrev pub ReadsSends : List ℕ → FilesShown → (List SendLine → Type 0) → Type 0
-ReadsSends path files so = ReadsText sends path files so
+ReadsSends path files so = ReadsText sends_reader path files so
 
 abbrev pub RefusesSends : List ℕ → FilesShown → (List ℕ → Type 0) → Type 0
-RefusesSends path files printed = RefusesText sends path files printed
+RefusesSends path files printed = RefusesText sends_reader script_line path files printed

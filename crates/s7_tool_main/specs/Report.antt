@@ -1,5 +1,5 @@
 -- What is printed.
-use Rattle.std.specs.Prelude.{◌≡◌, ◌⊎◌, ℕ, Bool, true, false, List, [], ◌∷◌, ◌++◌, codes, Option, IsSomeAnd}
+use Rattle.std.specs.Prelude.{◌≡◌, ◌⊎◌, ℕ, Bool, true, false, List, [], ◌∷◌, ◌++◌, codes, Option, None, Some, IsSomeAnd}
 use Rattle.std.specs.Fmt.{decimal}
 use Rattle.std.specs.Io.KnownBytes.{append_known}
 use Rattle.s7_outer.specs.Count.{Rose}
@@ -7,7 +7,9 @@ use Rattle.s7_outer.specs.Out.{AppendsPrefix}
 use Rattle.s7_outer.specs.OutShown.{OutShown}
 use Rattle.s7_dialogue.specs.declared.job.JobResult.{JobResult}
 use Rattle.s7_script.specs.Printing.{print}
+use Rattle.s7_script.specs.TagPrinting.{print_tag}
 use Rattle.s7_script.specs.declared.scripts.script_list.ScriptLine.{ScriptLine}
+use Rattle.s7_symbol.specs.declared.kind.TagKind.{TagKind}
 use Rattle.s7_tool_main.specs.declared.ended.Ended.{Ended}
 use Rattle.s7_tool_main.specs.declared.ended.Ended.TheVariants as ended
 
@@ -17,11 +19,20 @@ use Rattle.s7_tool_main.specs.declared.ended.Ended.TheVariants as ended
 abbrev pub line_end : List ℕ
 line_end = 10 ∷ []
 
+-- the line of what came of a job, by the number of its line and the type of the tag that it names
+abbrev pub line_by : ℕ → Option TagKind → JobResult → List ℕ
+line_by number None told = print number told
+line_by number (Some kind) told = print_tag number kind told
+
+-- THE LINE of what came of the job of a line of a script
+abbrev pub line_text : ScriptLine → JobResult → List ℕ
+line_text next told = line_by next.line next.tag told
+
 -- THE REPORT of these lines: of each what came of its job, as far as results go
 unfoldable pub report : List ScriptLine → List JobResult → List ℕ
 report [] results = []
 report (next ∷ lines) [] = []
-report (next ∷ lines) (told ∷ results) = print next.line told ++ report lines results
+report (next ∷ lines) (told ∷ results) = line_text next told ++ report lines results
 
 abbrev pub usage_line : List ℕ
 usage_line = codes "usage: s7tool run SCRIPT, rig AREAS SCRIPT..., gen N, partner A [B]" ++ line_end
@@ -31,6 +42,9 @@ areas_line n = codes "areas line " ++ (decimal n ++ line_end)
 
 abbrev pub script_line : ℕ → List ℕ
 script_line n = codes "script line " ++ (decimal n ++ line_end)
+
+abbrev pub tags_line : ℕ → List ℕ
+tags_line n = codes "tags line " ++ (decimal n ++ line_end)
 
 abbrev pub too_long_line : List ℕ
 too_long_line = codes "file too long" ++ line_end

@@ -5,21 +5,23 @@ use Rattle.std.specs.Fmt.{decimal}
 use Rattle.std.specs.List.{list_all, zip}
 use Rattle.s7_dialogue.specs.declared.job.JobResult.{JobResult}
 use Rattle.s7_rig.specs.Shown.{ClientTold, EndTold}
-use Rattle.s7_script.specs.Printing.{IsPrintable, print}
+use Rattle.s7_script.specs.Printing.{IsPrintable}
 use Rattle.s7_script.specs.declared.scripts.script_list.ScriptLine.{ScriptLine}
-use Rattle.s7_tool_main.specs.Report.{line_end}
+use Rattle.s7_tool_main.specs.declared.head.Head.{Head}
+use Rattle.s7_tool_main.specs.Report.{line_by, line_end}
 use Rattle.s7_tool_main.specs.Run.{connect_line, is_good}
 
-abbrev pub line_of : ScriptLine → ℕ
-line_of next = next.line
+-- what a printed line has of a line of a script: its number, and the type of the tag that it names
+abbrev pub head_of : ScriptLine → Head
+head_of next = record { line = next.line; tag = next.tag }
 
--- the numbers of a client's lines: the connect's, and those of the script
-abbrev pub numbers_of : List ScriptLine → List ℕ
-numbers_of lines = connect_line.line ∷ map line_of lines
+-- the heads of a client's lines: the connect's, and those of the script
+abbrev pub heads_of : List ScriptLine → List Head
+heads_of lines = head_of connect_line ∷ map head_of lines
 
 -- a connect, the lines and a disconnect were all done
-abbrev pub is_finished : List ℕ → ClientTold → Bool
-is_finished numbers c = length c.results == length numbers + 1
+abbrev pub is_finished : List Head → ClientTold → Bool
+is_finished heads c = length c.results == length heads + 1
 
 -- ---- what is printed
 
@@ -34,43 +36,43 @@ abbrev pub unfinished_line : ℕ → List ℕ
 unfinished_line link = codes "client " ++ (decimal link ++ (codes " unfinished" ++ line_end))
 
 -- of each line what came of its job, as far as results go
-unfoldable pub results_text : ℕ → List ℕ → List JobResult → List ℕ
+unfoldable pub results_text : ℕ → List Head → List JobResult → List ℕ
 results_text link [] results = []
-results_text link (number ∷ numbers) [] = []
-results_text link (number ∷ numbers) (told ∷ results) =
-    client_line link (print number told) ++ results_text link numbers results
+results_text link (head ∷ heads) [] = []
+results_text link (head ∷ heads) (told ∷ results) =
+    client_line link (line_by head.line head.tag told) ++ results_text link heads results
 
 -- the result of the disconnect isn't printed
-abbrev pub client_text : List ℕ → ClientTold → List ℕ
-client_text numbers c =
-    results_text c.link numbers c.results ++ (if is_finished numbers c then [] else unfinished_line c.link)
+abbrev pub client_text : List Head → ClientTold → List ℕ
+client_text heads c =
+    results_text c.link heads c.results ++ (if is_finished heads c then [] else unfinished_line c.link)
 
-unfoldable pub clients_text : List (List ℕ) → List ClientTold → List ℕ
+unfoldable pub clients_text : List (List Head) → List ClientTold → List ℕ
 clients_text [] clients = []
-clients_text (numbers ∷ scripts) [] = []
-clients_text (numbers ∷ scripts) (c ∷ clients) = client_text numbers c ++ clients_text scripts clients
+clients_text (heads ∷ scripts) [] = []
+clients_text (heads ∷ scripts) (c ∷ clients) = client_text heads c ++ clients_text scripts clients
 
 abbrev pub journal_line : ℕ → List ℕ
 journal_line count = codes "journal " ++ (decimal count ++ line_end)
 
-abbrev pub text_by : List (List ℕ) → EndTold → List ℕ
-text_by numbers end = clients_text numbers end.clients ++ journal_line (length end.book.journal.entries)
+abbrev pub text_by : List (List Head) → EndTold → List ℕ
+text_by heads end = clients_text heads end.clients ++ journal_line (length end.book.journal.entries)
 
 -- THE TEXT of a rig: of each client, in order, the results of its lines, and a line where it isn't finished; then the
 -- journal's length
 abbrev pub rig_text : List (List ScriptLine) → EndTold → List ℕ
-rig_text scripts end = text_by (map numbers_of scripts) end
+rig_text scripts end = text_by (map heads_of scripts) end
 
 -- ---- whether all went well
 
 -- a client is finished, and each of its results has code 0
-abbrev pub is_client_good : List ℕ → ClientTold → Bool
-is_client_good numbers c = is_finished numbers c && list_all is_good c.results
+abbrev pub is_client_good : List Head → ClientTold → Bool
+is_client_good heads c = is_finished heads c && list_all is_good c.results
 
-abbrev pub are_good_by : List (List ℕ) → List ClientTold → Bool
-are_good_by numbers clients =
-    length clients == length numbers && list_all (λ p. is_client_good p.0 p.1) (zip numbers clients)
+abbrev pub are_good_by : List (List Head) → List ClientTold → Bool
+are_good_by heads clients =
+    length clients == length heads && list_all (λ p. is_client_good p.0 p.1) (zip heads clients)
 
 -- each script has its client, and each of them is good
 abbrev pub are_clients_good : List (List ScriptLine) → List ClientTold → Bool
-are_clients_good scripts clients = are_good_by (map numbers_of scripts) clients
+are_clients_good scripts clients = are_good_by (map heads_of scripts) clients

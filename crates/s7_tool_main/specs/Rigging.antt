@@ -13,11 +13,12 @@ use Rattle.s7_script.specs.Loading.{NamedGives}
 use Rattle.s7_script.specs.declared.areas.load.LoadFault.{LoadFault}
 use Rattle.s7_script.specs.declared.areas.load.LoadFault.TheVariants as fault
 use Rattle.s7_script.specs.declared.scripts.script_list.ScriptLine.{ScriptLine}
+use Rattle.s7_symbol.specs.declared.tag.Tag.{Tag}
 use Rattle.s7_args.specs.Tool.{RigTold}
 use Rattle.s7_tool_main.specs.declared.ended.Ended.{Ended}
 use Rattle.s7_tool_main.specs.declared.ended.Ended.TheVariants as ended
 use Rattle.s7_tool_main.specs.Asked.{rig_config, turning_of}
-use Rattle.s7_tool_main.specs.Loading.{PathFails, RefusesScript}
+use Rattle.s7_tool_main.specs.Loading.{FailsTags, PathFails, ReadsTags, RefusesScript, RefusesTags}
 use Rattle.s7_tool_main.specs.Report.{Printed, PrintsText, areas_line, memory_line, too_long_line}
 use Rattle.s7_tool_main.specs.RigText.{are_clients_good, rig_text}
 use Rattle.s7_tool_main.specs.Run.{jobs_of}
@@ -40,31 +41,41 @@ pub record RefusesAreas (named : Named) (files : FilesShown) (printed : List ℕ
   pub line_is : areas_refusal_line fault ≡ Some line
   pub is_printed : printed line
 
--- this script is the next: the areas and the scripts before it were read
-pub record ComesTo (told : RigTold) (files : FilesShown) (path : List ℕ) : Type 0 where
+-- this script is the next: the areas and the scripts before it, whose lines may name these tags, were read
+pub record ComesTo (known : Option (List Tag)) (told : RigTold) (files : FilesShown) (path : List ℕ) : Type 0 where
   pub opening : Memory
   pub opened : NamedGives (naming told.areas) files (Ok opening)
-  pub next : ReadsBefore told.scripts files path
+  pub next : ReadsBefore known told.scripts files path
 
-pub record RefusesOneScript (told : RigTold) (files : FilesShown) (printed : List ℕ → Type 0) : Type 0 where
+pub record RefusesOneScript (known : Option (List Tag)) (told : RigTold) (files : FilesShown)
+    (printed : List ℕ → Type 0) : Type 0 where
   pub path : List ℕ
-  pub next : ComesTo told files path
-  pub refused : RefusesScript path files printed
+  pub next : ComesTo known told files path
+  pub refused : RefusesScript known path files printed
 
--- A FILE WAS REFUSED: the first, in the order of the words, that can't be read
+-- A FILE WAS REFUSED: the first, the tag file before the others and these in the order of the words, that can't be read
 abbrev pub RefusesFile : RigTold → FilesShown → (List ℕ → Type 0) → Type 0
-RefusesFile told files printed = RefusesAreas (naming told.areas) files printed ⊎ RefusesOneScript told files printed
+RefusesFile told files printed =
+    RefusesTags told.tags files printed
+    ⊎ ReadsTags told.tags files
+    (λ known. RefusesAreas (naming told.areas) files printed ⊎ RefusesOneScript known told files printed)
 
 abbrev pub IsPathOf : Named → List ℕ → Type 0
 IsPathOf (path p) q = q ≡ p
 IsPathOf (block number octets) q = ⊥
 IsPathOf faulty q = ⊥
 
--- A FILE FAILED: that of the areas, or the script that was the next
-pub record FailsOneFile (told : RigTold) (old new : FilesShown) (printed : List ℕ → Type 0) : Type 0 where
+-- that of the areas failed, or the script that was the next
+pub record FailsOther (known : Option (List Tag)) (told : RigTold) (old new : FilesShown) (printed : List ℕ → Type 0)
+    : Type 0 where
   pub path : List ℕ
-  pub named : IsPathOf (naming told.areas) path ⊎ ComesTo told old path
+  pub named : IsPathOf (naming told.areas) path ⊎ ComesTo known told old path
   pub fails : PathFails path old new printed
+
+-- A FILE FAILED: the tag file where one is named, or else that of the areas or the script that was the next
+abbrev pub FailsOneFile : RigTold → FilesShown → FilesShown → (List ℕ → Type 0) → Type 0
+FailsOneFile told old new printed =
+    FailsTags told.tags old new printed ⊎ ReadsTags told.tags old (λ known. FailsOther known told old new printed)
 
 -- ---- the rig
 
@@ -77,14 +88,16 @@ abbrev pub JobsWanting : RigTold → Memory → List (List Job) → Option Told 
 JobsWanting told opening jobs before after =
     ToldWanting opening told.journal (rig_config told.pdu told.jobs) jobs (turning_of told) before after
 
--- A RIG RAN over the areas and the scripts that the words name, which are those of the files where that is told, and
--- its text was printed
+-- A RIG RAN over the areas and the scripts that the words name, with the tags of the file that they name, which are those
+-- of the files where that is told, and its text was printed
 pub record RanRig (told : RigTold) (files : FilesShown) (out out' : OutShown) (end : EndTold)
     (how : Ended) : Type 0 where
+  pub known : Option (List Tag)
+  pub tagged : ReadsTags told.tags files (λ found. found ≡ known)
   pub opening : Memory
   pub opened : NamedGives (naming told.areas) files (Ok opening)
   pub scripts : List (List ScriptLine)
-  pub read : ReadsScripts told.scripts files scripts
+  pub read : ReadsScripts known told.scripts files scripts
   pub ran : RanJobs told opening (map jobs_of scripts) end
   pub printed : PrintsText (rig_text scripts end) (are_clients_good scripts end.clients) out out' how
 
@@ -105,10 +118,12 @@ RigEnds told files files' out out' rig ended.Dial = ⊥
 
 -- memory was wanting for a rig over the areas and the scripts that the words name
 pub record BreaksOffRig (told : RigTold) (files : FilesShown) (before after : Option Told) : Type 0 where
+  pub known : Option (List Tag)
+  pub tagged : ReadsTags told.tags files (λ found. found ≡ known)
   pub opening : Memory
   pub opened : NamedGives (naming told.areas) files (Ok opening)
   pub scripts : List (List ScriptLine)
-  pub read : ReadsScripts told.scripts files scripts
+  pub read : ReadsScripts known told.scripts files scripts
   pub wanting : JobsWanting told opening (map jobs_of scripts) before after
 
 -- MEMORY WAS WANTING: before a rig was begun, and the completion was told of nothing, or for that rig

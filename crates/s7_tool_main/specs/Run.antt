@@ -1,5 +1,5 @@
 -- What running the jobs of a script does.
-use Rattle.std.specs.Prelude.{◌≡◌, ℕ, ◌≤◌, ◌⊎◌, ◌==◌, Bool, true, false, List, [], ◌∷◌, ◌++◌, map}
+use Rattle.std.specs.Prelude.{◌≡◌, ℕ, ◌≤◌, ◌⊎◌, ◌==◌, Bool, true, false, None, List, [], ◌∷◌, ◌++◌, map}
 use Rattle.std.specs.List.{list_all}
 use Rattle.s7_outer.specs.Count.{Rose}
 use Rattle.s7_outer.specs.Out.{AppendsPrefix}
@@ -12,12 +12,11 @@ use Rattle.s7_dialogue.specs.declared.job.JobResult.{JobResult}
 use Rattle.s7_dialogue.specs.Codes.{no_fault}
 use Rattle.s7_client.specs.Completions.{connection_of}
 use Rattle.s7_client.specs.Runs.{Between, JobRun, between_of, fresh}
-use Rattle.s7_script.specs.Printing.{print}
 use Rattle.s7_script.specs.declared.scripts.script_list.ScriptLine.{ScriptLine}
 use Rattle.s7_tool_main.specs.declared.ended.Ended.{Ended}
 use Rattle.s7_tool_main.specs.declared.ended.Ended.TheVariants as ended
 use Rattle.s7_tool_main.specs.declared.scripts.jobs.ScriptRun.{ScriptRun}
-use Rattle.s7_tool_main.specs.Report.{Gains, Printed, memory_line, report}
+use Rattle.s7_tool_main.specs.Report.{Gains, Printed, line_text, memory_line, report}
 
 -- ---- jobs
 
@@ -35,7 +34,7 @@ job_in next = next.job
 
 -- the connect is printed as the job of line 0
 abbrev pub connect_line : ScriptLine
-connect_line = record { line = 0; job = job.Connect }
+connect_line = record { line = 0; job = job.Connect; tag = None }
 
 -- the jobs of a whole run: a connect, those of the script, and a disconnect
 abbrev pub jobs_of : List ScriptLine → List Job
@@ -95,7 +94,7 @@ PrintsNothing old new line = new ≡ old
 pub record DoesUnprinted (prints : OutShown → OutShown → List ℕ → Type 0) (config : Config) (next : ScriptLine)
     (old new : Place) : Type 0 where
   pub does : DoesJob config next.job old new
-  pub text : prints old.out new.out (print next.line does.told)
+  pub text : prints old.out new.out (line_text next does.told)
 
 abbrev pub DoesFirst : (OutShown → OutShown → List ℕ → Type 0) → Config → List ScriptLine → Place → Place → Type 0
 DoesFirst prints config [] old new = ⊥

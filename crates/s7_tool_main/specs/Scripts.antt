@@ -1,32 +1,35 @@
 -- The scripts under paths.
-use Rattle.std.specs.Prelude.{◌≡◌, ℕ, List, [], ◌∷◌, ◌++◌}
+use Rattle.std.specs.Prelude.{◌≡◌, ℕ, List, [], ◌∷◌, ◌++◌, Option}
 use Rattle.s7_outer.specs.FilesShown.{FilesShown}
-use Rattle.s7_script.specs.Script.{script}
 use Rattle.s7_script.specs.declared.scripts.script_list.ScriptLine.{ScriptLine}
+use Rattle.s7_symbol.specs.declared.tag.Tag.{Tag}
 use Rattle.s7_tool_main.specs.declared.load.LoadFault.{LoadFault}
-use Rattle.s7_tool_main.specs.Loading.{IsUnloaded, ReadsScript}
+use Rattle.s7_tool_main.specs.Loading.{IsUnloaded, ReadsScript, script_reader}
 
--- the scripts under these paths were read in order
-unfoldable pub ReadsScripts : List (List ℕ) → FilesShown → List (List ScriptLine) → Type 0
-ReadsScripts [] files [] = Unit {0}
-ReadsScripts [] files (lines ∷ scripts) = ⊥
-ReadsScripts (path ∷ paths) files [] = ⊥
-ReadsScripts (path ∷ paths) files (lines ∷ scripts) =
-    ReadsScript path files (λ read. read ≡ lines) × ReadsScripts paths files scripts
+-- the scripts under these paths, whose lines may name these tags, were read in order
+unfoldable pub ReadsScripts : Option (List Tag) → List (List ℕ) → FilesShown → List (List ScriptLine) → Type 0
+ReadsScripts known [] files [] = Unit {0}
+ReadsScripts known [] files (lines ∷ scripts) = ⊥
+ReadsScripts known (path ∷ paths) files [] = ⊥
+ReadsScripts known (path ∷ paths) files (lines ∷ scripts) =
+    ReadsScript known path files (λ read. read ≡ lines) × ReadsScripts known paths files scripts
 
 -- the script under a path was read, and is the last
-abbrev pub AddsScript : List ℕ → FilesShown → List (List ScriptLine) → List (List ScriptLine) → Type 0
-AddsScript path files old new = ReadsScript path files (λ read. new ≡ old ++ read ∷ [])
+abbrev pub AddsScript : Option (List Tag) → List ℕ → FilesShown → List (List ScriptLine) → List (List ScriptLine)
+    → Type 0
+AddsScript known path files old new = ReadsScript known path files (λ read. new ≡ old ++ read ∷ [])
 
 -- of these scripts this is the next: those before it were read
-pub record ReadsBefore (paths : List (List ℕ)) (files : FilesShown) (path : List ℕ) : Type 0 where
+pub record ReadsBefore (known : Option (List Tag)) (paths : List (List ℕ)) (files : FilesShown) (path : List ℕ)
+    : Type 0 where
   pub before : List (List ℕ)
   pub after : List (List ℕ)
   pub split : paths ≡ before ++ path ∷ after
   pub scripts : List (List ScriptLine)
-  pub read : ReadsScripts before files scripts
+  pub read : ReadsScripts known before files scripts
 
 -- of these scripts the first that wasn't loaded, and why
-pub record StopsAt (paths : List (List ℕ)) (old new : FilesShown) (path : List ℕ) (why : LoadFault) : Type 0 where
-  pub next : ReadsBefore paths old path
-  pub unloaded : IsUnloaded script path old new why
+pub record StopsAt (known : Option (List Tag)) (paths : List (List ℕ)) (old new : FilesShown) (path : List ℕ)
+    (why : LoadFault) : Type 0 where
+  pub next : ReadsBefore known paths old path
+  pub unloaded : IsUnloaded (script_reader known) path old new why

@@ -11,7 +11,7 @@ done = 0
 abbrev pub usage : ℕ
 usage = 1
 
--- the script or the areas can't be read
+-- the tags, the script or the areas can't be read
 abbrev pub script : ℕ
 script = 2
 

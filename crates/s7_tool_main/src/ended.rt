@@ -8,7 +8,7 @@ use s7_rig::RigEnd;
 pub enum Ended {
     /// All was done, and all went well.
     Done,
-    /// A script or the areas can't be read.
+    /// The tags, a script, a sends file or the areas can't be read.
     Refused,
     /// A file failed.
     File,

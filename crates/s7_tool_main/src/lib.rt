@@ -2,6 +2,7 @@
 #![tactic(auto)]
 
 mod ended;
+mod head;
 mod load;
 mod made;
 mod output;
@@ -10,6 +11,7 @@ mod scripts;
 mod tool;
 
 pub use ended::{RunEnd, ToolEnd};
+pub use head::Head;
 pub use made::made_scripts::made_scripts;
 pub use output::print_line;
 pub use rigs::rig_report::{are_good, rig_text};

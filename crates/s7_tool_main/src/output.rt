@@ -1,12 +1,12 @@
 // What is printed, by how it ended.
 ghost use Rattle.std.specs.Prelude.{◌≡◌};
-ghost use Rattle.s7_tool_main.specs.Loading.{refusal_line};
+ghost use Rattle.s7_tool_main.specs.Loading.{faulty_line, refusal_line};
 ghost use Rattle.s7_tool_main.specs.Report.{Printed, PrintsText, TellsFault};
 ghost use Rattle.s7_tool_main.specs.Rigging.{areas_refusal_line};
 
 use crate::ended::Ended;
-use crate::load::LoadFault;
-use crate::scripts::report::{areas_line, file_line, script_line};
+use crate::load::{LoadFault, TextKind};
+use crate::scripts::report::{areas_line, faulty_line, file_line};
 use s7_outer::Out;
 use s7_script::LoadFault as AreasFault;
 use std::alloc::Global;
@@ -22,20 +22,21 @@ pub(crate) fn print_text<O: Out>(text: &[u8], is_good: bool, out: &mut O) -> End
     }
 }
 
-/// Prints why a script wasn't loaded, and says how it ended so.
+/// Prints why a text of this kind wasn't loaded, and says how it ended so.
 pub(crate) fn print_refusal<O: Out>(
     alloc: Global,
+    kind: TextKind,
     fault: LoadFault,
     path: &str,
     out: &mut O,
 ) -> Ended
-    ensures { TellsFault (refusal_line fault) (fault ≡ LoadFault.Failed) path.now
+    ensures { TellsFault (refusal_line (faulty_line kind) fault) (fault ≡ LoadFault.Failed) path.now
         (O.shows out.old) (O.shows out.new) result }
 {
     match fault {
         LoadFault::Failed => print_failed(alloc, path, out),
         LoadFault::TooLong => print_as(Ended::Refused, b"file too long\n", out),
-        LoadFault::Line(number) => match script_line(alloc, number) {
+        LoadFault::Line(number) => match faulty_line(alloc, kind, number) {
             Ok(text) => print_as(Ended::Refused, text.as_bytes(), out),
             Err(_) => print_as(Ended::Memory, b"memory\n", out),
         },

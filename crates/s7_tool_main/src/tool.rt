@@ -28,7 +28,7 @@ pub const DONE: u8 = 0;
 /// The words are no command.
 pub const USAGE: u8 = 1;
 
-/// The script or the areas can't be read.
+/// The tags, the script or the areas can't be read.
 pub const SCRIPT: u8 = 2;
 
 /// A file failed.
@@ -60,8 +60,11 @@ pub const MEMORY: u8 = 9;
 /// files in order. With two it runs two partners in memory, and prints what they told in the end; with one it
 /// dials, and runs the active partner over the link, each of whose news is printed as it comes.
 ///
-/// The status is 1 where the words are no command; 2 where a script, a sends file or the areas can't be read: a
-/// faulty line, or more than 67,108,864 octets; 3 where a file that the words name failed; 4 where the dial
+/// With `--tags` `run` and `rig` read the tag file before all other files. The lines of scripts may name its tags then,
+/// and the result of a line that names one is printed with the value of the tag.
+///
+/// The status is 1 where the words are no command; 2 where a tag file, a script, a sends file or the areas can't be
+/// read: a faulty line, or more than 67,108,864 octets; 3 where a file that the words name failed; 4 where the dial
 /// failed; 5 where the output failed at a result or a news, which ends a run, or at the text of a rig or of two
 /// partners; 6 where a result's code isn't 0, a client of a rig isn't finished, or a block of a partner wasn't
 /// acknowledged; 9 where memory was wanting, which may come in the place of 1 to 4 too; and else 0. The first file that

@@ -1,13 +1,13 @@
 // Lines that begin an area.
 ghost use Rattle.std.specs.Prelude.{◌≡◌, option_map};
 ghost use Rattle.std.specs.List.{position};
-ghost use Rattle.s7_script.specs.Fields.{is_space, number_within};
-ghost use Rattle.s7_script.specs.Reading.{area_line, area_named, block_line, with_size};
+ghost use Rattle.s7_text.specs.Fields.{is_space};
+ghost use Rattle.s7_script.specs.Reading.{area_line, area_named, block_line, number_within, with_size};
 
-use crate::lines::{number, split_field};
 use crate::{AreasFault, AreasKind};
 use s7_area::AreaKey;
 use s7_item::codes::{COUNTERS, DATA_BLOCKS, FLAGS, INPUTS, OUTPUTS, TIMERS};
+use s7_text::{number, split_field};
 
 pub(crate) fn fault(line: u32, kind: AreasKind) -> AreasFault
     ensures { result ≡ record { line = line; kind = kind } }

@@ -4,9 +4,9 @@ ghost use Rattle.std.specs.List.{list_all};
 ghost use Rattle.s7_script.specs.Reading.{guard_line, is_graphic, is_word, password_of, with_word};
 
 use crate::areas::area_line::{fault, number_within};
-use crate::lines::{number, split_field};
 use crate::{AreasFault, AreasKind};
 use s7_area::Guard;
+use s7_text::{number, split_field};
 
 /// The guard of a line whose first field is `protect`: what follows are its level, 2 or 3, and its
 /// password.

@@ -1,19 +1,19 @@
 // The areas that a word of the command line names.
 ghost use Rattle.std.specs.Prelude.{◌≡◌, ◌≢◌, ◌≤◌, length, option_map, Err, IfSome, Ok};
 ghost use Rattle.hex.specs.Hex.{decode_of};
-ghost use Rattle.s7_script.specs.Fields.{number_of};
+ghost use Rattle.s7_text.specs.Fields.{number_of};
 ghost use Rattle.s7_script.specs.Reading.{areas as areas_by};
 ghost use Rattle.s7_script.specs.Naming.{naming, path, inline_parts, block_number, block_octets, block_named};
 ghost use Rattle.s7_script.specs.Naming.{block_with};
 ghost use Rattle.s7_script.specs.Loading.{Loads, LoadsBlock, Answers, opening, with_line_fault};
 
 use crate::areas::read::read_areas;
-use crate::lines::{number, split_mark};
 use crate::{AreasFault, AreasKind};
 use hex::FromHexError;
 use s7_area::{AreaKey, Areas, RegisterFault};
 use s7_item::codes::DATA_BLOCKS;
 use s7_outer::{FileFault, Files, Octets};
+use s7_text::{number, split_mark};
 use std::alloc::Global;
 
 /// How many octets a data block has at most.

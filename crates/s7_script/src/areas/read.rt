@@ -3,7 +3,7 @@ ghost use Rattle.std.specs.Prelude.{◌≡◌, OnOk, IfErr, ◌<◌, ◌≤◌, 
 ghost use Rattle.std.specs.Prelude.{Some, None};
 ghost use Rattle.hex.specs.Hex.{decode_of};
 ghost use Rattle.s7_area.specs.Registers.{is_wrong_size};
-ghost use Rattle.s7_script.specs.Lines.{lines};
+ghost use Rattle.s7_text.specs.Lines.{lines};
 ghost use Rattle.s7_script.specs.Reading.{Gives, FailsAs, areas as areas_by, by_current, filled, guarded, hex_octets};
 ghost use Rattle.s7_script.specs.Reading.{kind_of, nothing_read, read_lines, registered, run_octets, version_of};
 ghost use Rattle.s7_script.specs.Reading.{with_line, with_octets};
@@ -14,12 +14,12 @@ use crate::areas::guard_line::guard_line;
 use crate::areas::opening::{Open, State};
 use crate::areas::run_line::{run_of, run_parts};
 use crate::areas::version::Version;
-use crate::lines::{first_line, split_field};
 use crate::{AreasFault, AreasKind};
 use hex::FromHexError;
 use s7_area::{AreaKey, Areas, RegisterFault, areas_join};
 use s7_item::codes::{COUNTERS, TIMERS};
 use s7_outer::Octets;
+use s7_text::{first_line, split_field};
 use std::alloc::Global;
 
 /// How many octets an area has at most.

@@ -5,9 +5,9 @@ ghost use Rattle.s7_script.specs.Reading.{run_octet, run_of, run_parts};
 
 use crate::areas::area_line::{fault, number_within};
 use crate::areas::version::Version;
-use crate::lines::{number, split_mark};
 use crate::{AreasFault, AreasKind};
 use hex::FromHex;
+use s7_text::{number, split_mark};
 
 /// What stands before and after the `*` of a run; version 1 has no runs.
 pub(crate) fn run_parts(version: Version, text: &[u8]) -> Option<(&[u8], &[u8])>

@@ -9,10 +9,10 @@ ghost use Rattle.s7_script.specs.Spelling.{IsInRange, area_text, block, guard_te
 ghost use Rattle.s7_script.specs.Spelling.{spelling};
 
 use crate::areas::octet_lines::write_octets;
-use crate::lines::split_field;
 use s7_area::{AreaKey, Areas, areas_join};
 use s7_item::codes::{COUNTERS, DATA_BLOCKS, FLAGS, INPUTS, OUTPUTS, TIMERS};
 use s7_outer::{Memory, Octets};
+use s7_text::split_field;
 use std::alloc::Global;
 
 /// The area file of areas, in version 2: the first line, the line of the guard, where there is one,

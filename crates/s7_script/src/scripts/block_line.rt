@@ -4,13 +4,13 @@ ghost use Rattle.s7_script.specs.Script.{Gives, block_named, delete_job, downloa
 ghost use Rattle.s7_script.specs.Script.{list_of_job, upload_job, with_number, word_of};
 
 use crate::ScriptKind;
-use crate::lines::{number, split_field};
 use crate::scripts::item_text::{ended, within};
 use crate::scripts::written::octets_in;
 use s7_block::BlockName;
 use s7_block::kinds::{DB, FB, FC, OB, SDB, SFB, SFC};
 use s7_client::Job;
 use s7_outer::Octets;
+use s7_text::{number, split_field};
 use std::alloc::Global;
 
 /// The list of the blocks of a kind.

@@ -4,10 +4,10 @@ ghost use Rattle.hex.specs.Hex.{decode_of};
 ghost use Rattle.s7_script.specs.Script.{db_fill_job, db_get_job, octet_in, with_value};
 
 use crate::ScriptKind;
-use crate::lines::{number, split_field};
 use crate::scripts::item_text::{ended, within};
 use hex::FromHex;
 use s7_client::Job;
+use s7_text::{number, split_field};
 
 /// That a data block is read.
 pub(crate) fn db_get_job(rest: Option<&[u8]>) -> Result<Job, ScriptKind>

@@ -8,13 +8,13 @@ ghost use Rattle.s7_script.specs.ScriptShown.{placed_told};
 
 use crate::ScriptKind;
 use crate::areas::area_line::area_named;
-use crate::lines::{number, split_field};
 use s7_area::AreaKey;
 use s7_item::Item;
 use s7_item::codes::{
     BIT, BYTE, CHARACTER, COUNTERS, DATA_BLOCKS, DOUBLE_INTEGER, DOUBLE_WORD, INTEGER, REAL,
     TIMERS, WORD,
 };
+use s7_text::{number, split_field};
 
 /// The last octet that an address reaches.
 const LAST_OCTET: u64 = 2_097_151;

@@ -1,13 +1,15 @@
 // Reading scripts.
-ghost use Rattle.std.specs.Prelude.{◌≡◌, OnOk, IfErr, ◌<◌, ◌≤◌, ◌+◌, ◌-◌, ◌∷◌, ◌++◌, [], Ok, length};
+ghost use Rattle.std.specs.Prelude.{◌≡◌, OnOk, IfErr, ◌<◌, ◌≤◌, ◌+◌, ◌-◌, ◌∷◌, ◌++◌, [], Ok, length, option_map};
 ghost use Rattle.s7_script.specs.declared.scripts.script_fault.ScriptKind.TheVariants.{Memory};
-ghost use Rattle.s7_script.specs.Lines.{lines};
-ghost use Rattle.s7_script.specs.Script.{GivesScript, LineFails, line_jobs, script, script_lines};
+ghost use Rattle.s7_text.specs.Lines.{lines};
+ghost use Rattle.s7_script.specs.Script.{GivesScript, LineFails};
+ghost use Rattle.s7_script.specs.Tagged.{line_jobs, script, script_by, tag_script};
 ghost use Rattle.s7_script.specs.ScriptShown.{appended};
 
-use crate::lines::first_line;
-use crate::scripts::script_line::job_of;
+use crate::scripts::tag_line::{TaggedJob, tagged_of};
 use crate::{Script, ScriptFault, ScriptKind, ScriptLine};
+use s7_symbol::{Tag, Tags};
+use s7_text::first_line;
 use std::alloc::Global;
 
 /// The jobs that a script names, or its first wrong line.
@@ -41,12 +43,34 @@ use std::alloc::Global;
 pub fn read_script(alloc: Global, text: &[u8]) -> Result<Script, ScriptFault>
     ensures { GivesScript (λ s. s) result (script text.now) }
 {
+    read_lines(alloc, None, text)
+}
+
+/// The jobs that a script names where tags have names, or its first wrong line.
+///
+/// Its lines are those of `read_script`, and two more:
+///
+/// - `get NAME`: the value of the tag of this name is read;
+/// - `put NAME VALUE`: it is set to `VALUE`, a text of the tag's type.
+///
+/// `Word`: no tag has the name. `Number`: the value isn't one of the tag's type. The other faults are those of
+/// `read_script`, found in the same order.
+pub fn read_tag_script(alloc: Global, text: &[u8], tags: &Tags) -> Result<Script, ScriptFault>
+    ensures { GivesScript (λ s. s) result (tag_script tags.now text.now) }
+{
+    read_lines(alloc, Some(tags.as_slice()), text)
+}
+
+/// The jobs that a script names, where these tags have names, if any.
+fn read_lines(alloc: Global, tags: Option<&[Tag]>, text: &[u8]) -> Result<Script, ScriptFault>
+    ensures { GivesScript (λ s. s) result (script_by (option_map (λ t. t.now) tags.entry) text.now) }
+{
     let mut found = Vec::new(alloc);
     let mut rest = text;
     let mut line: u32 = 1;
     while !rest.is_empty() {
         let (next, after) = first_line(rest);
-        take_line(alloc, line, next, &mut found)?;
+        take_line(alloc, tags, line, next, &mut found)?;
         line = line.saturating_add(1);
         rest = after;
     }
@@ -56,18 +80,21 @@ pub fn read_script(alloc: Global, text: &[u8]) -> Result<Script, ScriptFault>
 /// Adds the job of a line, where it has one.
 fn take_line(
     alloc: Global,
+    tags: Option<&[Tag]>,
     line: u32,
     text: &[u8],
     found: &mut Vec<ScriptLine>,
 ) -> Result<(), ScriptFault>
-    ensures ok { OnOk result (appended found.old.items (line_jobs line text.now) ≡ Ok found.new.items) }
-    ensures err { IfErr result (λ e. LineFails e e.kind (line_jobs line text.now)) }
+    ensures ok { OnOk result (appended found.old.items
+        (line_jobs (option_map (λ t. t.now) tags.entry) line text.now) ≡ Ok found.new.items) }
+    ensures err { IfErr result (λ e. LineFails e e.kind
+        (line_jobs (option_map (λ t. t.now) tags.entry) line text.now)) }
 {
     if text.is_empty() || text[0] == b'#' {
         return Ok(());
     }
-    match job_of(alloc, text) {
-        Ok(job) => add_line(found, line, ScriptLine { line, job }),
+    match tagged_of(alloc, tags, text) {
+        Ok(TaggedJob { job, tag }) => add_line(found, line, ScriptLine { line, job, tag }),
         Err(kind) => Err(ScriptFault { line, kind }),
     }
 }

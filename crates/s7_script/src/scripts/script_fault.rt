@@ -4,13 +4,13 @@ use thiserror::Error;
 /// What is wrong with a line.
 #[derive(Clone, Copy, Debug, PartialEq, Eq, Error)]
 pub enum ScriptKind {
-    /// The first word, an area, the word of an item or the kind of a block isn't known; or a password has
-    /// an octet that isn't printable ASCII.
+    /// The first word, an area, the word of an item, the kind of a block or the name of a tag isn't known; or a
+    /// password has an octet that isn't printable ASCII.
     #[error("no such word")]
     Word,
     /// A field isn't a decimal number of at most ten digits, or is outside its range; a written item has
-    /// more than 65,535 elements, or a send more octets; or a moment isn't a date and time of the years 1990
-    /// to 2089.
+    /// more than 65,535 elements, or a send more octets; a moment isn't a date and time of the years 1990 to
+    /// 2089; or the value of a tag isn't one of its type.
     #[error("no number for this field")]
     Number,
     /// The octets aren't an even number of hexadecimal digits, at least two; or the id or index of a

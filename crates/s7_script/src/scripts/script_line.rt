@@ -4,15 +4,13 @@ ghost use Rattle.std.specs.Prelude.{IsTrue, OnOk, IfErr, codes};
 ghost use Rattle.std.specs.Str.{bytes_eq};
 ghost use Rattle.s7_script.specs.declared.scripts.script_fault.ScriptKind.TheVariants.{Memory};
 ghost use Rattle.hex.specs.Hex.{decode_of};
-ghost use Rattle.s7_script.specs.Script.{Gives, job_named, job_of, list_job, parts, password_job, plain_job};
+ghost use Rattle.s7_script.specs.Script.{Gives, job_named, list_job, parts, password_job, plain_job};
 ghost use Rattle.s7_script.specs.Script.{read_items, read_job, read_many_job, set_clock_job, two_octets_in, with_index};
 ghost use Rattle.s7_script.specs.Script.{write_job, write_many_job, written_items};
 ghost use Rattle.s7_script.specs.ScriptShown.{all_written, parts_left};
 
 use crate::ScriptKind;
 use crate::areas::guard_line::all_graphic;
-use crate::lines::split_field;
-use crate::moment::read_moment;
 use crate::scripts::block_line::{delete_job, download_job, info_job, list_of_job, upload_job};
 use crate::scripts::data_line::{db_fill_job, db_get_job};
 use crate::scripts::item_text::{ended, read_item};
@@ -21,17 +19,11 @@ use hex::FromHex;
 use s7_client::{ItemList, Job};
 use s7_item::Item;
 use s7_outer::Octets;
+use s7_text::{read_moment, split_field};
 use std::alloc::Global;
 
-/// The job that a line names.
-pub(crate) fn job_of(alloc: Global, text: &[u8]) -> Result<Job, ScriptKind>
-    ensures { Gives (λ j. j) result (job_of text.now) }
-{
-    let (name, rest) = split_field(text);
-    job_named(alloc, name, rest)
-}
-
-fn job_named(alloc: Global, name: &[u8], rest: Option<&[u8]>) -> Result<Job, ScriptKind>
+/// The job of this name and these fields.
+pub(crate) fn job_named(alloc: Global, name: &[u8], rest: Option<&[u8]>) -> Result<Job, ScriptKind>
     ensures { Gives (λ j. j) result (job_named name.now (option_map (λ t. t.now) rest.entry)) }
 {
     if name == b"read".as_slice() {

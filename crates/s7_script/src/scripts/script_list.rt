@@ -2,6 +2,7 @@
 ghost use Rattle.std.specs.Prelude.{◌≡◌};
 
 use s7_client::Job;
+use s7_symbol::TagKind;
 use std::marker::Model;
 
 /// A job, and the line of the script that names it.
@@ -11,6 +12,8 @@ pub struct ScriptLine {
     pub line: u32,
     /// The job.
     pub job: Job,
+    /// The type of the tag that the job gets or puts, where the line names one.
+    pub tag: Option<TagKind>,
 }
 
 /// The jobs of a script in order. Contracts see them as a list.

@@ -4,10 +4,10 @@ ghost use Rattle.s7_script.specs.Script.{Gives, counted, element_size, with_digi
 ghost use Rattle.s7_script.specs.ScriptShown.{octets_in, placed_told, written_of};
 
 use crate::ScriptKind;
-use crate::lines::split_field;
 use crate::scripts::item_text::{Placed, ended, item_at, place};
 use hex::FromHexError;
 use s7_item::{Item, size_of};
+use s7_text::split_field;
 use std::alloc::Global;
 
 /// An item that is written, and its octets.

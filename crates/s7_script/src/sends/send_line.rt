@@ -6,11 +6,11 @@ ghost use Rattle.s7_script.specs.Sends.{block_sent, four_octets_in, send_of, wit
 ghost use Rattle.s7_script.specs.SendsShown.{block_of};
 
 use crate::ScriptKind;
-use crate::lines::split_field;
 use crate::scripts::item_text::ended;
 use crate::scripts::written::octets_in;
 use hex::FromHex;
 use s7_outer::Octets;
+use s7_text::split_field;
 use std::alloc::Global;
 
 /// How many octets a block has at most.

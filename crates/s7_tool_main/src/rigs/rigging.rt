@@ -9,12 +9,13 @@ ghost use Rattle.s7_args.specs.Shown.{rig_told_of};
 ghost use Rattle.s7_tool_main.specs.Asked.{rig_config};
 ghost use Rattle.s7_tool_main.specs.End.{results_in_rig};
 ghost use Rattle.s7_tool_main.specs.Loading.{KeepsPaths};
-ghost use Rattle.s7_tool_main.specs.RigText.{ArePrintable, are_clients_good, numbers_of, rig_text};
+ghost use Rattle.s7_tool_main.specs.RigText.{ArePrintable, are_clients_good, heads_of, rig_text};
 ghost use Rattle.s7_tool_main.specs.Rigging.{JobsWanting, RanJobs, RigEnds, RigWanting};
 ghost use Rattle.s7_tool_main.specs.Run.{jobs_of};
 
 use crate::ended::Ended;
-use crate::load::load_scripts;
+use crate::head::Head;
+use crate::load::{TextKind, load_scripts, load_tags};
 use crate::output::{print_areas_refusal, print_as, print_refusal, print_text};
 use crate::rigs::rig_report::{are_good, rig_text};
 use s7_area::Areas;
@@ -33,7 +34,7 @@ pub(crate) struct Rigged {
     pub is_good: bool,
 }
 
-/// Loads the areas and the scripts that the words name, runs a client for each script, and prints what
+/// Loads the tags, the areas and the scripts that the words name, runs a client for each script, and prints what
 /// came of it. The completion is told of the first client's jobs.
 pub(crate) fn run_rigging<F: Files, O: Out, C: Completion>(
     alloc: Global,
@@ -52,14 +53,24 @@ pub(crate) fn run_rigging<F: Files, O: Out, C: Completion>(
         (option_map C.told done.old) (option_map C.told done.new) }
     ensures handed { is_some done.new ≡ is_some done.old }
 {
+    let tags = match load_tags(alloc, files, words.tags) {
+        Ok(tags) => tags,
+        Err(refused) => {
+            let ended = print_refusal(alloc, TextKind::Tags, refused.fault, refused.path, out);
+            return (ended, None);
+        }
+    };
     let areas = match load_areas(alloc, files, words.areas) {
         Ok(areas) => areas,
         Err(fault) => return (print_areas_refusal(alloc, fault, words.areas, out), None),
     };
     scripts_keep_links();
-    let scripts = match load_scripts(alloc, files, words.scripts.as_slice()) {
+    let scripts = match load_scripts(alloc, files, tags.as_ref(), words.scripts.as_slice()) {
         Ok(scripts) => scripts,
-        Err(refused) => return (print_refusal(alloc, refused.fault, refused.path, out), None),
+        Err(refused) => {
+            let ended = print_refusal(alloc, TextKind::Script, refused.fault, refused.path, out);
+            return (ended, None);
+        }
     };
     match run_scripts(alloc, &words, areas, scripts, done) {
         Ok(rigged) => {
@@ -90,11 +101,11 @@ fn run_scripts<C: Completion>(
         (option_map C.told done.old) (option_map C.told done.new)) }
     ensures handed { is_some done.new ≡ is_some done.old }
 {
-    let numbers = all_numbers(alloc, scripts.as_slice())?;
+    let heads = all_heads(alloc, scripts.as_slice())?;
     let jobs = all_jobs(alloc, scripts)?;
     let end = run_jobs(alloc, words, areas, jobs, done)?;
-    let text = rig_text(alloc, numbers.as_slice(), &end)?;
-    let is_good = are_good(numbers.as_slice(), end.clients.as_slice());
+    let text = rig_text(alloc, heads.as_slice(), &end)?;
+    let is_good = are_good(heads.as_slice(), end.clients.as_slice());
     Ok(Rigged { end, text, is_good })
 }
 
@@ -140,26 +151,26 @@ pub(crate) fn rig_config(pdu: u16, jobs: u16) -> Config
     }
 }
 
-// The numbers of the lines of each script, before which the connect has 0.
-fn all_numbers(alloc: Global, scripts: &[Script]) -> Result<Vec<Vec<u32>>, AllocError>
-    ensures { IfOk result (λ all. map (λ v. v.items) all.items ≡ map numbers_of scripts.now) }
+// The heads of the lines of each script, before which the connect has the number 0.
+fn all_heads(alloc: Global, scripts: &[Script]) -> Result<Vec<Vec<Head>>, AllocError>
+    ensures { IfOk result (λ all. map (λ v. v.items) all.items ≡ map heads_of scripts.now) }
 {
     let mut all = Vec::new(alloc);
     for script in scripts {
-        all.push(numbers_of(alloc, script)?)?;
+        all.push(heads_of(alloc, script)?)?;
     }
     Ok(all)
 }
 
-fn numbers_of(alloc: Global, script: &Script) -> Result<Vec<u32>, AllocError>
-    ensures { IfOk result (λ numbers. numbers.items ≡ numbers_of script.now) }
+fn heads_of(alloc: Global, script: &Script) -> Result<Vec<Head>, AllocError>
+    ensures { IfOk result (λ heads. heads.items ≡ heads_of script.now) }
 {
-    let mut numbers = Vec::new(alloc);
-    numbers.push(0)?;
+    let mut heads = Vec::new(alloc);
+    heads.push(Head { line: 0, tag: None })?;
     for next in script.as_slice() {
-        numbers.push(next.line)?;
+        heads.push(Head::of(next))?;
     }
-    Ok(numbers)
+    Ok(heads)
 }
 
 // The jobs of each client.

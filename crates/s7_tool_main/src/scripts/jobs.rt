@@ -10,13 +10,14 @@ ghost use Rattle.s7_client.specs.Completions.{completion_of, connection_of, told
 ghost use Rattle.s7_client.specs.Polling.{job_of, config_of};
 ghost use Rattle.s7_client.specs.Runs.{JobRun, between_of};
 ghost use Rattle.s7_rig.specs.Tells.{Tells};
-ghost use Rattle.s7_script.specs.Printing.{IsPrintable, print};
-ghost use Rattle.s7_tool_main.specs.Report.{Gains};
+ghost use Rattle.s7_script.specs.Printing.{IsPrintable};
+ghost use Rattle.s7_tool_main.specs.Report.{Gains, line_by};
 ghost use Rattle.s7_tool_main.specs.Run.{PrintsFront, connect_line, is_good};
 
+use crate::head::Head;
 use s7_client::{Client, Completion, Job, JobResult};
 use s7_outer::{Link, Out};
-use s7_script::{ScriptLine, ends_print, print_result};
+use s7_script::{ScriptLine, ends_print};
 use std::alloc::Global;
 
 /// Why a run ended early.
@@ -64,6 +65,7 @@ impl<L: Link + Drop, C: Completion> ScriptRun<L, C> {
         let connect = ScriptLine {
             line: 0,
             job: Job::Connect,
+            tag: None,
         };
         self.do_job(alloc, connect, out)?;
         self.do_lines(alloc, lines, out)?;
@@ -121,9 +123,9 @@ impl<L: Link + Drop, C: Completion> ScriptRun<L, C> {
         ensures len { OnOk result (vec_len self.new.results ≡ vec_len self.old.results + 1) }
         ensures capacity { vec_capacity self.old.results ≤ vec_capacity self.new.results }
     {
-        let line = next.line;
+        let head = Head::of(&next);
         let told = carry_out(alloc, next.job, &mut self.client, &mut self.line)?;
-        let printed = print(alloc, line, &told, out);
+        let printed = print(alloc, head, &told, out);
         keep(&mut self.results, told);
         printed
     }
@@ -184,16 +186,16 @@ fn keep(results: &mut Vec<JobResult>, told: JobResult)
 }
 
 // Prints what came of the job of a line.
-fn print<O: Out>(alloc: Global, line: u32, told: &JobResult, out: &mut O) -> Result<(), Stop>
+fn print<O: Out>(alloc: Global, head: Head, told: &JobResult, out: &mut O) -> Result<(), Stop>
     requires { IsPrintable told.now }
-    ensures ok { OnOk result (Gains (O.shows out.old) (O.shows out.new) (print line told.now)) }
+    ensures ok { OnOk result (Gains (O.shows out.old) (O.shows out.new) (line_by head.line head.tag told.now)) }
     ensures front { IsErrOf result Stop.Output → PrintsFront (O.shows out.old) (O.shows out.new)
-        (print line told.now) }
+        (line_by head.line head.tag told.now) }
     ensures rose { IsErrOf result Stop.Output → Rose (O.shows out.old).faults (O.shows out.new).faults }
     ensures memory { IsErrOf result Stop.Memory → out.new ≡ out.old }
     ensures faults { (O.shows out.old).faults ≤ (O.shows out.new).faults }
 {
-    let Ok(text) = print_result(alloc, line, told) else {
+    let Ok(text) = head.print(alloc, told) else {
         return Err(Stop::Memory);
     };
     match out.put(text.as_slice()) {

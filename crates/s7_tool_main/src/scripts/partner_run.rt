@@ -11,7 +11,7 @@ ghost use Rattle.s7_tool_main.specs.Partners.{AloneEnds, BothEnd, EndsBy, PairTe
 ghost use Rattle.s7_tool_main.specs.Partners.{partner_config};
 
 use crate::ended::{Ended, RunEnd};
-use crate::load::load_sends;
+use crate::load::{TextKind, load_sends};
 use crate::output::{print_as, print_refusal, print_text};
 use s7_args::PartnerWords;
 use s7_client::Config;
@@ -50,7 +50,10 @@ pub(crate) fn run_partner<F: Files, L: Link + Drop, K: Dial<L>, O: Out>(
 {
     let one = match load_sends(alloc, files, words.one) {
         Ok(sends) => sends,
-        Err(fault) => return (print_refusal(alloc, fault, words.one, out), None),
+        Err(fault) => {
+            let ended = print_refusal(alloc, TextKind::Script, fault, words.one, out);
+            return (ended, None);
+        }
     };
     match words.other {
         Some(path) => (run_both(alloc, &words, one, path, files, out), None),
@@ -75,7 +78,7 @@ fn run_both<F: Files, O: Out>(
 {
     let other = match load_sends(alloc, files, path) {
         Ok(sends) => sends,
-        Err(fault) => return print_refusal(alloc, fault, path, out),
+        Err(fault) => return print_refusal(alloc, TextKind::Script, fault, path, out),
     };
     match pair(alloc, one, other, words.seed, words.steps) {
         Ok(paired) => print_text(paired.text.as_slice(), paired.is_done, out),

@@ -1,14 +1,19 @@
 // The lines that tell why nothing was run.
 ghost use Rattle.std.specs.Prelude.{◌≡◌, IfOk, string_bytes};
-ghost use Rattle.s7_tool_main.specs.Report.{areas_line, file_line, script_line};
+ghost use Rattle.s7_tool_main.specs.Loading.{faulty_line};
+ghost use Rattle.s7_tool_main.specs.Report.{areas_line, file_line};
 
+use crate::load::TextKind;
 use std::alloc::{AllocError, Global};
 
-/// The line for a script whose line of this number is faulty.
-pub fn script_line(alloc: Global, number: u32) -> Result<String, AllocError>
-    ensures { IfOk result (λ text. string_bytes text ≡ script_line number) }
+/// The line for a text of this kind whose line of this number is faulty.
+pub(crate) fn faulty_line(alloc: Global, kind: TextKind, number: u32) -> Result<String, AllocError>
+    ensures { IfOk result (λ text. string_bytes text ≡ faulty_line kind number) }
 {
-    format!(in alloc; "script line {number}\n")
+    match kind {
+        TextKind::Tags => format!(in alloc; "tags line {number}\n"),
+        TextKind::Script => format!(in alloc; "script line {number}\n"),
+    }
 }
 
 /// The line for areas whose line of this number is faulty.

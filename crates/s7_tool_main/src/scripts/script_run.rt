@@ -13,11 +13,11 @@ ghost use Rattle.s7_args.specs.Shown.{run_told_of};
 ghost use Rattle.s7_tool_main.specs.Asked.{config_by};
 ghost use Rattle.s7_tool_main.specs.End.{results_in};
 ghost use Rattle.s7_tool_main.specs.Loading.{KeepsPaths};
-ghost use Rattle.s7_tool_main.specs.Ran.{RunEnds, RunsOver};
+ghost use Rattle.s7_tool_main.specs.Ran.{LinesEnd, RunEnds, RunsOver};
 ghost use Rattle.s7_tool_main.specs.Run.{Goes, is_good, place};
 
 use crate::ended::{Ended, RunEnd};
-use crate::load::load_script;
+use crate::load::{TextKind, load_script, load_tags};
 use crate::output::{print_as, print_refusal};
 use crate::scripts::jobs::{ScriptRun, Stop, all_good};
 use s7_args::RunWords;
@@ -26,9 +26,7 @@ use s7_outer::{Dial, Dialled, Files, Link, Out};
 use s7_script::ScriptLine;
 use std::alloc::{AllocError, Global};
 
-/// Reads the script that the words name, dials the controller, and runs the script over the link. All
-/// room is taken before the dial, so a link that came is never dropped. The completion is lent to the client
-/// for the run.
+/// Reads the tag file and the script that the words name, dials the controller, and runs the script over the link.
 pub(crate) fn run_script<F: Files, L: Link + Drop, K: Dial<L>, O: Out, C: Completion>(
     alloc: Global,
     words: RunWords<'_>,
@@ -50,13 +48,46 @@ pub(crate) fn run_script<F: Files, L: Link + Drop, K: Dial<L>, O: Out, C: Comple
         ≡ option_map (λ t. told_of_results t (results_in result.1)) (option_map C.told done.old) }
     ensures handed { is_some done.new ≡ is_some done.old }
 {
-    let lines = match load_script(alloc, files, words.script) {
-        Ok(script) => script.into_vec(),
-        Err(fault) => return (print_refusal(alloc, fault, words.script, out), None),
+    let tags = match load_tags(alloc, files, words.tags) {
+        Ok(tags) => tags,
+        Err(refused) => {
+            let ended = print_refusal(alloc, TextKind::Tags, refused.fault, refused.path, out);
+            return (ended, None);
+        }
     };
+    match load_script(alloc, files, tags.as_ref(), words.script) {
+        Ok(script) => run_lines(alloc, &words, script.into_vec(), dial, out, done),
+        Err(fault) => {
+            let ended = print_refusal(alloc, TextKind::Script, fault, words.script, out);
+            (ended, None)
+        }
+    }
+}
+
+// Dials the controller, and runs these lines over the link. All room is taken before the dial, so a link that came is
+// never dropped. The completion is lent to the client for the run.
+fn run_lines<L: Link + Drop, K: Dial<L>, O: Out, C: Completion>(
+    alloc: Global,
+    words: &RunWords<'_>,
+    lines: Vec<ScriptLine>,
+    dial: &mut K,
+    out: &mut O,
+    done: &mut Option<C>,
+) -> (Ended, Option<RunEnd<L>>)
+    ensures ended { LinesEnd L.shows (run_told_of words.now) lines.items (K.shows dial.old) (K.shows dial.new)
+        (O.shows out.old) (O.shows out.new) result.1 result.0 }
+    ensures dial_faults { NoHostFell (K.shows dial.old).faults (K.shows dial.new).faults }
+    ensures undialled { result.1 ≡ None → result.0 ≢ Ended.Dial → dial.new ≡ dial.old }
+    ensures dialled_once { IsSome result.1 ⊎ (result.0 ≡ Ended.Dial)
+        → RoseExactly 1 (K.shows dial.old).calls (K.shows dial.new).calls }
+    ensures undropped { result.0 ≡ Ended.Dial → (K.shows dial.new).next ≡ (K.shows dial.old).next }
+    ensures told { option_map C.told done.new
+        ≡ option_map (λ t. told_of_results t (results_in result.1)) (option_map C.told done.old) }
+    ensures handed { is_some done.new ≡ is_some done.old }
+{
     let (Ok(results), Ok(client)) = (
         results_for(alloc, lines.len()),
-        Client::new(alloc, config_of(&words), None),
+        Client::new(alloc, config_of(words), None),
     ) else {
         return (print_as(Ended::Memory, b"memory\n", out), None);
     };

@@ -2,7 +2,7 @@ use Rattle.std.proofs.Common.{ap, refl, sym, codes, Some, map, length, ◌≡◌
 use Rattle.std.specs.Prelude.{option_and_then, option_map}
 use Rattle.clap.specs.Words.{is_simple_and_free}
 use Rattle.s7_args.specs.Fields.{areas}
-use Rattle.s7_args.specs.Tool.{ToolTold, rig, rig_line, rig_of, rig_with, scripts, turns, turns_or_none}
+use Rattle.s7_args.specs.Tool.{ToolTold, rig, rig_line, rig_of, rig_with, scripts, tags, turns, turns_or_none}
 use Rattle.s7_args.proofs.Commands.{accepted, refused, text_or_is, text_read, texts_read}
 use Rattle.s7_args.proofs.Lines.{rig_is}
 use Rattle.s7_args.proofs.RunLemmas.{seed_is, steps_is, rig_pdu_is, rig_journal_is, rig_jobs_is}
@@ -96,6 +96,7 @@ returns c =
     let pdu_read = rig_pdu_is _ m read c.get_one-3.result _ c.unwrap_or-4.ensures c.get_one-3.ensures.none c.get_one-3.ensures.value in
     let journal_read = rig_journal_is _ m read c.get_one-4.result _ c.unwrap_or-5.ensures c.get_one-4.ensures.none c.get_one-4.ensures.value in
     let jobs_read = rig_jobs_is _ m read c.get_one-5.result _ c.unwrap_or-6.ensures c.get_one-5.ensures.none c.get_one-5.ensures.value in
+    let tags_are = text_read (codes "rig") rig_line rig_is _ m read tags.name c.get_str-3.result c.get_str-3.ensures in
     let copied = c.in_ok-to_vec.ensures.items_if_clones_equal (λ x y same. same) in
     let scripts_are = ap (map (λ s. s.now)) copied ∙ paths in
     let told_is : ◌≡◌ {A = ToolTold} _ (rig_with read.given (paths_of read.given) c.in-Some-2.turns.items) = λ i. rig (record {
@@ -107,5 +108,6 @@ returns c =
       pdu = pdu_read.same i;
       journal = journal_read.same i;
       jobs = jobs_read.same i;
+      tags = tags_are i;
     }) in
     ap Some told_is ∙ rig_told read.given c.in-Some-2.turns.items (rw (← count) most) (order ∙ λ i. turns_or_none (2 * count i) (given i)) ∙ sym (ap (option_and_then rig_of) read.by_line)

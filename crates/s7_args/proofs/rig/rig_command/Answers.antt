@@ -12,4 +12,5 @@ returns c =
     let five = c.in_ok-arg-5.ensures.shape c.number-2.ensures.local ∙ ap₂ with_rule four c.number-2.ensures.rule in
     let six = c.in_ok-arg-6.ensures.shape c.number-3.ensures.local ∙ ap₂ with_rule five c.number-3.ensures.rule in
     let seven = c.in_ok-arg-7.ensures.shape c.number-4.ensures.local ∙ ap₂ with_rule six c.number-4.ensures.rule in
-    IfOk-weaker c.arg-8.result _ _ (λ r added. added.shape c.number-5.ensures.local ∙ ap₂ with_rule seven c.number-5.ensures.rule) c.arg-8.ensures
+    let eight = c.in_ok-arg-8.ensures.shape c.number-5.ensures.local ∙ ap₂ with_rule seven c.number-5.ensures.rule in
+    IfOk-weaker c.arg-9.result _ _ (λ r added. added.shape c.text-2.ensures.local ∙ ap₂ with_rule eight c.text-2.ensures.rule) c.arg-9.ensures

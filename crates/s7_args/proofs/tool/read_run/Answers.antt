@@ -1,6 +1,6 @@
 use Rattle.std.proofs.Common.{ap, refl, sym, codes, option_map, Some, ◌≡◌, ◌∙◌}
 use Rattle.clap.specs.Words.{is_simple_and_free}
-use Rattle.s7_args.specs.Tool.{ToolTold, host, run, run_line, run_of, script}
+use Rattle.s7_args.specs.Tool.{ToolTold, host, run, run_line, run_of, script, tags}
 use Rattle.s7_args.proofs.Commands.{accepted, refused, text_or_is, text_read}
 use Rattle.s7_args.proofs.Lines.{run_is}
 use Rattle.s7_args.proofs.RunLemmas.{port_is, kind_is, rack_is, slot_is, pdu_is, polls_is, jobs_is}
@@ -58,6 +58,7 @@ returns c =
     let pdu_read = pdu_is _ m read c.get_one-5.result _ c.unwrap_or-7.ensures c.get_one-5.ensures.none c.get_one-5.ensures.value in
     let polls_read = polls_is _ m read c.get_one-6.result _ c.unwrap_or-8.ensures c.get_one-6.ensures.none c.get_one-6.ensures.value in
     let jobs_read = jobs_is _ m read c.get_one-7.result _ c.unwrap_or-9.ensures c.get_one-7.ensures.none c.get_one-7.ensures.value in
+    let tags_are = text_read (codes "run") run_line run_is _ m read tags.name c.get_str-3.result c.get_str-3.ensures in
     let told : ◌≡◌ {A = ToolTold} _ (run_of read.given) = λ i. run (record {
       script = script_is i;
       host = host_is i;
@@ -68,5 +69,6 @@ returns c =
       pdu = pdu_read.same i;
       polls = polls_read.same i;
       jobs = jobs_read.same i;
+      tags = tags_are i;
     }) in
     ap Some told ∙ sym (ap (option_map run_of) read.by_line)

@@ -1,4 +1,4 @@
-use Rattle.s7_script.proofs.MomentPrintLemmas.{has_parts}
+use Rattle.s7_text.proofs.MomentPrintLemmas.{has_parts}
 use Rattle.s7_script.proofs.print.add_clock.Goals as goal
 
 pub clock_text-requires : goal.clock_text-requires

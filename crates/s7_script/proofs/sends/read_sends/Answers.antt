@@ -1,11 +1,11 @@
 use Rattle.std.proofs.Common.{◌∙◌, ap, sym, subst, eqb-true, length, Ok}
 use Rattle.std.proofs.lemmas.Result.{err_from_is_err_and}
 use Rattle.std.specs.List.{All}
-use Rattle.s7_script.specs.Lines.{lines}
+use Rattle.s7_text.specs.Lines.{lines}
 use Rattle.s7_script.specs.Script.{LineFails}
 use Rattle.s7_script.specs.Sends.{IsSized, send_lines}
 use Rattle.s7_script.specs.ScriptShown.{appended}
-use Rattle.s7_script.proofs.LineLemmas.{no_lines}
+use Rattle.s7_text.proofs.LineLemmas.{no_lines}
 use Rattle.s7_script.proofs.SendLemmas.{sends-ended, sends-fail, sends-step, sends_sized}
 use Rattle.s7_script.proofs.sends.read_sends.Goals as goal
 

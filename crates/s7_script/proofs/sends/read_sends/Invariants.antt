@@ -1,5 +1,5 @@
 use Rattle.std.proofs.Common.{◌≡◌, length}
-use Rattle.s7_script.specs.Lines.{lines}
+use Rattle.s7_text.specs.Lines.{lines}
 use Rattle.s7_script.specs.Sends.{send_lines}
 use Rattle.s7_script.specs.ScriptShown.{appended}
 use Rattle.s7_script.proofs.sends.read_sends.Given as goal

@@ -1,6 +1,6 @@
 use Rattle.std.proofs.Common.{◌≡◌, ◌∙◌, ◌∷◌, [], ℕ, List, length, refl, sym, ap, subst, arith, Err, option_map, eqb-true}
 use Rattle.std.proofs.lemmas.Result.{err_from_is_err_and}
-use Rattle.s7_script.specs.Lines.{lines}
+use Rattle.s7_text.specs.Lines.{lines}
 use Rattle.s7_script.specs.Reading.{FailsAs, closed, nothing_read, read_lines}
 use Rattle.s7_script.specs.Shown.{open_of, state_of}
 use Rattle.s7_script.specs.declared.areas.fault.AreasFault.{AreasFault}

@@ -1,5 +1,5 @@
 use Rattle.std.proofs.Common.{◌≡◌, length}
-use Rattle.s7_script.specs.Lines.{lines}
+use Rattle.s7_text.specs.Lines.{lines}
 use Rattle.s7_script.specs.Reading.{nothing_read, read_lines}
 use Rattle.s7_script.specs.Shown.{state_of}
 use Rattle.s7_script.proofs.areas.read.read_rest.Given as goal

@@ -1,9 +1,10 @@
-use Rattle.std.proofs.Common.{◌≡◌, ◌++◌, ◌∙◌, List, ℕ, Global, Vec, ap, map, sym, rules, append-nil}
+use Rattle.std.proofs.Common.{◌≡◌, ◌++◌, ◌∙◌, List, Global, Vec, ap, map, sym, rules, append-nil}
 use Rattle.std.specs.Iterator.Adapters.{zip_first, zip_second}
 use Rattle.std.specs.Slice.Iter.{iter_rest}
 use Rattle.std.proofs.lemmas.List.Elements.{All-head, All-rest, All-same}
 use Rattle.std.proofs.lemmas.Slice.Zip.{Zip-more, either_empty_from_Zip}
 use Rattle.s7_rig.specs.Shown.{client_told}
+use Rattle.s7_tool_main.specs.declared.head.Head.{Head}
 use Rattle.s7_tool_main.specs.RigText.{ArePrintable, client_text, clients_text}
 use Rattle.s7_tool_main.proofs.TextLemmas.{clients_end, clients_next, either_mapped}
 use Rattle.s7_tool_main.proofs.rigs.rig_report.add_clients.Goals as goal
@@ -16,7 +17,7 @@ add_client-requires c =
 
 pub loop-lines-preserved : goal.loop-lines-preserved
 loop-lines-preserved c =
-    let items : Vec ℕ Global → List ℕ = λ v. v.items in
+    let items : Vec Head Global → List Head = λ v. v.items in
     let steps = Zip-more c.loop-lines.lines-iterator c.next.new.self c.next.result (c.in-Some.lines, c.in-Some.client) c.in-Some.is c.next.ensures.steps in
     let left = clients_text (map items (iter_rest (zip_first c.next.new.self))) (map client_told (iter_rest (zip_second c.next.new.self))) in
     record {
@@ -28,11 +29,11 @@ loop-lines-preserved c =
 
 pub returns : goal.returns
 returns c =
-    let items : Vec ℕ Global → List ℕ = λ v. v.items in
+    let items : Vec Head Global → List Head = λ v. v.items in
     let it = c.into_iter-lines-iterator.result in
-    let first : iter_rest (zip_first it) ≡ c.args.numbers.now = search rules in
+    let first : iter_rest (zip_first it) ≡ c.args.heads.now = search rules in
     let second : iter_rest (zip_second it) ≡ c.args.clients.now = search rules in
     let end = clients_end _ _ (either_mapped items client_told _ _ (either_empty_from_Zip c.loop-lines.lines-iterator c.next.new.self c.next.result c.in-None.is c.next.ensures.steps)) in
     sym (append-nil c.loop-lines.text.items) ∙ ap (λ t. c.loop-lines.text.items ++ t) (sym end) ∙ c.loop-lines.invariant.text
     ∙ ap (λ ns. c.args.text.now.items ++ clients_text (map items ns) (map client_told (iter_rest (zip_second it)))) first
-    ∙ ap (λ cs. c.args.text.now.items ++ clients_text (map items c.args.numbers.now) (map client_told cs)) second
+    ∙ ap (λ cs. c.args.text.now.items ++ clients_text (map items c.args.heads.now) (map client_told cs)) second

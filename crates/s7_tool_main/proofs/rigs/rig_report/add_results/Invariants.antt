@@ -5,9 +5,9 @@ use Rattle.s7_script.specs.Printing.{IsPrintable}
 use Rattle.s7_tool_main.specs.RigText.{results_text}
 use Rattle.s7_tool_main.proofs.rigs.rig_report.add_results.Given as goal
 
-abbrev pub invariant-loop-number : goal.invariant-loop-number
-invariant-loop-number l = record {
-  text : l.text.items ++ results_text l.link (iter_rest (zip_first l.number-iterator)) (iter_rest (zip_second l.number-iterator))
-      ≡ l.initial.text.items ++ results_text l.link (iter_rest (zip_first l.initial.number-iterator)) (iter_rest (zip_second l.initial.number-iterator));
-  printable : All IsPrintable (iter_rest (zip_second l.number-iterator));
+abbrev pub invariant-loop-head : goal.invariant-loop-head
+invariant-loop-head l = record {
+  text : l.text.items ++ results_text l.link (iter_rest (zip_first l.head-iterator)) (iter_rest (zip_second l.head-iterator))
+      ≡ l.initial.text.items ++ results_text l.link (iter_rest (zip_first l.initial.head-iterator)) (iter_rest (zip_second l.initial.head-iterator));
+  printable : All IsPrintable (iter_rest (zip_second l.head-iterator));
 }

@@ -5,8 +5,8 @@ use Rattle.s7_rig.proofs.TellsLemmas.{any_err, ran_wanting}
 use Rattle.s7_tool_main.specs.Rigging.{JobsWanting, RanJobs}
 use Rattle.s7_tool_main.proofs.rigs.rigging.run_scripts.Goals as goal
 
-pub returns-in_err-numbers-clause-told_wanting : goal.returns-in_err-numbers-clause-told_wanting
-returns-in_err-numbers-clause-told_wanting g c = any_err _ (inl refl)
+pub returns-in_err-heads-clause-told_wanting : goal.returns-in_err-heads-clause-told_wanting
+returns-in_err-heads-clause-told_wanting g c = any_err _ (inl refl)
 
 pub returns-in_err-jobs-clause-told_wanting : goal.returns-in_err-jobs-clause-told_wanting
 returns-in_err-jobs-clause-told_wanting g c = any_err _ (inl refl)

@@ -1,0 +1,15 @@
+pub mod NumberLemmas
+pub mod DateLemmas
+pub mod StringLemmas
+pub mod TagLemmas
+pub mod ValueLemmas
+pub mod PlainLemmas
+pub mod MarkLemmas
+pub mod ShownLemmas
+pub mod SignedLemmas
+pub mod DigitLemmas
+pub mod CharacterLemmas
+pub mod CalendarLemmas
+pub mod MeaningLemmas
+pub mod AnswerLemmas
+pub mod TagLineLemmas

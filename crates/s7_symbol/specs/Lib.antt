@@ -1,0 +1,10 @@
+pub mod Numbers
+pub mod Meanings
+pub mod Texts
+pub mod Octets
+pub mod Values
+pub mod Shown
+pub mod Places
+pub mod Tags
+pub mod LineShown
+pub mod TagLines
