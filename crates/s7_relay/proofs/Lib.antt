@@ -1,0 +1,6 @@
+pub mod FieldLemmas
+pub mod FileLemmas
+pub mod FileLawLemmas
+pub mod SpellingLemmas
+pub mod NearLemmas
+pub mod FarLemmas
