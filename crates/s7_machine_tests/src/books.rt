@@ -4,7 +4,7 @@ ghost use Rattle.s7_plant.specs.Books.{seen_of};
 ghost use Rattle.s7_plant.specs.Journals.{entries_of};
 ghost use Rattle.s7_plant.specs.Observers.{fresh};
 
-use crate::telegrams::octets;
+use crate::telegrams::joined;
 use s7_area::{AreaKey, Areas};
 use s7_block::Blocks;
 use s7_listener::Served;
@@ -13,12 +13,10 @@ use s7_outer::{Memory, Octets};
 use s7_plant::{Book, MOST_BLOCKS, Observer, Tail};
 use s7_session::Outcome;
 use std::alloc::Global;
-use std::test::Fail;
 
 /// A link that gives these telegrams.
-pub(crate) fn a_link(alloc: Global, names: &str) -> Result<MemoryLink, Fail> {
-    let input = Octets::of_vec(octets(alloc, names)?);
-    Ok(MemoryLink::new(alloc, input, 8_192, 4_096, 7)?)
+pub(crate) fn a_link(alloc: Global, telegrams: &[&[u8]]) -> Option<MemoryLink> {
+    MemoryLink::new(alloc, joined(alloc, telegrams)?, 8_192, 4_096, 7).ok()
 }
 
 // Data block 1, `11 22 33 44`.
@@ -50,17 +48,13 @@ pub(crate) fn a_book(alloc: Global, limit: u64) -> Result<Book<Tail>, Memory>
 
 /// The link ended as links do, wrote these answers, was shut then, and had so many entries.
 pub(crate) fn is_answered<L>(
-    alloc: Global,
     served: &Served<L>,
     line: &MemoryLink,
-    answers: &str,
+    answers: &Octets,
     entries: u64,
-) -> Result<bool, Fail> {
-    let output = octets(alloc, answers)?;
-    Ok(
-        served.outcome == Outcome::Ended
-            && line.written() == output.as_slice()
-            && line.is_shut()
-            && served.entries == entries,
-    )
+) -> bool {
+    served.outcome == Outcome::Ended
+        && line.written() == answers.as_slice()
+        && line.is_shut()
+        && served.entries == entries
 }

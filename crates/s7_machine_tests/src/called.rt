@@ -5,7 +5,7 @@ ghost use Rattle.std.specs.Prelude.{IfSome, None};
 ghost use Rattle.std.specs.List.{AllByRecursion};
 ghost use Rattle.s7_plant.specs.Observers.{IsFresh};
 
-use crate::callers::{Callers, Calls, Told};
+use crate::callers::{Callers, Told, come_to};
 use crate::line::{Doorway, Line, listen_from, next};
 use s7_memory::{HoldGate, MemoryFiles, MemoryOut};
 use s7_os::{RealLink, TcpDoor};
@@ -15,7 +15,6 @@ use s7_server_main::{Run, ServerEnd, server_main};
 use s7_session::Outcome;
 use std::alloc::Global;
 use std::sync::{OnceLock, Wait};
-use std::test::Fail;
 use std::thread::{Threads, join};
 use std::time::Clock;
 
@@ -60,89 +59,76 @@ impl Door<Line> for TellingDoor<'_> {
     }
 }
 
-/// How a server is called: with these words, over these files, with a gate that keeps one link at its first request
-/// until the second request of another one, 0 for none, and with a tail of this mask as its observer.
-#[derive(Drop)]
+/// The area file of a server.
+pub(crate) enum AreaFile {
+    /// None.
+    Nothing,
+    /// This text.
+    Text(&'static [u8]),
+    /// A file of no area, a first line and a comment, of so many octets.
+    Long(usize),
+}
+
+/// How a server is called: with these words, over this area file, with a gate that keeps one link at its first request
+/// until the second request of another one, 0 for none, with a tail of this mask as its observer, and by whom.
 pub(crate) struct Call {
     pub(crate) words: &'static [&'static str],
-    pub(crate) files: MemoryFiles,
+    pub(crate) areas: AreaFile,
     pub(crate) kept: u32,
     pub(crate) until: u32,
     pub(crate) mask: u32,
-}
-
-impl Call {
-    /// A call without files, which keeps no link and has nothing observed.
-    pub(crate) fn of(words: &'static [&'static str]) -> Call {
-        Call {
-            words,
-            files: MemoryFiles::new(),
-            kept: 0,
-            until: 0,
-            mask: 0,
-        }
-    }
-}
-
-/// What a server is called with.
-#[derive(Drop)]
-struct Server<'a> {
-    call: Call,
-    pipe: Line,
-    door: TellingDoor<'a>,
-    out: MemoryOut,
+    pub(crate) callers: Callers,
 }
 
 /// What a server leaves, its output, whether its gate gave up, and what came to each of its callers.
 #[derive(Drop)]
 pub(crate) struct Left {
     pub(crate) came: Vec<Vec<Octets>>,
-    pub(crate) end: ServerEnd<Line, Tail>,
+    pub(crate) status: u8,
+    pub(crate) run: Option<Run<Line, Tail>>,
     pub(crate) out: MemoryOut,
     pub(crate) gave_up: bool,
 }
 
-impl Left {
-    /// It ended with this status, and printed this. No link was kept for too long.
-    pub(crate) fn reports(&self, status: u8, text: &str) -> bool {
-        self.end.status == status && self.out.text() == text.as_bytes() && !self.gave_up
+// An area file of no area, a first line and a comment, of so many octets.
+fn long_areas(alloc: Global, count: usize) -> Option<Vec<u8>> {
+    let mut text = Vec::from_slice(alloc, b"s7 areas 1\n").ok()?;
+    let comment = vec![in alloc; b'#'; 65_536].ok()?;
+    for _ in 0..=count / 65_536 {
+        text.extend_from_slice(comment.as_slice()).ok()?;
     }
-
-    /// What serving left.
-    pub(crate) fn run(&self) -> Option<&Run<Line, Tail>> {
-        self.end.run.as_ref()
-    }
+    text.truncate(count);
+    Some(text)
 }
 
-/// The files of a call over this area file.
-pub(crate) fn files(alloc: Global, areas: Vec<u8>) -> Result<MemoryFiles, Fail> {
+// The files of a call.
+fn files(alloc: Global, areas: &AreaFile) -> Option<MemoryFiles> {
     let mut files = MemoryFiles::new();
-    files.insert(alloc, "a.txt", Octets::of_vec(areas))?;
-    Ok(files)
+    let text = match areas {
+        AreaFile::Nothing => return Some(files),
+        AreaFile::Text(text) => Vec::from_slice(alloc, text).ok()?,
+        AreaFile::Long(count) => long_areas(alloc, *count)?,
+    };
+    files.insert(alloc, "a.txt", Octets::of_vec(text)).ok()?;
+    Some(files)
 }
 
-fn a_pipe(host: &HostRuntime) -> Result<Line, Fail> {
-    Ok(RealLink::standard(host.alloc(), host.clone()?)?)
+fn a_pipe(host: HostRuntime) -> Option<Line> {
+    RealLink::standard(host.alloc(), host).ok()
 }
 
-fn a_door<'a>(host: &HostRuntime, told: &'a Told) -> Result<TellingDoor<'a>, Fail> {
-    Ok(TellingDoor {
-        door: TcpDoor::new(host.clone()?),
+fn an_output(alloc: Global) -> Option<MemoryOut> {
+    MemoryOut::new(alloc, 65_536).ok()
+}
+
+fn a_door(host: HostRuntime, told: &Told) -> TellingDoor<'_> {
+    TellingDoor {
+        door: TcpDoor::new(host),
         told,
         port: 0,
         listens: 0,
         faults: 0,
-    })
-}
-
-fn a_server<'a>(host: &HostRuntime, told: &'a Told, call: Call) -> Result<Server<'a>, Fail> {
-    let out = MemoryOut::new(host.alloc(), 65_536)?;
-    Ok(Server {
-        call,
-        pipe: a_pipe(host)?,
-        door: a_door(host, told)?,
-        out,
-    })
+    }
 }
 
 // A tail that hears the codes of this mask, and has the newest event.
@@ -171,98 +157,66 @@ fn serve<R: Threads + Wait + Clock + Sync>(
     Some(server_main(rt, alloc, words, files, pipe, door, gate, out, tails))
 }
 
-impl Server<'_> {
-    // A server that never asked its door to listen has no port told.
-    fn run<R: Threads + Wait + Clock + Sync>(self, rt: &R, alloc: Global) -> Option<Left> {
-        let Server {
-            call,
-            pipe,
-            mut door,
-            mut out,
-        } = self;
-        let Call {
-            words,
-            mut files,
-            kept,
-            until,
-            mask,
-        } = call;
-        let gate = HoldGate::new(kept, until, 1_000_000_000);
-        let end = serve(
-            rt, alloc, words, mask, &mut files, pipe, &mut door, &gate, &mut out,
-        );
-        let _ = door.told.try_set(None);
-        let gave_up = gate.gave_up();
-        Some(Left {
-            came: Vec::new(alloc),
-            end: end?,
-            out,
-            gave_up,
-        })
-    }
-}
-
-/// A server, and its callers.
-#[derive(Drop)]
-struct Both<'a> {
-    calls: Calls<'a>,
-    server: Server<'a>,
-}
-
-fn calls_of<'a>(host: &HostRuntime, told: &'a Told, callers: Callers) -> Result<Calls<'a>, Fail> {
-    let host = host.clone()?;
-    Ok(Calls {
-        host,
-        told,
-        callers,
+// What a server leaves, to whose callers nothing came yet.
+fn left_by<R: Threads + Wait + Clock + Sync>(
+    rt: &R,
+    host: HostRuntime,
+    told: &Told,
+    call: &Call,
+) -> Option<Left> {
+    let alloc = host.alloc();
+    let mut files = files(alloc, &call.areas)?;
+    let pipe = a_pipe(host)?;
+    let mut out = an_output(alloc)?;
+    let mut door = a_door(host, told);
+    let gate = HoldGate::new(call.kept, call.until, 1_000_000_000);
+    let ServerEnd { status, run, .. } = serve(
+        rt, alloc, call.words, call.mask, &mut files, pipe, &mut door, &gate, &mut out,
+    )?;
+    let gave_up = gate.gave_up();
+    Some(Left {
+        came: Vec::new(alloc),
+        status,
+        run,
+        out,
+        gave_up,
     })
 }
 
-fn sides<'a>(
-    host: &HostRuntime,
-    told: &'a Told,
-    call: Call,
-    callers: Callers,
-) -> Result<Both<'a>, Fail> {
-    let calls = calls_of(host, told, callers)?;
-    let server = a_server(host, told, call)?;
-    Ok(Both { calls, server })
-}
-
-// What both sides have beside one another.
-fn at_once<R: Threads + Wait + Clock + Sync>(
+// The same. A server that never asked its door to listen has no port told.
+fn told_by<R: Threads + Wait + Clock + Sync>(
     rt: &R,
-    alloc: Global,
-    sides: Both<'_>,
-) -> (Option<Vec<Vec<Octets>>>, Option<Left>) {
-    let Both { calls, server } = sides;
-    join(rt, || calls.run(rt), || server.run(rt, alloc))
+    host: HostRuntime,
+    told: &Told,
+    call: &Call,
+) -> Option<Left> {
+    let left = left_by(rt, host, told, call);
+    let _ = told.try_set(None);
+    left
 }
 
-// Both sides came to their ends.
-fn whole(came: Option<Vec<Vec<Octets>>>, left: Option<Left>) -> Result<Left, Fail> {
-    let mut left = left.ok_or("nothing left")?;
-    left.came = came.ok_or("no answers")?;
-    Ok(left)
-}
-
-/// What comes to callers of a server, and what the server leaves.
+/// What a server leaves, and what comes to its callers beside it.
 pub(crate) fn called<R: Threads + Wait + Clock + Sync>(
     rt: &R,
-    host: &HostRuntime,
-    call: Call,
-    callers: Callers,
-) -> Result<Left, Fail> {
+    host: HostRuntime,
+    call: &Call,
+) -> Option<Left> {
     let told = OnceLock::new();
-    let sides = sides(host, &told, call, callers)?;
-    let (came, left) = at_once(rt, host.alloc(), sides);
-    whole(came, left)
+    let told = &told;
+    let (came, left) = join(
+        rt,
+        || come_to(rt, host, told, &call.callers),
+        || told_by(rt, host, told, call),
+    );
+    let mut left = left?;
+    left.came = came?;
+    Some(left)
 }
 
 /// So many links were served, and made so many entries together. Each ended as links do, and its entries are the
 /// journal's under its number.
 pub(crate) fn is_whole(left: &Left, links: usize, entries: usize) -> Option<bool> {
-    let run = left.run()?;
+    let run = left.run.as_ref()?;
     let journal = run.book.journal.as_slice();
     let mut all = 0usize;
     for served in &run.links {

@@ -4,6 +4,8 @@ ghost use Rattle.s7_client.specs.Completions.{connection_of};
 ghost use Rattle.s7_client.specs.Polling.{job_of};
 
 use crate::line::{Line, ask, call_here, receive, rest_of, takes};
+use crate::shared::telegrams_of;
+use crate::telegrams::{CONNECT, READ, SETUP, joined, packets};
 use s7_client::{Client, Config, Counter, Job, JobResult};
 use s7_item::Item;
 use s7_item::codes::{BYTE, DATA_BLOCKS};
@@ -15,67 +17,25 @@ use std::thread::{Threads, map_vec};
 /// The port that a server listens on, told once; none where it listens on none.
 pub(crate) type Told = OnceLock<Option<u16>>;
 
-/// Who calls.
-#[derive(Drop)]
+/// Who calls a server.
 pub(crate) enum Callers {
     /// No one, where the server listens on no port.
     Nobody,
-    /// One caller.
-    One(One),
-    /// Callers beside one another.
-    Many(Vec<Caller>),
-}
-
-/// One caller.
-#[derive(Drop)]
-pub(crate) enum One {
-    /// Its links are opened one after another. Each sends its octets by one call, and takes what comes up to its end.
-    AtOnce(Vec<Octets>),
-    /// It has two links, the second of which asks something once the first one ended.
-    Ends(Ending),
-    /// Its link sends these octets, takes one octet of the answer and goes, which resets the connection.
-    Resets(Octets),
-    /// It is a client that connects, reads four octets and disconnects.
+    /// Links of one caller that are opened one after another. Each sends its telegrams by one call, and takes what
+    /// comes up to its end.
+    AtOnce(&'static [&'static [&'static [u8]]]),
+    /// One caller of two links that are negotiated. The first one ends by what it sends, and then the second one reads.
+    Ends(&'static [u8]),
+    /// One caller whose link sends a connect request, takes one octet of the answer and goes, which resets the
+    /// connection.
+    Resets,
+    /// A client that connects, reads four octets and disconnects.
     Reads,
-}
-
-/// Who has so many links, one after another. On each it sends the telegrams, each once the one before is answered.
-#[derive(Drop)]
-pub(crate) struct Caller {
-    pub(crate) links: u8,
-    pub(crate) telegrams: Vec<Octets>,
-}
-
-/// What two links ask at first, what ends the first one, and what the second one asks then.
-#[derive(Drop)]
-pub(crate) struct Ending {
-    pub(crate) telegrams: Vec<Octets>,
-    pub(crate) last: Octets,
-    pub(crate) next: Octets,
-}
-
-/// Who calls which port.
-#[derive(Drop)]
-pub(crate) struct Calls<'a> {
-    pub(crate) host: HostRuntime,
-    pub(crate) told: &'a Told,
-    pub(crate) callers: Callers,
-}
-
-impl Calls<'_> {
-    /// What came to each caller, in order.
-    pub(crate) fn run<R: Threads + Wait + Sync>(self, rt: &R) -> Option<Vec<Vec<Octets>>> {
-        let Calls {
-            host,
-            told,
-            callers,
-        } = self;
-        match callers {
-            Callers::Nobody => Some(Vec::new(host.alloc())),
-            Callers::One(one) => alone(&host, port_of(rt, told)?, &one),
-            Callers::Many(callers) => in_turn(rt, &host, port_of(rt, told)?, callers),
-        }
-    }
+    /// Ten callers at a time, each of which has twenty links, one after another. Each link connects, negotiates, reads
+    /// twice and goes.
+    ComeAndGo,
+    /// Eight clients that write data blocks of their own and a shared one.
+    Share,
 }
 
 // The port, once the server listens.
@@ -83,114 +43,101 @@ fn port_of<R: Wait>(rt: &R, told: &Told) -> Option<u16> {
     *told.wait(rt)
 }
 
-// Links that are opened one after another, and each take their octets.
-fn opened(host: &HostRuntime, port: u16, asked: &[Octets]) -> Option<Vec<Line>> {
-    let mut lines = Vec::new(host.alloc());
-    for octets in asked {
-        let mut line = call_here(host, port)?;
-        if !takes(&mut line, octets.as_slice()) {
-            return None;
-        }
-        lines.push(line).ok()?;
+/// What came to each caller, in order.
+pub(crate) fn come_to<R: Threads + Wait + Sync>(
+    rt: &R,
+    host: HostRuntime,
+    told: &Told,
+    callers: &Callers,
+) -> Option<Vec<Vec<Octets>>> {
+    match callers {
+        Callers::Nobody => alone(host, 0, callers),
+        Callers::ComeAndGo => many(rt, host, port_of(rt, told)?, 10, 20),
+        Callers::Share => many(rt, host, port_of(rt, told)?, 8, 1),
+        _ => alone(host, port_of(rt, told)?, callers),
     }
-    Some(lines)
 }
 
-// What comes to a caller.
-fn alone(host: &HostRuntime, port: u16, one: &One) -> Option<Vec<Vec<Octets>>> {
+// What comes to one caller.
+fn alone(host: HostRuntime, port: u16, callers: &Callers) -> Option<Vec<Vec<Octets>>> {
     let mut came = Vec::new(host.alloc());
-    come_to(host, port, one, &mut came)?;
+    match callers {
+        Callers::AtOnce(asks) => at_once(host, port, asks, &mut came)?,
+        Callers::Ends(last) => one_ends(host, port, last, &mut came)?,
+        Callers::Resets => resets(host, port)?,
+        Callers::Reads => came.push(read_by_client(host, port)?).ok()?,
+        Callers::Nobody | Callers::ComeAndGo | Callers::Share => {}
+    }
     let mut all = Vec::new(host.alloc());
     all.push(came).ok()?;
     Some(all)
 }
 
-// Appends what comes to a caller.
-fn come_to(host: &HostRuntime, port: u16, one: &One, came: &mut Vec<Octets>) -> Option<()> {
-    match one {
-        One::AtOnce(asked) => at_once(host, port, asked.as_slice(), came),
-        One::Ends(ending) => one_ends(host, port, ending, came),
-        One::Resets(octets) => resets(host, port, octets.as_slice()),
-        One::Reads => reads(host, port, came),
+// A link that sent these telegrams by one call.
+fn opened(host: HostRuntime, port: u16, telegrams: &[&[u8]]) -> Option<Line> {
+    let octets = joined(host.alloc(), telegrams)?;
+    let mut line = call_here(&host, port)?;
+    if takes(&mut line, octets.as_slice()) {
+        Some(line)
+    } else {
+        None
     }
 }
 
-fn at_once(host: &HostRuntime, port: u16, asked: &[Octets], came: &mut Vec<Octets>) -> Option<()> {
-    let mut lines = opened(host, port, asked)?;
+// Links that are opened one after another.
+fn all_opened(host: HostRuntime, port: u16, asks: &[&[&[u8]]]) -> Option<Vec<Line>> {
+    let mut lines = Vec::new(host.alloc());
+    for telegrams in asks {
+        lines.push(opened(host, port, telegrams)?).ok()?;
+    }
+    Some(lines)
+}
+
+// Appends what comes up to the end of each of the links.
+fn at_once(host: HostRuntime, port: u16, asks: &[&[&[u8]]], came: &mut Vec<Octets>) -> Option<()> {
+    let mut lines = all_opened(host, port, asks)?;
     for line in lines.as_mut_slice() {
         came.push(rest_of(host.alloc(), line)?).ok()?;
     }
     Some(())
 }
 
-// Appends the answer to each of the telegrams.
-fn converse(
-    alloc: Global,
-    line: &mut Line,
-    telegrams: &[Octets],
-    answers: &mut Vec<Octets>,
-) -> Option<()> {
-    for telegram in telegrams {
-        answers.push(ask(alloc, line, telegram.as_slice())?).ok()?;
-    }
-    Some(())
-}
-
-// A link on which each of the telegrams is answered.
+// A link on which each of the telegrams is answered. The answers are appended.
 fn a_link(
-    host: &HostRuntime,
+    host: HostRuntime,
     port: u16,
     telegrams: &[Octets],
     answers: &mut Vec<Octets>,
 ) -> Option<Line> {
-    let mut line = call_here(host, port)?;
-    converse(host.alloc(), &mut line, telegrams, answers)?;
+    let mut line = call_here(&host, port)?;
+    for telegram in telegrams {
+        answers
+            .push(ask(host.alloc(), &mut line, telegram.as_slice())?)
+            .ok()?;
+    }
     Some(line)
-}
-
-// All answers that came to a caller. A link that goes wrong doesn't keep the next one from coming, since the server
-// waits for all of them.
-fn all_links(host: &HostRuntime, port: u16, caller: Caller) -> Vec<Octets> {
-    let mut answers = Vec::new(host.alloc());
-    for _ in 0..caller.links {
-        drop(a_link(host, port, caller.telegrams.as_slice(), &mut answers));
-    }
-    answers
-}
-
-fn in_turn<R: Threads + Sync>(
-    rt: &R,
-    host: &HostRuntime,
-    port: u16,
-    callers: Vec<Caller>,
-) -> Option<Vec<Vec<Octets>>> {
-    map_vec(rt, callers, &|caller: Caller| all_links(host, port, caller)).ok()
-}
-
-// What comes to a link up to its end, once it sent this.
-fn ended(alloc: Global, line: &mut Line, last: &[u8]) -> Option<Octets> {
-    if takes(line, last) {
-        rest_of(alloc, line)
-    } else {
-        None
-    }
 }
 
 // Two links, of which one ends by what it sent and is told so, while the other one is still served. What came at its
 // end is appended last.
-fn one_ends(host: &HostRuntime, port: u16, ending: &Ending, came: &mut Vec<Octets>) -> Option<()> {
-    let mut first = a_link(host, port, ending.telegrams.as_slice(), came)?;
-    let mut second = a_link(host, port, ending.telegrams.as_slice(), came)?;
-    let rest = ended(host.alloc(), &mut first, ending.last.as_slice())?;
-    came.push(ask(host.alloc(), &mut second, ending.next.as_slice())?)
-        .ok()?;
+fn one_ends(host: HostRuntime, port: u16, last: &[u8], came: &mut Vec<Octets>) -> Option<()> {
+    let opening = packets(host.alloc(), &[CONNECT, SETUP])?;
+    let mut first = a_link(host, port, opening.as_slice(), came)?;
+    let mut second = a_link(host, port, opening.as_slice(), came)?;
+    if !takes(&mut first, last) {
+        return None;
+    }
+    let rest = rest_of(host.alloc(), &mut first)?;
+    came.push(ask(host.alloc(), &mut second, READ)?).ok()?;
     came.push(rest).ok()
 }
 
-// An octet comes.
-fn comes(line: &mut Line, came: &mut Vec<u8>) -> Option<()> {
+// An octet comes on a link that sent a connect request.
+fn resets(host: HostRuntime, port: u16) -> Option<()> {
+    let mut line = opened(host, port, &[CONNECT])?;
+    let mut came = Vec::new(host.alloc());
     for _ in 0..100u32 {
-        match receive(line, 1, came) {
+        match receive(&mut line, 1, &mut came) {
             Got::Bytes(_) => return Some(()),
             Got::NotYet => {}
             Got::End | Got::Failed => return None,
@@ -199,13 +146,46 @@ fn comes(line: &mut Line, came: &mut Vec<u8>) -> Option<()> {
     None
 }
 
-fn resets(host: &HostRuntime, port: u16, octets: &[u8]) -> Option<()> {
-    let mut line = call_here(host, port)?;
-    if takes(&mut line, octets) {
-        comes(&mut line, &mut Vec::new(host.alloc()))
+// What a caller of so many links sends on each: the only one is a client's.
+fn telegrams(alloc: Global, links: u8, number: u8) -> Option<Vec<Octets>> {
+    if links == 1 {
+        telegrams_of(alloc, number)
     } else {
-        None
+        packets(alloc, &[CONNECT, SETUP, READ, READ])
     }
+}
+
+// All answers that came to a caller, whose links come one after another. A link that goes wrong doesn't keep the next
+// one from coming, since the server waits for all of them.
+fn answers_to(host: HostRuntime, port: u16, links: u8, number: u8) -> Vec<Octets> {
+    let mut answers = Vec::new(host.alloc());
+    let Some(telegrams) = telegrams(host.alloc(), links, number) else {
+        return answers;
+    };
+    for _ in 0..links {
+        drop(a_link(host, port, telegrams.as_slice(), &mut answers));
+    }
+    answers
+}
+
+// What comes to so many callers beside one another, of so many links each.
+fn many<R: Threads + Sync>(
+    rt: &R,
+    host: HostRuntime,
+    port: u16,
+    callers: u8,
+    links: u8,
+) -> Option<Vec<Vec<Octets>>> {
+    let mut numbers = Vec::new(host.alloc());
+    for number in 1..=callers {
+        numbers.push(number).ok()?;
+    }
+    map_vec(
+        rt,
+        numbers,
+        &|number: u8| answers_to(host, port, links, number),
+    )
+    .ok()
 }
 
 // Data block 1 from its first octet on.
@@ -273,13 +253,13 @@ fn octets_read(alloc: Global, client: &mut Client<Counter>, line: &mut Line) -> 
     }
 }
 
-// What a client reads.
-fn read_by_client(alloc: Global, line: &mut Line) -> Option<Octets> {
+// What a client reads on a link.
+fn read_on(alloc: Global, line: &mut Line) -> Option<Octets> {
     let mut client = a_client(alloc).ok()?;
     octets_read(alloc, &mut client, line)
 }
 
-fn reads(host: &HostRuntime, port: u16, came: &mut Vec<Octets>) -> Option<()> {
-    let mut line = call_here(host, port)?;
-    came.push(read_by_client(host.alloc(), &mut line)?).ok()
+// What a client reads.
+fn read_by_client(host: HostRuntime, port: u16) -> Option<Octets> {
+    read_on(host.alloc(), &mut call_here(&host, port)?)
 }

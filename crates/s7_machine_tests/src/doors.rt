@@ -3,20 +3,44 @@
 //
 // `serve_door` is called in `host` alone, since each function that calls it is costly to prove.
 use crate::books::{a_book, a_link, is_answered};
+use crate::telegrams::{ANSWER, CONFIRM, CONNECT, GRANTED, READ, SETUP, joined};
 use crate::watched::{WatchedDoor, WatchedLink};
 use s7_listener::{Hosted, NotHosted, Served, serve_door};
 use s7_memory::{HoldGate, MemoryDoor, MemoryLink};
-use s7_outer::{Gate, OpenGate};
+use s7_outer::{Gate, Octets, OpenGate};
 use s7_plant::{Book, Tail};
 use std::alloc::Global;
 use std::sync::Wait;
-use std::test::Fail;
 use std::thread::Threads;
 use std::time::Clock;
 
 type Line = WatchedLink<MemoryLink>;
 
 type Doorway = WatchedDoor<MemoryDoor<Line>>;
+
+/// What comes by a door: how many links, how often each reads, the call of the door that fails, and the most links.
+type Coming = (usize, usize, Option<usize>, u16);
+
+/// Per row: what comes by a door, the link that is kept at its first request and the one whose second request lets it
+/// go (0 for none), and then how many links are served and whether the door failed, or nothing where no link is served.
+///
+/// No order of one link behind the other lets both gates of the last two rows go.
+const DOORS: &[(Coming, (u32, u32), Option<(usize, bool)>)] = &[
+    ((2, 2, Some(0), 2), (0, 0), None),
+    ((2, 2, Some(1), 2), (0, 0), Some((1, true))),
+    ((2, 2, Some(2), 2), (0, 0), Some((2, false))),
+    ((2, 2, None, 3), (0, 0), Some((2, false))),
+    ((3, 2, None, 2), (0, 0), Some((2, false))),
+    ((0, 2, None, 2), (0, 0), Some((0, false))),
+    ((1_024, 2, None, 1_024), (0, 0), Some((1_024, false))),
+    ((2, 1, None, 2), (0, 0), Some((2, false))),
+    ((2, 1, None, 3), (0, 0), Some((2, false))),
+    ((3, 1, None, 2), (0, 0), Some((2, false))),
+    ((2, 1, Some(1), 2), (0, 0), Some((1, true))),
+    ((2, 1, Some(0), 2), (0, 0), None),
+    ((2, 2, None, 2), (1, 2), Some((2, false))),
+    ((2, 2, None, 2), (2, 1), Some((2, false))),
+];
 
 /// What serving a door leaves, and the door behind it.
 #[derive(Drop)]
@@ -38,25 +62,36 @@ fn host<R: Threads + Wait + Clock + Sync, G: Gate + Sync>(
     Some(Left { hosted, door })
 }
 
-// A door of so many links, each of which asks this.
-fn a_door(
-    alloc: Global,
-    count: usize,
-    names: &str,
-    fail_at: Option<usize>,
-) -> Result<Doorway, Fail> {
+// What a link sends that reads once, or twice.
+fn asks_of(reads: usize) -> &'static [&'static [u8]] {
+    if reads == 1 {
+        &[CONNECT, SETUP, READ]
+    } else {
+        &[CONNECT, SETUP, READ, READ]
+    }
+}
+
+// What it is answered.
+fn answers_of(reads: usize) -> &'static [&'static [u8]] {
+    if reads == 1 {
+        &[CONFIRM, GRANTED, ANSWER]
+    } else {
+        &[CONFIRM, GRANTED, ANSWER, ANSWER]
+    }
+}
+
+// A door of so many links, each of which reads so often.
+fn a_door(alloc: Global, count: usize, reads: usize, fail_at: Option<usize>) -> Option<Doorway> {
     let mut links = Vec::new(alloc);
     for _ in 0..count {
         let link = WatchedLink {
-            link: a_link(alloc, names)?,
+            link: a_link(alloc, asks_of(reads))?,
             is_shut: false,
             late: 0,
         };
-        if links.push(link).is_err() {
-            return Err(Fail::from("memory"));
-        }
+        links.push(link).ok()?;
     }
-    Ok(WatchedDoor {
+    Some(WatchedDoor {
         door: MemoryDoor::new(links, fail_at),
         listens: 0,
         port: 0,
@@ -65,138 +100,116 @@ fn a_door(
     })
 }
 
+// What serving a door leaves. None where a link was kept for too long.
+fn served<R: Threads + Wait + Clock + Sync>(
+    rt: &R,
+    alloc: Global,
+    coming: &Coming,
+    gates: &(u32, u32),
+) -> Option<Left> {
+    let (count, reads, fail_at, most) = *coming;
+    let (kept, until) = *gates;
+    let door = a_door(alloc, count, reads, fail_at)?;
+    if kept == 0 {
+        return host(rt, alloc, &OpenGate, door, most);
+    }
+    let gate = HoldGate::new(kept, until, 1_000_000_000);
+    let left = host(rt, alloc, &gate, door, most)?;
+    if gate.gave_up() { None } else { Some(left) }
+}
+
 // The door was told once to listen, and not asked behind its end or its failure.
 fn is_called_in_order(door: &Doorway) -> bool {
     door.listens == 1 && door.port == 102 && door.late == 0
 }
 
-// The links were shut, and behind that nothing was to move on them. Each has so many entries.
-fn are_shut_last(links: &[Served<Line>], entries: u64) -> bool {
+// The link has this number, was answered so, and has so many entries. It was shut, and behind that nothing was to move
+// on it.
+fn is_served(served: &Served<Line>, number: u32, answers: &Octets, entries: u64) -> bool {
+    let line = &served.line;
+    served.link == number
+        && line.is_shut
+        && line.late == 0
+        && is_answered(served, &line.link, answers, entries)
+}
+
+// The links have the numbers from 1 on, and each was served so.
+fn are_served(links: &[Served<Line>], answers: &Octets, entries: u64) -> bool {
+    let mut number = 0u32;
     for served in links {
-        if !served.line.is_shut || served.line.late > 0 || served.entries != entries {
+        number = number.saturating_add(1);
+        if !is_served(served, number, answers, entries) {
             return false;
         }
     }
     true
 }
 
-// So many links are left, each with so many entries, and the door failed or not.
-fn are_left(hosted: &Hosted<Book<Tail>, Line>, entries: u64, left: Option<(usize, bool)>) -> bool {
-    let count = hosted.links.len() as u64;
-    left == Some((hosted.links.len(), hosted.door_failed))
-        && count.checked_mul(entries) == Some(hosted.keeper.journal.len())
-        && are_shut_last(hosted.links.as_slice(), entries)
-}
-
-// A door leaves so much.
-fn leaves(left: &Left, entries: u64, wanted: Option<(usize, bool)>) -> bool {
-    is_called_in_order(&left.door)
-        && match &left.hosted {
-            Ok(hosted) => are_left(hosted, entries, wanted),
-            Err(why) => wanted.is_none() && *why == NotHosted::Door,
-        }
-}
-
-/// Per row: the links of the door, how often each reads, the call of the door that fails, the most links, and then how
-/// many links are served and whether the door failed, or nothing where no link is served.
-const DOORS: &[(usize, u64, Option<usize>, u16, Option<(usize, bool)>)] = &[
-    (2, 2, Some(0), 2, None),
-    (2, 2, Some(1), 2, Some((1, true))),
-    (2, 2, Some(2), 2, Some((2, false))),
-    (2, 2, None, 3, Some((2, false))),
-    (3, 2, None, 2, Some((2, false))),
-    (0, 2, None, 2, Some((0, false))),
-    (1_024, 2, None, 1_024, Some((1_024, false))),
-    (2, 1, None, 2, Some((2, false))),
-    (2, 1, None, 3, Some((2, false))),
-    (3, 1, None, 2, Some((2, false))),
-    (2, 1, Some(1), 2, Some((1, true))),
-    (2, 1, Some(0), 2, None),
-];
-
-// What serving a door leaves whose links read so often.
-fn served<R: Threads + Wait + Clock + Sync>(
-    rt: &R,
-    alloc: Global,
-    count: usize,
-    reads: u64,
-    fail_at: Option<usize>,
-    most: u16,
-) -> Result<Left, Fail> {
-    let names = if reads == 1 {
-        "OPEN READ"
-    } else {
-        "OPEN READ READ"
-    };
-    let door = a_door(alloc, count, names, fail_at)?;
-    Ok(host(rt, alloc, &OpenGate, door, most).ok_or("memory")?)
-}
-
-#[test]
-fn doors_end_and_fail_and_are_called_in_order(rt: HostRuntime) -> Result<(), Fail> {
-    let mut row = 0u8;
-    for (count, reads, fail_at, most, wanted) in DOORS {
-        let left = served(&rt, rt.alloc(), *count, *reads, *fail_at, *most)?;
-        assert!(rt; leaves(&left, *reads, *wanted), "row {row}");
-        row = row.saturating_add(1);
-    }
-    Ok(())
-}
-
-// The link has this number, and its reads are answered.
-fn is_read(alloc: Global, served: &Served<Line>, link: u32) -> Result<bool, Fail> {
-    let line = &served.line.link;
-    Ok(served.link == link && is_answered(alloc, served, line, "OPENED ANSWER ANSWER", 2)?)
-}
-
-// The links have the numbers 1 and 2, and their reads are answered.
-fn are_read(alloc: Global, links: &[Served<Line>]) -> Result<bool, Fail> {
-    match links {
-        [one, two] => Ok(is_read(alloc, one, 1)? && is_read(alloc, two, 2)?),
-        _ => Ok(false),
-    }
-}
-
-// The book has four entries, of which two are of link 1.
-fn has_two_of_each(book: &Book<Tail>) -> bool {
-    let mut mine = 0u8;
+// How many entries of the book are of link 1.
+fn count_of_first(book: &Book<Tail>) -> u64 {
+    let mut count = 0u64;
     for entry in book.journal.as_slice() {
         if entry.link == 1 {
-            mine = mine.saturating_add(1);
+            count = count.saturating_add(1);
         }
     }
-    book.journal.len() == 4 && mine == 2
+    count
 }
 
-// Both links are left, with what they were answered and entered.
-fn are_both(alloc: Global, hosted: &Hosted<Book<Tail>, Line>) -> Result<bool, Fail> {
-    Ok(
-        !hosted.door_failed
-            && has_two_of_each(&hosted.keeper)
-            && are_read(alloc, hosted.links.as_slice())?,
-    )
+// The book has so many entries of each of so many links. They are counted at the first one.
+fn has_all(book: &Book<Tail>, links: usize, entries: u64) -> bool {
+    let count = links as u64;
+    let all = count.saturating_mul(entries);
+    book.journal.len() == all && count_of_first(book) == entries.min(all)
 }
 
-// Two links by a door: the first request of one of them waits for the second one of the other. No
-// order of one link after the other lets both gates go.
-fn are_served_at_once<R: Threads + Wait + Clock + Sync>(
+// So many links are left, each with so many entries and these answers, and the door failed or not.
+fn are_left(
+    hosted: &Hosted<Book<Tail>, Line>,
+    answers: &Octets,
+    entries: u64,
+    left: (usize, bool),
+) -> bool {
+    (hosted.links.len(), hosted.door_failed) == left
+        && has_all(&hosted.keeper, hosted.links.len(), entries)
+        && are_served(hosted.links.as_slice(), answers, entries)
+}
+
+// A door of links that each read so often leaves so much. None where memory was wanting.
+fn leaves(
+    alloc: Global,
+    left: &Left,
+    reads: usize,
+    wanted: &Option<(usize, bool)>,
+) -> Option<bool> {
+    let answers = joined(alloc, answers_of(reads))?;
+    let is_so = match (&left.hosted, wanted) {
+        (Ok(hosted), Some(wanted)) => are_left(hosted, &answers, reads as u64, *wanted),
+        (Err(NotHosted::Door), None) => true,
+        _ => false,
+    };
+    Some(is_so && is_called_in_order(&left.door))
+}
+
+// It goes as a row says.
+fn goes<R: Threads + Wait + Clock + Sync>(
     rt: &R,
     alloc: Global,
-    held: u32,
-    until: u32,
-) -> Result<bool, Fail> {
-    let gate = HoldGate::new(held, until, 1_000_000_000);
-    let door = a_door(alloc, 2, "OPEN READ READ", None)?;
-    let left = host(rt, alloc, &gate, door, 2).ok_or("memory")?;
-    match &left.hosted {
-        Ok(hosted) => Ok(!gate.gave_up() && are_both(alloc, hosted)?),
-        Err(_) => Ok(false),
-    }
+    coming: &Coming,
+    gates: &(u32, u32),
+    wanted: &Option<(usize, bool)>,
+) -> Option<bool> {
+    leaves(alloc, &served(rt, alloc, coming, gates)?, coming.1, wanted)
 }
 
 #[test]
-fn links_are_served_at_once(rt: HostRuntime) -> Result<(), Fail> {
-    assert!(rt; are_served_at_once(&rt, rt.alloc(), 1, 2)?);
-    assert!(rt; are_served_at_once(&rt, rt.alloc(), 2, 1)?);
-    Ok(())
+fn doors_end_and_fail_in_order_and_their_links_are_served_at_once(rt: HostRuntime) {
+    let mut row = 0u8;
+    for (coming, gates, wanted) in DOORS {
+        assert!(rt;
+            goes(&rt, rt.alloc(), coming, gates, wanted) == Some(true),
+            "row {row}"
+        );
+        row = row.saturating_add(1);
+    }
 }

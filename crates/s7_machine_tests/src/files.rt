@@ -2,91 +2,97 @@
 use s7_os::StdFiles;
 use s7_outer::{FILE_LIMIT, FileFault, Files};
 use std::fs;
-use std::test::Fail;
+
+/// What is done at a path.
+enum Act {
+    /// A text of so many octets is written, and read again.
+    IsReadAgain(usize),
+    /// A file of so many octets 00 is made, read with this answer and with so many of its octets, and removed.
+    IsLong(u64, Result<(), FileFault>, usize),
+    /// A read fails, and gives nothing.
+    IsUnread,
+    /// A write fails.
+    IsUnwritten,
+}
+
+/// Each text takes the place of the one before. The last of the acts that fail is on a device that takes no octet.
+const ACTS: &[(&str, Act)] = &[
+    ("s7_machine_texts", Act::IsReadAgain(22)),
+    ("s7_machine_texts", Act::IsReadAgain(5_000)),
+    ("s7_machine_texts", Act::IsReadAgain(3)),
+    ("s7_machine_texts", Act::IsReadAgain(0)),
+    ("s7_machine_texts", Act::IsReadAgain(4_096)),
+    ("s7_machine_texts", Act::IsReadAgain(1)),
+    ("s7_machine_none", Act::IsUnread),
+    (".", Act::IsUnread),
+    (".", Act::IsUnwritten),
+    ("/dev/full", Act::IsUnwritten),
+    (
+        "s7_machine_long",
+        Act::IsLong(67_108_864, Ok(()), FILE_LIMIT),
+    ),
+    (
+        "s7_machine_long",
+        Act::IsLong(67_108_865, Err(FileFault::TooLong), FILE_LIMIT + 1),
+    ),
+];
 
 // What a write answers.
-fn written(rt: &HostRuntime, path: &str, octets: &[u8]) -> Result<Result<(), FileFault>, Fail> {
-    let mut files = StdFiles::new(rt.clone()?);
-    Ok(files.write(rt.alloc(), path, octets))
+fn written(rt: &HostRuntime, path: &str, octets: &[u8]) -> Result<(), FileFault> {
+    StdFiles::new(*rt).write(rt.alloc(), path, octets)
 }
 
 // What a read answers, and the octets that it gives.
-fn read(rt: &HostRuntime, path: &str) -> Result<(Result<(), FileFault>, Vec<u8>), Fail> {
-    let mut files = StdFiles::new(rt.clone()?);
+fn read(rt: &HostRuntime, path: &str) -> (Result<(), FileFault>, Vec<u8>) {
     let mut text = Vec::new(rt.alloc());
-    let answer = files.read(rt.alloc(), path, &mut text);
-    Ok((answer, text))
+    let answer = StdFiles::new(*rt).read(rt.alloc(), path, &mut text);
+    (answer, text)
 }
 
 // A text of so many octets that is written under a path is read again.
-fn is_read_again(rt: &HostRuntime, path: &str, length: usize) -> Result<bool, Fail> {
+fn is_read_again(rt: &HostRuntime, path: &str, length: usize) -> Option<bool> {
     let octet = (length % 251) as u8;
-    let text = vec![in rt.alloc(); octet; length]?;
-    let has_written = written(rt, path, text.as_slice())?;
-    let (answer, came) = read(rt, path)?;
-    Ok(has_written == Ok(()) && answer == Ok(()) && came.as_slice() == text.as_slice())
-}
-
-/// How many octets the texts have, of which each takes the place of the one before.
-const LENGTHS: &[usize] = &[22, 5_000, 3, 0, 4_096, 1];
-
-#[test]
-fn texts_take_the_place_of_others(rt: HostRuntime) -> Result<(), Fail> {
-    let path = "s7_machine_texts";
-    for length in LENGTHS {
-        assert!(rt; is_read_again(&rt, path, *length)?, "{length}");
-    }
-    fs::remove_file(&rt, path)?;
-    Ok(())
-}
-
-// A read fails, and gives nothing.
-fn is_unread(rt: &HostRuntime, path: &str) -> Result<bool, Fail> {
-    let (answer, text) = read(rt, path)?;
-    Ok(answer == Err(FileFault::Failed) && text.is_empty())
-}
-
-// A write fails.
-fn is_unwritten(rt: &HostRuntime, path: &str) -> Result<bool, Fail> {
-    Ok(written(rt, path, b"x")? == Err(FileFault::Failed))
+    let text = vec![in rt.alloc(); octet; length].ok()?;
+    let has_written = written(rt, path, text.as_slice());
+    let (answer, came) = read(rt, path);
+    Some(has_written == Ok(()) && answer == Ok(()) && came.as_slice() == text.as_slice())
 }
 
 // Under a path lies a file of so many octets 00 alone.
-fn makes(rt: &HostRuntime, path: &str, length: u64) -> Result<(), Fail> {
-    let file = fs::create(rt, path)?;
-    file.set_len(length)?;
-    Ok(())
+fn makes(rt: &HostRuntime, path: &str, length: u64) -> bool {
+    match fs::create(rt, path) {
+        Ok(file) => file.set_len(length).is_ok(),
+        Err(_) => false,
+    }
 }
 
-// A file of so many octets is read so, and then so many of them are there.
-fn is_read(
-    rt: &HostRuntime,
-    length: u64,
-    wanted: Result<(), FileFault>,
-    count: usize,
-) -> Result<bool, Fail> {
-    let path = "s7_machine_long";
-    makes(rt, path, length)?;
-    let (answer, text) = read(rt, path)?;
-    fs::remove_file(rt, path)?;
-    Ok(answer == wanted && text.len() == count)
+// The file is removed.
+fn is_removed(rt: &HostRuntime, path: &str) -> bool {
+    fs::remove_file(rt, path).is_ok()
 }
 
-// What is no file isn't read.
-fn are_unread(rt: &HostRuntime) -> Result<bool, Fail> {
-    Ok(is_unread(rt, "s7_machine_none")? && is_unread(rt, ".")?)
+// A read answers so, and gives so many octets.
+fn is_read(rt: &HostRuntime, path: &str, wanted: &Result<(), FileFault>, count: usize) -> bool {
+    let (answer, text) = read(rt, path);
+    answer == *wanted && text.len() == count
 }
 
-// What is no file, and a device that takes no octet, aren't written.
-fn are_unwritten(rt: &HostRuntime) -> Result<bool, Fail> {
-    Ok(is_unwritten(rt, ".")? && is_unwritten(rt, "/dev/full")?)
+// It goes as the act says. None where memory was wanting.
+fn goes(rt: &HostRuntime, path: &str, act: &Act) -> Option<bool> {
+    match act {
+        Act::IsReadAgain(length) => is_read_again(rt, path, *length),
+        Act::IsLong(length, answer, count) => Some(
+            makes(rt, path, *length) && is_read(rt, path, answer, *count) && is_removed(rt, path),
+        ),
+        Act::IsUnread => Some(is_read(rt, path, &Err(FileFault::Failed), 0)),
+        Act::IsUnwritten => Some(written(rt, path, b"x") == Err(FileFault::Failed)),
+    }
 }
 
 #[test]
-fn files_that_are_no_files_and_files_that_are_too_long_fail(rt: HostRuntime) -> Result<(), Fail> {
-    assert!(rt; are_unread(&rt)?);
-    assert!(rt; are_unwritten(&rt)?);
-    assert!(rt; is_read(&rt, 67_108_864, Ok(()), FILE_LIMIT)?);
-    assert!(rt; is_read(&rt, 67_108_865, Err(FileFault::TooLong), FILE_LIMIT + 1)?);
-    Ok(())
+fn texts_take_the_place_of_others_and_files_have_an_end(rt: HostRuntime) {
+    for (path, act) in ACTS {
+        assert!(rt; goes(&rt, path, act) == Some(true), "{path}");
+    }
+    assert!(rt; is_removed(&rt, "s7_machine_texts"));
 }

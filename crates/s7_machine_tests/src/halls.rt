@@ -4,6 +4,9 @@ ghost use Rattle.s7_turn.specs.Histories.{calls};
 ghost use Rattle.s7_turn.specs.Seats.{IsOf, caller, callers, next, seen};
 
 use crate::books::{a_book, a_link, is_answered};
+use crate::telegrams::{
+    ANSWER_AFTER_WRITE, CONFIRM, CONNECT, GRANTED, NO_ROOM, READ, SETUP, WRITE, WRITTEN, joined,
+};
 use s7_listener::{Keeper, Served, serve_link};
 use s7_memory::MemoryLink;
 use s7_outer::{Memory, OpenGate};
@@ -11,7 +14,6 @@ use s7_plant::{Book, Tail};
 use s7_turn::{Hall, Seat};
 use std::alloc::Global;
 use std::sync::Wait;
-use std::test::Fail;
 use std::time::Clock;
 
 // A hall with a book that takes two entries, and its first seat.
@@ -73,15 +75,11 @@ struct Left {
 }
 
 // Serves two links one after another, and closes the hall behind them.
-fn served<R: Wait + Clock>(
-    rt: &R,
-    alloc: Global,
-    lines: (MemoryLink, MemoryLink),
-) -> Result<Left, Memory> {
-    let (hall, first) = a_hall(alloc)?;
+fn served<R: Wait + Clock>(rt: &R, alloc: Global, lines: (MemoryLink, MemoryLink)) -> Option<Left> {
+    let (hall, first) = a_hall(alloc).ok()?;
     let (all, (written, read)) = both_served(rt, alloc, &hall, first, lines);
     let book = hall.close(rt, all);
-    Ok(Left {
+    Some(Left {
         written,
         read,
         book,
@@ -92,15 +90,13 @@ fn served<R: Wait + Clock>(
 fn is_so(
     alloc: Global,
     served: &Served<MemoryLink>,
-    answers: &str,
+    answers: &[&[u8]],
     link: u32,
     entry: u64,
-) -> Result<bool, Fail> {
-    Ok(
-        served.link == link
-            && served.last == Some(entry)
-            && is_answered(alloc, served, &served.line, answers, 1)?,
-    )
+) -> Option<bool> {
+    let answers = joined(alloc, answers)?;
+    let is_numbered = served.link == link && served.last == Some(entry);
+    Some(is_numbered && is_answered(served, &served.line, &answers, 1))
 }
 
 // The book has an entry of link 1 and then one of link 2.
@@ -112,28 +108,27 @@ fn has_both(book: &Book<Tail>) -> bool {
 }
 
 // A writer and a reader.
-fn lines(alloc: Global) -> Result<(MemoryLink, MemoryLink), Fail> {
-    let writer = a_link(alloc, "OPEN WRITE")?;
-    Ok((writer, a_link(alloc, "OPEN READ READ")?))
+fn lines(alloc: Global) -> Option<(MemoryLink, MemoryLink)> {
+    let writer = a_link(alloc, &[CONNECT, SETUP, WRITE])?;
+    Some((writer, a_link(alloc, &[CONNECT, SETUP, READ, READ])?))
 }
 
 // Both were answered, and the book has what they entered.
-fn are_answered(alloc: Global, left: &Left) -> Result<bool, Fail> {
-    Ok(
-        is_so(alloc, &left.written, "OPENED WRITTEN", 1, 0)?
-            && is_so(alloc, &left.read, "OPENED ANSWER_AFTER_WRITE NO_ROOM", 2, 1)?
+fn are_answered(alloc: Global, left: &Left) -> Option<bool> {
+    let read = &[CONFIRM, GRANTED, ANSWER_AFTER_WRITE, NO_ROOM];
+    Some(
+        is_so(alloc, &left.written, &[CONFIRM, GRANTED, WRITTEN], 1, 0)?
+            && is_so(alloc, &left.read, read, 2, 1)?
             && has_both(&left.book),
     )
 }
 
 // A writer and then a reader are answered.
-fn answer_one_another<R: Wait + Clock>(rt: &R, alloc: Global) -> Result<bool, Fail> {
-    let left = served(rt, alloc, lines(alloc)?)?;
-    are_answered(alloc, &left)
+fn answer_one_another<R: Wait + Clock>(rt: &R, alloc: Global) -> Option<bool> {
+    are_answered(alloc, &served(rt, alloc, lines(alloc)?)?)
 }
 
 #[test]
-fn links_are_answered_by_what_others_left(rt: HostRuntime) -> Result<(), Fail> {
-    assert!(rt; answer_one_another(&rt, rt.alloc())?);
-    Ok(())
+fn links_are_answered_by_what_others_left(rt: HostRuntime) {
+    assert!(rt; answer_one_another(&rt, rt.alloc()) == Some(true));
 }

@@ -13,8 +13,6 @@ mod coming;
 #[cfg(test)]
 mod doors;
 #[cfg(test)]
-mod ended;
-#[cfg(test)]
 mod feigned;
 #[cfg(test)]
 mod files;

@@ -89,7 +89,7 @@ pub(crate) fn call(dial: &mut TcpDial<HostRuntime>, host: &str, port: u16) -> Op
 
 /// A link to the port of this machine.
 pub(crate) fn call_here(rt: &HostRuntime, port: u16) -> Option<Line> {
-    let mut dial = TcpDial::new(rt.clone().ok()?);
+    let mut dial = TcpDial::new(*rt);
     call(&mut dial, "127.0.0.1", port)
 }
 

@@ -7,7 +7,6 @@ use s7_outer::{Arrival, Got, Sent};
 use s7_wire::{Inbox, PIECE};
 use std::alloc::Global;
 use std::net::{Ipv4Addr, TcpStream};
-use std::test::Fail;
 use std::thread;
 use std::thread::{Threads, join};
 use std::time::Duration;
@@ -15,20 +14,16 @@ use std::time::Duration;
 // The first port that the doors try.
 const FIRST_PORT: u16 = 47_102;
 
-// A standard link. The standard input of a test has ended.
-fn standard(rt: &HostRuntime) -> Result<Line, Fail> {
-    Ok(RealLink::standard(rt.alloc(), rt.clone()?)?)
-}
+/// 2024-01-01, in milliseconds.
+const YEAR_2024: u64 = 1_704_067_200_000;
 
-#[test]
-fn a_real_link_has_the_time(rt: HostRuntime) -> Result<(), Fail> {
-    let mut line = standard(&rt)?;
-    // 2024-01-01, in milliseconds.
-    assert!(rt; matches!(moment(&mut line), Some(1_704_067_200_001..)));
-    let mut came = Vec::new(rt.alloc());
-    assert!(rt; receive(&mut line, 8, &mut came) == Got::End);
-    assert!(rt; receive(&mut line, 8, &mut came) == Got::End);
-    Ok(())
+// A standard link has the time. The standard input of a test has ended.
+fn has_the_time_and_ends(rt: &HostRuntime) -> Option<bool> {
+    let alloc = rt.alloc();
+    let mut line = RealLink::standard(alloc, *rt).ok()?;
+    let is_after = moment(&mut line)? > YEAR_2024;
+    let has_ended = answers(alloc, &mut line, Got::End);
+    Some(is_after && has_ended && answers(alloc, &mut line, Got::End))
 }
 
 /// The ends of a connection, each as long as it is held.
@@ -39,67 +34,60 @@ struct Ends {
 }
 
 // A door that listens, and its port.
-fn a_door(rt: &HostRuntime) -> Result<(Doorway, u16), Fail> {
-    let mut door = TcpDoor::new(rt.clone()?);
-    let port = listen_from(&mut door, FIRST_PORT).ok_or("no port")?;
-    Ok((door, port))
+fn a_door(rt: &HostRuntime) -> Option<(Doorway, u16)> {
+    let mut door = TcpDoor::new(*rt);
+    let port = listen_from(&mut door, FIRST_PORT)?;
+    Some((door, port))
 }
 
-// The ends of a connection by a door.
-fn met(door: &mut Doorway, client: Option<Line>) -> Result<Ends, Fail> {
-    let Arrival::Link(server) = next(door) else {
-        return Err(Fail::from("no arrival"));
-    };
-    Ok(Ends {
-        client,
-        server: Some(server),
-    })
+// The next link of a door.
+fn arrived(door: &mut Doorway) -> Option<Line> {
+    match next(door) {
+        Arrival::Link(line) => Some(line),
+        Arrival::End | Arrival::Failed => None,
+    }
 }
 
 // The ends of a connection of a dial and a door, and the door and its port.
-fn connected(rt: &HostRuntime) -> Result<(Ends, Doorway, u16), Fail> {
+fn connected(rt: &HostRuntime) -> Option<(Ends, Doorway, u16)> {
     let (mut door, port) = a_door(rt)?;
     let client = call_here(rt, port);
-    let ends = met(&mut door, client)?;
-    Ok((ends, door, port))
+    let server = arrived(&mut door);
+    Some((Ends { client, server }, door, port))
 }
 
 // A door that never listened gives nothing.
-fn is_silent(rt: &HostRuntime) -> Result<bool, Fail> {
-    let mut door = TcpDoor::new(rt.clone()?);
-    Ok(matches!(next(&mut door), Arrival::Failed))
+fn is_silent(rt: &HostRuntime) -> bool {
+    matches!(next(&mut TcpDoor::new(*rt)), Arrival::Failed)
 }
 
 // Nobody answers at the port of this host.
-fn is_unanswered(rt: &HostRuntime, host: &str, port: u16) -> Result<bool, Fail> {
-    let mut dial = TcpDial::new(rt.clone()?);
-    Ok(call(&mut dial, host, port).is_none())
+fn is_unanswered(rt: &HostRuntime, host: &str, port: u16) -> bool {
+    call(&mut TcpDial::new(*rt), host, port).is_none()
 }
 
 // Nobody answers at the door's port on another host, nor on this one once the door is dropped.
-fn are_unanswered(rt: &HostRuntime) -> Result<bool, Fail> {
-    let (_ends, door, port) = connected(rt)?;
-    let is_so = is_unanswered(rt, "127.0.0.2", port)?;
+fn are_unanswered(rt: &HostRuntime) -> Option<bool> {
+    let (ends, door, port) = connected(rt)?;
+    let is_so = ends.server.is_some() && is_unanswered(rt, "127.0.0.2", port);
     drop(door);
-    Ok(is_so && is_unanswered(rt, "127.0.0.1", port)?)
+    Some(is_so && is_unanswered(rt, "127.0.0.1", port))
 }
 
 #[test]
-fn doors_and_dials_that_fail(rt: HostRuntime) -> Result<(), Fail> {
-    assert!(rt; is_silent(&rt)?);
-    assert!(rt; are_unanswered(&rt)?);
-    Ok(())
+fn links_have_the_time_and_doors_and_dials_fail(rt: HostRuntime) {
+    assert!(rt; has_the_time_and_ends(&rt) == Some(true));
+    assert!(rt; is_silent(&rt));
+    assert!(rt; are_unanswered(&rt) == Some(true));
 }
 
 /// One end of a connection.
-#[derive(Clone, Copy)]
 enum Side {
     Client,
     Server,
 }
 
 /// What a side does, and what comes of it.
-#[derive(Clone, Copy)]
 enum Act {
     /// It transmits these octets by one call, which answers so.
     Transmits(&'static [u8], Sent),
@@ -192,12 +180,17 @@ fn answers(alloc: Global, line: &mut Line, wanted: Got) -> bool {
     receive(line, 8, &mut Vec::new(alloc)) == wanted
 }
 
+// Between these moments 50 milliseconds have passed at least.
+fn have_passed(before: u64, after: u64) -> bool {
+    after.saturating_sub(before) >= 50
+}
+
 // Nothing comes for 50 milliseconds.
 fn waits(alloc: Global, line: &mut Line) -> Option<bool> {
     let before = moment(line)?;
     let is_so = answers(alloc, line, Got::NotYet);
     let after = moment(line)?;
-    Some(is_so && after.saturating_sub(before) >= 50)
+    Some(is_so && have_passed(before, after))
 }
 
 // A receive fails once it waits no more.
@@ -270,6 +263,11 @@ fn transmit_all(line: &mut Line, text: &[u8]) -> Option<u64> {
     None
 }
 
+// Transmits so many octets of the text, and counts the transmits that took less than was left.
+fn transmit_text(alloc: Global, line: &mut Line, count: usize) -> Option<u64> {
+    transmit_all(line, text_of(alloc, count)?.as_slice())
+}
+
 // How many octets come up to the end. None where they aren't those of the text.
 fn receive_all(alloc: Global, line: &mut Line) -> Option<usize> {
     let mut came = Vec::new(alloc);
@@ -321,11 +319,11 @@ fn rest(rt: &HostRuntime) {
 }
 
 // It goes as the act says. None where memory was wanting, or the clock failed.
-fn goes(rt: &HostRuntime, line: &mut Line, act: Act) -> Option<bool> {
+fn goes(rt: &HostRuntime, line: &mut Line, act: &Act) -> Option<bool> {
     let alloc = rt.alloc();
     match act {
-        Act::Transmits(octets, sent) => Some(transmit(line, octets) == sent),
-        Act::Receives(room, octets) => Some(comes(alloc, line, room, octets)),
+        Act::Transmits(octets, sent) => Some(transmit(line, octets) == *sent),
+        Act::Receives(room, octets) => Some(comes(alloc, line, *room, octets)),
         Act::Waits => waits(alloc, line),
         Act::Ends => Some(answers(alloc, line, Got::End)),
         Act::FailsToReceive => Some(fails_to_receive(alloc, line)),
@@ -335,12 +333,10 @@ fn goes(rt: &HostRuntime, line: &mut Line, act: Act) -> Option<bool> {
             Some(true)
         }
         Act::Leaves => None,
-        Act::TransmitsText(count) => {
-            Some(transmit_all(line, text_of(alloc, count)?.as_slice()) == Some(0))
-        }
+        Act::TransmitsText(count) => Some(transmit_text(alloc, line, *count) == Some(0)),
         Act::ReceivesText(count) => {
             rest(rt);
-            Some(receive_all(alloc, line) == Some(count))
+            Some(receive_all(alloc, line) == Some(*count))
         }
         Act::Refills(counts) => {
             rest(rt);
@@ -350,7 +346,7 @@ fn goes(rt: &HostRuntime, line: &mut Line, act: Act) -> Option<bool> {
 }
 
 // It goes as the act says, at a side that is still there.
-fn goes_at(rt: &HostRuntime, end: &mut Option<Line>, act: Act) -> bool {
+fn goes_at(rt: &HostRuntime, end: &mut Option<Line>, act: &Act) -> bool {
     if matches!(act, Act::Leaves) {
         return end.take().is_some();
     }
@@ -368,7 +364,7 @@ fn count_of(rt: &HostRuntime, mut ends: Ends, acts: &[(Side, Act)]) -> usize {
             Side::Client => &mut ends.client,
             Side::Server => &mut ends.server,
         };
-        if !goes_at(rt, end, *act) {
+        if !goes_at(rt, end, act) {
             return count;
         }
         count = count.saturating_add(1);
@@ -376,111 +372,80 @@ fn count_of(rt: &HostRuntime, mut ends: Ends, acts: &[(Side, Act)]) -> usize {
     count
 }
 
+// How many of the acts go as they say on a new connection.
+fn count_on_new(rt: &HostRuntime, acts: &[(Side, Act)]) -> Option<usize> {
+    let (ends, _door, _port) = connected(rt)?;
+    Some(count_of(rt, ends, acts))
+}
+
 #[test]
-fn connections_give_what_was_sent_and_end_or_fail(rt: HostRuntime) -> Result<(), Fail> {
+fn connections_give_what_was_sent_and_end_or_fail(rt: HostRuntime) {
     for (shown, acts) in CONNECTIONS {
-        let (ends, _door, _port) = connected(&rt)?;
-        let count = count_of(&rt, ends, acts);
-        assert!(rt; count == acts.len(), "{shown}: act {count}");
-    }
-    Ok(())
-}
-
-/// Who transmits the text.
-#[derive(Drop)]
-struct Writer {
-    line: Line,
-    text: Vec<u8>,
-}
-
-impl Writer {
-    // How many transmits took less than was left, where the whole text went.
-    fn run(mut self) -> Option<u64> {
-        transmit_all(&mut self.line, self.text.as_slice())
+        let count = count_on_new(&rt, acts);
+        assert!(rt; count == Some(acts.len()), "{shown}: act {count:?}");
     }
 }
 
-/// Who receives it: slowly to the end, or 8 octets alone.
-#[derive(Drop)]
-struct Reader {
-    line: Line,
-    rt: HostRuntime,
-    to_the_end: bool,
+// A link whose transmits wait for 10 milliseconds.
+fn a_hasty_line(rt: &HostRuntime, port: u16) -> Option<Line> {
+    let stream = TcpStream::connect(rt, (Ipv4Addr::LOCALHOST, port)).ok()?;
+    stream
+        .set_write_timeout(Some(Duration::from_millis(10)))
+        .ok()?;
+    RealLink::stream(*rt, stream).ok()
 }
 
-impl Reader {
-    // How many octets of the text came.
-    fn run(mut self) -> Option<usize> {
-        let alloc = self.rt.alloc();
-        if self.to_the_end {
-            rest(&self.rt);
-            return receive_all(alloc, &mut self.line);
+/// What a writer and a reader of the text do.
+#[derive(Clone, Copy)]
+enum Reading {
+    /// The transmits wait for 10 milliseconds. The reader takes all, after some time.
+    Slow,
+    /// The reader takes 8 octets and closes while more are on their way.
+    Closed,
+}
+
+// How many transmits of a new link took less than was left, where the whole text went.
+fn written(rt: HostRuntime, port: u16, reading: Reading) -> Option<u64> {
+    let mut line = match reading {
+        Reading::Slow => a_hasty_line(&rt, port)?,
+        Reading::Closed => call_here(&rt, port)?,
+    };
+    transmit_text(rt.alloc(), &mut line, LONG)
+}
+
+// How many octets of the text come on the next link of a door.
+fn read(rt: HostRuntime, mut door: Doorway, reading: Reading) -> Option<usize> {
+    let mut line = arrived(&mut door)?;
+    match reading {
+        Reading::Slow => {
+            rest(&rt);
+            receive_all(rt.alloc(), &mut line)
         }
-        match receive(&mut self.line, 8, &mut Vec::new(alloc)) {
+        Reading::Closed => match receive(&mut line, 8, &mut Vec::new(rt.alloc())) {
             Got::Bytes(count) => Some(count),
             Got::End | Got::NotYet | Got::Failed => None,
-        }
+        },
     }
 }
 
 // What a writer and a reader have beside one another.
-fn at_once<R: Threads>(rt: &R, writer: Writer, reader: Reader) -> (Option<u64>, Option<usize>) {
-    join(rt, move || writer.run(), move || reader.run())
-}
-
-// A link whose transmits wait for 10 milliseconds.
-fn a_hasty_line(rt: &HostRuntime, port: u16) -> Result<Line, Fail> {
-    let stream = TcpStream::connect(rt, (Ipv4Addr::LOCALHOST, port))?;
-    stream.set_write_timeout(Some(Duration::from_millis(10)))?;
-    Ok(RealLink::stream(rt.clone()?, stream)?)
-}
-
-fn a_writer(rt: &HostRuntime, line: Option<Line>) -> Result<Writer, Fail> {
-    let text = text_of(rt.alloc(), LONG).ok_or("memory")?;
-    let line = line.ok_or("no client")?;
-    Ok(Writer { line, text })
-}
-
-fn a_reader(rt: &HostRuntime, line: Option<Line>, to_the_end: bool) -> Result<Reader, Fail> {
-    let rt = rt.clone()?;
-    let line = line.ok_or("no server")?;
-    Ok(Reader {
-        line,
+fn at_once<R: Threads>(
+    rt: &R,
+    host: HostRuntime,
+    reading: Reading,
+) -> Option<(Option<u64>, Option<usize>)> {
+    let (door, port) = a_door(&host)?;
+    Some(join(
         rt,
-        to_the_end,
-    })
-}
-
-// A writer of a long text and a reader of it.
-fn a_writer_and_a_reader(
-    rt: &HostRuntime,
-    ends: Ends,
-    to_the_end: bool,
-) -> Result<(Writer, Reader), Fail> {
-    let Ends { client, server } = ends;
-    let writer = a_writer(rt, client)?;
-    Ok((writer, a_reader(rt, server, to_the_end)?))
+        move || written(host, port, reading),
+        move || read(host, door, reading),
+    ))
 }
 
 #[test]
-fn a_slow_reader_loses_nothing(rt: HostRuntime) -> Result<(), Fail> {
-    let (mut door, port) = a_door(&rt)?;
-    let hasty = a_hasty_line(&rt, port)?;
-    let ends = met(&mut door, Some(hasty))?;
-    let (writer, reader) = a_writer_and_a_reader(&rt, ends, true)?;
-    let (short, count) = at_once(&rt, writer, reader);
-    assert!(rt; matches!(short, Some(1..)));
-    assert!(rt; count == Some(LONG));
-    Ok(())
-}
-
-// The peer takes some octets and closes while more are on their way.
-#[test]
-fn a_stream_that_is_closed_under_a_transmit_fails(rt: HostRuntime) -> Result<(), Fail> {
-    let (ends, _door, _port) = connected(&rt)?;
-    let (writer, reader) = a_writer_and_a_reader(&rt, ends, false)?;
-    let (short, count) = at_once(&rt, writer, reader);
-    assert!(rt; short.is_none());
-    assert!(rt; count == Some(8));
-    Ok(())
+fn slow_readers_lose_nothing_and_closed_streams_fail(rt: HostRuntime) {
+    let slow = at_once(&rt, rt, Reading::Slow);
+    assert!(rt; matches!(slow, Some((Some(1..), Some(LONG)))));
+    let closed = at_once(&rt, rt, Reading::Closed);
+    assert!(rt; closed == Some((None, Some(8))));
 }

@@ -1,83 +1,110 @@
-// Telegrams in hexadecimal, by their names.
+// Telegrams.
 use s7_outer::Octets;
 use std::alloc::Global;
-use std::test::Fail;
 
-/// Packets by their names, one a line.
-const NAMES: &str = "\
-# A connect request and the negotiation of a PDU of 480, and what they are answered.
-CONNECT 0300001611e00000000100c0010ac1020100c2020102
-CONFIRM 0300001611d00001000100c0010ac1020100c2020102
-SETUP 0300001902f08032010000000400080000f0000001000101e0
-GRANTED 0300001b02f080320300000004000800000000f0000001000101e0
-OPEN 0300001611e00000000100c0010ac1020100c20201020300001902f08032010000000400080000f0000001000101e0
-OPENED 0300001611d00001000100c0010ac1020100c20201020300001b02f080320300000004000800000000f0000001000101e0
-DISCONNECT 0300000b06800001000180
-# A second connect request, and what is no packet.
-CONNECT_AGAIN 0300000b06e00000000100
-GET 474554202f20485454502f312e310d0a0d0a
-# A read of data block 1, its answer, and its refusal where there is no room for it.
-READ 0300001f02f080320100000005000e00000401120a10020004000184000000
-ANSWER 0300001d02f0803203000000050002000800000401ff04002011223344
-NO_ROOM 0300001302f080320200000005000000008f01
-# The first octet and the last are written, and one that lies outside of the data block.
-WRITE 0300004802f08032010000000a002600110503120a10020001000184000000120a10020001000184000020120a10020001000184000018\
-00040008aa0000040008bb0000040008cc
-WRITTEN 0300001802f08032030000000a0002000300000503ff05ff
-ANSWER_AFTER_WRITE 0300001d02f0803203000000050002000800000401ff040020aa2233cc";
+/// A connect request.
+pub(crate) const CONNECT: &[u8] = &[
+    0x03, 0x00, 0x00, 0x16, 0x11, 0xE0, 0x00, 0x00, 0x00, 0x01, 0x00, 0xC0, 0x01, 0x0A, 0xC1, 0x02,
+    0x01, 0x00, 0xC2, 0x02, 0x01, 0x02,
+];
 
-// The value of the line that begins with the word, and else the word.
-fn value<'a>(lines: &'a str, word: &'a str) -> &'a str {
-    for line in lines.lines() {
-        if let Some((first, value)) = line.split_once(' ')
-            && first == word
-        {
-            return value;
-        }
-    }
-    word
-}
+/// The connect confirm that answers it.
+pub(crate) const CONFIRM: &[u8] = &[
+    0x03, 0x00, 0x00, 0x16, 0x11, 0xD0, 0x00, 0x01, 0x00, 0x01, 0x00, 0xC0, 0x01, 0x0A, 0xC1, 0x02,
+    0x01, 0x00, 0xC2, 0x02, 0x01, 0x02,
+];
 
-// Octets of a text in hexadecimal.
-fn decoded(alloc: Global, text: &str) -> Option<Vec<u8>> {
-    hex::decode(alloc, text).ok()
-}
+/// A second connect request.
+pub(crate) const CONNECT_AGAIN: &[u8] = &[
+    0x03, 0x00, 0x00, 0x0B, 0x06, 0xE0, 0x00, 0x00, 0x00, 0x01, 0x00,
+];
 
-/// The octets of names, and of texts in hexadecimal, one behind another.
-pub(crate) fn octets(alloc: Global, names: &str) -> Result<Vec<u8>, Fail> {
+/// What is no packet.
+pub(crate) const GET: &[u8] = &[
+    0x47, 0x45, 0x54, 0x20, 0x2F, 0x20, 0x48, 0x54, 0x54, 0x50, 0x2F, 0x31, 0x2E, 0x31, 0x0D, 0x0A,
+    0x0D, 0x0A,
+];
+
+/// A disconnect request.
+pub(crate) const DISCONNECT: &[u8] = &[
+    0x03, 0x00, 0x00, 0x0B, 0x06, 0x80, 0x00, 0x01, 0x00, 0x01, 0x80,
+];
+
+/// The negotiation of a PDU of 480.
+pub(crate) const SETUP: &[u8] = &[
+    0x03, 0x00, 0x00, 0x19, 0x02, 0xF0, 0x80, 0x32, 0x01, 0x00, 0x00, 0x00, 0x04, 0x00, 0x08, 0x00,
+    0x00, 0xF0, 0x00, 0x00, 0x01, 0x00, 0x01, 0x01, 0xE0,
+];
+
+/// What grants it.
+pub(crate) const GRANTED: &[u8] = &[
+    0x03, 0x00, 0x00, 0x1B, 0x02, 0xF0, 0x80, 0x32, 0x03, 0x00, 0x00, 0x00, 0x04, 0x00, 0x08, 0x00,
+    0x00, 0x00, 0x00, 0xF0, 0x00, 0x00, 0x01, 0x00, 0x01, 0x01, 0xE0,
+];
+
+/// A read of data block 1.
+pub(crate) const READ: &[u8] = &[
+    0x03, 0x00, 0x00, 0x1F, 0x02, 0xF0, 0x80, 0x32, 0x01, 0x00, 0x00, 0x00, 0x05, 0x00, 0x0E, 0x00,
+    0x00, 0x04, 0x01, 0x12, 0x0A, 0x10, 0x02, 0x00, 0x04, 0x00, 0x01, 0x84, 0x00, 0x00, 0x00,
+];
+
+/// Its answer, over `11 22 33 44`.
+pub(crate) const ANSWER: &[u8] = &[
+    0x03, 0x00, 0x00, 0x1D, 0x02, 0xF0, 0x80, 0x32, 0x03, 0x00, 0x00, 0x00, 0x05, 0x00, 0x02, 0x00,
+    0x08, 0x00, 0x00, 0x04, 0x01, 0xFF, 0x04, 0x00, 0x20, 0x11, 0x22, 0x33, 0x44,
+];
+
+/// Its refusal where there is no room for it.
+pub(crate) const NO_ROOM: &[u8] = &[
+    0x03, 0x00, 0x00, 0x13, 0x02, 0xF0, 0x80, 0x32, 0x02, 0x00, 0x00, 0x00, 0x05, 0x00, 0x00, 0x00,
+    0x00, 0x8F, 0x01,
+];
+
+/// The first octet and the last are written, and one that lies outside of the data block.
+pub(crate) const WRITE: &[u8] = &[
+    0x03, 0x00, 0x00, 0x48, 0x02, 0xF0, 0x80, 0x32, 0x01, 0x00, 0x00, 0x00, 0x0A, 0x00, 0x26, 0x00,
+    0x11, 0x05, 0x03, 0x12, 0x0A, 0x10, 0x02, 0x00, 0x01, 0x00, 0x01, 0x84, 0x00, 0x00, 0x00, 0x12,
+    0x0A, 0x10, 0x02, 0x00, 0x01, 0x00, 0x01, 0x84, 0x00, 0x00, 0x20, 0x12, 0x0A, 0x10, 0x02, 0x00,
+    0x01, 0x00, 0x01, 0x84, 0x00, 0x00, 0x18, 0x00, 0x04, 0x00, 0x08, 0xAA, 0x00, 0x00, 0x04, 0x00,
+    0x08, 0xBB, 0x00, 0x00, 0x04, 0x00, 0x08, 0xCC,
+];
+
+/// The answer to that write.
+pub(crate) const WRITTEN: &[u8] = &[
+    0x03, 0x00, 0x00, 0x18, 0x02, 0xF0, 0x80, 0x32, 0x03, 0x00, 0x00, 0x00, 0x0A, 0x00, 0x02, 0x00,
+    0x03, 0x00, 0x00, 0x05, 0x03, 0xFF, 0x05, 0xFF,
+];
+
+/// The answer to the read behind that write.
+pub(crate) const ANSWER_AFTER_WRITE: &[u8] = &[
+    0x03, 0x00, 0x00, 0x1D, 0x02, 0xF0, 0x80, 0x32, 0x03, 0x00, 0x00, 0x00, 0x05, 0x00, 0x02, 0x00,
+    0x08, 0x00, 0x00, 0x04, 0x01, 0xFF, 0x04, 0x00, 0x20, 0xAA, 0x22, 0x33, 0xCC,
+];
+
+/// The octets of these parts, one behind another.
+pub(crate) fn joined(alloc: Global, parts: &[&[u8]]) -> Option<Octets> {
     let mut all = Vec::new(alloc);
-    for name in names.split_ascii_whitespace() {
-        let octets = decoded(alloc, value(NAMES, name)).ok_or("no octets")?;
-        all.extend_from_slice(octets.as_slice())?;
+    for part in parts {
+        all.extend_from_slice(part).ok()?;
     }
-    Ok(all)
+    Some(Octets::of_vec(all))
 }
 
-/// The octets of each of these names.
-pub(crate) fn packets(alloc: Global, names: &str) -> Result<Vec<Octets>, Fail> {
+/// Telegrams of these octets.
+pub(crate) fn packets(alloc: Global, telegrams: &[&[u8]]) -> Option<Vec<Octets>> {
     let mut all = Vec::new(alloc);
-    for name in names.split_ascii_whitespace() {
-        all.push(Octets::of_vec(octets(alloc, name)?))?;
+    for telegram in telegrams {
+        all.push(Octets::copy_of(alloc, telegram).ok()?).ok()?;
     }
-    Ok(all)
+    Some(all)
 }
 
-/// It is what this name stands for.
-pub(crate) fn is(alloc: Global, came: &Octets, name: &str) -> Result<bool, Fail> {
-    Ok(came.as_slice() == octets(alloc, name)?.as_slice())
-}
-
-// They are the same, one by one.
-fn are_same(came: &[Octets], wanted: &[Octets]) -> bool {
+/// They are these, one by one.
+pub(crate) fn are(came: &[Octets], wanted: &[&[u8]]) -> bool {
     for (came, wanted) in came.iter().zip(wanted) {
-        if came.as_slice() != wanted.as_slice() {
+        if came.as_slice() != *wanted {
             return false;
         }
     }
     came.len() == wanted.len()
-}
-
-/// They are what these names stand for, one by one.
-pub(crate) fn are(alloc: Global, came: &[Octets], names: &str) -> Result<bool, Fail> {
-    Ok(are_same(came, packets(alloc, names)?.as_slice()))
 }

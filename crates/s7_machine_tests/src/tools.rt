@@ -3,7 +3,7 @@
 //
 // `tool_main` is called in `ended` alone, since each function that calls it is costly to prove.
 use crate::line::{Doorway, Line, listen_from, next, rest_of, takes};
-use crate::telegrams::octets;
+use crate::telegrams::{CONFIRM, CONNECT, DISCONNECT, joined};
 use s7_client::{Config, Counter};
 use s7_memory::{MemoryFiles, MemoryOut};
 use s7_os::{TcpDial, TcpDoor};
@@ -11,7 +11,6 @@ use s7_outer::{Arrival, Octets};
 use s7_partner::{Partner, PartnerEvent, Role};
 use s7_tool_main::{ToolEnd, tool_main};
 use std::alloc::Global;
-use std::test::Fail;
 use std::thread::{Threads, join};
 
 /// The files of all calls: a script, the scripts of a reader and a writer of a rig, and the sends file of a partner.
@@ -25,34 +24,188 @@ const FILES: [(&str, &str); 4] = [
     ("s.txt", "send 00000001 aabbcc\n"),
 ];
 
+/// How many octets the output takes, where a row says nothing else.
+const ROOM: usize = 65_536;
+
+/// The negotiation of a client, which is its first job, and what grants a PDU of 480.
+const SETUP_1: &[u8] = &[
+    0x03, 0x00, 0x00, 0x19, 0x02, 0xF0, 0x80, 0x32, 0x01, 0x00, 0x00, 0x00, 0x01, 0x00, 0x08, 0x00,
+    0x00, 0xF0, 0x00, 0x00, 0x01, 0x00, 0x01, 0x01, 0xE0,
+];
+
+const GRANTED_1: &[u8] = &[
+    0x03, 0x00, 0x00, 0x1B, 0x02, 0xF0, 0x80, 0x32, 0x03, 0x00, 0x00, 0x00, 0x01, 0x00, 0x08, 0x00,
+    0x00, 0x00, 0x00, 0xF0, 0x00, 0x00, 0x01, 0x00, 0x01, 0x01, 0xE0,
+];
+
+/// The read of four octets, which is its second job, its answer, and the same answer to a third job.
+const READ_2: &[u8] = &[
+    0x03, 0x00, 0x00, 0x1F, 0x02, 0xF0, 0x80, 0x32, 0x01, 0x00, 0x00, 0x00, 0x02, 0x00, 0x0E, 0x00,
+    0x00, 0x04, 0x01, 0x12, 0x0A, 0x10, 0x02, 0x00, 0x04, 0x00, 0x01, 0x84, 0x00, 0x00, 0x00,
+];
+
+const ANSWER_2: &[u8] = &[
+    0x03, 0x00, 0x00, 0x1D, 0x02, 0xF0, 0x80, 0x32, 0x03, 0x00, 0x00, 0x00, 0x02, 0x00, 0x02, 0x00,
+    0x08, 0x00, 0x00, 0x04, 0x01, 0xFF, 0x04, 0x00, 0x20, 0x11, 0x22, 0x33, 0x44,
+];
+
+const ANSWER_3: &[u8] = &[
+    0x03, 0x00, 0x00, 0x1D, 0x02, 0xF0, 0x80, 0x32, 0x03, 0x00, 0x00, 0x00, 0x03, 0x00, 0x02, 0x00,
+    0x08, 0x00, 0x00, 0x04, 0x01, 0xFF, 0x04, 0x00, 0x20, 0x11, 0x22, 0x33, 0x44,
+];
+
+/// Who takes the link.
+enum Peer {
+    /// Nobody, and the words name the port.
+    Nobody,
+    /// One who gives these octets.
+    Gives(&'static [&'static [u8]]),
+    /// A passive partner.
+    Partner,
+}
+
+/// A command over files and a link, or over a rig.
+struct Command {
+    words: &'static [&'static str],
+    /// How many octets the output takes.
+    room: usize,
+    peer: Peer,
+    /// What comes to the peer.
+    came: &'static [&'static [u8]],
+    status: u8,
+    /// What is printed, where the row says it.
+    report: Option<&'static str>,
+    /// Of how many jobs the completion is told, the last with its number and code.
+    told: (u64, Option<(u8, u32)>),
+}
+
+/// Where there is no peer, the port is one that nobody hears. Of a rig's jobs the completion is told of the first
+/// client's.
+const COMMANDS: &[Command] = &[
+    Command {
+        words: &["run", "a.txt"],
+        room: ROOM,
+        peer: Peer::Gives(&[CONFIRM, GRANTED_1, ANSWER_2]),
+        came: &[CONNECT, SETUP_1, READ_2, DISCONNECT],
+        status: 0,
+        report: Some("0 connect 00000000 -\n1 read 00000000 11223344\n"),
+        told: (3, Some((25, 0))),
+    },
+    // Another message closes the client, and the disconnect has nothing to do.
+    Command {
+        words: &["run", "a.txt"],
+        room: ROOM,
+        peer: Peer::Gives(&[CONFIRM, GRANTED_1, ANSWER_3]),
+        came: &[CONNECT, SETUP_1, READ_2],
+        status: 6,
+        report: Some("0 connect 00000000 -\n1 read 00800000 -\n"),
+        told: (3, Some((25, 0x0001_0000))),
+    },
+    // The output fails at the read.
+    Command {
+        words: &["run", "a.txt"],
+        room: 27,
+        peer: Peer::Gives(&[CONFIRM, GRANTED_1, ANSWER_2]),
+        came: &[CONNECT, SETUP_1, READ_2],
+        status: 5,
+        report: Some("0 connect 00000000 -\n1 read"),
+        told: (2, Some((2, 0))),
+    },
+    // A partner's blocks are no jobs.
+    Command {
+        words: &["partner", "s.txt"],
+        room: ROOM,
+        peer: Peer::Partner,
+        came: &[b"\xAA\xBB\xCC"],
+        status: 0,
+        report: Some("a sent\n"),
+        told: (0, None),
+    },
+    Command {
+        words: &["run", "a.txt", "--port", "24001"],
+        room: ROOM,
+        peer: Peer::Nobody,
+        came: &[],
+        status: 4,
+        report: None,
+        told: (0, None),
+    },
+    Command {
+        words: &["run", "b.txt"],
+        room: ROOM,
+        peer: Peer::Nobody,
+        came: &[],
+        status: 3,
+        report: None,
+        told: (0, None),
+    },
+    Command {
+        words: &["run"],
+        room: ROOM,
+        peer: Peer::Nobody,
+        came: &[],
+        status: 1,
+        report: None,
+        told: (0, None),
+    },
+    Command {
+        words: &["rig", "DB1=1122", "r.txt", "w.txt"],
+        room: ROOM,
+        peer: Peer::Nobody,
+        came: &[],
+        status: 6,
+        report: None,
+        told: (3, Some((25, 0))),
+    },
+    Command {
+        words: &["rig", "DB1=11223344", "w.txt", "r.txt"],
+        room: ROOM,
+        peer: Peer::Nobody,
+        came: &[],
+        status: 0,
+        report: None,
+        told: (4, Some((25, 0))),
+    },
+    Command {
+        words: &["rig", "DB1=11223344", "r.txt"],
+        room: 10,
+        peer: Peer::Nobody,
+        came: &[],
+        status: 5,
+        report: None,
+        told: (3, Some((25, 0))),
+    },
+    Command {
+        words: &["rig", "DB1=11223344", "x.txt"],
+        room: ROOM,
+        peer: Peer::Nobody,
+        came: &[],
+        status: 3,
+        report: None,
+        told: (0, None),
+    },
+];
+
+/// What comes to a peer, how a call ended, with the completion that came back, and what it printed.
+#[derive(Drop)]
+struct Told {
+    came: Octets,
+    status: u8,
+    done: Option<Counter>,
+    out: MemoryOut,
+}
+
 fn files(alloc: Global) -> Option<MemoryFiles> {
     let mut files = MemoryFiles::new();
     for (path, text) in FILES {
-        let text = Octets::copy_of(alloc, text.as_bytes()).ok()?;
+        let text = joined(alloc, &[text.as_bytes()])?;
         files.insert(alloc, path, text).ok()?;
     }
     Some(files)
 }
 
-/// How a call ended, with the completion that came back, and what it printed.
-#[derive(Drop)]
-struct Told {
-    end: ToolEnd<Line, Counter>,
-    out: MemoryOut,
-}
-
-impl Told {
-    fn is(&self, status: u8, text: &str) -> bool {
-        self.end.status == status && self.out.text() == text.as_bytes()
-    }
-
-    // The completion was told of so many jobs, the last with this number and this code.
-    fn counts(&self, calls: u64, last: Option<(u8, u32)>) -> bool {
-        match self.end.done {
-            Some(counter) => counter.calls() == calls && counter.last() == last,
-            None => false,
-        }
-    }
+fn an_output(alloc: Global, room: usize) -> Option<MemoryOut> {
+    MemoryOut::new(alloc, room).ok()
 }
 
 // How a call ends whose completion was told of nothing before it.
@@ -66,122 +219,30 @@ fn ended(
     tool_main(alloc, words, files, dial, out, Some(Counter::new()))
 }
 
-// What is told where the output takes so many octets.
-fn tells(
-    alloc: Global,
-    words: &[&str],
-    room: usize,
-    mut dial: TcpDial<HostRuntime>,
-) -> Option<Told> {
+// What is told of a call, without what came to its peer. The call's link is closed here, since the peer waits for the
+// end of what comes.
+fn tells(host: HostRuntime, words: &[&str], room: usize) -> Option<Told> {
+    let alloc = host.alloc();
     let mut files = files(alloc)?;
-    let mut out = MemoryOut::new(alloc, room).ok()?;
-    let mut end = ended(alloc, words, &mut files, &mut dial, &mut out);
-    // The link is closed here: its peer waits for the end of what comes.
-    drop(end.run.take());
-    Some(Told { end, out })
+    let mut out = an_output(alloc, room)?;
+    let mut dial = TcpDial::new(host);
+    let end = ended(alloc, words, &mut files, &mut dial, &mut out);
+    let ToolEnd { status, done, .. } = end;
+    Some(Told {
+        came: Octets::of_vec(Vec::new(alloc)),
+        status,
+        done,
+        out,
+    })
 }
 
-// What is told of a call with the words of a line.
-fn line_tells(alloc: Global, line: &str, room: usize, dial: TcpDial<HostRuntime>) -> Option<Told> {
-    let mut words = Vec::new(alloc);
-    for word in line.split_ascii_whitespace() {
-        words.push(word).ok()?;
-    }
-    tells(alloc, words.as_slice(), room, dial)
+// What is told of a call whose words are followed by a port.
+fn tells_at(host: HostRuntime, command: &Command, port: u16) -> Option<Told> {
+    let port = format!(in host.alloc(); "{port}").ok()?;
+    let mut words = Vec::from_slice(host.alloc(), command.words).ok()?;
+    words.extend_from_slice(&["--port", port.as_str()]).ok()?;
+    tells(host, words.as_slice(), command.room)
 }
-
-const ROOM: usize = 65_536;
-
-/// Who takes the link: one who gives the octets of these texts in hexadecimal, or a passive partner.
-#[derive(Clone, Copy)]
-enum Peer {
-    Gives(&'static str),
-    Partner,
-}
-
-/// A command over a file and a link.
-#[derive(Clone, Copy)]
-struct Command {
-    words: &'static str,
-    /// How many octets the output takes.
-    room: usize,
-    peer: Peer,
-    /// What comes to the peer, in hexadecimal.
-    came: &'static str,
-    status: u8,
-    report: &'static str,
-    /// Of how many jobs the completion is told, the last with its number and code.
-    calls: u64,
-    last: Option<(u8, u32)>,
-}
-
-/// To a client come a connect confirm, a grant of PDU 480, and the answer to a read of four octets, or the same answer
-/// with the sequence 3 in the place of 2. It sends a connect request, the negotiation of PDU 480, a read of four octets
-/// and at last a disconnect request.
-const COMMANDS: &[Command] = &[
-    Command {
-        words: "run a.txt",
-        room: ROOM,
-        peer: Peer::Gives(
-            "0300001611d00001000100c0010ac1020100c2020102 \
-             0300001b02f080320300000001000800000000f0000001000101e0 \
-             0300001d02f0803203000000020002000800000401ff04002011223344",
-        ),
-        came: "0300001611e00000000100c0010ac1020100c2020102 \
-               0300001902f08032010000000100080000f0000001000101e0 \
-               0300001f02f080320100000002000e00000401120a10020004000184000000 \
-               0300000b06800001000180",
-        status: 0,
-        report: "0 connect 00000000 -\n1 read 00000000 11223344\n",
-        calls: 3,
-        last: Some((25, 0)),
-    },
-    // Another message closes the client, and the disconnect has nothing to do.
-    Command {
-        words: "run a.txt",
-        room: ROOM,
-        peer: Peer::Gives(
-            "0300001611d00001000100c0010ac1020100c2020102 \
-             0300001b02f080320300000001000800000000f0000001000101e0 \
-             0300001d02f0803203000000030002000800000401ff04002011223344",
-        ),
-        came: "0300001611e00000000100c0010ac1020100c2020102 \
-               0300001902f08032010000000100080000f0000001000101e0 \
-               0300001f02f080320100000002000e00000401120a10020004000184000000",
-        status: 6,
-        report: "0 connect 00000000 -\n1 read 00800000 -\n",
-        calls: 3,
-        last: Some((25, 0x0001_0000)),
-    },
-    // The output fails at the read.
-    Command {
-        words: "run a.txt",
-        room: 27,
-        peer: Peer::Gives(
-            "0300001611d00001000100c0010ac1020100c2020102 \
-             0300001b02f080320300000001000800000000f0000001000101e0 \
-             0300001d02f0803203000000020002000800000401ff04002011223344",
-        ),
-        came: "0300001611e00000000100c0010ac1020100c2020102 \
-               0300001902f08032010000000100080000f0000001000101e0 \
-               0300001f02f080320100000002000e00000401120a10020004000184000000",
-        status: 5,
-        report: "0 connect 00000000 -\n1 read",
-        calls: 2,
-        last: Some((2, 0)),
-    },
-    // A partner's blocks are no jobs.
-    Command {
-        words: "partner s.txt",
-        room: ROOM,
-        peer: Peer::Partner,
-        came: "aabbcc",
-        status: 0,
-        report: "a sent\n",
-        calls: 0,
-        last: None,
-    },
-];
 
 // A partner that listens.
 fn a_partner(alloc: Global) -> Option<Partner> {
@@ -219,148 +280,82 @@ fn handed_out(alloc: Global, line: &mut Line) -> Option<Octets> {
     None
 }
 
-// What comes to a peer that gives these octets, none for a partner, on the next link of the door.
-fn comes(alloc: Global, mut door: Doorway, given: Option<Octets>) -> Option<Octets> {
+// What comes up to the end to one who gives these octets.
+fn answered(alloc: Global, line: &mut Line, given: &[&[u8]]) -> Option<Octets> {
+    let given = joined(alloc, given)?;
+    if takes(line, given.as_slice()) {
+        rest_of(alloc, line)
+    } else {
+        None
+    }
+}
+
+// What comes to a peer on the next link of a door.
+fn comes(host: HostRuntime, mut door: Doorway, peer: &Peer) -> Option<Octets> {
     let Arrival::Link(mut line) = next(&mut door) else {
         return None;
     };
-    match given {
-        Some(given) => {
-            if !takes(&mut line, given.as_slice()) {
-                return None;
-            }
-            rest_of(alloc, &mut line)
-        }
-        None => handed_out(alloc, &mut line),
-    }
-}
-
-// What a peer gives.
-fn given_by(alloc: Global, peer: Peer) -> Result<Option<Octets>, Fail> {
     match peer {
-        Peer::Gives(text) => Ok(Some(Octets::of_vec(octets(alloc, text)?))),
-        Peer::Partner => Ok(None),
+        Peer::Gives(given) => answered(host.alloc(), &mut line, given),
+        Peer::Partner => handed_out(host.alloc(), &mut line),
+        Peer::Nobody => None,
     }
 }
 
-/// A peer behind a door, and what it gives.
-#[derive(Drop)]
-struct Listener {
-    door: Doorway,
-    given: Option<Octets>,
-}
-
-// A listener for a command, and its port.
-fn a_listener(host: &HostRuntime, peer: Peer) -> Result<(Listener, u16), Fail> {
-    let given = given_by(host.alloc(), peer)?;
-    let mut door = TcpDoor::new(host.clone()?);
-    let port = listen_from(&mut door, 24_102).ok_or("no port")?;
-    Ok((Listener { door, given }, port))
-}
-
-/// A call with the words of a line.
-#[derive(Drop)]
-struct Caller {
-    line: String,
-    room: usize,
-    dial: TcpDial<HostRuntime>,
-}
-
-// A caller with the words of a command and a port.
-fn a_caller(host: &HostRuntime, command: &Command, port: u16) -> Result<Caller, Fail> {
-    let words = command.words;
-    let line = format!(in host.alloc(); "{words} --port {port}")?;
-    let dial = TcpDial::new(host.clone()?);
-    Ok(Caller {
-        line,
-        room: command.room,
-        dial,
-    })
-}
-
-// What comes to a listener, and what is told to a caller.
-fn at_once<R: Threads>(
-    rt: &R,
-    alloc: Global,
-    listener: Listener,
-    caller: Caller,
-) -> (Option<Octets>, Option<Told>) {
-    let Listener { door, given } = listener;
-    let Caller { line, room, dial } = caller;
-    join(
+// What is told of a call and comes to its peer.
+fn over_tcp<R: Threads>(rt: &R, host: HostRuntime, command: &Command) -> Option<Told> {
+    let mut door = TcpDoor::new(host);
+    let port = listen_from(&mut door, 24_102)?;
+    let (came, told) = join(
         rt,
-        || comes(alloc, door, given),
-        || line_tells(alloc, line.as_str(), room, dial),
-    )
+        move || comes(host, door, &command.peer),
+        move || tells_at(host, command, port),
+    );
+    let mut told = told?;
+    told.came = came?;
+    Some(told)
 }
 
-// What comes to a peer, and what is told.
-fn over_tcp<R: Threads>(
-    rt: &R,
-    host: &HostRuntime,
-    command: &Command,
-) -> Result<(Octets, Told), Fail> {
-    let (listener, port) = a_listener(host, command.peer)?;
-    let caller = a_caller(host, command, port)?;
-    let (came, told) = at_once(rt, host.alloc(), listener, caller);
-    match (came, told) {
-        (Some(came), Some(told)) => Ok((came, told)),
-        _ => Err(Fail::from("a side that gave up")),
+// What is told of a command.
+fn told_of<R: Threads>(rt: &R, host: HostRuntime, command: &Command) -> Option<Told> {
+    match command.peer {
+        Peer::Nobody => tells(host, command.words, command.room),
+        Peer::Gives(_) | Peer::Partner => over_tcp(rt, host, command),
+    }
+}
+
+// The completion was told of so many jobs, the last with this number and this code.
+fn counts(done: &Option<Counter>, calls: u64, last: Option<(u8, u32)>) -> bool {
+    match done {
+        Some(counter) => counter.calls() == calls && counter.last() == last,
+        None => false,
+    }
+}
+
+// It printed this, where there is a text.
+fn prints(out: &MemoryOut, report: &Option<&str>) -> bool {
+    match report {
+        Some(report) => out.text() == report.as_bytes(),
+        None => true,
     }
 }
 
 // The command sends, prints and tells what it says.
-fn goes<R: Threads>(rt: &R, host: &HostRuntime, command: &Command) -> Result<bool, Fail> {
-    let (came, told) = over_tcp(rt, host, command)?;
-    let wanted = octets(host.alloc(), command.came)?;
-    Ok(
-        came.as_slice() == wanted.as_slice()
-            && told.is(command.status, command.report)
-            && told.counts(command.calls, command.last),
+fn goes<R: Threads>(rt: &R, host: HostRuntime, command: &Command) -> Option<bool> {
+    let told = told_of(rt, host, command)?;
+    let came = joined(host.alloc(), command.came)?;
+    let (calls, last) = command.told;
+    Some(
+        told.status == command.status
+            && told.came.as_slice() == came.as_slice()
+            && prints(&told.out, &command.report)
+            && counts(&told.done, calls, last),
     )
 }
 
 #[test]
-fn scripts_and_blocks_go_over_tcp(rt: HostRuntime) -> Result<(), Fail> {
+fn tools_send_and_print_and_tell_of_jobs_alone(rt: HostRuntime) {
     for (number, command) in COMMANDS.iter().enumerate() {
-        assert!(rt; goes(&rt, &rt, command)?, "command {number}");
+        assert!(rt; goes(&rt, rt, command) == Some(true), "command {number}");
     }
-    Ok(())
-}
-
-/// Calls without a peer, on a port that nobody hears: the words, the room of the output, the status, and of how many
-/// jobs the completion is told, the last with its number and code. Of a rig's jobs it is told of the first client's.
-const ALONE: &[(&str, usize, u8, u64, Option<(u8, u32)>)] = &[
-    ("run a.txt --port 24001", ROOM, 4, 0, None),
-    ("run b.txt", ROOM, 3, 0, None),
-    ("run", ROOM, 1, 0, None),
-    ("rig DB1=1122 r.txt w.txt", ROOM, 6, 3, Some((25, 0))),
-    ("rig DB1=11223344 w.txt r.txt", ROOM, 0, 4, Some((25, 0))),
-    ("rig DB1=11223344 r.txt", 10, 5, 3, Some((25, 0))),
-    ("rig DB1=11223344 x.txt", ROOM, 3, 0, None),
-];
-
-// The call ends with this status, and its completion is told so.
-fn goes_alone(
-    rt: &HostRuntime,
-    words: &str,
-    room: usize,
-    status: u8,
-    calls: u64,
-    last: Option<(u8, u32)>,
-) -> Result<bool, Fail> {
-    let dial = TcpDial::new(rt.clone()?);
-    let told = line_tells(rt.alloc(), words, room, dial).ok_or("no end")?;
-    Ok(told.end.status == status && told.counts(calls, last))
-}
-
-#[test]
-fn a_completion_is_told_of_jobs_alone(rt: HostRuntime) -> Result<(), Fail> {
-    for (words, room, status, calls, last) in ALONE {
-        assert!(rt;
-            goes_alone(&rt, words, *room, *status, *calls, *last)?,
-            "{words}"
-        );
-    }
-    Ok(())
 }

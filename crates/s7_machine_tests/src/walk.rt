@@ -1,5 +1,6 @@
 // A walk over the entries of a journal, beside what the clients were shown.
-use crate::shared::{CLIENTS, READS, SHARED, joined, value_of};
+use crate::shared::{CLIENTS, READS, SHARED, value_of};
+use crate::telegrams::joined;
 use s7_area::AreaKey;
 use s7_item::Item;
 use s7_outer::Octets;
@@ -150,7 +151,7 @@ impl<'a> Walk<'a> {
 fn answer_of(alloc: Global, round: u8, own: [u8; 4], both: [u8; 4]) -> Option<Octets> {
     let reference = [READS, round];
     let parts: [&[u8]; 6] = [READ_ANSWER, &reference, TWO_READ, &own, NEXT_READ, &both];
-    joined(alloc, &parts).ok()
+    joined(alloc, &parts)
 }
 
 // The four octets of a data block.
