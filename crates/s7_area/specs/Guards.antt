@@ -4,7 +4,7 @@ use Rattle.std.specs.Prelude.{◌≡◌, ℕ, ◌-◌, ◌≤◌, ◌==◌, ◌&
 use Rattle.std.specs.List.{AllByRecursion}
 use Rattle.s7_area.specs.declared.guard.Guard.{Guard}
 
--- one to eight printable octets without space, filled up with spaces to eight
+-- a password: one to eight printable octets without space, padded with spaces to eight
 pub record IsPassword (octets : List ℕ) : Type 0 where
   pub word : List ℕ
   pub some : 1 ≤ length word
@@ -12,12 +12,12 @@ pub record IsPassword (octets : List ℕ) : Type 0 where
   pub printable : AllByRecursion (λ octet. (0x21 ≤ octet) × (octet ≤ 0x7E)) word
   pub filled : octets ≡ word ++ replicate (8 - length word) 0x20
 
--- level 2 guards writes, and level 3 reads of items too
+-- a guard: level 2 guards writes, and level 3 reads of items too
 pub record IsGuard (guard : Guard) : Type 0 where
   pub level : IsTrue (guard.level == 2 || guard.level == 3)
   pub password : IsPassword guard.password
 
--- level 1 guards nothing
+-- the level of protection; 1 without a guard
 abbrev pub level_of : Option Guard → ℕ
 level_of None = 1
 level_of (Some guard) = guard.level

@@ -1,4 +1,4 @@
--- Laws of reads and writes, and of areas that join.
+-- Laws of reads and writes, and of areas that are added.
 use Rattle.std.specs.Prelude.{◌≡◌, ℕ, ◌+◌, ◌%◌, ◌<◌, ◌≤◌, ◌==◌, Bool, true, false, if◌then◌else◌, List, length, None}
 use Rattle.std.specs.Cmp.{IsTotalOrder}
 use Rattle.std.specs.List.Sorted.{IsStrictlySortedBy}
@@ -11,13 +11,13 @@ use Rattle.s7_area.specs.Memory.{Memory, key_cmp, area_octets, with_area, shape_
 use Rattle.s7_area.specs.Registers.{most_octets, most_in_all, total_of, is_wrong_size, is_db_too_many, fault_of}
 use Rattle.s7_area.specs.declared.key.AreaKey.{AreaKey}
 
--- a bit that is turned on or off is on or off, and every other bit of the octet stays
+-- the bit that is turned on or off is on or off then, and every other bit of the octet stays
 abbrev pub BitsStandAlone : Type 0
 BitsStandAlone =
     (octet k j : ℕ) (on : Bool) → octet < 256 → k < 8 → j < 8
     → bit_of (with_bit octet k on) j ≡ (if j == k then (if on then 1 else 0) else bit_of octet j)
 
--- what was written with code FF is read at the same place by the same right, where the word isn't a bit
+-- octets that were written with code FF are read for the same item with the same right, unless it is a bit
 abbrev pub WrittenIsRead : Type 0
 WrittenIsRead =
     (m : Memory) (right : Bool) (item : Item) (octets : List ℕ)
@@ -25,12 +25,12 @@ WrittenIsRead =
     → (read_code (written m right item octets) right item ≡ good)
     × (read_octets (written m right item octets) right item ≡ octets)
 
--- a write leaves the names of the areas and their lengths
+-- a write leaves the names of the areas and their lengths unchanged
 abbrev pub WritesKeepTheShape : Type 0
 WritesKeepTheShape =
     (m : Memory) (right : Bool) (item : Item) (octets : List ℕ) → shape_of (written m right item octets) ≡ shape_of m
 
--- an area of this name and length may join
+-- an area of this name and length may be added
 pub record IsFaultless (m : Memory) (key : AreaKey) (len : ℕ) : Type 0 where
   pub name : is_key key ≡ true
   pub size : is_wrong_size m key len ≡ false
@@ -41,7 +41,8 @@ pub record IsFaultless (m : Memory) (key : AreaKey) (len : ℕ) : Type 0 where
   pub absent : area_octets m key ≡ None
   pub few : is_db_too_many m key ≡ false
 
--- names have a total order, an area that joins adds its octets to those of all, and what no fault means
+-- names have a total order; an area that is added adds its octets to the total; and what it means that an area has
+-- no fault
 pub record AreasJoin : Type 0 where
   pub ordered : IsTotalOrder key_cmp
   pub total :

@@ -1,4 +1,4 @@
-// The octets of one area.
+//! The octets of one area.
 ghost use Rattle.std.specs.Prelude.{◌≡◌, false, length, IsTrue};
 ghost use Rattle.s7_item.specs.Item.{octet_count};
 ghost use Rattle.s7_area.specs.Places.{is_misfit, is_inside, changed_at};
@@ -23,6 +23,7 @@ impl Model for Area {
 }
 
 impl Area {
+    /// An area with these octets.
     pub(crate) fn new(octets: Octets) -> Area
         ensures { result ≡ octets }
     {
@@ -31,19 +32,21 @@ impl Area {
         }
     }
 
+    /// The octets, borrowed.
     pub(crate) fn as_slice(&self) -> &[u8]
         ensures { result.now ≡ self.now }
     {
         self.octets.as_slice()
     }
 
+    /// The octets, handed back.
     pub(crate) fn into_octets(self) -> Octets
         ensures { result ≡ self }
     {
         Octets::of_vec(self.octets)
     }
 
-    /// Takes over the octets of an area that has as many.
+    /// Copies the octets of an area of the same length.
     pub(crate) fn overwrite(&mut self, from: &Area)
         requires { length from.now ≡ length self.old }
         ensures { self.new ≡ from.now }
@@ -52,7 +55,7 @@ impl Area {
         area.copy_from_slice(from.octets.as_slice());
     }
 
-    /// Writes octets to the place of an item.
+    /// Writes octets to the range of an item.
     pub(crate) fn write(&mut self, item: &Item, octets: &[u8])
         requires fits { is_misfit item.now ≡ false }
         requires inside { IsTrue (is_inside item.now (length self.old)) }

@@ -1,4 +1,4 @@
-// Areas by their names, and their guard.
+//! Areas by their names, and the guard that protects them.
 ghost use Rattle.std.specs.Prelude.{◌≡◌, ◌≢◌, ◌≤◌, ◌++◌, [], None, false, length, drop, IfOk, IfErr, IfSome, IfNone};
 ghost use Rattle.std.specs.Prelude.{OnErr, MatchResult, option_map};
 ghost use Rattle.std.specs.Option.{option_copied};
@@ -25,28 +25,31 @@ use std::alloc::Global;
 use std::collections::BTreeMap;
 use std::marker::Model;
 
-/// How many octets an area has at most.
+/// The greatest number of octets of an area.
 const MOST_OCTETS: usize = 2_097_152;
 
-/// How many octets all areas have together at most.
+/// The greatest number of octets of all areas together.
 const MOST_IN_ALL: usize = 16_777_216;
 
-/// How many data blocks there are at most.
+/// The greatest number of data blocks.
 const MOST_DBS: usize = 2_048;
 
-/// The answer to a read of an item: the code, and how many octets came.
+/// The answer to a read of an item: the return code, and the number of octets read.
 #[derive(Clone, Copy, Debug, PartialEq, Eq)]
 pub struct ItemAnswer {
+    /// The return code.
     pub code: u8,
+    /// The number of octets read; 0 with every code but FF.
     pub len: usize,
 }
 
-/// Areas by their names, and their guard, where there is one. Contracts see a memory: the list of
-/// names and octets in the order of the names, and the guard.
+/// Areas by their names, and their guard, if they have one. Contracts see a memory: the list of names and octets in
+/// the order of the names, and the guard.
 #[derive(Drop)]
 pub struct Areas {
-    // a map can't be made without an allocator, so the first area makes it
+    /// The areas; `None` before the first one, since a map can't be made without an allocator.
     map: Option<BTreeMap<AreaKey, Area>>,
+    /// The number of octets of all areas together.
     total: usize,
     guard: Option<Guard>,
 }
@@ -77,15 +80,15 @@ impl Areas {
         }
     }
 
-    /// The guard, where there is one.
+    /// The guard, if there is one.
     pub fn guard(&self) -> Option<Guard>
         ensures { result ≡ self.now.guard }
     {
         self.guard
     }
 
-    /// Sets the guard, or takes it away. The areas stay. Needs a guard of level 2 or 3, whose password
-    /// has the form that `Guard` says.
+    /// Sets the guard, or removes it. The areas stay. A guard has level 2 or 3, and its password has the form
+    /// described at `Guard`.
     pub fn set_guard(&mut self, guard: Option<Guard>)
         requires { IfSome guard IsGuard }
         ensures { self.new ≡ record self.old { guard = guard } }
@@ -93,7 +96,7 @@ impl Areas {
         self.guard = guard;
     }
 
-    /// The octets of an area, lent; `None` exactly where no area of this name is registered.
+    /// The octets of an area, borrowed; `None` exactly if no area of this name is registered.
     pub fn octets_of(&self, key: AreaKey) -> Option<&[u8]>
         ensures { option_map (λ octets. octets.now) result ≡ area_octets self.now key }
     {
@@ -103,6 +106,7 @@ impl Areas {
         }
     }
 
+    /// The area of this name, borrowed.
     fn area_of(&self, key: AreaKey) -> Option<&Area>
         ensures { option_copied result ≡ area_octets self.now key }
     {
@@ -112,8 +116,8 @@ impl Areas {
         }
     }
 
-    /// The numbers of the data blocks, in ascending order. What is registered is a memory: names in
-    /// order, each with octets that it may have, within the limits of `register`.
+    /// The numbers of the data blocks, in ascending order. The contract also states what is registered: areas in
+    /// the order of their names, each with a name and a length that are allowed, within the limits of `register`.
     pub fn db_numbers(&self) -> DbNumbers<'_>
         ensures numbers { result ≡ db_numbers (keys_of self.now.areas) }
         ensures memory { IsMemory self.now }
@@ -123,8 +127,8 @@ impl Areas {
         }
     }
 
-    /// What a read of an item gives, lent: the octets of its place, for a bit 00 or 01; or the code
-    /// of the refusal, as `read` has it, which is neither FF nor 00.
+    /// What a read of an item gives, borrowed: the octets of its range, or 00 or 01 for a bit. If the read is
+    /// refused, the error is the return code as for `read`, which is neither FF nor 00.
     #[tactic(auto, unfolding(crate::specs::Memory::read_code, crate::specs::Memory::read_octets))]
     pub fn look_up(&self, right: bool, item: &Item) -> Result<&[u8], u8>
         ensures good { IfOk result (λ octets. read_code self.now right item.now ≡ good) }
@@ -150,7 +154,7 @@ impl Areas {
         Ok(read_place(item, area))
     }
 
-    /// A read of an item needs a right, and there is none.
+    /// Whether a read of an item is barred: it needs a right, and `right` is false.
     fn bars_read(&self, right: bool) -> bool
         ensures { result ≡ is_read_barred self.now.guard right }
     {
@@ -160,16 +164,16 @@ impl Areas {
         }
     }
 
-    /// Reads an item, with a right to it or without: the code, and with code FF the octets of its
-    /// place, in front of `into`. The code is the first that applies: 03 where there is no right and
-    /// the guard has level 3; 06 where the word is unknown, a bit's count isn't 1, exactly one of word
-    /// and area is 1C, or exactly one is 1D; 0A where the area isn't registered; 05 where the count is
-    /// 0 or the place isn't inside the area; and FF.
+    /// Reads an item; `right` says whether the caller has the right to reads that are guarded. Returns the code,
+    /// and with code FF writes the octets of the item's range to the beginning of `into`. The code is the first of
+    /// these that applies: 03 if the guard has level 3 and there is no right; 06 if the word length is unknown, a
+    /// bit's count isn't 1, exactly one of word length and area is 1C, or exactly one is 1D; 0A if the area isn't
+    /// registered; 05 if the count is 0 or the range isn't inside the area; else FF.
     ///
-    /// The place starts at octet `address / 8`, for counters and timers at `address * 2`, and has
-    /// the octets of `count` elements. A bit is bit `address mod 8` of that octet, and is read as 00
-    /// or 01. The number of the data block is passed over in other areas, and the low three bits of
-    /// an address where the word isn't a bit. Needs room for `count` times the word's size.
+    /// The range begins at octet `address / 8`, for counters and timers at `address * 2`, and has the octets of
+    /// `count` elements. A bit is bit `address mod 8` of that octet, and is read as 00 or 01. The number of the
+    /// data block is ignored in other areas, and so are the low three bits of an address unless the word length is
+    /// a bit. `into` has room for `count` times the size of an element; its rest stays.
     pub fn read(&self, right: bool, item: &Item, into: &mut [u8]) -> ItemAnswer
         requires { octet_count item.now ≤ length into.old }
         ensures code { result.code ≡ read_code self.now right item.now }
@@ -188,11 +192,11 @@ impl Areas {
         }
     }
 
-    /// Writes octets to the place of an item, with a right to it or without, and answers the code: 03
-    /// where there is no right and the guard has level 2 or 3; the first of 06, 0A and 05 that applies
-    /// as for `read`; 07 where the octets aren't `count` times the word's size; and FF. Any octet but
-    /// 00 turns a bit on, and 00 turns it off; the other bits stay. The guard stays, and with every
-    /// code but FF the areas too.
+    /// Writes octets to the range of an item; `right` says whether the caller has the right to writes that are
+    /// guarded. Returns the code, the first of these that applies: 03 if the guard has level 2 or 3 and there is no
+    /// right; 06, 0A and 05 as for `read`; 07 if the number of octets isn't `count` times the size of an element;
+    /// else FF. Any octet but 00 turns a bit on, and 00 turns it off; the other bits stay. The guard stays. With
+    /// every code but FF the areas stay, too.
     #[tactic(auto, unfolding(crate::specs::Memory::write_code, crate::specs::Memory::written))]
     pub fn write(&mut self, right: bool, item: &Item, octets: &[u8]) -> u8
         ensures code { result ≡ write_code self.old right item.now octets.now }
@@ -221,7 +225,7 @@ impl Areas {
         GOOD
     }
 
-    /// A write of an item needs a right, and there is none.
+    /// Whether a write of an item is barred: it needs a right, and `right` is false.
     fn bars_write(&self, right: bool) -> bool
         ensures { result ≡ is_write_barred self.now.guard right }
     {
@@ -231,7 +235,7 @@ impl Areas {
         }
     }
 
-    /// A copy, with the guard. `Memory` comes where there is none for it.
+    /// A copy of the areas and the guard. Returns `Memory` if an allocation fails.
     pub fn copy(&self, alloc: Global) -> Result<Areas, Memory>
         ensures { IfOk result (λ copy. copy ≡ self.now) }
     {
@@ -242,8 +246,7 @@ impl Areas {
         })
     }
 
-    /// Takes over the octets and the guard of areas that have the same names and lengths. It takes no
-    /// memory.
+    /// Copies the octets and the guard of areas with the same names and lengths. Nothing is allocated.
     pub fn overwrite(&mut self, from: &Areas)
         requires { shape_of from.now ≡ shape_of self.old }
         ensures { self.new ≡ from.now }
@@ -253,11 +256,11 @@ impl Areas {
         self.guard = from.guard;
     }
 
-    /// Registers an area. The first that applies is the refusal: `Key` where no area may have this
-    /// name; `Size` where there are no octets, more than 2,097,152, an odd number of them for counters
-    /// or timers, or more than 16,777,216 with those of all areas; `Exists` where an area of this
-    /// name is registered; `TooManyDbs` where it would be a data block more than 2,048; `Memory`
-    /// where there is none. The guard stays. A refusal changes nothing and hands the octets back.
+    /// Registers an area. The first fault in this order is returned: `Key` if no area may have this name; `Size` if
+    /// there are no octets, more than 2,097,152, an odd number of them for counters or timers, or more than
+    /// 16,777,216 with those of all areas; `Exists` if an area of this name is registered; `TooManyDbs` if it would
+    /// be the data block after the 2,048th; `Memory` if an allocation fails. The guard stays. A refusal changes
+    /// nothing and hands the octets back.
     pub fn register(
         &mut self,
         alloc: Global,
@@ -277,7 +280,7 @@ impl Areas {
         }
     }
 
-    /// Takes an area that has no fault.
+    /// Adds an area for which `fault_of` finds no fault.
     fn add(
         &mut self,
         alloc: Global,
@@ -302,7 +305,7 @@ impl Areas {
         }
     }
 
-    /// The first fault of an area of so many octets that asks to join.
+    /// The first fault of an area of `len` octets with this name, if it were registered now; `None` if it has none.
     fn fault_of(&self, key: AreaKey, len: usize) -> Option<RegisterFault>
         ensures { result ≡ fault_of self.now key len }
     {
@@ -319,7 +322,7 @@ impl Areas {
         }
     }
 
-    /// No area of this name may have so many octets beside the others.
+    /// Whether no area of this name and this length may be added to the others.
     fn is_wrong_size(&self, key: AreaKey, len: usize) -> bool
         ensures { result ≡ is_wrong_size self.now key len }
     {
@@ -329,8 +332,8 @@ impl Areas {
             || len > MOST_IN_ALL - self.total
     }
 
-    /// Gives the octets of an area back, which is then no longer registered. `Unknown` comes exactly
-    /// where no area of this name is, and changes nothing. The guard stays.
+    /// Removes an area and hands its octets back. Returns `Unknown` exactly if no area of this name is registered,
+    /// and changes nothing then. The guard stays.
     pub fn unregister(&mut self, key: AreaKey) -> Result<Octets, Unknown>
         ensures octets { result_ok result ≡ area_octets self.old key }
         ensures rest { self.new ≡ without_area self.old key }
@@ -347,7 +350,7 @@ impl Areas {
     }
 }
 
-/// A copy of the map, where there is one.
+/// A copy of the map, if there is one.
 fn copy_map(
     map: &Option<BTreeMap<AreaKey, Area>>,
 ) -> Result<Option<BTreeMap<AreaKey, Area>>, Memory>
@@ -362,7 +365,7 @@ fn copy_map(
     }
 }
 
-/// Takes over the octets of areas that have the same names and lengths.
+/// Copies the octets of areas with the same names and lengths.
 fn overwrite_map(map: &mut Option<BTreeMap<AreaKey, Area>>, from: &Option<BTreeMap<AreaKey, Area>>)
     requires { lengths_of (entries_of from.now) ≡ lengths_of (entries_of map.old) }
     ensures { entries_of map.new ≡ entries_of from.now }
@@ -376,6 +379,7 @@ fn overwrite_map(map: &mut Option<BTreeMap<AreaKey, Area>>, from: &Option<BTreeM
     overwrite_each(map, from);
 }
 
+/// Copies the octets of each area of `from` to the area of the same name.
 fn overwrite_each(map: &mut BTreeMap<AreaKey, Area>, from: &BTreeMap<AreaKey, Area>)
     requires { lengths_of from.now.entries ≡ lengths_of map.old.entries }
     ensures { map.new.entries ≡ from.now.entries }
@@ -387,7 +391,7 @@ fn overwrite_each(map: &mut BTreeMap<AreaKey, Area>, from: &BTreeMap<AreaKey, Ar
     }
 }
 
-/// The map, which is made where there is none yet.
+/// Takes the map out, or makes it if there is none yet.
 fn take_or_make(map: &mut Option<BTreeMap<AreaKey, Area>>, alloc: Global) -> BTreeMap<AreaKey, Area>
     ensures { result.entries ≡ entries_of map.old }
 {

@@ -1,4 +1,4 @@
-// The numbers of the data blocks.
+//! The numbers of the data blocks.
 ghost use Rattle.std.specs.Iterator.{YieldsFirst, item_count};
 
 use crate::area::Area;
@@ -6,7 +6,7 @@ use crate::key::AreaKey;
 use std::collections::btree_map::Keys;
 use std::marker::Model;
 
-/// The numbers of the data blocks, in ascending order. Contracts see those that are left.
+/// The numbers of the data blocks, in ascending order, as an iterator. Contracts see the numbers that are left.
 #[derive(Drop)]
 pub struct DbNumbers<'a> {
     pub(crate) keys: Option<Keys<'a, AreaKey, Area>>,

@@ -1,5 +1,5 @@
-//! Areas: the memory of a controller, a map from the names of areas to their octets, which items
-//! read and write, and the guard that bars them where there is no right.
+//! Areas: the memory of a controller. They are a map from names to octets, which items read and write, and a guard
+//! that refuses reads and writes without a right.
 #![tactic(auto)]
 
 mod area;

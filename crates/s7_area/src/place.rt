@@ -1,4 +1,4 @@
-// The places of items, and the octets there.
+//! The ranges of items in their areas, and the octets there.
 ghost use Rattle.std.specs.Prelude.{◌≡◌, ◌+◌, ◌<◌, ◌≤◌, ◌^◌, false, length, IsTrue};
 ghost use Rattle.s7_item.specs.Item.{octet_count};
 ghost use Rattle.s7_area.specs.Places.{is_misfit, key_of, start_of, is_inside, value_at, changed_at, put_at, with_bit};
@@ -13,7 +13,7 @@ const OFF: [u8; 1] = [0x00];
 /// A bit that is on, as it is read.
 const ON: [u8; 1] = [0x01];
 
-/// The word is unknown, or word, area and count don't go together.
+/// Whether the word length is unknown, or doesn't fit the area or the count.
 #[tactic(auto, unfolding(crate::specs::Places::is_misfit))]
 pub fn is_misfit(item: &Item) -> bool
     ensures { result ≡ is_misfit item.now }
@@ -24,7 +24,7 @@ pub fn is_misfit(item: &Item) -> bool
         || (item.word == TIMERS) != (item.area == TIMERS)
 }
 
-/// The name of the item's area. The number counts for data blocks alone.
+/// The name of the item's area. Only data blocks have a number.
 pub fn key_of(item: &Item) -> AreaKey
     ensures { result ≡ key_of item.now }
 {
@@ -34,7 +34,7 @@ pub fn key_of(item: &Item) -> AreaKey
     }
 }
 
-/// The octet at which the place starts.
+/// The offset in the area of the octet at which the range begins.
 fn start_of(item: &Item) -> usize
     ensures start { result ≡ start_of item.now }
     ensures most { result < 2 ^ 33 }
@@ -46,14 +46,14 @@ fn start_of(item: &Item) -> usize
     }
 }
 
-/// The place has octets, and all of them lie inside an area of this length.
+/// Whether the range has octets, and all of them lie inside an area of this length.
 pub fn is_inside(item: &Item, len: usize) -> bool
     ensures { result ≡ is_inside item.now len }
 {
     item.count != 0 && start_of(item) + item.octet_count() <= len
 }
 
-/// What the place of an item holds: its octets, or 00 or 01 for a bit.
+/// What the item's range holds: its octets, or 00 or 01 for a bit.
 #[tactic(auto, unfolding(crate::specs::Places::value_at, crate::specs::Places::is_misfit, s7_item::specs::Word::size_of))]
 pub(crate) fn read_place<'a>(item: &Item, area: &'a [u8]) -> &'a [u8]
     requires fits { is_misfit item.now ≡ false }
@@ -72,7 +72,7 @@ pub(crate) fn read_place<'a>(item: &Item, area: &'a [u8]) -> &'a [u8]
     }
 }
 
-/// Writes octets to the place of an item.
+/// Writes octets to the item's range.
 #[tactic(auto, unfolding(crate::specs::Places::changed_at, s7_item::specs::Word::size_of))]
 pub(crate) fn write_place(item: &Item, octets: &[u8], area: &mut [u8])
     requires fits { is_misfit item.now ≡ false }
@@ -97,7 +97,7 @@ fn with_bit(octet: u8, bit: u32, on: bool) -> u8
     if on { octet | mask } else { octet & !mask }
 }
 
-/// Writes a source over the octets of a target from a place on.
+/// Overwrites the octets of `target` from offset `start` on with `source`.
 fn write_over(target: &mut [u8], start: usize, source: &[u8])
     requires { start + length source.now ≤ length target.old }
     ensures { target.new ≡ put_at start source.now target.old }

@@ -1,4 +1,4 @@
-// Why an area is not taken, or not given back.
+//! Why an area isn't registered or removed.
 ghost use Rattle.std.specs.Prelude.{◌≡◌};
 ghost use Rattle.s7_area.specs.Registers.{fault_code};
 
@@ -10,16 +10,16 @@ pub enum RegisterFault {
     /// There are no octets, more than 2,097,152, an odd number of them for counters or timers, or more
     /// than 16,777,216 with those of all areas.
     Size,
-    /// An area of this name is registered.
+    /// An area of this name is already registered.
     Exists,
-    /// 2,048 data blocks are registered.
+    /// 2,048 data blocks are registered already.
     TooManyDbs,
-    /// There is no memory for it.
+    /// An allocation failed.
     Memory,
 }
 
 impl RegisterFault {
-    /// The number of the error: 00300000 for `Exists`, 00500000 for `Key` and `Size`, 00600000 for
+    /// The error number of the Snap7 server: 00300000 for `Exists`, 00500000 for `Key` and `Size`, 00600000 for
     /// `TooManyDbs`, and 0 for `Memory`.
     pub fn code(&self) -> u32
         ensures { result ≡ fault_code self.now }

@@ -1,4 +1,4 @@
--- The command of `clap` that takes a line.
+-- The command of `clap` that accepts a command line.
 use Rattle.std.specs.Prelude.{ℕ, List, [], ◌∷◌, ◌++◌, map, Option, Some, None, true, if◌then◌else◌}
 use Rattle.clap.specs.Words.{App, Rule, new_app, new_rule, with_rule}
 use Rattle.clap.specs.declared.builder.action.ArgAction.TheVariants.{Append}
@@ -10,7 +10,7 @@ abbrev pub parser_of : Option (ℕ × ℕ) → Option ValueParser
 parser_of None = None
 parser_of (Some r) = Some (vp.Unsigned r.0 r.1)
 
--- the arguments as the program makes them
+-- the arguments as the program builds them
 abbrev pub operand_rule : Field → Rule
 operand_rule f = record (new_rule f.name) {
   required = f.is_required;

@@ -1,5 +1,5 @@
--- The words of one command, in GNU form: options `--name VALUE` or `--name=VALUE`, at most once each,
--- before, between or after the operands, and `--`, after which each word is an operand.
+-- The words of one command, in GNU form: options `--name VALUE` or `--name=VALUE`, at most once each, before, between
+-- or after the operands, and `--`, after which each word is an operand.
 use Rattle.std.specs.Prelude.{ℕ, Bool, true, false, not, ◌&&◌, ◌||◌, ◌==◌, nat_lt, nat_le, length}
 use Rattle.std.specs.Prelude.{List, [], ◌∷◌, ◌++◌, map, filter, find}
 use Rattle.std.specs.Prelude.{Option, Some, None, is_some, option_map}
@@ -43,7 +43,7 @@ kind_of_word (x ∷ xs) = if x == 45 then after_dash xs else plain
 
 -- ---- what a command takes
 
--- an option or an operand, of a number in a range or of any text, with one value or with many
+-- an option or an operand: of a number in a range or of any text, with one value or with many
 pub record Field : Type 0 where
   pub name : Text
   pub range : Option (ℕ × ℕ)
@@ -57,7 +57,7 @@ pub record CommandLine : Type 0 where
 abbrev pub is_between : ℕ → ℕ → ℕ → Bool
 is_between low high n = nat_le low n && nat_le n high
 
--- decimal digits, with a plus before them or none
+-- decimal digits, with or without a plus before them
 abbrev pub is_number : Text → Bool
 is_number text =
     let digits = without_leading_plus text in
@@ -86,22 +86,22 @@ value_of given name = option_map (λ g. g.1) (find (λ g. bytes_eq g.0.name name
 abbrev pub values_of : Given → Text → List Text
 values_of given name = map (λ g. g.1) (filter (λ g. bytes_eq g.0.name name) given)
 
--- one more value, for a field that takes the text, and that takes many or has none yet
+-- one more value, for a field that accepts the text, and that takes many values or has none yet
 abbrev pub added : Field → Text → Given → Option Given
 added f text given = if is_given given f.name && not f.is_many then None
     else (if range_takes f.range text then Some (given ++ (f, text) ∷ []) else None)
 
 -- ---- the words in order
 
--- between two words: the option that waits for its value, whether `--` has come, the operands that
--- are still to come, and what was given
+-- the state between two words: the option that waits for its value, whether `--` has come, the operands that are still
+-- to come, and what was given
 pub record Reading : Type 0 where
   pub waiting : Option Field
   pub is_ended : Bool
   pub left : List Field
   pub given : Given
 
--- the operands to come after a value of the first one: one of many values stays the first
+-- the operands to come after a value of the first one, which stays if it takes many values
 abbrev pub left_after : Field → List Field → List Field
 left_after f fs = if f.is_many then f ∷ fs else fs
 
@@ -123,7 +123,7 @@ with_named r (Some text) (Some f) = with_value r f text
 abbrev pub option_of : List Field → Text → Option Field
 option_of options name = find (λ f. bytes_eq f.name name) options
 
--- where an option waits, the word has to be its value
+-- if an option waits, the word must be its value
 abbrev pub with_kind : List Field → Reading → Option Field → Kind → Text → Option Reading
 with_kind options r None ends word = Some (record r { is_ended = true })
 with_kind options r None (named name value) word = with_named r value (option_of options name)
@@ -136,7 +136,7 @@ abbrev pub with_word : List Field → Reading → Text → Option Reading
 with_word options r word = if r.is_ended then with_operand r.left r word
     else with_kind options r r.waiting (kind_of_word word) word
 
--- what the words give, or nothing where they are usage
+-- what the words give, or `None` if they are usage
 unfoldable pub read : List Field → Reading → List Text → Option Given
 read options r [] = if is_some r.waiting then None else Some r.given
 read options r (word ∷ words) =

@@ -2,19 +2,19 @@
 use Rattle.std.specs.Prelude.{ℕ, true, false, codes, Option, Some, None, option_map, unwrap_or}
 use Rattle.s7_args.specs.CommandLine.{Text, Field, Given, number_of, value_of}
 
--- an operand that has to be there
+-- a required operand
 abbrev pub operand : Text → Field
 operand name = record { name = name; range = None; is_required = true; is_many = false }
 
--- operands, of which one has to be there
+-- operands, at least one of which is required
 abbrev pub operands : Text → Field
 operands name = record { name = name; range = None; is_required = true; is_many = true }
 
--- an operand that may be left out
+-- an optional operand
 abbrev pub optional : Text → Field
 optional name = record { name = name; range = None; is_required = false; is_many = false }
 
--- an operand of a number from low to high, which has to be there
+-- a required operand of a number from low to high
 abbrev pub numeral : Text → ℕ → ℕ → Field
 numeral name low high = record { name = name; range = Some (low, high); is_required = true; is_many = false }
 
@@ -27,7 +27,7 @@ abbrev pub number : Text → ℕ → ℕ → Field
 number name low high =
     record { name = name; range = Some (low, high); is_required = false; is_many = false }
 
--- the area file, which several commands take
+-- the areas, which several commands take
 abbrev pub areas : Field
 areas = operand (codes "AREAS")
 
@@ -35,7 +35,7 @@ areas = operand (codes "AREAS")
 abbrev pub port : Field
 port = number (codes "port") 1 65535
 
--- how many entries the journal takes
+-- the greatest number of entries in the journal
 abbrev pub journal : Field
 journal = number (codes "journal") 1 262144
 

@@ -1,4 +1,4 @@
--- The words of the server: this project's own command line, with options in GNU form.
+-- The command line of the server, this project's own, with options in GNU form.
 use Rattle.std.specs.Prelude.{ℕ, codes, List, [], ◌∷◌, Option, None, option_map, if◌then◌else◌}
 use Rattle.std.specs.Str.{bytes_eq}
 use Rattle.s7_args.specs.CommandLine.{Text, Field, CommandLine, Given, given_by, value_of}
@@ -22,11 +22,11 @@ pipe_of given = pipe (text_or given areas []) (value_of given save.name) (number
 
 -- ---- serve AREAS [--port N] [--links N] [--journal N] [--save PATH] [--at N]
 
--- how many links it takes
+-- the number of links that it accepts
 abbrev pub links : Field
 links = number (codes "links") 1 1024
 
--- behind how many entries the areas are shown
+-- the number of entries after which the areas are printed
 abbrev pub at_entry : Field
 at_entry = number (codes "at") 0 262144
 
@@ -39,7 +39,7 @@ serve_of given = serve (text_or given areas []) (number_or given port 102) (numb
 
 -- ---- all commands
 
--- the command that the words name, or nothing where they are usage
+-- the command that the words name, or `None` if they are usage
 abbrev pub server_words : List Text → Option ServerTold
 server_words [] = None
 server_words (name ∷ rest) =

@@ -1,4 +1,4 @@
--- Commands as contracts see them: their texts in the place of the references to them.
+-- Commands as contracts see them: texts in place of the references to them.
 use Rattle.std.specs.Prelude.{◌≤◌, map, option_map}
 use Rattle.s7_args.specs.Server.{ServerTold, pipe, serve}
 use Rattle.s7_args.specs.Tool.{PartnerTold, RunTold, RigTold, ToolTold, gen, partner, run, rig}

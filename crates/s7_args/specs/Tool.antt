@@ -1,4 +1,4 @@
--- The words of the tool: this project's own command line, with options in GNU form.
+-- The command line of the tool, this project's own, with options in GNU form.
 use Rattle.std.specs.Prelude.{ℕ, Bool, codes, List, [], ◌∷◌, map, length, ◌*◌, ◌==◌, ◌&&◌, nat_le, nat_lt}
 use Rattle.std.specs.Prelude.{Option, Some, None, option_map, option_and_then, if◌then◌else◌}
 use Rattle.std.specs.List.{list_all, slice_split}
@@ -33,7 +33,7 @@ pub record RigTold : Type 0 where
   pub jobs : ℕ
   pub tags : Option Text
 
--- what partners send, and where the second one is: a file of its own, or over a link
+-- what partners send, and the second partner: a file of its own, or the other end of a link
 pub record PartnerTold : Type 0 where
   pub one : Text
   pub other : Option Text
@@ -72,7 +72,7 @@ pdu = number (codes "pdu") 64 1920
 abbrev pub polls : Field
 polls = number (codes "polls") 1 4294967295
 
--- how many parallel jobs are asked for
+-- the number of parallel jobs to ask for
 abbrev pub jobs : Field
 jobs = number (codes "jobs") 1 8
 
@@ -130,17 +130,17 @@ actors given = 2 * length given
 abbrev pub is_comma : ℕ → Bool
 is_comma b = b == 44
 
--- the number of one of the actors, which are counted from 0
+-- the number of one of the actors, which are numbered from 0
 abbrev pub is_actor : ℕ → Text → Bool
 is_actor count text = is_number text && nat_lt (number_of text) count
 
--- actors, of which one has to be there, joined by commas
+-- one or more actors, joined by commas
 abbrev pub turns_in : ℕ → Text → Option (List ℕ)
 turns_in count text =
     let parts = slice_split is_comma text in
     if list_all (is_actor count) parts then Some (map number_of parts) else None
 
--- there are no turns where none are given
+-- without a text there are no turns
 abbrev pub turns_or_none : ℕ → Option Text → Option (List ℕ)
 turns_or_none count None = Some []
 turns_or_none count (Some text) = turns_in count text
@@ -167,7 +167,7 @@ rig_of given =
 
 -- ---- gen N
 
--- the number that all is made from
+-- the seed from which everything is made
 abbrev pub made_from : Field
 made_from = numeral (codes "N") 0 4294967295
 
@@ -183,7 +183,7 @@ gen_of given = gen (number_or given made_from 0)
 abbrev pub one : Field
 one = operand (codes "A")
 
--- that of the passive one
+-- the sends file of the passive partner
 abbrev pub other : Field
 other = optional (codes "B")
 
@@ -202,7 +202,7 @@ partner_of given = partner (record {
 
 -- ---- all commands
 
--- the command that the words name, or nothing where they are usage
+-- the command that the words name, or `None` if they are usage
 abbrev pub tool_words : List Text → Option ToolTold
 tool_words [] = None
 tool_words (name ∷ rest) =

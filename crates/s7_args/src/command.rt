@@ -1,4 +1,4 @@
-// Building the commands of a program, and what a parse says.
+//! Building the commands of a program, and the result of a parse.
 ghost use Rattle.std.specs.Prelude.{◌≡◌, ◌≢◌, IfOk, IfSome, IfNone, IsErrAnd, Ok, false};
 ghost use Rattle.clap.specs.Words.{app_of, kind_of, rule_of};
 ghost use Rattle.s7_args.specs.Built.{operand_rule, option_rule, without_help};
@@ -10,14 +10,14 @@ use clap::{Arg, ArgAction, ArgMatches, Command, Error};
 use s7_outer::Memory;
 use std::alloc::Global;
 
-/// A command that has no argument yet, and no help flag.
+/// A command without arguments and without a help flag.
 pub(crate) fn bare<'a>(alloc: Global, name: &'a str) -> Command<'a>
     ensures { app_of result ≡ without_help name.entry.now }
 {
     Command::new(alloc, name).disable_help_flag(true)
 }
 
-/// An operand of any text, which has to be there.
+/// A required operand of any text.
 pub(crate) fn operand<'a>(alloc: Global, name: &'a str) -> Arg<'a>
     ensures rule { rule_of result ≡ operand_rule (operand name.entry.now) }
     ensures local { result.global ≡ false }
@@ -25,7 +25,7 @@ pub(crate) fn operand<'a>(alloc: Global, name: &'a str) -> Arg<'a>
     Arg::new(alloc, name).required(true)
 }
 
-/// An operand of any text, which may be left out.
+/// An optional operand of any text.
 pub(crate) fn optional<'a>(alloc: Global, name: &'a str) -> Arg<'a>
     ensures rule { rule_of result ≡ operand_rule (optional name.entry.now) }
     ensures local { result.global ≡ false }
@@ -33,7 +33,7 @@ pub(crate) fn optional<'a>(alloc: Global, name: &'a str) -> Arg<'a>
     Arg::new(alloc, name)
 }
 
-/// Operands of any text, of which one has to be there.
+/// Operands of any text, at least one of which is required.
 pub(crate) fn operands<'a>(alloc: Global, name: &'a str) -> Arg<'a>
     ensures rule { rule_of result ≡ operand_rule (operands name.entry.now) }
     ensures local { result.global ≡ false }
@@ -43,7 +43,7 @@ pub(crate) fn operands<'a>(alloc: Global, name: &'a str) -> Arg<'a>
         .action(ArgAction::Append)
 }
 
-/// An operand of a number from `low` to `high`, which has to be there.
+/// A required operand of a number from `low` to `high`.
 pub(crate) fn numeral<'a>(alloc: Global, name: &'a str, low: u64, high: u64) -> Arg<'a>
     ensures rule { rule_of result ≡ operand_rule (numeral name.entry.now low high) }
     ensures local { result.global ≡ false }
@@ -63,11 +63,11 @@ pub(crate) fn number<'a>(alloc: Global, name: &'a str, low: u64, high: u64) -> A
         .value_parser(number_parser(low, high))
 }
 
-// The parser of a number from `low` to `high`.
+/// The parser of a number from `low` to `high`.
 fn number_parser<'a>(low: u64, high: u64) -> ValueParser<'a>
     ensures { result ≡ ValueParser.Unsigned low high }
 {
-    // those of the signed and the small types would take `-0`
+    // // the parsers of the signed and the small types would accept `-0`
     ValueParser::Unsigned(low, high)
 }
 
@@ -79,7 +79,8 @@ pub(crate) fn text<'a>(alloc: Global, name: &'a str) -> Arg<'a>
     Arg::new(alloc, name).long(name)
 }
 
-/// The matches, or `None` where the words are usage: for every error but want of memory.
+/// The matches, or `None` if the words are usage. Every error is usage, except that memory ran out, which returns
+/// `Memory`.
 pub(crate) fn accepted<'a>(
     parsed: Result<ArgMatches<'a>, Error>,
 ) -> Result<Option<ArgMatches<'a>>, Memory>

@@ -1,5 +1,5 @@
-//! The words of the command lines of both programs. Options are in GNU form: `--name VALUE` or
-//! `--name=VALUE`, at most once each, before, between or after the operands, and `--` ends them.
+//! The command lines of both programs. Options are in GNU form: `--name VALUE` or `--name=VALUE`, at most once each,
+//! before, between or after the operands; `--` ends them.
 #![tactic(auto)]
 
 mod command;

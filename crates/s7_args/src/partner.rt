@@ -1,4 +1,4 @@
-// The command of partners.
+//! The command `partner`.
 ghost use Rattle.std.specs.Prelude.{◌≡◌, IfOk, codes, drop, map, option_map};
 ghost use Rattle.clap.specs.Words.{app_of};
 ghost use Rattle.s7_args.specs.Built.{app_by};
@@ -13,6 +13,7 @@ use clap::Command;
 use s7_outer::Memory;
 use std::alloc::{AllocError, Global};
 
+/// Parses the words of `partner`. `None` if they are usage; `Memory` if an allocation fails.
 pub(crate) fn read_partner<'a>(
     alloc: Global,
     words: &'a [&'a str],
@@ -34,6 +35,7 @@ pub(crate) fn read_partner<'a>(
     Ok(Some(ToolWords::Partner(partner)))
 }
 
+/// The command `partner` for the parser.
 fn partner_command<'a>(alloc: Global) -> Result<Command<'a>, AllocError>
     ensures { IfOk result (λ c. app_of c ≡ app_by (codes "partner") partner_line) }
 {

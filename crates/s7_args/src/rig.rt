@@ -1,4 +1,4 @@
-// The command that runs scripts together.
+//! The command `rig`.
 ghost use Rattle.std.specs.Prelude.{◌≡◌, IfOk, codes, drop, map, option_and_then, option_map};
 ghost use Rattle.clap.specs.Words.{app_of};
 ghost use Rattle.s7_args.specs.Built.{app_by};
@@ -14,8 +14,10 @@ use clap::Command;
 use s7_outer::Memory;
 use std::alloc::{AllocError, Global};
 
+/// The greatest number of scripts.
 const MOST_SCRIPTS: usize = 1024;
 
+/// Parses the words of `rig`. `None` if they are usage; `Memory` if an allocation fails.
 pub(crate) fn read_rig<'a>(
     alloc: Global,
     words: &'a [&'a str],
@@ -48,6 +50,7 @@ pub(crate) fn read_rig<'a>(
     Ok(Some(ToolWords::Rig(rig)))
 }
 
+/// The command `rig` for the parser.
 fn rig_command<'a>(alloc: Global) -> Result<Command<'a>, AllocError>
     ensures { IfOk result (λ c. app_of c ≡ app_by (codes "rig") rig_line) }
 {

@@ -1,27 +1,27 @@
-// How scripts are run together.
+//! The arguments of the command `rig`.
 ghost use Rattle.std.specs.Prelude.{◌≤◌, ◌<◌, ◌*◌, All, vec_len};
 
-/// How the tool runs scripts together, on one set of areas.
+/// The arguments of `rig`, which runs scripts together on one set of areas.
 #[derive(Debug, PartialEq, Eq, Drop)]
 pub struct RigWords<'a> {
-    /// The area file, or the data block that is given in its place: any text.
+    /// The path of the area file, or an inline data block: any text.
     pub areas: &'a str,
     /// The paths of the scripts, 1 to 1,024 of them, in order: any texts.
     pub scripts: Vec<&'a str>,
-    /// `--turns`, the actors whose turns come first, in order. Each script has two actors, and the
-    /// actors are counted from 0. There are none where it isn't given.
+    /// `--turns`, the actors of the first turns, in order. Each script has two actors, and the actors are numbered from
+    /// 0. The default is no turn.
     pub turns: Vec<u32>,
-    /// `--seed`, what the turns after those are drawn from, 0 to 4,294,967,295: 0 where it isn't given.
+    /// `--seed`, the seed of the turns after those, 0 to 4,294,967,295; the default is 0.
     pub seed: u32,
-    /// `--steps`, the number of turns that are drawn, 0 to 1,000,000: 0 where it isn't given.
+    /// `--steps`, the number of turns that are drawn from the seed, 0 to 1,000,000; the default is 0.
     pub steps: u32,
-    /// `--pdu`, the length of a PDU in octets that is asked for, 64 to 1,920: 480 where it isn't given.
+    /// `--pdu`, the PDU length in octets to ask for, 64 to 1,920; the default is 480.
     pub pdu: u16,
-    /// `--journal`, how many entries the journal takes, 1 to 262,144: 65,536 where it isn't given.
+    /// `--journal`, the greatest number of entries in the journal, 1 to 262,144; the default is 65,536.
     pub journal: u64,
-    /// `--jobs`, the number of parallel jobs that is asked for, 1 to 8: 1 where it isn't given.
+    /// `--jobs`, the number of parallel jobs to ask for, 1 to 8; the default is 1.
     pub jobs: u16,
-    /// `--tags`, the path of the tag file whose tags the scripts may name: any text, none where it isn't given.
+    /// `--tags`, the path of the tag file whose tags the scripts may name: any text; the default is none.
     pub tags: Option<&'a str>,
     ghost least_scripts: { 1 ≤ vec_len scripts },
     ghost most_scripts: { vec_len scripts ≤ 1024 },

@@ -1,4 +1,4 @@
-// The commands of the server.
+//! The commands of the server.
 ghost use Rattle.std.specs.Prelude.{◌≡◌, IfOk, IfSome, codes, drop, map, option_map};
 ghost use Rattle.clap.specs.Words.{app_of};
 ghost use Rattle.s7_args.specs.Built.{app_by};
@@ -14,19 +14,18 @@ use std::alloc::{AllocError, Global};
 /// A command of the server with its operands and options.
 #[derive(Clone, Copy, Debug, PartialEq, Eq)]
 pub enum ServerWords<'a> {
-    /// `pipe AREAS [--save PATH] [--journal N]`: one link, on standard input and output. `areas` is
-    /// the path of the area file that is read, and `save` the path that the areas are saved to, where
-    /// it is given. Both are any text. `journal` is how many entries the journal takes, 1 to 262,144:
-    /// 65,536 where it isn't given.
+    /// `pipe AREAS [--save PATH] [--journal N]`: serves one link, on standard input and output. `areas` is the path of
+    /// the area file to read, and `save` the path to which the areas are saved, if it is given. Both are any text.
+    /// `journal` is the greatest number of entries in the journal, 1 to 262,144; the default is 65,536.
     Pipe {
         areas: &'a str,
         save: Option<&'a str>,
         journal: u64,
     },
-    /// `serve AREAS [--port N] [--links N] [--journal N] [--save PATH] [--at N]`: links over TCP. `port` is
-    /// the TCP port, 1 to 65,535: 102 where it isn't given. `links` is how many links it takes in all, 1 to
-    /// 1,024: 16 where it isn't given. `at` is the number of entries, 0 to 262,144, behind which the areas
-    /// are printed in the end, where it is given. `areas`, `save` and `journal` are as for `Pipe`.
+    /// `serve AREAS [--port N] [--links N] [--journal N] [--save PATH] [--at N]`: serves links over TCP. `port` is the
+    /// TCP port, 1 to 65,535; the default is 102. `links` is the number of links that it accepts in all, 1 to 1,024;
+    /// the default is 16. `at`, if it is given, is a number of entries, 0 to 262,144, after which the areas are printed
+    /// in the end, too. `areas`, `save` and `journal` are as for `Pipe`.
     Serve {
         areas: &'a str,
         port: u16,
@@ -37,17 +36,16 @@ pub enum ServerWords<'a> {
     },
 }
 
-/// The command that the words name, or `None` where they are usage: where there are none, where the
-/// first one names no command, and where the rest are not what it takes.
+/// The command that the words name, or `None` if they are usage: if there are no words, if the first one names no
+/// command, or if the others aren't what the command takes.
 ///
-/// The first word is the name of the command. An option is `--name VALUE` or `--name=VALUE`, at most
-/// once each, before, between or after the operands; after `--` every word is an operand. Before it a word of
-/// two or more characters that begins with `-` is neither an operand nor the VALUE of an option
-/// before it. `--name=` has the empty VALUE. A number is one or more decimal digits, with zeros
-/// before them or none, and with a `+` before those or none; one out of its range is usage. There is
-/// no help flag and no version flag.
+/// The first word is the name of the command. An option is `--name VALUE` or `--name=VALUE`, at most once each, before,
+/// between or after the operands; after `--` every word is an operand. Before `--`, a word of two or more characters
+/// that begins with `-` is neither an operand nor the VALUE of an option before it. `--name=` has the empty VALUE. A
+/// number is one or more decimal digits; leading zeros are allowed, and so is a `+` before them. A number out of its
+/// range is usage. There is no help flag and no version flag.
 ///
-/// `Memory` comes where there is none for the parse.
+/// Returns `Memory` if an allocation for the parse fails.
 pub fn read_server_words<'a>(
     alloc: Global,
     words: &'a [&'a str],
@@ -67,6 +65,7 @@ pub fn read_server_words<'a>(
     }
 }
 
+/// Parses the words of `pipe`. `None` if they are usage; `Memory` if an allocation fails.
 fn read_pipe<'a>(alloc: Global, words: &'a [&'a str]) -> Result<Option<ServerWords<'a>>, Memory>
     ensures told { IfOk result (λ r. option_map server_told_of r
         ≡ option_map pipe_of (given_by pipe_line (drop 1 (map (λ w. w.now) words.entry.now)))) }
@@ -82,6 +81,7 @@ fn read_pipe<'a>(alloc: Global, words: &'a [&'a str]) -> Result<Option<ServerWor
     }))
 }
 
+/// The command `pipe` for the parser.
 fn pipe_command<'a>(alloc: Global) -> Result<Command<'a>, AllocError>
     ensures { IfOk result (λ c. app_of c ≡ app_by (codes "pipe") pipe_line) }
 {
@@ -91,6 +91,7 @@ fn pipe_command<'a>(alloc: Global) -> Result<Command<'a>, AllocError>
         .arg(number(alloc, "journal", 1, 262_144))
 }
 
+/// Parses the words of `serve`. `None` if they are usage; `Memory` if an allocation fails.
 fn read_serve<'a>(alloc: Global, words: &'a [&'a str]) -> Result<Option<ServerWords<'a>>, Memory>
     ensures told { IfOk result (λ r. option_map server_told_of r
         ≡ option_map serve_of (given_by serve_line (drop 1 (map (λ w. w.now) words.entry.now)))) }
@@ -116,6 +117,7 @@ fn read_serve<'a>(alloc: Global, words: &'a [&'a str]) -> Result<Option<ServerWo
     }))
 }
 
+/// The command `serve` for the parser.
 fn serve_command<'a>(alloc: Global) -> Result<Command<'a>, AllocError>
     ensures { IfOk result (λ c. app_of c ≡ app_by (codes "serve") serve_line) }
 {

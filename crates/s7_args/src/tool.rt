@@ -1,4 +1,4 @@
-// The commands of the tool.
+//! The commands of the tool.
 ghost use Rattle.std.specs.Prelude.{◌≡◌, IfOk, codes, drop, map, option_map};
 ghost use Rattle.clap.specs.Words.{app_of};
 ghost use Rattle.s7_args.specs.Built.{app_by};
@@ -17,28 +17,27 @@ use std::alloc::{AllocError, Global};
 /// A command of the tool with its operands and options.
 #[derive(Debug, PartialEq, Eq, Drop)]
 pub enum ToolWords<'a> {
-    /// `run SCRIPT [--host HOST] [--port N] [--type N] [--rack N] [--slot N] [--pdu N] [--polls N]
-    /// [--jobs N] [--tags PATH]`: runs a script against a controller. The fields of `RunWords` have the ranges and
-    /// defaults.
+    /// `run SCRIPT [--host HOST] [--port N] [--type N] [--rack N] [--slot N] [--pdu N] [--polls N] [--jobs N] [--tags
+    /// PATH]`: runs a script against a controller. `RunWords` states the ranges and defaults.
     Run(RunWords<'a>),
-    /// `rig AREAS SCRIPT... [--turns LIST] [--seed N] [--steps N] [--pdu N] [--journal N] [--jobs N]
-    /// [--tags PATH]`: runs scripts together, on one set of areas. LIST is one or more numbers, joined by `,`. The
-    /// fields of `RigWords` have the ranges and defaults.
+    /// `rig AREAS SCRIPT... [--turns LIST] [--seed N] [--steps N] [--pdu N] [--journal N] [--jobs N] [--tags PATH]`:
+    /// runs scripts together, on one set of areas. LIST is one or more numbers, joined by `,`. `RigWords` states the
+    /// ranges and defaults.
     Rig(RigWords<'a>),
-    /// `gen N`: makes areas and scripts from N, 0 to 4,294,967,295, and runs them together.
+    /// `gen N`: makes areas and scripts from the seed N, 0 to 4,294,967,295, and runs the scripts together.
     Gen(u32),
-    /// `partner A [B] [--host HOST] [--port N] [--seed N] [--steps N]`: runs two partners in memory, or
-    /// without B one over a link. The fields of `PartnerWords` have the ranges and defaults.
+    /// `partner A [B] [--host HOST] [--port N] [--seed N] [--steps N]`: runs two partners in memory, or, without B, one
+    /// partner over a link. `PartnerWords` states the ranges and defaults.
     Partner(PartnerWords<'a>),
 }
 
-/// The command that the words name, or `None` where they are usage: where there are none, where the
-/// first one names no command, and where the rest are not what it takes.
+/// The command that the words name, or `None` if they are usage: if there are no words, if the first one names no
+/// command, or if the others aren't what the command takes.
 ///
-/// The words are read as `read_server_words` has it. A number is one or more decimal digits, with
-/// zeros before them or none, and with a `+` before those or none; one out of its range is usage.
+/// The words are parsed as `read_server_words` states. A number is one or more decimal digits; leading zeros are
+/// allowed, and so is a `+` before them. A number out of its range is usage.
 ///
-/// `Memory` comes where there is none for the parse.
+/// Returns `Memory` if an allocation for the parse fails.
 pub fn read_tool_words<'a>(
     alloc: Global,
     words: &'a [&'a str],
@@ -57,6 +56,7 @@ pub fn read_tool_words<'a>(
     }
 }
 
+/// Parses the words of `run`. `None` if they are usage; `Memory` if an allocation fails.
 fn read_run<'a>(alloc: Global, words: &'a [&'a str]) -> Result<Option<ToolWords<'a>>, Memory>
     ensures { IfOk result (λ r. option_map tool_told_of r
         ≡ option_map run_of (given_by run_line (drop 1 (map (λ w. w.now) words.entry.now)))) }
@@ -79,6 +79,7 @@ fn read_run<'a>(alloc: Global, words: &'a [&'a str]) -> Result<Option<ToolWords<
     Ok(Some(ToolWords::Run(run)))
 }
 
+/// The command `run` for the parser.
 fn run_command<'a>(alloc: Global) -> Result<Command<'a>, AllocError>
     ensures { IfOk result (λ c. app_of c ≡ app_by (codes "run") run_line) }
 {
@@ -95,6 +96,7 @@ fn run_command<'a>(alloc: Global) -> Result<Command<'a>, AllocError>
         .arg(text(alloc, "tags"))
 }
 
+/// Parses the words of `gen`. `None` if they are usage; `Memory` if an allocation fails.
 fn read_gen<'a>(alloc: Global, words: &'a [&'a str]) -> Result<Option<ToolWords<'a>>, Memory>
     ensures { IfOk result (λ r. option_map tool_told_of r
         ≡ option_map gen_of (given_by gen_line (drop 1 (map (λ w. w.now) words.entry.now)))) }
@@ -106,6 +108,7 @@ fn read_gen<'a>(alloc: Global, words: &'a [&'a str]) -> Result<Option<ToolWords<
     Ok(Some(ToolWords::Gen(seed)))
 }
 
+/// The command `gen` for the parser.
 fn gen_command<'a>(alloc: Global) -> Result<Command<'a>, AllocError>
     ensures { IfOk result (λ c. app_of c ≡ app_by (codes "gen") gen_line) }
 {

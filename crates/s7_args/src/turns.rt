@@ -1,12 +1,12 @@
-// The turns that are given for scripts that are run together.
+//! The turns that are stated for a rig.
 ghost use Rattle.std.specs.Prelude.{◌≡◌, ◌<◌, All, IfOk, IfSome, Some, None, option_map, if◌then◌else◌};
 ghost use Rattle.s7_args.specs.CommandLine.{number_of};
 ghost use Rattle.s7_args.specs.Tool.{is_actor, turns_or_none};
 
 use std::alloc::{AllocError, Global};
 
-/// The turns of `count` actors that a text gives, or `None` where it isn't one of turns. There are
-/// none where no text is given.
+/// The turns that a text states, as actors below `count`; `None` if the text has another form. Without a text there are
+/// no turns.
 pub(crate) fn read_turns(
     alloc: Global,
     given: Option<&str>,
@@ -30,6 +30,7 @@ pub(crate) fn read_turns(
     Ok(Some(turns))
 }
 
+/// The number of an actor below `count`; `None` if the text has another form.
 fn read_actor(text: &str, count: u32) -> Option<u32>
     ensures { result ≡ (if is_actor count text.now then Some (number_of text.now) else None) }
 {

@@ -1,17 +1,17 @@
--- An image that comes in pieces (Snap7 1.4 reference manual, `Cli_FullUpload` and `Cli_Download`). Which pieces are
--- wrong is this profile's own.
+-- An image that is sent in pieces (Snap7 1.4 reference manual, `Cli_FullUpload` and `Cli_Download`). Which pieces
+-- are refused is this profile's own.
 use Rattle.std.specs.Prelude.{ℕ, ◌+◌, ◌==◌, ◌&&◌, ◌||◌, not, nat_lt, Bool, true, false, if◌then◌else◌, Option, None, Some, List, [], ◌++◌, length}
 use Rattle.s7_block.specs.declared.assembly.Added.{Added}
 use Rattle.s7_block.specs.declared.assembly.Added.TheVariants.{More, Last, Dropped}
 use Rattle.s7_block.specs.Slices.{Piece}
 
--- nothing is held; pieces are awaited up to a stated length; the image is whole
+-- the state of an image: nothing is held; pieces are awaited, for a stated length; or the image is whole
 pub data Progress : Type 0 where
   idle : Progress
   awaiting : (len : ℕ) → (octets : List ℕ) → Progress
   whole : (octets : List ℕ) → Progress
 
--- how far the image is, and how many octets it may have
+-- the state of the image, and the greatest number of its octets
 pub record Assembled : Type 0 where
   pub progress : Progress
   pub room : ℕ
@@ -21,26 +21,26 @@ is_awaiting idle = false
 is_awaiting (awaiting len octets) = true
 is_awaiting (whole octets) = false
 
--- what was added
+-- the octets added so far
 abbrev pub octets_of : Progress → List ℕ
 octets_of idle = []
 octets_of (awaiting len octets) = octets
 octets_of (whole octets) = octets
 
--- the image, where it is whole
+-- the image, if it is whole
 abbrev pub whole_image : Progress → Option (List ℕ)
 whole_image idle = None
 whole_image (awaiting len octets) = None
 whole_image (whole octets) = Some octets
 
--- the octets pass the stated length or the room, a piece with more to follow is empty, or the last piece
--- leaves the stated length unmet
+-- the piece is refused: the octets exceed the stated length or the room, the piece is empty although more follow,
+-- or the last piece leaves the image shorter than the stated length
 abbrev pub is_wrong : ℕ → ℕ → List ℕ → Piece → Bool
 is_wrong room len octets p =
     nat_lt len (length octets + length p.octets) || nat_lt room (length octets + length p.octets)
     || (p.more && length p.octets == 0) || (not p.more && not (length octets + length p.octets == len))
 
--- what a piece makes of an image that is awaited
+-- the outcome of a piece of an image that is awaited
 abbrev pub answer_to : ℕ → Progress → Piece → Added
 answer_to room idle p = Dropped
 answer_to room (awaiting len octets) p = if is_wrong room len octets p then Dropped else (if p.more then More else Last)
@@ -53,6 +53,6 @@ with_piece room (awaiting len octets) p =
     else (if p.more then awaiting len (octets ++ p.octets) else whole (octets ++ p.octets))
 with_piece room (whole octets) p = idle
 
--- what a piece leaves
+-- the assembly after a piece
 abbrev pub after_piece : Assembled → Piece → Assembled
 after_piece a p = record { progress = with_piece a.room a.progress p; room = a.room }

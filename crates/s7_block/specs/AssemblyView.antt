@@ -9,7 +9,7 @@ progress_of octets Idle = idle
 progress_of octets (Awaiting len) = awaiting len octets
 progress_of octets Whole = whole octets
 
--- nothing is held where nothing is awaited, and no more than the stated length before that is whole
+-- nothing is held while nothing is awaited, and at most the stated length before the image is whole
 abbrev pub IsWithin : List ℕ → Stage → Type 0
 IsWithin octets Idle = octets ≡ []
 IsWithin octets (Awaiting len) = length octets ≤ len

@@ -1,6 +1,5 @@
--- Heads of blocks: 36 octets in front of each image, in a layout of this profile's own, after
--- Snap7 1.4 sources, s7_types.h: TS7CompactBlockInfo, and Snap7 1.4 reference manual, `Cli_GetAgBlockInfo`:
--- `TS7BlockInfo`.
+-- Heads of blocks: the first 36 octets of each image, in a layout of this profile's own, after Snap7 1.4 sources,
+-- s7_types.h: TS7CompactBlockInfo, and Snap7 1.4 reference manual, `Cli_GetAgBlockInfo`: `TS7BlockInfo`.
 use Rattle.std.specs.Prelude.{ℕ, ◌+◌, ◌-◌, ◌*◌, ◌/◌, ◌%◌, ◌==◌, ◌&&◌, min, nat_le, nat_eq, Bool, Some, List, [], ◌∷◌, ◌++◌, length, slice_index}
 use Rattle.std.specs.Option.{option_eq}
 use Rattle.s7_outer.specs.Numbers.{number_of_two, two_octets}
@@ -14,7 +13,7 @@ number_of_four a b c d = 256 * (256 * (256 * a + b) + c) + d
 abbrev pub four_octets : ℕ → List ℕ
 four_octets n = n / 16777216 ∷ n / 65536 % 256 ∷ n / 256 % 256 ∷ n % 256 ∷ []
 
--- when a block was changed: milliseconds of the day, and days since 1984 began
+-- the time when a block was changed: milliseconds of the day, and days since 1984-01-01
 pub record ChangeTime : Type 0 where
   pub milliseconds : ℕ
   pub days : ℕ
@@ -26,7 +25,7 @@ pub record Head : Type 0 where
   pub language : ℕ
   pub code : ℕ
   pub number : ℕ
-  -- how many octets the image has
+  -- the number of octets of the image
   pub load_length : ℕ
   pub security : ℕ
   pub code_time : ChangeTime
@@ -34,7 +33,7 @@ pub record Head : Type 0 where
   pub interface_length : ℕ
   pub additional_length : ℕ
   pub local_length : ℕ
-  -- how many octets of the image are the block's own
+  -- the number of octets of the image that are the block's own
   pub body_length : ℕ
 
 abbrev pub time_octets : ChangeTime → List ℕ
@@ -47,7 +46,7 @@ spelling_of_head h =
     ++ four_octets h.security ++ time_octets h.code_time ++ time_octets h.interface_time
     ++ two_octets h.interface_length ++ two_octets h.additional_length ++ two_octets h.local_length ++ two_octets h.body_length
 
--- the numbers in two and in four octets from a place on
+-- the numbers in two and in four octets from an offset on
 abbrev pub two_at : List ℕ → ℕ → ℕ
 two_at octets k = number_of_two (slice_index octets k) (slice_index octets (k + 1))
 
@@ -55,7 +54,7 @@ abbrev pub four_at : List ℕ → ℕ → ℕ
 four_at octets k =
     number_of_four (slice_index octets k) (slice_index octets (k + 1)) (slice_index octets (k + 2)) (slice_index octets (k + 3))
 
--- the fields that the first 36 octets tell
+-- the fields of the head in the first 36 octets
 abbrev pub head_of : List ℕ → Head
 head_of octets = record {
   version = slice_index octets 2;
@@ -73,22 +72,22 @@ head_of octets = record {
   body_length = two_at octets 34;
 }
 
--- the octets begin with the two that begin each head
+-- the octets begin with `70 70`, as each head does
 abbrev pub begins_head : List ℕ → Bool
 begins_head octets = slice_index octets 0 == 0x70 && slice_index octets 1 == 0x70
 
--- a head that is of this block, in an image of this length
+-- the head is that of this block, in an image of this length
 abbrev pub is_of_block : ℕ → ℕ → ℕ → Head → Bool
 is_of_block len kind number h =
     option_eq nat_eq (head_code kind) (Some h.code) && h.number == number && h.load_length == len && nat_le h.body_length (len - 36)
 
--- an image of 36 to 65,536 octets whose head is of this block: this profile's own limits
+-- an image of 36 to 65,536 octets whose head is that of this block; the limits are this profile's own
 unfoldable pub head_agrees : List ℕ → ℕ → ℕ → Bool
 head_agrees image kind number =
     nat_le 36 (length image) && nat_le (length image) 65536 && begins_head image
     && is_of_block (length image) kind number (head_of image)
 
--- the head of a data block of so many octets that is an area: its contents are this profile's own
+-- the head of a data block that is an area of `len` octets; its contents are this profile's own
 abbrev pub db_head : ℕ → ℕ → Head
 db_head number len = record {
   version = 0x01;

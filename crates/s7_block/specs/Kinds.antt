@@ -2,13 +2,13 @@
 -- `Cli_GetAgBlockInfo`: `TS7BlockInfo`).
 use Rattle.std.specs.Prelude.{ℕ, ◌==◌, ◌||◌, Bool, if◌then◌else◌, Option, None, Some}
 
--- organization blocks, functions and function blocks: the kinds that a store of blocks has, a choice of this profile's
--- own
+-- the kinds that a store of blocks keeps: organization blocks, functions and function blocks, a choice of this
+-- profile's own
 abbrev pub is_stored_kind : ℕ → Bool
 is_stored_kind kind = kind == 0x38 || kind == 0x43 || kind == 0x45
 
--- what a head has for the kind: OB, DB, SDB, FC, SFC, FB, SFB (Snap7 1.4 reference manual, `Cli_GetAgBlockInfo`:
--- `TS7BlockInfo`)
+-- the code that a head has for the kind: OB, DB, SDB, FC, SFC, FB, SFB (Snap7 1.4 reference manual,
+-- `Cli_GetAgBlockInfo`: `TS7BlockInfo`)
 abbrev pub head_code : ℕ → Option ℕ
 head_code kind =
     if kind == 0x38 then Some 0x08
@@ -20,7 +20,7 @@ head_code kind =
     else (if kind == 0x46 then Some 0x0F
     else None))))))
 
--- the kind that a head has a code for, and 0 where the code is of none
+-- the kind with this code in heads; 0 if there is none
 abbrev pub kind_of_code : ℕ → ℕ
 kind_of_code code =
     if code == 0x08 then 0x38

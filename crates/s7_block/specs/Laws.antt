@@ -1,4 +1,4 @@
--- Laws of stores, of slices, and of images that come in pieces.
+-- Laws of stores, of slices, and of images that are sent in pieces.
 use Rattle.std.specs.Prelude.{◌≡◌, ◌≢◌, ◌↔◌, ℕ, ◌<◌, ◌≤◌, ◌==◌, nat_lt, true, false, if◌then◌else◌, None, Some, List, [], ◌∷◌, ◌++◌, length, take, option_to_list}
 use Rattle.std.specs.List.{AllByRecursion}
 use Rattle.s7_block.specs.declared.block.BlockName.{BlockName}
@@ -13,7 +13,7 @@ use Rattle.s7_block.specs.Assembly.{Progress, awaiting, whole, with_piece}
 abbrev pub HeadsAreRead : Type 0
 HeadsAreRead = (h : Head) (more : List ℕ) → head_of (spelling_of_head h ++ more) ≡ h
 
--- a block that joins is found and no other changes; a block that is deleted is gone, and no other
+-- a block that was stored is found, and no other block changes; a deleted block is gone, and no other is
 pub record OneNameChanges : Type 0 where
   pub found : (s : Store) (block : Block) → image_at (with_block s block).images (name_of block) ≡ Some block.image
   pub others_stay :
@@ -26,18 +26,18 @@ pub record OneNameChanges : Type 0 where
       (s : Store) (kind number : ℕ) (other : BlockName) → other ≢ record { kind = kind; number = number }
       → image_at (without_block s kind number).images other ≡ image_at s.images other
 
--- the slices that asks of ids and rooms give, one after another
+-- the slices that these calls give, one after another; each call has an id and a room
 abbrev pub given : Uploads → List (ℕ × ℕ) → List Piece
 given u [] = []
 given u (a ∷ asks) = option_to_list (slice_at u a.0 a.1) ++ given (sliced u a.0 a.1) asks
 
--- the rooms of the asks of this id
+-- the rooms of the calls with this id
 abbrev pub rooms_for : ℕ → List (ℕ × ℕ) → List ℕ
 rooms_for id [] = []
 rooms_for id (a ∷ asks) = if id == a.0 then a.1 ∷ rooms_for id asks else rooms_for id asks
 
--- slices are the pieces of the image for the rooms that were asked for; pieces join to as many octets as their
--- rooms have together, so to the image where these suffice, and the last of them has no more just there
+-- Slices are the pieces of the image for the rooms asked for. Pieces join to as many octets as their rooms have
+-- together, so to the image if the rooms suffice; the last piece is marked as the last exactly then.
 pub record SlicesJoin : Type 0 where
   pub given :
       (id room : ℕ) (image : List ℕ) (asks : List (ℕ × ℕ))
@@ -46,13 +46,13 @@ pub record SlicesJoin : Type 0 where
   pub joined : (rooms image : List ℕ) → joined (pieces_of rooms image) ≡ take (total_of rooms) image
   pub marked : (rooms image : List ℕ) → AreMarked (nat_lt (total_of rooms) (length image)) (pieces_of rooms image)
 
--- what pieces make of an image, one after another
+-- the effect of pieces on an image, one after another
 abbrev pub with_pieces : ℕ → Progress → List Piece → Progress
 with_pieces room progress [] = progress
 with_pieces room progress (p ∷ ps) = with_pieces room (with_piece room progress p) ps
 
--- These pieces are an image of the stated length: others follow each but the last, each of those has octets, and
--- all of them join to it, within the room.
+-- These pieces are an image of the stated length: further pieces follow each but the last, each of those has
+-- octets, and all of them join to the image, within the room.
 pub record AreWhole (room len : ℕ) (ps : List Piece) (image : List ℕ) : Type 0 where
   pub some : 0 < length ps
   pub marked : AreMarked false ps
@@ -61,7 +61,7 @@ pub record AreWhole (room len : ℕ) (ps : List Piece) (image : List ℕ) : Type
   pub stated : length image ≡ len
   pub fits : len ≤ room
 
--- an image that is awaited is whole exactly where its pieces are one
+-- an image that is awaited is whole exactly if its pieces are a whole image
 abbrev pub PiecesAreJoined : Type 0
 PiecesAreJoined =
     (room len : ℕ) (ps : List Piece) (image : List ℕ)

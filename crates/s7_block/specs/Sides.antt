@@ -4,17 +4,17 @@ use Rattle.s7_block.specs.declared.block.BlockName.{BlockName}
 use Rattle.s7_block.specs.Assembly.{Progress, whole_image}
 use Rattle.s7_block.specs.Slices.{Piece, first_piece, left_behind}
 
--- an upload: its id, and what is left of the image, none where the last slice was given
+-- an upload: its id, and what is left of the image; `None` once the last slice was given
 pub record Upload : Type 0 where
   pub id : ℕ
   pub left : Option (List ℕ)
 
--- the upload that is held, and how many octets an image may have
+-- the upload that is held, and the greatest number of octets of an image
 pub record Uploads : Type 0 where
   pub upload : Option Upload
   pub room : ℕ
 
--- what is left of the upload of this id
+-- what is left of the upload of this id, if it is held
 abbrev pub left_in : Option Upload → ℕ → Option (List ℕ)
 left_in None id = None
 left_in (Some u) id = if u.id == id then u.left else None
@@ -41,8 +41,8 @@ is_held (Some u) id = u.id == id
 abbrev pub ended : Uploads → ℕ → Uploads
 ended u id = record { upload = if is_held u.upload id then None else u.upload; room = u.room }
 
--- the download that is held: the name that was stated last, how far its image is, and how many octets an image
--- may have
+-- the download that is held: the name that was stated last, the state of its image, and the greatest number of
+-- octets of an image
 pub record Downloads : Type 0 where
   pub name : BlockName
   pub progress : Progress

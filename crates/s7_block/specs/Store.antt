@@ -1,5 +1,5 @@
 -- A store of blocks: their images in the order of their names (Snap7 1.4 reference manual, `Cli_Download` and
--- `Cli_Delete`). Which blocks join, and how many there may be, is this profile's own.
+-- `Cli_Delete`). Which blocks may be stored, and how many, is this profile's own.
 use Rattle.std.specs.Prelude.{◌≡◌, ℕ, ◌≤◌, ◌==◌, ◌&&◌, not, nat_le, if◌then◌else◌, Option, None, Some, is_none, option_map, List, length, Bool, true, map, filter}
 use Rattle.std.specs.declared.cmp.Ordering.{Ordering}
 use Rattle.std.specs.Ordering.{nat_cmp, ordering_then}
@@ -17,12 +17,12 @@ use Rattle.s7_block.specs.Heads.{head_agrees}
 abbrev pub Images : Type 0
 Images = List (BlockName × List ℕ)
 
--- the images, and how many there may be
+-- the images, and the greatest number of them
 pub record Store : Type 0 where
   pub images : Images
   pub limit : ℕ
 
--- by kind, and then by number
+-- the order of names: by kind, and then by number
 abbrev pub name_cmp : BlockName → BlockName → Ordering
 name_cmp a b = ordering_then (nat_cmp a.kind b.kind) (nat_cmp a.number b.number)
 
@@ -38,7 +38,7 @@ block_at s kind number =
     option_map (λ image. record { kind = kind; number = number; image = image })
     (image_at s.images (record { kind = kind; number = number }))
 
--- the store with this block, in place of the one of its name
+-- the store with this block, in place of an earlier one of its name
 abbrev pub with_block : Store → Block → Store
 with_block s block = record { images = insert_entry name_cmp s.images (name_of block) block.image; limit = s.limit }
 
@@ -51,11 +51,11 @@ without_block s kind number =
 abbrev pub numbers_of : Images → ℕ → List ℕ
 numbers_of images kind = map (λ e. e.0.number) (filter (λ e. e.0.kind == kind) images)
 
--- the limit is held, and the name is new
+-- the limit is reached, and the name is new
 abbrev pub is_full : Store → BlockName → Bool
 is_full s name = nat_le s.limit (length s.images) && is_none (image_at s.images name)
 
--- the first fault of a block that asks to join
+-- the first fault of a block, if it were stored now
 abbrev pub fault_of : Store → Block → Option BlockFault
 fault_of s block =
     if not (is_stored_kind block.kind) then Some fault.Kind
@@ -63,12 +63,12 @@ fault_of s block =
     else (if is_full s (name_of block) then Some fault.Full
     else None))
 
--- an image under its name: of a kind that is stored, with a head that agrees
+-- an image under its name: its kind is one that is stored, and its head agrees
 pub record IsStored (e : BlockName × List ℕ) : Type 0 where
   pub kind : is_stored_kind e.0.kind ≡ true
   pub head : head_agrees e.1 e.0.kind e.0.number ≡ true
 
--- images in the order of their names, within the limit, which is at most 1,024
+-- images in the order of their names, at most as many as the limit, which is at most 1,024
 pub record IsStore (s : Store) : Type 0 where
   pub stored : AllByRecursion IsStored s.images
   pub ordered : IsStrictlySortedBy name_cmp (keys_of s.images)

@@ -9,7 +9,7 @@ upload_of octets Idle = None
 upload_of octets (Open id at) = Some (record { id = id; left = Some (drop at octets) })
 upload_of octets (Given id) = Some (record { id = id; left = None })
 
--- the place of the next slice is in the image
+-- the offset of the next slice is inside the image
 abbrev pub IsInside : List ℕ → Sending → Type 0
 IsInside octets Idle = ⊤
 IsInside octets (Open id at) = at ≤ length octets

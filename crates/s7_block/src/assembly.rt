@@ -1,33 +1,33 @@
-// An image that comes in pieces.
+//! An image that is sent in pieces.
 ghost use Rattle.std.specs.Prelude.{◌≡◌, [], true, IfOk, option_map};
 
 use s7_outer::{Buffer, Memory};
 use std::alloc::Global;
 use std::marker::Model;
 
-/// What came of a piece.
+/// The outcome of adding a piece.
 #[derive(Clone, Copy, Debug, PartialEq, Eq)]
 pub enum Added {
-    /// It was added, and others are awaited.
+    /// The piece was added, and further pieces are awaited.
     More,
-    /// It was added, and the image is whole.
+    /// The piece was added, and the image is whole.
     Last,
-    /// It doesn't fit, and nothing is held any more.
+    /// The piece doesn't fit, and everything held was dropped.
     Dropped,
 }
 
-/// How far an image is.
+/// The state of an image that is sent in pieces.
 #[derive(Clone, Copy)]
 pub(crate) enum Stage {
     /// Nothing is held or awaited.
     Idle,
-    /// Pieces are awaited up to this length.
+    /// Pieces are awaited, for an image of this length.
     Awaiting { len: u32 },
     /// The image is whole.
     Whole,
 }
 
-/// An image that comes in pieces, in a room that is taken when it is made.
+/// An image that is sent in pieces. Its room is allocated when it is made.
 #[derive(Drop)]
 pub(crate) struct Assembly {
     octets: Buffer,
@@ -50,6 +50,8 @@ impl Assembly {
     ghost use Rattle.s7_block.specs.Assembly.{idle, awaiting, is_awaiting, octets_of, whole_image, answer_to};
     ghost use Rattle.s7_block.specs.Assembly.{after_piece};
 
+    /// An assembly that holds and awaits nothing, with room for `room` octets. Returns `Memory` if the allocation
+    /// fails.
     pub(crate) fn new(alloc: Global, room: usize) -> Result<Assembly, Memory>
         ensures { IfOk result (λ a. a ≡ record { progress = idle; room = room }) }
     {
@@ -59,7 +61,7 @@ impl Assembly {
         })
     }
 
-    /// Awaits an image of this length, and forgets what was held.
+    /// Awaits an image of this length, and drops what was held.
     pub(crate) fn begin(&mut self, len: u32)
         ensures { self.new ≡ record { progress = awaiting len []; room = self.old.room } }
     {
@@ -67,7 +69,7 @@ impl Assembly {
         self.stage = Stage::Awaiting { len };
     }
 
-    /// Forgets what was held, and awaits nothing.
+    /// Drops what was held, and awaits nothing.
     pub(crate) fn clear(&mut self)
         ensures { self.new ≡ record { progress = idle; room = self.old.room } }
     {
@@ -75,14 +77,14 @@ impl Assembly {
         self.stage = Stage::Idle;
     }
 
-    /// Pieces are awaited.
+    /// Whether pieces are awaited.
     pub(crate) fn is_awaiting(&self) -> bool
         ensures { result ≡ is_awaiting self.now.progress }
     {
         matches!(self.stage, Stage::Awaiting { .. })
     }
 
-    /// Adds a piece to the image that is awaited.
+    /// Adds a piece to the image that is awaited; `more` says whether further pieces follow.
     pub(crate) fn add(&mut self, octets: &[u8], more: bool) -> Added
         requires { is_awaiting self.old.progress ≡ true }
         ensures answer { result ≡ answer_to self.old.room self.old.progress
@@ -101,7 +103,7 @@ impl Assembly {
         answer
     }
 
-    /// What comes of a piece.
+    /// The outcome of adding this piece.
     fn judge(&self, octets: &[u8], more: bool) -> Added
         ensures { result ≡ answer_to self.now.room self.now.progress
             (record { more = more; octets = octets.now }) }
@@ -122,14 +124,14 @@ impl Assembly {
         }
     }
 
-    /// The octets that were added.
+    /// The octets added so far.
     pub(crate) fn octets(&self) -> &[u8]
         ensures { result.now ≡ octets_of self.now.progress }
     {
         self.octets.as_slice()
     }
 
-    /// The image, where it is whole.
+    /// The image if it is whole, else `None`.
     pub(crate) fn image(&self) -> Option<&[u8]>
         ensures { option_map (λ octets. octets.now) result ≡ whole_image self.now.progress }
     {

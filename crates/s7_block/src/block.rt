@@ -1,4 +1,4 @@
-// Blocks and their names.
+//! Blocks and their names.
 ghost use Rattle.std.specs.Prelude.{◌≡◌, IfOk};
 
 use s7_outer::{Memory, Octets};
@@ -7,8 +7,10 @@ use std::alloc::Global;
 /// A block: its kind, its number, and its image, which begins with the head.
 #[derive(Debug, Drop)]
 pub struct Block {
+    /// The code of the kind.
     pub kind: u8,
     pub number: u16,
+    /// The image: the head and the octets after it.
     pub image: Octets,
 }
 
@@ -25,7 +27,7 @@ impl Block {
         }
     }
 
-    /// A copy. `Memory` comes where there is none for it.
+    /// A copy of the block. Returns `Memory` if the allocation fails.
     pub fn copy(&self, alloc: Global) -> Result<Block, Memory>
         ensures { IfOk result (λ copy. copy ≡ self.now) }
     {
@@ -40,17 +42,18 @@ impl Block {
 /// The name of a block. Names are ordered by kind, and then by number.
 #[derive(Clone, Copy, Debug, PartialEq, Eq, PartialOrd, Ord)]
 pub struct BlockName {
+    /// The code of the kind.
     pub kind: u8,
     pub number: u16,
 }
 
-/// Why a block is not taken.
+/// Why a block isn't stored.
 #[derive(Clone, Copy, Debug, PartialEq, Eq)]
 pub enum BlockFault {
-    /// The kind is not OB, FC or FB.
+    /// The kind isn't OB, FC or FB.
     Kind,
-    /// The head is not of this block.
+    /// The head isn't that of this block.
     BadHead,
-    /// The store has as many blocks as it may have, and none of this name.
+    /// The store has as many blocks as allowed, and none of this name.
     Full,
 }

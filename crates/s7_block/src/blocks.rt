@@ -1,4 +1,4 @@
-// A store of blocks.
+//! A store of blocks.
 ghost use Rattle.std.specs.Prelude.{◌≡◌, ◌≢◌, ◌≤◌, [], None, Some, Ok, Err, true, length, is_none, IfOk, IfErr, IfSome};
 ghost use Rattle.std.specs.Prelude.{IfNone, OnErr, IsTrue, option_map};
 ghost use Rattle.std.specs.Option.{option_copied};
@@ -14,11 +14,11 @@ use std::alloc::Global;
 use std::marker::Model;
 use std::mem;
 
-/// Blocks by their names, in a place that is taken as a whole when the store is made. Contracts see
-/// the images in the order of the names, and how many there may be.
+/// Blocks by their names, in a vector that is allocated when the store is made. Contracts see the images in the
+/// order of the names, and the greatest number of blocks.
 #[derive(Drop)]
 pub struct Blocks {
-    // a vector in order, since a place in a map would be taken when a block joins
+    /// The blocks in order: a sorted vector, since a map would allocate at each new block.
     blocks: Vec<Block>,
     limit: usize,
 }
@@ -42,8 +42,8 @@ impl Blocks {
     ghost use Rattle.s7_block.specs.StoreView.{images_of};
     ghost use Rattle.s7_block.specs.StorePlaces.{IsAt, IsGapFor};
 
-    /// A store without blocks that may have up to `limit`, at most 1,024. Their places are taken
-    /// here, and `Memory` comes where there is none for them.
+    /// A store without blocks, for up to `limit` blocks; `limit` is at most 1,024. Its vector is allocated here;
+    /// returns `Memory` if that fails.
     pub fn new(alloc: Global, limit: usize) -> Result<Blocks, Memory>
         requires { limit ≤ 1024 }
         ensures images { IfOk result (λ blocks. blocks.images ≡ []) }
@@ -55,7 +55,7 @@ impl Blocks {
         })
     }
 
-    /// How many blocks there are.
+    /// The number of blocks.
     pub fn len(&self) -> usize
         ensures len { result ≡ length self.now.images }
         ensures store { IsStore self.now }
@@ -63,7 +63,7 @@ impl Blocks {
         self.blocks.len()
     }
 
-    /// How many blocks there may be.
+    /// The greatest number of blocks.
     pub fn limit(&self) -> usize
         ensures limit { result ≡ self.now.limit }
         ensures store { IsStore self.now }
@@ -71,7 +71,7 @@ impl Blocks {
         self.limit
     }
 
-    /// The blocks in the order of their names, lent.
+    /// The blocks in the order of their names, borrowed.
     pub(crate) fn as_slice(&self) -> &[Block]
         ensures images { images_of result.now ≡ self.now.images }
         ensures store { IsStore self.now }
@@ -79,7 +79,7 @@ impl Blocks {
         self.blocks.as_slice()
     }
 
-    /// The block of this name, lent. `None` comes exactly where there is none.
+    /// The block of this name, borrowed. `None` exactly if there is none.
     pub fn get(&self, kind: u8, number: u16) -> Option<&Block>
         ensures block { option_copied result ≡ block_at self.now kind number }
         ensures kind { IfSome result (λ block. is_stored_kind block.now.kind ≡ true) }
@@ -102,17 +102,17 @@ impl Blocks {
         }
     }
 
-    /// How many blocks of this kind there are.
+    /// The number of blocks of this kind.
     pub fn count_of(&self, kind: u8) -> u16
         ensures { result ≡ length (numbers_of self.now.images kind) }
     {
         self.numbers_of(kind).count() as u16
     }
 
-    /// Takes a block, in place of the one of its name, which is handed back. The first that applies is
-    /// the refusal: `Kind` where the kind is not OB, FC or FB; `BadHead` where the head is not of this
-    /// block; `Full` where the limit is reached and no block has this name. A refusal changes nothing
-    /// and hands the block back. No memory is taken.
+    /// Stores a block. A block of the same name is replaced and handed back. The first fault in this order is
+    /// returned: `Kind` if the kind isn't OB, FC or FB; `BadHead` if the head isn't that of this block; `Full` if
+    /// the limit is reached and no block has this name. A refusal changes nothing and hands the block back. Nothing
+    /// is allocated.
     pub fn insert(&mut self, block: Block) -> Result<Option<Block>, (BlockFault, Block)>
         ensures refused { IfSome (fault_of self.old block) (λ fault. result ≡ Err (fault, block)) }
         ensures err { OnErr result (self.new ≡ self.old) }
@@ -126,7 +126,7 @@ impl Blocks {
         }
     }
 
-    /// Takes a block that has no fault.
+    /// Stores a block for which `fault_of` finds no fault.
     fn put(&mut self, block: Block) -> Option<Block>
         requires { fault_of self.old block ≡ None }
         ensures replaced { result ≡ block_at self.old block.kind block.number }
@@ -141,7 +141,7 @@ impl Blocks {
         }
     }
 
-    /// The first fault of a block that asks to join.
+    /// The first fault of a block, if it were stored now; `None` if it has none.
     fn fault_of(&self, block: &Block) -> Option<BlockFault>
         ensures { result ≡ fault_of self.now block.now }
     {
@@ -156,8 +156,7 @@ impl Blocks {
         }
     }
 
-    /// Gives the block of this name back, which is then no longer in the store. `None` comes exactly
-    /// where there is none, and changes nothing.
+    /// Removes the block of this name and hands it back. `None` exactly if there is none; nothing changes then.
     pub fn delete(&mut self, kind: u8, number: u16) -> Option<Block>
         ensures block { result ≡ block_at self.old kind number }
         ensures others { self.new ≡ without_block self.old kind number }
@@ -168,7 +167,7 @@ impl Blocks {
         }
     }
 
-    /// A copy, with the same limit. `Memory` comes where there is none for it.
+    /// A copy of the store, with the same limit. Returns `Memory` if an allocation fails.
     pub fn copy(&self, alloc: Global) -> Result<Blocks, Memory>
         ensures { IfOk result (λ copy. copy ≡ self.now) }
     {
@@ -185,7 +184,7 @@ impl Blocks {
         })
     }
 
-    /// Where the block of this name is, or where it would go.
+    /// The index of the block of this name, or else the index at which it would be stored.
     fn search(&self, name: BlockName) -> Result<usize, usize>
         ensures found { IfOk result (IsAt self.now.images name) }
         ensures absent { IfErr result (IsGapFor self.now.images name) }

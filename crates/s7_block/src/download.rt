@@ -1,4 +1,4 @@
-// The server's side of a download.
+//! The server's side of a download.
 ghost use Rattle.std.specs.Prelude.{◌≡◌, [], true, IfOk, option_map};
 ghost use Rattle.s7_block.specs.Assembly.{idle, awaiting, is_awaiting, answer_to, with_piece};
 
@@ -8,8 +8,8 @@ use s7_outer::Memory;
 use std::alloc::Global;
 use std::marker::Model;
 
-/// The server's side of downloads, of which it holds one. Contracts see the name that was stated, how
-/// far the image is, and the room for it.
+/// The server's side of downloads. It holds at most one download. Contracts see the name that was stated, the state
+/// of the image, and the room for it.
 #[derive(Drop)]
 pub struct DownloadSide {
     name: BlockName,
@@ -27,8 +27,8 @@ impl Model for DownloadSide {
 impl DownloadSide {
     ghost use Rattle.s7_block.specs.Sides.{finished_image};
 
-    /// A side that holds no download, named kind 0 and number 0, with room for images of at most `room`
-    /// octets, which is taken here. `Memory` comes where there is none for it.
+    /// A side that holds no download, with room for images of at most `room` octets, which is allocated here. Its
+    /// name is kind 0 and number 0. Returns `Memory` if the allocation fails.
     pub fn new(alloc: Global, room: usize) -> Result<DownloadSide, Memory>
         ensures progress { IfOk result (λ side. side.progress ≡ idle) }
         ensures name { IfOk result (λ side. side.name ≡ record { kind = 0; number = 0 }) }
@@ -40,8 +40,7 @@ impl DownloadSide {
         })
     }
 
-    /// Begins the download of the block of this name, whose image has `len` octets, and forgets what
-    /// was held.
+    /// Begins the download of the block of this name, whose image has `len` octets, and drops what was held.
     pub fn begin(&mut self, kind: u8, number: u16, len: u32)
         ensures name { self.new.name ≡ record { kind = kind; number = number } }
         ensures progress { self.new.progress ≡ awaiting len [] }
@@ -51,24 +50,24 @@ impl DownloadSide {
         self.assembly.begin(len);
     }
 
-    /// The name that was stated last.
+    /// The name of the download that was begun last.
     pub fn name(&self) -> BlockName
         ensures { result ≡ self.now.name }
     {
         self.name
     }
 
-    /// A download was begun, and pieces of it are awaited: since `begin` no piece was the last, and
-    /// none was dropped.
+    /// Whether a download was begun and pieces of it are awaited: since `begin` no piece was the last, and none was
+    /// dropped.
     pub fn is_awaiting(&self) -> bool
         ensures { result ≡ is_awaiting self.now.progress }
     {
         self.assembly.is_awaiting()
     }
 
-    /// Adds a piece to the image that is awaited. `Dropped` comes exactly where the octets pass the
-    /// stated length or the room, where a piece with more to follow is empty, or where the last piece
-    /// leaves the stated length unmet; nothing is held then any more.
+    /// Adds a piece to the image that is awaited. Returns `Dropped` exactly in these cases: the octets exceed the
+    /// stated length or the room; the piece is empty although more follow; or the last piece leaves the image
+    /// shorter than the stated length. Then nothing is held any more.
     pub fn add(&mut self, octets: &[u8], more: bool) -> Added
         requires { is_awaiting self.old.progress ≡ true }
         ensures answer { result ≡ answer_to self.old.room self.old.progress
@@ -81,7 +80,7 @@ impl DownloadSide {
         self.assembly.add(octets, more)
     }
 
-    /// The image of the finished download of this name. `None` comes exactly where none is held.
+    /// The image of the finished download of this name. `None` exactly if no such download is held.
     pub fn image(&self, kind: u8, number: u16) -> Option<&[u8]>
         ensures { option_map (λ octets. octets.now) result ≡ finished_image self.now kind number }
     {

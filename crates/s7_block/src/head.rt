@@ -1,25 +1,25 @@
-// The heads of blocks.
+//! The heads of blocks.
 ghost use Rattle.std.specs.Prelude.{◌≡◌, ◌+◌, ◌<◌, ◌≤◌, length};
 ghost use Rattle.s7_block.specs.Heads.{head_agrees, begins_head, is_of_block, head_of, spelling_of_head, db_head};
 ghost use Rattle.s7_block.specs.Heads.{two_at, four_at};
 
 use crate::kinds::head_code;
 
-/// How many octets a head has.
+/// The number of octets of a head.
 const HEAD_LEN: usize = 36;
 
-/// How many octets an image has at most.
+/// The greatest number of octets of an image.
 const MOST_OCTETS: usize = 65_536;
 
-/// Each head begins with this octet, twice.
+/// The octet with which each head begins, twice.
 const MARK: u8 = 0x70;
 
-/// The body length that stands for every greater one.
+/// The body length that is written for every greater one.
 const MOST_BODY: u32 = 65_535;
 
-/// The image has 36 to 65,536 octets, and its head is of this block: it begins `70 70`, its type and
-/// number are those of the block, its load length is the length of the image, and its body length is
-/// at most what stands behind the head.
+/// Whether the image has 36 to 65,536 octets and its head is that of this block: it begins `70 70`, its type and
+/// number are those of the block, its load length is the length of the image, and its body length is at most the
+/// number of octets after the head.
 #[tactic(auto, unfolding(crate::specs::Heads::head_agrees))]
 pub fn head_agrees(image: &[u8], kind: u8, number: u16) -> bool
     ensures { result ≡ head_agrees image.now kind number }
@@ -30,7 +30,7 @@ pub fn head_agrees(image: &[u8], kind: u8, number: u16) -> bool
     image[0] == MARK && image[1] == MARK && is_of_block(image, kind, number)
 }
 
-/// The head is of this block.
+/// Whether the head is that of this block.
 fn is_of_block(image: &[u8], kind: u8, number: u16) -> bool
     requires { 36 ≤ length image.now }
     ensures { result ≡ is_of_block (length image.now) kind number (head_of image.now) }
@@ -41,8 +41,8 @@ fn is_of_block(image: &[u8], kind: u8, number: u16) -> bool
         && usize::from(two_at(image, 34)) <= image.len() - HEAD_LEN
 }
 
-/// Writes the head that a data block of `len` octets has where it is an area: its load length is 36
-/// and `len`, and a body length above 65,535 is written as 65,535.
+/// Writes the head of a data block that is an area of `len` octets. Its load length is 36 plus `len`. Its body
+/// length is `len`, or 65,535 if `len` is greater.
 pub fn db_head(number: u16, len: u32, into: &mut [u8; 36])
     requires { len ≤ 16777216 }
     ensures { into.new ≡ spelling_of_head (db_head number len) }
@@ -61,7 +61,7 @@ pub fn db_head(number: u16, len: u32, into: &mut [u8; 36])
     into[35] = (body % 256) as u8;
 }
 
-/// The number in two octets from a place on.
+/// The number in the two octets from offset `at` on.
 fn two_at(octets: &[u8], at: usize) -> u16
     requires { at + 1 < length octets.now }
     ensures { result ≡ two_at octets.now at }
@@ -69,7 +69,7 @@ fn two_at(octets: &[u8], at: usize) -> u16
     u16::from(octets[at]) * 256 + u16::from(octets[at + 1])
 }
 
-/// The number in four octets from a place on.
+/// The number in the four octets from offset `at` on.
 fn four_at(octets: &[u8], at: usize) -> u32
     requires { at + 3 < length octets.now }
     ensures { result ≡ four_at octets.now at }

@@ -23,21 +23,21 @@ pub const FB: u8 = 0x45;
 /// System function blocks.
 pub const SFB: u8 = 0x46;
 
-/// Blocks of this kind are kept in a store: organization blocks, functions and function blocks.
+/// Whether a store keeps blocks of this kind: organization blocks, functions and function blocks.
 pub fn is_stored_kind(kind: u8) -> bool
     ensures { result ≡ is_stored_kind kind }
 {
     kind == OB || kind == FC || kind == FB
 }
 
-/// There are blocks of this kind.
+/// Whether there are blocks of this kind.
 pub fn is_kind(kind: u8) -> bool
     ensures { result ≡ is_some (head_code kind) }
 {
     head_code(kind).is_some()
 }
 
-/// What a head has for the kind. `None` comes exactly where there is no such kind.
+/// The code that a head has for the kind. `None` exactly if there is no such kind.
 pub(crate) fn head_code(kind: u8) -> Option<u8>
     ensures { result ≡ head_code kind }
 {

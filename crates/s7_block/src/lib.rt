@@ -1,5 +1,5 @@
-//! Blocks of a controller and their transfers: heads, names, a store of blocks, marks of
-//! their names, and the sides of an upload and of a download.
+//! Blocks of a controller and their transfers: heads, names, a store of blocks, names with numbers, and both sides
+//! of uploads and of downloads.
 #![tactic(auto)]
 
 mod assembly;

@@ -1,4 +1,4 @@
-// Names of blocks, each with a number or none.
+//! Names of blocks, each with or without a number.
 ghost use Rattle.std.specs.Prelude.{◌≡◌, ◌≤◌, ◌<◌, None, length, IfOk, IfErr};
 ghost use Rattle.s7_block.specs.Marks.{mark_at, with_mark, without_mark, unmarked};
 
@@ -8,11 +8,11 @@ use s7_outer::Memory;
 use std::alloc::Global;
 use std::marker::Model;
 
-/// The name of a block, with a number or none.
+/// The name of a block, with or without a number.
 pub type Mark = (BlockName, Option<u64>);
 
-/// Names of blocks, each with a number or none, in a place that is taken as a whole when they are made.
-/// Contracts see the marks in the order of the names, and how many there may be.
+/// Names of blocks, each with or without a number, in a vector that is allocated when they are made. Contracts see
+/// the marks in the order of the names, and the greatest number of marks.
 #[derive(Drop)]
 pub struct Marks {
     marks: Vec<Mark>,
@@ -34,8 +34,8 @@ impl Marks {
     ghost use Rattle.s7_block.specs.Marks.{IsMarkList};
     ghost use Rattle.s7_block.specs.StorePlaces.{IsAt, IsGapFor};
 
-    /// The names of a store's blocks, each without a number, and room for as many as the store may have,
-    /// which is taken here. `Memory` comes where there is none for it.
+    /// The names of a store's blocks, each without a number, with room for as many names as the store may have
+    /// blocks, allocated here. Returns `Memory` if the allocation fails.
     pub fn of(alloc: Global, blocks: &Blocks) -> Result<Marks, Memory>
         ensures marks { IfOk result (λ m. m.marks ≡ unmarked blocks.now.images) }
         ensures limit { IfOk result (λ m. m.limit ≡ blocks.now.limit) }
@@ -48,7 +48,7 @@ impl Marks {
         Ok(Marks { marks, limit })
     }
 
-    /// The marks in the order of the names, lent.
+    /// The marks in the order of the names, borrowed.
     pub fn as_slice(&self) -> &[Mark]
         ensures marks { result.now ≡ self.now.marks }
         ensures list { IsMarkList self.now }
@@ -56,7 +56,7 @@ impl Marks {
         self.marks.as_slice()
     }
 
-    /// How many marks there may be.
+    /// The greatest number of marks.
     pub fn limit(&self) -> usize
         ensures limit { result ≡ self.now.limit }
         ensures list { IsMarkList self.now }
@@ -64,8 +64,8 @@ impl Marks {
         self.limit
     }
 
-    /// Marks a name with a number, in place of what it was marked with. Needs a place for a name that is
-    /// new. No memory is taken.
+    /// Marks a name with a number, in place of an earlier mark. The caller ensures that there is room for a new
+    /// name. Nothing is allocated.
     pub fn put(&mut self, name: BlockName, number: u64)
         requires { mark_at self.old.marks name ≡ None → length self.old.marks < self.old.limit }
         ensures { self.new ≡ with_mark self.old name number }
@@ -80,7 +80,7 @@ impl Marks {
         }
     }
 
-    /// Takes a name out, where it is there.
+    /// Removes a name, if it is in the list.
     pub fn remove(&mut self, name: BlockName)
         ensures { self.new ≡ without_mark self.old name }
     {
@@ -92,7 +92,8 @@ impl Marks {
         }
     }
 
-    /// Takes over the marks of another list, for as many as which there is room. No memory is taken.
+    /// Copies the marks of another list. This list has room for as many names as the other may have. Nothing is
+    /// allocated.
     pub fn overwrite(&mut self, from: &Marks)
         requires { from.now.limit ≤ self.old.limit }
         ensures { self.new ≡ record self.old { marks = from.now.marks } }
@@ -104,7 +105,7 @@ impl Marks {
         }
     }
 
-    /// Where the name is, or where it would go.
+    /// The index of the name, or else the index at which it would be added.
     fn search(&self, name: BlockName) -> Result<usize, usize>
         ensures found { IfOk result (IsAt self.now.marks name) }
         ensures absent { IfErr result (IsGapFor self.now.marks name) }

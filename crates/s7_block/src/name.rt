@@ -1,17 +1,18 @@
-// Names of blocks in telegrams.
+//! Names of blocks in telegrams.
 ghost use Rattle.std.specs.Prelude.{◌≡◌, ◌≤◌, length};
 ghost use Rattle.s7_block.specs.Names.{digits, number_in, name_octets, named};
 
 use crate::block::BlockName;
 use crate::kinds::head_code;
 
-/// How many octets a name has: `30`, the kind, five digits and where the block is.
+/// The number of octets of a name: `30`, the kind, five digits of the number, and the block's location.
 pub const NAME: usize = 8;
 
-/// Each name begins with this octet.
+/// The octet with which each name begins.
 const MARK: u8 = 0x30;
 
-/// The number that decimal digits say, the high one first. `None` comes exactly where an octet is no digit.
+/// The number of these decimal digits, the high one first. `None` exactly if an octet isn't a digit. There are at
+/// most nine digits.
 pub fn read_digits(octets: &[u8]) -> Option<u32>
     requires { length octets.now ≤ 9 }
     ensures { result ≡ number_in octets.now }
@@ -26,8 +27,8 @@ pub fn read_digits(octets: &[u8]) -> Option<u32>
     Some(number)
 }
 
-/// Writes a number in decimal digits, as many as there are places, with zeros before it. Of a number with more digits
-/// its last ones are written.
+/// Writes a number in decimal digits to all of `into`, with leading zeros. If it has more digits than that, the
+/// last ones are written.
 pub fn write_digits(number: u32, into: &mut [u8])
     ensures { into.new ≡ digits (length into.old) number }
 {
@@ -38,8 +39,8 @@ pub fn write_digits(number: u32, into: &mut [u8])
     }
 }
 
-/// The block that octets name at this place. `None` comes exactly where they aren't the eight octets of such a name,
-/// where there is no such kind, or where the number is above 65,535.
+/// The block that the octets name, at the location `place`. `None` exactly if they aren't the eight octets of such
+/// a name, there is no such kind, or the number is above 65,535.
 pub fn read_name(octets: &[u8], place: u8) -> Option<BlockName>
     ensures { result ≡ named octets.now place }
 {
@@ -52,7 +53,7 @@ pub fn read_name(octets: &[u8], place: u8) -> Option<BlockName>
     Some(BlockName { kind, number })
 }
 
-/// Writes a block's name, with where it is.
+/// Writes a block's name with its location.
 pub fn write_name(name: BlockName, place: u8, into: &mut [u8; NAME])
     ensures { into.new ≡ name_octets name place }
 {

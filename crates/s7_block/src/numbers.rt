@@ -1,11 +1,12 @@
-// The numbers of the blocks of a kind.
+//! The numbers of the blocks of a kind.
 ghost use Rattle.std.specs.Iterator.{YieldsFirst, item_count};
 
 use crate::block::Block;
 use std::marker::Model;
 use std::slice::Iter;
 
-/// The numbers of the blocks of one kind, in ascending order. Contracts see those that are left.
+/// The numbers of the blocks of one kind, in ascending order, as an iterator. Contracts see the numbers that are
+/// left.
 #[derive(Drop)]
 pub struct Numbers<'a> {
     pub(crate) blocks: Iter<'a, Block>,

@@ -1,4 +1,4 @@
-// The server's side of an upload.
+//! The server's side of an upload.
 ghost use Rattle.std.specs.Prelude.{◌≡◌, ◌<◌, [], None, Some, IfOk, option_map, ⊤};
 ghost use Rattle.std.specs.Borrow.{sem, follows_so};
 ghost use mathlib.Core.Option.{none};
@@ -8,27 +8,28 @@ use std::alloc::Global;
 use std::marker::Model;
 use std::mem;
 
-/// A slice of an image: octets, and whether others follow them.
+/// A slice of an image: its octets, and whether further slices follow.
 #[derive(Clone, Copy, Debug, PartialEq, Eq)]
 pub struct Slice<'a> {
+    /// Whether further slices follow.
     pub more: bool,
+    /// The octets of the slice.
     pub octets: &'a [u8],
 }
 
-/// How far an upload has come.
+/// The state of an upload.
 #[derive(Clone, Copy)]
 enum Sending {
     /// No upload is held.
     Idle,
-    /// The next slice of this upload begins at this octet of the image.
+    /// The next slice of this upload begins at offset `at` of the image.
     Open { id: u8, at: usize },
     /// The last slice of this upload was given.
     Given { id: u8 },
 }
 
-/// The server's side of uploads, of which it holds one. It owns the image, so that slices stay the
-/// same whatever is done to what the image was made of. Contracts see the upload that is held, and
-/// the room for an image.
+/// The server's side of uploads. It holds at most one upload. It owns the image, so slices stay the same whatever
+/// happens to the block. Contracts see the upload that is held, and the room for an image.
 #[derive(Drop)]
 pub struct UploadSide {
     image: Buffer,
@@ -52,8 +53,8 @@ impl UploadSide {
     ghost use Rattle.s7_block.specs.Slices.{Piece};
     ghost use Rattle.s7_block.specs.contracts.upload.UploadSide.{the_row};
 
-    /// A side that holds no upload, with room for images of at most `room` octets, which is taken
-    /// here. `Memory` comes where there is none for it.
+    /// A side that holds no upload, with room for images of at most `room` octets, which is allocated here. Returns
+    /// `Memory` if the allocation fails.
     pub fn new(alloc: Global, room: usize) -> Result<UploadSide, Memory>
         ensures upload { IfOk result (λ side. side.upload ≡ None) }
         ensures room { IfOk result (λ side. side.room ≡ room) }
@@ -64,7 +65,7 @@ impl UploadSide {
         })
     }
 
-    /// Begins the upload of an image under an id, in place of the one that is held. The image is
+    /// Begins the upload of `image` with this id, in place of the upload that is held. The buffer of the image is
     /// exchanged for the side's own buffer, which comes out empty.
     pub fn begin(&mut self, image: &mut Buffer, id: u8)
         requires { image.old.room ≡ self.old.room }
@@ -78,13 +79,12 @@ impl UploadSide {
         self.sending = Sending::Open { id, at: 0 };
     }
 
-    /// Gives the next slice of the upload of this id: its next octets, at most `room` of them. An
-    /// empty image has one slice. `None` comes exactly where nothing is left: no upload of this id is
-    /// held, or its last slice was given.
+    /// Gives the next slice of the upload of this id: its next octets, at most `room` of them. An empty image has
+    /// one slice. `None` exactly if nothing is left: no upload of this id is held, or its last slice was given.
     pub fn slice(&mut self, id: u8, room: usize) -> Option<Slice<'_>>
         requires { 0 < room }
 
-        // What is lent keeps the side, whose value once the loan ends is that after the slice.
+        // The slice borrows the side, which is in the state after the slice once the borrow ends.
         ensures slice { option_map (λ s. record { more = s.more; octets = s.octets.now }) result
             ≡ slice_at self.old id room }
         ensures* after { sem 𝓛 (follows_so the_row the_row self.entry.ghost_name none (λ _ _. ⊤)
@@ -110,7 +110,7 @@ impl UploadSide {
         })
     }
 
-    /// Drops the upload of this id, and says whether one was held.
+    /// Drops the upload of this id, and returns whether one was held.
     pub fn end(&mut self, id: u8) -> bool
         ensures held { result ≡ is_held self.old.upload id }
         ensures after { self.new ≡ ended self.old id }

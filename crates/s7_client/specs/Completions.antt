@@ -1,4 +1,4 @@
--- What a completion was told.
+-- The notifications of a completion.
 use Rattle.std.specs.Prelude.{ℕ, ◌+◌, ◌-◌, ◌^◌, min, List, fold, Option, Some}
 use Rattle.s7_dialogue.specs.declared.job.Job.{Job}
 use Rattle.s7_dialogue.specs.declared.job.Job.TheVariants as job
@@ -8,7 +8,7 @@ use Rattle.s7_client.specs.declared.job.Polled.TheVariants as polled
 use Rattle.s7_client.specs.declared.client.Client.{Client}
 use Rattle.s7_client.specs.declared.connection.Connection.{Connection}
 
--- how often, held at 2^64 - 1, and the number of the last job with its code
+-- the number of notifications, which stays at 2^64 - 1, and the number and the code of the last job
 pub record Told : Type 0 where
   pub calls : ℕ
   pub last : Option (ℕ × ℕ)
@@ -44,15 +44,15 @@ op_of (job.DbGet number) = 23
 op_of (job.DbFill number value) = 24
 op_of job.Disconnect = 25
 
--- after a result
+-- after the notification of a result
 abbrev pub told_of_result : Told → JobResult → Told
 told_of_result t result = told_one t (op_of result.job) result.code
 
--- after these results, in order
+-- after the notifications of these results, in order
 abbrev pub told_of_results : Told → List JobResult → Told
 told_of_results t results = fold told_of_result t results
 
--- after a poll
+-- after a poll: there is one more notification if the job is done
 abbrev pub told_by : Polled → Told → Told
 told_by (polled.Done result) t = told_of_result t result
 told_by polled.Pending t = t
@@ -60,10 +60,10 @@ told_by polled.Idle t = t
 
 -- ---- a client
 
--- its link and its job
+-- the connection of a client
 abbrev pub connection_of : {C : Type 0} → Client C → Connection
 connection_of client = client.connection
 
--- who is told, where there is one
+-- the completion of a client, if it has one
 abbrev pub completion_of : {C : Type 0} → Client C → Option C
 completion_of client = client.done

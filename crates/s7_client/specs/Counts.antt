@@ -1,5 +1,5 @@
--- How often the calls of a client met a link that failed, or that had nothing to give, or no room, yet, and whether they
--- met the end of its stream.
+-- How the counts of a link change in the calls of a client: how often the link failed, how often it wasn't ready,
+-- and whether its stream ended.
 use Rattle.std.specs.Prelude.{◌≡◌, ◌⊎◌, ℕ, ◌<◌}
 use Rattle.s7_outer.specs.Shown.{Shown}
 use Rattle.s7_outer.specs.Count.{RoseExactly}
@@ -7,36 +7,37 @@ use Rattle.s7_dialogue.specs.Codes.{link_ended, send_failed, receive_failed, tim
 use Rattle.s7_client.specs.declared.job.Polled.{Polled}
 use Rattle.s7_client.specs.declared.job.Polled.TheVariants as polled
 
--- Neither count rose, and no end came.
+-- No count rose, and the stream didn't end.
 abbrev pub MetNothing : Shown → Shown → Type 0
 MetNothing link link' =
     (link'.faults ≡ link.faults) × (link'.waits ≡ link.waits) × (link'.has_ended ≡ link.has_ended)
 
--- The link had nothing to give, or no room, once; it didn't fail, and no end came.
+-- The link wasn't ready once; it didn't fail, and its stream didn't end.
 abbrev pub MetNotYetOnce : Shown → Shown → Type 0
 MetNotYetOnce link link' =
     (link'.faults ≡ link.faults) × RoseExactly 1 link.waits link'.waits × (link'.has_ended ≡ link.has_ended)
 
--- The link failed once, which one of two codes tells, or it didn't: no failure is passed over or tried again.
+-- The link failed once, and the code is one of the two for that; or it didn't fail. So no failure is ignored, and
+-- no failed call is tried again.
 abbrev pub FailedAsTold : ℕ → Shown → Shown → Type 0
 FailedAsTold code link link' =
     (link'.faults ≡ link.faults)
     ⊎ (RoseExactly 1 link.faults link'.faults × ((code ≡ send_failed) ⊎ (code ≡ receive_failed)))
 
--- The end of the stream came only where a code tells it.
+-- The stream ended only if the code is the one for that.
 abbrev pub EndedAsTold : ℕ → Shown → Shown → Type 0
 EndedAsTold code link link' = (link'.has_ended ≡ link.has_ended) ⊎ (code ≡ link_ended)
 
--- Neither a failure nor an end is passed over.
+-- No failure and no end is ignored.
 abbrev pub MetAsTold : ℕ → Shown → Shown → Type 0
 MetAsTold code link link' = FailedAsTold code link link' × EndedAsTold code link link'
 
--- The link had nothing to give, or no room, fewer times than this, or as often, which a code tells.
+-- The link wasn't ready fewer than `most` times; or it was that often, and the code is the one for that.
 abbrev pub WaitedAsTold : ℕ → ℕ → Shown → Shown → Type 0
 WaitedAsTold most code link link' =
     (times : ℕ) × RoseExactly times link.waits link'.waits × ((times < most) ⊎ ((times ≡ most) × (code ≡ timed_out)))
 
--- What the link tells of a poll.
+-- How the counts of the link change in a poll, by its result.
 abbrev pub CountsPoll : Polled → Shown → Shown → Type 0
 CountsPoll (polled.Done result) link link' = MetAsTold result.code link link' × WaitedAsTold 1 result.code link link'
 CountsPoll polled.Pending link link' = MetNotYetOnce link link'

@@ -1,15 +1,15 @@
--- The order of what a poll does on its link.
+-- The order of the deeds of a poll on its link.
 use Rattle.std.specs.Prelude.{◌≡◌, ℕ, ◌<◌, List, [], ◌∷◌, ◌++◌, length}
 use Rattle.s7_dialogue.specs.Course.{Origin, Awaits, for_confirm, for_answers, for_departure, for_nothing, course, may_send}
 
--- octets are awaited
+-- the job awaits octets
 abbrev pub AwaitsOctets : Awaits → Type 0
 AwaitsOctets for_confirm = Unit {0}
 AwaitsOctets for_answers = Unit {0}
 AwaitsOctets for_departure = ⊥
 AwaitsOctets (for_nothing end carried) = ⊥
 
--- one thing that a poll did
+-- one deed of a poll
 pub data Deed : Type 0 where
   transmits : (octets : List ℕ) → Deed
   uses : (octets : List ℕ) → Deed
@@ -33,8 +33,8 @@ received_in (transmits octets ∷ deeds) = received_in deeds
 received_in (uses octets ∷ deeds) = received_in deeds
 received_in (receives octets ∷ deeds) = octets ++ received_in deeds
 
--- A job that used b and transmitted w did these, with kept octets unused: octets are used only where all was sent that
--- may be, and received only where none is unused besides and octets are awaited.
+-- A job that used b and transmitted w did these deeds, while it kept octets unused. It used octets only if all that
+-- might be sent was sent. It received octets only if also none was unused and octets were awaited.
 abbrev pub AreInOrder : Origin → List ℕ → List ℕ → List ℕ → List Deed → Type 0
 AreInOrder origin kept b w [] = Unit {0}
 AreInOrder origin kept b w (transmits octets ∷ deeds) =

@@ -23,18 +23,18 @@ use Rattle.s7_client.specs.At.{LeavesOpen, IsReading, IsClear, joiner_in, size_i
 use Rattle.s7_client.specs.Counts.{MetNotYetOnce, MetAsTold, WaitedAsTold, CountsPoll}
 use Rattle.s7_client.specs.Standing.{Stands, Fits, IsBetween, Moves, IsOrderly, HasCause, HasMetNotYet, IsUnderWay, IsFault, unread, unsent}
 
--- the job that is outstanding
+-- the job that is outstanding, if there is one
 abbrev pub job_of : Connection → Option Job
 job_of c = option_map (λ (u : UnderWay). u.running.job) c.job
 
--- how many of its polls met a link that had nothing to give, or no room
+-- the number of its polls in which the link wasn't ready
 abbrev pub waited_of : Connection → Option ℕ
 waited_of c = option_map (λ (u : UnderWay). u.waited) c.job
 
 abbrev pub config_of : Connection → Config
 config_of c = c.config
 
--- what was granted, and nothing on a client that isn't connected
+-- what was granted; `None` on a client that isn't connected
 abbrev pub grant_of : Connection → Option Grant
 grant_of c = c.granted
 
@@ -51,11 +51,11 @@ tpdu_size_of c = size_in c.channel.talk
 abbrev pub sequence_of : Connection → ℕ
 sequence_of c = c.channel.talk.sequence
 
--- the octets that were read and not used
+-- the octets that were received and not used yet
 abbrev pub unread_of : Connection → List ℕ
 unread_of c = unread c.channel
 
--- where a job starts on a client
+-- the start of a job on this client
 abbrev pub origin_at : Connection → Job → Origin
 origin_at c job = record {
   job = job;
@@ -65,7 +65,7 @@ origin_at c job = record {
   sequence = sequence_of c;
 }
 
--- The client stands for the octets that its job has used and those that it has transmitted, since it started there.
+-- The job of the client started there, and has used and transmitted these octets since then.
 pub record StandsFor (c : Connection) (origin : Origin) (b written : List ℕ) : Type 0 where
   pub under_way : UnderWay
   pub is : c.job ≡ Some under_way
@@ -85,8 +85,8 @@ pub record IsFresh (c : Connection) (asked : Config) : Type 0 where
 
 -- ---- starting
 
--- The job was started: it has used and transmitted nothing. What was read before and not used is still there, but for
--- a link that begins anew.
+-- The job was started, and has used and transmitted nothing. Octets that were received before and not used are
+-- kept, unless the link begins anew.
 pub record IsStarted (old new : Connection) (job : Job) : Type 0 where
   pub stands : StandsFor new (origin_at old job) [] []
   pub waited : waited_of new ≡ Some 0
@@ -104,14 +104,14 @@ grant_after (leaving.Connected now) granted = Some now
 grant_after leaving.Disconnected granted = None
 grant_after leaving.Closed granted = None
 
--- whether the client is closed after it
+-- whether the client is closed after an end
 abbrev pub closed_after : Leaves → Bool → Bool
 closed_after leaving.AsItWas closed = closed
 closed_after (leaving.Connected now) closed = false
 closed_after leaving.Disconnected closed = closed
 closed_after leaving.Closed closed = true
 
--- the job met a link that had nothing to give, or no room, as often as it may
+-- the job timed out: the link wasn't ready in as many of its polls as allowed
 pub record IsByPatience (origin : Origin) (link link' : Shown) (kept : List ℕ) (end : End) (carried b written : List ℕ)
     (waited : Option ℕ) : Type 0 where
   pub last : waited ≡ Some (origin.config.polls - 1)
@@ -120,13 +120,13 @@ pub record IsByPatience (origin : Origin) (link link' : Shown) (kept : List ℕ)
   pub under_way : IsUnderWay origin b written
   pub fault : IsFault timed_out end carried
 
--- why a job is done
+-- the cause for which a job is done
 abbrev pub IsDoneBy : Origin → Shown → Shown → List ℕ → End → List ℕ → List ℕ → List ℕ → Option ℕ → Type 0
 IsDoneBy origin link link' kept end carried b written waited =
     HasCause origin link link' kept end carried b written
     ⊎ IsByPatience origin link link' kept end carried b written waited
 
--- how a job that started there and has used and transmitted these octets is done
+-- the result of a job that started there, and has used and transmitted these octets
 pub record IsDone (origin : Origin) (link link' : Shown) (old new : Connection) (told : JobResult)
     (b written : List ℕ) : Type 0 where
   pub end : End
@@ -135,16 +135,16 @@ pub record IsDone (origin : Origin) (link link' : Shown) (old new : Connection) 
   pub granted : grant_of new ≡ grant_after end.leaves (grant_of old)
   pub closed : closed_of new ≡ closed_after end.leaves (closed_of old)
   pub cause : IsDoneBy origin link link' (unread_of new) end carried b written (waited_of old)
-  -- where the next job starts
+  -- the start of the next job follows from these
   pub size : tpdu_size_of new ≡ (course origin b).size
   pub sequence : sequence_of new ≡ (course origin b).sequence
 
--- the job goes on
+-- the job isn't done, and has used and transmitted these octets
 pub record IsPending (origin : Origin) (link' : Shown) (new : Connection) (b written : List ℕ) : Type 0 where
   pub stands : StandsFor new origin b written
   pub met : HasMetNotYet origin (unread_of new) link' b written
 
--- the job met one more poll in which the link had nothing to give, or no room
+-- the link wasn't ready in one more poll of the job
 abbrev pub WaitsOnce : Option ℕ → Option ℕ → ℕ → Type 0
 WaitsOnce (Some before) (Some now) polls = (now ≡ before + 1) × (now < polls)
 WaitsOnce None (Some now) polls = ⊥
@@ -157,7 +157,7 @@ pub record Pends (old new : Connection) (link link' : Shown) : Type 0 where
   pub granted : grant_of new ≡ grant_of old
   pub closed : closed_of new ≡ closed_of old
 
--- what a poll comes to, by the octets that it used and transmitted
+-- what a poll amounts to, by the octets that it used and transmitted
 abbrev pub Comes : Connection → Shown → Connection → Shown → List ℕ → List ℕ → Polled → Type 0
 Comes old link new link' used written (polled.Done result) =
     (IsSome (job_of old)) × (job_of new ≡ None)
@@ -172,18 +172,18 @@ Comes old link new link' used written polled.Idle =
 
 pub record IsPoll (old : Connection) (link : Shown) (new : Connection) (link' : Shown) (result : Polled) : Type 0 where
   pub moves : Moves (unread_of old) link (unread_of new) link'
-  -- what it moved falls into deeds in order: octets were used only where all was sent, and received only where none was
-  -- unused
+  -- what the poll moved consists of deeds in order: octets were used only if all was sent, and received only if
+  -- none was unused
   pub orderly : (origin : Origin) (b w : List ℕ) → StandsFor old origin b w
       → IsOrderly origin (unread_of old) b w moves
   pub config : config_of new ≡ config_of old
-  -- the link was called on only until it failed, or had nothing to give, or no room, or its stream had ended
+  -- the poll made no further call of the link after it failed, wasn't ready, or its stream had ended
   pub counts : CountsPoll result link link'
   pub comes : Comes old link new link' moves.used moves.written result
 
--- ---- the channel
+-- ---- the client's side of the link
 
--- a link that nothing moved on
+-- a link on which nothing was sent or received
 pub record IsNew (l : Channel) : Type 0 where
   pub reads : IsReading l.talk.reader
   pub size : size_at l.talk.reader ≡ None
@@ -195,7 +195,7 @@ pub record IsNew (l : Channel) : Type 0 where
 
 -- ---- the parts of a poll
 
--- a poll met not yet, and the job goes on or has met it too often
+-- the link wasn't ready in a poll: the job goes on, or has timed out
 pub record Waits (u u' : UnderWay) (polls : ℕ) (goes_on : Bool) : Type 0 where
   pub same : goes_on ≡ true → u' ≡ record u { waited = u.waited + 1 }
   pub patient : goes_on ≡ true → u.waited + 1 < polls
@@ -205,7 +205,7 @@ pub record Waits (u u' : UnderWay) (polls : ℕ) (goes_on : Bool) : Type 0 where
   pub job : u'.running.job ≡ u.running.job
   pub carried : u'.carried ≡ u.carried
 
--- the job goes on after a round of steps
+-- the job goes on after this round of steps
 pub record RoundGoesOn (l : Channel) (u : UnderWay) (link : Shown) (l' : Channel) (u' : UnderWay) (link' : Shown)
     (config : Config) (granted : Option Grant) : Type 0 where
   pub moves : Moves (unread l) link (unread l') link'
@@ -221,7 +221,7 @@ pub record RoundGoesOn (l : Channel) (u : UnderWay) (link : Shown) (l' : Channel
       → Stands origin l' u' (b ++ moves.used) (w ++ moves.written)
       × HasMetNotYet origin (unread l') link' (b ++ moves.used) (w ++ moves.written)
 
--- how a job is over
+-- how a job ended
 pub record EndsBy (origin : Origin) (link link' : Shown) (l : Channel) (u : UnderWay) (b written : List ℕ)
     (waited : ℕ) : Type 0 where
   pub end : End
@@ -233,7 +233,7 @@ pub record EndsBy (origin : Origin) (link link' : Shown) (l : Channel) (u : Unde
   pub job : u.running.job ≡ origin.job
   pub cause : IsDoneBy origin link link' (unread l) end carried b written (Some waited)
 
--- the job is over after it
+-- the job is over after this round of steps
 pub record RoundEnds (l : Channel) (u : UnderWay) (link : Shown) (l' : Channel) (u' : UnderWay) (link' : Shown)
     (config : Config) (granted : Option Grant) : Type 0 where
   pub moves : Moves (unread l) link (unread l') link'
@@ -252,7 +252,7 @@ abbrev pub Round : Channel → UnderWay → Shown → Channel → UnderWay → S
 Round l u link l' u' link' config granted true = RoundGoesOn l u link l' u' link' config granted
 Round l u link l' u' link' config granted false = RoundEnds l u link l' u' link' config granted
 
--- a job of which nothing came yet
+-- a job that has read nothing yet
 pub record IsBlank (u : UnderWay) : Type 0 where
   pub carried : u.carried.octets ≡ []
   pub room : u.carried.room ≡ 8192

@@ -17,15 +17,15 @@ use Rattle.s7_client.specs.Counts.{FailedAsTold, EndedAsTold, WaitedAsTold}
 use Rattle.s7_client.specs.Standing.{Moves, IsOrderly, HasCause, HasMetNotYet, IsUnderWay, IsFault}
 use Rattle.s7_client.specs.Polling.{StandsFor, grant_of, closed_of, tpdu_size_of, sequence_of, unread_of, config_of, waited_of, job_of, grant_after, closed_after}
 
--- what a client has between two jobs
+-- the state of a client between two jobs
 pub record Between : Type 0 where
-  -- what was granted, and nothing on a client that isn't connected
+  -- what was granted; `None` on a client that isn't connected
   pub granted : Option Grant
   pub is_closed : Bool
   -- the TPDU size of its link, and the sequence of the last numbered telegram on it
   pub size : ℕ
   pub sequence : ℕ
-  -- the octets that were read and not used
+  -- the octets that were received and not used yet
   pub unread : List ℕ
 
 abbrev pub between_of : Connection → Between
@@ -37,7 +37,7 @@ between_of c = record {
   unread = unread_of c;
 }
 
--- what a client has before its first job
+-- the state of a client before its first job
 abbrev pub fresh : Between
 fresh = record { granted = None; is_closed = false; size = size_of_code asked_size_code; sequence = 0; unread = [] }
 
@@ -51,11 +51,11 @@ origin_from config before job = record {
   sequence = before.sequence;
 }
 
--- what was read before and not used, but for a link that begins anew
+-- the octets that were received before and not used, unless the link begins anew
 abbrev pub unread_at : Between → Job → List ℕ
 unread_at before job = if begins_anew before.granted job then [] else before.unread
 
--- the job met a link that had nothing to give, or no room, in as many polls as it may
+-- the job timed out: the link wasn't ready in as many polls as allowed
 pub record IsTired (origin : Origin) (link link' : Shown) (kept : List ℕ) (end : End)
     (carried b written : List ℕ) : Type 0 where
   pub rose : RoseExactly origin.config.polls link.waits link'.waits
@@ -67,17 +67,17 @@ pub record IsTired (origin : Origin) (link link' : Shown) (kept : List ℕ) (end
 pub record JobRun (config : Config) (before : Between) (asked : Job) (link link' : Shown) (told : JobResult)
     (after : Between) : Type 0 where
   pub moves : Moves (unread_at before asked) link after.unread link'
-  -- what it moved falls into deeds in order: octets were used only where all was sent, and received only where none was
-  -- unused
+  -- what the job moved consists of deeds in order: octets were used only if all was sent, and received only if none
+  -- was unused
   pub orderly : IsOrderly (origin_from config before asked) (unread_at before asked) [] [] moves
-  -- no failure and no end was passed over, and none of its polls went on behind one that had nothing to give, or no room
+  -- no failure and no end was ignored, and no poll went on after a call that found the link not ready
   pub faults : FailedAsTold told.code link link'
   pub ended : EndedAsTold told.code link link'
   pub waits : WaitedAsTold config.polls told.code link link'
   pub end : End
   pub carried : List ℕ
   pub result : IsResult told asked end carried
-  -- what it gives, by what was asked
+  -- the form of the result, by the kind of job
   pub form : HasForm asked end
   pub whole : IsWhole asked end
   pub cause : HasCause (origin_from config before asked) link link' after.unread end carried moves.used moves.written
@@ -90,7 +90,7 @@ pub record JobRun (config : Config) (before : Between) (asked : Job) (link link'
 
 -- ---- the parts of it
 
--- polls that left the job outstanding
+-- polls after which the job is still outstanding
 pub record StillWaits (old : Connection) (link : Shown) (c : Connection) (link' : Shown) : Type 0 where
   pub moves : Moves (unread_of old) link (unread_of c) link'
   pub orderly : (origin : Origin) (b w : List ℕ) → StandsFor old origin b w
@@ -107,7 +107,7 @@ pub record StillWaits (old : Connection) (link : Shown) (c : Connection) (link' 
   pub stood : (origin : Origin) (b w : List ℕ) → StandsFor old origin b w
       → StandsFor c origin (b ++ moves.used) (w ++ moves.written)
 
--- how a job is done, since the client stood for these octets
+-- the result of a job, which had used and transmitted these octets before
 pub record IsOverNow (origin : Origin) (link link' : Shown) (old new : Connection) (told : JobResult)
     (b written : List ℕ) : Type 0 where
   pub end : End
@@ -120,7 +120,7 @@ pub record IsOverNow (origin : Origin) (link link' : Shown) (old new : Connectio
   pub size : tpdu_size_of new ≡ (course origin b).size
   pub sequence : sequence_of new ≡ (course origin b).sequence
 
--- polls up to the one that was done
+-- polls up to the one in which the job is done
 pub record Completes (old : Connection) (link : Shown) (new : Connection) (link' : Shown) (told : JobResult) : Type 0 where
   pub moves : Moves (unread_of old) link (unread_of new) link'
   pub orderly : (origin : Origin) (b w : List ℕ) → StandsFor old origin b w

@@ -1,4 +1,4 @@
--- What a client stands for while a job is under way, and what its polls do.
+-- The octets that a client's job has used and transmitted, what the client holds for them, and what its polls do.
 use Rattle.std.specs.Prelude.{◌≡◌, ◌⊎◌, ℕ, ◌+◌, ◌-◌, ◌*◌, ◌<◌, ◌≤◌, List, [], ◌++◌, length, Option, None, Some, IsSome, option_map, IsTrue}
 use Rattle.std.specs.Io.KnownBytes.{prepend_known, append_known, IsAtEnd}
 use Rattle.s7_outer.specs.Shown.{Shown}
@@ -36,13 +36,13 @@ abbrev pub SentFirst : Origin → List ℕ → List ℕ → Type 0
 SentFirst origin b written =
     (front rest : List ℕ) → b ≡ front ++ rest → 0 < length rest → IsPrefixOf (may_send origin front) written
 
--- each octet was used where octets were awaited, and so none behind those that ended the job
+-- each octet was used while octets were awaited; so none was used after those that ended the job
 abbrev pub AllAwaited : Origin → List ℕ → Type 0
 AllAwaited origin b =
     (front rest : List ℕ) → b ≡ front ++ rest → 0 < length rest → AwaitsOctets (course origin front).awaits
 
--- The client stands for the octets that its job has used and those that it has transmitted: it stands at their place
--- of the course, and what is still to be sent is what may be sent beyond what was transmitted.
+-- The client's job has used and transmitted these octets: the client is at the position of the course after them,
+-- and what is still to be sent is what may be sent beyond what was transmitted.
 pub record Stands (origin : Origin) (l : Channel) (u : UnderWay) (b written : List ℕ) : Type 0 where
   pub at : IsAt origin (course origin b) l.talk u
   pub owed : may_send origin b ≡ written ++ pending origin.config l.talk u.running
@@ -58,10 +58,10 @@ pub record IsBetween (l : Channel) : Type 0 where
   pub clear : IsClear (joiner_in l.talk)
   pub sent : unsent l ≡ []
 
--- what holds of a channel and its job, whatever the course
+-- what is true of a channel and its job, whatever the course is
 pub record Fits (l : Channel) (u : UnderWay) : Type 0 where
   pub reads : (IsOver u.running.stage → ⊥) → IsReading l.talk.reader
-  -- the confirm has come, but where it is awaited
+  -- the confirm has come, unless it is awaited
   pub unsized : IsOpening u.running.stage → size_at l.talk.reader ≡ None
   pub sized : (IsOver u.running.stage → ⊥) → (IsOpening u.running.stage → ⊥) → IsSome (size_at l.talk.reader)
   pub opening : IsOpening u.running.stage → IsClear (joiner_in l.talk)
@@ -71,9 +71,9 @@ pub record Fits (l : Channel) (u : UnderWay) : Type 0 where
   pub quiet : IsOver u.running.stage → unsent l ≡ []
   pub carried : u.carried.room ≡ 8192
 
--- ---- why a job ends, with which end and which message that was no answer
+-- ---- the causes of an end: which end, and which message that is no answer
 
--- the octets used end it: every telegram was transmitted
+-- the octets used end the job, and every telegram was transmitted
 pub record IsByOctets (origin : Origin) (end : End) (carried b written : List ℕ) : Type 0 where
   pub over : (course origin b).awaits ≡ for_nothing end carried
   pub sent : written ≡ may_send origin b
@@ -87,17 +87,17 @@ pub record IsByDeparture (origin : Origin) (end : End) (carried b written : List
   pub sent : written ≡ may_send origin b
   pub all_awaited : AllAwaited origin b
 
--- all was sent, nothing that was read is unused, and octets are awaited
+-- all was sent, no received octet is unused, and octets are awaited
 pub record IsWaiting (origin : Origin) (kept b written : List ℕ) : Type 0 where
   pub awaits : AwaitsOctets (course origin b).awaits
   pub sent : written ≡ may_send origin b
   pub none : kept ≡ []
 
--- a fault that no message carries
+-- an end with this error number, without a message
 abbrev pub IsFault : ℕ → End → List ℕ → Type 0
 IsFault code end carried = (end ≡ fault_end code) × (carried ≡ [])
 
--- the link ended where octets were awaited
+-- the stream ended while octets were awaited
 pub record IsByEnd (origin : Origin) (link' : Shown) (kept : List ℕ) (end : End)
     (carried b written : List ℕ) : Type 0 where
   pub waiting : IsWaiting origin kept b written
@@ -122,7 +122,7 @@ pub record IsBySend (origin : Origin) (link link' : Shown) (end : End) (carried 
   pub rose : Rose link.faults link'.faults
   pub fault : IsFault send_failed end carried
 
--- of these, by the octets that were read and are kept unused
+-- one of these causes; `kept` are the octets that were received and are unused
 abbrev pub HasCause : Origin → Shown → Shown → List ℕ → End → List ℕ → List ℕ → List ℕ → Type 0
 HasCause origin link link' kept end carried b written =
     IsByOctets origin end carried b written
@@ -131,13 +131,13 @@ HasCause origin link link' kept end carried b written =
     ⊎ IsByReceive origin link link' kept end carried b written
     ⊎ IsBySend origin link link' end carried b written
 
--- the job is over, and that has its cause
+-- the job is over, and its end has its cause
 pub record HasEnded (origin : Origin) (link link' : Shown) (l : Channel) (u : UnderWay) (b written : List ℕ) : Type 0 where
   pub end : End
   pub carried : List ℕ
   pub ends_as : awaited_in u.running [] ≡ for_nothing end []
   pub carries : u.carried.octets ≡ carried
-  -- what the link has of it
+  -- the job, and what remains of its link
   pub job : u.running.job ≡ origin.job
   pub size : size_in l.talk ≡ (course origin b).size
   pub sequence : l.talk.sequence ≡ (course origin b).sequence
@@ -145,9 +145,9 @@ pub record HasEnded (origin : Origin) (link link' : Shown) (l : Channel) (u : Un
 
 -- ---- steps of a poll
 
--- What steps did to a link, and to the octets that were read and are kept unused, however many they were.
+-- What steps did to a link, and to the octets that were received and are unused, whatever the number of steps.
 pub record Moves (kept : List ℕ) (link : Shown) (kept' : List ℕ) (link' : Shown) : Type 0 where
-  -- the octets that came, those that were used and those that were written
+  -- the octets that were received, used and transmitted
   pub received : List ℕ
   pub used : List ℕ
   pub written : List ℕ
@@ -163,7 +163,8 @@ pub record Moves (kept : List ℕ) (link : Shown) (kept' : List ℕ) (link' : Sh
   pub shut : link'.shut ≡ link.shut
   pub space : link'.space ≡ option_map (λ space. space - length written) link.space
 
--- What they moved falls into deeds that come in order, where a job that used b and transmitted w kept octets unused.
+-- What the steps moved consists of deeds in order, for a job that had used b and transmitted w, and kept octets
+-- unused.
 pub record IsOrderly (origin : Origin) (kept b w : List ℕ) {link : Shown} {kept' : List ℕ} {link' : Shown}
     (moves : Moves kept link kept' link') : Type 0 where
   pub deeds : List Deed
@@ -172,16 +173,16 @@ pub record IsOrderly (origin : Origin) (kept b w : List ℕ) {link : Shown} {kep
   pub received : received_in deeds ≡ moves.received
   pub order : AreInOrder origin kept b w deeds
 
--- The job has met not yet: where the link tells its space, there is none for what is still to be sent, or nothing is
--- left on it.
+-- The link wasn't ready for the job: if it shows its space, there is none for what is still to be sent, or nothing
+-- is left to receive.
 pub record HasMetNotYet (origin : Origin) (kept : List ℕ) (link : Shown) (b written : List ℕ) : Type 0 where
   pub full : (rest : List ℕ) (space : ℕ) → may_send origin b ≡ written ++ rest → 0 < length rest
       → link.space ≡ Some space → space ≡ 0
   pub empty : (space : ℕ) → may_send origin b ≡ written → link.space ≡ Some space → link.left ≡ Some []
-  -- where all was sent, octets are awaited and none is unused
+  -- if all was sent, octets are awaited and none is unused
   pub waiting : may_send origin b ≡ written → IsWaiting origin kept b written
 
--- The job isn't over there: what was transmitted is a front of what may be sent, and no answer was used before its
+-- The job isn't over: what was transmitted is a prefix of what may be sent, and no answer was used before its
 -- telegram was transmitted.
 pub record IsUnderWay (origin : Origin) (b written : List ℕ) : Type 0 where
   pub owed : IsPrefixOf written (may_send origin b)
@@ -189,24 +190,25 @@ pub record IsUnderWay (origin : Origin) (b written : List ℕ) : Type 0 where
   pub all_awaited : AllAwaited origin b
   pub goes_on : (end : End) (carried : List ℕ) → (course origin b).awaits ≡ for_nothing end carried → ⊥
 
--- how much a job can still do: octets to use, and then octets to send, which are fewer than 16,384 behind a packet
+-- an upper bound of what a job can still do: octets to use, and then octets to send, which are fewer than 16,384
+-- after a packet
 abbrev pub work : Config → Channel → UnderWay → ℕ
 work config l u =
     budget u.running.stage (joiner_in l.talk).count (length (held_by l.talk.reader)) * 16384
     + length (pending config l.talk u.running)
 
--- what the faults of a link and the end of its stream tell of how a job is over, by its end
+-- the faults of the link and the end of its stream are those that the end of the job states
 abbrev pub EndsAsTold : Running → Shown → Shown → Type 0
 EndsAsTold r link link' =
     (end : End) → awaited_in r [] ≡ for_nothing end [] → MetAsTold end.code link link'
 
--- what the counts of a link tell of a step: it was called once at the most
+-- how the counts of the link change in a step, which calls the link at most once
 abbrev pub CountsStep : Step → Running → Shown → Shown → Type 0
 CountsStep step.Went r link link' = MetNothing link link'
 CountsStep step.NotYet r link link' = MetNotYetOnce link link'
 CountsStep step.Over r link link' = (link'.waits ≡ link.waits) × EndsAsTold r link link'
 
--- what one step comes to
+-- what one step amounts to
 pub record IsStep (l : Channel) (u : UnderWay) (link : Shown) (l' : Channel) (u' : UnderWay) (link' : Shown)
     (config : Config) (granted : Option Grant) (result : Step) : Type 0 where
   pub moves : Moves (unread l) link (unread l') link'
@@ -227,7 +229,7 @@ pub record IsStep (l : Channel) (u : UnderWay) (link : Shown) (l' : Channel) (u'
       → Stands origin l u b w
       → result ≡ step.Over → HasEnded origin link link' l' u' (b ++ moves.used) (w ++ moves.written)
 
--- what using octets that were received does, up to the end of one packet
+-- what is done when octets that were received are used, up to the end of one packet
 pub record Consumes (l : Channel) (u : UnderWay) (l' : Channel) (u' : UnderWay) (config : Config)
     (granted : Option Grant) : Type 0 where
   pub used : List ℕ

@@ -1,4 +1,4 @@
-// What a client has of its link, and the steps of a poll.
+//! The client's side of its link, and the steps of a poll.
 ghost use Rattle.std.specs.Prelude.{◌≡◌, ℕ, ◌<◌, ◌≤◌, [], length, is_none, IfSome, IfOk};
 ghost use Rattle.s7_header.specs.Negotiation.{most_pdu};
 ghost use Rattle.s7_dialogue.specs.Running.{unput_of, IsEnding};
@@ -17,26 +17,28 @@ use s7_outer::{Buffer, Got, Link, Memory, Sent};
 use s7_wire::{Found, Inbox, Opening, Outbox, PIECE, ReadFault, Reader};
 use std::alloc::Global;
 
-/// The octets that were received and not used, and the messages.
+/// The octets that were received and not used yet, and the messages of the link.
 #[derive(Drop)]
 pub(crate) struct Channel {
+    /// The octets that were received and not used yet.
     pub(crate) inbox: Inbox,
+    /// The messages of the link.
     pub(crate) talk: Talk,
 }
 
-// What one step comes to.
+/// The outcome of one step.
 #[derive(Clone, Copy, Debug, PartialEq, Eq)]
 enum Step {
-    /// It moved octets or used some.
+    /// The step moved octets or used some.
     Went,
-    /// The link had nothing to give, or no room, yet.
+    /// The link wasn't ready.
     NotYet,
     /// The job is over.
     Over,
 }
 
 impl Channel {
-    /// A link that nothing moved on. `Memory` comes where there is none for its buffers.
+    /// A link on which nothing was sent or received. Returns `Memory` if the allocation of its buffers fails.
     pub(crate) fn new(alloc: Global) -> Result<Channel, Memory>
         ensures { IfOk result IsNew }
     {
@@ -51,8 +53,7 @@ impl Channel {
         })
     }
 
-    /// Goes on with a job until the link has nothing to give, or no room, or the job is over. Says how it is over, where
-    /// it is.
+    /// Goes on with a job until the link isn't ready or the job is over. Returns how it ended, if it is over.
     pub(crate) fn round<L: Link>(
         &mut self,
         job: &mut UnderWay,
@@ -77,8 +78,8 @@ impl Channel {
         }
     }
 
-    // Sends what may go out, or else uses octets that were received, or else receives and uses some, up to
-    // the end of one packet.
+    /// Sends what may be sent. If all was sent, uses octets that were received; if all were used, receives some.
+    /// Octets are used up to the end of one packet.
     fn step<L: Link>(
         &mut self,
         job: &mut UnderWay,
@@ -116,7 +117,7 @@ impl Channel {
         }
     }
 
-    // Uses octets, where all was sent and octets are awaited.
+    /// Uses octets, receiving some if there are none. All was sent, and octets are awaited.
     fn go_on<L: Link>(
         &mut self,
         job: &mut UnderWay,
@@ -155,7 +156,7 @@ impl Channel {
         }
     }
 
-    // Uses octets that were received, up to the end of one packet.
+    /// Uses octets that were received, up to the end of one packet.
     fn consume(&mut self, job: &mut UnderWay, config: &Config, granted: Option<Grant>)
         requires fits { Fits self.old job.old }
         requires pdu { config.now.pdu ≤ most_pdu }
@@ -181,7 +182,8 @@ impl Channel {
     }
 }
 
-// The code of a packet at fault. Where the confirm is awaited, no other TPDU connects.
+/// The error number of a packet at fault. While the confirm is awaited any other TPDU has the number of a failed
+/// connect.
 fn code_of(fault: ReadFault, stage: &Stage) -> u32
     ensures { result ≡ code_at stage.now fault }
 {

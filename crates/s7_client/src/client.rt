@@ -1,4 +1,4 @@
-// A client that has each job that is done told.
+//! A client that reports each finished job to a completion.
 ghost use Rattle.s7_client.specs.Polling.{IsFresh, IsStarted, IsPoll, granted_pdu, closed_of};
 ghost use Rattle.s7_client.specs.Polling.{config_of, job_of};
 
@@ -11,11 +11,12 @@ use s7_outer::{Link, Memory};
 use std::alloc::Global;
 use std::mem;
 
-/// The client's side of one link, with a completion or none, which is told of each job that is done: once
-/// each, when `poll` or `carry_out` gives its result. It begins unconnected.
+/// The client's side of one link, with or without a completion. The completion is notified of each finished job
+/// once, when `poll` or `carry_out` returns its result. The client isn't connected at first.
 #[derive(Drop)]
 pub struct Client<C> {
     connection: Connection,
+    /// The completion, if there is one.
     done: Option<C>,
 }
 
@@ -25,9 +26,9 @@ impl<C: Completion> Client<C> {
     ghost use Rattle.s7_client.specs.Completions.{connection_of, completion_of, told_by, told_of_result};
     ghost use Rattle.s7_client.specs.Runs.{between_of, JobRun};
 
-    /// A client that isn't connected and has no job. The PDU is from 64 to 1,920, the jobs from 1 to
-    /// 8, the polls at least 1. `Memory` comes where there is none for its buffers; the completion is
-    /// dropped then.
+    /// A client that isn't connected and has no job. The PDU of `config` is from 64 to 1,920, its jobs from 1 to 8,
+    /// its polls at least 1. Returns `Memory` if the allocation of its buffers fails; the completion is dropped
+    /// then.
     pub fn new(alloc: Global, config: Config, done: Option<C>) -> Result<Client<C>, Memory>
         requires least_pdu { 64 ≤ config.pdu }
         requires most_pdu { config.pdu ≤ most_pdu }
@@ -43,7 +44,7 @@ impl<C: Completion> Client<C> {
         })
     }
 
-    /// The longest telegram that was granted, in octets; `None` exactly while the client isn't
+    /// The PDU that was granted: the greatest length of a telegram in octets. `None` exactly while the client isn't
     /// connected.
     pub fn granted(&self) -> Option<u16>
         ensures { result ≡ granted_pdu (connection_of self.now) }
@@ -51,15 +52,15 @@ impl<C: Completion> Client<C> {
         self.connection.granted()
     }
 
-    /// Whether a code closed the client, and no connect was started since.
+    /// Whether the client was closed by an error, and no connect was started since.
     pub fn closed(&self) -> bool
         ensures { result ≡ closed_of (connection_of self.now) }
     {
         self.connection.closed()
     }
 
-    /// Puts another completion, or none, in the place of the one that there is, which is told nothing
-    /// more and handed out.
+    /// Replaces the completion, and hands out the one before, which gets no further notification. `None` removes
+    /// it.
     pub fn set_completion(&mut self, done: Option<C>) -> Option<C>
         ensures out { result ≡ completion_of self.old }
         ensures done { completion_of self.new ≡ done }
@@ -68,7 +69,7 @@ impl<C: Completion> Client<C> {
         mem::replace(&mut self.done, done)
     }
 
-    /// Starts a job, as `Connection::start` does, and tells nobody.
+    /// Starts a job, as `Connection::start` does. The completion isn't notified.
     pub fn start(&mut self, alloc: Global, job: Job) -> Result<(), StartFault>
         ensures started { OnOk result (IsStarted (connection_of self.old) (connection_of self.new) job) }
         ensures idle { OnOk result (job_of (connection_of self.old) ≡ None) }
@@ -83,8 +84,8 @@ impl<C: Completion> Client<C> {
         self.connection.start(alloc, job)
     }
 
-    /// Goes on with the job as `Connection::poll` does. The completion is told of the job where it is
-    /// done, once, and of nothing else.
+    /// Goes on with the job, as `Connection::poll` does. If the job is done, the completion is notified of it,
+    /// once; otherwise it isn't notified.
     pub fn poll<L: Link>(&mut self, link: &mut L) -> Polled
         ensures poll { IsPoll (connection_of self.old) (L.shows link.old)
             (connection_of self.new) (L.shows link.new) result }
@@ -98,8 +99,8 @@ impl<C: Completion> Client<C> {
         polled
     }
 
-    /// Starts a job and polls until it is done, as `Connection::carry_out` does. The completion is told
-    /// of the job where it is done, once, and of nothing else.
+    /// Starts a job and polls until it is done, as `Connection::carry_out` does. The completion is notified of the
+    /// job, once, when it is done.
     pub fn carry_out<L: Link>(
         &mut self,
         alloc: Global,

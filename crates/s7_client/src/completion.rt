@@ -1,14 +1,13 @@
-// Who is told of jobs that are done.
+//! Notifications of finished jobs.
 ghost use Rattle.std.specs.Prelude.{◌≡◌};
 ghost use Rattle.s7_client.specs.Completions.{Told, told_one};
 
-/// Is told of each job that is done.
+/// Receives a notification of each finished job.
 pub trait Completion: Drop {
-    /// How often it was told, held at 2^64 - 1, and what it was told last.
+    /// The number of notifications, which stays at 2^64 - 1, and the last one.
     ghost told: { Self → Told };
 
-    /// A job is done: its number, and the code of its result, which is 0 where all went well. The numbers
-    /// of jobs are those of `op_of`.
+    /// A job is done: its number as in `op_of`, and the code of its result, which is 0 if it succeeded.
     fn finished(&mut self, op: u8, code: u32)
         ensures { told self.new ≡ told_one (told self.old) op code };
 }

@@ -1,4 +1,4 @@
-// A connection: how jobs are started, polled and carried out whole.
+//! A connection: it starts jobs, polls them, and carries them out whole.
 ghost use Rattle.std.specs.Prelude.{◌≡◌, ◌<◌, ◌≤◌, [], true, false, None, Some, IsSome, IfOk, OnOk, IfErr, OnErr};
 ghost use Rattle.std.specs.Option.{ForSome};
 ghost use Rattle.s7_header.specs.Negotiation.{most_pdu};
@@ -17,15 +17,18 @@ use s7_outer::{Buffer, Link, Memory, Octets};
 use s7_wire::{MESSAGE_LIMIT, Outbox};
 use std::alloc::Global;
 
-/// The client's side of one link, of which nobody is told: jobs are started one at a time, and polled over
-/// the link until they are done. It begins unconnected.
+/// The client's side of one link, without a completion. Jobs are started one at a time, and polled over the link
+/// until they are done. The client isn't connected at first.
 #[derive(Drop)]
 pub struct Connection {
     pub(crate) config: Config,
-    /// What was granted, and nothing on a client that isn't connected.
+    /// What the server granted; `None` on a client that isn't connected.
     pub(crate) granted: Option<Grant>,
+    /// Whether an error closed the client, and no connect was started since.
     pub(crate) is_closed: bool,
+    /// The client's side of the link.
     pub(crate) channel: Channel,
+    /// The job that is outstanding, if there is one.
     pub(crate) job: Option<UnderWay>,
     ghost fits: { ForSome job (λ u. Fits channel u) },
     ghost waits: { ForSome job (λ u. u.waited < config.polls) },
@@ -42,8 +45,8 @@ impl Connection {
     ghost use Rattle.s7_client.specs.Polling.{job_of, config_of, waited_of, granted_pdu, closed_of};
     ghost use Rattle.s7_client.specs.Runs.{between_of, JobRun, Completes};
 
-    /// A client that isn't connected and has no job. The PDU is from 64 to 1,920, the jobs from 1 to
-    /// 8, the polls at least 1. `Memory` comes where there is none for its buffers.
+    /// A client that isn't connected and has no job. The PDU of `config` is from 64 to 1,920, its jobs from 1 to 8,
+    /// its polls at least 1. Returns `Memory` if the allocation of its buffers fails.
     pub fn new(alloc: Global, config: Config) -> Result<Connection, Memory>
         requires least_pdu { 64 ≤ config.pdu }
         requires most_pdu { config.pdu ≤ most_pdu }
@@ -61,7 +64,7 @@ impl Connection {
         })
     }
 
-    /// The longest telegram that was granted, in octets; `None` exactly while the client isn't
+    /// The PDU that was granted: the greatest length of a telegram in octets. `None` exactly while the client isn't
     /// connected.
     pub fn granted(&self) -> Option<u16>
         ensures { result ≡ granted_pdu self.now }
@@ -72,17 +75,16 @@ impl Connection {
         }
     }
 
-    /// Whether a code closed the client, and no connect was started since.
+    /// Whether the client was closed by an error, and no connect was started since.
     pub fn closed(&self) -> bool
         ensures { result ≡ closed_of self.now }
     {
         self.is_closed
     }
 
-    /// Starts a job and polls until it is done: in at most as many polls as the configuration has,
-    /// where the link has nothing to give, or no room, each time. No job is outstanding before it.
-    /// `Memory` comes where there is none for the job, which is then handed back; the client and
-    /// the link are as before.
+    /// Starts a job and polls until it is done. The job times out once the link wasn't ready in as many polls as
+    /// the configuration allows. No job is outstanding before the call. Returns `Memory` if an allocation for the
+    /// job fails; the job is handed back then, and the client and the link are as before.
     pub fn carry_out<L: Link>(
         &mut self,
         alloc: Global,
@@ -105,7 +107,7 @@ impl Connection {
         }
     }
 
-    // Polls until the job is done.
+    /// Polls until the job is done.
     fn complete<L: Link>(&mut self, link: &mut L) -> JobResult
         requires { waited_of self.old ≡ Some 0 }
         ensures { Completes self.old (L.shows link.old) self.new (L.shows link.new) result }
@@ -117,9 +119,8 @@ impl Connection {
         }
     }
 
-    /// Starts a job. All memory of the job is taken here. `Pending` comes exactly while another job
-    /// is outstanding, `Memory` where there is none for it; both hand the job back and change
-    /// nothing.
+    /// Starts a job. All memory of the job is allocated here. Returns `Pending` exactly if another job is
+    /// outstanding, and `Memory` if an allocation for the job fails. Both hand the job back and change nothing.
     pub fn start(&mut self, alloc: Global, job: Job) -> Result<(), StartFault>
         ensures started { OnOk result (IsStarted self.old self.new job) }
         ensures idle { OnOk result (job_of self.old ≡ None) }
@@ -162,7 +163,7 @@ impl Connection {
         Ok(())
     }
 
-    // Sets out with a job on a client that is connected.
+    /// Starts a job on a client that is connected.
     fn set_out(&mut self, mut job: UnderWay)
         requires idle { self.old.job ≡ None }
         requires connected { IsSome self.old.granted }
@@ -174,7 +175,7 @@ impl Connection {
         self.job = Some(job);
     }
 
-    // Sets out with a connect on a link that begins anew.
+    /// Starts a connect on a link that begins anew.
     fn set_out_anew(&mut self, channel: Channel, mut job: UnderWay)
         requires idle { self.old.job ≡ None }
         requires anew { begins_anew self.old.granted job.running.job ≡ true }
@@ -189,7 +190,7 @@ impl Connection {
         self.job = Some(job);
     }
 
-    // Begins a job that is over at once, since the client isn't connected: nothing is put.
+    /// Starts a job that is over at once, since the client isn't connected. Nothing is sent for it.
     fn turn_down(&mut self, mut job: UnderWay)
         requires idle { self.old.job ≡ None }
         requires unconnected { self.old.granted ≡ None }
@@ -202,13 +203,11 @@ impl Connection {
         self.job = Some(job);
     }
 
-    /// Goes on with the job over the link until it is done or the link has nothing to give, or no
-    /// room, yet.
+    /// Goes on with the job over the link until it is done or the link isn't ready.
     ///
-    /// All that may go out is sent before the next octet is used, and octets are received only
-    /// where all was sent and used. `Done` carries what the octets used make of the job, or a cause
-    /// by its code. `Pending` comes only where the link's `waits` rose in this poll, `Idle` exactly
-    /// where no job is outstanding.
+    /// All that may be sent is sent before the next octet is used, and octets are received only if all was sent and
+    /// used. `Done` has what follows from the octets used, or a cause by its error number. `Pending` is returned
+    /// only if the link's `waits` rose in this poll, and `Idle` exactly if no job is outstanding.
     pub fn poll<L: Link>(&mut self, link: &mut L) -> Polled
         ensures { IsPoll self.old (L.shows link.old) self.new (L.shows link.new) result }
     {
@@ -229,7 +228,7 @@ impl Connection {
     }
 }
 
-// What came of a job that is over with this number.
+/// The result of a job that ended with this number.
 fn done(job: UnderWay, code: u32) -> JobResult
     ensures { (end : End) → awaited_in job.running [] ≡ for_nothing end [] → code ≡ end.code
         → IsResult result job.running.job end job.carried.octets }
@@ -240,12 +239,12 @@ fn done(job: UnderWay, code: u32) -> JobResult
         ..
     } = job;
     let mut carried = carried.take().into_vec();
-    // a result keeps no room for octets that weren't carried
+    // the result keeps no memory beyond the octets that it has
     carried.shrink_to_fit();
     running.into_result(code, Octets::of_vec(carried))
 }
 
-// Nothing is left to send on a link that doesn't go on.
+/// Drops what is left to send, unless the next job goes on with the link.
 fn let_go(outbox: &mut Outbox, leaves: Leaves)
     ensures kept { LeavesLink leaves → outbox.new ≡ outbox.old }
     ensures cleared { (LeavesLink leaves → ⊥) → outbox.new.unsent ≡ [] }
@@ -256,7 +255,7 @@ fn let_go(outbox: &mut Outbox, leaves: Leaves)
     }
 }
 
-// A job that there is no memory for.
+/// The fault of a job for which an allocation failed.
 fn wants_memory(job: Job) -> StartFault
     ensures cause { result.cause ≡ StartCause.Memory }
     ensures job { result.job ≡ job }
@@ -267,7 +266,7 @@ fn wants_memory(job: Job) -> StartFault
     }
 }
 
-// A connect on a client that isn't connected begins the link anew.
+/// Whether the job is a connect on a client that isn't connected, which begins the link anew.
 fn begins_anew(granted: Option<Grant>, job: &Job) -> bool
     ensures { result ≡ begins_anew granted job.now }
 {

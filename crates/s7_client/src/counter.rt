@@ -1,15 +1,17 @@
-// A completion that counts.
+//! A completion that counts.
 ghost use Rattle.std.specs.Prelude.{◌≡◌, None};
 ghost use Rattle.s7_client.specs.Completions.{told_one};
 
 use crate::completion::Completion;
 use std::marker::Model;
 
-/// Counts the jobs of which it is told, up to 2^64 - 1, and keeps the number and the code of the last one.
-/// Contracts see the count and the last.
+/// Counts notifications of finished jobs, up to 2^64 - 1, and keeps the number and the code of the last one.
+/// Contracts see both.
 #[derive(Clone, Copy, Debug, PartialEq, Eq)]
 pub struct Counter {
+    /// The number of notifications.
     calls: u64,
+    /// The number and the code of the last job.
     last: Option<(u8, u32)>,
 }
 
@@ -24,7 +26,7 @@ impl Model for Counter {
 }
 
 impl Counter {
-    /// A counter that was told nothing.
+    /// A counter without notifications.
     pub fn new() -> Counter
         ensures { result ≡ record { calls = 0; last = None } }
     {
@@ -34,14 +36,14 @@ impl Counter {
         }
     }
 
-    /// How often it was told.
+    /// The number of notifications.
     pub fn calls(&self) -> u64
         ensures { result ≡ self.now.calls }
     {
         self.calls
     }
 
-    /// The number of the last job and the code of its result, where it was told of one.
+    /// The number of the last job and the code of its result, if there was a notification.
     pub fn last(&self) -> Option<(u8, u32)>
         ensures { result ≡ self.now.last }
     {

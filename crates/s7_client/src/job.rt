@@ -1,4 +1,4 @@
-// What comes of starting and polling a job.
+//! The outcomes of starting and of polling a job.
 
 use s7_dialogue::{Job, JobResult};
 
@@ -7,23 +7,25 @@ use s7_dialogue::{Job, JobResult};
 pub enum StartCause {
     /// Another job is outstanding.
     Pending,
-    /// There is no memory for it.
+    /// An allocation for the job failed.
     Memory,
 }
 
-/// A job that wasn't started, and why.
+/// A job that wasn't started, and the cause.
 #[derive(Debug, Drop)]
 pub struct StartFault {
+    /// Why it wasn't started.
     pub cause: StartCause,
+    /// The job, handed back.
     pub job: Job,
 }
 
-/// What a poll came to.
+/// The outcome of a poll.
 #[derive(Debug, Drop)]
 pub enum Polled {
     /// The job is done.
     Done(JobResult),
-    /// The link had nothing to give, or no room, and the job goes on.
+    /// The link wasn't ready, and the job isn't done.
     Pending,
     /// No job is outstanding.
     Idle,

@@ -1,20 +1,21 @@
-// Laws of jobs' ends and telegrams.
+//! Laws of results and of telegrams. They do nothing at run time.
 ghost use Rattle.s7_client.specs.Form.{EndsHaveForm};
 ghost use Rattle.s7_client.specs.Fit.{TelegramsFit};
 
-/// A law: however a job ends, it gives what its result says. Where the code isn't 0 there are neither
-/// octets nor return codes. Where it is 0, a read of one item gives octets alone, as many as the item
-/// has; a read or write of several gives a return code for each item, of at most twenty, and the read
-/// gives the octets of the items whose code is FF; counts, lists and heads of blocks have their
-/// lengths; an upload and a data block that is read give octets alone; a status list gives an image
-/// that adds up, and that of `Status` tells whether the controller runs; a clock that was read gives
-/// ten octets that have a date and time; all other jobs give nothing.
+/// A law: every result has the form of its job.
+///
+/// If the code isn't 0, there are neither octets nor return codes. If it is 0: a read of one item gives only
+/// octets, as many as the item has. A read or write of several items gives a return code for each item, of at most
+/// twenty; the read also gives the octets of the items whose code is FF. Counts, lists and heads of blocks have
+/// their lengths. An upload and a data block that is read give only octets. A status list gives an image that adds
+/// up, and the image of `Status` says whether the controller runs. A clock that was read gives ten octets with a
+/// valid date and time. All other jobs give nothing.
 pub fn ends_have_form()
     ensures { EndsHaveForm }
 {}
 
-/// A law: no message that a job sends on a connected client passes the PDU that was granted, whatever
-/// was answered so far, and never are more questions unanswered than jobs were granted, or one.
+/// A law: on a connected client no message of a job exceeds the PDU that was granted, whatever was answered so far.
+/// The number of unanswered questions never exceeds the number of jobs granted, or one if that is 0.
 pub fn telegrams_fit()
     ensures { TelegramsFit }
 {}

@@ -1,4 +1,4 @@
-//! A client of S7 over ISO-on-TCP: jobs that are started and polled.
+//! A client of S7 over ISO-on-TCP. Its jobs are started and polled.
 #![tactic(auto)]
 
 mod channel;

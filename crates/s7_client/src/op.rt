@@ -1,12 +1,12 @@
-// The numbers of jobs, and who is told of them.
+//! The numbers of jobs, and the notification of a completion.
 ghost use Rattle.std.specs.Prelude.{◌≡◌, option_map};
 ghost use Rattle.s7_client.specs.Completions.{op_of, told_of_result};
 
 use crate::completion::Completion;
 use s7_dialogue::{Job, JobResult};
 
-/// The number of a job: from 1 of `Connect` to 25 of `Disconnect` in the order of `Job`, but that
-/// `DbGet` and `DbFill` come behind `PasswordClear`, as 23 and 24.
+/// The number of a job: 1 for `Connect` to 25 for `Disconnect`, in the order of `Job`, except that `DbGet` and
+/// `DbFill` come after `PasswordClear`, as 23 and 24.
 pub fn op_of(job: &Job) -> u8
     ensures { result ≡ op_of job.now }
 {
@@ -39,7 +39,7 @@ pub fn op_of(job: &Job) -> u8
     }
 }
 
-/// Tells a completion, where there is one, of a job that is done.
+/// Notifies the completion, if there is one, of a finished job.
 pub fn tell<C: Completion>(done: &mut Option<C>, told: &JobResult)
     ensures { option_map C.told done.new ≡ option_map (λ t. told_of_result t told.now) (option_map C.told done.old) }
 {

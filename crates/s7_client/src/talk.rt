@@ -1,4 +1,4 @@
-// The messages of a client's link: how a job puts telegrams and takes messages.
+//! The messages of a client's link: sending the telegrams of a job, and taking messages.
 ghost use Rattle.std.specs.Prelude.{◌≡◌, ◌<◌, ◌≤◌, ℕ, List, [], ◌++◌, length, take, None};
 ghost use Rattle.s7_outer.specs.Numbers.{two_octets};
 ghost use Rattle.s7_tpkt.specs.Packets.{state_of};
@@ -18,26 +18,31 @@ use s7_dialogue::{Config, Grant, Running, Stage};
 use s7_outer::Buffer;
 use s7_wire::{Found, Outbox, Reader, Taken, put_message};
 
-/// The TPDU size that is asked for, in octets, and its code.
+/// The TPDU size to ask for, in octets.
 const ASKED_SIZE: u16 = 1_024;
 
+/// The code of this TPDU size.
 const SIZE_CODE: u8 = 0x0A;
 
-/// Each side's reference.
+/// The reference of each side.
 const REFERENCE: u16 = 1;
 
 /// The reason of a disconnect request by the user of the link.
 const BY_USER: u8 = 0x80;
 
-/// The fewest octets of a message.
+/// The least number of octets of a message.
 const LEAST_MESSAGE: usize = 10;
 
-/// The reader of what is used, the sequence of the last numbered telegram, and what is to be sent.
+/// The reader of the link, the sequence of the last numbered telegram, and what is to be sent.
 #[derive(Drop)]
 pub(crate) struct Talk {
+    /// Reads the octets of the link.
     pub(crate) reader: Reader,
+    /// The sequence of the last numbered telegram.
     pub(crate) sequence: u16,
+    /// The message that is being written.
     pub(crate) message: Buffer,
+    /// What is to be sent.
     pub(crate) outbox: Outbox,
     ghost room: { message.room ≡ most_pdu },
 }
@@ -45,7 +50,7 @@ pub(crate) struct Talk {
 impl Talk {
     ghost use Rattle.s7_client.specs.At.{IsAt, Reaches, Settles, Puts, BeginsTalk, size_in};
 
-    /// Begins a job: puts its connect or disconnect request, or asks its first questions.
+    /// Begins a job: queues its connection or disconnect request, or asks its first questions.
     pub(crate) fn begin(&mut self, running: &mut Running, config: &Config)
         requires { self.old.outbox.unsent ≡ [] }
         ensures { BeginsTalk config.now self.old running.old self.new running.new }
@@ -60,7 +65,7 @@ impl Talk {
         }
     }
 
-    /// Puts the next telegram that may go out, where nothing is left to send and there is one.
+    /// Queues the next telegram that may be sent, if there is one and all before it was sent.
     pub(crate) fn put_next(&mut self, running: &mut Running, config: &Config)
         ensures { Puts config.now self.old running.old self.new running.new }
     {
@@ -74,7 +79,7 @@ impl Talk {
         }
     }
 
-    // The TPDU size of the link: the one that is asked for, until the confirm tells another.
+    /// The TPDU size of the link: the size that was asked for, until the confirm states another.
     fn size(&self) -> u16
         ensures size { result ≡ size_in self.now }
         ensures least { 128 ≤ result }
@@ -86,7 +91,7 @@ impl Talk {
         }
     }
 
-    // Puts the disconnect request.
+    /// Queues the disconnect request.
     fn put_disconnect(&mut self)
         requires { self.old.outbox ≡ record { unsent = []; room = 4096 } }
         ensures unsent { self.new.outbox.unsent ≡ disconnect_octets }
@@ -98,7 +103,7 @@ impl Talk {
         self.outbox.put(&octets[..len]);
     }
 
-    // Puts the connect request.
+    /// Queues the connection request.
     fn put_connect(&mut self, config: &Config)
         requires { self.old.outbox ≡ record { unsent = []; room = 4096 } }
         ensures unsent { self.new.outbox.unsent ≡ connect_octets config.now }
@@ -118,8 +123,8 @@ impl Talk {
         self.outbox.put(&octets[..len]);
     }
 
-    /// Reads octets up to the end of one packet or of the piece, and says what they end: none is used behind
-    /// a message before what is asked then is sent.
+    /// Reads octets up to the end of one packet or of the piece, and returns what they have ended. So no octet
+    /// after a message is used before the questions that follow from the message are sent.
     pub(crate) fn read(&mut self, piece: &[u8]) -> Taken
         requires some { 0 < length piece.now }
         requires going { ended_with self.old.reader ≡ None }
@@ -136,7 +141,7 @@ impl Talk {
         self.reader.read(piece)
     }
 
-    /// The confirm has come: asks the first questions.
+    /// Takes the confirm: asks the first questions.
     pub(crate) fn open(&mut self, job: &mut UnderWay)
         requires opening { IsOpening job.old.running.stage }
         requires sent { self.old.outbox.unsent ≡ [] }
@@ -148,7 +153,7 @@ impl Talk {
         self.sequence = job.running.go_on(self.sequence);
     }
 
-    /// Takes the message that is whole.
+    /// Takes the message that was read whole.
     pub(crate) fn message(&mut self, job: &mut UnderWay, config: &Config, granted: Option<Grant>)
         requires asking { IsAsking job.old.running.stage }
         requires whole { HasMessage self.old.reader }
@@ -180,7 +185,7 @@ impl Talk {
     }
 }
 
-// A TSAP of two octets.
+/// A TSAP of two octets.
 fn tsap(number: u16) -> Tsap
     ensures octets { tsap_of result ≡ two_octets number }
     ensures len { result.len ≡ 2 }

@@ -1,4 +1,4 @@
-// A job that was started and isn't done.
+//! A job that was started and isn't done yet.
 ghost use Rattle.std.specs.Prelude.{◌≡◌, ◌<◌, is_none, IfSome};
 ghost use Rattle.s7_dialogue.specs.Running.{IsEnding};
 ghost use Rattle.s7_client.specs.Polling.{Waits, grant_after, closed_after};
@@ -7,19 +7,20 @@ use s7_dialogue::codes::TIMED_OUT;
 use s7_dialogue::{Ending, Grant, Leaves, Running};
 use s7_outer::Buffer;
 
-/// A job with what came of it, and how many of its polls met a link that had nothing to give, or no
-/// room.
+/// A job with what it has read so far, and the number of its polls in which the link wasn't ready.
 #[derive(Drop)]
 pub(crate) struct UnderWay {
+    /// The job, and what it has read so far.
     pub(crate) running: Running,
-    /// The message that is no answer, if one came. It has room for 8,192 octets.
+    /// The message that isn't an answer, if one came. It has room for 8,192 octets.
     pub(crate) carried: Buffer,
+    /// The number of polls in which the link wasn't ready.
     pub(crate) waited: u32,
 }
 
 impl UnderWay {
-    /// The link had nothing to give, or no room, once more. Ends the job where that was as often as it may, and then
-    /// says how.
+    /// Counts a poll in which the link wasn't ready. If it is the last one allowed, the job times out, and its end
+    /// is returned.
     pub(crate) fn wait(&mut self, polls: u32) -> Option<Ending>
         requires { self.old.waited < polls }
         ensures waits { Waits self.old self.new polls (is_none result) }
@@ -34,7 +35,7 @@ impl UnderWay {
     }
 }
 
-/// What is granted after the end of a job.
+/// The grant after the end of a job.
 pub(crate) fn grant_after(leaves: Leaves, granted: Option<Grant>) -> Option<Grant>
     ensures { result ≡ grant_after leaves granted }
 {
@@ -45,7 +46,7 @@ pub(crate) fn grant_after(leaves: Leaves, granted: Option<Grant>) -> Option<Gran
     }
 }
 
-/// Whether the client is closed after it.
+/// Whether the client is closed after the end of a job.
 pub(crate) fn closed_after(leaves: Leaves, closed: bool) -> bool
     ensures { result ≡ closed_after leaves closed }
 {

@@ -28,13 +28,13 @@ number_in octet = do
   low ← digit (octet % 16)
   Some (high * 10 + low)
 
--- the year of two digits: 90 to 99 are 19xx, 00 to 89 are 20xx
+-- the year of its last two digits: 90 to 99 are 19xx, 00 to 89 are 20xx
 abbrev pub year_of : ℕ → ℕ
 year_of n = if nat_le 90 n then 1900 + n else 2000 + n
 
 -- ---- reading
 
--- what ten octets say; the first two and the weekday are passed over
+-- the numbers in ten octets; the first two and the weekday are ignored
 abbrev pub parts_in : List ℕ → Option Parts
 parts_in (_ ∷ _ ∷ year ∷ month ∷ day ∷ hour ∷ minute ∷ second ∷ hundredths ∷ last ∷ []) = do
   y ← number_in year
@@ -56,7 +56,7 @@ parts_in (_ ∷ _ ∷ year ∷ month ∷ day ∷ hour ∷ minute ∷ second ∷ 
   })
 parts_in _ = None
 
--- the numbers that BCD digits can say
+-- the numbers that BCD digits can give
 pub record IsSmall (p : Parts) : Type 0 where
   pub year : p.year < 2100
   pub month : p.month < 100
@@ -66,22 +66,22 @@ pub record IsSmall (p : Parts) : Type 0 where
   pub second : p.second < 100
   pub millisecond : p.millisecond < 1000
 
--- the years that two digits name
+-- the years that two digits can give
 pub record HasClockYear (p : Parts) : Type 0 where
   pub from : 1990 ≤ p.year
   pub to : p.year ≤ 2089
 
--- the calendar has the date, and a day the time
+-- there is such a date, and such a time of day
 abbrev pub AreDateTime : Parts → Type 0
 AreDateTime p = IsDate (pos p.year) (pos p.month) (pos p.day)
     × IsTime (pos p.hour) (pos p.minute) (pos p.second) (pos (p.millisecond * 1000000))
 
--- the date and time are these
+-- the date and time have these numbers
 abbrev pub HasParts : Parts → DateTime → Type 0
 HasParts p t = IsYmd (pos p.year) (pos p.month) (pos p.day) t.date
     × IsHms (pos p.hour) (pos p.minute) (pos p.second) (pos (p.millisecond * 1000000)) t.time
 
--- what is read: the date and time of the parts, and none exactly where there is none
+-- what is read is the date and time with these numbers; it is an error exactly if there is none
 abbrev pub Reads : Option Parts → Result DateTime NotDate → Type 0
 Reads None (Ok t) = ⊥
 Reads None (Err e) = Unit {0}
@@ -90,15 +90,15 @@ Reads (Some p) (Err e) = AreDateTime p → ⊥
 
 -- ---- writing
 
--- a year that two digits name
+-- a year that two digits can give
 abbrev pub IsClockYear : ℤ → Type 0
 IsClockYear y = IsBetween (pos 1990) (pos 2089) y
 
--- the whole milliseconds of the second
+-- the whole milliseconds within the second
 abbrev pub milliseconds : DateTime → ℕ
 milliseconds t = t.time.subsec_nanosecond / 1000000
 
--- 1 for Sunday to 7 for Saturday; jiff counts from 0 for Monday
+-- the weekday from 1 for Sunday to 7 for Saturday; jiff counts from 0 for Monday
 abbrev pub weekday : DateTime → ℕ
 weekday t = (weekday_of t.date + 1) % 7 + 1
 

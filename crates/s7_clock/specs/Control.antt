@@ -30,8 +30,8 @@ insertion = 0x5F ∷ 0x49 ∷ 0x4E ∷ 0x53 ∷ 0x45 ∷ []
 abbrev pub deletion : List ℕ
 deletion = 0x5F ∷ 0x44 ∷ 0x45 ∷ 0x4C ∷ 0x45 ∷ []
 
--- the call of a service: 28, six octets 00, FD, the argument behind its length in two octets, and the
--- name behind its length in one
+-- the call of a service: 28, six octets 00, FD, the argument with its length in two octets before it, and the name
+-- with its length in one octet before it
 abbrev pub service : List ℕ → List ℕ → List ℕ
 service argument name =
     0x28 ∷ 0x00 ∷ 0x00 ∷ 0x00 ∷ 0x00 ∷ 0x00 ∷ 0x00 ∷ 0xFD ∷ (two_octets (length argument) ++ argument ++ (length name ∷ name))
@@ -40,13 +40,13 @@ service argument name =
 abbrev pub five_digits : ℕ → List ℕ
 five_digits n = (0x30 + n / 10000) ∷ (0x30 + n / 1000 % 10) ∷ (0x30 + n / 100 % 10) ∷ (0x30 + n / 10 % 10) ∷ (0x30 + n % 10) ∷ []
 
--- the argument that names one block: `01 00 30`, its kind, its number and where it is
--- (Snap7 1.4 sources, s7_types.h: TReqControlBlockParams)
+-- the argument that names one block: `01 00 30`, its kind, its number and its location (Snap7 1.4 sources,
+-- s7_types.h: TReqControlBlockParams)
 abbrev pub block_argument : ℕ → ℕ → ℕ → List ℕ
 block_argument kind number place = 0x01 ∷ 0x00 ∷ 0x30 ∷ kind ∷ (five_digits number ++ (place ∷ []))
 
--- the octets of a control; cold start's argument is `C ` and the copy's `EP`, a block to be inserted is
--- at `P` and one to be deleted at `B`
+-- the octets of a control. The argument of a cold start is `C `, and that of the copy is `EP`. A block to be
+-- inserted has the location `P`, and a block to be deleted has `B`
 abbrev pub control_spelling : Control → List ℕ
 control_spelling Start = service [] program
 control_spelling ColdStart = service (0x43 ∷ 0x20 ∷ []) program
@@ -63,11 +63,11 @@ abbrev pub is_kind : ℕ → Bool
 is_kind kind =
     (kind == 0x38) || (kind == 0x41) || (kind == 0x42) || (kind == 0x43) || (kind == 0x44) || (kind == 0x45) || (kind == 0x46)
 
--- such a kind and a number of two octets
+-- the kind is one of these, and the number fits two octets
 abbrev pub is_block : ℕ → ℕ → Bool
 is_block kind number = is_kind kind && nat_lt number 65536
 
--- a block that is named is of such a kind and number
+-- a block that the control names has such a kind and number
 abbrev pub is_control : Control → Bool
 is_control Start = true
 is_control ColdStart = true
@@ -77,23 +77,23 @@ is_control CopyRam = true
 is_control (Insert kind number) = is_block kind number
 is_control (Delete kind number) = is_block kind number
 
--- the parameters are a control's
+-- the parameters are those of this control
 pub record SpellsControl (params : List ℕ) (c : Control) : Type 0 where
   pub octets : params ≡ control_spelling c
   pub is : is_control c ≡ true
 
 -- ---- reading
 
--- the digit in a place
+-- the value of the digit at this offset
 abbrev pub digit_at : List ℕ → ℕ → ℕ
 digit_at params place = slice_index params place - 0x30
 
--- the number in the places of a block's
+-- the number of the block, from its five digits
 abbrev pub number_named : List ℕ → ℕ
 number_named params =
     digit_at params 14 * 10000 + digit_at params 15 * 1000 + digit_at params 16 * 100 + digit_at params 17 * 10 + digit_at params 18
 
--- the control, if it has these parameters; else the other
+-- the control if it has these parameters, else the other result
 abbrev pub if_spelled : List ℕ → Control → Result Control BadParams → Result Control BadParams
 if_spelled params c other = if is_control c && bytes_eq params (control_spelling c) then Ok c else other
 

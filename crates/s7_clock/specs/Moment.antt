@@ -11,29 +11,29 @@ use Rattle.s7_clock.specs.declared.faults.NotDate.{NotDate}
 abbrev pub first_moment : ℕ
 first_moment = 631152000000
 
--- the last moment of 2089
+-- the last millisecond of 2089
 abbrev pub last_moment : ℕ
 last_moment = 3786911999999
 
--- a moment that clock octets have
+-- a moment that clock octets can give
 pub record IsHeld (ms : ℕ) : Type 0 where
   pub from : first_moment ≤ ms
   pub to : ms ≤ last_moment
 
--- the nearest such moment
+-- the moment nearest to a number of milliseconds
 abbrev pub held : ℤ → ℕ
 held (pos n) = max first_moment (min n last_moment)
 held (negsuc n) = first_moment
 
--- the date and time are the moment's
+-- the date and time are those of the moment
 abbrev pub HasMoment : DateTime → ℕ → Type 0
 HasMoment t ms = civil_nanos t ≡ pos (ms * 1000000)
 
--- the moment of a date and time, without what is below a millisecond
+-- the moment of a date and time; fractions of a millisecond are dropped
 abbrev pub moment_of : DateTime → ℕ
 moment_of t = unsigned_abs (int_div (civil_nanos t) (pos 1000000))
 
--- u is t without what is below a millisecond
+-- u is t without fractions of a millisecond
 pub record IsCutTo (t u : DateTime) : Type 0 where
   pub date : u.date ≡ t.date
   pub hour : u.time.hour ≡ t.time.hour
@@ -47,32 +47,32 @@ pub record IsCutTo (t u : DateTime) : Type 0 where
 abbrev pub first_day : ℕ → ℕ → ℕ
 first_day year month = unsigned_abs (days_from_civil (pos year) month 1)
 
--- from low to high
+-- the number is from low to high
 abbrev pub is_within : ℕ → ℕ → ℕ → Bool
 is_within low high n = nat_le low n && nat_le n high
 
--- the calendar has the date
+-- there is such a date
 abbrev pub is_date : Parts → Bool
 is_date p = is_within 1 12 p.month && is_within 1 (days_in_month (pos p.year) p.month) p.day
 
--- a day has the time
+-- there is such a time of day
 abbrev pub is_time : Parts → Bool
 is_time p = nat_le p.hour 23 && (nat_le p.minute 59 && nat_le p.second 59)
 
--- the moment of a date and time
+-- the moment of these numbers
 abbrev pub moment_at : Parts → ℕ
 moment_at p =
     unsigned_abs (days_from_civil (pos p.year) p.month p.day) * 86400000 + (p.hour * 3600 + p.minute * 60 + p.second) * 1000 + p.millisecond
 
--- the moment of parts that are a date and time
+-- the moment of numbers that are a date and time; else `None`
 abbrev pub moment_of_parts : Parts → Option ℕ
 moment_of_parts p = if is_date p && is_time p then Some (moment_at p) else None
 
--- the moment that clock octets say
+-- the moment that clock octets give
 unfoldable pub moment_in : List ℕ → Option ℕ
 moment_in octets = option_and_then moment_of_parts (parts_in octets)
 
--- the moment of what was read
+-- the moment of the date and time that was read
 abbrev pub moment_read : Result DateTime NotDate → Option ℕ
 moment_read (Ok t) = Some (moment_of t)
 moment_read (Err e) = None
@@ -82,15 +82,15 @@ unfoldable pub last_of : (ℕ → Bool) → ℕ → ℕ
 last_of test zero = 0
 last_of test (suc n) = if test (suc n) then suc n else last_of test n
 
--- the year of a day: the last of 1990 to 2089 that has begun
+-- the year of a day: the last year from 1990 to 2089 that has begun by then
 abbrev pub year_on : ℕ → ℕ
 year_on day = 1990 + last_of (λ k. nat_le (first_day (1990 + k) 1) day) 99
 
--- its month: the last of the year that has begun
+-- the month of a day: the last month of its year that has begun by then
 abbrev pub month_on : ℕ → ℕ
 month_on day = 1 + last_of (λ k. nat_le (first_day (year_on day) (1 + k)) day) 11
 
--- its place in the month, from 1
+-- the day of its month, from 1
 abbrev pub day_on : ℕ → ℕ
 day_on day = day - first_day (year_on day) (month_on day) + 1
 

@@ -1,4 +1,4 @@
-// The ten octets of a clock, as in the Snap7 1.4 sources (`TResDataGetTime`).
+//! The ten octets of a clock, as in the Snap7 1.4 sources (`TResDataGetTime`).
 ghost use Rattle.std.specs.Prelude.{◌≡◌, ◌≤◌, ◌<◌, ◌↔◌, ◌*◌, ◌/◌, ◌%◌, ◌+◌, ℕ, IsTrue, IfSome, IfOk, pos};
 ghost use Rattle.std.specs.Prelude.{unsigned_abs, None, Some};
 ghost use Rattle.jiff.specs.Words.{monday_zero, weekday_of};
@@ -9,10 +9,10 @@ ghost use Rattle.s7_clock.specs.Moment.{moment_in, moment_read};
 use crate::faults::NotDate;
 use jiff::civil::{DateTime, Weekday};
 
-// The first two octets, of which a reader takes any.
+/// The first two octets as they are written. A reader accepts any two.
 const HEAD: [u8; 2] = [0x00, 0x19];
 
-/// Whether the date and time has clock octets: a year from 1990 to 2089.
+/// Whether the date and time has clock octets: its year is from 1990 to 2089.
 pub fn in_clock_range(t: &DateTime) -> bool
     ensures { IsTrue result ↔ IsClockYear t.now.date.year }
 {
@@ -20,9 +20,9 @@ pub fn in_clock_range(t: &DateTime) -> bool
     t.year() >= 1990 && t.year() <= 2089
 }
 
-/// The clock octets of a date and time of a year from 1990 to 2089: `00 19`, then year, month, day,
-/// hour, minute, second and two digits of milliseconds in BCD, and an octet with the last millisecond
-/// digit and the weekday, 1 for Sunday to 7 for Saturday. What is below a millisecond is dropped.
+/// The clock octets of a date and time of a year from 1990 to 2089: `00 19`; then year, month, day, hour, minute,
+/// second and the first two digits of the milliseconds, each in BCD; then an octet with the last digit of the
+/// milliseconds and the weekday, from 1 for Sunday to 7 for Saturday. Fractions of a millisecond are dropped.
 pub fn to_octets(t: DateTime) -> [u8; 10]
     requires { IsClockYear t.date.year }
     ensures { result ≡ octets_of t }
@@ -43,9 +43,9 @@ pub fn to_octets(t: DateTime) -> [u8; 10]
     ]
 }
 
-/// The date and time of clock octets, of a year from 1990 to 2089; the first two octets and the weekday
-/// are passed over. `NotDate` comes where there aren't ten octets, where a digit is above 9, and where
-/// the calendar has no such date or a day no such time.
+/// The date and time that clock octets give, of a year from 1990 to 2089. The first two octets and the weekday are
+/// ignored. Returns `NotDate` if there aren't ten octets, if a digit is above 9, or if there is no such date or no
+/// such time of day.
 pub fn from_octets(octets: &[u8]) -> Result<DateTime, NotDate>
     ensures read { Reads (parts_in octets.now) result }
     ensures year { IfOk result (λ t. IsClockYear t.date.year) }
@@ -57,7 +57,7 @@ pub fn from_octets(octets: &[u8]) -> Result<DateTime, NotDate>
     }
 }
 
-// A number below 100 in two BCD digits.
+/// A number below 100 in two BCD digits.
 fn bcd(n: u8) -> u8
     requires { n < 100 }
     ensures { result ≡ bcd n }
@@ -65,7 +65,7 @@ fn bcd(n: u8) -> u8
     n / 10 * 16 + n % 10
 }
 
-// 1 for Sunday to 7 for Saturday.
+/// The weekday, from 1 for Sunday to 7 for Saturday.
 fn weekday(t: DateTime) -> u8
     ensures { result ≡ weekday t }
 {
@@ -80,9 +80,10 @@ fn weekday(t: DateTime) -> u8
     }
 }
 
-// What clock octets say, whether there is such a date and time or not.
+/// The numbers in clock octets, whether or not there is such a date and time.
 #[derive(Clone, Copy)]
 struct Parts {
+    /// The year with its century, 1990 to 2089.
     year: u16,
     month: u8,
     day: u8,
@@ -92,6 +93,7 @@ struct Parts {
     millisecond: u16,
 }
 
+/// The numbers in ten clock octets; `None` if there aren't ten octets or a digit is above 9.
 fn read_parts(octets: &[u8]) -> Option<Parts>
     ensures parts { result ≡ parts_in octets.now }
     ensures small { IfSome result IsSmall }
@@ -131,7 +133,7 @@ fn read_parts(octets: &[u8]) -> Option<Parts>
     })
 }
 
-// The number in two BCD digits.
+/// The number in two BCD digits; `None` if a digit is above 9.
 fn number(octet: u8) -> Option<u8>
     ensures { result ≡ number_in octet }
 {
@@ -140,13 +142,14 @@ fn number(octet: u8) -> Option<u8>
     Some(high * 10 + low)
 }
 
+/// A decimal digit; `None` above 9.
 fn digit(d: u8) -> Option<u8>
     ensures { result ≡ digit d }
 {
     (d <= 9).then_some(d)
 }
 
-// 90 to 99 are of the last century.
+/// The year of its last two digits: 90 to 99 are of 1990 to 1999, and 00 to 89 are of 2000 to 2089.
 fn year_of(n: u8) -> u16
     ensures { result ≡ year_of n }
 {
@@ -157,6 +160,7 @@ fn year_of(n: u8) -> u16
     }
 }
 
+/// The date and time with these numbers; `NotDate` if there is none.
 fn to_date_time(p: Parts) -> Result<DateTime, NotDate>
     requires { IsSmall p }
     ensures { Reads (Some p) result }

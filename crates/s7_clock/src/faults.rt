@@ -1,9 +1,9 @@
-// Why octets are refused.
+//! Why octets are refused.
 
-/// Octets that are no date and time.
+/// The octets aren't a date and time.
 #[derive(Clone, Copy, Debug, PartialEq, Eq)]
 pub struct NotDate;
 
-/// Parameters that are none of a control.
+/// The parameters aren't those of a control.
 #[derive(Clone, Copy, Debug, PartialEq, Eq)]
 pub struct BadParams;

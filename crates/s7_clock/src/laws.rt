@@ -1,4 +1,5 @@
-// Laws of the definitions: what is read is what the octets spell, and what is written is read again.
+//! Laws of the definitions: what is read is what the octets spell, and what is written is read again. They do
+//! nothing at run time.
 ghost use Rattle.std.specs.Prelude.{◌≡◌, ℕ, ◌↔◌, ◌%◌, List, [], ◌∷◌, take, slice_index, true, Some, Ok, Result};
 ghost use Rattle.std.specs.Prelude.{IsOkAnd};
 ghost use Rattle.jiff.specs.Types.{DateTime};
@@ -9,8 +10,8 @@ ghost use Rattle.s7_clock.specs.Moment.{HasMoment, IsCutTo, IsHeld, moment_in, m
 ghost use Rattle.s7_clock.specs.declared.control.Control.{Control};
 ghost use Rattle.s7_clock.specs.declared.faults.NotDate.{NotDate};
 
-/// Whatever is read from the clock octets of a date and time is that, cut to milliseconds. Octets that
-/// begin `00 19` and end in the right weekday are the clock octets of what is read from them.
+/// A law: what is read from the clock octets of a date and time is that date and time, cut to milliseconds. Octets
+/// that begin `00 19` and end in the right weekday are the clock octets of what is read from them.
 pub fn clock_reading()
     ensures back { (t : DateTime) (read : Result DateTime NotDate) → IsClockYear t.date.year
         → Reads (parts_in (octets_of t)) read
@@ -20,9 +21,9 @@ pub fn clock_reading()
         → slice_index octets 9 % 16 ≡ weekday t → octets_of t ≡ octets }
 {}
 
-/// A date and time that has a moment from the first to the last is of a year from 1990 to 2089, and
-/// its moment is that one; the date and time of its moment is it, cut to milliseconds. The clock octets
-/// of a date and time are those of its moment, and are read as it.
+/// A law: a date and time of a moment from the first to the last has a year from 1990 to 2089, and its moment is
+/// that one. The date and time of a moment of a date and time is that date and time, cut to milliseconds. The clock
+/// octets of a date and time are those of its moment, and are read as that moment.
 pub fn moment_reading()
     ensures dates { (t : DateTime) (ms : ℕ) → IsHeld ms → HasMoment t ms
         → IsClockYear t.date.year × (moment_of t ≡ ms) }
@@ -31,7 +32,7 @@ pub fn moment_reading()
     ensures read { (t : DateTime) → IsClockYear t.date.year → moment_in (octets_of t) ≡ Some (moment_of t) }
 {}
 
-/// A control is read exactly where the parameters spell it, and they spell one at most. One that was
+/// A law: a control is read exactly if the parameters spell it, and they spell at most one. A control that was
 /// written is read again.
 pub fn control_reading()
     ensures read { (params : List ℕ) (c : Control) → (control_of params ≡ Ok c) ↔ SpellsControl params c }

@@ -1,6 +1,6 @@
-//! The clock and the control of a PLC: clock octets over `jiff`'s dates and times, the moments that a
-//! held clock can have, and the parameters that start, stop, compress, copy, insert and delete. Each
-//! is read exactly where the octets spell it, and what is written is read again.
+//! The clock and the control of a PLC: clock octets over `jiff`'s dates and times, the moments that a clock can
+//! have, and the parameters that start, stop, compress, copy, insert and delete. Each of these is read exactly if
+//! the octets spell it, and what is written is read again.
 #![tactic(auto)]
 
 mod clock;

@@ -1,4 +1,4 @@
-// Moments: milliseconds since 1970-01-01T00:00:00, UTC.
+//! Moments: milliseconds since 1970-01-01T00:00:00, UTC.
 ghost use Rattle.std.specs.Prelude.{◌≡◌, ◌*◌, ◌*ℤ◌, ℕ, pos, unsigned_abs, int_div};
 ghost use Rattle.jiff.specs.Words.{civil_nanos};
 ghost use Rattle.s7_clock.specs.Clock.{IsClockYear, octets_of};
@@ -8,13 +8,13 @@ use jiff::Timestamp;
 use jiff::civil::{DateTime, datetime};
 use jiff::tz::Offset;
 
-/// The first moment that clock octets have, 1990-01-01T00:00:00.000.
+/// The first moment that clock octets can give, 1990-01-01T00:00:00.000.
 pub const FIRST_MOMENT: u64 = 631_152_000_000;
 
-/// The last moment that clock octets have, 2089-12-31T23:59:59.999.
+/// The last moment that clock octets can give, 2089-12-31T23:59:59.999.
 pub const LAST_MOMENT: u64 = 3_786_911_999_999;
 
-/// The moment nearest to this many milliseconds since 1970, from `FIRST_MOMENT` to `LAST_MOMENT`.
+/// The moment from `FIRST_MOMENT` to `LAST_MOMENT` that is nearest to this number of milliseconds since 1970.
 pub fn hold(ms: i64) -> u64
     ensures value { result ≡ held ms }
     ensures within { IsHeld result }
@@ -22,8 +22,8 @@ pub fn hold(ms: i64) -> u64
     ms.clamp(FIRST_MOMENT as i64, LAST_MOMENT as i64) as u64
 }
 
-/// The date and time of a moment from `FIRST_MOMENT` to `LAST_MOMENT`. Its year is from 1990 to 2089,
-/// and its clock octets are the moment's.
+/// The date and time of a moment from `FIRST_MOMENT` to `LAST_MOMENT`. Its year is from 1990 to 2089, and its clock
+/// octets are those of the moment.
 pub fn date_of(ms: u64) -> DateTime
     requires { IsHeld ms }
     ensures moment { HasMoment result ms }
@@ -36,7 +36,7 @@ pub fn date_of(ms: u64) -> DateTime
     }
 }
 
-/// The moment of a date and time of a year from 1990 to 2089, without what is below a millisecond.
+/// The moment of a date and time of a year from 1990 to 2089. Fractions of a millisecond are dropped.
 pub fn moment_of(t: &DateTime) -> u64
     requires { IsClockYear t.now.date.year }
     ensures value { result ≡ moment_of t.now }

@@ -4,16 +4,16 @@ use Rattle.s7_cotp.specs.declared.joining.Joined.{Joined}
 use Rattle.s7_cotp.specs.declared.joining.Joined.TheVariants.{Whole, More, TooManyFragments, TooLong}
 
 pub record Gathered : Type 0 where
-  -- the octets of the message that is whole, or else of the one that is open
+  -- the octets of the message that is whole, or else of the message that is open
   pub octets : List ℕ
-  -- how many fragments the open message has: none where a message is whole
+  -- the number of fragments of the open message; 0 if a message is whole
   pub count : ℕ
-  -- the last answer, and `More` before the first
+  -- the last answer; `More` before the first
   pub state : Joined
-  -- how many octets a message has at most
+  -- the greatest number of octets of a message
   pub limit : ℕ
 
--- no fragment has come
+-- a joiner without fragments
 abbrev pub empty : ℕ → Gathered
 empty limit = record { octets = []; count = 0; state = More; limit = limit }
 

@@ -5,7 +5,7 @@ use Rattle.s7_cotp.specs.Gathered.{Gathered, is_whole, is_fault}
 use Rattle.s7_cotp.specs.declared.joining.Joined.{Joined}
 use Rattle.s7_cotp.specs.declared.joining.Joined.TheVariants.{Whole, More, TooManyFragments, TooLong}
 
--- what a DT brings
+-- the fragment that a DT carries
 pub record Fragment : Type 0 where
   -- the end bit
   pub last : Bool
@@ -14,14 +14,14 @@ pub record Fragment : Type 0 where
 abbrev pub octets_of : List Fragment → List ℕ
 octets_of fs = flat_map (λ f. f.user) fs
 
--- The last of the fragments has the end bit, and no other.
+-- The last of these fragments has the end bit, and none before it does.
 abbrev pub IsGroup : List Fragment → Type 0
 IsGroup [] = ⊥
 IsGroup (f ∷ []) = f.last ≡ true
 IsGroup (f ∷ g ∷ fs) = (f.last ≡ false) × IsGroup (g ∷ fs)
 
--- A message: at most 64 fragments up to the end bit, whose octets are within the limit. Both limits are of the
--- receiver, this profile's own.
+-- A message: at most 64 fragments, of which only the last has the end bit, with no more octets than the limit. Both
+-- limits are this profile's own.
 pub record IsMessage (limit : ℕ) (fs : List Fragment) (message : List ℕ) : Type 0 where
   pub group : IsGroup fs
   pub fragments : length fs ≤ 64
@@ -34,20 +34,21 @@ AreJoined limit fs [] rest = fs ≡ rest
 AreJoined limit fs (m ∷ ms) rest = (group : List Fragment) × (more : List Fragment) × IsMessage limit group m ×
     (fs ≡ group ++ more) × AreJoined limit more ms rest
 
--- no message stands at the front
+-- no message stands at the beginning of the fragments
 abbrev pub NoMessageAhead : ℕ → List Fragment → Type 0
 NoMessageAhead limit rest = (group more : List Fragment) (m : List ℕ) → IsMessage limit group m → rest ≢ group ++ more
 
--- The fragments are these messages, as many as there are, and a rest: what stands behind the last end bit, or
--- what stands from the first message on that has too many fragments or octets.
+-- The fragments are these messages, as many as there are, and a rest. The rest is what follows the last end bit, or
+-- all fragments from the first message on that has too many fragments or octets.
 abbrev pub Messages : ℕ → List Fragment → List (List ℕ) → List Fragment → Type 0
 Messages limit fs ms rest = AreJoined limit fs ms rest × NoMessageAhead limit rest
 
--- too many fragments, or too many octets, for one message
+-- these are too many fragments, or too many octets, for one message
 abbrev pub is_over : ℕ → List Fragment → Bool
 is_over limit fs = nat_lt 64 (length fs) || nat_lt limit (length (octets_of fs))
 
--- the messages before and those of the fragments, of which some are of an open message, and the rest
+-- the messages in `before` and the messages of the fragments, and the rest; the fragments in `begun` are those of
+-- the open message
 abbrev pub read : ℕ → List (List ℕ) → List Fragment → List Fragment → List (List ℕ) × List Fragment
 read limit before begun [] = (before, begun)
 read limit before begun (f ∷ fs) =
@@ -59,11 +60,11 @@ read limit before begun (f ∷ fs) =
 unfoldable pub messages_of : ℕ → List Fragment → List (List ℕ)
 messages_of limit fs = (read limit [] [] fs).0
 
--- what stands behind them
+-- the fragments after the last whole message
 unfoldable pub rest_of : ℕ → List Fragment → List Fragment
 rest_of limit fs = (read limit [] [] fs).1
 
--- what one fragment makes of an open message, of these octets and so many fragments
+-- the effect of one fragment on an open message that has these octets and this number of fragments
 pub data Step : Type 0 where
   more : List ℕ → ℕ → Step
   whole : List ℕ → Step
@@ -83,7 +84,7 @@ answer_of (whole octets) = Whole
 answer_of too_many_fragments = TooManyFragments
 answer_of too_long = TooLong
 
--- the octets of the open message: none where a message is whole
+-- the octets of the open message; none if a message is whole
 abbrev pub open_octets : Gathered → List ℕ
 open_octets j = if is_whole j.state then [] else j.octets
 
@@ -94,27 +95,27 @@ after_step j (whole octets) = record { octets = octets; count = 0; state = Whole
 after_step j too_many_fragments = record { octets = open_octets j; count = j.count; state = TooManyFragments; limit = j.limit }
 after_step j too_long = record { octets = open_octets j; count = j.count; state = TooLong; limit = j.limit }
 
--- what a joiner holds after a fragment: a fault stays
+-- what a joiner holds after a fragment; after a fault nothing changes
 abbrev pub with_fragment : Gathered → Fragment → Gathered
 with_fragment j f = if is_fault j.state then j else after_step j (joined_with j.limit (open_octets j) j.count f)
 
--- A joiner holds the rest of these fragments, or is at fault where the rest is too much for one message.
+-- A joiner holds the rest of these fragments. It is at fault exactly if the rest is too much for one message.
 pub record HoldsRest (fs : List Fragment) (j : Gathered) : Type 0 where
   pub over : is_over j.limit (rest_of j.limit fs) ≡ is_fault j.state
   pub octets : is_fault j.state ≡ false → octets_of (rest_of j.limit fs) ≡ open_octets j
   pub count : is_fault j.state ≡ false → length (rest_of j.limit fs) ≡ j.count
 
--- The fragments go on by more of them, and no further message is whole.
+-- `more` follows the fragments, and no further message becomes whole.
 pub record GoesOn (limit : ℕ) (fs more : List Fragment) : Type 0 where
   pub messages : messages_of limit (fs ++ more) ≡ messages_of limit fs
   pub rest : rest_of limit (fs ++ more) ≡ rest_of limit fs ++ more
 
--- The fragments go on by one, which ends this message.
+-- One more fragment follows, and ends this message.
 pub record EndsMessage (limit : ℕ) (fs : List Fragment) (f : Fragment) (message : List ℕ) : Type 0 where
   pub messages : messages_of limit (fs ++ f ∷ []) ≡ messages_of limit fs ++ message ∷ []
   pub rest : rest_of limit (fs ++ f ∷ []) ≡ []
 
--- what a step says of the fragments before and the one that came
+-- what a step means for the fragments before and the one that came
 abbrev pub StepSays : ℕ → List Fragment → Fragment → Step → Type 0
 StepSays limit fs f (more octets count) = GoesOn limit fs (f ∷ []) ×
     (octets ≡ octets_of (rest_of limit fs ++ f ∷ [])) × (count ≡ length (rest_of limit fs ++ f ∷ []))

@@ -1,5 +1,5 @@
--- A TSAP that is read has 00 behind its octets, so that two of them are equal where they say the same. This form of it
--- is this profile's own.
+-- A TSAP that is read has 00 after its octets, so two equal TSAPs have equal values. This form is this profile's
+-- own.
 use Rattle.std.specs.Prelude.{◌≡◌, drop, replicate}
 use Rattle.s7_cotp.specs.declared.tpdu.Tsap.{Tsap}
 

@@ -1,5 +1,5 @@
--- What octets say as a TPDU (ISO 8073, 13.1 to 13.5, 13.7 and 13.12), or the first refusal that applies. The refusals
--- are this profile's own.
+-- The TPDU that octets are read as (ISO 8073, 13.1 to 13.5, 13.7 and 13.12), or the first refusal that applies. The
+-- refusals are this profile's own.
 use Rattle.std.specs.Prelude.{ℕ, zero, suc, ◌+◌, ◌-◌, nat_le, nat_lt, ◌==◌, ◌&&◌, ◌||◌, if◌then◌else◌, List, [], ◌∷◌, length, take, Result, Ok, Err}
 use Rattle.s7_outer.specs.Numbers.{number_of_two}
 use Rattle.s7_cotp.specs.Told.{ConnectionTold, SaidTold, Told, connect, confirm, fragment, disconnect, reject, result_map}
@@ -11,21 +11,23 @@ abbrev pub ◌>>=◌ : {A B : Type 0} → Result A CotpFault → (A → Result B
 (Ok x) >>= f = f x
 (Err e) >>= f = Err e
 
--- before any parameter: a size that isn't said counts as 0A, which is this profile's own
+-- the values before any parameter; a size that isn't given counts as 0A, which is this profile's own
 abbrev pub nothing_said : SaidTold
 nothing_said = record { size_code = 0x0A; calling = []; called = [] }
 
--- the size code, one octet from 07 to 0D (ISO 8073, 13.3.4); 0C and 0D in class 0 are this profile's own
+-- the size code: one octet from 07 to 0D (ISO 8073, 13.3.4); that 0C and 0D are accepted in class 0 is this
+-- profile's own
 abbrev pub size_in : List ℕ → Result ℕ CotpFault
 size_in [] = Err BadParameter
 size_in (n ∷ []) = if nat_le 7 n && nat_le n 13 then Ok n else Err BadParameter
 size_in (n ∷ m ∷ more) = Err BadParameter
 
--- a TSAP (ISO 8073, 13.3.4), 1 to 16 octets, a limit of this profile's own
+-- a TSAP (ISO 8073, 13.3.4): 1 to 16 octets, a limit of this profile's own
 abbrev pub tsap_in : List ℕ → Result (List ℕ) CotpFault
 tsap_in value = if nat_le 1 (length value) && nat_le (length value) 16 then Ok value else Err BadParameter
 
--- what is said with one parameter more: C0 is the TPDU size, C1 the calling and C2 the called TSAP (ISO 8073, 13.3.4)
+-- the values after one more parameter: C0 is the TPDU size, C1 the calling and C2 the called TSAP (ISO 8073,
+-- 13.3.4)
 abbrev pub with_parameter : ℕ → List ℕ → SaidTold → Result SaidTold CotpFault
 with_parameter code value said =
     if code == 0xC0 then result_map (λ n. record said { size_code = n }) (size_in value)
@@ -33,7 +35,7 @@ with_parameter code value said =
     else (if code == 0xC2 then result_map (λ t. record said { called = t }) (tsap_in value)
     else Ok said))
 
--- what is said with the parameters of these octets too, of which the first so many are passed over (ISO 8073, 13.2.3)
+-- the values after the parameters of these octets (ISO 8073, 13.2.3); the first `passed` octets are skipped
 abbrev pub said_in : ℕ → List ℕ → SaidTold → Result SaidTold CotpFault
 said_in passed [] said = Ok said
 said_in (suc passed) (x ∷ octets) said = said_in passed octets said

@@ -3,12 +3,12 @@ use Rattle.std.specs.Prelude.{ℕ, ◌+◌, ◌≤◌, Bool, if◌then◌else◌
 use Rattle.s7_outer.specs.Numbers.{two_octets}
 use Rattle.s7_cotp.specs.Told.{ConnectionTold}
 
--- the parameter of a TSAP, and nothing for an absent one (ISO 8073, 13.2.3 and 13.3.4)
+-- the parameter of a TSAP; an absent TSAP has none (ISO 8073, 13.2.3 and 13.3.4)
 abbrev pub tsap_octets : ℕ → List ℕ → List ℕ
 tsap_octets code [] = []
 tsap_octets code (x ∷ more) = code ∷ length (x ∷ more) ∷ x ∷ more
 
--- the TPDU size, the calling and the called TSAP (ISO 8073, 13.3.4)
+-- the parameters: the TPDU size, and the calling and the called TSAP (ISO 8073, 13.3.4)
 abbrev pub parameters_octets : ConnectionTold → List ℕ
 parameters_octets c = 0xC0 ∷ 1 ∷ c.size_code ∷ tsap_octets 0xC1 c.calling ++ tsap_octets 0xC2 c.called
 
@@ -23,7 +23,7 @@ spelling_of_connect = spelling_of_connection 0xE0
 abbrev pub spelling_of_confirm : ConnectionTold → List ℕ
 spelling_of_confirm = spelling_of_connection 0xD0
 
--- the end bit (ISO 8073, 13.7)
+-- the octet of the end bit (ISO 8073, 13.7)
 abbrev pub end_octet : Bool → ℕ
 end_octet last = if last then 0x80 else 0
 
@@ -35,7 +35,7 @@ spelling_of_data last user = 2 ∷ 0xF0 ∷ end_octet last ∷ user
 abbrev pub spelling_of_disconnect : ℕ → ℕ → ℕ → List ℕ
 spelling_of_disconnect dst_ref src_ref reason = 6 ∷ 0x80 ∷ two_octets dst_ref ++ two_octets src_ref ++ reason ∷ []
 
--- what a CR or CC can say (ISO 8073, 13.3.4); that a TSAP has at most 16 octets is this profile's own
+-- the values that a CR or CC can carry (ISO 8073, 13.3.4); that a TSAP has at most 16 octets is this profile's own
 pub record IsWritable (c : ConnectionTold) : Type 0 where
   pub least_size : 7 ≤ c.size_code
   pub most_size : c.size_code ≤ 13

@@ -1,4 +1,4 @@
--- What a TPDU says (ISO 8073, 13.3 to 13.5, 13.7 and 13.12), without where its octets lie.
+-- The fields of a TPDU (ISO 8073, 13.3 to 13.5, 13.7 and 13.12), without the location of its octets.
 use Rattle.std.specs.Prelude.{◌≤◌, ℕ, Bool, List, take, Result, Ok, Err}
 use Rattle.s7_cotp.specs.Padded.{IsPadded}
 use Rattle.s7_cotp.specs.declared.tpdu.Tsap.{Tsap}
@@ -7,7 +7,7 @@ use Rattle.s7_cotp.specs.declared.tpdu.Tpdu.{Tpdu}
 use Rattle.s7_cotp.specs.declared.tpdu.Tpdu.TheVariants as tpdus
 use Rattle.s7_cotp.specs.declared.said.Said.{Said}
 
--- what a connection request or confirm says (ISO 8073, 13.3 and 13.4): an absent TSAP has no octets
+-- the fields of a connection request or confirm (ISO 8073, 13.3 and 13.4); an absent TSAP has no octets
 pub record ConnectionTold : Type 0 where
   pub dst_ref : ℕ
   pub src_ref : ℕ
@@ -16,7 +16,7 @@ pub record ConnectionTold : Type 0 where
   pub calling : List ℕ
   pub called : List ℕ
 
--- what a CR, a CC, a DT, a DR or an ER says (ISO 8073, 13.3 to 13.5, 13.7 and 13.12)
+-- the fields of a CR, a CC, a DT, a DR or an ER (ISO 8073, 13.3 to 13.5, 13.7 and 13.12)
 pub data Told : Type 0 where
   connect : ConnectionTold → Told
   confirm : ConnectionTold → Told
@@ -24,7 +24,7 @@ pub data Told : Type 0 where
   disconnect : ℕ → Told
   reject : ℕ → Told
 
--- what the parameters of a connection say (ISO 8073, 13.3.4)
+-- the values of the parameters of a connection (ISO 8073, 13.3.4)
 pub record SaidTold : Type 0 where
   pub size_code : ℕ
   pub calling : List ℕ
@@ -53,7 +53,7 @@ told_of (tpdus.Fragment last user) = fragment last user.now
 told_of (tpdus.Disconnect reason) = disconnect reason
 told_of (tpdus.Reject cause) = reject cause
 
--- the TSAPs of a connection have 00 behind their octets
+-- both TSAPs of a connection have 00 after their octets
 abbrev pub IsPaddedConnection : Connection → Type 0
 IsPaddedConnection c = IsPadded c.calling × IsPadded c.called
 
@@ -64,8 +64,8 @@ IsPaddedTpdu (tpdus.Fragment last user) = Unit {0}
 IsPaddedTpdu (tpdus.Disconnect reason) = Unit {0}
 IsPaddedTpdu (tpdus.Reject cause) = Unit {0}
 
--- what is read can be written: a size code from 07 to 0D (ISO 8073, 13.3.4), and TSAPs of at most 16 octets, a limit of
--- this profile's own
+-- what is read can be written: the size code is from 07 to 0D (ISO 8073, 13.3.4), and TSAPs have at most 16 octets,
+-- a limit of this profile's own
 abbrev pub CanBeWritten : Connection → Type 0
 CanBeWritten c = (7 ≤ c.size_code) × (c.size_code ≤ 13) × (c.calling.len ≤ 16) × (c.called.len ≤ 16)
 

@@ -1,4 +1,4 @@
--- The TPDUs of class 0 (ISO 8073, 13.1 to 13.5, 13.7 and 13.12): which octets say what.
+-- The TPDUs of class 0 (ISO 8073, 13.1 to 13.5, 13.7 and 13.12): which octets are which TPDU.
 use Rattle.std.specs.Prelude.{◌≡◌, ℕ, ◌+◌, ◌≤◌, Bool, ◌==◌, nat_le, if◌then◌else◌, List, [], ◌∷◌, ◌++◌, length}
 use Rattle.std.specs.List.{flat_map, AllByRecursion}
 use Rattle.s7_outer.specs.Numbers.{number_of_two}
@@ -9,12 +9,12 @@ pub record Parameter : Type 0 where
   pub code : ℕ
   pub value : List ℕ
 
--- its code, the length of its value, and its value
+-- the octets of a parameter: its code, the length of its value, and its value
 abbrev pub parameter_octets : Parameter → List ℕ
 parameter_octets p = p.code ∷ length p.value ∷ p.value
 
--- The TPDU size, C0, is one octet from 07 to 0D (ISO 8073, 13.3.4). That 0C and 0D are taken in class 0 too is this
--- profile's own.
+-- The TPDU size, C0, is one octet from 07 to 0D (ISO 8073, 13.3.4). That 0C and 0D are accepted in class 0 too is
+-- this profile's own.
 abbrev pub IsSize : List ℕ → Type 0
 IsSize value = (n : ℕ) × (value ≡ n ∷ []) × (7 ≤ n) × (n ≤ 13)
 
@@ -22,20 +22,21 @@ IsSize value = (n : ℕ) × (value ≡ n ∷ []) × (7 ≤ n) × (n ≤ 13)
 abbrev pub IsTsap : List ℕ → Type 0
 IsTsap value = (1 ≤ length value) × (length value ≤ 16)
 
--- Any other parameter is passed over: in a CR by ISO 8073, 13.2.3, in a CC as this profile's own.
+-- The value is one that the code allows. Any other parameter is skipped: in a CR by ISO 8073, 13.2.3, in a CC by
+-- this profile's own rule.
 pub record IsGood (p : Parameter) : Type 0 where
   pub size : p.code ≡ 0xC0 → IsSize p.value
   pub calling : p.code ≡ 0xC1 → IsTsap p.value
   pub called : p.code ≡ 0xC2 → IsTsap p.value
 
--- the value of the last parameter with a code, where there is one (ISO 8073, 13.2.3)
+-- the value of the last parameter with this code, or `otherwise` if there is none (ISO 8073, 13.2.3)
 abbrev pub last_value : ℕ → List ℕ → List Parameter → List ℕ
 last_value code otherwise [] = otherwise
 last_value code otherwise (p ∷ ps) = last_value code (if p.code == code then p.value else otherwise) ps
 
--- A connection request or confirm (ISO 8073, 13.3 and 13.4): the length octet counts what follows it in the header.
--- That a size that isn't said counts as 0A, 1,024 octets, and that what stands behind the header is passed over, is
--- this profile's own.
+-- A connection request or confirm (ISO 8073, 13.3 and 13.4). The length octet counts the octets of the header that
+-- follow it. Two rules are this profile's own: a size that isn't given counts as 0A, 1,024 octets, and what follows
+-- the header is skipped.
 pub record SpellsConnection (code : ℕ) (octets : List ℕ) (c : ConnectionTold) : Type 0 where
   pub dst_high : ℕ
   pub dst_low : ℕ
@@ -51,13 +52,13 @@ pub record SpellsConnection (code : ℕ) (octets : List ℕ) (c : ConnectionTold
   pub calling : c.calling ≡ last_value 0xC1 [] parameters
   pub called : c.called ≡ last_value 0xC2 [] parameters
 
--- A fragment (ISO 8073, 13.7): of its third octet the high bit is the end bit, and no other is read.
+-- A fragment (ISO 8073, 13.7). The high bit of its third octet is the end bit; the other bits are ignored.
 pub record SpellsFragment (octets : List ℕ) (last : Bool) (user : List ℕ) : Type 0 where
   pub end : ℕ
   pub spelled : octets ≡ 2 ∷ 0xF0 ∷ end ∷ user
   pub bit : last ≡ nat_le 0x80 end
 
--- A disconnect request (ISO 8073, 13.5): what follows its reason is passed over.
+-- A disconnect request (ISO 8073, 13.5). What follows its reason is skipped.
 pub record SpellsDisconnect (octets : List ℕ) (reason : ℕ) : Type 0 where
   pub dst_high : ℕ
   pub dst_low : ℕ
@@ -67,7 +68,7 @@ pub record SpellsDisconnect (octets : List ℕ) (reason : ℕ) : Type 0 where
   pub behind : List ℕ
   pub spelled : octets ≡ (length more + 6) ∷ 0x80 ∷ dst_high ∷ dst_low ∷ src_high ∷ src_low ∷ reason ∷ more ++ behind
 
--- An error (ISO 8073, 13.12): what follows its cause is passed over.
+-- An error (ISO 8073, 13.12). What follows its cause is skipped.
 pub record SpellsReject (octets : List ℕ) (cause : ℕ) : Type 0 where
   pub dst_high : ℕ
   pub dst_low : ℕ
@@ -75,7 +76,7 @@ pub record SpellsReject (octets : List ℕ) (cause : ℕ) : Type 0 where
   pub behind : List ℕ
   pub spelled : octets ≡ (length more + 4) ∷ 0x70 ∷ dst_high ∷ dst_low ∷ cause ∷ more ++ behind
 
--- the octets are a TPDU that says this, with the code of its kind (ISO 8073, 13.1)
+-- the octets are a TPDU with these fields, and the code is that of its kind (ISO 8073, 13.1)
 abbrev pub SpellsTpdu : List ℕ → Told → Type 0
 SpellsTpdu octets (connect c) = SpellsConnection 0xE0 octets c
 SpellsTpdu octets (confirm c) = SpellsConnection 0xD0 octets c

@@ -1,4 +1,4 @@
-//! Fragments joined to messages.
+//! Joining fragments to messages.
 
 ghost use Rattle.std.specs.Prelude.{◌≤◌, ◌≡◌, ◌<◌, ◌++◌, ◌∷◌, [], ℕ, List, length, true, IfOk, if◌then◌else◌, nat_lt};
 ghost use Rattle.s7_cotp.specs.Gathered.{empty, is_fault, is_whole};
@@ -9,15 +9,15 @@ use s7_outer::{Buffer, Memory};
 use std::alloc::Global;
 use std::marker::Model;
 
-/// How many fragments a message has at most.
+/// The greatest number of fragments of a message.
 const MOST_FRAGMENTS: usize = 64;
 
-/// What a joiner answers.
+/// What a joiner reports of its message.
 #[derive(Clone, Copy, Debug, PartialEq, Eq)]
 pub enum Joined {
     /// A message is whole.
     Whole,
-    /// A message has begun, and its last fragment has not come.
+    /// The message isn't whole: its last fragment hasn't come yet.
     More,
     /// The message has more than 64 fragments.
     TooManyFragments,
@@ -25,12 +25,15 @@ pub enum Joined {
     TooLong,
 }
 
-/// Joins fragments to messages (ISO 8073, 13.7: the user data up to a DT with the end bit is one message, a
-/// TSDU). Its whole buffer is taken when it is made.
+/// Joins fragments to messages (ISO 8073, 13.7): the user data up to a DT with the end bit is one message, a TSDU.
+/// Its buffer is allocated when it is made, and never grows.
 #[derive(Drop)]
 pub struct Joiner {
+    /// The octets of the message.
     buffer: Buffer,
+    /// The number of fragments of the open message.
     count: usize,
+    /// The last answer.
     state: Joined,
 }
 
@@ -48,8 +51,8 @@ impl Model for Joiner {
 }
 
 impl Joiner {
-    /// A joiner of messages of at most `limit` octets, which has no fragment yet. `Memory` comes where there
-    /// is none for the buffer.
+    /// A joiner without fragments, for messages of at most `limit` octets. Returns `Memory` if the allocation of
+    /// its buffer fails.
     pub fn new(alloc: Global, limit: usize) -> Result<Joiner, Memory>
         ensures empty { IfOk result (λ j. j ≡ empty limit) }
         ensures holds { IfOk result (λ j. HoldsRest [] j) }
@@ -61,7 +64,7 @@ impl Joiner {
         })
     }
 
-    /// Lets go of all fragments, after a fault too. The buffer stays, and no memory is taken.
+    /// Drops all fragments, and a fault. The buffer stays, and nothing is allocated.
     pub fn restart(&mut self)
         ensures empty { self.new ≡ empty self.old.limit }
         ensures holds { HoldsRest [] self.new }
@@ -71,15 +74,15 @@ impl Joiner {
         self.state = Joined::More;
     }
 
-    /// Adds a fragment to the message, or begins the next one where the message is whole.
+    /// Adds a fragment to the message, or begins the next message if the last one is whole.
     ///
-    /// `TooManyFragments` comes at the 65th fragment of a message, else `TooLong` where the message passes the
-    /// limit. Both add nothing, and stay: each later call answers the same and changes nothing.
+    /// Returns `TooManyFragments` at the 65th fragment of a message, else `TooLong` if the message exceeds the
+    /// limit. Such a fragment isn't added. The fault stays: each later call returns it again and changes nothing.
     pub fn add(&mut self, user: &[u8], last: bool) -> Joined
         ensures answer { result ≡ self.new.state }
         ensures value { self.new ≡ with_fragment self.old (record { last = last; user = user.now }) }
 
-        // Whatever fragments came before, their messages and the rest go on so.
+        // whatever fragments came before
         ensures holds { (fs : List Fragment) → HoldsRest fs self.old
             → HoldsRest (fs ++ record { last = last; user = user.now } ∷ []) self.new }
         ensures goes_on { (fs : List Fragment) → HoldsRest fs self.old → result ≡ Joined.More
@@ -87,7 +90,7 @@ impl Joiner {
         ensures ends_message { (fs : List Fragment) → HoldsRest fs self.old → result ≡ Joined.Whole
             → EndsMessage self.old.limit fs (record { last = last; user = user.now }) self.new.octets }
 
-        // Behind a fault no message ends, whatever comes.
+        // After a fault no message ends, whatever fragments come.
         ensures fault { (fs more : List Fragment) → HoldsRest fs self.old → is_fault result ≡ true
             → GoesOn self.old.limit fs (record { last = last; user = user.now } ∷ more) }
         ensures stays { is_fault self.old.state ≡ true → (result ≡ self.old.state) × (self.new ≡ self.old) }
@@ -95,7 +98,7 @@ impl Joiner {
         self.take(user, last)
     }
 
-    /// The message, which is whole.
+    /// The message that is whole.
     pub fn message(&self) -> &[u8]
         requires { self.now.state ≡ Joined.Whole }
         ensures { result.now ≡ self.now.octets }
@@ -103,8 +106,8 @@ impl Joiner {
         self.buffer.as_slice()
     }
 
-    /// How many octets are held of a message that isn't whole: 0 where it is. After a fault they are those from
-    /// before it.
+    /// The number of octets held of a message that isn't whole; 0 if it is whole. After a fault these are the
+    /// octets from before it.
     pub fn held(&self) -> usize
         ensures held { result ≡ (if is_whole self.now.state then 0 else length self.now.octets) }
         ensures most { result ≤ self.now.limit }
@@ -115,15 +118,15 @@ impl Joiner {
         }
     }
 
-    /// Whether fragments are held of a message that isn't whole, be they without octets. After a fault they are
-    /// those from before it.
+    /// Whether fragments are held of a message that isn't whole, even if they have no octets. After a fault these
+    /// are the fragments from before it.
     pub fn is_open(&self) -> bool
         ensures { result ≡ nat_lt 0 self.now.count }
     {
         self.count > 0
     }
 
-    // Takes a fragment, or a fault.
+    /// Takes the fragment, or moves to the state of the fault that it shows.
     fn take(&mut self, user: &[u8], last: bool) -> Joined
         ensures answer { result ≡ self.new.state }
         ensures value { self.new ≡ with_fragment self.old (record { last = last; user = user.now }) }
@@ -149,7 +152,7 @@ impl Joiner {
         self.state
     }
 
-    // What a joiner that is at no fault answers to a fragment.
+    /// What a joiner without a fault answers to this fragment.
     fn judge(&self, user: &[u8], last: bool) -> Joined
         ensures { result ≡ answer_of
             (joined_with self.now.limit self.now.octets self.now.count (record { last = last; user = user.now })) }

@@ -1,4 +1,4 @@
-//! TPDUs of ISO 8073, class 0: read, written, and their fragments joined to messages.
+//! TPDUs of ISO 8073, class 0: reading, writing, and joining their fragments to messages.
 #![tactic(auto)]
 
 mod cutting;

@@ -1,4 +1,4 @@
-//! The fragments of a message, one after another.
+//! The fragments of a message, as an iterator.
 
 ghost use Rattle.std.specs.Prelude.{◌≡◌, ◌<◌};
 ghost use Rattle.std.specs.Iterator.{YieldsFirst, item_count};
@@ -6,12 +6,17 @@ ghost use Rattle.s7_cotp.specs.Pairs.{pairs_from, fragments_of};
 
 use std::marker::Model;
 
-/// The fragments of a message, as the pairs of where each begins and where it ends.
+/// The fragments of a message, in order. Each item is the pair of the offset at which the fragment begins and the
+/// offset at which it ends.
 #[derive(Drop)]
 pub struct Fragments {
+    /// The number of fragments left.
     left: usize,
+    /// The greatest number of octets of a fragment.
     room: usize,
+    /// The offset of the next fragment.
     from: usize,
+    /// The length of the message.
     to: usize,
 }
 
@@ -27,7 +32,7 @@ impl Model for Fragments {
 }
 
 impl Fragments {
-    /// Those of `len` octets, so many in each.
+    /// The fragments of a message of `len` octets, with `room` octets each; the last may have fewer.
     pub(crate) fn of(len: usize, room: usize) -> Fragments
         requires { 0 < room }
         ensures { result ≡ pairs_from (fragments_of len room) room 0 len }

@@ -1,4 +1,4 @@
-//! The parameters of a connection request or confirm.
+//! Parameters of connection requests and confirms.
 
 ghost use Rattle.std.specs.Prelude.{◌≡◌, ◌≤◌, IfOk};
 ghost use Rattle.s7_cotp.specs.Padded.{IsPadded};
@@ -8,19 +8,19 @@ ghost use Rattle.s7_cotp.specs.Reading.{with_parameter, size_in, tsap_in, said_i
 use crate::said::Said;
 use crate::tpdu::{CotpFault, Tsap};
 
-/// The TPDU size.
+/// The code of the TPDU size.
 pub(crate) const SIZE: u8 = 0xC0;
 
-/// The TSAP of who calls.
+/// The code of the calling TSAP.
 pub(crate) const CALLING: u8 = 0xC1;
 
-/// The TSAP of who is called.
+/// The code of the called TSAP.
 pub(crate) const CALLED: u8 = 0xC2;
 
-/// The size code of a TPDU size that isn't said: 1,024 octets.
+/// The size code if no TPDU size is given: 1,024 octets.
 const SIZE_NOT_SAID: u8 = 0x0A;
 
-/// Reads all parameters, of which the last of a code counts.
+/// Reads all parameters. If a code occurs twice, its last value counts. Other codes are skipped.
 pub(crate) fn read_parameters(octets: &[u8]) -> Result<Said, CotpFault>
     ensures { result_map said_of result ≡ said_in 0 octets.now nothing_said }
 {
@@ -42,6 +42,7 @@ pub(crate) fn read_parameters(octets: &[u8]) -> Result<Said, CotpFault>
     }
 }
 
+/// The values before any parameter is read: TPDU size 1,024, and no TSAPs.
 fn nothing_said() -> Said
     ensures { said_of result ≡ nothing_said }
 {
@@ -56,7 +57,7 @@ fn nothing_said() -> Said
     }
 }
 
-/// What is said with one parameter more.
+/// The values after one more parameter.
 fn with_parameter(mut said: Said, code: u8, value: &[u8]) -> Result<Said, CotpFault>
     ensures { result_map said_of result ≡ with_parameter code value.now (said_of said) }
 {
@@ -69,6 +70,7 @@ fn with_parameter(mut said: Said, code: u8, value: &[u8]) -> Result<Said, CotpFa
     Ok(said)
 }
 
+/// The value of a TPDU size: one octet from 07 to 0D, else `BadParameter`.
 fn size_code_of(value: &[u8]) -> Result<u8, CotpFault>
     ensures size { result ≡ size_in value.now }
     ensures within { IfOk result (λ n. (7 ≤ n) × (n ≤ 13)) }
@@ -79,6 +81,7 @@ fn size_code_of(value: &[u8]) -> Result<u8, CotpFault>
     }
 }
 
+/// The value of a TSAP: 1 to 16 octets, else `BadParameter`.
 fn tsap_of(value: &[u8]) -> Result<Tsap, CotpFault>
     ensures value { result_map tsap_of result ≡ tsap_in value.now }
     ensures padded { IfOk result IsPadded }

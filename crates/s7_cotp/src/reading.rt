@@ -9,24 +9,27 @@ use crate::parameters::read_parameters;
 use crate::tpdu::{Connection, CotpFault, Tpdu};
 use bytes::Buf;
 
-// Each TPDU of class 0 by its code, the second octet of its header (ISO 8073, 13.1).
+/// The code of a CR. A TPDU's code is the second octet of its header (ISO 8073, 13.1).
 pub(crate) const CONNECT: u8 = 0xE0;
 
+/// The code of a CC.
 pub(crate) const CONFIRM: u8 = 0xD0;
 
+/// The code of a DT.
 pub(crate) const DATA: u8 = 0xF0;
 
+/// The code of a DR.
 pub(crate) const DISCONNECT: u8 = 0x80;
 
+/// The code of an ER.
 pub(crate) const REJECT: u8 = 0x70;
 
 /// Reads the one TPDU of a packet's body (ISO 8073, 13.3 to 13.5, 13.7 and 13.12).
 ///
-/// The first that applies: `BadCode` where the body has fewer than two octets, or its code is that of no CR
-/// (0xE0), CC (0xD0), DT (0xF0), DR (0x80) or ER (0x70); `ShortHeader` where the length octet passes the
-/// body, is below 6 in a CR, CC or DR, below 4 in an ER, or other than 2 in a DT; `BadParameter` where a
-/// parameter of a CR or CC passes the header, a TPDU size isn't one octet from 07 to 0D, or a TSAP hasn't 1
-/// to 16 octets.
+/// The first fault in this order is returned. `BadCode`: the body has fewer than two octets, or its code isn't that
+/// of a CR (0xE0), CC (0xD0), DT (0xF0), DR (0x80) or ER (0x70). `ShortHeader`: the length octet exceeds the body,
+/// is below 6 in a CR, CC or DR, is below 4 in an ER, or isn't 2 in a DT. `BadParameter`: a parameter of a CR or CC
+/// exceeds the header, a TPDU size isn't one octet from 07 to 0D, or a TSAP doesn't have 1 to 16 octets.
 #[tactic(auto, unfolding(crate::specs::Reading::tpdu_of))]
 pub fn read_tpdu(body: &[u8]) -> Result<Tpdu<'_>, CotpFault>
     ensures told { result_map told_of result ≡ tpdu_of body.now }
@@ -47,7 +50,7 @@ pub fn read_tpdu(body: &[u8]) -> Result<Tpdu<'_>, CotpFault>
     }
 }
 
-/// What follows the code of a CR or CC.
+/// Reads what follows the code of a CR or CC.
 fn read_connection(length: usize, rest: &[u8]) -> Result<Connection, CotpFault>
     ensures told { result_map connection_of result ≡ connection_in length rest.now }
     ensures padded { IfOk result IsPaddedConnection }
@@ -70,7 +73,7 @@ fn read_connection(length: usize, rest: &[u8]) -> Result<Connection, CotpFault>
     })
 }
 
-/// What follows the code of a DT.
+/// Reads what follows the code of a DT.
 fn read_fragment(length: usize, rest: &[u8]) -> Result<Tpdu<'_>, CotpFault>
     ensures { result_map told_of result ≡ fragment_in length rest.now }
 {
@@ -83,7 +86,7 @@ fn read_fragment(length: usize, rest: &[u8]) -> Result<Tpdu<'_>, CotpFault>
     }
 }
 
-/// What follows the code of a DR.
+/// Reads what follows the code of a DR.
 fn read_disconnect(length: usize, rest: &[u8]) -> Result<Tpdu<'_>, CotpFault>
     ensures { result_map told_of result ≡ disconnect_in length rest.now }
 {
@@ -95,7 +98,7 @@ fn read_disconnect(length: usize, rest: &[u8]) -> Result<Tpdu<'_>, CotpFault>
     }
 }
 
-/// What follows the code of an ER.
+/// Reads what follows the code of an ER.
 fn read_reject(length: usize, rest: &[u8]) -> Result<Tpdu<'_>, CotpFault>
     ensures { result_map told_of result ≡ reject_in length rest.now }
 {
@@ -107,7 +110,7 @@ fn read_reject(length: usize, rest: &[u8]) -> Result<Tpdu<'_>, CotpFault>
     }
 }
 
-/// A reference of two octets, the high one first.
+/// A reference from its two octets, the high one first.
 fn reference(high: u8, low: u8) -> u16
     ensures { result ≡ 256 * high + low }
 {

@@ -1,11 +1,11 @@
-//! What the parameters of a connection say.
+//! The values of the parameters of a connection.
 
 ghost use Rattle.std.specs.Prelude.{◌≤◌};
 ghost use Rattle.s7_cotp.specs.Padded.{IsPadded};
 
 use crate::tpdu::Tsap;
 
-/// The TPDU size and the TSAPs, absent ones too.
+/// The TPDU size and the TSAPs, present or absent.
 #[derive(Clone, Copy)]
 pub(crate) struct Said {
     pub(crate) size_code: u8,

@@ -1,28 +1,28 @@
-//! TPDUs and what they carry.
+//! TPDUs and their fields.
 
 /// A transport selector (TSAP ID) of 1 to 16 octets, or none.
 #[derive(Clone, Copy, Debug, PartialEq, Eq)]
 pub struct Tsap {
-    /// The first `len` of these count. The others are 00 where the TSAP was read.
+    /// The first `len` octets are the TSAP. If the TSAP was read, the others are 00.
     pub octets: [u8; 16],
-    /// How many octets it has, from 1 to 16: 0 where it is absent.
+    /// The number of octets of the TSAP, from 1 to 16; 0 if it is absent.
     pub len: u8,
 }
 
-/// What a connection request or confirm says (ISO 8073, 13.3 and 13.4).
+/// The fields of a connection request or confirm (ISO 8073, 13.3 and 13.4).
 #[derive(Clone, Copy, Debug, PartialEq, Eq)]
 pub struct Connection {
     /// The destination reference.
     pub dst_ref: u16,
     /// The source reference.
     pub src_ref: u16,
-    /// The octet of class and options.
+    /// The octet of the class and the options.
     pub class: u8,
-    /// The TPDU size as a power of two, header included: from 07 (128 octets) to 0D (8,192 octets).
+    /// The TPDU size as a power of two, from 07 (128 octets) to 0D (8,192 octets). The size includes the header.
     pub size_code: u8,
-    /// The TSAP of who calls.
+    /// The TSAP of the calling side.
     pub calling: Tsap,
-    /// The TSAP of who is called.
+    /// The TSAP of the called side.
     pub called: Tsap,
 }
 
@@ -35,30 +35,30 @@ pub enum Tpdu<'a> {
     Confirm(Connection),
     /// DT, a fragment of a message.
     Fragment {
-        /// The end bit: the fragment is its message's last.
+        /// The end bit: this is the last fragment of its message.
         last: bool,
-        /// The user octets.
+        /// The user data.
         user: &'a [u8],
     },
     /// DR, a disconnect request.
     Disconnect {
-        /// Why.
+        /// The reason of the disconnect.
         reason: u8,
     },
     /// ER, an error.
     Reject {
-        /// Why.
+        /// The cause of the error.
         cause: u8,
     },
 }
 
-/// Why octets are no TPDU, the first that applies.
+/// Why octets aren't a TPDU; the first fault in this order is reported.
 #[derive(Clone, Copy, Debug, PartialEq, Eq)]
 pub enum CotpFault {
-    /// There are fewer than two octets, or the code is none of CR, CC, DT, DR and ER.
+    /// There are fewer than two octets, or the code isn't that of a CR, CC, DT, DR or ER.
     BadCode,
-    /// The length octet passes the octets that are there, or isn't one that the code can have.
+    /// The length octet exceeds the octets present, or isn't one that the code allows.
     ShortHeader,
-    /// A parameter of a CR or CC passes the header, or has a value that its code can't have.
+    /// A parameter of a CR or CC exceeds the header, or has a value that its code doesn't allow.
     BadParameter,
 }

@@ -9,7 +9,7 @@ use crate::parameters::{CALLED, CALLING, SIZE};
 use crate::reading::{CONFIRM, CONNECT, DATA, DISCONNECT};
 use crate::tpdu::{Connection, Tsap};
 
-/// Writes a connection request to the front of `into`, and says how many octets it has. The rest of `into`
+/// Writes a connection request to the beginning of `into`, and returns its length in octets. The rest of `into`
 /// stays.
 pub fn write_connect(c: &Connection, into: &mut [u8]) -> usize
     requires least_size { 7 ≤ c.now.size_code }
@@ -23,7 +23,7 @@ pub fn write_connect(c: &Connection, into: &mut [u8]) -> usize
     write_connection(CONNECT, c, into)
 }
 
-/// Writes a connection confirm to the front of `into`, and says how many octets it has. The rest of `into`
+/// Writes a connection confirm to the beginning of `into`, and returns its length in octets. The rest of `into`
 /// stays.
 pub fn write_confirm(c: &Connection, into: &mut [u8]) -> usize
     requires least_size { 7 ≤ c.now.size_code }
@@ -37,7 +37,7 @@ pub fn write_confirm(c: &Connection, into: &mut [u8]) -> usize
     write_connection(CONFIRM, c, into)
 }
 
-/// Writes a fragment of a message to the front of `into`, and says how many octets it has. The rest of `into`
+/// Writes a DT with this user data to the beginning of `into`, and returns its length in octets. The rest of `into`
 /// stays.
 pub fn write_data(last: bool, user: &[u8], into: &mut [u8]) -> usize
     requires room { length user.now + 3 ≤ length into.old }
@@ -50,7 +50,7 @@ pub fn write_data(last: bool, user: &[u8], into: &mut [u8]) -> usize
     size
 }
 
-/// Writes a disconnect request to the front of `into`, and says how many octets it has. The rest of `into`
+/// Writes a disconnect request to the beginning of `into`, and returns its length in octets. The rest of `into`
 /// stays.
 pub fn write_disconnect(dst_ref: u16, src_ref: u16, reason: u8, into: &mut [u8]) -> usize
     requires room { 7 ≤ length into.old }
@@ -63,7 +63,7 @@ pub fn write_disconnect(dst_ref: u16, src_ref: u16, reason: u8, into: &mut [u8])
     7
 }
 
-/// Writes a CR or CC, whose parameters are the TPDU size and the TSAPs that are there.
+/// Writes a CR or CC with this code. Its parameters are the TPDU size and the TSAPs that are present.
 fn write_connection(code: u8, c: &Connection, into: &mut [u8]) -> usize
     requires calling { c.now.calling.len ≤ 16 }
     requires called { c.now.called.len ≤ 16 }
@@ -119,6 +119,7 @@ fn tsap_size(tsap: &Tsap) -> usize
     }
 }
 
+/// The third octet of a DT: its high bit is the end bit.
 fn end_octet(last: bool) -> u8
     ensures { result ≡ end_octet last }
 {

@@ -1,7 +1,7 @@
--- What answers a client's telegrams (Snap7 1.4 sources, s7_types.h: TS7ResHeader23, TS7ResHeader17). An answer has the
--- sequence of its telegram. A job is answered by an acknowledgement with data and no error, user data by user data, and
--- either by a refusal, an acknowledgement with an error word alone. In a download the server goes on with jobs of its
--- own, which have sequences of its own.
+-- The answers to a client's telegrams (Snap7 1.4 sources, s7_types.h: TS7ResHeader23, TS7ResHeader17). An answer
+-- has the sequence of its telegram. A job is answered by an acknowledgement with data and without an error, and
+-- user data are answered by user data. A refusal of either is an acknowledgement with an error word and nothing
+-- else. In a download the server goes on with jobs of its own, which have sequences of its own.
 use Rattle.std.specs.Prelude.{ℕ, ◌+◌, Bool, true, false, not, ◌==◌, ◌&&◌, nat_le, List, [], ◌∷◌, length, drop, take, slice_index, Option, None, Some, option_map, Result, Ok, Err, if◌then◌else◌}
 use Rattle.s7_header.specs.Octets.{number_at}
 use Rattle.s7_header.specs.declared.header.Header.{Header}
@@ -30,39 +30,39 @@ use Rattle.s7_dialogue.specs.Question.{announces, awaits_call, gives, inserts}
 use Rattle.s7_dialogue.specs.Downloads.{name_in, piece_at, is_call, function_behind}
 use Rattle.s7_dialogue.specs.Uploads.{upload_size, slice_in, fitting}
 
--- the answer for one item that was read: its return code, and its octets where that is FF
+-- the answer for one item that was read: its return code, and its octets if the code is FF
 pub record ItemAnswer : Type 0 where
   pub code : ℕ
   pub octets : List ℕ
 
 pub data Answer : Type 0 where
-  -- what was granted
+  -- the negotiation was granted so
   grants : (granted : Negotiation) → Answer
-  -- the items that were read
+  -- the return codes and octets of the items of a read
   tells : (items : List ItemAnswer) → Answer
-  -- the return codes of the items that were written
+  -- the return codes of the items of a write
   notes : (codes : List ℕ) → Answer
-  -- the status of a control
+  -- the status that answers a control
   stands : (status : ℕ) → Answer
-  -- octets of user data under a sequence octet, and whether more follow them
+  -- octets of user data with a sequence octet, and whether more follow
   brings : (octet : ℕ) → (more : Bool) → (octets : List ℕ) → Answer
-  -- the id of an upload that was started, and how many octets the image has
+  -- the id of an upload that was started, and the number of octets of the image
   uploads : (id size : ℕ) → Answer
-  -- octets of an image, and whether more follow them
+  -- octets of an image, and whether more follow
   slices : (more : Bool) → (octets : List ℕ) → Answer
-  -- that an upload has ended
+  -- the upload has ended
   uploaded : Answer
-  -- that a download has begun
+  -- the download has begun
   announced : Answer
-  -- that the server asks on in a download, by a job of this sequence
+  -- the server goes on with a download, by a job of this sequence
   calls : (sequence : ℕ) → Answer
-  -- the error word of a refusal
+  -- the telegram is refused, with this error word
   refuses : (error : ℕ) → Answer
 
 -- ---- the data items of a read's answer (Snap7 1.4 sources, s7_types.h: TResFunReadItem)
 
--- the octets begin with a data item that was read: its transport size and length are the item's own,
--- and its octets and the padding are there
+-- the octets begin with a data item that was read: its transport size and its length are those of the item, and its
+-- octets and the padding are present
 abbrev pub begins_read : Item → Bool → List ℕ → Bool
 begins_read item last octets =
     (slice_index octets 0 == 0xFF && slice_index octets 1 == transport_of item.word)
@@ -78,7 +78,7 @@ begins_refused octets =
 abbrev pub item_first : ItemAnswer → List ItemAnswer → List ItemAnswer
 item_first answer answers = answer ∷ answers
 
--- the answers for these items that the octets are, and nothing where they are none
+-- the octets read as the answers for these items; `None` if they aren't
 abbrev pub item_answers : List Item → List ℕ → Option (List ItemAnswer)
 item_answers [] octets = if length octets == 0 then Some [] else None
 item_answers (item ∷ items) octets =
@@ -97,12 +97,12 @@ abbrev pub counts_items : ℕ → List Item → List ℕ → Bool
 counts_items function items params =
     length params == 2 && (slice_index params 0 == function && slice_index params 1 == length items)
 
--- what was granted (Snap7 1.4 sources, s7_types.h: TReqFunNegotiateParams)
+-- the answer of a grant (Snap7 1.4 sources, s7_types.h: TReqFunNegotiateParams)
 abbrev pub grant_in : Result Negotiation BadParams → Option Answer
 grant_in (Ok granted) = Some (grants granted)
 grant_in (Err bad) = None
 
--- the function of a control: 29 of a stop, and else 28 (Snap7 1.4 sources, s7_types.h: TReqFunPlcStop,
+-- the function of a control: 29 for a stop, else 28 (Snap7 1.4 sources, s7_types.h: TReqFunPlcStop,
 -- TReqFunPlcHotStart)
 abbrev pub function_of : Control → ℕ
 function_of control.Start = 0x28
@@ -120,7 +120,7 @@ tells_status control params = length params == 2 && slice_index params 0 == func
 abbrev pub sliced : Piece → Answer
 sliced piece = slices piece.more piece.octets
 
--- what an acknowledgement with these parameters and data answers (Snap7 1.4 sources, s7_types.h: TS7ResHeader23)
+-- the answer in an acknowledgement with these parameters and data (Snap7 1.4 sources, s7_types.h: TS7ResHeader23)
 abbrev pub acknowledged : Question → List ℕ → List ℕ → Option Answer
 acknowledged (negotiates asked) params body =
     if length body == 0 then grant_in (negotiation_of params) else None
@@ -147,8 +147,8 @@ acknowledged (inserts image call) params body =
 
 -- ---- user data (Snap7 1.4 sources, s7_types.h: TS7Params7)
 
--- Octets of user data with these parameters, behind those that came: an error word comes without octets, and else they
--- go on with what came.
+-- The answer in octets of user data with these parameters, after the octets so far. With an error word there are no
+-- octets; otherwise the octets continue those so far.
 abbrev pub brought : Subject → List ℕ → UserParams → List ℕ → Option Answer
 brought subject so_far params octets =
     if params.error == 0
@@ -160,7 +160,7 @@ abbrev pub if_data : Subject → List ℕ → UserParams → Option (List ℕ) �
 if_data subject so_far params None = None
 if_data subject so_far params (Some octets) = brought subject so_far params octets
 
--- the answer has the sequence octet that is asked for, if one is
+-- the answer has the sequence octet that is expected, if one is
 abbrev pub is_under : Option ℕ → ℕ → Bool
 is_under None octet = true
 is_under (Some asked) octet = octet == asked
@@ -171,7 +171,7 @@ by_params subject under so_far body (Ok params) =
     if answers_about subject params && is_under under params.sequence
     then if_data subject so_far params (octets_in body) else None
 
--- what user data with these parameters and data answers
+-- the answer in user data with these parameters and data
 abbrev pub answered_by_user : Question → List ℕ → List ℕ → Option Answer
 answered_by_user (negotiates asked) params body = None
 answered_by_user (reads items) params body = None
@@ -188,7 +188,7 @@ answered_by_user (asks subject octets) params body = by_params subject None [] b
 answered_by_user (asks_further subject octet so_far) params body =
     by_params subject (Some octet) so_far body (user_params_of params)
 
--- what a message of this type answers (Snap7 1.4 sources, s7_types.h: TS7ResHeader23, TS7ResHeader17)
+-- the answer in a message of this type (Snap7 1.4 sources, s7_types.h: TS7ResHeader23, TS7ResHeader17)
 abbrev pub by_kind : Kind → Question → Header → List ℕ → Option Answer
 by_kind Job question h message = None
 by_kind Ack question h message =
@@ -199,14 +199,14 @@ by_kind User question h message = answered_by_user question (params_of message h
 
 -- ---- jobs of the server's (after Snap7 1.4 sources, s7_types.h: TReqDownloadParams)
 
--- a job of the server's is awaited
+-- the question awaits a job of the server's
 abbrev pub awaits_server : Question → Bool
 awaits_server (awaits_call image) = true
 awaits_server (gives image room from call) = true
 awaits_server _ = false
 
--- what its job of this sequence answers, with these parameters and data: it asks for the first piece, or goes on behind
--- the one that was given
+-- the answer in the server's job of this sequence with these parameters and data: it asks for the first piece, or
+-- goes on after the piece that was given
 abbrev pub called : Question → ℕ → List ℕ → List ℕ → Option Answer
 called (awaits_call image) sequence params body =
     if is_call piece_function (name_in image) params body then Some (calls sequence) else None
@@ -215,7 +215,7 @@ called (gives image room from call) sequence params body =
     else None
 called _ sequence params body = None
 
--- no other message does
+-- only a job of the server's answers such a question
 abbrev pub by_call : Kind → Question → Header → List ℕ → Option Answer
 by_call Job question h message = called question h.sequence (params_of message h) (body_of message h)
 by_call Ack question h message = None
@@ -228,6 +228,6 @@ by_header question sequence message (Ok h) =
     if awaits_server question then by_call h.kind question h message
     else (if h.sequence == sequence then by_kind h.kind question h message else None)
 
--- WHAT A MESSAGE ANSWERS to a question of this sequence, and nothing where it is no answer to it
+-- WHAT A MESSAGE ANSWERS to a question of this sequence; `None` if it is no answer to it
 unfoldable pub answer_of : Question → ℕ → List ℕ → Option Answer
 answer_of question sequence message = by_header question sequence message (header_of message)

@@ -1,64 +1,63 @@
--- The numbers of errors that a job ends with (Snap7 1.4 sources, s7_isotcp.h: errIsoConnect to errIsoRecvPacket;
+-- The error numbers with which a job ends (Snap7 1.4 sources, s7_isotcp.h: errIsoConnect to errIsoRecvPacket;
 -- s7_micro_client.h: errCliInvalidParams to errCliFunctionRefused). Which of them ends a job is this profile's own.
 use Rattle.std.specs.Prelude.{ℕ}
 
--- all went well
+-- the job succeeded
 abbrev pub no_fault : ℕ
 no_fault = 0
 
 -- ---- the link
 
--- the client isn't connected, or something else than a confirm answered its connect request
--- (Snap7 1.4 sources, s7_isotcp.h: errIsoConnect)
+-- the client isn't connected, or its connection request was answered by something other than a confirm (Snap7 1.4
+-- sources, s7_isotcp.h: errIsoConnect)
 abbrev pub not_connected : ℕ
 not_connected = 0x00010000
 
--- the server ended the link before the last outstanding answer, or before a job of its own that was awaited
+-- the server ended the link before it gave the last outstanding answer, or before a job of its own that was awaited
 -- (Snap7 1.4 sources, s7_isotcp.h: errIsoDisconnect)
 abbrev pub link_ended : ℕ
 link_ended = 0x00020000
 
--- a packet or a TPDU that can't be read, or that doesn't belong there
--- (Snap7 1.4 sources, s7_isotcp.h: errIsoInvalidPDU)
+-- a packet or a TPDU can't be read, or isn't allowed there (Snap7 1.4 sources, s7_isotcp.h: errIsoInvalidPDU)
 abbrev pub bad_packet : ℕ
 bad_packet = 0x00030000
 
--- a message of fewer than ten octets (Snap7 1.4 sources, s7_isotcp.h: errIsoShortPacket)
+-- a message has fewer than ten octets (Snap7 1.4 sources, s7_isotcp.h: errIsoShortPacket)
 abbrev pub short_message : ℕ
 short_message = 0x00060000
 
--- the 65th fragment of a message (Snap7 1.4 sources, s7_isotcp.h: errIsoTooManyFragments)
+-- a message has more than 64 fragments (Snap7 1.4 sources, s7_isotcp.h: errIsoTooManyFragments)
 abbrev pub message_too_fragmented : ℕ
 message_too_fragmented = 0x00070000
 
--- a packet or a message that is too long (Snap7 1.4 sources, s7_isotcp.h: errIsoPduOverflow)
+-- a packet or a message is too long (Snap7 1.4 sources, s7_isotcp.h: errIsoPduOverflow)
 abbrev pub message_too_long : ℕ
 message_too_long = 0x00080000
 
--- the link failed at a transmit (Snap7 1.4 sources, s7_isotcp.h: errIsoSendPacket)
+-- a transmit of the link failed (Snap7 1.4 sources, s7_isotcp.h: errIsoSendPacket)
 abbrev pub send_failed : ℕ
 send_failed = 0x00090000
 
--- the link failed at a receive (Snap7 1.4 sources, s7_isotcp.h: errIsoRecvPacket)
+-- a receive of the link failed (Snap7 1.4 sources, s7_isotcp.h: errIsoRecvPacket)
 abbrev pub receive_failed : ℕ
 receive_failed = 0x000A0000
 
 -- ---- the client
 
--- the negotiation was refused, or granted a PDU that is too small or above the one asked for
--- (Snap7 1.4 sources, snap7.h: errNegotiatingPDU)
+-- the negotiation was refused, or the PDU granted is too small or above the one asked for (Snap7 1.4 sources,
+-- snap7.h: errNegotiatingPDU)
 abbrev pub negotiation_failed : ℕ
 negotiation_failed = 0x00100000
 
--- parameters that no telegram can have (Snap7 1.4 sources, s7_micro_client.h: errCliInvalidParams)
+-- the job has parameters that no telegram can have (Snap7 1.4 sources, s7_micro_client.h: errCliInvalidParams)
 abbrev pub invalid_parameters : ℕ
 invalid_parameters = 0x00200000
 
--- more than twenty items (Snap7 1.4 sources, s7_micro_client.h: errCliTooManyItems)
+-- the job has more than twenty items (Snap7 1.4 sources, s7_micro_client.h: errCliTooManyItems)
 abbrev pub too_many_items : ℕ
 too_many_items = 0x00400000
 
--- a word that is unknown (Snap7 1.4 sources, s7_micro_client.h: errCliInvalidWordLen)
+-- a word length is unknown (Snap7 1.4 sources, s7_micro_client.h: errCliInvalidWordLen)
 abbrev pub invalid_word : ℕ
 invalid_word = 0x00500000
 
@@ -67,18 +66,17 @@ invalid_word = 0x00500000
 abbrev pub partly_written : ℕ
 partly_written = 0x00600000
 
--- an item that fits no telegram, or a telegram that the server finds too long
--- (Snap7 1.4 sources, s7_micro_client.h: errCliSizeOverPDU)
+-- an item doesn't fit any telegram, or the server found a telegram too long (Snap7 1.4 sources, s7_micro_client.h:
+-- errCliSizeOverPDU)
 abbrev pub over_pdu : ℕ
 over_pdu = 0x00700000
 
--- a message that answers no outstanding telegram, and is no job of the server's that was awaited
--- (Snap7 1.4 sources, s7_micro_client.h: errCliInvalidPlcAnswer)
+-- a message answers no outstanding telegram, and isn't a job of the server's that was awaited (Snap7 1.4 sources,
+-- s7_micro_client.h: errCliInvalidPlcAnswer)
 abbrev pub invalid_answer : ℕ
 invalid_answer = 0x00800000
 
--- the job met too many polls in which the link had nothing to give, or no room
--- (Snap7 1.4 sources, s7_micro_client.h: errCliJobTimeout)
+-- the job had too many polls that found the link not ready (Snap7 1.4 sources, s7_micro_client.h: errCliJobTimeout)
 abbrev pub timed_out : ℕ
 timed_out = 0x02000000
 
@@ -88,11 +86,12 @@ timed_out = 0x02000000
 abbrev pub address_out_of_range : ℕ
 address_out_of_range = 0x00900000
 
--- the word doesn't go with the area (Snap7 1.4 sources, s7_micro_client.h: errCliInvalidTransportSize)
+-- the word length doesn't fit the area (Snap7 1.4 sources, s7_micro_client.h: errCliInvalidTransportSize)
 abbrev pub invalid_transport : ℕ
 invalid_transport = 0x00A00000
 
--- the octets aren't as many as the item has (Snap7 1.4 sources, s7_micro_client.h: errCliWriteDataSizeMismatch)
+-- the data don't have the item's number of octets (Snap7 1.4 sources, s7_micro_client.h:
+-- errCliWriteDataSizeMismatch)
 abbrev pub size_mismatch : ℕ
 size_mismatch = 0x00B00000
 
@@ -100,11 +99,11 @@ size_mismatch = 0x00B00000
 abbrev pub not_available : ℕ
 not_available = 0x00C00000
 
--- a value that the server doesn't take (Snap7 1.4 sources, s7_micro_client.h: errCliInvalidValue)
+-- the server doesn't accept a value (Snap7 1.4 sources, s7_micro_client.h: errCliInvalidValue)
 abbrev pub invalid_value : ℕ
 invalid_value = 0x00D00000
 
--- the CPU runs already (Snap7 1.4 sources, s7_micro_client.h: errCliAlreadyRun)
+-- the CPU is running already (Snap7 1.4 sources, s7_micro_client.h: errCliAlreadyRun)
 abbrev pub already_runs : ℕ
 already_runs = 0x00F00000
 
@@ -128,6 +127,7 @@ wrong_password = 0x01E00000
 abbrev pub no_password : ℕ
 no_password = 0x01F00000
 
--- the server refused for another reason (Snap7 1.4 sources, s7_micro_client.h: errCliFunctionRefused)
+-- the server refused for a reason without a number of its own (Snap7 1.4 sources, s7_micro_client.h:
+-- errCliFunctionRefused)
 abbrev pub refused_otherwise : ℕ
 refused_otherwise = 0x02300000

@@ -1,5 +1,5 @@
--- The course of a job on its link: what the octets that were used make of it, and what may be sent. What is read in
--- the octets, an opening, messages and faults, is what `s7_wire` says; here stands what a job makes of it.
+-- The course of a job on its link: the effect of the octets that were used, and what may be sent. `s7_wire` defines
+-- what is read in the octets: an opening, messages and faults. This file defines their effect on a job.
 use Rattle.std.specs.Prelude.{ℕ, ◌+◌, zero, suc, Bool, false, ◌==◌, ◌&&◌, nat_lt, List, [], ◌∷◌, ◌++◌, length, is_none, Option, None, Some, if◌then◌else◌}
 use Rattle.s7_outer.specs.Numbers.{two_octets}
 use Rattle.s7_tpkt.specs.Packets.{packet_of, packets_of, rest_of, state_of}
@@ -21,11 +21,11 @@ use Rattle.s7_dialogue.specs.Flight.{Row, answers_of, open_count, filled}
 use Rattle.s7_dialogue.specs.Dialogue.{End, fault_end, Conduct, First, nothing, connect_request, disconnect_request, first_refusal, is_connect, plan_of}
 pub use Rattle.s7_wire.specs.Reading.{Unfinished, nothing_unfinished}
 
--- where a job starts: what the client has by then
+-- where a job starts: the state of the client at that time
 pub record Origin : Type 0 where
   pub job : Job
   pub config : Config
-  -- what was granted, and nothing on a client that isn't connected
+  -- what was granted; `None` on a client that isn't connected
   pub granted : Option Grant
   -- the TPDU size of the link, and the sequence of the last numbered telegram on it
   pub size : ℕ
@@ -33,37 +33,37 @@ pub record Origin : Type 0 where
 
 -- what a job waits for
 pub data Awaits : Type 0 where
-  -- the confirm of the connect request
+  -- the confirm of the connection request
   for_confirm : Awaits
-  -- answers to questions
+  -- answers to its questions
   for_answers : Awaits
-  -- that the disconnect request is transmitted
+  -- the transmission of its disconnect request
   for_departure : Awaits
-  -- nothing: the job is over, with a message that was no answer or none
+  -- nothing: the job is over, with the message that was no answer, if there was one
   for_nothing : (end : End) → (carried : List ℕ) → Awaits
 
 pub record Course : Type 0 where
-  -- the questions that went out, in order, with their answers
+  -- the questions that were asked, in order, with their answers
   pub rows : List Row
   -- the TPDU size of the link, and the message on it that isn't whole
   pub size : ℕ
   pub unfinished : Unfinished
   pub sequence : ℕ
-  -- all octets that may be sent so far
+  -- all octets that may have been sent by now
   pub out : List ℕ
   pub awaits : Awaits
 
 -- ---- what is sent
 
--- sequences are 1, 2 and so on, and after FFFF comes 1: this profile's own
+-- the next sequence: 1, 2 and so on, and 1 again after FFFF, which is this profile's own
 abbrev pub next_sequence : ℕ → ℕ
 next_sequence sequence = if sequence == 0xFFFF then 1 else sequence + 1
 
--- the TPDU size that is asked for, by its code and in octets (ISO 8073, 13.3.4); the choice is this profile's own
+-- the TPDU size to ask for, by its code and in octets (ISO 8073, 13.3.4); the choice is this profile's own
 abbrev pub asked_size_code : ℕ
 asked_size_code = 0x0A
 
--- the connect request (ISO 8073, 13.3): the client's reference is 0001, the class 00
+-- the connection request (ISO 8073, 13.3): the client's reference is 0001, the class 00
 abbrev pub request_of : Config → ConnectionTold
 request_of config = record {
   dst_ref = 0;
@@ -86,17 +86,18 @@ disconnect_octets = packet_of (spelling_of_disconnect 1 1 0x80)
 abbrev pub conduct_of : Origin → Conduct
 conduct_of origin = (plan_of origin.job origin.config origin.granted).conduct
 
--- what may be asked next: while fewer questions are unanswered than may be, and no answer refuses
+-- the question that may be asked next, if there is one: it may be asked while fewer questions are unanswered than
+-- allowed, and no answer refuses
 abbrev pub next_question : Conduct → List Row → Option Question
 next_question c rows =
     if nat_lt (open_count rows) c.width && is_none (first_refusal c.refusal 0 (answers_of rows))
     then c.question_at (answers_of rows) else None
 
--- the sequence behind a question: the next one, under which it goes out, where it is numbered
+-- the last sequence after a question: the next one if the question is numbered, under which it is asked
 abbrev pub sequence_behind : ℕ → Question → ℕ
 sequence_behind sequence question = if is_numbered question then next_sequence sequence else sequence
 
--- a question goes out
+-- the course after a question is asked
 abbrev pub asked : Course → Question → Course
 asked course question = record course {
   rows =
@@ -112,23 +113,23 @@ abbrev pub if_some : Option Question → Course → (Question → Course) → Co
 if_some None course later = course
 if_some (Some question) course later = later question
 
--- so many questions, at most, go out one after another
+-- the course after at most n questions are asked, one after another
 unfoldable pub asked_on : ℕ → Conduct → Course → Course
 asked_on zero c course = course
 asked_on (suc others) c course =
     if_some (next_question c course.rows) course (λ question. asked_on others c (asked course question))
 
--- the job is over where no question is unanswered
+-- the job is over if no question is unanswered
 abbrev pub settled : Conduct → Course → Course
 settled c course = record course {
   awaits = if open_count course.rows == 0 then for_nothing (c.ended (answers_of course.rows)) [] else for_answers;
 }
 
--- ALL QUESTIONS THAT MAY GO OUT go out
+-- THE COURSE after all questions that may be asked now are asked
 abbrev pub asking : Conduct → Course → Course
 asking c course = settled c (asked_on c.width c course)
 
--- ---- what is taken
+-- ---- the effect of a message
 
 abbrev pub with_fault : Course → ℕ → Course
 with_fault course code = record course { awaits = for_nothing (fault_end code) [] }
@@ -137,22 +138,22 @@ abbrev pub by_rows : Conduct → Course → List ℕ → Option (List Row) → C
 by_rows c course octets None = record course { awaits = for_nothing (fault_end invalid_answer) octets }
 by_rows c course octets (Some rows) = asking c (record course { rows = rows })
 
--- a whole message: a header has ten octets at least (Snap7 1.4 sources, s7_types.h: TS7ReqHeader)
+-- the effect of a whole message: a header has at least ten octets (Snap7 1.4 sources, s7_types.h: TS7ReqHeader)
 abbrev pub with_message : Conduct → Course → List ℕ → Course
 with_message c course octets =
     if nat_lt (length octets) 10 then with_fault course short_message
     else by_rows c course octets (filled course.rows octets)
 
--- ---- what is read
+-- ---- the effect of what is read
 
--- the TPDU size that the link is read by: none where its opening is awaited
+-- the TPDU size by which the link is read; `None` while its opening is awaited
 abbrev pub size_where : Awaits → ℕ → Option ℕ
 size_where for_confirm size = None
 size_where for_answers size = Some size
 size_where for_departure size = Some size
 size_where (for_nothing end carried) size = Some size
 
--- what the link is read as before its next packet
+-- what was read from the link before its next packet
 abbrev pub read_before : Course → Progress
 read_before course = record {
   at = 0;
@@ -162,7 +163,7 @@ read_before course = record {
   ending = None;
 }
 
--- the opening is the confirm: the first questions go out; a message is taken
+-- the effect of an event: after the confirm the first questions are asked, and a message is taken
 abbrev pub with_event : Conduct → Course → Event → Course
 with_event c course (opened connection) = asking c (record course { size = size_of_code connection.size_code })
 with_event c course (message octets at) = with_message c course octets
@@ -171,7 +172,7 @@ abbrev pub with_events : Conduct → Course → List Event → Course
 with_events c course [] = course
 with_events c course (event ∷ events) = with_events c (with_event c course event) events
 
--- the number of a fault; where the confirm is awaited, no other TPDU connects
+-- the error number of a TPDU that isn't allowed; while the confirm is awaited it is that of a failed connect
 abbrev pub unexpected_where : Awaits → ℕ
 unexpected_where for_confirm = not_connected
 unexpected_where for_answers = bad_packet
@@ -191,7 +192,7 @@ with_ending course None = course
 with_ending course (Some disconnected) = with_fault course link_ended
 with_ending course (Some (faulted fault at)) = with_fault course (code_where course.awaits fault)
 
--- what was read of one packet more
+-- the effect of what was read from one more packet
 abbrev pub with_reading : Conduct → Course → Progress → Course
 with_reading c course p = with_ending (with_events c (record course { unfinished = p.unfinished }) p.events) p.ending
 
@@ -202,7 +203,7 @@ unless_over next course for_answers = next
 unless_over next course for_departure = course
 unless_over next course (for_nothing end carried) = course
 
--- a packet with this body
+-- the effect of a packet with this body
 unfoldable pub with_packet : Origin → Course → List ℕ → Course
 with_packet origin course body =
     unless_over (with_reading (conduct_of origin) course (with_body Confirm (read_before course) body)) course
@@ -210,13 +211,13 @@ with_packet origin course body =
 
 -- ---- whole courses
 
--- a connect on a client that isn't connected begins the link anew
+-- the job is a connect on a client that isn't connected, which begins the link anew
 abbrev pub begins_anew : Option Grant → Job → Bool
 begins_anew None job = is_connect job
 begins_anew (Some granted) job = false
 
--- a link that begins anew has the TPDU size that is asked for, until a confirm tells another, and its first sequence
--- follows 0
+-- the TPDU size and the last sequence at the start: a link that begins anew has the TPDU size that is asked for,
+-- until the confirm states another, and its first sequence is 1
 abbrev pub size_at : Bool → ℕ → ℕ
 size_at anew size = if anew then size_of_code asked_size_code else size
 
@@ -238,7 +239,7 @@ by_first config c course nothing = asking c course
 by_first config c course connect_request = record course { out = connect_octets config; awaits = for_confirm }
 by_first config c course disconnect_request = record course { out = disconnect_octets; awaits = for_departure }
 
--- a job that was started
+-- the course at the start of a job
 unfoldable pub begun : Origin → Course
 begun origin =
     by_first origin.config (conduct_of origin) (blank origin) (plan_of origin.job origin.config origin.granted).first
@@ -247,20 +248,20 @@ abbrev pub run : Origin → Course → List (List ℕ) → Course
 run origin course [] = course
 run origin course (body ∷ bodies) = run origin (with_packet origin course body) bodies
 
--- the length that no packet passes
+-- the greatest length of the next packet
 abbrev pub limit_in : Course → ℕ
 limit_in course = limit_by (size_where course.awaits course.size)
 
--- that of a packet, by the bodies of those before it
+-- the greatest length of the next packet, by the bodies of the packets before it
 abbrev pub limits : Origin → List (List ℕ) → ℕ
 limits origin bodies = limit_in (run origin (begun origin) bodies)
 
--- octets that can't be a packet end a job that isn't over
+-- the effect of octets that can't be a packet: they end a job that isn't over
 abbrev pub with_rest : Course → FedState → Course
 with_rest course state =
     unless_over (with_ending course (with_state (read_before course) state).ending) course course.awaits
 
--- after whole packets
+-- the course after the whole packets
 abbrev pub packets_run : Origin → List ℕ → Course
 packets_run origin b = run origin (begun origin) (packets_of (limits origin) b)
 
@@ -270,6 +271,6 @@ course origin b =
     with_rest (packets_run origin b)
     (state_of (limits origin (packets_of (limits origin) b)) (rest_of (limits origin) b))
 
--- THE OCTETS THAT MAY BE SENT after them
+-- THE OCTETS THAT MAY BE SENT after these octets were used
 abbrev pub may_send : Origin → List ℕ → List ℕ
 may_send origin b = (course origin b).out

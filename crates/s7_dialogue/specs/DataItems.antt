@@ -7,19 +7,19 @@ use Rattle.s7_dialogue.specs.declared.answers.data_items.First.{First as Taken}
 use Rattle.s7_dialogue.specs.declared.answers.data_items.ItemAnswer.{ItemAnswer as Kept}
 use Rattle.s7_dialogue.specs.Answer.{ItemAnswer, begins_read, begins_refused}
 
--- what the code's answer for an item tells, and those for several
+-- an answer for an item, as the code's value gives it, and answers for several items
 abbrev pub answer_in : Kept → ItemAnswer
 answer_in kept = record { code = kept.code; octets = kept.octets.now }
 
 abbrev pub answers_in : List Kept → List ItemAnswer
 answers_in kept = map answer_in kept
 
--- the answer that a data item is, and the octets that follow it
+-- the answer in a data item, and the octets that follow it
 pub record First : Type 0 where
   pub answer : ItemAnswer
   pub rest : List ℕ
 
--- the data item for this item, the last one or not, that the octets begin with
+-- the data item for this item at the beginning of the octets, if there is one; the flag says whether it is the last
 abbrev pub first_of : Item → Bool → List ℕ → Option First
 first_of item last octets =
     if begins_read item last octets
@@ -31,6 +31,6 @@ first_of item last octets =
     then Some (record { answer = record { code = slice_index octets 0; octets = [] }; rest = drop 4 octets })
     else None)
 
--- what the code's data item tells
+-- the first data item, as the code's value gives it
 abbrev pub first_told : Taken → First
 first_told taken = record { answer = answer_in taken.answer; rest = taken.rest.now }

@@ -1,4 +1,4 @@
--- The dialogue of a job: what goes out first, which question may be asked next, and how the job ends, by the answers
+-- The dialogue of a job: what is sent first, which question may be asked next, and how the job ends, by the answers
 -- so far.
 use Rattle.std.specs.Prelude.{ℕ, ◌+◌, ◌*◌, Bool, true, false, ◌==◌, ◌||◌, ◌&&◌, nat_lt, min, max, List, [], ◌∷◌, ◌++◌, length, take, drop, map, slice_get, Option, None, Some, if◌then◌else◌, replicate}
 use Rattle.std.specs.List.{flat_map}
@@ -35,31 +35,31 @@ use Rattle.s7_dialogue.specs.Refusals.{telegram_refusal, part_refusal, control_r
 use Rattle.s7_dialogue.specs.Checks.{check_item, check_items, check_moment, check_password, check_image, octet_count_of}
 
 pub record End : Type 0 where
-  -- 0, or the number of an error
+  -- 0, or an error number
   pub code : ℕ
-  -- what was read
+  -- the octets that were read
   pub octets : List ℕ
-  -- the return codes of several items
+  -- the return codes of the items of a job with several
   pub codes : List ℕ
   pub leaves : Leaves
 
--- How a job asks. Answers stand at the places of their questions, and none where a question is unanswered.
+-- How a job asks. An answer has the index of its question, and is `None` while the question is unanswered.
 pub record Conduct : Type 0 where
-  -- how many questions may be unanswered at a time
+  -- the number of questions that may be unanswered at a time
   pub width : ℕ
-  -- the question that comes next, behind those at these places, if there is one
+  -- the next question, by the answers to all questions before it, if there is one
   pub question_at : List (Option Answer) → Option Question
-  -- the number of the error that an answer refuses with, if it refuses: then nothing more is asked
+  -- the error number of an answer that refuses; after it nothing more is asked
   pub refusal : Answer → Option ℕ
-  -- the end, once no question is unanswered and none comes next
+  -- the end, once no question is unanswered and there is no next one
   pub ended : List (Option Answer) → End
 
--- what goes out before any question: a CR, a DR (ISO 8073, 13.3 and 13.5), or nothing
+-- what is sent before any question: a CR, a DR (ISO 8073, 13.3 and 13.5), or nothing
 pub data First : Type 0 where
   nothing : First
-  -- a connect request, and its confirm is awaited
+  -- a connection request; its confirm is awaited then
   connect_request : First
-  -- a disconnect request, and the job ends once it was transmitted
+  -- a disconnect request; the job ends once it was transmitted
   disconnect_request : First
 
 pub record Plan : Type 0 where
@@ -68,26 +68,26 @@ pub record Plan : Type 0 where
 
 -- ---- ends
 
--- an end with this number alone
+-- an end with this number, without octets or codes
 abbrev pub number_end : ℕ → Leaves → End
 number_end code leaves = record { code = code; octets = []; codes = []; leaves = leaves }
 
--- an end that closes the client
+-- an end with this number that closes the client
 abbrev pub fault_end : ℕ → End
 fault_end code = number_end code Closed
 
--- nothing is asked
+-- a job that asks nothing
 abbrev pub silent : End → Conduct
 silent end = record { width = 0; question_at = λ answers. None; refusal = λ answer. None; ended = λ answers. end }
 
--- the job is over at once
+-- a job that is over at once
 abbrev pub over : End → Plan
 over end = record { first = nothing; conduct = silent end }
 
 -- ---- connect and disconnect (Snap7 1.4 reference manual, `Cli_ConnectTo`, `Cli_Disconnect`)
 
--- the grant that is taken: a PDU from 64 to the one asked for, and from one job to those asked for; these limits are
--- this profile's own
+-- the grant, if it is acceptable: a PDU from 64 to the one asked for; it has at least one job and at most those
+-- asked for. These limits are this profile's own
 abbrev pub taken_grant : Config → Negotiation → Option Grant
 taken_grant config n =
     if nat_lt n.pdu least_pdu || nat_lt config.pdu n.pdu then None
@@ -97,7 +97,7 @@ abbrev pub by_grant : Option Grant → End
 by_grant None = number_end negotiation_failed Closed
 by_grant (Some granted) = number_end no_fault (Connected granted)
 
--- the end by what the negotiation is answered
+-- the end by the answer to the negotiation
 abbrev pub negotiated_by : Config → Answer → End
 negotiated_by config (grants n) = by_grant (taken_grant config n)
 negotiated_by config (refuses error) = number_end negotiation_failed Closed
@@ -116,11 +116,12 @@ negotiated config [] = number_end negotiation_failed Closed
 negotiated config (None ∷ answers) = number_end negotiation_failed Closed
 negotiated config (Some answer ∷ answers) = negotiated_by config answer
 
--- what is asked for (Snap7 1.4 sources, s7_types.h: TReqFunNegotiateParams)
+-- the negotiation that a configuration asks for (Snap7 1.4 sources, s7_types.h: TReqFunNegotiateParams)
 abbrev pub asked_by : Config → Negotiation
 asked_by config = record { calling = config.jobs; called = config.jobs; pdu = config.pdu }
 
--- one question: a PDU and parallel jobs (Snap7 1.4 sources, s7_types.h: TReqFunNegotiateParams)
+-- a job of one question, which negotiates the PDU and the parallel jobs (Snap7 1.4 sources, s7_types.h:
+-- TReqFunNegotiateParams)
 abbrev pub negotiating : Config → Conduct
 negotiating config = record {
   width = 1;
@@ -129,24 +130,24 @@ negotiating config = record {
   ended = negotiated config;
 }
 
--- the end of a link that the client leaves
+-- the end of a job that leaves the link
 abbrev pub departed_end : End
 departed_end = number_end no_fault Disconnected
 
 -- ---- questions in order
 
--- the questions of a read of lists of items (Snap7 1.4 reference manual, `Cli_ReadArea`, `Cli_ReadMultiVars`)
+-- the questions of a read of groups of items (Snap7 1.4 reference manual, `Cli_ReadArea`, `Cli_ReadMultiVars`)
 abbrev pub read_questions : List (List Item) → List Question
 read_questions groups = map reads groups
 
--- the questions of a write, each with as many of the octets as its items have
--- (Snap7 1.4 reference manual, `Cli_WriteArea`, `Cli_WriteMultiVars`)
+-- the questions of a write of groups of items, each with the octets of its items (Snap7 1.4 reference manual,
+-- `Cli_WriteArea`, `Cli_WriteMultiVars`)
 abbrev pub write_questions : List (List Item) → List ℕ → List Question
 write_questions [] octets = []
 write_questions (group ∷ groups) octets =
     writes group (take (octet_count_of group) octets) ∷ write_questions groups (drop (octet_count_of group) octets)
 
--- a refusal at a place, or else a later one
+-- the refusal with this index, or else the later one
 abbrev pub first_or : Option ℕ → ℕ → Option (ℕ × ℕ) → Option (ℕ × ℕ)
 first_or None place later = later
 first_or (Some number) place later = Some (place, number)
@@ -155,13 +156,13 @@ abbrev pub refusal_in : (Answer → Option ℕ) → Option Answer → Option ℕ
 refusal_in refusal None = None
 refusal_in refusal (Some answer) = refusal answer
 
--- the place of the first answer that refuses, counted from a place on, and its number
+-- the index of the first answer that refuses, counted from `place`, and its error number
 abbrev pub first_refusal : (Answer → Option ℕ) → ℕ → List (Option Answer) → Option (ℕ × ℕ)
 first_refusal refusal place [] = None
 first_refusal refusal place (answer ∷ answers) =
     first_or (refusal_in refusal answer) place (first_refusal refusal (place + 1) answers)
 
--- the number of the refusal at a place, and of one in a write of several parts
+-- the error number of the refusal with this index, in most jobs and in a write of several parts
 abbrev pub plain_number : ℕ → ℕ → ℕ
 plain_number place number = number
 
@@ -173,7 +174,7 @@ abbrev pub by_refusal : (ℕ → ℕ → ℕ) → Option (ℕ × ℕ) → End �
 by_refusal number None finished = finished
 by_refusal number (Some refused) finished = number_end (number refused.0 refused.1) AsItWas
 
--- what answers tell of items
+-- the answers for items in an answer
 abbrev pub items_told : Answer → List ItemAnswer
 items_told (tells items) = items
 items_told (grants granted) = []
@@ -187,7 +188,7 @@ items_told announced = []
 items_told (calls sequence) = []
 items_told (refuses error) = []
 
--- the return codes of items, read or written
+-- the return codes of the items in an answer, read or written
 abbrev pub codes_in : Answer → List ℕ
 codes_in (tells items) = map (λ (item : ItemAnswer). item.code) items
 codes_in (notes codes) = codes
@@ -216,15 +217,15 @@ codes_told answers = flat_map (of_answer codes_in) answers
 abbrev pub good_end : List ℕ → List ℕ → End
 good_end octets codes = record { code = no_fault; octets = octets; codes = codes; leaves = AsItWas }
 
--- each item alone
+-- each item as a group of its own
 abbrev pub alone : List Item → List (List Item)
 alone items = map (λ item. item ∷ []) items
 
--- as many questions as were granted may be unanswered, and at least one
+-- the number of questions that may be unanswered: as many as were granted, and at least one
 abbrev pub width_of : Grant → ℕ
 width_of granted = max 1 granted.jobs
 
--- the questions of a list, in order
+-- a job that asks the questions of a list, in order
 abbrev pub listed : Grant → List Question → (Answer → Option ℕ) → (ℕ → ℕ → ℕ) → (List (Option Answer) → End) → Plan
 listed granted questions refusal number finished = record {
   first = nothing;
@@ -239,7 +240,7 @@ listed granted questions refusal number finished = record {
 
 -- ---- one question at a time
 
--- one question, the call of a control (Snap7 1.4 reference manual, `Cli_PlcHotStart`, `Cli_PlcColdStart`,
+-- a job of one question, a control (Snap7 1.4 reference manual, `Cli_PlcHotStart`, `Cli_PlcColdStart`,
 -- `Cli_PlcStop`, `Cli_Compress`, `Cli_CopyRamToRom`, `Cli_Delete`)
 abbrev pub controlling : Control → Conduct
 controlling control = record {
@@ -250,7 +251,7 @@ controlling control = record {
       by_refusal plain_number (first_refusal (control_refusal control) 0 answers) (good_end [] []);
 }
 
--- the octets that an answer in user data brings, or a slice of an upload
+-- the octets in an answer in user data, or in a slice of an upload
 abbrev pub octets_in : Answer → List ℕ
 octets_in (brings octet more octets) = octets
 octets_in (slices more octets) = octets
@@ -267,8 +268,7 @@ octets_in (refuses error) = []
 abbrev pub octets_brought : List (Option Answer) → List ℕ
 octets_brought answers = flat_map (of_answer octets_in) answers
 
--- what is asked behind the octets that came, by the last answer: the next octets, where more follow of what comes in
--- pieces
+-- the next question after the octets so far, by the last answer: it asks for the next octets, if more follow
 abbrev pub behind : Subject → List ℕ → Option Answer → Option Question
 behind subject so_far (Some (brings octet more octets)) =
     if more && comes_in_pieces subject then Some (asks_further subject octet so_far) else None
@@ -288,14 +288,14 @@ abbrev pub last_answer : Option Answer → List (Option Answer) → Option Answe
 last_answer answer [] = answer
 last_answer answer (next ∷ answers) = last_answer next answers
 
--- User data about something, with these octets, and then the further octets of its answer, piece by piece
--- (Snap7 1.4 sources, s7_types.h: TReqFunReadSZLFirst, TReqFunReadSZLNext).
+-- User data about a subject, with these octets, and then the further octets of its answer, piece by piece (Snap7
+-- 1.4 sources, s7_types.h: TReqFunReadSZLFirst, TReqFunReadSZLNext).
 abbrev pub next_piece : Subject → List ℕ → List (Option Answer) → Option Question
 next_piece subject octets [] = Some (asks subject octets)
 next_piece subject octets (answer ∷ answers) =
     behind subject (octets_brought (answer ∷ answers)) (last_answer answer answers)
 
--- what was asked for, of what the answers bring
+-- the end of such a job: its result is what was asked for, out of the octets of the answers
 abbrev pub brought_end : Subject → List (Option Answer) → End
 brought_end subject answers = good_end (drop (lead_of subject) (octets_brought answers)) []
 
@@ -308,8 +308,8 @@ asking_about subject octets = record {
       by_refusal plain_number (first_refusal telegram_refusal 0 answers) (brought_end subject answers);
 }
 
--- what is asked behind the octets that came of an upload, by the last answer: the next slice while others follow, and
--- then the end
+-- the next question after the octets so far of an upload, by the last answer: it asks for the next slice if more
+-- follow, and else ends the upload
 abbrev pub behind_slice : ℕ → ℕ → List ℕ → Option Answer → Option Question
 behind_slice id size so_far (Some (slices more octets)) =
     Some (if more then slices_upload id size so_far else ends_upload id)
@@ -325,7 +325,7 @@ behind_slice id size so_far (Some (calls sequence)) = None
 behind_slice id size so_far (Some (refuses error)) = None
 behind_slice id size so_far None = None
 
--- behind the answer that starts the upload of this id, an image of so many octets
+-- the next question after the answer that starts the upload of this id, with an image of `size` octets
 abbrev pub behind_start : ℕ → ℕ → List (Option Answer) → Option Question
 behind_start id size [] = Some (slices_upload id size [])
 behind_start id size (answer ∷ answers) =
@@ -345,8 +345,8 @@ behind_first (Some (calls sequence)) answers = None
 behind_first (Some (refuses error)) answers = None
 behind_first None answers = None
 
--- The start of the upload of a block, then its slices while others follow, and its end
--- (Snap7 1.4 reference manual, `Cli_FullUpload`).
+-- The questions of an upload: the start, then the slices while more follow, and then the end (Snap7 1.4 reference
+-- manual, `Cli_FullUpload`).
 abbrev pub next_slice : BlockName → List (Option Answer) → Option Question
 next_slice name [] = Some (starts_upload name)
 next_slice name (answer ∷ answers) = behind_first answer answers
@@ -360,8 +360,9 @@ uploading name = record {
       by_refusal plain_number (first_refusal telegram_refusal 0 answers) (good_end (octets_brought answers) []);
 }
 
--- what goes out behind the server's job of this sequence, once the image was given up to a place: the next octets, at
--- most so many, and behind the last of them that the block is inserted (Snap7 1.4 reference manual, `Cli_Download`)
+-- the next question for the server's job of this sequence, once the image was given up to offset `from`: it gives
+-- the next octets, at most `room`, and after the last of them it asks for the insertion of the block (Snap7 1.4
+-- reference manual, `Cli_Download`)
 abbrev pub behind_call : List ℕ → ℕ → ℕ → ℕ → Question
 behind_call image room from call =
     if nat_lt from (length image) then gives image room from call else inserts image call
@@ -380,8 +381,9 @@ behind_server image room from (Some announced) = None
 behind_server image room from (Some (refuses error)) = None
 behind_server image room from None = None
 
--- The download of an image is announced, then the server asks for it piece by piece, each of so many octets but the
--- last, and closes the download, and then the block is inserted (Snap7 1.4 reference manual, `Cli_Download`).
+-- The questions of a download: the image is announced; then the server asks for it piece by piece, each of `room`
+-- octets but the last, and closes the download; then the block is inserted (Snap7 1.4 reference manual,
+-- `Cli_Download`).
 abbrev pub next_given : List ℕ → ℕ → List (Option Answer) → Option Question
 next_given image room [] = Some (announces image)
 next_given image room (answer ∷ []) = Some (awaits_call image)
@@ -399,7 +401,7 @@ downloading image room = record {
 
 -- ---- whole data blocks (Snap7 1.4 reference manual, `Cli_DBGet`, `Cli_DBFill`)
 
--- how many of the answers are none of user data, which tells the head
+-- whether an answer is one to a part, and not one with the head, which is user data; and the number of such answers
 abbrev pub is_of_data : Option Answer → Bool
 is_of_data (Some (brings octet more octets)) = false
 is_of_data (Some (grants granted)) = true
@@ -422,14 +424,15 @@ abbrev pub or_later : Option Question → Option Question → Option Question
 or_later (Some question) later = Some question
 or_later None later = later
 
--- The head of a data block, piece by piece, and then these questions, by how many octets the head says that there are.
+-- The questions about a whole data block: its head, piece by piece, and then these questions, which depend on the
+-- number of octets that the head states.
 abbrev pub next_of_data : List ℕ → (ℕ → List Question) → List (Option Answer) → Option Question
 next_of_data octets questions [] = Some (asks DataHead octets)
 next_of_data octets questions (answer ∷ answers) =
     or_later (behind DataHead (octets_brought (answer ∷ answers)) (last_answer answer answers))
     (slice_get (questions (data_length (octets_brought (answer ∷ answers)))) (count_of_data (answer ∷ answers)))
 
--- A data block is read whole.
+-- A job that reads a whole data block.
 abbrev pub getting : ℕ → List ℕ → ℕ → Conduct
 getting pdu octets number = record {
   width = 1;
@@ -439,11 +442,11 @@ getting pdu octets number = record {
       by_refusal plain_number (first_refusal part_refusal 0 answers) (good_end (octets_told answers) []);
 }
 
--- the number of a refusal of the head or of the first part, and that of a later one
+-- the error number of a refusal of the head or of the first part, and of a later part
 abbrev pub fill_number : List (Option Answer) → ℕ → ℕ → ℕ
 fill_number answers place number = if count_of_data (take place answers) == 0 then number else partly_written
 
--- It is filled with a value.
+-- A job that fills a whole data block with a value.
 abbrev pub filling : ℕ → List ℕ → ℕ → ℕ → Conduct
 filling pdu octets number value = record {
   width = 1;
@@ -454,7 +457,7 @@ filling pdu octets number value = record {
       by_refusal (fill_number answers) (first_refusal part_refusal 0 answers) (good_end [] []);
 }
 
--- a job that asks from its start on
+-- a job that asks its first question at once
 abbrev pub at_once : Conduct → Plan
 at_once conduct = record { first = nothing; conduct = conduct }
 
@@ -462,11 +465,11 @@ at_once conduct = record { first = nothing; conduct = conduct }
 abbrev pub list_octets : ℕ → ℕ → List ℕ
 list_octets id index = two_octets id ++ two_octets index
 
--- a kind of blocks (Snap7 1.4 reference manual, `Cli_ListBlocksOfType`)
+-- the octets that name a kind of blocks (Snap7 1.4 reference manual, `Cli_ListBlocksOfType`)
 abbrev pub kind_octets : ℕ → List ℕ
 kind_octets kind = 0x30 ∷ kind ∷ []
 
--- a block, which is in the controller's memory (Snap7 1.4 reference manual, `Cli_GetAgBlockInfo`)
+-- the name of a block in the controller's memory (Snap7 1.4 reference manual, `Cli_GetAgBlockInfo`)
 abbrev pub block_octets : ℕ → ℕ → List ℕ
 block_octets kind number = name_octets (record { kind = kind; number = number }) 0x41
 
@@ -475,11 +478,11 @@ block_octets kind number = name_octets (record { kind = kind; number = number })
 abbrev pub if_good : ℕ → Plan → Plan
 if_good check plan = if check == no_fault then plan else over (number_end check AsItWas)
 
--- the plan of a job on a connected client: what is checked before anything is sent, and then its questions
--- (Snap7 1.4 reference manual, `Cli_ReadArea`, `Cli_WriteArea`, `Cli_ReadMultiVars`, `Cli_WriteMultiVars`,
--- `Cli_ListBlocks`, `Cli_ListBlocksOfType`, `Cli_GetAgBlockInfo`, `Cli_FullUpload`, `Cli_Download`, `Cli_Delete`,
--- `Cli_DBGet`, `Cli_DBFill`, `Cli_ReadSZL`, `Cli_GetPlcDateTime`, `Cli_SetPlcDateTime`, `Cli_PlcHotStart`,
--- `Cli_PlcColdStart`, `Cli_PlcStop`, `Cli_Compress`, `Cli_CopyRamToRom`, `Cli_GetPlcStatus`, `Cli_SetSessionPassword`,
+-- the plan of a job on a connected client: its checks before anything is sent, and then its questions (Snap7 1.4
+-- reference manual, `Cli_ReadArea`, `Cli_WriteArea`, `Cli_ReadMultiVars`, `Cli_WriteMultiVars`, `Cli_ListBlocks`,
+-- `Cli_ListBlocksOfType`, `Cli_GetAgBlockInfo`, `Cli_FullUpload`, `Cli_Download`, `Cli_Delete`, `Cli_DBGet`,
+-- `Cli_DBFill`, `Cli_ReadSZL`, `Cli_GetPlcDateTime`, `Cli_SetPlcDateTime`, `Cli_PlcHotStart`, `Cli_PlcColdStart`,
+-- `Cli_PlcStop`, `Cli_Compress`, `Cli_CopyRamToRom`, `Cli_GetPlcStatus`, `Cli_SetSessionPassword`,
 -- `Cli_ClearSessionPassword`, `Cli_Disconnect`)
 abbrev pub connected_plan : Job → Grant → Plan
 connected_plan job.Connect granted = over (number_end no_fault AsItWas)
@@ -524,7 +527,7 @@ connected_plan (job.PasswordSet text) granted =
 connected_plan job.PasswordClear granted = at_once (asking_about PasswordClearing [])
 connected_plan job.Disconnect granted = record { first = disconnect_request; conduct = silent departed_end }
 
--- a connect request, then the negotiation (Snap7 1.4 reference manual, `Cli_ConnectTo`)
+-- a connection request, and then the negotiation (Snap7 1.4 reference manual, `Cli_ConnectTo`)
 abbrev pub connecting_plan : Config → Plan
 connecting_plan config = record { first = connect_request; conduct = negotiating config }
 
@@ -532,12 +535,12 @@ abbrev pub is_connect : Job → Bool
 is_connect job.Connect = true
 is_connect _ = false
 
--- that of a job on a client that isn't connected: only a connect asks something
+-- the plan of a job on a client that isn't connected; only a connect asks anything
 abbrev pub unconnected_plan : Job → Config → Plan
 unconnected_plan job config =
     if is_connect job then connecting_plan config else over (number_end not_connected Disconnected)
 
--- THE PLAN of a job by what was granted before it
+-- THE PLAN of a job, by what was granted before it
 abbrev pub plan_of : Job → Config → Option Grant → Plan
 plan_of job config None = unconnected_plan job config
 plan_of job config (Some granted) = connected_plan job granted

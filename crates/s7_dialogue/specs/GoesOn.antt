@@ -1,4 +1,5 @@
--- What a job under way keeps, so that it goes on from answer to answer as its conduct says.
+-- What the code maintains for a job that was started, so that the job goes on from answer to answer as its conduct
+-- states.
 use Rattle.std.specs.Prelude.{◌≡◌, ℕ, ◌==◌, Bool, true, false, not, if◌then◌else◌, List, [], ◌∷◌, ◌++◌, length, take, drop, replicate, slice_get, IsSome, Option, None, Some}
 use Rattle.std.specs.Bool.{MatchBool}
 use Rattle.std.specs.List.{flat_map, AllByRecursion}
@@ -31,13 +32,13 @@ use Rattle.s7_dialogue.specs.Stages.{unput_by, conduct_of_single, question_of_si
 use Rattle.s7_dialogue.specs.declared.stages.asking.Refused.{Refused}
 use Rattle.s7_dialogue.specs.Asks.{Asks, items_of, refused_at}
 
--- the refusal of an answer, by whether each item is asked for alone
+-- the refusal in an answer, by whether each telegram asks for one item
 abbrev pub refusal_by : Bool → Answer → Option ℕ
 refusal_by alone answer = if alone then part_refusal answer else telegram_refusal answer
 
 -- ---- conducts by the job
 
--- the questions of a job, a read or write of these groups
+-- the questions of a job: a read or write of these groups
 abbrev pub questions_of : Config → Job → List (List Item) → List Question
 questions_of config job.Connect groups = negotiates (asked_by config) ∷ []
 questions_of config (job.ReadArea item) groups = read_questions groups
@@ -46,7 +47,7 @@ questions_of config (job.ReadMany items) groups = read_questions groups
 questions_of config (job.WriteMany items octets) groups = write_questions groups octets
 questions_of config _ groups = []
 
--- the number of the refusal that an answer is
+-- the error number of an answer that refuses
 abbrev pub refusal_of : Job → Answer → Option ℕ
 refusal_of (job.ReadArea item) answer = part_refusal answer
 refusal_of (job.WriteArea item octets) answer = part_refusal answer
@@ -54,12 +55,12 @@ refusal_of (job.ReadMany items) answer = telegram_refusal answer
 refusal_of (job.WriteMany items octets) answer = telegram_refusal answer
 refusal_of _ answer = None
 
--- the number that the refusal at a place ends the job with
+-- the error number with which the refusal of this question ends the job
 abbrev pub number_of : Job → ℕ → ℕ → ℕ
 number_of (job.WriteArea item octets) place number = write_number place number
 number_of _ place number = number
 
--- the end of a read or write that no answer refuses
+-- the end of a read or write without a refusal
 abbrev pub finished : Job → List (Option Answer) → End
 finished (job.ReadArea item) answers = good_end (octets_told answers) []
 finished (job.ReadMany items) answers = good_end (octets_told answers) (codes_told answers)
@@ -85,23 +86,23 @@ conducted config job width groups = record {
   ended = ended_of config job;
 }
 
--- each item is alone
+-- each group has one item
 abbrev pub AreAlone : List (List Item) → Type 0
 AreAlone groups = AllByRecursion (λ (group : List Item). length group ≡ 1) groups
 
--- the groups of a read of one item are one item each, and those of a read of several are these items
+-- the groups of a read of one item have one item each; the groups of a read of several are these items
 abbrev pub AreGroupsOf : Job → List (List Item) → Type 0
 AreGroupsOf (job.ReadArea item) groups = AreAlone groups
 AreGroupsOf (job.ReadMany items) groups = joined groups ≡ items
 AreGroupsOf _ groups = Unit {0}
 
--- ---- what was found
+-- ---- what was read so far
 
--- so many numbers: these, and then 00
+-- n numbers: these, and then 00
 abbrev pub filled_up : ℕ → List ℕ → List ℕ
 filled_up n numbers = take n (numbers ++ replicate n 0)
 
--- the octets of items at their places, by what is told of the first of them
+-- the octets of items at their offsets, by the answers for the first of them
 abbrev pub octets_at_places : List Item → List ItemAnswer → List ℕ
 octets_at_places [] answers = []
 octets_at_places (item ∷ items) [] = filled_up (octet_count item) [] ++ octets_at_places items []
@@ -112,21 +113,21 @@ abbrev pub told_of_items : Option Answer → List ItemAnswer
 told_of_items None = []
 told_of_items (Some answer) = items_told answer
 
--- those of a question's items, and their codes
+-- the octets of a question's items, and their codes
 abbrev pub octets_of_row : Row → List ℕ
 octets_of_row row = octets_at_places (items_of row.question) (told_of_items row.answer)
 
 abbrev pub codes_of_row : Row → List ℕ
 codes_of_row row = filled_up (length (items_of row.question)) (of_answer codes_in row.answer)
 
--- what was found by the answers so far, before what is left to ask
+-- the octets read by the answers so far, with 00 for what is left to ask
 abbrev pub octets_so_far : List Row → Left → List ℕ
 octets_so_far rows left = flat_map octets_of_row rows ++ replicate (octets_left left) 0
 
 abbrev pub codes_so_far : List Row → Left → List ℕ
 codes_so_far rows left = flat_map codes_of_row rows ++ replicate (items_left left) 0
 
--- reads and writes ask for groups
+-- the job asks for groups of items
 abbrev pub asks_groups : Job → Bool
 asks_groups (job.ReadArea item) = true
 asks_groups (job.WriteArea item octets) = true
@@ -134,13 +135,13 @@ asks_groups (job.ReadMany items) = true
 asks_groups (job.WriteMany items octets) = true
 asks_groups _ = false
 
--- reads bring octets
+-- the job reads items, and so gives their octets
 abbrev pub brings_octets : Job → Bool
 brings_octets (job.ReadArea item) = true
 brings_octets (job.ReadMany items) = true
 brings_octets _ = false
 
--- and reads and writes of several items bring codes
+-- the job reads or writes several items, and so gives return codes
 abbrev pub brings_codes : Job → Bool
 brings_codes (job.ReadMany items) = true
 brings_codes (job.WriteMany items octets) = true
@@ -148,8 +149,8 @@ brings_codes _ = false
 
 -- ---- answers that fit their questions
 
--- an item that was read, with code FF (Snap7 1.4 sources, s7_types.h: TResFunReadItem), has all its octets, and one
--- that was refused has none
+-- an item that was read, with code FF (Snap7 1.4 sources, s7_types.h: TResFunReadItem), has all its octets, and a
+-- refused item has none
 abbrev pub TellsItem : Item → ItemAnswer → Type 0
 TellsItem item answer =
     MatchBool (answer.code == 0xFF) (length answer.octets ≡ octet_count item) (answer.octets ≡ [])
@@ -181,8 +182,8 @@ IsUnanswered row = row.answer ≡ None
 
 -- ---- jobs that go on
 
--- The job asks as its conduct says, these telegrams went out, and these answers were kept: which of them refuses
--- first, and what was found.
+-- The job asks as its conduct states, these telegrams were sent, and the code keeps of these answers which of them
+-- refuses first, and what was read.
 pub record Conducts (config : Config) (granted : Option Grant) (rows told : List Row) (job : Job)
     (found codes : List ℕ) (a : Asking) : Type 0 where
   pub groups : List (List Item)
@@ -198,7 +199,7 @@ pub record Conducts (config : Config) (granted : Option Grant) (rows told : List
 
 -- ---- one question at a time
 
--- the telegram that is out, if one is
+-- the telegram in flight, if there is one
 abbrev pub rows_out : Question → Option ℕ → List Row
 rows_out question None = []
 rows_out question (Some number) = record { question = question; number = number; answer = None } ∷ []
@@ -206,12 +207,12 @@ rows_out question (Some number) = record { question = question; number = number;
 abbrev pub IsAnswered : Row → Type 0
 IsAnswered row = IsSome row.answer
 
--- the octets that are kept of the answers so far: those that they brought, or of parts those that were read
+-- the octets kept of the answers so far: all of them, or in parts those that were read
 abbrev pub octets_kept : Ask → List (Option Answer) → List ℕ
 octets_kept (ask.Part block place) answers = told_for block.value answers
 octets_kept _ answers = octets_brought answers
 
--- The questions behind those that were answered, where parts are asked for, are those from the next one's place on.
+-- If parts are asked for, the questions after those that were answered are the ones from the next place on.
 abbrev pub questions_left_by : Ask → List (Option Answer) → List Question
 questions_left_by (ask.Part block place) answers =
     drop (count_of_data answers) (data_questions block (data_length (octets_brought answers)))
@@ -221,15 +222,15 @@ abbrev pub questions_from : Ask → List Question
 questions_from (ask.Part block place) = data_questions_behind block (Some place)
 questions_from _ = []
 
--- Before the first part only the head was asked for.
+-- before the first part only the head was asked for
 abbrev pub is_counted : Ask → ℕ → Bool
 is_counted (ask.Head block) count = count == 0
 is_counted (ask.HeadFurther block octet) count = count == 0
 is_counted (ask.Part block place) count = if place.from == 0 then count == 0 else not (count == 0)
 is_counted _ count = true
 
--- A job that asks one question at a time asks as its conduct says: of its telegrams all but the one that is out are
--- answered, no answer refuses, and their octets came.
+-- A job that asks one question at a time asks as its conduct states: all its telegrams but the one in flight are
+-- answered, no answer refuses, and their octets are kept.
 pub record AsksSingly (config : Config) (granted : Option Grant) (rows : List Row) (job : Job) (found codes : List ℕ)
     (s : Single) : Type 0 where
   pub conduct : (plan_of job config granted).conduct ≡ conduct_of_single job s.ask
@@ -244,12 +245,12 @@ pub record AsksSingly (config : Config) (granted : Option Grant) (rows : List Ro
   pub counted : is_counted s.ask (count_of_data (answers_of before)) ≡ true
   pub no_codes : codes ≡ []
 
--- It goes on so with what is asked next, once so many octets of its answer came.
+-- The job goes on so with this question, after `len` octets of its answer came.
 abbrev pub IsNextOf : Config → Option Grant → List Row → Job → List ℕ → List ℕ → Ask → ℕ → Type 0
 IsNextOf config granted rows job found codes asked len =
     (s : Single) → s.ask ≡ asked → s.out ≡ None → s.len ≡ len → AsksSingly config granted rows job found codes s
 
--- All that it asked since went out, under sequences up to this last one, and it goes on with it.
+-- All that the job asked since then was sent, under sequences up to this last one, and the job goes on.
 pub record HasAsked (config : Config) (granted : Option Grant) (job : Job) (found codes : List ℕ) (a : Asking)
     (course now : Course) (a' : Asking) (last : ℕ) : Type 0 where
   pub conducts : Conducts config granted now.rows now.rows job found codes a'
@@ -266,7 +267,7 @@ ConductsAt config granted rows told job found codes (stage.Single s) = AsksSingl
 ConductsAt config granted rows told job found codes stage.Leaving = ⊥
 ConductsAt config granted rows told job found codes (stage.Over code leaves) = ⊥
 
--- no telegram is unanswered, and this answer is the first that refused, or nothing is left to ask
+-- no telegram is unanswered, and this refusal is the first one, or nothing is left to ask
 abbrev pub IsDone : Stage → Option Refused → Type 0
 IsDone stage.Opening refused = ⊥
 IsDone (stage.Asking a) refused =
@@ -275,12 +276,12 @@ IsDone (stage.Single s) refused = ⊥
 IsDone stage.Leaving refused = ⊥
 IsDone (stage.Over code leaves) refused = ⊥
 
--- WHAT A JOB KEEPS after these telegrams and their answers
+-- WHAT A JOB MAINTAINS after these telegrams and their answers
 abbrev pub GoesOn : Running → Config → Option Grant → List Row → Type 0
 GoesOn r config granted rows = ConductsAt config granted rows rows r.job r.found.items r.codes r.stage
 
--- This is what the message tells of the answer to the one telegram of a job that is out: to what it asks, behind so many
--- octets that came.
+-- This is what the message says of the answer to the one telegram in flight: of the answer to its question, after
+-- `came` octets.
 pub record IsToldTo (r : Running) (asked : Ask) (came : ℕ) (message : List ℕ) (told : Told) : Type 0 where
   pub single : Single
   pub stage : r.stage ≡ stage.Single single

@@ -1,4 +1,4 @@
--- What contracts see of what is left to ask.
+-- What contracts see of the questions left to ask.
 use Rattle.std.specs.Prelude.{◌≡◌, ℕ, ◌≤◌, List, [], ◌∷◌, length, take, drop}
 use Rattle.std.specs.List.{flat_map}
 use Rattle.s7_item.specs.declared.item.Item.{Item}
@@ -26,22 +26,23 @@ groups_left left.Negotiation = []
 groups_left (left.Reads grouped) = groups_in grouped
 groups_left (left.Writes grouped) = groups_in grouped
 
--- how many questions are left
+-- the number of questions left
 abbrev pub questions_left : Left → ℕ
 questions_left left.Nothing = 0
 questions_left left.Negotiation = 1
 questions_left (left.Reads grouped) = length (groups_in grouped)
 questions_left (left.Writes grouped) = length (groups_in grouped)
 
--- how many items they have, and how many octets
+-- the number of items of the questions left, and the number of their octets
 abbrev pub items_left : Left → ℕ
 items_left left = length (joined (groups_left left))
 
 abbrev pub octets_left : Left → ℕ
 octets_left left = octet_count_of (joined (groups_left left))
 
--- An item has at most FFFF elements of four octets (Snap7 1.4 sources, s7_types.h: TReqFunReadItem), and no more parts
--- than octets, and a job has at most twenty items (Snap7 1.4 reference manual, `Cli_ReadMultiVars`).
+-- the greatest number of parts or items of a job, and the greatest number of their octets. An item has at most FFFF
+-- elements of four octets (Snap7 1.4 sources, s7_types.h: TReqFunReadItem) and at most as many parts as octets, and a
+-- job has at most twenty items (Snap7 1.4 reference manual, `Cli_ReadMultiVars`).
 abbrev pub most_parts : ℕ
 most_parts = 262140
 
@@ -53,13 +54,13 @@ pub record AreFew (l : Left) : Type 0 where
   pub octets : octets_left l ≤ most_octets
   pub items : items_left l ≤ most_parts
 
--- the items of what is asked
+-- the items that are asked for
 abbrev pub items_asked : Asked → List Item
 items_asked asked.Negotiation = []
 items_asked (asked.Read items) = items
 items_asked (asked.Write items) = items
 
--- the first of the questions that are left is this one, and the others stay
+-- the first of the questions left is this one, and the others stay
 abbrev pub TakesNext : Left → Asked → Left → Type 0
 TakesNext left.Nothing told after = ⊥
 TakesNext left.Negotiation told after = (told ≡ asked.Negotiation) × (after ≡ left.Nothing)

@@ -1,5 +1,5 @@
--- What a client asks, and the telegrams that go out for it (Snap7 1.4 sources, s7_types.h: TS7ReqHeader): a header with
--- the sequence, then parameters and data.
+-- The questions of a client, and the telegrams in which they are sent (Snap7 1.4 sources, s7_types.h:
+-- TS7ReqHeader): a header with the sequence, then parameters and data.
 use Rattle.std.specs.Prelude.{ℕ, Bool, true, false, List, [], ◌∷◌, ◌++◌, length, take, drop}
 use Rattle.s7_header.specs.declared.header.Kind.{Kind}
 use Rattle.s7_header.specs.declared.header.Kind.TheVariants.{Job, AckData, User}
@@ -22,43 +22,44 @@ use Rattle.s7_dialogue.specs.Uploads.{start_params, id_params}
 use Rattle.s7_dialogue.specs.Downloads.{name_in, piece_at, announce_params, piece_params, close_params}
 
 pub data Question : Type 0 where
-  -- a PDU and parallel jobs
+  -- negotiates the PDU and the parallel jobs
   negotiates : (asked : Negotiation) → Question
-  -- the octets of items
+  -- reads the octets of items
   reads : (items : List Item) → Question
-  -- new octets for items, with those of all items joined
+  -- writes items; the octets are those of all items joined
   writes : (items : List Item) → (octets : List ℕ) → Question
-  -- that the controller runs or stops, that its memory is tidied or copied, or that a block is deleted
+  -- asks for a control: run, stop, compress or copy the memory, or delete a block
   controls : (control : Control) → Question
-  -- user data about something, with these octets
+  -- asks for user data about a subject, and sends these octets
   asks : (subject : Subject) → (octets : List ℕ) → Question
-  -- the next octets of an answer in user data, which has this sequence octet, behind those that came
+  -- asks for the next octets of an answer in user data, which has this sequence octet, after the octets so far
   asks_further : (subject : Subject) → (octet : ℕ) → (so_far : List ℕ) → Question
-  -- that the upload of a block begins
+  -- starts the upload of a block
   starts_upload : (name : BlockName) → Question
-  -- the next octets of the upload of this id, an image of so many octets, behind those that came
+  -- asks for the next octets of the upload of this id, whose image has `size` octets, after the octets so far
   slices_upload : (id size : ℕ) → (so_far : List ℕ) → Question
-  -- that the upload of this id ends
+  -- ends the upload of this id
   ends_upload : (id : ℕ) → Question
-  -- that the download of a block begins, whose image this is
+  -- announces the download of a block with this image
   announces : (image : List ℕ) → Question
-  -- nothing: the server is to ask for the first piece of the image
+  -- asks nothing: the server is to ask for the first piece of the image
   awaits_call : (image : List ℕ) → Question
-  -- that the server goes on, to whose job of this sequence the image is given from a place on, as much of it as there is
-  -- room for
+  -- gives the image from an offset on, as much as there is room for, as the answer to the server's job of this
+  -- sequence; the server is to go on
   gives : (image : List ℕ) → (room from call : ℕ) → Question
-  -- that the block is inserted, once the job of this sequence is answered, by which the server closes the download
+  -- answers the server's job of this sequence, which closes the download, and asks for the insertion of the block
   inserts : (image : List ℕ) → (call : ℕ) → Question
 
--- the data items of a write (Snap7 1.4 sources, s7_types.h: TReqFunWriteDataItem): each item has as many of the octets
--- as its elements have
+-- the data items of a write (Snap7 1.4 sources, s7_types.h: TReqFunWriteDataItem): each item has as many of the
+-- octets as its elements need
 abbrev pub written : List Item → List ℕ → List DataItem
 written [] octets = []
 written (item ∷ items) octets =
     record { code = 0x00; word = item.word; octets = take (octet_count item) octets }
     ∷ written items (drop (octet_count item) octets)
 
--- its parameters: those of reads and writes have function 04 and 05 (Snap7 1.4 sources, s7_types.h: TReqFunReadParams)
+-- the parameters of a question; those of reads and writes have the functions 04 and 05 (Snap7 1.4 sources,
+-- s7_types.h: TReqFunReadParams)
 abbrev pub params_of : Question → List ℕ
 params_of (negotiates asked) = negotiation_spelling asked
 params_of (reads items) = items_params 0x04 items
@@ -74,8 +75,8 @@ params_of (awaits_call image) = []
 params_of (gives image room from call) = piece_params (piece_at image room from)
 params_of (inserts image call) = control_spelling (Insert (name_in image).kind (name_in image).number)
 
--- its data: the data items of a write, those of user data, a piece of an image, or none
--- (Snap7 1.4 sources, s7_types.h: TReqFunWriteDataItem, TReqDataSecurity, TResDownloadDataHeader)
+-- the data of a question: the data items of a write, the data of user data, a piece of an image, or none (Snap7 1.4
+-- sources, s7_types.h: TReqFunWriteDataItem, TReqDataSecurity, TResDownloadDataHeader)
 abbrev pub body_of : Question → List ℕ
 body_of (negotiates asked) = []
 body_of (reads items) = []
@@ -91,7 +92,7 @@ body_of (awaits_call image) = []
 body_of (gives image room from call) = image_data (piece_at image room from).octets
 body_of (inserts image call) = []
 
--- the type of its header (Snap7 1.4 sources, s7_types.h: TS7ReqHeader, TS7ResHeader23)
+-- the type of a question's header (Snap7 1.4 sources, s7_types.h: TS7ReqHeader, TS7ResHeader23)
 abbrev pub kind_of : Question → Kind
 kind_of (negotiates asked) = Job
 kind_of (reads items) = Job
@@ -107,13 +108,13 @@ kind_of (awaits_call image) = Job
 kind_of (gives image room from call) = AckData
 kind_of (inserts image call) = Job
 
--- a question goes out under a sequence of the client's own, unless it answers a job of the server's or nothing goes out
+-- a question has a sequence of the client's own, unless it answers a job of the server's or nothing is sent for it
 abbrev pub is_numbered : Question → Bool
 is_numbered (awaits_call image) = false
 is_numbered (gives image room from call) = false
 is_numbered _ = true
 
--- the sequence of its message, by the client's own
+-- the sequence of a question's message; `sequence` is the client's own
 abbrev pub sequence_in : ℕ → Question → ℕ
 sequence_in sequence (gives image room from call) = call
 sequence_in sequence _ = sequence
@@ -134,12 +135,11 @@ abbrev pub question_octets : ℕ → Question → List ℕ
 question_octets sequence question =
     message_octets (kind_of question) (sequence_in sequence question) (params_of question) (body_of question)
 
--- the answer to the job of the server's by which it closes a download (after
--- Snap7 1.4 sources, s7_types.h: TReqDownloadParams)
+-- the answer to the server's job that closes a download (after Snap7 1.4 sources, s7_types.h: TReqDownloadParams)
 abbrev pub closing_octets : ℕ → List ℕ
 closing_octets call = message_octets AckData call close_params []
 
--- THE MESSAGES that go out for a question: its own, before which a download is closed, or none
+-- THE MESSAGES that are sent for a question: its own, after the one that closes a download if there is one, or none
 abbrev pub messages_of : ℕ → Question → List (List ℕ)
 messages_of sequence (awaits_call image) = []
 messages_of sequence (inserts image call) = closing_octets call ∷ question_octets sequence (inserts image call) ∷ []

@@ -1,12 +1,12 @@
--- The numbers of errors that refusals end a job with
--- (Snap7 1.4 sources, s7_micro_client.cpp: TSnap7MicroClient::CpuError).
+-- The error numbers with which refusals end a job (Snap7 1.4 sources, s7_micro_client.cpp:
+-- TSnap7MicroClient::CpuError).
 use Rattle.std.specs.Prelude.{ℕ, ◌==◌, ◌||◌, [], ◌∷◌, Option, None, Some, if◌then◌else◌}
 use Rattle.s7_dialogue.specs.Codes.{over_pdu, address_out_of_range, invalid_transport, size_mismatch, not_available, invalid_value, no_such_function, already_runs, already_stopped, password_needed, wrong_password, no_password, refused_otherwise}
 use Rattle.s7_clock.specs.declared.control.Control.{Control}
 use Rattle.s7_clock.specs.declared.control.Control.TheVariants as control
 use Rattle.s7_dialogue.specs.Answer.{Answer, grants, tells, notes, stands, brings, uploads, slices, uploaded, announced, calls, refuses}
 
--- by the error word of a header
+-- the error number of the error word of a header
 abbrev pub number_of_error : ℕ → ℕ
 number_of_error error =
     if error == 0x8500 then over_pdu
@@ -18,7 +18,7 @@ number_of_error error =
     else (if error == 0xD604 || error == 0xD605 then no_password
     else refused_otherwise))))))
 
--- by the return code of an item
+-- the error number of the return code of an item
 abbrev pub number_of_code : ℕ → ℕ
 number_of_code code =
     if code == 0x05 then address_out_of_range
@@ -27,11 +27,11 @@ number_of_code code =
     else (if code == 0x0A then not_available
     else refused_otherwise)))
 
--- a return code that isn't FF
+-- the error number of a return code; `None` for FF
 abbrev pub code_refusal : ℕ → Option ℕ
 code_refusal code = if code == 0xFF then None else Some (number_of_code code)
 
--- by the status that answers a control, which isn't 00; the statuses are this profile's own
+-- the error number of the status that answers a control, which isn't 00; the statuses are this profile's own
 abbrev pub number_of_status : Control → ℕ → ℕ
 number_of_status control.Start status = if status == 0x02 then already_runs else refused_otherwise
 number_of_status control.ColdStart status = if status == 0x02 then already_runs else refused_otherwise
@@ -41,7 +41,7 @@ number_of_status control.CopyRam status = refused_otherwise
 number_of_status (control.Insert kind number) status = refused_otherwise
 number_of_status (control.Delete kind number) status = refused_otherwise
 
--- the refusal of a telegram, whatever became of its items
+-- the refusal of a whole telegram, whatever the codes of its items are
 abbrev pub telegram_refusal : Answer → Option ℕ
 telegram_refusal (refuses error) = Some (number_of_error error)
 telegram_refusal (grants granted) = None
@@ -73,7 +73,7 @@ part_refusal uploaded = None
 part_refusal announced = None
 part_refusal (calls sequence) = None
 
--- the refusal of a control, by its telegram or by its status
+-- the refusal of a control, by an error word or by its status
 abbrev pub control_refusal : Control → Answer → Option ℕ
 control_refusal control (refuses error) = Some (number_of_error error)
 control_refusal control (stands status) =
@@ -88,7 +88,7 @@ control_refusal control uploaded = None
 control_refusal control announced = None
 control_refusal control (calls sequence) = None
 
--- the refusal of a telegram of a download, whose insertion is answered by a status
+-- the refusal of a telegram of a download; its insertion is answered by a status
 abbrev pub download_refusal : Answer → Option ℕ
 download_refusal (refuses error) = Some (number_of_error error)
 download_refusal (stands status) = if status == 0x00 then None else Some refused_otherwise

@@ -46,13 +46,13 @@ octets_of (job.WriteArea item octets) = octets
 octets_of (job.WriteMany items octets) = octets
 octets_of _ = []
 
--- each item of the job is asked for alone
+-- each telegram of the job asks for one item
 abbrev pub is_alone : Job → Bool
 is_alone (job.ReadArea item) = true
 is_alone (job.WriteArea item octets) = true
 is_alone _ = false
 
--- what is asked, with the octets from a place on in a write
+-- the question, with its octets from an offset on in a write
 abbrev pub question_of : Config → Job → ℕ → Asked → Question
 question_of config job from asked.Negotiation = negotiates (asked_by config)
 question_of config job from (asked.Read items) = reads items
@@ -62,7 +62,7 @@ question_of config job from (asked.Write items) = writes items (take (octet_coun
 abbrev pub message_of : Config → Job → Flight → List ℕ
 message_of config job flight = question_octets flight.sequence (question_of config job flight.from flight.asked)
 
--- ---- one question at a time
+-- ---- jobs that ask one question at a time
 
 -- the octets that a job sends in user data (Snap7 1.4 reference manual, `Cli_ListBlocksOfType`, `Cli_GetAgBlockInfo`,
 -- `Cli_ReadSZL`, `Cli_SetPlcDateTime`, `Cli_GetPlcStatus`, `Cli_SetSessionPassword`)
@@ -85,7 +85,7 @@ abbrev pub image_of : Job → List ℕ
 image_of (job.Download image) = image
 image_of _ = []
 
--- what is asked, behind the octets that came
+-- the question, after the octets so far
 abbrev pub question_of_single : Job → Ask → List ℕ → Question
 question_of_single job (ask.Control control) so_far = controls control
 question_of_single job (ask.About subject) so_far = asks subject (data_of_job job)
@@ -101,7 +101,7 @@ question_of_single job (ask.Head block) so_far = asks DataHead (block_octets 0x4
 question_of_single job (ask.HeadFurther block octet) so_far = asks_further DataHead octet so_far
 question_of_single job (ask.Part block place) so_far = part_question block place
 
--- how it is asked
+-- the conduct of the job that asks it
 abbrev pub conduct_of_single : Job → Ask → Conduct
 conduct_of_single job (ask.Control control) = controlling control
 conduct_of_single job (ask.About subject) = asking_about subject (data_of_job job)
@@ -117,26 +117,26 @@ conduct_of_single job (ask.Head block) = block_conduct block
 conduct_of_single job (ask.HeadFurther block octet) = block_conduct block
 conduct_of_single job (ask.Part block place) = block_conduct block
 
--- the messages of what went out
+-- the messages of the question in flight
 abbrev pub single_messages : Job → Single → List (List ℕ)
 single_messages job s = messages_of (unwrap_or s.out 0) (question_of_single job s.ask [])
 
--- a clock is set to a moment that it can show, and a password has from one to eight octets
--- (Snap7 1.4 reference manual, `Cli_SetPlcDateTime`, `Cli_SetSessionPassword`)
+-- a clock is set to a time that it can show, and a password has one to eight octets (Snap7 1.4 reference manual,
+-- `Cli_SetPlcDateTime`, `Cli_SetSessionPassword`)
 abbrev pub is_sent_well : Job → Bool
 is_sent_well (job.ClockSet moment) = check_moment moment == no_fault
 is_sent_well (job.PasswordSet text) = check_password text == no_fault
 is_sent_well _ = true
 
--- an image with a head that is its own is given, and a piece of it fits a PDU of 64 to 1,920 octets, this profile's own
+-- the image has a head that agrees with it, and a piece of it fits a PDU of 64 to 1,920 octets, this profile's own
 -- limits
 abbrev pub has_image : Job → Pieces → Bool
 has_image job pieces =
     (check_image (image_of job) == no_fault && pieces.len == length (image_of job))
     && (nat_le 46 pieces.room && nat_le pieces.room 1902)
 
--- User data that can be written go with what is asked, or none do, a part fits the PDU and is inside the data block, and a
--- piece fits it and is inside the image.
+-- The question can be written: its user data are valid, its part fits the PDU and is inside the data block, or its
+-- piece fits the PDU and is inside the image.
 abbrev pub is_writable : Job → Ask → Bool
 is_writable job (ask.About subject) = is_sent_well job
 is_writable job (ask.Head block) = has_pdu block
@@ -148,13 +148,13 @@ is_writable job (ask.Give pieces from call) = has_image job pieces && nat_lt fro
 is_writable job (ask.Insert pieces call) = has_image job pieces
 is_writable job _ = true
 
--- Such a question can be asked, by a job that has a place for each octet that comes.
+-- The question can be written, and the job has room for each octet that it may read.
 abbrev pub can_ask_single : Job → ℕ → Ask → Bool
 can_ask_single job found asked = is_writable job asked && found == room_for asked
 
--- ---- what is put and awaited
+-- ---- what isn't queued yet, and what is awaited
 
--- the octets of the telegrams that aren't put yet, by the TPDU size
+-- the octets of the telegrams that aren't queued yet, by the TPDU size
 abbrev pub unput_by : Config → ℕ → Job → Stage → List ℕ
 unput_by config size job stage.Opening = []
 unput_by config size job (stage.Asking a) =
@@ -164,7 +164,7 @@ unput_by config size job (stage.Single s) =
 unput_by config size job stage.Leaving = []
 unput_by config size job (stage.Over code leaves) = []
 
--- what is awaited, where a message that was no answer is kept
+-- what is awaited; `carried` is the message that was no answer, if one came
 abbrev pub awaited_by : List ℕ → List ℕ → List ℕ → Stage → Awaits
 awaited_by found codes carried stage.Opening = for_confirm
 awaited_by found codes carried (stage.Asking a) = for_answers
@@ -179,15 +179,15 @@ awaited_by found codes carried (stage.Over code leaves) =
 abbrev pub is_addressed : Item → Bool
 is_addressed item = nat_lt item.address (2 ^ 24)
 
--- there are items, one where each is asked for alone, their words are known, and their message is no longer than any
--- message may be
+-- there are items, exactly one if each telegram asks for one; their word lengths are known; and their message is at
+-- most as long as the longest message
 abbrev pub is_sendable : Bool → Bool → List Item → Bool
 is_sendable alone write items =
     (nat_lt 0 (length items) && (not alone || length items == 1))
     && (list_all is_addressed items && (list_all is_known items && nat_le (request_size items write) most_pdu))
 
--- So much of a job can be asked: its groups can be sent, and their octets are there from a place on, those of the job
--- in a write, and else those that are read.
+-- A question can be asked: its items can be sent, and their octets exist from this offset on. In a write these are
+-- octets of the job, and in a read they are the room for what is read.
 abbrev pub can_ask : Job → ℕ → ℕ → Asked → Bool
 can_ask job found from asked.Negotiation = true
 can_ask job found from (asked.Read items) =
@@ -208,7 +208,7 @@ can_ask_all job found from (left.Writes grouped) =
 abbrev pub can_fly : Job → ℕ → Flight → Bool
 can_fly job found flight = nat_le flight.item most_parts && can_ask job found flight.from flight.asked
 
--- there is a place for each octet of several items that are read
+-- there is room for each octet of several items that are read
 abbrev pub has_places : Job → ℕ → Bool
 has_places (job.ReadMany items) found = nat_le (octet_count_of items) found
 has_places _ found = true
@@ -229,7 +229,7 @@ IsAsking (stage.Single s) = Unit {0}
 IsAsking stage.Leaving = ⊥
 IsAsking (stage.Over code leaves) = ⊥
 
--- questions of a list are asked
+-- the stage asks the questions of a list
 abbrev pub IsListing : Stage → Type 0
 IsListing stage.Opening = ⊥
 IsListing (stage.Asking a) = Unit {0}
@@ -251,7 +251,7 @@ IsOver (stage.Single s) = ⊥
 IsOver stage.Leaving = ⊥
 IsOver (stage.Over code leaves) = Unit {0}
 
--- how many answers the job awaits at most
+-- the greatest number of answers that the job still awaits
 abbrev pub answers_left : Stage → ℕ
 answers_left stage.Opening = 2
 answers_left (stage.Asking a) = length a.flights.items + questions_left a.left
@@ -259,14 +259,14 @@ answers_left (stage.Single s) = asks_left s.ask s.len
 answers_left stage.Leaving = 0
 answers_left (stage.Over code leaves) = 0
 
--- a grant that can be gone on with: a PDU from 64 to 1,920, and from 1 to 8 jobs, this profile's own limits
+-- an acceptable grant: a PDU from 64 to 1,920, and 1 to 8 jobs, this profile's own limits
 pub record IsGrant (g : Grant) : Type 0 where
   pub least : 64 ≤ g.pdu
   pub most : g.pdu ≤ most_pdu
   pub some : 1 ≤ g.jobs
   pub few : g.jobs ≤ 8
 
--- a grant that is left is one of these
+-- if a grant is left, it is acceptable
 abbrev pub IsGoodLeave : Leaves → Type 0
 IsGoodLeave leaving.AsItWas = Unit {0}
 IsGoodLeave (leaving.Connected granted) = IsGrant granted
@@ -288,7 +288,7 @@ LeavesLink (leaving.Connected granted) = Unit {0}
 LeavesLink leaving.Disconnected = ⊥
 LeavesLink leaving.Closed = ⊥
 
--- a job that is over and leaves the link to the next one
+-- the job is over and leaves the link to the next one
 abbrev pub LeavesOpen : Stage → Type 0
 LeavesOpen stage.Opening = ⊥
 LeavesOpen (stage.Asking a) = ⊥
@@ -296,8 +296,8 @@ LeavesOpen (stage.Single s) = ⊥
 LeavesOpen stage.Leaving = ⊥
 LeavesOpen (stage.Over code leaves) = LeavesLink leaves
 
--- What a stage asks and has left to ask can be asked, where so many octets can be found, and what it leaves can be gone
--- on with.
+-- What a stage asks and still has to ask can be asked, with room for `found` octets, and what it leaves is
+-- acceptable.
 abbrev pub is_ready : Job → ℕ → Stage → Bool
 is_ready job found stage.Opening = has_places job found
 is_ready job found (stage.Asking a) =

@@ -11,7 +11,7 @@ use Rattle.s7_dialogue.specs.Stages.{is_ready}
 use Rattle.s7_dialogue.specs.Asks.{IsNew}
 use Rattle.s7_dialogue.specs.GoesOn.{Conducts, AsksSingly}
 
--- the stage asks these questions from the first on
+-- the stage asks these questions, beginning with the first
 abbrev pub AsksFirst : Stage → ℕ → Left → Type 0
 AsksFirst stage.Opening width questions = ⊥
 AsksFirst (stage.Asking a) width questions = IsNew a width questions
@@ -19,7 +19,7 @@ AsksFirst (stage.Single s) width questions = ⊥
 AsksFirst stage.Leaving width questions = ⊥
 AsksFirst (stage.Over code leaves) width questions = ⊥
 
--- how a job begins, by the first of its plan
+-- how a job begins, by what its plan sends first
 abbrev pub BeginsWith : Job → Config → Option Grant → List ℕ → List ℕ → Stage → Type 0
 BeginsWith job config granted found codes stage.Opening = (plan_of job config granted).first ≡ connect_request
 BeginsWith job config granted found codes (stage.Asking a) =
@@ -30,8 +30,8 @@ BeginsWith job config granted found codes stage.Leaving = (plan_of job config gr
 BeginsWith job config granted found codes (stage.Over code leaves) =
     plan_of job config granted ≡ over (record { code = code; octets = found; codes = codes; leaves = leaves })
 
--- The job begins so with 00 for each octet and each code that it brings, at most twenty
--- (Snap7 1.4 reference manual, `Cli_ReadMultiVars`), and what it asks can be asked.
+-- The job begins at this stage with 00 for each octet and each code that it gives, at most twenty codes (Snap7 1.4
+-- reference manual, `Cli_ReadMultiVars`), and what it asks can be asked.
 pub record Starts (job : Job) (granted : Option Grant) (at : Stage) (octets codes : ℕ) : Type 0 where
   pub ready : is_ready job octets at ≡ true
   pub begins : (config : Config) → BeginsWith job config granted (replicate octets 0) (replicate codes 0) at

@@ -1,4 +1,4 @@
--- What the parts of an answer's taking come to.
+-- The effects of the steps in which an answer is taken.
 use Rattle.std.specs.Prelude.{◌≡◌, ◌⊎◌, ℕ, ◌+◌, ◌==◌, Bool, List, [], ◌∷◌, ◌++◌, length, take, drop, slice_index, slice_set, map, None, Some, if◌then◌else◌}
 use lib.Seq.{paste}
 use Rattle.s7_item.specs.declared.item.Item.{Item}
@@ -21,15 +21,15 @@ use Rattle.s7_dialogue.specs.Asks.{first_spot, spot_behind, flight_at}
 abbrev pub question_for : Bool → List Item → List ℕ → Question
 question_for write items octets = if write then writes items octets else reads items
 
--- the answer tells this to a read of the items, or to a write of some octets for them
+-- the answer of the code's value is this answer to a read of the items, or to a write of some octets for them
 abbrev pub TellsFor : Bool → List Item → Answer → spelled.Answer → Type 0
 TellsFor write items told x = (octets : List ℕ) × Tells (question_for write items octets) told x
 
--- what is kept is a read or a write of these items
+-- the code keeps a read or a write of these items
 abbrev pub IsFor : List Item → Asked → Type 0
 IsFor items told = (told ≡ asked.Read items) ⊎ (told ≡ asked.Write items)
 
--- what is kept of a telegram of these rows, which is unanswered, and what an answer tells to it
+-- what the code keeps of an unanswered telegram of these rows, and of the answer to it
 pub record Taken (rows : List Row) (flight : Flight) (told : Answer) : Type 0 where
   pub front : List Row
   pub row : Row
@@ -46,19 +46,19 @@ rows_with front row back answer = front ++ record row { answer = Some answer } �
 
 -- ---- what is kept of an answer
 
--- the codes with these at their places, from one on, where there are such places
+-- the codes with these in their place from an index on, as far as there are codes
 abbrev pub with_codes : ℕ → List ℕ → List ℕ → List ℕ
 with_codes place [] codes = codes
 with_codes place (code ∷ noted) codes = with_codes (place + 1) noted (slice_set codes place code)
 
--- the octets with those of the items that were read at their places, from one on
+-- the octets with those of the items that were read at their offsets, from an offset on
 abbrev pub with_octets : ℕ → List Item → List spelled.ItemAnswer → List ℕ → List ℕ
 with_octets from [] answers found = found
 with_octets from (item ∷ items) [] found = found
 with_octets from (item ∷ items) (answer ∷ answers) found =
     with_octets (from + octet_count item) items answers (paste found from answer.octets (length answer.octets))
 
--- What an answer to a telegram for these items, that doesn't refuse, leaves of what was found.
+-- What an answer that doesn't refuse leaves of the octets and codes found so far, for a telegram of these items.
 abbrev pub Keeps : List Item → Flight → Answer → List ℕ → List ℕ → List ℕ → List ℕ → Type 0
 Keeps items flight (told.Refused error) found codes found' codes' = (found' ≡ found) × (codes' ≡ codes)
 Keeps items flight (told.Granted n) found codes found' codes' = (found' ≡ found) × (codes' ≡ codes)
@@ -68,7 +68,8 @@ Keeps items flight (told.Items answers) found codes found' codes' =
 Keeps items flight (told.Codes noted) found codes found' codes' =
     (found' ≡ found) × (codes' ≡ with_codes flight.item noted.now codes)
 
--- of the octets of items those whose code is FF (Snap7 1.4 sources, s7_types.h: TResFunReadItem)
+-- the octets of the items whose code is FF, out of those of all items (Snap7 1.4 sources, s7_types.h:
+-- TResFunReadItem)
 abbrev pub without_gaps : List Item → List ℕ → List ℕ → List ℕ
 without_gaps [] codes found = []
 without_gaps (item ∷ items) codes found =

@@ -1,4 +1,4 @@
--- What is kept of a question, and what the code's answers tell.
+-- What the code keeps of a question, and what its values say of an answer.
 use Rattle.std.specs.Prelude.{◌≡◌, ℕ, length, List, Option, None, Some}
 use Rattle.s7_header.specs.declared.negotiation.Negotiation.{Negotiation}
 use Rattle.s7_dialogue.specs.declared.answers.answer.Asked.{Asked}
@@ -9,14 +9,14 @@ use Rattle.s7_dialogue.specs.Question.{Question, negotiates, reads, writes}
 use Rattle.s7_dialogue.specs.Answer as spelled
 use Rattle.s7_dialogue.specs.DataItems.{answers_in}
 
--- the question is of the kind that is kept, and for the same items
+-- the question has the kind that is kept, and the same items
 abbrev pub IsAsked : Asked → Question → Type 0
 IsAsked asked.Negotiation (negotiates n) = Unit {0}
 IsAsked (asked.Read kept) (reads items) = items ≡ kept
 IsAsked (asked.Write kept) (writes items octets) = items ≡ kept
 IsAsked _ _ = ⊥
 
--- the answers for these items, as data of a read's answer tell them
+-- the answers for these items, as the data of a read's answer give them
 abbrev pub TellsItems : Question → List spelled.ItemAnswer → spelled.Answer → Type 0
 TellsItems (reads items) answers answer =
     (body : List ℕ) × (spelled.item_answers items body ≡ Some answers) × (answer ≡ spelled.tells answers)
@@ -30,7 +30,7 @@ abbrev pub TellsGrant : Question → Negotiation → spelled.Answer → Type 0
 TellsGrant (negotiates asked) n answer = answer ≡ spelled.grants n
 TellsGrant _ n answer = ⊥
 
--- what an answer tells to a question
+-- what the code's value says of the answer to a question
 abbrev pub Tells : Question → Answer → spelled.Answer → Type 0
 Tells question (told.Refused error) answer = answer ≡ spelled.refuses error
 Tells question (told.Granted n) answer = TellsGrant question n answer

@@ -1,4 +1,4 @@
-// What answers a telegram, and what comes of it.
+//! Answers to telegrams, and their effect on a job.
 
 pub(crate) mod answer;
 pub(crate) mod codes_list;

@@ -1,28 +1,27 @@
-// What a client asks for.
+//! The configuration of a client.
 ghost use Rattle.std.specs.Prelude.{◌≡◌, ◌+◌, ◌*◌, ◌≤◌};
 
-/// The calling TSAP, the connection type PG with the highest octet 01.
+/// The usual calling TSAP.
 const CALLING: u16 = 0x0100;
 
-/// How a client connects and what it asks for.
+/// How a client connects and what it negotiates.
 #[derive(Clone, Copy, Debug, PartialEq, Eq)]
 pub struct Config {
     /// The calling TSAP.
     pub calling: u16,
-    /// The called TSAP: the connection type, then rack times 32 and slot.
+    /// The called TSAP: the connection type in the high octet, and rack times 32 plus slot in the low octet.
     pub called: u16,
-    /// The PDU that is asked for, from 64 to 1,920 octets.
+    /// The PDU to ask for, from 64 to 1,920 octets.
     pub pdu: u16,
-    /// How many telegrams may be unanswered at a time (parallel jobs), as it is asked for, from 1 to 8.
+    /// The number of parallel jobs to ask for, from 1 to 8: how many telegrams may be unanswered at a time.
     pub jobs: u16,
-    /// With how many polls that met a link with nothing to give, or no room, yet a job is over: at
-    /// least 1.
+    /// A job times out after this many polls that found the link not ready; at least 1.
     pub polls: u32,
 }
 
 impl Config {
-    /// The usual way to connect to a controller in this rack (0 to 7) and slot (0 to 31), by a
-    /// connection of this kind (1 PG, 2 OP, 3 basic): PDU 480, one telegram at a time, 50 polls.
+    /// The usual configuration for a controller in this rack (0 to 7) and slot (0 to 31), with a connection of this
+    /// kind (1 PG, 2 OP, 3 basic): PDU 480, one telegram at a time, 50 polls.
     pub fn new(kind: u8, rack: u8, slot: u8) -> Config
         requires rack { rack ≤ 7 }
         requires slot { slot ≤ 31 }

@@ -1,29 +1,32 @@
-// What a server granted, and how a job is over.
+//! What a server granted, and how a job ends.
 
-/// The longest telegram, in octets, and how many telegrams may be unanswered at a time (parallel jobs).
+/// What a server granted in the negotiation.
 #[derive(Clone, Copy, Debug, PartialEq, Eq)]
 pub struct Grant {
+    /// The greatest length of a telegram, in octets.
     pub pdu: u16,
+    /// The number of parallel jobs: how many telegrams may be unanswered at a time.
     pub jobs: u16,
 }
 
-/// What the end of a job leaves.
+/// The state in which the end of a job leaves the client.
 #[derive(Clone, Copy, Debug, PartialEq, Eq)]
 pub enum Leaves {
-    /// The client as it was.
+    /// As it was before the job.
     AsItWas,
-    /// A client that is connected.
+    /// Connected, with this grant.
     Connected(Grant),
-    /// A client that isn't connected.
+    /// Not connected.
     Disconnected,
-    /// A client that is closed until the next connect.
+    /// Closed until the next connect.
     Closed,
 }
 
-/// How a job is over.
+/// How a job ends.
 #[derive(Clone, Copy, Debug, PartialEq, Eq)]
 pub struct Ending {
-    /// 0, or the number of an error, one of the constants of the module `codes`.
+    /// 0, or an error number: one of the constants of the module `codes`.
     pub code: u32,
+    /// The state in which the client is left.
     pub leaves: Leaves,
 }

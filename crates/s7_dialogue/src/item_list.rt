@@ -1,4 +1,4 @@
-// A list of items of any length.
+//! A list of items of any length.
 ghost use Rattle.std.specs.Prelude.{◌≡◌};
 
 use s7_item::Item;
@@ -20,21 +20,21 @@ impl Model for ItemList {
 }
 
 impl ItemList {
-    /// The items of a vector, which is not copied.
+    /// The items of a vector, which isn't copied.
     pub fn of_vec(items: Vec<Item>) -> ItemList
         ensures { result ≡ items.items }
     {
         ItemList { items }
     }
 
-    /// The vector of the items, which is not copied.
+    /// The vector of the items, which isn't copied.
     pub fn into_vec(self) -> Vec<Item>
         ensures { result.items ≡ self }
     {
         self.items
     }
 
-    /// The items, lent.
+    /// The items, borrowed.
     pub fn as_slice(&self) -> &[Item]
         ensures { result.now ≡ self.now }
     {

@@ -1,87 +1,87 @@
-// What a client can be asked to do, and what comes of it.
+//! The jobs of a client, and their results.
 
 use crate::ItemList;
 use s7_item::Item;
 use s7_outer::Octets;
 
-/// What a client is asked to do.
+/// A job for a client.
 #[derive(Debug, Drop)]
 pub enum Job {
-    /// Connect and negotiate; on a connected client nothing.
+    /// Connects and negotiates; does nothing on a connected client.
     Connect,
-    /// Read an item, in as many telegrams as it takes.
+    /// Reads an item, in as many telegrams as it takes.
     ReadArea { item: Item },
-    /// Write an item, in as many telegrams as it takes. Where a part is refused, others may have been
-    /// written, also parts behind it that were out.
+    /// Writes an item, in as many telegrams as it takes. If a part is refused, other parts may have been written,
+    /// also later ones that were in flight.
     WriteArea { item: Item, octets: Octets },
-    /// Read at most twenty items, in as few telegrams as their order lets.
+    /// Reads at most twenty items, in as few telegrams as their order allows.
     ReadMany { items: ItemList },
-    /// Write at most twenty items, with the octets of all of them joined.
+    /// Writes at most twenty items; `octets` are the octets of all of them joined.
     WriteMany { items: ItemList, octets: Octets },
-    /// Count the blocks of each kind.
+    /// Counts the blocks of each kind.
     List,
-    /// List the blocks of a kind: 38 OB, 41 DB, 42 SDB, 43 FC, 44 SFC, 45 FB, 46 SFB. Another kind is asked
-    /// for too, and the server refuses it.
+    /// Lists the blocks of a kind: 38 OB, 41 DB, 42 SDB, 43 FC, 44 SFC, 45 FB, 46 SFB. Any other kind is sent too,
+    /// and the server refuses it.
     ListOf { kind: u8 },
-    /// Read the head of the block of this kind and number, which may be any.
+    /// Reads the head of the block of this kind and number, which may have any values.
     Info { kind: u8, number: u16 },
-    /// Read the image of the block of this kind and number, which may be any: its head, and the octets behind it.
+    /// Reads the image of the block of this kind and number, which may have any values: its head, and the octets
+    /// after it.
     Upload { kind: u8, number: u16 },
-    /// Load the block whose image this is into the controller, under the kind and the number of its head, and insert it
-    /// there. The image has 36 to 65,536 octets, and its head states its length. Blocks that are OB, FC or FB can be
-    /// inserted.
+    /// Loads the block with this image into the controller, under the kind and the number in its head, and inserts
+    /// it there. The image has 36 to 65,536 octets, and its head states its length. OB, FC and FB can be inserted.
     Download { image: Octets },
-    /// Delete the block of this kind and number, which may be any. Blocks that are OB, FC or FB can be deleted.
+    /// Deletes the block of this kind and number, which may have any values. OB, FC and FB can be deleted.
     Delete { kind: u8, number: u16 },
-    /// Read a whole data block, of which the server tells that it has 1 to 2,097,152 octets.
+    /// Reads a whole data block. The server states its length, from 1 to 2,097,152 octets.
     DbGet { number: u16 },
-    /// Fill one with a value. Where a part is refused, those before it were written.
+    /// Fills a whole data block with a value. If a part is refused, the parts before it were written.
     DbFill { number: u16, value: u8 },
-    /// Read the status list (SZL) of this id and index.
+    /// Reads the status list (SZL) of this id and index.
     Szl { id: u16, index: u16 },
-    /// Read the server's clock.
+    /// Reads the server's clock.
     ClockRead,
-    /// Set the server's clock to this moment, in milliseconds since 1970, from 631,152,000,000 to
-    /// 3,786,911,999,999, which is 1990 to the end of 2089.
+    /// Sets the server's clock to this time, in milliseconds since 1970, from 631,152,000,000 to 3,786,911,999,999:
+    /// from 1990 to the end of 2089.
     ClockSet { moment: u64 },
-    /// Have the controller run.
+    /// Makes the controller run (hot start).
     Start,
-    /// Have it run by a cold start.
+    /// Makes the controller run by a cold start.
     ColdStart,
-    /// Have it stop.
+    /// Stops the controller.
     Stop,
-    /// Have its memory compressed.
+    /// Makes the controller compress its memory.
     Compress,
-    /// Have its memory copied to the module.
+    /// Makes the controller copy its RAM to its ROM.
     CopyRam,
-    /// Read whether it runs: the status list 0424.
+    /// Reads whether the controller runs: the status list 0424.
     Status,
-    /// Set the password of the link, of 1 to 8 octets.
+    /// Sends the password of the link, of 1 to 8 octets.
     PasswordSet { text: Octets },
-    /// Give back the right that a password gave.
+    /// Gives up the right that a password gave to the link.
     PasswordClear,
-    /// Tell the server that the link ends.
+    /// Transmits a disconnect request.
     Disconnect,
 }
 
-/// What came of a job.
+/// The result of a job.
 #[derive(Debug, Drop)]
 pub struct JobResult {
     /// The job.
     pub job: Job,
-    /// 0, or the number of an error, one of the constants of the module `codes`.
+    /// 0, or an error number: one of the constants of the module `codes`.
     pub code: u32,
-    /// The octets that were read, of several items those of each that was read, joined; of `List` `30`, kind
-    /// and count (2) for each of the seven kinds; of `ListOf` number (2), flags and language of each block,
-    /// by rising numbers; the 36 octets of a head; the image of a block; the octets of a data block; the
-    /// image of a status list, which that of `Status` is too; the ten octets of a clock that was read. None
-    /// where the code isn't 0.
+    /// The octets that were read; none if the code isn't 0. For several items they are those of each item that was
+    /// read, joined. For `List` they are `30`, kind and count (2 octets) for each of the seven kinds. For `ListOf`
+    /// they are number (2 octets), flags and language of each block, by rising numbers. For the other jobs they are
+    /// the 36 octets of a head, the image of a block, the octets of a data block, the image of a status list (also
+    /// for `Status`), or the ten octets of the clock that was read.
     pub octets: Octets,
-    /// The return codes of the items of `ReadMany` and `WriteMany`, in the first `count` places;
-    /// the other places are 0.
+    /// The return codes of the items of `ReadMany` and `WriteMany`, in the first `count` elements; the others are
+    /// 0.
     pub codes: [u8; 20],
-    /// How many return codes there are: none for other jobs, and none where the code isn't 0.
+    /// The number of return codes; 0 for other jobs, and if the code isn't 0.
     pub count: u8,
-    /// The message that is no answer, where the code is 00800000, and else no octets.
+    /// The message that isn't an answer, if the code is 00800000; else no octets.
     pub carried: Octets,
 }

@@ -1,4 +1,4 @@
-//! What a job asks, what answers it and how it ends, by messages alone.
+//! The messages of a client's jobs: what a job asks, what answers it, and how it ends.
 #![tactic(auto)]
 
 mod answers;

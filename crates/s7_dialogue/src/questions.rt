@@ -1,4 +1,4 @@
-// What a job asks: what is checked before, and the messages.
+//! The questions of a job: their checks before anything is sent, and their messages.
 
 pub(crate) mod checks;
 pub(crate) mod left;

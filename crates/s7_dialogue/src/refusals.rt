@@ -1,4 +1,4 @@
-// The numbers of errors that refusals end a job with.
+//! The error numbers with which refusals end a job.
 ghost use Rattle.std.specs.Prelude.{◌≡◌};
 ghost use Rattle.s7_dialogue.specs.Refusals.{number_of_error, number_of_code, number_of_status};
 
@@ -8,7 +8,7 @@ use crate::codes::{
 };
 use s7_clock::Control;
 
-/// The number for the error word of a header.
+/// The error number for the error word of a header.
 pub(crate) fn number_of_error(error: u16) -> u32
     ensures { result ≡ number_of_error error }
 {
@@ -24,7 +24,7 @@ pub(crate) fn number_of_error(error: u16) -> u32
     }
 }
 
-/// The number for the return code of an item, which isn't FF.
+/// The error number for the return code of an item, which isn't FF.
 pub(crate) fn number_of_code(code: u8) -> u32
     ensures { result ≡ number_of_code code }
 {
@@ -37,7 +37,7 @@ pub(crate) fn number_of_code(code: u8) -> u32
     }
 }
 
-/// The number for the status that answers a control, which isn't 00.
+/// The error number for the status in the answer to a control, which isn't 00.
 pub(crate) fn number_of_status(control: &Control, status: u8) -> u32
     ensures { result ≡ number_of_status control.now status }
 {

@@ -1,4 +1,4 @@
-// How a job begins, and goes on from answer to answer.
+//! How a job begins, and what it does after each answer.
 
 pub(crate) mod asking;
 pub(crate) mod flight;

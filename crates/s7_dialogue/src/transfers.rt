@@ -1,4 +1,4 @@
-// Octets that come or go in several telegrams: user data, blocks up and down, whole data blocks.
+//! Octets that are sent or received in several telegrams: user data, uploads, downloads, whole data blocks.
 
 pub(crate) mod data_block;
 pub(crate) mod download;

@@ -1,4 +1,4 @@
--- The header at the front of an S7 message (Snap7 1.4 sources, s7_types.h: TS7ReqHeader, TS7ResHeader17,
+-- The header at the beginning of an S7 message (Snap7 1.4 sources, s7_types.h: TS7ReqHeader, TS7ResHeader17,
 -- TS7ResHeader23): 32, the type octet, two octets, the sequence, the lengths of parameters and data, and for an
 -- acknowledgement an error word. All numbers are big-endian. The refusals are this profile's own.
 use Rattle.std.specs.Prelude.{◌≡◌, ℕ, ◌+◌, ◌^◌, ◌<◌, Bool, true, false, ◌==◌, nat_lt, if◌then◌else◌, List, [], ◌∷◌, ◌++◌, length, take, drop, slice_index, Option, None, Some, Result, Ok, Err}
@@ -25,24 +25,24 @@ has_error Ack = true
 has_error AckData = true
 has_error User = false
 
--- how many octets headers of the kind have
+-- the length of headers of the kind
 abbrev pub header_len : Kind → ℕ
 header_len kind = if has_error kind then 12 else 10
 
--- the error word, which only some kinds have
+-- the octets of the error word; only some kinds have it
 abbrev pub error_octets : Kind → ℕ → List ℕ
 error_octets kind error = if has_error kind then two_octets error else []
 
--- the octets of a header, with any two octets in the place that is passed over
+-- the octets of a header, with these two octets at the offsets that are ignored
 abbrev pub header_octets : ℕ → ℕ → Header → List ℕ
 header_octets first second h =
     0x32 ∷ type_octet h.kind ∷ first ∷ second ∷ (two_octets h.sequence ++ two_octets h.param_len ++ two_octets h.body_len ++ error_octets h.kind h.error)
 
--- the octets that are written
+-- the octets that are written for a header
 abbrev pub spelling_of : Header → List ℕ
 spelling_of h = header_octets 0 0 h
 
--- the fields are numbers of two octets, and the error is 0 where there is no error word
+-- the fields are numbers of two octets, and the error is 0 for kinds without an error word
 pub record IsHeader (h : Header) : Type 0 where
   pub sequence : h.sequence < 2 ^ 16
   pub param_len : h.param_len < 2 ^ 16
@@ -50,7 +50,7 @@ pub record IsHeader (h : Header) : Type 0 where
   pub error : h.error < 2 ^ 16
   pub no_error : OnFalse (has_error h.kind) (h.error ≡ 0)
 
--- The message is the header, then parameters and data of the lengths that it states.
+-- The message is the header, followed by parameters and data of the lengths that it states.
 pub record SpellsHeader (message : List ℕ) (h : Header) : Type 0 where
   pub first : ℕ
   pub second : ℕ
@@ -66,7 +66,7 @@ abbrev pub kind_of : ℕ → Option Kind
 kind_of octet =
     if octet == 1 then Some Job else (if octet == 2 then Some Ack else (if octet == 3 then Some AckData else (if octet == 7 then Some User else None)))
 
--- the fields of a header of the kind, from their places
+-- the fields of a header of the kind, read at their offsets
 abbrev pub fields_of : Kind → List ℕ → Header
 fields_of kind message = record {
   kind = kind;
@@ -76,15 +76,15 @@ fields_of kind message = record {
   error = if has_error kind then number_at message 10 else 0;
 }
 
--- how many octets header, parameters and data have together
+-- the length of header, parameters and data together
 abbrev pub whole_len : Header → ℕ
 whole_len h = header_len h.kind + h.param_len + h.body_len
 
--- the header, if it adds up to the message
+-- the header, if its lengths add up to the message
 abbrev pub if_adds_up : Header → ℕ → Result Header HeaderFault
 if_adds_up h len = if whole_len h == len then Ok h else Err Lengths
 
--- the header of a message whose kind is known, or the first refusal that applies
+-- the header of a message of this kind, or the first refusal that applies
 abbrev pub header_with : Option Kind → List ℕ → Result Header HeaderFault
 header_with None message = Err BadType
 header_with (Some kind) message = if nat_lt (length message) (header_len kind) then Err Short else if_adds_up (fields_of kind message) (length message)

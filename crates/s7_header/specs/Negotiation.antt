@@ -1,5 +1,6 @@
--- The parameters that negotiate a link's PDU and parallel jobs (Snap7 1.4 sources, s7_types.h: TReqFunNegotiateParams):
--- F0, an octet, jobs calling, jobs called, PDU length.
+-- The parameters that negotiate a link's PDU and parallel jobs (Snap7 1.4 sources, s7_types.h:
+-- TReqFunNegotiateParams): F0, an octet that is ignored, the jobs of the calling side, the jobs of the called side,
+-- the PDU length.
 use Rattle.std.specs.Prelude.{◌≡◌, ℕ, ◌^◌, ◌<◌, ◌≤◌, Bool, ◌==◌, ◌&&◌, nat_lt, if◌then◌else◌, min, max, List, ◌∷◌, ◌++◌, length, slice_index, Result, Ok, Err}
 use Rattle.s7_outer.specs.Numbers.{two_octets}
 use Rattle.s7_header.specs.Octets.{number_at}
@@ -7,11 +8,11 @@ use Rattle.s7_header.specs.declared.negotiation.Negotiation.{Negotiation}
 use Rattle.s7_header.specs.declared.faults.BadParams.{BadParams}
 use Rattle.s7_header.specs.declared.faults.TooSmall.{TooSmall}
 
--- the octets of a negotiation, with any octet in the place that is passed over
+-- the octets of a negotiation, with this octet at the offset that is ignored
 abbrev pub negotiation_octets : ℕ → Negotiation → List ℕ
 negotiation_octets passed n = 0xF0 ∷ passed ∷ (two_octets n.calling ++ two_octets n.called ++ two_octets n.pdu)
 
--- the octets that are written
+-- the octets that are written for a negotiation
 abbrev pub negotiation_spelling : Negotiation → List ℕ
 negotiation_spelling n = negotiation_octets 0 n
 
@@ -21,7 +22,7 @@ pub record IsNegotiation (n : Negotiation) : Type 0 where
   pub called : n.called < 2 ^ 16
   pub pdu : n.pdu < 2 ^ 16
 
--- the parameters are the negotiation's, whatever is passed over
+-- the parameters are the negotiation's, whatever the ignored octet is
 pub record SpellsNegotiation (params : List ℕ) (n : Negotiation) : Type 0 where
   pub passed : ℕ
   pub octets : params ≡ negotiation_octets passed n
@@ -31,7 +32,7 @@ pub record SpellsNegotiation (params : List ℕ) (n : Negotiation) : Type 0 wher
 abbrev pub negotiates : List ℕ → Bool
 negotiates params = (length params == 8) && (slice_index params 0 == 0xF0)
 
--- the fields from their places
+-- the fields, read at their offsets
 abbrev pub asked_of : List ℕ → Negotiation
 asked_of params = record { calling = number_at params 2; called = number_at params 4; pdu = number_at params 6 }
 
@@ -39,8 +40,8 @@ asked_of params = record { calling = number_at params 2; called = number_at para
 unfoldable pub negotiation_of : List ℕ → Result Negotiation BadParams
 negotiation_of params = if negotiates params then Ok (asked_of params) else Err (record {})
 
--- the least PDU that is granted, the greatest one, which also bounds a message before a negotiation, and how many jobs
--- are granted at most each way; all three are this profile's own
+-- the least PDU that is granted; the greatest one, which also limits a message before a negotiation; and the
+-- greatest number of jobs granted in each direction. All three are this profile's own
 abbrev pub least_pdu : ℕ
 least_pdu = 64
 
@@ -50,11 +51,11 @@ most_pdu = 1920
 abbrev pub most_jobs : ℕ
 most_jobs = 8
 
--- how many jobs are granted: this profile's own
+-- the number of jobs that is granted, which is this profile's own
 abbrev pub jobs_granted : ℕ → ℕ
 jobs_granted asked = max 1 (min asked most_jobs)
 
--- what every grant keeps to: this profile's own limits
+-- the limits that every grant observes, which are this profile's own
 pub record IsGrant (n : Negotiation) : Type 0 where
   pub pdu_least : least_pdu ≤ n.pdu
   pub pdu_most : n.pdu ≤ most_pdu

@@ -1,5 +1,6 @@
--- The parameters of user data (Snap7 1.4 sources, s7_types.h: TReqFunTypedParams, TS7Params7): a head, the group, the
--- subfunction, the sequence octet, and in the long form a unit, the last-unit octet and an error word.
+-- The parameters of user data (Snap7 1.4 sources, s7_types.h: TReqFunTypedParams, TS7Params7): five fixed octets,
+-- the group, the subfunction, the sequence octet, and in the long form a data unit reference, the last-data-unit
+-- octet and an error word.
 use Rattle.std.specs.Prelude.{◌≡◌, ℕ, ◌^◌, ◌<◌, Bool, true, false, ◌==◌, ◌&&◌, nat_eq, if◌then◌else◌, List, [], ◌∷◌, ◌++◌, length, slice_index, Result, Ok, Err}
 use Rattle.std.specs.List.{starts_with}
 use Rattle.std.specs.Bool.{OnFalse}
@@ -8,15 +9,15 @@ use Rattle.s7_header.specs.Octets.{number_at}
 use Rattle.s7_header.specs.declared.user_params.UserParams.{UserParams}
 use Rattle.s7_header.specs.declared.faults.BadParams.{BadParams}
 
--- the head of the form of 8 octets
+-- the first octets of the form of 8 octets
 abbrev pub short_head : List ℕ
 short_head = 0x00 ∷ 0x01 ∷ 0x12 ∷ 0x04 ∷ 0x11 ∷ []
 
--- the head of the form of 12 octets
+-- the first octets of the form of 12 octets
 abbrev pub long_head : List ℕ
 long_head = 0x00 ∷ 0x01 ∷ 0x12 ∷ 0x08 ∷ 0x12 ∷ []
 
--- the octets of user-data parameters: the long form for an answer
+-- the octets of user-data parameters; an answer has the long form
 abbrev pub user_spelling : UserParams → List ℕ
 user_spelling u =
     if u.answer
@@ -29,7 +30,7 @@ pub record HasShortForm (u : UserParams) : Type 0 where
   pub more : u.more ≡ 0
   pub error : u.error ≡ 0
 
--- the parameters have a form: an answer the long one, else the short one
+-- the parameters have a form: the long one for an answer, else the short one
 abbrev pub HasForm : UserParams → Type 0
 HasForm u = OnFalse u.answer (HasShortForm u)
 
@@ -50,7 +51,7 @@ is_short params = (length params == 8) && starts_with nat_eq params short_head
 abbrev pub is_long : List ℕ → Bool
 is_long params = (length params == 12) && starts_with nat_eq params long_head
 
--- the fields from their places
+-- the fields, read at their offsets
 abbrev pub short_of : List ℕ → UserParams
 short_of params = record {
   answer = false;

@@ -1,5 +1,5 @@
-// Headers of S7 messages, as in the Snap7 1.4 sources (`TS7ReqHeader`, `TS7ResHeader17` and
-// `TS7ResHeader23`).
+//! Headers of S7 messages, as in the Snap7 1.4 sources (`TS7ReqHeader`, `TS7ResHeader17` and
+//! `TS7ResHeader23`).
 ghost use Rattle.std.specs.Prelude.{◌≡◌, ◌≤◌, ◌++◌, length, drop};
 ghost use Rattle.s7_header.specs.Header.{type_octet, has_error, header_len, spelling_of, kind_of, header_of};
 ghost use Rattle.s7_header.specs.Header.{whole_len, params_of, body_of, refusal_of};
@@ -7,21 +7,21 @@ ghost use Rattle.s7_header.specs.Header.{whole_len, params_of, body_of, refusal_
 use crate::faults::HeaderFault;
 use crate::octets::{number_at, two_octets};
 
-// The first octet of each message.
+/// The first octet of each message.
 const ID: u8 = 0x32;
 
-// The octets of a header without an error word.
+/// The length of a header without an error word.
 const PLAIN_LEN: usize = 10;
 
-// The octets of a header with an error word.
+/// The length of a header with an error word.
 const ERROR_LEN: usize = 12;
 
-/// What a message is.
+/// The kind of a message.
 #[derive(Clone, Copy, Debug, PartialEq, Eq)]
 pub enum Kind {
     /// A job, type 01.
     Job,
-    /// An acknowledgement without data, type 02. A refusal is one.
+    /// An acknowledgement without data, type 02, as a refusal is.
     Ack,
     /// An acknowledgement with data, type 03.
     AckData,
@@ -29,24 +29,25 @@ pub enum Kind {
     User,
 }
 
-/// The header of a message: 32, the type, two octets that say nothing, the sequence, the lengths of
+/// The header of a message: the octet 32, the type, two octets without meaning, the sequence, the lengths of
 /// parameters and data, and for an acknowledgement the error word. All numbers are big-endian.
 #[derive(Clone, Copy, Debug, PartialEq, Eq)]
 pub struct Header {
-    /// What the message is.
+    /// The kind of the message.
     pub kind: Kind,
-    /// The number that an answer repeats.
+    /// The sequence number, which an answer repeats.
     pub sequence: u16,
-    /// How many octets of parameters follow the header.
+    /// The length of the parameters, which follow the header.
     pub param_len: u16,
-    /// How many octets of data follow the parameters.
+    /// The length of the data, which follow the parameters.
     pub body_len: u16,
-    /// The error word, 0 for the kinds without one.
+    /// The error word; 0 for the kinds without one.
     pub error: u16,
 }
 
-/// Reads the header of a whole message. Its third and fourth octet are passed over. The first that
-/// applies is answered: `Short` for fewer than 10 octets, `BadId`, `BadType`, `Short` for an
+/// Reads the header of a whole message. The third and the fourth octet are ignored.
+///
+/// The first fault in this order is returned: `Short` for fewer than 10 octets, `BadId`, `BadType`, `Short` for an
 /// acknowledgement of fewer than 12 octets, `Lengths`.
 #[tactic(auto, unfolding(crate::specs::Header::header_of))]
 pub fn read_header(message: &[u8]) -> Result<Header, HeaderFault>
@@ -94,8 +95,8 @@ pub fn parts<'a>(message: &'a [u8], h: &Header) -> (&'a [u8], &'a [u8])
     rest.split_at(h.param_len as usize)
 }
 
-/// Writes a header at the front, and answers how many octets it has: 12 for an acknowledgement, else
-/// 10. The error word of another kind isn't written.
+/// Writes a header to the beginning of `into`, and returns its length: 12 for an acknowledgement, else 10. `error`
+/// is written only for an acknowledgement. The rest of `into` stays.
 pub fn write_header(h: &Header, into: &mut [u8]) -> usize
     requires { 12 ≤ length into.old }
     ensures written { into.new ≡ spelling_of h.now ++ drop result into.old }
@@ -123,8 +124,8 @@ pub fn write_header(h: &Header, into: &mut [u8]) -> usize
     ERROR_LEN
 }
 
-/// Writes a refusal at the front, a message of 12 octets: an acknowledgement of this sequence with
-/// an error word and nothing else.
+/// Writes a refusal to the beginning of `into`: an acknowledgement of this sequence with an error word, and nothing
+/// else. Returns its length, 12. The rest of `into` stays.
 pub fn write_refusal(sequence: u16, error: u16, into: &mut [u8]) -> usize
     requires { 12 ≤ length into.old }
     ensures written { into.new ≡ spelling_of (refusal_of sequence error) ++ drop 12 into.old }
@@ -140,6 +141,7 @@ pub fn write_refusal(sequence: u16, error: u16, into: &mut [u8]) -> usize
     write_header(&refusal, into)
 }
 
+/// The kind with this type octet; `None` for any octet but 01, 02, 03 and 07.
 fn kind_of(octet: u8) -> Option<Kind>
     ensures { result ≡ kind_of octet }
 {
@@ -152,6 +154,7 @@ fn kind_of(octet: u8) -> Option<Kind>
     }
 }
 
+/// The type octet of a kind.
 fn type_octet(kind: Kind) -> u8
     ensures { result ≡ type_octet kind }
 {
@@ -163,6 +166,7 @@ fn type_octet(kind: Kind) -> u8
     }
 }
 
+/// Whether headers of this kind have an error word.
 fn has_error(kind: Kind) -> bool
     ensures { result ≡ has_error kind }
 {
@@ -172,6 +176,7 @@ fn has_error(kind: Kind) -> bool
     }
 }
 
+/// The length of headers of this kind: 12 with an error word, else 10.
 fn header_len(kind: Kind) -> usize
     ensures { result ≡ header_len kind }
 {
@@ -182,7 +187,7 @@ fn header_len(kind: Kind) -> usize
     }
 }
 
-// How many octets header, parameters and data have together.
+/// The length of header, parameters and data together.
 fn whole_len(h: &Header) -> usize
     ensures { result ≡ whole_len h.now }
 {

@@ -1,4 +1,5 @@
-// Laws of the definitions: what is read is what the octets spell, and what is written is read again.
+//! Laws of the definitions: what is read is what the octets spell, and what is written is read again. They do
+//! nothing at run time.
 ghost use Rattle.std.specs.Prelude.{◌≡◌, ℕ, ◌↔◌, List, ◌++◌, length};
 ghost use Rattle.s7_outer.specs.Numbers.{AreOctets};
 ghost use Rattle.s7_header.specs.Header.{header_of, SpellsHeader, IsHeader, spelling_of, params_of, body_of};
@@ -8,9 +9,9 @@ ghost use Rattle.s7_header.specs.declared.header.Header.{Header};
 ghost use Rattle.s7_header.specs.declared.negotiation.Negotiation.{Negotiation};
 ghost use Rattle.s7_header.specs.declared.user_params.UserParams.{UserParams};
 
-/// A header is read exactly where the message spells it, whatever stands in the place that is passed
-/// over, and a message spells one header at most. A header that was written is read again before
-/// parameters and data of its lengths, and these are the parts of the message.
+/// A law: a header is read exactly if the message spells it, whatever the ignored octets are, and a message spells
+/// at most one header. A header that was written, followed by parameters and data of its lengths, is read again,
+/// and these are the parts of the message.
 pub fn header_reading()
     ensures read { (message : List ℕ) (h : Header) → AreOctets message
         → (header_of message ≡ Ok h) ↔ SpellsHeader message h }
@@ -23,7 +24,7 @@ pub fn header_reading()
         × (body_of (spelling_of h ++ params ++ body) h ≡ body) }
 {}
 
-/// A negotiation is read exactly where the parameters spell it, and they spell one at most. One that
+/// A law: a negotiation is read exactly if the parameters spell it, and they spell at most one. A negotiation that
 /// was written is read again.
 pub fn negotiation_reading()
     ensures read { (params : List ℕ) (n : Negotiation) → AreOctets params
@@ -33,8 +34,8 @@ pub fn negotiation_reading()
     ensures again { (n : Negotiation) → IsNegotiation n → negotiation_of (negotiation_spelling n) ≡ Ok n }
 {}
 
-/// Parameters of user data are read exactly where the octets spell them, and octets spell one set of
-/// them at most. Those that were written are read again.
+/// A law: parameters of user data are read exactly if the octets spell them, and octets spell at most one set of
+/// them. Parameters that were written are read again.
 pub fn user_reading()
     ensures read { (params : List ℕ) (u : UserParams) → AreOctets params
         → (user_params_of params ≡ Ok u) ↔ SpellsUser params u }

@@ -1,5 +1,5 @@
-//! S7 messages: their headers, the negotiation of a link's PDU and jobs, and the parameters of user
-//! data. Each is read exactly where the octets spell it, and what is written is read again.
+//! S7 messages: their headers, the negotiation of a link's PDU and jobs, and the parameters of user data. Each of
+//! these is read exactly if the octets spell it, and what is written is read again.
 #![tactic(auto)]
 
 mod faults;

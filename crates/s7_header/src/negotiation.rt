@@ -1,39 +1,39 @@
-// The negotiation of a link's PDU and parallel jobs, as in the Snap7 1.4 sources
-// (`TReqFunNegotiateParams`). The limits are this project's own.
+//! The negotiation of a link's PDU and parallel jobs, as in the Snap7 1.4 sources
+//! (`TReqFunNegotiateParams`). The limits are this project's own.
 ghost use Rattle.std.specs.Prelude.{◌≡◌, ◌≤◌, ◌++◌, length, drop, IfOk};
 ghost use Rattle.s7_header.specs.Negotiation.{negotiation_spelling, negotiation_of, jobs_granted, granted, IsGrant};
 
 use crate::faults::{BadParams, TooSmall};
 use crate::octets::{number_at, two_octets};
 
-/// The least PDU that is granted, in octets.
+/// The least length of a PDU that is granted, in octets.
 pub const LEAST_PDU: u16 = 64;
 
-/// The longest PDU that is granted, in octets. No message before a negotiation is longer either.
+/// The greatest length of a PDU that is granted, in octets. It also limits the messages before a negotiation.
 pub const MOST_PDU: u16 = 1_920;
 
-/// The most parallel jobs that are granted each way.
+/// The greatest number of parallel jobs that is granted in each direction.
 pub const MOST_JOBS: u16 = 8;
 
-// The function that negotiates.
+/// The function code of a negotiation.
 const FUNCTION: u8 = 0xF0;
 
-// The octets of the parameters.
+/// The length of the parameters.
 const LEN: usize = 8;
 
 /// What a client asks for, or what it is granted.
 #[derive(Clone, Copy, Debug, PartialEq, Eq)]
 pub struct Negotiation {
-    /// Parallel jobs of the side that calls.
+    /// The number of parallel jobs of the calling side.
     pub calling: u16,
-    /// Parallel jobs of the side that is called.
+    /// The number of parallel jobs of the called side.
     pub called: u16,
-    /// The longest PDU, in octets.
+    /// The greatest length of a PDU, in octets.
     pub pdu: u16,
 }
 
-/// Reads the parameters F0, an octet that is passed over, jobs calling, jobs called and PDU.
-/// `BadParams` comes for other octets or another length than 8.
+/// Reads the parameters: F0, an octet that is ignored, the two numbers of jobs, and the PDU. Returns `BadParams` if
+/// the first octet isn't F0 or the length isn't 8.
 #[tactic(auto, unfolding(crate::specs::Negotiation::negotiation_of))]
 pub fn read_negotiate(params: &[u8]) -> Result<Negotiation, BadParams>
     ensures { result ≡ negotiation_of params.now }
@@ -48,7 +48,8 @@ pub fn read_negotiate(params: &[u8]) -> Result<Negotiation, BadParams>
     })
 }
 
-/// Writes the parameters of a negotiation at the front, and answers how many octets they have: 8.
+/// Writes the parameters of a negotiation to the beginning of `into`, and returns their length, 8. The rest of
+/// `into` stays.
 pub fn write_negotiate(n: &Negotiation, into: &mut [u8]) -> usize
     requires { 8 ≤ length into.old }
     ensures written { into.new ≡ negotiation_spelling n.now ++ drop 8 into.old }
@@ -70,9 +71,9 @@ pub fn write_negotiate(n: &Negotiation, into: &mut [u8]) -> usize
     LEN
 }
 
-/// What is granted of what a client asks for: a PDU from `LEAST_PDU` to `MOST_PDU` octets as it is,
-/// `MOST_PDU` of a longer one, and each way from 1 to `MOST_JOBS` jobs. `TooSmall` comes where the
-/// PDU is below `LEAST_PDU`.
+/// What is granted of what a client asks for: a PDU from `LEAST_PDU` to `MOST_PDU` octets is granted as it is, and
+/// a longer one as `MOST_PDU`; in each direction 1 to `MOST_JOBS` jobs are granted. Returns `TooSmall` if the PDU
+/// is below `LEAST_PDU`.
 pub fn grant(asked: &Negotiation) -> Result<Negotiation, TooSmall>
     ensures granted { result ≡ granted asked.now }
     ensures within { IfOk result (λ n. IsGrant n) }
@@ -87,6 +88,7 @@ pub fn grant(asked: &Negotiation) -> Result<Negotiation, TooSmall>
     })
 }
 
+/// The number of jobs granted: at least 1, and at most `MOST_JOBS`.
 fn jobs_granted(asked: u16) -> u16
     ensures { result ≡ jobs_granted asked }
 {

@@ -1,42 +1,43 @@
-// The parameters of user data, as in the Snap7 1.4 sources (`TReqFunTypedParams` and `TS7Params7`).
+//! The parameters of user data, as in the Snap7 1.4 sources (`TReqFunTypedParams` and `TS7Params7`).
 ghost use Rattle.std.specs.Prelude.{◌≡◌, ◌≤◌, ◌++◌, length, drop};
 ghost use Rattle.s7_header.specs.UserParams.{user_spelling, HasForm, user_params_of};
 
 use crate::faults::BadParams;
 use crate::octets::{number_at, two_octets};
 
-// The head of the form of 8 octets.
+/// The first octets of the form of 8 octets.
 const SHORT_HEAD: [u8; 5] = [0x00, 0x01, 0x12, 0x04, 0x11];
 
-// The head of the form of 12 octets.
+/// The first octets of the form of 12 octets.
 const LONG_HEAD: [u8; 5] = [0x00, 0x01, 0x12, 0x08, 0x12];
 
-// The octets of the short form.
+/// The length of the short form.
 const SHORT_LEN: usize = 8;
 
-// The octets of the long form.
+/// The length of the long form.
 const LONG_LEN: usize = 12;
 
 /// The parameters of user data.
 #[derive(Clone, Copy, Debug, PartialEq, Eq)]
 pub struct UserParams {
-    /// Whether they have the form of 12 octets, which answers and requests of a further slice have.
+    /// Whether the parameters have the form of 12 octets, as answers and requests for a further slice do.
     pub answer: bool,
-    /// The group, the whole octet as sent: 4x in a request, 8x in an answer.
+    /// The group, as the whole octet that is sent: 4x in a request, 8x in an answer.
     pub group: u8,
     /// The subfunction.
     pub sub: u8,
     /// The sequence octet.
     pub sequence: u8,
-    /// The unit, 0 in the form of 8 octets.
+    /// The data unit reference; 0 in the form of 8 octets.
     pub unit: u8,
-    /// The last-unit octet, 00 for the last slice and 01 for others; 0 in the form of 8 octets.
+    /// The last-data-unit octet: 00 for the last slice, and 01 for others; 0 in the form of 8 octets.
     pub more: u8,
     /// The error word, 0 in the form of 8 octets.
     pub error: u16,
 }
 
-/// Reads parameters of 8 or of 12 octets. `BadParams` comes for every other length or head.
+/// Reads parameters of 8 or of 12 octets. Returns `BadParams` for any other length, or if the first five octets are
+/// neither form's.
 #[tactic(auto, unfolding(crate::specs::UserParams::user_params_of))]
 pub fn read_user(params: &[u8]) -> Result<UserParams, BadParams>
     ensures { result ≡ user_params_of params.now }
@@ -66,8 +67,8 @@ pub fn read_user(params: &[u8]) -> Result<UserParams, BadParams>
     Err(BadParams)
 }
 
-/// Writes the parameters at the front, and answers how many octets they have: 12 for an answer, else
-/// 8. Without `answer` the last three fields are 0.
+/// Writes the parameters to the beginning of `into`, and returns their length: 12 if `answer` is set, else 8.
+/// Without `answer` the last three fields are 0. The rest of `into` stays.
 pub fn write_user(u: &UserParams, into: &mut [u8]) -> usize
     requires room { length (user_spelling u.now) ≤ length into.old }
     requires form { HasForm u.now }

@@ -17,23 +17,24 @@ write_function = 0x05
 abbrev pub good : ℕ
 good = 0xFF
 
--- what stands in a code's place in a write request (Snap7 1.4 sources, s7_types.h: TReqFunWriteDataItem)
+-- the octet of a write request at the offset of a code (Snap7 1.4 sources, s7_types.h: TReqFunWriteDataItem)
 abbrev pub requested : ℕ
 requested = 0x00
 
--- there is no right to do it (Wireshark 4.0, dissector of S7 communication: s7comm.data.returncode)
+-- the link has no right to read or write the item (Wireshark 4.0, dissector of S7 communication:
+-- s7comm.data.returncode)
 abbrev pub not_allowed : ℕ
 not_allowed = 0x03
 
--- the place isn't inside the area (Snap7 1.4 sources, s7_types.h: Code7AddressOutOfRange)
+-- the item's range isn't inside the area (Snap7 1.4 sources, s7_types.h: Code7AddressOutOfRange)
 abbrev pub out_of_range : ℕ
 out_of_range = 0x05
 
--- word, area and count don't go together (Snap7 1.4 sources, s7_types.h: Code7InvalidTransportSize)
+-- the word length doesn't fit the area or the count (Snap7 1.4 sources, s7_types.h: Code7InvalidTransportSize)
 abbrev pub wrong_word : ℕ
 wrong_word = 0x06
 
--- the octets aren't as many as the item has (Snap7 1.4 sources, s7_types.h: Code7WriteDataSizeMismatch)
+-- the data don't have the item's number of octets (Snap7 1.4 sources, s7_types.h: Code7WriteDataSizeMismatch)
 abbrev pub wrong_size : ℕ
 wrong_size = 0x07
 
@@ -55,7 +56,7 @@ flags = 0x83
 abbrev pub data_blocks : ℕ
 data_blocks = 0x84
 
--- counters and timers are also word lengths
+-- the codes of counters and timers are also word lengths
 abbrev pub counters : ℕ
 counters = 0x1C
 
@@ -90,7 +91,7 @@ reals = 0x08
 
 -- ---- transport sizes of data items (Snap7 1.4 sources, s7_types.h: TS_ResBit to TS_ResOctet)
 
--- one bit, whose stated length is 1
+-- one bit; its stated length is 1
 abbrev pub bit_transport : ℕ
 bit_transport = 0x03
 

@@ -1,7 +1,8 @@
 -- What a call that fills a list leaves in it.
 use Rattle.std.specs.Prelude.{◌≡◌, Result, Ok, Err, MatchResult, List, []}
 
--- a list that was to be filled holds what is told, and nothing after a refusal
+-- a call that fills a list succeeds exactly as `told` does; the list then holds what `told` has, and is empty after
+-- a refusal
 abbrev pub Gives : {X E : Type 0} → Result (List X) E → Result Unit E → List X → Type 0
 Gives told result held =
     MatchResult result (λ _. told ≡ Ok held) (λ fault. (told ≡ Err fault) × (held ≡ []))

@@ -4,13 +4,13 @@ use Rattle.s7_outer.specs.Numbers.{number_of_two, number_of_three, two_octets, t
 use Rattle.s7_item.specs.Word.{size_of}
 use Rattle.s7_item.specs.declared.item.Item.{Item}
 
--- twelve octets: 12 0A 10, word, count, number of the data block, area, address
+-- the twelve octets of an item: 12 0A 10, word length, count, number of the data block, area, address
 abbrev pub item_octets : Item → List ℕ
 item_octets item =
     0x12 ∷ 0x0A ∷ 0x10 ∷ item.word ∷ two_octets item.count ++ two_octets item.db
     ++ item.area ∷ three_octets item.address
 
--- the item that twelve octets spell, where they begin 12 0A 10
+-- the item that twelve octets spell, if they begin 12 0A 10
 abbrev pub item_in : List ℕ → Option Item
 item_in octets =
     if slice_index octets 0 == 0x12 && slice_index octets 1 == 0x0A && slice_index octets 2 == 0x10
@@ -23,6 +23,6 @@ item_in octets =
     })
     else None
 
--- how many octets the item's elements have together, and 0 where its word is unknown
+-- the number of octets of all elements of the item together; 0 if its word length is unknown
 abbrev pub octet_count : Item → ℕ
 octet_count item = item.count * unwrap_or (size_of item.word) 0

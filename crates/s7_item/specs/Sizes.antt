@@ -6,55 +6,56 @@ use Rattle.s7_item.specs.Params.{items_params}
 use Rattle.s7_item.specs.DataItem.{carries, padding_of, DataItem, data_octets}
 use Rattle.s7_item.specs.declared.item.Item.{Item}
 
--- how many octets the data items take that have these numbers of octets: each has four more, and
--- each but the last is padded
+-- the number of octets of data items that have these numbers of octets: each has four more, and each but the last
+-- is padded
 abbrev pub data_size : List ℕ → ℕ
 data_size [] = 0
 data_size (n ∷ ns) = 4 + n + padding_of n (length ns == 0) + data_size ns
 
--- the answer to a read of these items, where each item of a known word has all its octets: twelve
+-- the size of the answer to a read of these items, if each item of a known word length has all its octets: twelve
 -- octets of header, two of parameters, and the data items
 abbrev pub answer_size : List Item → ℕ
 answer_size items = 14 + data_size (map octet_count items)
 
--- a read request, ten octets of header, two and twelve for each item of parameters, or a write
--- request, which has the data items besides
+-- the size of a request: a read request has ten octets of header, and parameters of two octets and twelve for each
+-- item; a write request has the data items too
 abbrev pub request_size : List Item → Bool → ℕ
 request_size items write =
     12 + 12 * length items + (if write then data_size (map octet_count items) else 0)
 
--- how many octets are written of a data item's octets: none where its code refuses the item
+-- the number of octets written of a data item's octets; 0 if its code refuses the item
 abbrev pub sent_count : DataItem → ℕ
 sent_count item = if carries item.code then length item.octets else 0
 
--- each number is at most the one at its place in the other list, which is as long
+-- the lists have the same length, and each number is at most the number at its index in the other list
 abbrev pub AreAtMost : List ℕ → List ℕ → Type 0
 AreAtMost [] [] = Unit {0}
 AreAtMost [] (m ∷ ms) = ⊥
 AreAtMost (n ∷ ns) [] = ⊥
 AreAtMost (n ∷ ns) (m ∷ ms) = (n ≤ m) × AreAtMost ns ms
 
--- a read request has ten octets of header and its parameters
+-- the size of a read request is that of its header and its parameters
 abbrev pub ReadsHaveTheirSize : Type 0
 ReadsHaveTheirSize =
     (function : ℕ) (items : List Item)
     → 10 + length (items_params function items) ≡ request_size items false
 
--- a write request has the data items besides, each with all octets of its item
+-- the size of a write request is that of its header, its parameters and the data items, each with all octets of its
+-- item
 abbrev pub WritesHaveTheirSize : Type 0
 WritesHaveTheirSize =
     (function : ℕ) (items : List Item) (written : List DataItem)
     → map sent_count written ≡ map octet_count items
     → 10 + length (items_params function items) + length (data_octets written) ≡ request_size items true
 
--- an answer in which each item has all its octets has the size that was foreseen
+-- an answer in which each item has all its octets has the predicted size
 abbrev pub FullAnswersHaveTheirSize : Type 0
 FullAnswersHaveTheirSize =
     (items : List Item) (written : List DataItem)
     → map sent_count written ≡ map octet_count items
     → 14 + length (data_octets written) ≡ answer_size items
 
--- an answer in which no item has more octets than it asks for is no longer than was foreseen
+-- an answer in which no item has more octets than the request asks for is at most as long as predicted
 abbrev pub AnswersFit : Type 0
 AnswersFit =
     (items : List Item) (written : List DataItem)

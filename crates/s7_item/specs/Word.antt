@@ -1,19 +1,20 @@
--- The table of words: how many octets an element has (Snap7 1.4 reference manual, `Cli_ReadArea`: word lengths), and
--- the transport size with which it is sent (Snap7 1.4 sources, s7_micro_client.cpp: TSnap7MicroClient::opWriteArea).
+-- The table of word lengths: the number of octets of an element (Snap7 1.4 reference manual, `Cli_ReadArea`: word
+-- lengths), and the transport size with which it is sent (Snap7 1.4 sources, s7_micro_client.cpp:
+-- TSnap7MicroClient::opWriteArea).
 use Rattle.std.specs.Prelude.{ℕ, Bool, ◌==◌, ◌||◌, if◌then◌else◌, Option, Some, None, unwrap_or}
 use Rattle.std.specs.Option.{option_map}
 use Rattle.s7_item.specs.Codes.{bits, bytes, characters, words, integers, double_words, double_integers, reals, counters, timers, bit_transport, byte_transport, integer_transport, real_transport, octet_transport}
 
--- one row of the table: how many octets an element has, and its transport size
+-- one row of the table: the number of octets of an element, and its transport size
 pub record Row : Type 0 where
   pub size : ℕ
   pub transport : ℕ
 
--- elements of so many octets, sent with this transport size
+-- the row for elements of this number of octets, sent with this transport size
 abbrev pub of_size : ℕ → ℕ → Row
 of_size size transport = record { size = size; transport = transport }
 
--- the row of a word, if it is known
+-- the row of a word length, if it is known
 abbrev pub row_of : ℕ → Option Row
 row_of word =
     if word == bits then Some (of_size 1 bit_transport)
@@ -28,16 +29,16 @@ row_of word =
     else (if word == timers then Some (of_size 2 octet_transport)
     else None)))))))))
 
--- how many octets an element of the word has, where the word is known
+-- the number of octets of an element, if the word length is known
 unfoldable pub size_of : ℕ → Option ℕ
 size_of word = option_map (λ (r : Row). r.size) (row_of word)
 
--- the transport size of a data item of the word, and 00 where the word is unknown
+-- the transport size of a data item of the word length; 00 if the word length is unknown
 unfoldable pub transport_of : ℕ → ℕ
 transport_of word = unwrap_or (option_map (λ (r : Row). r.transport) (row_of word)) 0x00
 
--- a stated length counts bits for these, and else octets
--- (Snap7 1.4 sources, s7_micro_client.cpp: TSnap7MicroClient::opWriteArea)
+-- whether a stated length counts bits; else it counts octets (Snap7 1.4 sources, s7_micro_client.cpp:
+-- TSnap7MicroClient::opWriteArea)
 unfoldable pub counts_bits : ℕ → Bool
 counts_bits transport = transport == bit_transport || transport == byte_transport || transport == integer_transport
 

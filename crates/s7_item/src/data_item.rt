@@ -1,28 +1,28 @@
-// What the code and the length of a data item say.
+//! What the return code and the length of a data item mean.
 ghost use Rattle.std.specs.Prelude.{◌≡◌, ◌≤◌};
 ghost use Rattle.s7_item.specs.DataItem.{is_good, carries, stated_length, octets_meant, padding_of};
 
 use crate::codes::{BIT_TRANSPORT, GOOD, REQUESTED};
 use crate::word::counts_bits;
 
-/// A data item with this return code was read or written: FF.
+/// Whether this return code is FF: the item was read or written.
 pub fn is_good(code: u8) -> bool
     ensures { result ≡ is_good code }
 {
     code == GOOD
 }
 
-/// A data item with this return code has octets: FF in an answer, 00 in a write request. Every other
-/// code refuses the item.
+/// Whether a data item with this return code has octets: FF in an answer, 00 in a write request. Every other code
+/// refuses the item.
 pub fn carries(code: u8) -> bool
     ensures { result ≡ carries code }
 {
     is_good(code) || code == REQUESTED
 }
 
-/// The length that a data item with this transport size states of `len` octets: 1 for one octet of
-/// bits (03); else bits, eight for each octet, for 03, 04 and 05, and octets for every other transport
-/// size. No item has more than 262,140 octets.
+/// The length that a data item with this transport size states for `len` octets. One octet of transport size 03
+/// states 1. Otherwise the sizes 03, 04 and 05 count bits, eight for each octet, and every other size counts
+/// octets. `len` is at most 262,140.
 pub fn stated_length(transport: u8, len: usize) -> usize
     requires { len ≤ 262140 }
     ensures { result ≡ stated_length transport len }
@@ -36,8 +36,8 @@ pub fn stated_length(transport: u8, len: usize) -> usize
     }
 }
 
-/// How many octets pad `len` octets of a data item, the last one or not: one after an odd number of
-/// them where another data item follows, else none.
+/// The number of padding octets after `len` octets of a data item: 1 if `len` is odd and another data item follows,
+/// else 0.
 pub fn padding_of(len: usize, last: bool) -> usize
     ensures padding { result ≡ padding_of len last }
     ensures most { result ≤ 1 }
@@ -45,7 +45,7 @@ pub fn padding_of(len: usize, last: bool) -> usize
     if last { 0 } else { len % 2 }
 }
 
-// How many octets a stated length means; a number of bits is rounded up to whole octets.
+/// The number of octets that a stated length means. A number of bits is rounded up to whole octets.
 pub(crate) fn octets_meant(transport: u8, stated: u16) -> usize
     ensures meant { result ≡ octets_meant transport stated }
     ensures most { result ≤ 65535 }

@@ -1,33 +1,38 @@
-// Items.
+//! Items of read and write telegrams.
 ghost use Rattle.std.specs.Prelude.{◌≡◌, ◌<◌, ◌≤◌, ◌^◌, length, IfSome, option_map};
 
 use crate::numbers::{three_octets, two_octets};
 use crate::size_of;
 use bytes::Buf;
 
-/// How many octets an item has in a telegram.
+/// The length of an item in a telegram, in octets.
 pub(crate) const ITEM_LEN: usize = 12;
 
-/// The octets with which each item begins: variable specification, their length, and the syntax
-/// that names an area, a place and a number of elements.
+/// The first octets of each item: variable specification, the number of octets that follow, and the syntax, which
+/// gives an area, an address and a number of elements.
 const SPECIFICATION: [u8; 3] = [0x12, 0x0A, 0x10];
 
-/// An item of a read or write telegram, with its octets as sent: `count` elements of the word
-/// `word` in the area `area`, for data blocks in the block `db`, from `address` on. The address has
-/// three octets in the telegram.
+/// An item of a read or write telegram, with its fields as sent: `count` elements of the word length `word` in the
+/// area `area`, from `address` on. For data blocks `db` is the block's number. The address has three octets in the
+/// telegram.
 #[derive(Clone, Copy, Debug, Default, PartialEq, Eq)]
 pub struct Item {
+    /// The code of the area.
     pub area: u8,
+    /// The number of the data block.
     pub db: u16,
+    /// The word length of an element.
     pub word: u8,
+    /// The number of elements.
     pub count: u16,
+    /// Where the first element is: octet times 8 plus bit, or the number of a counter or timer.
     pub address: u32,
 }
 
 impl Item {
     ghost use Rattle.s7_item.specs.Item.{item_octets, item_in, octet_count};
 
-    /// The item that these twelve octets spell; `None` where they don't begin `12 0A 10`.
+    /// The item that these twelve octets spell; `None` if they don't begin `12 0A 10`.
     pub(crate) fn read(octets: &[u8]) -> Option<Item>
         requires { length octets.now ≡ 12 }
         ensures item { result ≡ item_in octets.now }
@@ -76,7 +81,7 @@ impl Item {
         ]
     }
 
-    /// How many octets the elements have together; 0 where the word is unknown.
+    /// The number of octets of all elements together; 0 if the word length is unknown.
     pub fn octet_count(&self) -> usize
         ensures count { result ≡ octet_count self.now }
         ensures most { result ≤ 262140 }

@@ -1,11 +1,11 @@
-// A list of at most twenty items.
+//! A list of at most twenty items.
 ghost use Rattle.std.specs.Prelude.{◌≡◌, ◌<◌, ◌≤◌, [], ◌∷◌, ◌++◌, length, slice_get, ◌↔◌, IsTrue};
 
 use crate::Item;
 use arrayvec::ArrayVec;
 use std::marker::Model;
 
-/// How many items a telegram has at most.
+/// The greatest number of items of a telegram.
 pub const MOST_ITEMS: usize = 20;
 
 /// The items of a telegram, at most twenty, in order.
@@ -26,7 +26,7 @@ impl Model for Items {
 }
 
 impl Items {
-    /// No items.
+    /// An empty list.
     pub fn new() -> Items
         ensures { result ≡ [] }
     {
@@ -35,7 +35,7 @@ impl Items {
         }
     }
 
-    /// How many items there are.
+    /// The number of items.
     pub fn len(&self) -> usize
         ensures len { result ≡ length self.now }
         ensures most { result ≤ 20 }
@@ -43,7 +43,7 @@ impl Items {
         self.list.len()
     }
 
-    /// There are no items.
+    /// Whether there are no items.
     pub fn is_empty(&self) -> bool
         ensures { IsTrue result ↔ (length self.now ≡ 0) }
     {
@@ -58,14 +58,14 @@ impl Items {
         self.list.as_slice()
     }
 
-    /// The item at place `k`, counted from 0; `None` exactly where `k` is at least the length.
+    /// The item with index `k`, counted from 0; `None` exactly if `k` is at least the length.
     pub fn get(&self, k: usize) -> Option<Item>
         ensures { result ≡ slice_get self.now k }
     {
         self.as_slice().get(k).copied()
     }
 
-    /// Adds an item at the end, where there are fewer than twenty.
+    /// Appends an item. The list has fewer than twenty before.
     pub fn push(&mut self, item: Item)
         requires { length self.old < 20 }
         ensures { self.new ≡ self.old ++ item ∷ [] }
@@ -73,6 +73,7 @@ impl Items {
         self.list.push(item);
     }
 
+    /// Removes all items.
     pub(crate) fn clear(&mut self)
         ensures { self.new ≡ [] }
     {

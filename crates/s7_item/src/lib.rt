@@ -1,5 +1,5 @@
-//! Items and data items of read and write telegrams: the table of words, lists of at most twenty
-//! items, and how items and their octets are written, read and counted.
+//! Items and data items of read and write telegrams: the table of word lengths, lists of at most twenty items, and
+//! writing, reading and measuring items and their octets.
 #![tactic(auto)]
 
 pub mod codes;

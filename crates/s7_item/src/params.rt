@@ -1,4 +1,4 @@
-// The parameters of a read or write telegram.
+//! The parameters of a read or write telegram.
 ghost use Rattle.std.specs.Prelude.{◌≡◌, ◌<◌, ◌≤◌, ◌^◌, ◌+◌, ◌*◌, ◌++◌, [], length, drop, All, OnOk, IfOk};
 ghost use Rattle.std.specs.Option.{ok_or};
 ghost use Rattle.std.specs.List.{flat_map};
@@ -9,10 +9,10 @@ ghost use Rattle.s7_item.specs.Params.{items_of, items_params, count_of, items_i
 use crate::item::ITEM_LEN;
 use crate::{Item, Items, MOST_ITEMS};
 
-/// Why parameters can't be read as items.
+/// Why parameters aren't read as items.
 #[derive(Clone, Copy, Debug, PartialEq, Eq)]
 pub enum ItemFault {
-    /// The parameters don't have the length that their number of items asks for, or don't state it.
+    /// The parameters have fewer than two octets, or their length isn't 2 and 12 for each item.
     Short,
     /// The number of items is 0 or above 20.
     Count,
@@ -20,11 +20,12 @@ pub enum ItemFault {
     Spec,
 }
 
-/// Reads the items of a read or write telegram from its parameters: function, number of items, and
-/// twelve octets for each item. The first that applies is the refusal: `Short` where there are
-/// fewer than two octets, `Count` where the number of items is 0 or above 20, `Short` where the
-/// length isn't 2 and 12 for each item, `Spec` where an item doesn't begin `12 0A 10`. What `into`
-/// held before is gone; after a refusal it is empty.
+/// Reads the items of a read or write telegram from its parameters: the function, the number of items, and twelve
+/// octets for each item.
+///
+/// The first fault in this order is returned: `Short` if there are fewer than two octets, `Count` if the number of
+/// items is 0 or above 20, `Short` if the length isn't 2 and 12 for each item, `Spec` if an item doesn't begin `12
+/// 0A 10`. What `into` held before is dropped; after a refusal it is empty.
 #[tactic(auto, unfolding(crate::specs::Params::items_of))]
 pub fn read_items(params: &[u8], into: &mut Items) -> Result<(), ItemFault>
     ensures read { Gives (items_of params.now) result into.new }
@@ -37,7 +38,7 @@ pub fn read_items(params: &[u8], into: &mut Items) -> Result<(), ItemFault>
     read_each(&params[2..], count, into)
 }
 
-// How many items the parameters have, where their length agrees with it.
+/// The number of items that the parameters state, if their length agrees with it.
 fn item_count(params: &[u8]) -> Result<usize, ItemFault>
     ensures count { result ≡ count_of params.now }
     ensures some { IfOk result (λ count. 0 < count) }
@@ -57,7 +58,7 @@ fn item_count(params: &[u8]) -> Result<usize, ItemFault>
     Ok(count)
 }
 
-// Reads the items that the octets spell, twelve octets each.
+/// Reads `count` items from the octets, twelve octets each.
 fn read_each(octets: &[u8], count: usize, into: &mut Items) -> Result<(), ItemFault>
     requires len { length octets.now ≡ 12 * count }
     requires most { count ≤ 20 }
@@ -79,9 +80,9 @@ fn read_each(octets: &[u8], count: usize, into: &mut Items) -> Result<(), ItemFa
     Ok(())
 }
 
-/// Writes the parameters of a read (04) or write (05) telegram: function, number of items, and
-/// twelve octets for each item. Needs room for them, at least one item, and addresses below 2^24.
-/// The result is the number of octets written.
+/// Writes the parameters of a read (04) or write (05) telegram: the function, the number of items, and twelve
+/// octets for each item. Returns the number of octets written. There is at least one item, every address is below
+/// 2^24, and `into` has room for the parameters; the rest of `into` stays.
 pub fn write_items(function: u8, items: &Items, into: &mut [u8]) -> usize
     requires some { 0 < length items.now }
     requires room { 2 + 12 * length items.now ≤ length into.old }
@@ -95,7 +96,7 @@ pub fn write_items(function: u8, items: &Items, into: &mut [u8]) -> usize
     2 + ITEM_LEN * items.len()
 }
 
-// Writes the octets of the items, one item after another.
+/// Writes the octets of the items, one item after another.
 fn write_each(items: &[Item], into: &mut [u8])
     requires room { 12 * length items.now ≤ length into.old }
     requires addresses { All (λ item. item.address < 2 ^ 24) items.now }

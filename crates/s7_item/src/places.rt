@@ -1,19 +1,22 @@
-// A list of the places of at most twenty data items.
+//! A list of the ranges of at most twenty data items.
 ghost use Rattle.std.specs.Prelude.{◌≡◌, ◌<◌, ◌≤◌, [], ◌∷◌, ◌++◌, length, slice_get, ◌↔◌, IsTrue};
 
 use arrayvec::ArrayVec;
 use std::marker::Model;
 
-/// Where the octets of one data item lie: the item's transport size, the place of its first octet
-/// in the octets that were read, counted from 0, and the number of its octets.
+/// The range of the octets of one data item: its transport size, the offset of its first octet in the octets that
+/// were read, and the number of its octets.
 #[derive(Clone, Copy, Debug, Default, PartialEq, Eq)]
 pub struct DataPlace {
+    /// The transport size of the item.
     pub transport: u8,
+    /// The offset of its first octet.
     pub from: usize,
+    /// The number of its octets.
     pub len: usize,
 }
 
-/// The places of the data items of a telegram, at most twenty, in order.
+/// The ranges of the data items of a telegram, at most twenty, in order.
 #[derive(Drop)]
 pub struct DataItems {
     list: ArrayVec<DataPlace, 20>,
@@ -31,7 +34,7 @@ impl Model for DataItems {
 }
 
 impl DataItems {
-    /// No places.
+    /// An empty list.
     pub fn new() -> DataItems
         ensures { result ≡ [] }
     {
@@ -40,7 +43,7 @@ impl DataItems {
         }
     }
 
-    /// How many places there are.
+    /// The number of ranges.
     pub fn len(&self) -> usize
         ensures len { result ≡ length self.now }
         ensures most { result ≤ 20 }
@@ -48,14 +51,14 @@ impl DataItems {
         self.list.len()
     }
 
-    /// There are no places.
+    /// Whether there are no ranges.
     pub fn is_empty(&self) -> bool
         ensures { IsTrue result ↔ (length self.now ≡ 0) }
     {
         self.list.is_empty()
     }
 
-    /// The places in order.
+    /// The ranges in order.
     pub fn as_slice(&self) -> &[DataPlace]
         ensures places { result.now ≡ self.now }
         ensures most { length self.now ≤ 20 }
@@ -63,14 +66,14 @@ impl DataItems {
         self.list.as_slice()
     }
 
-    /// The place at `k`, counted from 0; `None` exactly where `k` is at least the length.
+    /// The range with index `k`, counted from 0; `None` exactly if `k` is at least the length.
     pub fn get(&self, k: usize) -> Option<DataPlace>
         ensures { result ≡ slice_get self.now k }
     {
         self.as_slice().get(k).copied()
     }
 
-    /// Adds a place at the end, where there are fewer than twenty.
+    /// Appends a range. The list has fewer than twenty before.
     pub fn push(&mut self, place: DataPlace)
         requires { length self.old < 20 }
         ensures { self.new ≡ self.old ++ place ∷ [] }
@@ -78,6 +81,7 @@ impl DataItems {
         self.list.push(place);
     }
 
+    /// Removes all ranges.
     pub(crate) fn clear(&mut self)
         ensures { self.new ≡ [] }
     {

@@ -1,4 +1,4 @@
-// Reading data items.
+//! Reading data items.
 ghost use Rattle.std.specs.Prelude.{◌≡◌, ◌+◌, ◌≤◌, length, drop, All, OnOk, IfOk};
 ghost use Rattle.s7_item.specs.Gives.{Gives};
 ghost use Rattle.s7_item.specs.DataItem.{octets_meant, padding_of, place_in, span_of, data_places_of};
@@ -7,7 +7,7 @@ use crate::data_item::octets_meant;
 use crate::word::is_transport;
 use crate::{DataItems, DataPlace, padding_of};
 
-/// Why octets can't be read as data items.
+/// Why octets aren't read as data items.
 #[derive(Clone, Copy, Debug, PartialEq, Eq)]
 pub enum DataFault {
     /// A transport size isn't 03, 04, 05, 07 or 09.
@@ -18,12 +18,14 @@ pub enum DataFault {
     Rest,
 }
 
-/// Finds the octets of `n` data items, at most twenty: code, transport size, length (2), octets,
-/// and a padding octet after an odd number of octets where another item follows. A length counts
-/// bits, rounded up to whole octets, for the transport sizes 03, 04 and 05, and octets for 07 and
-/// 09. Codes and padding octets are passed over. The first refusal in order of the octets counts:
-/// `Transport` where a transport size is none of these, `Short` where the octets end early, `Rest`
-/// where some are left over. What `into` held before is gone; after a refusal it is empty.
+/// Finds the octets of `n` data items, at most twenty. A data item has a code, a transport size, a length in two
+/// octets, and its octets; a padding octet follows an odd number of octets, except in the last item. A length
+/// counts bits, rounded up to whole octets, for the transport sizes 03, 04 and 05, and octets for 07 and 09. Codes
+/// and padding octets are ignored.
+///
+/// The first fault in the order of the octets is returned: `Transport` if a transport size is none of these,
+/// `Short` if the octets end early, `Rest` if octets are left over. What `into` held before is dropped; after a
+/// refusal it is empty.
 #[tactic(auto, unfolding(crate::specs::DataItem::data_places_of))]
 pub fn read_data_items(octets: &[u8], n: usize, into: &mut DataItems) -> Result<(), DataFault>
     requires { n ≤ 20 }
@@ -54,7 +56,7 @@ pub fn read_data_items(octets: &[u8], n: usize, into: &mut DataItems) -> Result<
     Ok(())
 }
 
-// The place of the octets of the data item that begins at `at`, the last one or not.
+/// The range of the octets of the data item that begins at offset `at`; `last` says whether it is the last item.
 fn read_place(octets: &[u8], at: usize, last: bool) -> Result<DataPlace, DataFault>
     requires { at ≤ length octets.now }
     ensures place { result ≡ place_in at last (drop at octets.now) }

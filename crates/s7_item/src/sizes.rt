@@ -1,4 +1,4 @@
-// The sizes of telegrams.
+//! The sizes of telegrams, before they are written.
 ghost use Rattle.std.specs.Prelude.{◌≡◌, ◌*◌, ◌≤◌, length, map};
 ghost use Rattle.s7_item.specs.Item.{octet_count};
 ghost use Rattle.s7_item.specs.Sizes.{data_size, answer_size, request_size};
@@ -6,17 +6,16 @@ ghost use Rattle.s7_item.specs.Sizes.{data_size, answer_size, request_size};
 use crate::item::ITEM_LEN;
 use crate::{Item, Items, padding_of};
 
-/// How many octets the answer to a read of these items has, where every item of a known word has
-/// all its octets; an item of an unknown word has four. The 14 octets before the data items are
-/// counted.
+/// The size in octets of the answer to a read of these items, if every item of a known word length has all its
+/// octets. An item of an unknown word length takes four octets. The 14 octets before the data items are counted.
 pub fn answer_size(items: &Items) -> u32
     ensures { result ≡ answer_size items.now }
 {
     14 + data_size(items.as_slice()) as u32
 }
 
-/// How many octets a request for these items has: a read request, or, where `write` is true, a
-/// write request with the octets of every item of a known word.
+/// The size in octets of a request for these items: of a read request, or, if `write` is true, of a write request
+/// with all octets of every item of a known word length.
 pub fn request_size(items: &Items, write: bool) -> u32
     ensures { result ≡ request_size items.now write }
 {
@@ -29,7 +28,7 @@ pub fn request_size(items: &Items, write: bool) -> u32
     size as u32
 }
 
-// How many octets the data items take that have all octets of these items.
+/// The number of octets of data items that have all octets of these items.
 fn data_size(items: &[Item]) -> usize
     requires { length items.now ≤ 20 }
     ensures size { result ≡ data_size (map octet_count items.now) }

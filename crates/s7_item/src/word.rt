@@ -1,4 +1,4 @@
-// The table of words.
+//! The table of word lengths.
 ghost use Rattle.std.specs.Prelude.{◌≡◌, ◌≤◌, IfSome};
 ghost use Rattle.s7_item.specs.Word.{size_of, transport_of, is_transport, counts_bits};
 
@@ -7,9 +7,9 @@ use crate::codes::{
     INTEGER, INTEGER_TRANSPORT, OCTET_TRANSPORT, REAL, REAL_TRANSPORT, TIMERS, WORD,
 };
 
-/// How many octets an element of this word has: 1 for bits (01), bytes (02) and characters (03),
-/// 2 for words (04), integers (05), counters (1C) and timers (1D), 4 for double words (06), double
-/// integers (07) and reals (08). `None` for every other word.
+/// The number of octets of an element of this word length: 1 for bits (01), bytes (02) and characters (03); 2 for
+/// words (04), integers (05), counters (1C) and timers (1D); 4 for double words (06), double integers (07) and
+/// reals (08). `None` for every other word length.
 #[tactic(auto, unfolding(crate::specs::Word::size_of))]
 pub fn size_of(word: u8) -> Option<u16>
     ensures size { result ≡ size_of word }
@@ -23,9 +23,9 @@ pub fn size_of(word: u8) -> Option<u16>
     }
 }
 
-/// The transport size that a data item of this word is sent with: 03 for bits, 04 for bytes, words
-/// and double words, 05 for integers and double integers, 07 for reals, 09 for characters, counters
-/// and timers. 00 for a word that `size_of` doesn't know.
+/// The transport size with which a data item of this word length is sent: 03 for bits; 04 for bytes, words and
+/// double words; 05 for integers and double integers; 07 for reals; 09 for characters, counters and timers. 00 for
+/// a word length that `size_of` doesn't know.
 #[tactic(auto, unfolding(crate::specs::Word::transport_of))]
 pub fn transport_of(word: u8) -> u8
     ensures { result ≡ transport_of word }
@@ -40,7 +40,7 @@ pub fn transport_of(word: u8) -> u8
     }
 }
 
-/// A data item may have this transport size.
+/// Whether a data item may have this transport size.
 #[tactic(auto, unfolding(crate::specs::Word::is_transport, crate::specs::Word::counts_bits))]
 pub(crate) fn is_transport(transport: u8) -> bool
     ensures { result ≡ is_transport transport }
@@ -48,7 +48,7 @@ pub(crate) fn is_transport(transport: u8) -> bool
     counts_bits(transport) || transport == REAL_TRANSPORT || transport == OCTET_TRANSPORT
 }
 
-/// The stated length of a data item with this transport size counts bits.
+/// Whether the stated length of a data item with this transport size counts bits.
 #[tactic(auto, unfolding(crate::specs::Word::counts_bits))]
 pub(crate) fn counts_bits(transport: u8) -> bool
     ensures { result ≡ counts_bits transport }

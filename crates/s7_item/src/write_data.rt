@@ -1,4 +1,4 @@
-// Writing data items.
+//! Writing data items.
 ghost use Rattle.std.specs.Prelude.{◌≡◌, ◌<◌, ◌≤◌, ◌++◌, length, drop, IsTrue, IsSome};
 ghost use Rattle.s7_item.specs.Word.{size_of, transport_of};
 ghost use Rattle.s7_item.specs.DataItem.{head_octets, carries, stated_length, data_item_octets};
@@ -6,12 +6,17 @@ ghost use Rattle.s7_item.specs.DataItem.{head_octets, carries, stated_length, da
 use crate::numbers::two_octets;
 use crate::{carries, padding_of, stated_length, transport_of};
 
-/// Writes a data item. With code FF (an answer) or 00 (a write request) it is code, the word's
-/// transport size, length (2), the octets, and one octet 00 where their number is odd and the item
-/// isn't the last. The length is 1 for one octet of bits (01); else it counts bits, eight for each
-/// octet, for the transport sizes 03, 04 and 05, and octets for 07 and 09. With every other code,
-/// which refuses the item, it is the code and `00 00 00`. Needs room and, where octets are written,
-/// a word that `size_of` knows and a length below 2^16. The result is the number of octets written.
+/// Writes a data item and returns the number of octets written.
+///
+/// With code FF (an answer) or 00 (a write request) the data item is the code, the transport size of the word
+/// length, a length in two octets, the octets, and one octet 00 if their number is odd and the item isn't the last.
+/// The length is 1 for one octet of bits (01). Otherwise it counts bits, eight for each octet, for the transport
+/// sizes 03, 04 and 05, and octets for 07 and 09.
+///
+/// With every other code, which refuses the item, the data item is the code and `00 00 00`.
+///
+/// `into` has room for it. If octets are written, `size_of` knows the word length and the stated length is below
+/// 2^16.
 pub fn write_data_item(code: u8, word: u8, octets: &[u8], last: bool, into: &mut [u8]) -> usize
     requires known { IsTrue (carries code) → IsSome (size_of word) }
     requires fits { IsTrue (carries code)
@@ -34,7 +39,7 @@ pub fn write_data_item(code: u8, word: u8, octets: &[u8], last: bool, into: &mut
     end + 1
 }
 
-// The octets before those of the item.
+/// The four octets before the octets of the item: code, transport size and stated length.
 #[tactic(auto, using(crate::proofs::WordLemmas::at_most_stated))]
 fn head(code: u8, word: u8, len: usize) -> [u8; 4]
     requires { stated_length (transport_of word) len < 65536 }

@@ -1,4 +1,4 @@
--- Seats as a bench shows them, and what its calls do to them.
+-- Seats as contracts of a bench see them, and what its calls do to them.
 use Rattle.std.specs.Prelude.{◌≡◌, ℕ, ◌+◌, ◌<◌, ◌≤◌, true, List, [], ◌∷◌, ◌++◌, length, Option, None, Some}
 use Rattle.std.specs.Option.{option_or}
 use Rattle.s7_outer.specs.Shown.{Shown}
@@ -9,31 +9,33 @@ use Rattle.s7_session.specs.Books.{History, own}
 use Rattle.s7_session.specs.LinkState.{LinkState}
 use Rattle.s7_listener.specs.Served.{ServedTold, IsServed}
 
--- where links are served: how the plant's state was, how many calls the history takes, and how each link begins
+-- the terms on which links are served: the plant's state at the opening, the limit of the history, and the state in
+-- which each link begins
 pub record Terms : Type 0 where
   pub opening : State
   pub limit : ℕ
   pub first : LinkState
 
--- a seat: in whose name it makes calls, whom it stands for, the number that it gives next, and what it has seen
+-- a seat: its caller, the callers that it represents, the number that it hands out next, and what it has seen of the
+-- history
 pub record SeatTold : Type 0 where
   pub number : ℕ
   pub callers : List ℕ
   pub next : Option ℕ
   pub seen : History
 
--- it stands for its caller alone, which has made no call
+-- it represents its caller alone, which has made no call
 pub record IsNew (seat : SeatTold) : Type 0 where
   pub alone : seat.callers ≡ seat.number ∷ []
   pub silent : calls seat.number seat.seen ≡ []
 
--- it is the first seat: it stands for caller 0 alone, has seen nothing, and gives the numbers from 1 on
+-- it is the first seat: it represents caller 0 alone, has seen nothing, and hands out the numbers from 1 on
 pub record IsFirst (seat : SeatTold) : Type 0 where
   pub alone : seat.callers ≡ 0 ∷ []
   pub saw_none : seat.seen ≡ []
   pub gives : seat.next ≡ Some 1
 
--- A new seat was split off: it has the number that was next, and has seen as much.
+-- A new seat was split off: it has the number that was next, and has seen the same history.
 pub record IsSplit (old new own_seat : SeatTold) : Type 0 where
   pub given : old.next ≡ Some own_seat.number
   pub is_new : IsNew own_seat
@@ -42,7 +44,7 @@ pub record IsSplit (old new own_seat : SeatTold) : Type 0 where
   pub stays : new ≡ record old { next = Some (own_seat.number + 1) }
   pub below : (x : ℕ) → has old.callers x ≡ true → x < own_seat.number
 
--- Two seats were made one.
+-- Two seats were joined.
 pub record IsMet (one two new : SeatTold) : Type 0 where
   pub numbers : new.number ≡ one.number
   pub stands : new.callers ≡ one.callers ++ two.callers

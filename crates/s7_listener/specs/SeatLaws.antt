@@ -1,4 +1,4 @@
--- Seats go on by calls one after another.
+-- Laws of seats that go on by calls, one call after another.
 use Rattle.std.proofs.Common.{ℕ, List, [], ◌++◌, refl, ap, sym, ◌∙◌}
 use Rattle.std.proofs.lemmas.List.{append-nil, append_assoc}
 use Rattle.s7_turn.specs.declared.machine.Machine.{Ghosts}

@@ -1,4 +1,4 @@
--- A seat of a hall as a bench shows it.
+-- A seat of a hall as contracts of a bench see it.
 use Rattle.s7_turn.specs.declared.machine.Machine.{Ghosts}
 use Rattle.s7_turn.specs.declared.hall.Seat.{Seat}
 use Rattle.s7_turn.specs.Seats.{seen, caller, callers, next}

@@ -1,12 +1,12 @@
--- Seats go on by the calls that are made in their name.
+-- How seats go on by the calls that are made in their name.
 use Rattle.std.specs.Prelude.{◌≡◌, ℕ, ◌≤◌, length}
 use Rattle.s7_turn.specs.declared.machine.Machine.{Ghosts}
 use Rattle.s7_turn.specs.declared.hall.Seat.{Seat}
 use Rattle.s7_turn.specs.Seats.{seen, caller, callers, next}
 use Rattle.s7_listener.specs.Begins.{Begins}
 
--- A seat of a hall whose history takes so many calls went on: it has its caller, stands for whom it stood for, gives
--- the number that it gave, lost nothing of what it had seen, and saw no more than there may be.
+-- A seat of a hall with this limit of its history went on: its caller, the callers that it represents and the number
+-- that it hands out next stay, it lost nothing of what it had seen, and it saw no more calls than the limit.
 pub record SeatGoesOn {M R P : Type 0} {g : Ghosts M R P} (limit : ℕ) (old new : Seat M R P g) : Type 0 where
   pub same_caller : caller new ≡ caller old
   pub same_callers : callers new ≡ callers old

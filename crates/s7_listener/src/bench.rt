@@ -1,4 +1,4 @@
-// Where many links are served at once.
+//! The trait of what serves many links at once.
 ghost use Rattle.std.specs.Prelude.{◌≡◌, ℕ, ◌<◌, Some};
 ghost use Rattle.s7_listener.specs.Benches.{Terms, SeatTold, IsNew, IsSplit, IsMet, HasServed};
 ghost use Rattle.s7_listener.specs.Served.{told_of};
@@ -9,8 +9,8 @@ use std::alloc::Global;
 use std::sync::Wait;
 use std::time;
 
-/// Where many links are served at once, each in the name of a seat. The loop over links is written for
-/// any bench, so that no thread's closure names what the hall behind it keeps.
+/// Serves many links at once, each in the name of a seat. The loop over links is generic over it, so that no thread's
+/// closure names the type that the hall holds.
 pub trait Bench {
     /// The right to have one link served.
     type Seat;
@@ -19,10 +19,10 @@ pub trait Bench {
 
     ghost told: { Self.Seat → SeatTold };
 
-    // the plant's state at the opening, how many calls the history takes, and how each link begins
+    // // the plant's state at the opening, the limit of the history, and the state in which each link begins
     ghost terms: { Self → Terms };
 
-    /// A new seat, with the number that the old one gives next.
+    /// Splits a new seat off this one. The new seat has the number that the old one hands out next.
     fn split(&self, seat: &mut Self::Seat) -> Self::Seat
         requires hall { is_of self.now seat.old }
         requires number { (n : ℕ) × ((told seat.old).next ≡ Some n) × (n < 1048576) }
@@ -30,7 +30,7 @@ pub trait Bench {
         ensures own { is_of self.now result }
         ensures split { IsSplit (told seat.old) (told seat.new) (told result) };
 
-    /// Serves a link to its end in the name of a seat that stands for its caller alone, which has made no
+    /// Serves a link to its end in the name of a seat. The seat must represent its caller alone, which has made no
     /// call.
     fn serve<R: Wait + time::Clock, L: Link + Clock>(
         &self,
@@ -45,7 +45,7 @@ pub trait Bench {
         ensures served { HasServed (terms self.now) (told seat) (told result.0)
             (L.shows line) (told_of L.shows result.1) };
 
-    /// One seat in the place of two.
+    /// Joins two seats. The result represents the callers of both.
     fn meet(&self, one: Self::Seat, two: Self::Seat) -> Self::Seat
         requires one { is_of self.now one }
         requires two { is_of self.now two }

@@ -1,4 +1,4 @@
-// All links of a door, on one keeper.
+//! Serving all links of a door on one keeper.
 ghost use Rattle.std.specs.Prelude.{◌≡◌, List, [], map, IfOk, IsErrOf};
 ghost use Rattle.s7_turn.specs.Machines.{IsReplayed};
 ghost use Rattle.s7_turn.specs.Seats.{IsOf, made};
@@ -21,7 +21,7 @@ use std::sync::Wait;
 use std::thread::Threads;
 use std::time;
 
-// A hall with a keeper, and its first seat.
+/// A hall with this keeper, and its first seat. Returns `Memory` if an allocation fails.
 fn hall_of<M: Keeper + Drop>(alloc: Global, keeper: M) -> Result<(Hall<M>, Seat<M>), Memory>
     requires new { (M.history keeper ≡ []) × (M.state keeper ≡ M.opening keeper) }
     requires holds { M.holds keeper }
@@ -37,14 +37,13 @@ fn hall_of<M: Keeper + Drop>(alloc: Global, keeper: M) -> Result<(Hall<M>, Seat<
     }
 }
 
-/// Hears a port, and serves the links that come by the door, `most` at the most, side by side over one
-/// history. Each has a thread of its own; where none can be made it is served before the next link is
-/// asked for. Links are numbered from 1 in the order in which they come, and each begins by the guard.
+/// Listens on a port, and serves the links that come by the door, at most `most` of them, side by side over one
+/// history. Each link is served in a thread of its own; if no thread can be created, it is served before the next link
+/// is accepted. Links are numbered from 1 in the order in which they come. Each begins with this guard.
 ///
-/// Returns once each link that came has ended, and none is left, the door failed or `most` came. All
-/// memory but that of the links' sessions is taken before the door is asked to listen: where there is
-/// none, `Memory`, and the door is as it was. `Door` where the door can't listen, or failed before a
-/// link came.
+/// Returns once every accepted link has ended, and no link is left, the door failed or `most` links came. All memory
+/// except that of the links' sessions is allocated before the door is asked to listen. Returns `Memory` if one of these
+/// allocations fails; the door is then unused. Returns `Door` if the door can't listen, or fails before a link comes.
 pub fn serve_door<
     M: Keeper + Send + Drop,
     R: Threads + Wait + time::Clock + Sync,

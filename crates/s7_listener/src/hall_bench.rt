@@ -1,4 +1,4 @@
-// A hall as a bench.
+//! A hall that serves links.
 ghost use Rattle.s7_turn.specs.Seats.{IsOf, made};
 ghost use Rattle.s7_session.specs.LinkState.{first_link};
 ghost use Rattle.s7_listener.specs.SeatShown.{seat_told};
@@ -14,7 +14,7 @@ use std::alloc::Global;
 use std::sync::Wait;
 use std::time;
 
-/// A hall whose requests pass a gate, and the guard by which its links begin.
+/// A hall whose requests pass a gate, and the guard with which its links begin.
 #[derive(Drop)]
 pub struct HallBench<'a, M: Keeper, G: Gate> {
     pub hall: &'a Hall<M>,

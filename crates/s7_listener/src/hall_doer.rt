@@ -1,4 +1,4 @@
-// A doer over a seat of a hall.
+//! A doer that calls a hall in the name of a seat.
 ghost use Rattle.std.specs.Prelude.{◌≡◌, ◌-◌, ◌^◌, ℕ, true, length, min};
 ghost use Rattle.std.proofs.Common.{refl, ◌∙◌, subst};
 ghost use Rattle.s7_turn.specs.Histories.{has, calls};
@@ -15,18 +15,17 @@ use s7_turn::{Full, Hall, Seat};
 use std::alloc::Global;
 use std::sync::Wait;
 
-/// Who carries out what one link asks at a hall, in the name of a seat's caller. Each request passes the
-/// gate, takes its turn, is answered by the state that all earlier entries led to, those of other links
-/// among them, and is entered under the caller's number. The history that the doer stands for is the
-/// caller's own calls in what its seat has seen, and it is full exactly where that has the limit's
-/// length. It takes no memory.
+/// Carries out the requests of one link at a hall, in the name of a seat's caller. Each request passes the gate and
+/// takes its turn. It is answered by the state after all earlier entries, those of other links included, and is entered
+/// under the caller's number. The history that the doer represents is the caller's own calls in what its seat has seen.
+/// It is full exactly if that has reached the limit. It allocates nothing.
 #[derive(Drop)]
 pub struct HallDoer<'a, M: Keeper, R: Wait, G: Gate> {
     pub rt: &'a R,
     pub hall: &'a Hall<M>,
     pub seat: &'a mut Seat<M>,
     pub gate: &'a G,
-    /// How many calls the caller has made, held at 2^64 - 1.
+    /// How many calls the caller has made, at most 2^64 - 1.
     pub ordinal: u64,
     pub ghost of: { IsOf hall.now seat.now },
     pub ghost named: { has (callers seat.now) (caller seat.now) ≡ true },

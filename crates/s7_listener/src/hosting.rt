@@ -1,4 +1,4 @@
-// Links that come by a door, each served in a thread of a scope.
+//! Accepting the links of a door, each of which is served in a thread of a scope.
 ghost use Rattle.std.specs.Prelude.{◌≡◌, ◌≤◌, ◌<◌, ◌==◌, ◌&&◌, ℕ, ◌+◌, List, [], ◌∷◌, ◌++◌, length, map};
 ghost use Rattle.std.specs.Prelude.{None, Some, IfOk, IfErr, IfSome, IsErrOf, vec_len, vec_capacity};
 ghost use Rattle.std.specs.List.{AllByRecursion};
@@ -21,7 +21,7 @@ use std::sync::Wait;
 use std::thread::{Promise, PromisedHandle, Scope, Threads, scope, scope_env};
 use std::time;
 
-/// What a thread that serves a link gives back keeps: the link was served in the name of the seat.
+/// The promise about the value that a serving thread returns: the link was served in the name of the seat.
 #[derive(Drop)]
 pub(crate) struct WorkOf<'s, B: Bench, L: Link + Clock> {
     pub bench: &'s B,
@@ -35,11 +35,13 @@ impl<'s, B: Bench, L: Link + Clock> Promise<(B::Seat, Served<L>)> for WorkOf<'s,
         (L.shows p.line.value) (told_of L.shows r.1) };
 }
 
+/// The handle of a thread that serves a link.
 type Worker<'s, B, L> = PromisedHandle<(<B as Bench>::Seat, Served<L>), WorkOf<'s, B, L>>;
 
+/// The links that were accepted so far, in the order of their numbers.
 type Works<'s, B, L> = Vec<Work<Worker<'s, B, L>, L>>;
 
-// Starts a thread that serves a link, or serves it here where none can be made.
+/// Starts a thread that serves a link. If no thread can be created, serves the link here.
 fn start<
     's,
     E,
@@ -80,7 +82,7 @@ where
     }
 }
 
-// Has a link served that came in the name of a new seat.
+/// Serves a link that came, in the name of a new seat.
 fn admit<
     's,
     E,
@@ -131,7 +133,7 @@ where
     }
 }
 
-// Has the next link served, or says why there is none.
+/// Accepts the next link and has it served, or returns why there is none.
 fn arrive<
     's,
     E,
@@ -185,7 +187,7 @@ where
     }
 }
 
-// Has the links of a door served, at most so many.
+/// Accepts the links of a door and has them served, at most `most` of them.
 fn accept<
     's,
     E,
@@ -232,7 +234,7 @@ where
     (seat, None)
 }
 
-// Takes in one link that was served, or once it was.
+/// Takes the result of one link; waits for its thread if that is still serving it.
 fn take_in<'s, B: Bench + Sync, R: Threads + Wait, L: Link + Clock + Drop>(
     rt: &R,
     bench: &'s B,
@@ -270,7 +272,7 @@ where
     }
 }
 
-// Waits until all links were served, and takes them in by rising number.
+/// Waits until all links were served, and takes their results in the order of their numbers.
 fn gather<'s, B: Bench + Sync, R: Threads + Wait, L: Link + Clock + Drop>(
     rt: &R,
     bench: &'s B,
@@ -299,7 +301,7 @@ where
     (all, links)
 }
 
-// The door failed.
+/// Whether the door failed.
 fn has_failed(stop: Option<Stop>) -> bool
     ensures { result ≡ failed_by stop }
 {
@@ -309,14 +311,14 @@ fn has_failed(stop: Option<Stop>) -> bool
     }
 }
 
-// The door failed before a link came.
+/// Whether the door failed before a link came.
 fn is_without_link(door_failed: bool, count: usize) -> bool
     ensures { result ≡ (door_failed && (count == 0)) }
 {
     door_failed && count == 0
 }
 
-// Takes the room for the works, opens the door, and has its links served.
+/// Allocates the list of links, asks the door to listen, and has its links served.
 fn host_in<
     's,
     E,
@@ -377,8 +379,8 @@ where
     (Ok(gathered), door)
 }
 
-/// Hears a port, and has the links that come by the door served, each in a thread of its own or, where
-/// none can be made, in this one.
+/// Listens on a port, and has the links that come by the door served, each in a thread of its own, or in this thread if
+/// none can be created.
 pub(crate) fn host<
     B: Bench + Sync,
     R: Threads + Wait + time::Clock + Sync,

@@ -1,4 +1,4 @@
-// What a hall keeps for links.
+//! What a hall keeps for its links.
 ghost use Rattle.std.specs.Prelude.{◌≡◌, ℕ, List, length};
 ghost use Rattle.std.proofs.Common.{map, refl, ap, subst};
 ghost use Rattle.s7_turn.specs.Histories.{replay};
@@ -17,30 +17,30 @@ ghost use Rattle.s7_session.specs.Books.{History};
 use s7_plant::{Ask, Book, Observer, Reply};
 use s7_turn::Machine;
 
-/// A machine that carries out what links ask of a plant. What it answers and what it becomes are told
-/// by the plant's states alone, whatever else it keeps.
+/// A machine that carries out what links ask of a plant. Its answers and its changes depend on the plant's states
+/// alone, whatever else it keeps.
 pub trait Keeper: Machine<Request = Ask, Reply = Reply> {
     /// The plant's state before the first entry.
     ghost opened: { Self → State };
 
-    /// How many entries its history has.
+    /// The number of entries in its history.
     fn entries(&self) -> u64
         ensures { result ≡ length (Self.history self.now) };
 
-    // machines with one opening have one plant's state there
+    // // machines with the same opening have the same state of the plant at the opening
     ghost opens: { (a b : Self) → Self.opening a ≡ Self.opening b → opened a ≡ opened b };
 
-    // a history keeps of what was asked what a plant's keeps
+    // // its history keeps the same of a request as a plant's history
     ghost keeps_asks: { (ask : Ask) → Self.kept ask ≡ kept ask };
 
-    // it takes what a plant takes
+    // // it accepts every request that a plant accepts
     ghost takes: { (ask : Ask) → CanBeDone ask.request → Self.request_ready ask };
 
     ghost takes_replies: { (reply : Reply) → IsReadyReply reply → Self.reply_ready reply };
 
     ghost leaves_replies: { (reply : Reply) → Self.reply_ready reply → IsReadyReply reply };
 
-    // after a history it answers what a plant answers that began at this state
+    // // after a history it answers as a plant answers that began at this state
     ghost answers: { (k : Self) (history : History) (caller : ℕ) (ask : Ask) (reply : Reply)
         → Self.gives (replay Self.after (Self.opening k) history) caller ask reply
         → IsReplyOf (replay after_call (opened k) history) ask reply };

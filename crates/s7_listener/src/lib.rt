@@ -1,4 +1,4 @@
-//! Many links on one book: each link's doer takes its turn at a hall, and all of them enter one history.
+//! Many links on one book. Each link's doer takes its turn at a hall, and the requests of all links enter one history.
 #![tactic(auto)]
 
 mod bench;

@@ -1,16 +1,17 @@
-// What is left of a served link.
+//! The result of serving a link.
 use s7_session::Outcome;
 
 /// A link that was served.
 #[derive(Drop)]
 pub struct Served<L> {
-    /// Its number.
+    /// The number of the link.
     pub link: u32,
+    /// The link itself, which is shut down by now.
     pub line: L,
-    /// Why it ended.
+    /// Why the link ended.
     pub outcome: Outcome,
-    /// How many of its telegrams were entered.
+    /// How many of the link's telegrams were entered.
     pub entries: u64,
-    /// The number of the newest of these entries.
+    /// The number of the newest of these entries, `None` if there is none.
     pub last: Option<u64>,
 }

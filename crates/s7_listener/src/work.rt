@@ -1,10 +1,10 @@
-// A link under way.
+//! Links that are being served, or were.
 use crate::served::Served;
 
 /// A link that came: a thread serves it, or it was served.
 #[derive(Drop)]
 pub(crate) enum Work<H, L> {
-    /// A thread serves it.
+    /// A thread serves it; this is the thread's handle.
     Running(H),
     /// It was served.
     Done(Served<L>),
@@ -13,7 +13,7 @@ pub(crate) enum Work<H, L> {
 /// Why no link came.
 #[derive(Clone, Copy, Debug, PartialEq, Eq)]
 pub(crate) enum Stop {
-    /// None is left.
+    /// The door has no more links.
     End,
     /// The door failed.
     Failed,

@@ -1,4 +1,4 @@
-// One link, served at a hall.
+//! Serving one link at a hall.
 ghost use Rattle.std.specs.Prelude.{◌≡◌, ◌≤◌, true, [], ◌∷◌, length};
 ghost use Rattle.s7_turn.specs.Histories.{has, calls};
 ghost use Rattle.s7_turn.specs.Seats.{IsOf, made, seen, caller, callers};
@@ -20,10 +20,10 @@ use std::alloc::Global;
 use std::sync::Wait;
 use std::time;
 
-/// Serves a link to its end, in the name of a seat of the hall that stands for its caller alone, which has
-/// made no call. The link has the caller's number, and begins without a right, by the guard. Gives the
-/// seat back with what is left of the link, which was shut then. Where there is no memory for the link's session
-/// its outcome is `Memory`, and nothing else became of it.
+/// Serves a link to its end, in the name of a seat of the hall. The seat must represent its caller alone, which has
+/// made no call. The link has the caller's number and begins with this guard and without a right. Returns the seat and
+/// the result of the link, which is shut down by then. If the allocation of the link's session fails, the outcome is
+/// `Memory`, and the link was only shut down.
 pub fn serve_link<M: Keeper, R: Wait + time::Clock, L: Link + Clock, G: Gate>(
     rt: &R,
     alloc: Global,
@@ -69,7 +69,7 @@ pub fn serve_link<M: Keeper, R: Wait + time::Clock, L: Link + Clock, G: Gate>(
     (seat, served)
 }
 
-// Serves a link by a fresh session.
+/// Serves a link with a fresh session.
 fn serve_session<M: Keeper, R: Wait + time::Clock, L: Link + Clock, G: Gate>(
     rt: &R,
     alloc: Global,

@@ -12,29 +12,29 @@ inner_of f = f.inner
 abbrev pub fates_left : {L : Type 0} → FailingLink L → List Fate
 fates_left f = drop f.at f.fates.items
 
--- the fate of the next call, which passes where no fate is left
+-- the fate of the next call; it passes if no fate is left
 abbrev pub next_fate : List Fate → Fate
 next_fate [] = fate.Pass
 next_fate (next ∷ rest) = next
 
--- what the fates did so far
+-- the effects of the fates so far
 pub record Counted : Type 0 where
-  -- how often a call failed
+  -- the number of calls that failed by their fate
   pub faults : ℕ
-  -- how often a call answered not yet
+  -- the number of calls that waited by their fate
   pub waits : ℕ
-  -- how often a call of the clock failed
+  -- the number of looks at the clock that failed by their fate
   pub clock_faults : ℕ
 
 abbrev pub counted_of : {L : Type 0} → FailingLink L → Counted
 counted_of f = record { faults = f.failed; waits = f.waited; clock_faults = f.clock_failed }
 
--- nothing yet
+-- no fate has had an effect yet
 abbrev pub none_counted : Counted
 none_counted = record { faults = 0; waits = 0; clock_faults = 0 }
 
--- what the link inside shows, with what the fates did: a look that failed by its fate is one more; how many octets the
--- link can take is not told
+-- what the link inside shows, plus the counts of the fates. A look that failed by its fate counts as a look. The
+-- number of octets that the link can take isn't shown
 abbrev pub with_counted : Counted → Shown → Shown
 with_counted counted inner = record inner {
   faults = inner.faults + counted.faults;

@@ -13,7 +13,7 @@ door_of d = record {
   lent = None;
 }
 
--- a door that has not been used
+-- a door that wasn't used yet
 abbrev pub unused_door : {L : Type 0} → List L → DoorShown L
 unused_door links = record { coming = Some links; heard = 0; listens = 0; faults = λ _. 0; lent = None }
 
@@ -21,10 +21,10 @@ unused_door links = record { coming = Some links; heard = 0; listens = 0; faults
 abbrev pub failing_place : {L : Type 0} → MemoryDoor L → Option ℕ
 failing_place d = d.fail_at
 
--- how many calls of `next` there were
+-- the number of calls of `next` so far
 abbrev pub next_count : {L : Type 0} → MemoryDoor L → ℕ
 next_count d = d.place
 
--- how often the door has failed
+-- the number of failed calls
 abbrev pub fault_count : {L : Type 0} → MemoryDoor L → ℕ
 fault_count d = d.faults

@@ -9,7 +9,7 @@ use Rattle.std.specs.declared.alloc.Global.{Global}
 use Rattle.s7_outer.specs.FilesShown.{FilesShown}
 use Rattle.s7_memory.specs.declared.memory_files.MemoryFiles.{MemoryFiles}
 
--- a map that was not made yet has no entries
+-- the entries of the map; none if it wasn't made yet
 abbrev pub entries_of : Option (BTreeMap (String Global) (List ℕ)) → List (String Global × List ℕ)
 entries_of None = []
 entries_of (Some files) = files.entries
@@ -25,7 +25,7 @@ files_of m = record { tells = true; held = file_octets m.files; faults = λ _. m
 abbrev pub failing_call : MemoryFiles → Option ℕ
 failing_call m = m.fail_at
 
--- how many calls there were
+-- the number of reads and writes so far
 abbrev pub calls_of : MemoryFiles → ℕ
 calls_of m = m.calls
 
@@ -33,6 +33,6 @@ calls_of m = m.calls
 abbrev pub no_files : FilesShown
 no_files = record { tells = true; held = λ _. None; faults = λ _. 0 }
 
--- how often a call has failed
+-- the number of failed calls
 abbrev pub fault_count : MemoryFiles → ℕ
 fault_count m = m.faults

@@ -4,27 +4,27 @@ use Rattle.s7_outer.specs.Shown.{Moved, Shown}
 use Rattle.s7_memory.specs.declared.memory_link.Mark.{Mark}
 use Rattle.s7_memory.specs.declared.memory_link.MemoryLink.{MemoryLink}
 
--- the octets that are left to receive
+-- the octets left to receive
 abbrev pub unread_of : MemoryLink → List ℕ
 unread_of m = drop m.at m.input
 
--- how many octets a call moves at most
+-- the greatest number of octets that a call moves
 abbrev pub most_of : MemoryLink → ℕ
 most_of m = m.most
 
--- how many octets there may be of output in all
+-- the greatest number of octets of output in all
 abbrev pub room_of : MemoryLink → ℕ
 room_of m = m.output.room
 
--- how many octets of output there may still be
+-- the number of octets of output that still fit
 abbrev pub free_of : MemoryLink → ℕ
 free_of m = m.output.room - length m.output.octets
 
--- how many octets a receive moves that has room for so many
+-- the number of octets that a receive into `room` octets moves
 abbrev pub receives : MemoryLink → ℕ → ℕ
 receives m room = min room (min m.most (length (unread_of m)))
 
--- how many octets of so many a transmit moves
+-- the number of octets that a transmit of `count` octets moves
 abbrev pub transmits : MemoryLink → ℕ → ℕ
 transmits m count = min count (min m.most (free_of m))
 
@@ -47,7 +47,7 @@ shown_of m = record {
   lent = None;
 }
 
--- a link that has not been used
+-- a link that wasn't used yet
 abbrev pub unused : List ℕ → ℕ → Shown
 unused input moment = record {
   left = Some input;

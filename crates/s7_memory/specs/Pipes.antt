@@ -11,7 +11,7 @@ abbrev pub across : Side → Side
 across side.Client = side.Server
 across side.Server = side.Client
 
--- the octets that wait for a side
+-- the octets that wait to be received by a side
 abbrev pub waiting_for : PipesHeld → Side → List ℕ
 waiting_for p side.Client = p.to_client
 waiting_for p side.Server = p.to_server
@@ -21,15 +21,15 @@ abbrev pub with_waiting : PipesHeld → Side → List ℕ → PipesHeld
 with_waiting p side.Client octets = record p { to_client = octets }
 with_waiting p side.Server octets = record p { to_server = octets }
 
--- how many octets an end can still give
+-- the number of octets that an end can still transmit
 abbrev pub space_of : PipesHeld → Side → ℕ
 space_of p s = p.room - length (waiting_for p (across s))
 
--- how many octets a receive moves that has room for so many
+-- the number of octets that a receive into `room` octets moves
 abbrev pub receives : PipesHeld → Side → ℕ → ℕ
 receives p s room = min room (length (waiting_for p s))
 
--- how many octets of so many a transmit moves
+-- the number of octets that a transmit of `count` octets moves
 abbrev pub transmits : PipesHeld → Side → ℕ → ℕ
 transmits p s count = min count (space_of p s)
 
@@ -37,7 +37,7 @@ abbrev pub number_of : Side → ℕ
 number_of side.Client = 0
 number_of side.Server = 1
 
--- what the end of a side shows, over the loan of the pipes
+-- what the end of a side shows; the pipes are lent to it by this loan
 abbrev pub end_of : GName → PipesHeld → Side → Shown
 end_of loan p s = record {
   left = Some (waiting_for p s);
@@ -53,6 +53,6 @@ end_of loan p s = record {
   lent = Some (record { loan = loan; end = number_of s; room = p.room });
 }
 
--- pipes that have not been used
+-- pipes that weren't used yet
 abbrev pub empty_pipes : ℕ → ℕ → PipesHeld
 empty_pipes room moment = record { to_client = []; to_server = []; room = room; waits = 0; moment = moment; looks = 0 }

@@ -6,11 +6,11 @@ pub record PipesHeld : Type 0 where
   pub to_client : List ℕ
   -- the octets that wait for the server
   pub to_server : List ℕ
-  -- how many octets there may be in each pipe
+  -- the greatest number of octets in each pipe
   pub room : ℕ
-  -- how often an end had nothing to take, or no room
+  -- the number of calls that found nothing to receive, or no room
   pub waits : ℕ
-  -- the moment of their clock
+  -- the time that their clock always gives
   pub moment : ℕ
-  -- how often their clock was asked
+  -- the number of looks at their clock
   pub looks : ℕ

@@ -1,36 +1,43 @@
-// A link whose calls meet a list of fates.
+//! A link whose calls fail or wait by a list of fates.
 ghost use Rattle.std.specs.Prelude.{◌≡◌, ◌≢◌, ◌<◌, length, drop};
 ghost use Rattle.s7_outer.specs.Calls.{IsReceive, IsTransmit, IsLook, shut_down};
 ghost use Rattle.s7_outer.specs.Count.{raised};
 
 use s7_outer::{Clock, Got, Link, Sent, Tick, raise};
 
-/// What comes of one call.
+/// What is to happen to one call.
 #[derive(Clone, Copy, Debug, PartialEq, Eq)]
 pub enum Fate {
-    /// The link inside is called.
+    /// The call goes through to the link inside.
     Pass,
-    /// The call answers not yet. A call of the clock passes.
+    /// The call returns `NotYet`. A look at the clock goes through.
     NotYet,
-    /// The call fails.
+    /// The call returns `Failed`.
     Fail,
 }
 
-/// A link whose k-th call takes the k-th fate, all calls counted together. Later calls pass.
+/// A link whose k-th call takes the k-th fate; calls of all kinds are counted together. Calls after the last fate
+/// go through.
 #[derive(Drop)]
 pub struct FailingLink<L: Link> {
+    /// The link inside.
     inner: L,
+    /// The fates of all calls, those that are used included.
     fates: Vec<Fate>,
+    /// The number of fates that are used.
     at: usize,
+    /// How many calls failed by their fate.
     failed: u64,
+    /// How many calls waited by their fate.
     waited: u64,
+    /// How many looks at the clock failed by their fate.
     clock_failed: u64,
 }
 
 impl<L: Link> FailingLink<L> {
     ghost use Rattle.s7_memory.specs.FailingLink.{inner_of, fates_left, next_fate, counted_of, none_counted};
 
-    /// The link with these fates of its calls. What it counts is what the link inside has counted.
+    /// Wraps the link, with these fates for its calls. Its counts begin at those of the link inside.
     pub fn new(inner: L, fates: Vec<Fate>) -> FailingLink<L>
         ensures inner { inner_of result ≡ inner }
         ensures fates { fates_left result ≡ fates.items }
@@ -53,7 +60,7 @@ impl<L: Link> FailingLink<L> {
         &self.inner
     }
 
-    // The next fate, which is used up.
+    /// Takes the next fate out of the list; `Pass` if none is left.
     fn fate(&mut self) -> Fate
         ensures fate { result ≡ next_fate (fates_left self.old) }
         ensures fates { fates_left self.new ≡ drop 1 (fates_left self.old) }
@@ -77,8 +84,7 @@ impl<L: Link> Link for FailingLink<L> {
 
     ghost shows = { λ f. with_counted (counted_of f) (L.shows (inner_of f)) };
 
-    /// Uses up the next fate. Where it passes, this is the receive of the link inside; else that
-    /// link is not called.
+    /// Takes the next fate. If it is `Pass`, this is the receive of the link inside; else that link isn't called.
     fn receive(&mut self, into: &mut [u8]) -> Got
         requires { 0 < length into.old }
 
@@ -108,8 +114,7 @@ impl<L: Link> Link for FailingLink<L> {
         }
     }
 
-    /// Uses up the next fate. Where it passes, this is the transmit of the link inside; else that
-    /// link is not called.
+    /// Takes the next fate. If it is `Pass`, this is the transmit of the link inside; else that link isn't called.
     fn transmit(&mut self, piece: &[u8]) -> Sent
         requires { 0 < length piece.now }
 
@@ -139,7 +144,7 @@ impl<L: Link> Link for FailingLink<L> {
         }
     }
 
-    /// Shuts the link inside. No fate is used up.
+    /// Shuts the link inside. Takes no fate.
     fn shutdown(&mut self)
         ensures shut { with_counted (counted_of self.new) (L.shows (inner_of self.new))
             ≡ shut_down (with_counted (counted_of self.old) (L.shows (inner_of self.old))) }
@@ -154,8 +159,7 @@ impl<L: Link> Link for FailingLink<L> {
 impl<L: Link + Clock> Clock for FailingLink<L> {
     ghost use Rattle.s7_memory.specs.FailingLink.{inner_of, fates_left, next_fate, counted_of, with_counted};
 
-    /// Uses up the next fate. Where it fails, the link inside is not called; else this is the look
-    /// at its clock.
+    /// Takes the next fate. If it is `Fail`, the link inside isn't called; else this is the look at its clock.
     fn now(&mut self) -> Tick
         ensures call { IsLook (with_counted (counted_of self.old) (L.shows (inner_of self.old)))
             (with_counted (counted_of self.new) (L.shows (inner_of self.new))) result }

@@ -1,5 +1,5 @@
-//! The outside in memory: links, pipes between two partners, doors, files, hosts and outputs that a test or a rig
-//! makes, and a link whose calls fail or wait as it was told.
+//! The outside in memory: links, pipes between two partners, doors, files, hosts and outputs for tests and rigs,
+//! and a link whose calls fail or wait by a list of fates.
 #![tactic(auto)]
 
 mod failing_link;

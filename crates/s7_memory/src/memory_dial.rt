@@ -1,11 +1,11 @@
-// A dial in memory.
+//! A dial in memory.
 ghost use Rattle.std.specs.Prelude.{◌≡◌, ◌≢◌, None};
 ghost use Rattle.s7_outer.specs.Count.{RoseExactly, raised};
 ghost use Rattle.s7_outer.specs.Dial.{NoHostFell};
 
 use s7_outer::{Dial, Dialled, raise};
 
-/// Gives its link once, whatever it calls, and fails where it has none.
+/// Gives its link at the first call, whatever the host, and fails at every later one.
 #[derive(Drop)]
 pub struct MemoryDial<L> {
     link: Option<L>,
@@ -16,7 +16,7 @@ pub struct MemoryDial<L> {
 impl<L: Drop> MemoryDial<L> {
     ghost use Rattle.s7_memory.specs.MemoryDial.{dial_of, unused_dial};
 
-    /// A dial with this link.
+    /// A dial that gives this link; without one each call fails.
     pub fn new(link: Option<L>) -> MemoryDial<L>
         ensures { dial_of result ≡ unused_dial link }
     {
@@ -33,8 +33,7 @@ impl<L: Drop> Dial<L> for MemoryDial<L> {
 
     ghost shows = { dial_of };
 
-    /// The link, which is given away here. `Failed` comes exactly where there is none, and is
-    /// counted once.
+    /// Gives the link away. `Failed` is returned exactly if the dial has none, and is counted once.
     fn call(&mut self, host: &str, port: u16) -> Dialled<L>
         ensures gives { result ≡ called (link_of self.old) }
         ensures given { link_of self.new ≡ None }

@@ -1,4 +1,4 @@
-// A door in memory.
+//! A door in memory.
 ghost use Rattle.std.specs.Prelude.{◌≡◌, ◌≢◌, ◌≤◌, ◌↔◌, Some, IsTrue, IsOk};
 ghost use Rattle.s7_outer.specs.Count.{RoseExactly, raised};
 ghost use Rattle.s7_outer.specs.Door.{GivesNext};
@@ -7,12 +7,14 @@ use s7_outer::{Arrival, Door, DoorFailed, raise};
 use std::alloc::Global;
 use std::vec::IntoIter;
 
-/// Gives its links in order and then `End`. The call of a chosen place fails and takes no link.
-/// Its `listen` succeeds.
+/// Gives its links in order and then `End`. One chosen call of `next` fails and takes no link. `listen` always
+/// succeeds.
 #[derive(Drop)]
 pub struct MemoryDoor<L> {
     links: IntoIter<L, Global>,
+    /// The number of calls of `next` so far.
     place: usize,
+    /// The number of the call of `next` that fails.
     fail_at: Option<usize>,
     port: u16,
     listens: u64,
@@ -22,8 +24,7 @@ pub struct MemoryDoor<L> {
 impl<L: Drop> MemoryDoor<L> {
     ghost use Rattle.s7_memory.specs.MemoryDoor.{door_of, unused_door, failing_place, next_count};
 
-    /// A door with these links. Where `fail_at` is given, the call of `next` of that number fails,
-    /// counted from 0.
+    /// A door with these links. If `fail_at` is `Some(n)`, the n-th call of `next` fails, counted from 0.
     pub fn new(links: Vec<L>, fail_at: Option<usize>) -> MemoryDoor<L>
         ensures shown { door_of result ≡ unused_door links.items }
         ensures failing { failing_place result ≡ fail_at }
@@ -39,7 +40,7 @@ impl<L: Drop> MemoryDoor<L> {
         }
     }
 
-    // Counts a call, and says whether it has to fail.
+    /// Counts a call, and returns whether it has to fail.
     fn fails(&mut self) -> bool
         ensures fails { IsTrue result ↔ (failing_place self.old ≡ Some (next_count self.old)) }
         ensures failing { failing_place self.new ≡ failing_place self.old }
@@ -65,7 +66,7 @@ impl<L: Drop> Door<L> for MemoryDoor<L> {
 
     ghost shows = { door_of };
 
-    /// Hears the port. This is no counted call.
+    /// Listens on the port. `next` alone counts calls.
     fn listen(&mut self, port: u16) -> Result<(), DoorFailed>
         ensures ok { IsOk result }
         ensures shown { door_of self.new

@@ -1,4 +1,4 @@
-// Files in memory.
+//! Files in memory.
 ghost use Rattle.std.specs.Prelude.{◌≡◌, ◌≢◌, ◌+◌, ◌≤◌, ◌↔◌, ◌⊎◌, [], Some, None};
 ghost use Rattle.std.specs.Prelude.{IsTrue, IsErrOf, OnOk, OnErr, option_map, vec_len};
 ghost use Rattle.s7_outer.specs.Count.{raised};
@@ -9,11 +9,14 @@ use s7_outer::{FILE_LIMIT, FileFault, Files, Memory, Octets, raise};
 use std::alloc::Global;
 use std::collections::BTreeMap;
 
-/// Files in memory. Reads and writes are counted together, and the one of a chosen number fails.
+/// Files in memory. Reads and writes are counted together, and the call with a chosen number fails.
 #[derive(Drop)]
 pub struct MemoryFiles {
+    /// The files; `None` before the first one, since a map can't be made without an allocator.
     files: Option<BTreeMap<String, Octets>>,
+    /// The number of reads and writes so far.
     calls: u64,
+    /// The number of the call that fails.
     fail_at: Option<u64>,
     faults: u64,
 }
@@ -21,7 +24,7 @@ pub struct MemoryFiles {
 impl MemoryFiles {
     ghost use Rattle.s7_memory.specs.MemoryFiles.{files_of, no_files, failing_call, calls_of};
 
-    /// No files.
+    /// A store without files.
     pub fn new() -> MemoryFiles
         ensures shown { files_of result ≡ no_files }
         ensures calls { calls_of result ≡ 0 }
@@ -35,8 +38,8 @@ impl MemoryFiles {
         }
     }
 
-    /// Puts a file under the path, in place of the one there. This is no counted call. `Memory`
-    /// comes where there is none for it, and leaves every path as it was.
+    /// Puts a file under the path, in place of an earlier one. The call isn't counted. Returns `Memory` if an
+    /// allocation fails; every path then holds what it held before.
     pub fn insert(&mut self, alloc: Global, path: &str, octets: Octets) -> Result<(), Memory>
         ensures ok { OnOk result ((files_of self.new).held path.now ≡ Some octets) }
         ensures err { OnErr result ((files_of self.new).held ≡ (files_of self.old).held) }
@@ -48,14 +51,14 @@ impl MemoryFiles {
         put(&mut self.files, alloc, path, octets)
     }
 
-    /// The octets of the file under the path, where there is one.
+    /// The octets of the file under the path, if there is one.
     pub fn get(&self, path: &str) -> Option<&[u8]>
         ensures { option_map (λ octets. octets.now) result ≡ (files_of self.now).held path.now }
     {
         octets_in(&self.files, path)
     }
 
-    /// Lets the read or write of this number fail, counted from 0 since the files were made.
+    /// Makes the read or write of this number fail. Calls are counted from 0 since the store was made.
     pub fn fail_at(&mut self, call: u64)
         ensures failing { failing_call self.new ≡ Some call }
         ensures shown { files_of self.new ≡ files_of self.old }
@@ -64,7 +67,7 @@ impl MemoryFiles {
         self.fail_at = Some(call);
     }
 
-    // Counts a call, and says whether it has to fail.
+    /// Counts a call, and returns whether it has to fail.
     fn fails(&mut self) -> bool
         ensures fails { IsTrue result ↔ (failing_call self.old ≡ Some (calls_of self.old)) }
         ensures failing { failing_call self.new ≡ failing_call self.old }
@@ -88,8 +91,8 @@ impl Files for MemoryFiles {
 
     ghost shows = { files_of };
 
-    /// Reads the file. `Failed` comes exactly at the chosen call and where there is no file, and is
-    /// counted once.
+    /// Reads the file. `Failed` is returned exactly at the chosen call and if there is no file, and is counted
+    /// once.
     fn read(&mut self, alloc: Global, path: &str, into: &mut Vec<u8>) -> Result<(), FileFault>
         requires { into.old.items ≡ [] }
 
@@ -127,8 +130,8 @@ impl Files for MemoryFiles {
         }
     }
 
-    /// Replaces the file, or makes it. `Failed` comes exactly at the chosen call, is counted once,
-    /// and leaves every path as it was.
+    /// Replaces the file, or creates it. `Failed` is returned exactly at the chosen call; it is counted once, and
+    /// every path then holds what it held before.
     fn write(&mut self, alloc: Global, path: &str, octets: &[u8]) -> Result<(), FileFault>
         ensures written { OnOk result ((files_of self.new).held path.now ≡ Some octets.now) }
         ensures not_written { OnErr result ((files_of self.new).held ≡ (files_of self.old).held) }
@@ -155,7 +158,7 @@ impl Files for MemoryFiles {
     }
 }
 
-// The octets under the path, where there is a file.
+/// The octets under the path, if there is a file.
 fn octets_in<'a>(files: &'a Option<BTreeMap<String, Octets>>, path: &str) -> Option<&'a [u8]>
     ensures { option_map (λ octets. octets.now) result ≡ file_octets files.now path.now }
 {
@@ -165,7 +168,7 @@ fn octets_in<'a>(files: &'a Option<BTreeMap<String, Octets>>, path: &str) -> Opt
     }
 }
 
-// The map, which is made here where there was none.
+/// The map, which is made here if it doesn't exist yet.
 fn taken_map(
     files: &mut Option<BTreeMap<String, Octets>>,
     alloc: Global,
@@ -178,7 +181,7 @@ fn taken_map(
     }
 }
 
-// Puts the octets under the path. Other paths keep theirs, and after `Memory` this one too.
+/// Puts the octets under the path. The other paths keep their octets; after `Memory` this path does, too.
 fn put(
     files: &mut Option<BTreeMap<String, Octets>>,
     alloc: Global,

@@ -1,4 +1,4 @@
-// A link over octets in memory.
+//! A link over octets in memory.
 ghost use Rattle.std.specs.Prelude.{◌≡◌, ◌≢◌, ◌+◌, ◌<◌, ◌≤◌, [], IsTrue, Some, drop, length, IfOk};
 ghost use Rattle.std.specs.Prelude.{is_some, option_map};
 ghost use Rattle.std.specs.Option.{ForSome};
@@ -10,18 +10,25 @@ ghost use Rattle.s7_outer.specs.Link.{octets_got, octets_sent, GotWithin, SentWi
 use s7_outer::{Buffer, Clock, Got, Link, Memory, Octets, Sent, Tick, raise};
 use std::alloc::Global;
 
-/// Gives its input and keeps what is written, at most so many octets a call. Its clock stands at
-/// one moment.
+/// Gives its input and keeps what is transmitted. A call moves at most a given number of octets. Its clock always
+/// gives the same time.
 #[derive(Drop)]
 pub struct MemoryLink {
+    /// The octets to receive, the received ones included.
     input: Octets,
+    /// How many octets of the input were received.
     at: usize,
+    /// The greatest number of octets that a call moves.
     most: usize,
+    /// The octets transmitted so far.
     output: Buffer,
+    /// The time that the clock always gives.
     moment: u64,
     faults: u64,
     looks: u64,
+    /// How far the link had come when it was shut first, if it was.
     shut: Option<Mark>,
+    /// Whether `End` was returned.
     ended: bool,
     ghost in_range: { at ≤ length input },
     ghost some: { 0 < most },
@@ -30,20 +37,21 @@ pub struct MemoryLink {
     ghost marked: { ForSome shut (λ mark. mark.written ≤ length output.octets) },
 }
 
-// How many octets had been taken and written.
+/// How many octets had been received and transmitted at some time.
 #[derive(Clone, Copy)]
 struct Mark {
+    /// The number of octets received.
     at: usize,
+    /// The number of octets transmitted.
     written: usize,
 }
 
 impl MemoryLink {
     ghost use Rattle.s7_memory.specs.MemoryLink.{shown_of, unused, most_of, room_of};
 
-    /// A link that gives this input, takes and gives at most `most` octets a call, has room for
-    /// `room` octets of output, which is taken here, and a clock that stands at `moment`, in
-    /// milliseconds since 1970. A transmit without room left is `Failed`. `Memory` comes where
-    /// there is none for the output.
+    /// A link that gives `input`, moves at most `most` octets a call, has room for `room` octets of output, which
+    /// is allocated here, and a clock that always gives `moment`, in milliseconds since 1970. A transmit without
+    /// room left is `Failed`. Returns `Memory` if the allocation for the output fails.
     pub fn new(
         alloc: Global,
         input: Octets,
@@ -69,7 +77,7 @@ impl MemoryLink {
         })
     }
 
-    /// What was written.
+    /// The octets transmitted so far.
     pub fn written(&self) -> &[u8]
         ensures { (shown_of self.now).written ≡ Some result.now }
     {
@@ -89,8 +97,8 @@ impl Link for MemoryLink {
 
     ghost shows = { shown_of };
 
-    /// Takes the next octets: as many as there is room for, as one call moves, and as are left.
-    /// `End` comes exactly where none is left. No count changes.
+    /// Receives the next octets: as many as `into` has room for, as one call may move, and as are left. `End` is
+    /// returned exactly if none is left. No count changes.
     fn receive(&mut self, into: &mut [u8]) -> Got
         requires { 0 < length into.old }
 
@@ -120,8 +128,8 @@ impl Link for MemoryLink {
         Got::Bytes(count)
     }
 
-    /// Keeps the first octets: as many as the piece has, as one call moves, and as there is room
-    /// for. `Failed` comes exactly where no room is left, and is counted once.
+    /// Keeps the first octets of the piece: as many as it has, as one call may move, and as there is room for.
+    /// `Failed` is returned exactly if no room is left, and is counted once.
     fn transmit(&mut self, piece: &[u8]) -> Sent
         requires { 0 < length piece.now }
 
@@ -151,7 +159,7 @@ impl Link for MemoryLink {
         Sent::Bytes(count)
     }
 
-    /// Notes that the stream is shut. What is left may still be taken, and room be used.
+    /// Notes that the stream is shut. Octets can still be received, and transmitted while there is room.
     fn shutdown(&mut self)
         ensures shut { shown_of self.new ≡ shut_down (shown_of self.old) }
         ensures most { most_of self.new ≡ most_of self.old }
@@ -169,7 +177,7 @@ impl Link for MemoryLink {
 impl Clock for MemoryLink {
     ghost use Rattle.s7_memory.specs.MemoryLink.{shown_of, most_of, room_of};
 
-    /// The moment. The look is counted.
+    /// The time that the clock always gives. The look is counted.
     fn now(&mut self) -> Tick
         ensures at { option_map Tick.At (shown_of self.old).moment ≡ Some result }
         ensures looked { RoseExactly 1 (shown_of self.old).looks (shown_of self.new).looks }

@@ -1,4 +1,4 @@
-// An output in memory.
+//! An output in memory.
 ghost use Rattle.std.specs.Prelude.{◌≡◌, ◌+◌, ◌-◌, ◌≤◌, ◌↔◌, ◌++◌, length, take, IsOk, OnOk, OnErr, IfOk};
 ghost use Rattle.std.specs.Io.KnownBytes.{append_known};
 ghost use Rattle.s7_outer.specs.Count.{Rose, raised};
@@ -7,7 +7,7 @@ ghost use Rattle.s7_outer.specs.Out.{AppendsPrefix};
 use s7_outer::{Buffer, Memory, Out, OutFailed, raise};
 use std::alloc::Global;
 
-/// An output in memory, which fails where its room is used up.
+/// An output in memory, which fails once its room is used up.
 #[derive(Drop)]
 pub struct MemoryOut {
     output: Buffer,
@@ -17,8 +17,7 @@ pub struct MemoryOut {
 impl MemoryOut {
     ghost use Rattle.s7_memory.specs.MemoryOut.{output_of, empty_output, text_of, room_of};
 
-    /// An empty output with room for so many octets, taken here. `Memory` comes where there is
-    /// none for it.
+    /// An empty output with room for `room` octets, allocated here. Returns `Memory` if the allocation fails.
     pub fn new(alloc: Global, room: usize) -> Result<MemoryOut, Memory>
         ensures shown { IfOk result (λ out. output_of out ≡ empty_output) }
         ensures room { IfOk result (λ out. room_of out ≡ room) }
@@ -42,8 +41,8 @@ impl Out for MemoryOut {
 
     ghost shows = { output_of };
 
-    /// Appends text, as much of it as there is room for. `OutFailed` comes exactly where that is
-    /// not the whole text, and is counted once.
+    /// Appends as much of the text as there is room for. `OutFailed` is returned exactly if that isn't the whole
+    /// text, and is counted once.
     fn put(&mut self, piece: &[u8]) -> Result<(), OutFailed>
         ensures ok { OnOk result ((output_of self.new).text ≡ append_known (output_of self.old).text piece.now) }
         ensures err { OnErr result (AppendsPrefix (output_of self.old).text (output_of self.new).text piece.now) }

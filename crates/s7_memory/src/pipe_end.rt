@@ -1,4 +1,4 @@
-// An end of two pipes.
+//! An end of two pipes.
 ghost use Rattle.std.specs.Prelude.{◌≡◌, ◌≢◌, ◌<◌, length};
 ghost use Rattle.s7_outer.specs.Calls.{IsReceive, IsTransmit};
 ghost use Rattle.s7_outer.specs.Count.{raised};
@@ -7,15 +7,14 @@ ghost use Rattle.s7_outer.specs.Link.{GotCount, SentCount};
 use crate::{Pipes, Side};
 use s7_outer::{Clock, Got, Link, Sent, Tick};
 
-/// One side of the pipes, as a link that is made in place. What it gives is what waits for its
-/// side, and what it has written is what waits for the other: the other end changes both between
-/// two calls. It moves as many octets as are asked for and fit, and never fails or ends. Its clock
-/// is that of the pipes.
+/// One side of the pipes, as a link. It receives what waits for its side, and what it transmits waits for the other
+/// side; the other end changes both between two calls. A call moves as many octets as are asked for and fit. The
+/// link never fails and never ends. Its clock is the clock of the pipes.
 #[derive(Drop)]
 pub struct PipeEnd<'a> {
-    /// The pipes.
+    /// The pipes of which this is an end.
     pub pipes: &'a mut Pipes,
-    /// The side.
+    /// The side that this end serves.
     pub side: Side,
 }
 
@@ -24,8 +23,8 @@ impl Link for PipeEnd<'_> {
 
     ghost shows = { λ e. end_of e.pipes.ghost_name e.pipes.now e.side };
 
-    /// Takes the octets that wait for the side, as many as there is room for. `NotYet` comes exactly
-    /// where none wait.
+    /// Receives the octets that wait for this side, as many as `into` has room for. `NotYet` is returned exactly if
+    /// none waits.
     fn receive(&mut self, into: &mut [u8]) -> Got
         requires { 0 < length into.old }
 
@@ -43,8 +42,8 @@ impl Link for PipeEnd<'_> {
         Got::Bytes(count)
     }
 
-    /// Lets the first octets wait for the other side, as many as there is space for. `NotYet` comes
-    /// exactly where there is none.
+    /// Puts the first octets of the piece into the pipe to the other side, as many as there is space for. `NotYet`
+    /// is returned exactly if there is no space.
     fn transmit(&mut self, piece: &[u8]) -> Sent
         requires { 0 < length piece.now }
 
@@ -62,7 +61,7 @@ impl Link for PipeEnd<'_> {
         Sent::Bytes(count)
     }
 
-    /// Does nothing: pipes have no end.
+    /// Does nothing, since pipes have no end of stream.
     fn shutdown(&mut self)
         ensures shut { end_of self.new.pipes.ghost_name self.new.pipes.now self.new.side
             ≡ end_of self.old.pipes.ghost_name self.old.pipes.now self.old.side }

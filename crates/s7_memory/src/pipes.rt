@@ -1,4 +1,4 @@
-// Two pipes between a client and a server.
+//! Two pipes between a client and a server.
 ghost use Rattle.std.specs.Prelude.{◌≡◌, ◌+◌, ◌-◌, ◌≤◌, ◌++◌, min, length, take, drop, IfOk};
 ghost use Rattle.s7_outer.specs.Count.{Rose, raised};
 ghost use Rattle.s7_memory.specs.Pipes.{across, waiting_for, with_waiting, space_of, empty_pipes};
@@ -17,9 +17,9 @@ pub enum Side {
     Server,
 }
 
-/// A pipe in either direction, each with the same room for octets, which is used in a ring, and a
-/// clock that stands at one moment. Contracts see the octets that wait for each side, the room,
-/// the counts of waits and of looks at the clock, and the moment.
+/// A pipe in each direction, both with the same room for octets, and a clock that always gives the same time. Each
+/// pipe is a ring buffer. Contracts see the octets that wait for each side, the room, the counts of waits and of
+/// looks at the clock, and the time.
 #[derive(Drop)]
 pub struct Pipes {
     to_client: HeapCircularBuffer<u8>,
@@ -48,8 +48,8 @@ impl Model for Pipes {
 }
 
 impl Pipes {
-    /// Empty pipes with room for so many octets each, taken here, whose clock stands at `moment`,
-    /// in milliseconds since 1970. `Memory` comes where there is none for them.
+    /// Empty pipes with room for `room` octets each, allocated here. Their clock always gives `moment`, in
+    /// milliseconds since 1970. Returns `Memory` if the allocation fails.
     pub fn new(alloc: Global, room: usize, moment: u64) -> Result<Pipes, Memory>
         ensures { IfOk result (λ pipes. pipes ≡ empty_pipes room moment) }
     {
@@ -73,7 +73,7 @@ impl Pipes {
         }
     }
 
-    // The moment of the clock. The look is counted.
+    /// The time that the clock always gives. The look is counted.
     pub(crate) fn look(&mut self) -> u64
         ensures moment { result ≡ self.old.moment }
         ensures rose { Rose self.old.looks self.new.looks }
@@ -84,7 +84,7 @@ impl Pipes {
         self.moment
     }
 
-    // Moves the first octets that wait for the side, as many as there is room for.
+    /// Takes the first octets that wait for the side out of its pipe, as many as `into` has room for.
     pub(crate) fn take_out(&mut self, side: Side, into: &mut [u8]) -> usize
         ensures count { result ≡ min (length into.old) (length (waiting_for self.old side)) }
         ensures octets { into.new ≡ take result (waiting_for self.old side) ++ drop result into.old }
@@ -96,7 +96,7 @@ impl Pipes {
         }
     }
 
-    // Lets the first octets of the piece wait for the other side, as many as fit.
+    /// Puts the first octets of the piece into the pipe to the other side, as many as fit.
     pub(crate) fn put_in(&mut self, side: Side, piece: &[u8]) -> usize
         ensures count { result ≡ min (length piece.now) (space_of self.old side) }
         ensures octets { self.new
@@ -108,7 +108,7 @@ impl Pipes {
         }
     }
 
-    // Counts that an end had nothing to take, or no room.
+    /// Counts a call that found nothing to receive, or no room.
     pub(crate) fn wait(&mut self)
         ensures raised { self.new.waits ≡ raised self.old.waits }
         ensures rose { Rose self.old.waits self.new.waits }

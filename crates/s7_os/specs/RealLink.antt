@@ -3,7 +3,7 @@ use Rattle.std.specs.Prelude.{Bool, true, false, Option, None, Some}
 use Rattle.s7_outer.specs.Shown.{Moved, Shown}
 use Rattle.s7_os.specs.declared.real_link.RealLink.{RealLink}
 
--- where it is shut nothing is told of how far it had come
+-- how far the link had come when it was shut isn't visible
 abbrev pub shut_as : Bool → Option Moved
 shut_as false = None
 shut_as true = Some (record { left = None; written = None })
@@ -24,7 +24,7 @@ real_of s = record {
   lent = None;
 }
 
--- a link that has not been used
+-- a link that wasn't used yet
 abbrev pub unused_real : Shown
 unused_real = record {
   left = None;

@@ -6,6 +6,6 @@ use Rattle.s7_os.specs.declared.std_out.StdOut.{StdOut}
 abbrev pub stream_of : {P : Type 0} → StdOut P → OutShown
 stream_of s = record { text = None; faults = s.faults }
 
--- an output that has not been used
+-- an output that wasn't used yet
 abbrev pub unused_stream : OutShown
 unused_stream = record { text = None; faults = 0 }

@@ -6,10 +6,10 @@ use Rattle.s7_os.specs.declared.tcp_dial.TcpDial.{TcpDial}
 abbrev pub tcp_dial_of : {R L : Type 0} → TcpDial R → DialShown L
 tcp_dial_of d = record { next = λ _ _. None; faults = λ _ _. d.faults; calls = d.calls }
 
--- how often a call has failed
+-- the number of failed calls
 abbrev pub fault_count : {R : Type 0} → TcpDial R → ℕ
 fault_count d = d.faults
 
--- how often it was called
+-- the number of calls
 abbrev pub call_count : {R : Type 0} → TcpDial R → ℕ
 call_count d = d.calls

@@ -1,4 +1,4 @@
-// A link over the machine: its standard streams, or one TCP stream.
+//! A link over the machine: its standard streams, or one TCP stream.
 ghost use Rattle.std.specs.Prelude.{◌≡◌, IfOk};
 
 use s7_outer::{Clock, Got, Link, Memory, Sent, Tick, raise};
@@ -9,13 +9,16 @@ use std::net::{Shutdown, TcpStream};
 use std::rt::Clock as SystemClock;
 use std::time::SystemTime;
 
-/// The standard input and output, or one TCP stream, with the machine's clock. It tells no octets
-/// and no moment.
+/// The standard input and output, or one TCP stream, with the machine's clock. Contracts see neither its octets nor
+/// its time, only its counts.
 #[derive(Drop)]
 pub struct RealLink<R: Input> {
     rt: R,
+    /// The streams of the link.
     ends: Ends<R>,
+    /// Whether the stream has ended.
     ended: bool,
+    /// Whether this side shut the stream.
     shut: bool,
     faults: u64,
     waits: u64,
@@ -23,17 +26,19 @@ pub struct RealLink<R: Input> {
     looks: u64,
 }
 
-// The reader is boxed, since it has 8 KiB of its own, which a stream needs none of.
+/// The streams of a link. The reader is boxed because it has a buffer of 8 KiB, which a TCP stream doesn't need.
 #[derive(Drop)]
 enum Ends<R: Input> {
+    /// The standard input, through its reader, and the standard output.
     Standard(Box<R::Reader>),
+    /// One TCP stream.
     Stream(TcpStream),
 }
 
 impl<R: Input + Print + SystemClock + Drop> RealLink<R> {
     ghost use Rattle.s7_os.specs.RealLink.{real_of, unused_real};
 
-    /// The standard input and output. `Memory` comes where there is none for the reader.
+    /// A link over the standard input and output. Returns `Memory` if the allocation of the reader fails.
     pub fn standard(alloc: Global, rt: R) -> Result<RealLink<R>, Memory>
         ensures { IfOk result (λ link. real_of link ≡ unused_real) }
     {
@@ -43,8 +48,8 @@ impl<R: Input + Print + SystemClock + Drop> RealLink<R> {
         }
     }
 
-    /// One TCP stream, whose small packets are sent at once. The error is that of the stream,
-    /// where it refuses that setting.
+    /// A link over one TCP stream, set to send small packets at once. Returns the stream's error if it refuses this
+    /// setting.
     pub fn stream(rt: R, stream: TcpStream) -> io::Result<RealLink<R>>
         ensures { IfOk result (λ link. real_of link ≡ unused_real) }
     {
@@ -52,13 +57,14 @@ impl<R: Input + Print + SystemClock + Drop> RealLink<R> {
         Ok(RealLink::of_stream(rt, stream))
     }
 
-    // One TCP stream that sends small packets at once already.
+    /// A link over a TCP stream that sends small packets at once already.
     pub(crate) fn of_stream(rt: R, stream: TcpStream) -> RealLink<R>
         ensures { real_of result ≡ unused_real }
     {
         RealLink::over(rt, Ends::Stream(stream))
     }
 
+    /// A link over these streams, with all counts 0.
     fn over(rt: R, ends: Ends<R>) -> RealLink<R>
         ensures { real_of result ≡ unused_real }
     {
@@ -75,8 +81,8 @@ impl<R: Input + Print + SystemClock + Drop> RealLink<R> {
     }
 }
 
-// The call may be tried again. A read that waited its time out comes as `WouldBlock` on Linux;
-// `TimedOut` is the end of a connection whose peer no longer answers.
+/// Whether the call may be tried again. On Linux a read whose timeout expired gives `WouldBlock`; `TimedOut` is the
+/// end of a connection whose peer no longer answers.
 fn is_wait(error: &io::Error) -> bool {
     matches!(error.kind(), ErrorKind::WouldBlock | ErrorKind::Interrupted)
 }
@@ -135,7 +141,8 @@ impl<R: Input + Print + SystemClock + Drop> Link for RealLink<R> {
         }
     }
 
-    // Standard streams end with the program. An error tells that the connection is gone.
+    /// Shuts the TCP stream for sending. Standard streams end with the program. An error is ignored, since it means
+    /// that the connection is gone.
     fn shutdown(&mut self) {
         if let Ends::Stream(stream) = &self.ends {
             let _ = stream.shutdown(Shutdown::Write);
@@ -159,7 +166,7 @@ impl<R: Input + Print + SystemClock + Drop> Clock for RealLink<R> {
     }
 }
 
-// The time of day, in milliseconds since 1970. A moment before 1970 is none.
+/// The time of day in milliseconds since 1970; `None` if the clock is before 1970.
 fn milliseconds(clock: &impl SystemClock) -> Option<u64> {
     let now = SystemTime::now(clock).ok()?;
     let since = now.duration_since(SystemTime::UNIX_EPOCH).ok()?;

@@ -1,4 +1,4 @@
-// The machine's files.
+//! The machine's files.
 ghost use Rattle.std.specs.Prelude.{◌≡◌, ◌+◌, ◌≤◌, [], IsErrOf, OnOk, vec_len};
 ghost use Rattle.s7_outer.specs.Files.{file_limit};
 
@@ -8,7 +8,7 @@ use std::fs;
 use std::io::{ErrorKind, Read};
 use std::rt::Files as SystemFiles;
 
-/// The machine's files. They tell no octets.
+/// The machine's files. Contracts see their fault count, but not their octets.
 #[derive(Drop)]
 pub struct StdFiles<R> {
     rt: R,
@@ -18,7 +18,7 @@ pub struct StdFiles<R> {
 impl<R: SystemFiles + Drop> StdFiles<R> {
     ghost use Rattle.s7_os.specs.StdFiles.{machine_files_of, unused_files};
 
-    /// The files that this runtime reaches.
+    /// The files that this runtime can reach.
     pub fn new(rt: R) -> StdFiles<R>
         ensures { machine_files_of result ≡ unused_files }
     {
@@ -54,7 +54,7 @@ impl<R: SystemFiles + Drop> Files for StdFiles<R> {
     }
 }
 
-// Reads to the end, or to the first octet past the limit.
+/// Reads to the end of the file, or to the first octet beyond the limit of 67,108,864.
 fn read_whole<R: Read>(file: &mut R, into: &mut Vec<u8>) -> Result<(), FileFault>
     requires { into.old.items ≡ [] }
     ensures ok { OnOk result (vec_len into.new ≤ file_limit) }

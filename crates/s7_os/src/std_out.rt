@@ -1,10 +1,10 @@
-// The standard output and the standard error.
+//! The standard output and the standard error.
 ghost use Rattle.std.specs.Prelude.{◌≡◌};
 
 use s7_outer::{Out, OutFailed, raise};
 
-/// The standard output or the standard error: what the runtime's `stdout` or `stderr` gives. It
-/// tells no text.
+/// The standard output or the standard error: what the runtime's `stdout` or `stderr` gives. Contracts see its
+/// fault count, but not its text.
 #[derive(Drop)]
 pub struct StdOut<P> {
     to: P,

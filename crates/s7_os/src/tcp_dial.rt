@@ -1,4 +1,4 @@
-// A dial over TCP.
+//! A dial over TCP.
 ghost use Rattle.std.specs.Prelude.{◌≡◌};
 
 use crate::RealLink;
@@ -9,11 +9,12 @@ use std::net::{Net, TcpStream};
 use std::rt::Clock as SystemClock;
 use std::time::Duration;
 
-// A call on a dialled stream waits no longer.
+/// The longest wait of a call on a dialled stream, in milliseconds.
 const WAIT_MILLISECONDS: u64 = 100;
 
-/// Calls any host over TCP. It tells no links. A receive on a link that it gives answers `NotYet`
-/// after 100 milliseconds without an octet, a transmit after as many without room for one.
+/// Connects to any host over TCP. Contracts don't see its links in advance. On a link that it gives a receive
+/// returns `NotYet` after 100 milliseconds without an octet, and a transmit after 100 milliseconds without room for
+/// one.
 #[derive(Drop)]
 pub struct TcpDial<R> {
     rt: R,
@@ -57,6 +58,7 @@ where
     }
 }
 
+/// Connects to the port and sets both timeouts of the stream.
 fn connect<R>(rt: &R, host: &str, port: u16) -> io::Result<RealLink<R>>
 where
     R: Net<Stream = TcpStream> + Input + Print + SystemClock + Clone + Drop,

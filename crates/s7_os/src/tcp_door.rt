@@ -1,4 +1,4 @@
-// A door over TCP.
+//! A door over TCP.
 ghost use Rattle.std.specs.Prelude.{◌≡◌, ◌≢◌, ◌≤◌};
 ghost use Rattle.s7_outer.specs.Count.{raised};
 
@@ -9,18 +9,20 @@ use std::io::{ErrorKind, Input};
 use std::net::{Ipv4Addr, Net, TcpListener, TcpStream};
 use std::rt::Clock as SystemClock;
 
-// Errors of `accept(2)` on Linux that belong to the new connection, which its peer gave up or the
-// network lost before it was taken: ENONET, EPROTO, ENOPROTOOPT, EOPNOTSUPP, ENETDOWN,
-// ENETUNREACH, ECONNABORTED, ECONNRESET, EHOSTDOWN, EHOSTUNREACH.
+/// Errors of `accept(2)` on Linux that belong to the new connection alone: its peer gave it up, or the network lost
+/// it, before it was accepted. They are ENONET, EPROTO, ENOPROTOOPT, EOPNOTSUPP, ENETDOWN, ENETUNREACH,
+/// ECONNABORTED, ECONNRESET, EHOSTDOWN and EHOSTUNREACH.
 const ERRORS_OF_ONE: [i32; 10] = [64, 71, 92, 95, 100, 101, 103, 104, 112, 113];
 
-/// Hears a port of 127.0.0.1 over TCP. It tells no links and never ends. A connection that fails
-/// before it is taken, or that refuses to send small packets at once, is passed over; want of
-/// descriptors or memory is a failure of the door.
+/// Listens on a port of 127.0.0.1 over TCP. Contracts don't see its links in advance, and it never ends. A connection
+/// is ignored if it fails before it is accepted, or if its stream can't be set to send small packets at once. The
+/// door fails if it is out of descriptors or memory.
 #[derive(Drop)]
 pub struct TcpDoor<R> {
     rt: R,
+    /// The listener of the port, if the door listens on one.
     listener: Option<TcpListener>,
+    /// The port of the last `listen`; 0 before the first.
     port: u16,
     listens: u64,
     faults: u64,
@@ -29,7 +31,7 @@ pub struct TcpDoor<R> {
 impl<R: Net<Listener = TcpListener, Stream = TcpStream> + Drop> TcpDoor<R> {
     ghost use Rattle.s7_os.specs.TcpDoor.{port_of, listen_count, fault_count};
 
-    /// A door over this runtime, which hears no port yet.
+    /// A door over this runtime, which listens on no port yet.
     pub fn new(rt: R) -> TcpDoor<R>
         ensures port { port_of result ≡ 0 }
         ensures listens { listen_count result ≡ 0 }
@@ -69,7 +71,7 @@ where
         }
     }
 
-    /// The next link. It never answers `End`.
+    /// Waits for the next connection. Never returns `End`.
     fn next(&mut self) -> Arrival<RealLink<R>>
         ensures never_ends { result ≢ Arrival.End }
         ensures heard { port_of self.new ≡ port_of self.old }
@@ -88,7 +90,7 @@ where
     }
 }
 
-// The next stream, as a link.
+/// Accepts the next stream, as a link; `None` if that fails.
 fn accept<R>(listener: &Option<TcpListener>, rt: &R) -> Option<RealLink<R>>
 where
     R: Input + Print + SystemClock + Clone + Drop,
@@ -98,7 +100,7 @@ where
     Some(RealLink::of_stream(rt, stream))
 }
 
-// The next stream that sends small packets at once.
+/// Accepts the next stream that can be set to send small packets at once.
 fn accepted(listener: &TcpListener) -> io::Result<TcpStream> {
     for _ in 0..u64::MAX {
         match listener.accept() {
@@ -114,7 +116,7 @@ fn accepted(listener: &TcpListener) -> io::Result<TcpStream> {
     Err(io::Error::from(ErrorKind::ConnectionAborted))
 }
 
-// The error is that of one connection, and not of the door.
+/// Whether the error belongs to one connection, and not to the door.
 fn is_of_one(error: &io::Error) -> bool {
     match error.raw_os_error() {
         Some(code) => ERRORS_OF_ONE.contains(&code),

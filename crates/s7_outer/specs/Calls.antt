@@ -12,7 +12,7 @@ use Rattle.s7_outer.specs.declared.link.Sent.TheVariants as sent
 use Rattle.s7_outer.specs.declared.link.Tick.{Tick}
 use Rattle.s7_outer.specs.declared.link.Tick.TheVariants as tick
 
--- a receive into octets that were `before`
+-- a receive into octets that were `before`, and are `after` now
 pub record IsReceive (old new : Shown) (before after : List ℕ) (result : Got) : Type 0 where
   pub within : GotWithin result (length before)
   pub took : old.left ≡ prepend_known (octets_got result after) new.left
@@ -59,12 +59,13 @@ pub record IsTransmit (old new : Shown) (piece : List ℕ) (result : Sent) : Typ
   pub shut : new.shut ≡ old.shut
   pub lent : new.lent ≡ old.lent
 
--- how far a link had come when its stream was shut from this side first, if it is shut now
+-- how far the link had come when this side shut its stream for the first time: at that earlier shutdown, or else
+-- now
 abbrev pub shut_behind : Shown → Option Moved → Moved
 shut_behind now None = record { left = now.left; written = now.written }
 shut_behind now (Some before) = before
 
--- what the link shows once its stream is shut from this side
+-- what the link shows once this side has shut its stream
 abbrev pub shut_down : Shown → Shown
 shut_down old = record old { shut = option_map (λ before. Some (shut_behind old before)) old.shut }
 

@@ -3,7 +3,7 @@ use Rattle.std.specs.Prelude.{◌≡◌, ℕ, ◌+◌, ◌≤◌, List, Option, 
 use Rattle.s7_outer.specs.declared.dial.Dialled.{Dialled}
 use Rattle.s7_outer.specs.declared.dial.Dialled.TheVariants as dialled
 
--- a link that comes is the one that was told
+-- if the dial shows its next link, the call gives that link or fails
 abbrev pub GivesTold : {L : Type 0} → Option L → Dialled L → Type 0
 GivesTold None answer = Unit {0}
 GivesTold (Some told) (dialled.Link link) = link ≡ told

@@ -3,13 +3,13 @@ use Rattle.std.specs.Prelude.{ℕ, List, Option}
 use Rattle.s7_outer.specs.Shown.{Lent}
 
 pub record DoorShown (L : Type 0) : Type 0 where
-  -- the links still to come, where the door tells them
+  -- the links still to come, if the door makes them visible
   pub coming : Option (List L)
-  -- the port of the last `listen`, and 0 before the first
+  -- the port of the last `listen`; 0 before the first
   pub heard : ℕ
-  -- how often it was told to hear a port
+  -- the number of calls of `listen`
   pub listens : ℕ
-  -- how often a call for a port has failed
+  -- the number of failed calls for a port
   pub faults : ℕ → ℕ
-  -- what the door works on that was lent to it, where there is such a thing; no call changes it
+  -- what was lent to the door for its work, if anything; no call changes it
   pub lent : Option Lent

@@ -1,15 +1,15 @@
 -- What the calls on files do.
 use Rattle.std.specs.Prelude.{◌≡◌, ◌≢◌, ℕ, ◌+◌, ◌<◌, ◌≤◌, List, Option, length, take, IsSomeAnd}
 
--- the longest file that is read whole, in octets
+-- the length of the longest file that is read whole, in octets
 abbrev pub file_limit : ℕ
 file_limit = 67108864
 
--- the file is longer than the limit, and these are its first octets, one more than the limit
+-- the file is longer than the limit, and these are its first `file_limit + 1` octets
 abbrev pub IsCutFrom : Option (List ℕ) → List ℕ → Type 0
 IsCutFrom held octets = IsSomeAnd held (λ whole. (file_limit < length whole) × (octets ≡ take (file_limit + 1) whole))
 
--- every other path has what it had
+-- every path but this one holds what it held before
 abbrev pub KeepsOtherPaths : List ℕ → (List ℕ → Option (List ℕ)) → (List ℕ → Option (List ℕ)) → Type 0
 KeepsOtherPaths path old new = (other : List ℕ) → other ≢ path → new other ≡ old other
 

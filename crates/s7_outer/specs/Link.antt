@@ -32,20 +32,20 @@ SentWithin (sent.Bytes n) room = (0 < n) × (n ≤ room)
 SentWithin sent.NotYet room = Unit {0}
 SentWithin sent.Failed room = Unit {0}
 
--- so many octets came, and where there are none the answer is `none`
+-- exactly n octets came, or the answer is `none` if n is 0
 abbrev pub GotCount : Got → ℕ → Got → Type 0
 GotCount none n (got.Bytes k) = k ≡ n
 GotCount none n got.End = (none ≡ got.End) × (n ≡ 0)
 GotCount none n got.NotYet = (none ≡ got.NotYet) × (n ≡ 0)
 GotCount none n got.Failed = (none ≡ got.Failed) × (n ≡ 0)
 
--- so many octets went, and where there are none the answer is `none`
+-- exactly n octets went, or the answer is `none` if n is 0
 abbrev pub SentCount : Sent → ℕ → Sent → Type 0
 SentCount none n (sent.Bytes k) = k ≡ n
 SentCount none n sent.NotYet = (none ≡ sent.NotYet) × (n ≡ 0)
 SentCount none n sent.Failed = (none ≡ sent.Failed) × (n ≡ 0)
 
--- where the moment is told, the clock gives it or fails
+-- if the link shows its time, the clock gives it or fails
 abbrev pub TellsMoment : Option ℕ → Tick → Type 0
 TellsMoment None tick = Unit {0}
 TellsMoment (Some m) (tick.At t) = t ≡ m

@@ -2,7 +2,7 @@
 use Rattle.std.specs.Prelude.{ℕ, List, Option}
 
 pub record OutShown : Type 0 where
-  -- the text so far, where the output tells it
+  -- the text so far, if the output makes it visible
   pub text : Option (List ℕ)
-  -- how often it has failed
+  -- the number of failed calls
   pub faults : ℕ

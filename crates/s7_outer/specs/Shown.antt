@@ -2,42 +2,43 @@
 use Rattle.std.specs.Prelude.{ℕ, List, Option, Bool}
 use Rattle.std.specs.Borrow.{GName}
 
--- what a link works on that was lent to it
+-- what was lent to a link for its work
 pub record Lent : Type 0 where
-  -- the loan, by the name that proofs have for it
+  -- the loan, by the name that proofs use for it
   pub loan : GName
-  -- which end of what was lent
+  -- the number of the end that the link is
   pub end : ℕ
-  -- how many octets there may be in each direction
+  -- the greatest number of octets in each direction
   pub room : ℕ
 
--- how far a link has come, as far as it tells that
+-- how far a link has come, as far as it makes that visible
 pub record Moved : Type 0 where
-  -- the octets that are left to receive
+  -- the octets left to receive
   pub left : Option (List ℕ)
-  -- the octets that were written
+  -- the octets transmitted so far
   pub written : Option (List ℕ)
 
 pub record Shown : Type 0 where
-  -- the octets that are left to receive, where the link tells them
+  -- the octets left to receive, if the link makes them visible
   pub left : Option (List ℕ)
-  -- the octets that were written, where the link tells them
+  -- the octets transmitted so far, if the link makes them visible
   pub written : Option (List ℕ)
-  -- `End` came, and no octet comes from then on
+  -- `End` was returned, and no octet comes from then on
   pub has_ended : Bool
-  -- how often the link has failed
+  -- the number of failed calls
   pub faults : ℕ
-  -- how often it had nothing to give, or no room, yet
+  -- the number of calls that found no octet yet, or no room yet
   pub waits : ℕ
-  -- the moment that its clock gives next, where it has a clock that tells it
+  -- the time that its clock gives next, if the link has a clock that makes it visible
   pub moment : Option ℕ
-  -- how often its clock has failed
+  -- the number of failed looks at its clock
   pub clock_faults : ℕ
-  -- how often its clock was asked
+  -- the number of looks at its clock
   pub looks : ℕ
-  -- how many octets it can still take, where it tells that
+  -- the number of octets that it can still take, if it makes that visible
   pub space : Option ℕ
-  -- where the link tells whether this side shut the stream: how far it had come then, if it did
+  -- `None` if the link doesn't show whether this side shut the stream; else how far it had come at that shutdown,
+  -- if there was one
   pub shut : Option (Option Moved)
-  -- what the link works on that was lent to it, where there is such a thing; no call changes it
+  -- what was lent to the link for its work, if anything; no call changes it
   pub lent : Option Lent

@@ -1,4 +1,4 @@
-// A buffer that never grows.
+//! A buffer of fixed size, which never allocates after it was made.
 ghost use Rattle.std.specs.Prelude.{◌≡◌, ℕ, ◌+◌, ◌<◌, ◌≤◌, List, [], ◌++◌, length, IfOk};
 ghost use Rattle.std.specs.Borrow.{Lends, Array, sem, u8 as octet};
 ghost use Rattle.std.specs.List.{refill};
@@ -8,7 +8,8 @@ use std::alloc::Global;
 use std::marker::Model;
 use std::mem;
 
-/// Octets with a room that they never pass. Contracts see the octets and the room.
+/// Octets in a buffer of fixed size. Contracts see the octets held and the room, which is the greatest number of
+/// octets that the buffer can hold.
 #[derive(Debug, Drop)]
 pub struct Buffer {
     octets: Vec<u8>,
@@ -30,8 +31,8 @@ impl Buffer {
     ghost use Rattle.s7_outer.specs.Held.{with_octets};
     ghost use Rattle.s7_outer.specs.contracts.buffer.Buffer.{the_row};
 
-    /// An empty buffer with room for so many octets, all of it taken here. `Memory` comes where
-    /// there is none for it.
+    /// An empty buffer with room for `room` octets, all of it allocated here. Returns `Memory` if the allocation
+    /// fails.
     pub fn new(alloc: Global, room: usize) -> Result<Buffer, Memory>
         ensures { IfOk result (λ b. (b.octets ≡ []) × (b.room ≡ room)) }
     {
@@ -49,8 +50,8 @@ impl Buffer {
         self.octets.as_slice()
     }
 
-    /// The octets held, to be written. The buffer has what was last written here, and its room
-    /// stays.
+    /// The octets held, writable in place. The buffer then holds what was written here; its length and its room
+    /// stay.
     pub fn as_mut_slice(&mut self) -> &mut [u8]
         ensures* writes_back { sem 𝓛 (Lends the_row (Array octet 0) self.entry result (with_octets self.old)) }
         ensures octets { result.now ≡ self.old.octets }
@@ -60,7 +61,7 @@ impl Buffer {
         self.octets.as_mut_slice()
     }
 
-    /// How many octets there may be.
+    /// The greatest number of octets that the buffer can hold.
     pub fn room(&self) -> usize
         ensures room { result ≡ self.now.room }
         ensures fits { length self.now.octets ≤ self.now.room }
@@ -68,7 +69,7 @@ impl Buffer {
         self.room
     }
 
-    /// Lets go of the octets held. The room stays.
+    /// Drops the octets held. The room stays.
     pub fn clear(&mut self)
         ensures octets { self.new.octets ≡ [] }
         ensures room { self.new.room ≡ self.old.room }
@@ -76,7 +77,7 @@ impl Buffer {
         self.octets.clear();
     }
 
-    /// Adds octets at the end. They fit the room with those held.
+    /// Appends octets. The caller ensures that they fit into the room that is left.
     pub fn add(&mut self, octets: &[u8])
         requires { length self.old.octets + length octets.now ≤ self.old.room }
         ensures octets { self.new.octets ≡ self.old.octets ++ octets.now }
@@ -88,7 +89,7 @@ impl Buffer {
         }
     }
 
-    /// Gives the octets held, and leaves the buffer empty and without room.
+    /// Takes the octets held out of the buffer, and leaves it empty and without room.
     pub fn take(&mut self) -> Octets
         ensures taken { result ≡ self.old.octets }
         ensures octets { self.new.octets ≡ [] }

@@ -1,4 +1,4 @@
-// Counts of faults and waits.
+//! Counts of faults and waits.
 ghost use Rattle.std.specs.Prelude.{◌≡◌, ◌+◌, ◌≤◌};
 ghost use Rattle.s7_outer.specs.Count.{Rose, raised};
 

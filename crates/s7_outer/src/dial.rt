@@ -1,10 +1,10 @@
-// A dial: it calls a host and gives a link.
+//! A dial: it connects to a host and gives a link.
 ghost use Rattle.std.specs.Prelude.{◌≡◌, ◌≢◌};
 ghost use Rattle.s7_outer.specs.Count.{Rose, RoseExactly};
 ghost use Rattle.s7_outer.specs.DialShown.{DialShown};
 ghost use Rattle.s7_outer.specs.Dial.{GivesTold, NoHostFell, NoHostRoseTwice};
 
-/// What a call gives.
+/// The outcome of a call to a host.
 #[derive(Drop)]
 pub enum Dialled<L> {
     /// A link to the host.
@@ -13,13 +13,14 @@ pub enum Dialled<L> {
     Failed,
 }
 
-/// Calls a host by its name or address. What it tells, and its counts, stand in `shows`.
+/// Connects to a host by its name or address. `shows` has its counts, and the links that calls will give if the
+/// dial makes them visible.
 pub trait Dial<L> {
-    /// What the dial shows to contracts. No count in it ever falls.
+    /// What the dial makes visible to contracts. No count in it ever falls.
     ghost shows: { Self → DialShown L };
 
-    /// A link to the host's port. Each call is one more of `calls`. `Failed` comes only where the
-    /// count of this host and port rose in this call, and takes no link.
+    /// Connects to the host's port and gives the link. Each call raises `calls` by one. `Failed` raises the fault
+    /// count of this host and port and takes no link; no other count of faults changes.
     fn call(&mut self, host: &str, port: u16) -> Dialled<L>
         ensures gives { GivesTold ((shows self.old).next host.now port) result }
         ensures failed { result ≡ Dialled.Failed

@@ -1,10 +1,10 @@
-// A door: links come in by it.
+//! A door: links arrive at it.
 ghost use Rattle.std.specs.Prelude.{◌≡◌, ◌≢◌, OnOk, OnErr};
 ghost use Rattle.s7_outer.specs.Count.{RoseExactly};
 ghost use Rattle.s7_outer.specs.DoorShown.{DoorShown};
 ghost use Rattle.s7_outer.specs.Door.{GivesNext, PortFailed};
 
-/// What a door gives.
+/// The outcome of a wait for the next link.
 #[derive(Drop)]
 pub enum Arrival<L> {
     /// The next link.
@@ -15,18 +15,19 @@ pub enum Arrival<L> {
     Failed,
 }
 
-/// The door can't be opened.
+/// The door can't listen on the port.
 #[derive(Clone, Copy, Debug, PartialEq, Eq)]
 pub struct DoorFailed;
 
-/// Where links come in. What it tells of them, and its counts, stand in `shows`. A door that works
-/// on something lent to it shows which loan that is, and no call changes this.
+/// Where links arrive. `shows` has its counts, and the links to come if the door makes them visible. A door that
+/// works on something lent to it shows which loan that is, and no call changes this.
 pub trait Door<L> {
-    /// What the door shows to contracts. No count in it ever falls.
+    /// What the door makes visible to contracts. No count in it ever falls.
     ghost shows: { Self → DoorShown L };
 
-    /// Hears this port from now on, also after `DoorFailed`, which comes only where the port's
-    /// count rose in this call. Each call is one more of `listens`. The links to come stay.
+    /// Listens on this port from now on, even if it returns `DoorFailed`. `DoorFailed` raises the port's fault
+    /// count; a call that succeeds changes no fault count. Each call raises `listens` by one. The links to come
+    /// stay.
     fn listen(&mut self, port: u16) -> Result<(), DoorFailed>
         ensures heard { (shows self.new).heard ≡ port }
         ensures coming { (shows self.new).coming ≡ (shows self.old).coming }
@@ -35,8 +36,8 @@ pub trait Door<L> {
         ensures failed { OnErr result (PortFailed port (shows self.old).faults (shows self.new).faults) }
         ensures failed_no_other { OnOk result ((shows self.new).faults ≡ (shows self.old).faults) };
 
-    /// The next link. `End` comes only where none is left, and `Failed`, which takes no link, only
-    /// where the count of the port that is heard rose in this call.
+    /// Waits for the next link. `End` is returned only if no link is left. `Failed` takes no link and raises the
+    /// fault count of the port that the door listens on; no other answer changes a fault count.
     fn next(&mut self) -> Arrival<L>
         ensures gives { GivesNext (shows self.old).coming (shows self.new).coming result }
         ensures heard { (shows self.new).heard ≡ (shows self.old).heard }

@@ -1,4 +1,4 @@
-// Files by path.
+//! Files by path.
 ghost use Rattle.std.specs.Prelude.{◌≡◌, ◌≢◌, ◌+◌, ◌≤◌, [], Some, None, IsTrue, IsErrOf, OnOk, vec_len};
 ghost use Rattle.s7_outer.specs.Count.{Rose};
 ghost use Rattle.s7_outer.specs.FilesShown.{FilesShown};
@@ -6,30 +6,30 @@ ghost use Rattle.s7_outer.specs.Files.{file_limit, IsCutFrom, KeepsOtherPaths, N
 
 use std::alloc::Global;
 
-/// The longest file that is read whole, in octets.
+/// The length of the longest file that is read whole, in octets.
 pub const FILE_LIMIT: usize = 67_108_864;
 
-/// Why a file was not read or not written.
+/// Why a file wasn't read or wasn't written.
 #[derive(Clone, Copy, Debug, PartialEq, Eq)]
 pub enum FileFault {
-    /// The file is not there, or could not be read or written.
+    /// The file doesn't exist, or couldn't be read or written.
     Failed,
     /// The file has more than 67,108,864 octets.
     TooLong,
-    /// Want of memory.
+    /// An allocation failed.
     Memory,
 }
 
-/// Files by path. What lies under the paths, and the counts, stand in `shows`.
+/// Files by path. `shows` has their counts, and the octets under each path if the files make them visible.
 pub trait Files {
-    /// What the files show to contracts. No count in it ever falls.
+    /// What the files make visible to contracts. No count in it ever falls.
     ghost shows: { Self → FilesShown };
 
-    /// Reads the file under the path into `into`, which is empty. No path changes.
+    /// Reads the file under the path into `into`, which the caller passes empty. No file changes.
     ///
-    /// `Failed` comes only where this path's count of faults rose in this call; a file that is not
-    /// there is a fault. `TooLong` comes exactly where more than 67,108,864 octets were read, and
-    /// `into` then holds the first 67,108,865. After `Failed` and `Memory` it is empty.
+    /// `Failed` raises this path's fault count; a file that doesn't exist is a fault. `TooLong` is returned if more
+    /// than 67,108,864 octets were read; `into` then holds the first 67,108,865. After `Failed` and `Memory` `into`
+    /// is empty.
     fn read(&mut self, alloc: Global, path: &str, into: &mut Vec<u8>) -> Result<(), FileFault>
         requires { into.old.items ≡ [] }
 
@@ -38,7 +38,7 @@ pub trait Files {
         ensures after_failed { IsErrOf result FileFault.Failed → into.new.items ≡ [] }
         ensures after_memory { IsErrOf result FileFault.Memory → into.new.items ≡ [] }
 
-        // where the files tell what lies under the paths
+        // if the files make visible what lies under the paths
         ensures told { OnOk result (IsTrue (shows self.old).tells
             → (shows self.old).held path.now ≡ Some into.new.items) }
         ensures cut { IsErrOf result FileFault.TooLong → IsTrue (shows self.old).tells →
@@ -53,10 +53,10 @@ pub trait Files {
         ensures failed_no_other { result ≢ Err FileFault.Failed → (shows self.new).faults ≡ (shows self.old).faults }
         ensures same { shows self.new ≡ record (shows self.old) { faults = (shows self.new).faults } };
 
-    /// Replaces the file under the path, or makes it. No other path changes.
+    /// Replaces the file under the path, or creates it. No other path changes.
     ///
-    /// `Failed` comes only where this path's count of faults rose in this call, and its path may
-    /// then hold anything. After `Memory` no path has changed. `TooLong` never comes.
+    /// `Failed` raises this path's fault count, and the path may then hold anything. After `Memory` no path has
+    /// changed. `TooLong` is never returned.
     fn write(&mut self, alloc: Global, path: &str, octets: &[u8]) -> Result<(), FileFault>
         ensures written { OnOk result (IsTrue (shows self.old).tells
             → (shows self.new).held path.now ≡ Some octets.now) }

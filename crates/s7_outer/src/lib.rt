@@ -1,6 +1,6 @@
-//! The outside as traits: links with their clocks, files, outputs, hosts to dial, doors and gates. Each trait states
-//! what a call moves, and that a call fails only if a counter rose in it. `Octets` and `Buffer` hold the octets that
-//! move.
+//! The outside as traits: links with their clocks, files, outputs, hosts to dial, doors and gates. Each trait
+//! states what a call moves, and that a call fails only if a counter rose in it. `Octets` and `Buffer` hold the
+//! octets that move.
 #![tactic(auto)]
 
 mod buffer;

@@ -1,4 +1,4 @@
-// A link: octets come in and go out, in whatever pieces. Its clock tells the time of day.
+//! A link: a stream of octets in each direction, in pieces of any size, and its clock, which gives the time of day.
 ghost use Rattle.std.specs.Prelude.{◌≡◌, ◌≢◌, ◌+◌, ◌-◌, ◌<◌, ◌≤◌, ◌↔◌, [], length, IsTrue, IsSome, IfSome, Some};
 ghost use Rattle.std.specs.Prelude.{option_map};
 ghost use Rattle.std.specs.Io.KnownBytes.{prepend_known, append_known, IsAtEnd};
@@ -7,52 +7,52 @@ ghost use Rattle.s7_outer.specs.Count.{Rose, RoseExactly};
 ghost use Rattle.s7_outer.specs.Calls.{shut_down};
 ghost use Rattle.s7_outer.specs.Link.{octets_got, octets_sent, GotWithin, SentWithin, TellsMoment};
 
-/// What a receive answers.
+/// The outcome of a receive.
 #[derive(Clone, Copy, Debug, PartialEq, Eq)]
 pub enum Got {
-    /// So many octets came.
+    /// This number of octets was received.
     Bytes(usize),
-    /// Nothing is left, and nothing will come.
+    /// The stream has ended: no octet is left, and none will come.
     End,
-    /// Nothing is there yet.
+    /// No octet has arrived yet.
     NotYet,
     /// The link failed.
     Failed,
 }
 
-/// What a transmit answers.
+/// The outcome of a transmit.
 #[derive(Clone, Copy, Debug, PartialEq, Eq)]
 pub enum Sent {
-    /// So many octets went.
+    /// This number of octets was transmitted.
     Bytes(usize),
-    /// There is no room yet.
+    /// The link has no room yet.
     NotYet,
-    /// The link failed, or has no room for good.
+    /// The link failed, or will never have room again.
     Failed,
 }
 
-/// What a clock answers.
+/// The outcome of a look at a clock.
 #[derive(Clone, Copy, Debug, PartialEq, Eq)]
 pub enum Tick {
-    /// Milliseconds since 1970.
+    /// The time in milliseconds since 1970.
     At(u64),
     /// The clock failed.
     Failed,
 }
 
-/// A stream of octets in either direction. What it tells of them, and its counts, stand in `shows`.
-/// A link that works on something lent to it, as an end of two pipes does, shows which loan that
-/// is. No call changes this, so whoever lent it knows afterwards what became of it.
+/// A stream of octets in each direction. `shows` has its counts, and its octets if the link makes them visible. A
+/// link that works on something lent to it, as an end of two pipes does, shows which loan that is. No call changes
+/// this, so the lender knows afterwards what became of the loan.
 pub trait Link {
-    /// What the link shows to contracts. No count in it ever falls.
+    /// What the link makes visible to contracts. No count in it ever falls.
     ghost shows: { Self → Shown };
 
-    /// Takes the next octets, at least one and at most as many as there is room for.
+    /// Receives the next octets into `into`: at least one, and at most its length.
     ///
-    /// `End` comes only where nothing is left, and no octet comes after it. `NotYet` comes only
-    /// where `waits` rose in this call, `Failed` only where `faults` did; none of the three moves
-    /// an octet, and nothing but `End` ends the stream. A link that tells its space answers `NotYet`
-    /// exactly where nothing is left. What lies in `into` behind the octets that came is undefined.
+    /// `End` is returned only if no octet is left, and no octet comes after it. `NotYet` raises `waits`, and
+    /// `Failed` raises `faults`. None of the three moves an octet, and only `End` ends the stream. A link that
+    /// shows its space returns `NotYet` exactly if no octet is left. What `into` holds after the received octets is
+    /// undefined.
     fn receive(&mut self, into: &mut [u8]) -> Got
         requires { 0 < length into.old }
 
@@ -72,7 +72,7 @@ pub trait Link {
         ensures faults { (shows self.old).faults ≤ (shows self.new).faults }
         ensures waits { (shows self.old).waits ≤ (shows self.new).waits }
 
-        // A call counts once, and only as it answers.
+        // A count rises by at most one, and only if the answer is the one that it counts.
         ensures faults_once { (shows self.new).faults ≤ (shows self.old).faults + 1 }
         ensures waits_once { (shows self.new).waits ≤ (shows self.old).waits + 1 }
         ensures failed_no_other { result ≢ Got.Failed → (shows self.new).faults ≡ (shows self.old).faults }
@@ -85,10 +85,10 @@ pub trait Link {
         ensures shut { (shows self.new).shut ≡ (shows self.old).shut }
         ensures lent { (shows self.new).lent ≡ (shows self.old).lent };
 
-    /// Hands on the first octets of the piece, at least one.
+    /// Transmits the first octets of the piece, at least one.
     ///
-    /// `NotYet` comes only where `waits` rose in this call, `Failed` only where `faults` did;
-    /// neither moves an octet. A link that tells its space answers `NotYet` exactly where it is 0.
+    /// `NotYet` raises `waits`, and `Failed` raises `faults`; neither moves an octet. A link that shows its space
+    /// returns `NotYet` exactly if its space is 0.
     fn transmit(&mut self, piece: &[u8]) -> Sent
         requires { 0 < length piece.now }
 
@@ -104,7 +104,7 @@ pub trait Link {
         ensures faults { (shows self.old).faults ≤ (shows self.new).faults }
         ensures waits { (shows self.old).waits ≤ (shows self.new).waits }
 
-        // A call counts once, and only as it answers.
+        // A count rises by at most one, and only if the answer is the one that it counts.
         ensures faults_once { (shows self.new).faults ≤ (shows self.old).faults + 1 }
         ensures waits_once { (shows self.new).waits ≤ (shows self.old).waits + 1 }
         ensures failed_no_other { result ≢ Sent.Failed → (shows self.new).faults ≡ (shows self.old).faults }
@@ -119,17 +119,18 @@ pub trait Link {
         ensures shut { (shows self.new).shut ≡ (shows self.old).shut }
         ensures lent { (shows self.new).lent ≡ (shows self.old).lent };
 
-    /// Shuts the stream, once nothing more is to be sent: the peer gets what was transmitted and then the
-    /// end, also where it sends on. Where it is gone already nothing comes of it. No octet moves; what had
-    /// moved when the stream was shut first is shown, and nothing else of the link changes.
+    /// Shuts the stream, once nothing more is to be sent. The peer gets what was transmitted and then the end, even
+    /// if it goes on sending; if the peer is gone already, the call has no effect on it. No octet moves. `shows`
+    /// keeps how far the link had come when the stream was shut for the first time, and nothing else of the link
+    /// changes.
     fn shutdown(&mut self)
         ensures shut { shows self.new ≡ shut_down (shows self.old) };
 }
 
 /// A link that has a clock.
 pub trait Clock: Link {
-    /// Milliseconds since 1970. Each call is one more of `looks`. `Failed` comes only where
-    /// `clock_faults` rose in this call. Nothing else of the link changes.
+    /// The time in milliseconds since 1970. Each call raises `looks` by one. `Failed` raises `clock_faults`.
+    /// Nothing else of the link changes.
     fn now(&mut self) -> Tick
         ensures at { TellsMoment (Self.shows self.old).moment result }
         ensures failed { result ≡ Tick.Failed

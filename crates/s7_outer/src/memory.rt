@@ -1,7 +1,7 @@
-// Want of memory.
+//! The error of a failed allocation.
 use std::alloc::AllocError;
 
-/// Want of memory.
+/// An allocation failed.
 #[derive(Clone, Copy, Debug, PartialEq, Eq)]
 pub struct Memory;
 

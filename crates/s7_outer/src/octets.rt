@@ -1,11 +1,11 @@
-// Octets that are owned.
+//! An owned sequence of octets.
 ghost use Rattle.std.specs.Prelude.{◌≡◌, ℕ, List, IfOk};
 
 use crate::Memory;
 use std::alloc::Global;
 use std::marker::Model;
 
-/// Octets that are owned. Contracts see them as a list.
+/// An owned sequence of octets. Contracts see it as a list.
 #[derive(Debug, Drop)]
 pub struct Octets {
     octets: Vec<u8>,
@@ -18,14 +18,14 @@ impl Model for Octets {
 }
 
 impl Octets {
-    /// The octets of a vector, which is not copied.
+    /// The octets of a vector, which isn't copied.
     pub fn of_vec(octets: Vec<u8>) -> Octets
         ensures { result ≡ octets.items }
     {
         Octets { octets }
     }
 
-    /// A copy. `Memory` comes where there is none for it.
+    /// A copy of the octets. Returns `Memory` if its allocation fails.
     pub fn copy_of(alloc: Global, octets: &[u8]) -> Result<Octets, Memory>
         ensures { IfOk result (λ o. o ≡ octets.now) }
     {
@@ -34,14 +34,14 @@ impl Octets {
         })
     }
 
-    /// The octets, lent.
+    /// The octets, borrowed.
     pub fn as_slice(&self) -> &[u8]
         ensures { result.now ≡ self.now }
     {
         self.octets.as_slice()
     }
 
-    /// The octets as a vector, which is not copied.
+    /// The octets as a vector, which isn't copied.
     pub fn into_vec(self) -> Vec<u8>
         ensures { result.items ≡ self }
     {

@@ -1,4 +1,4 @@
-// Where text goes.
+//! An output: text goes to it.
 ghost use Rattle.std.specs.Prelude.{◌≡◌, ◌+◌, ◌≤◌, OnOk, OnErr};
 ghost use Rattle.std.specs.Io.KnownBytes.{append_known};
 ghost use Rattle.s7_outer.specs.Count.{Rose};
@@ -9,13 +9,12 @@ ghost use Rattle.s7_outer.specs.OutShown.{OutShown};
 #[derive(Clone, Copy, Debug, PartialEq, Eq)]
 pub struct OutFailed;
 
-/// Where text goes. What it tells of the text, and its count, stand in `shows`.
+/// Where text goes. `shows` has its fault count, and the text so far if the output makes it visible.
 pub trait Out {
-    /// What the output shows to contracts. Its count never falls.
+    /// What the output makes visible to contracts. Its count never falls.
     ghost shows: { Self → OutShown };
 
-    /// Appends text. `OutFailed` comes only where `faults` rose in this call, and leaves a prefix of
-    /// the text appended.
+    /// Appends text. `OutFailed` raises `faults`, and a prefix of the text is appended then.
     fn put(&mut self, piece: &[u8]) -> Result<(), OutFailed>
         ensures ok { OnOk result ((shows self.new).text ≡ append_known (shows self.old).text piece.now) }
         ensures err { OnErr result (AppendsPrefix (shows self.old).text (shows self.new).text piece.now) }

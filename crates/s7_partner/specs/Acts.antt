@@ -11,8 +11,9 @@ IsOpen negotiating = Unit {0}
 IsOpen (going pdu) = Unit {0}
 IsOpen (closed code) = ⊥
 
--- One send at a time, of 1 to 65,535 octets, this profile's own limits. What was read whole is handed out, and what was
--- handed out is acknowledged, before anything more is read. A partner that was closed does nothing.
+-- One send at a time, of 1 to 65,535 octets, this profile's own limits. A block that has arrived whole is handed
+-- out, and a block that was handed out is acknowledged, before anything more is read. A partner that was closed
+-- does nothing.
 pub record Gives (s : State) (rid : ℕ) (body : List ℕ) : Type 0 where
   pub idle : s.sending ≡ None
   pub numbered : rid < 4294967296
@@ -29,14 +30,14 @@ MayTake s (reads event) = IsOpen s.stage × Reads s
 MayTake s hands = IsOpen s.stage × IsSome s.whole
 MayTake s acknowledges = IsOpen s.stage × IsSome s.handed
 
--- each act from this state on
+-- each act is allowed in the state before it
 abbrev pub AreTaken : Role → Config → State → List Act → Type 0
 AreTaken role config s [] = Unit {0}
 AreTaken role config s (act ∷ acts) = MayTake s act × AreTaken role config (with_act role config s act) acts
 
--- ---- what a poll tells
+-- ---- what a poll reports
 
--- the last fragment of the block that was being sent was acknowledged
+-- the last fragment of the block being sent was acknowledged
 pub record EndsSend (role : Role) (config : Config) (s : State) (act : Act) : Type 0 where
   pub before : is_sending s ≡ true
   pub after : is_sending (with_act role config s act) ≡ false
@@ -48,7 +49,7 @@ IsQuiet role config s (reads event) =
 IsQuiet role config s hands = ⊥
 IsQuiet role config s acknowledges = Unit {0}
 
--- Acts of a poll of which nothing is told: none is given to send or handed out, and no send ends.
+-- Acts that a poll doesn't report: no block is given to send or handed out, and no send ends.
 abbrev pub AreQuiet : Role → Config → State → List Act → Type 0
 AreQuiet role config s [] = Unit {0}
 AreQuiet role config s (act ∷ acts) = IsQuiet role config s act × AreQuiet role config (with_act role config s act) acts

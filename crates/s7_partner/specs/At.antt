@@ -1,4 +1,4 @@
--- What a partner holds of a state, whatever it stands for.
+-- What a partner holds of a state, whatever octets it has used and transmitted.
 use Rattle.std.specs.Prelude.{◌≡◌, ◌≢◌, ℕ, ◌+◌, ◌-◌, ◌<◌, Bool, true, false, if◌then◌else◌, List, [], ◌++◌, length}
 use Rattle.std.specs.Prelude.{is_none, Option, None, Some, option_map}
 use Rattle.s7_cotp.specs.Told.{ConnectionTold}
@@ -15,7 +15,7 @@ use Rattle.s7_partner.specs.Telegrams.{Piece}
 use Rattle.s7_partner.specs.States.{negotiating, State, if_going, opened_by, kept}
 use Rattle.s7_partner.specs.Held.{closed_of, stage_in, sending_in, receiving_in, block_in, HoldsHanded}
 
--- The partner holds all of a state but the TPDU size, which its reader has, and what may be sent.
+-- The partner holds the whole state, except the TPDU size, which its reader has, and the octets that may be sent.
 pub record HoldsState (p : Partner) (s : State) : Type 0 where
   pub stage : stage_in p.stage ≡ s.stage
   pub sequence : p.sequence ≡ s.sequence
@@ -25,42 +25,44 @@ pub record HoldsState (p : Partner) (s : State) : Type 0 where
   pub whole : option_map (block_in p.octets.octets) p.whole ≡ s.whole
   pub handed : HoldsHanded p.handed s.handed
 
--- It holds it, and what may be sent beyond what was transmitted is still to be sent.
+-- The partner holds the state, and what is still to be sent is what may be sent beyond what was transmitted.
 pub record IsAt (p : Partner) (s : State) (written : List ℕ) : Type 0 where
   pub holds : HoldsState p s
   pub out : s.out ≡ written ++ p.outbox.unsent
 
--- What may be sent is put, and no octet is read.
+-- Octets may be queued, but none is read.
 pub record KeepsLink (old new : Partner) : Type 0 where
   pub role : new.role ≡ old.role
   pub config : new.config ≡ old.config
   pub reader : new.reader ≡ old.reader
   pub inbox : new.inbox ≡ old.inbox
 
--- Whatever state the partner holds, with the TPDU size of its link, it holds the one that this makes of it.
+-- The partner goes from the state that it holds, with the TPDU size of its link, to the state that `next` makes of
+-- it.
 pub record Reaches (old new : Partner) (next : State → State) : Type 0 where
   pub keeps : KeepsLink old new
   pub reaches : (s : State) (written : List ℕ) → size_at old.reader ≡ Some s.size → IsAt old s written
       → IsAt new (next s) written
 
--- Whatever state the partner holds, what goes out where the link was negotiated is put.
+-- From the state that the partner holds it goes to the one in which the next fragment is queued, if the link was
+-- negotiated.
 abbrev pub GoesOut : Partner → Partner → Type 0
 GoesOut old new = (s : State) (written : List ℕ) → ((n : ℕ) → size_at old.reader ≡ Some n → n ≡ s.size)
     → IsAt old s written → IsAt new (if_going s s.stage) written
 
--- Whatever state the partner holds where the link was just opened, it holds the one that the opening makes.
+-- From the state that the partner holds, just after the link was opened, it goes to the one after the opening.
 abbrev pub OpensBy : Partner → Partner → ConnectionTold → Type 0
 OpensBy old new c = (s : State) (written : List ℕ) → IsAt old (record s { stage = negotiating }) written
     → IsAt new (opened_by old.role old.config s c) written
 
--- Nothing is to be sent, and no block is whole or handed out and not acknowledged.
+-- Nothing is left to send, and no block waits to be handed out or acknowledged.
 pub record IsIdle (p : Partner) : Type 0 where
   pub unsent : p.outbox.unsent ≡ []
   pub room : p.outbox.room ≡ most_waiting
   pub whole : p.whole ≡ None
   pub handed : p.handed ≡ None
 
--- All that it holds of a state stays.
+-- All that the partner holds of a state stays.
 pub record KeepsState (old new : Partner) : Type 0 where
   pub stage : new.stage ≡ old.stage
   pub sequence : new.sequence ≡ old.sequence
@@ -71,7 +73,7 @@ pub record KeepsState (old new : Partner) : Type 0 where
   pub whole : new.whole ≡ old.whole
   pub handed : new.handed ≡ old.handed
 
--- The partner closes, and all else of it stays.
+-- The partner closes, and everything else of it stays.
 pub record Closes (old new : Partner) (code : ℕ) : Type 0 where
   pub keeps : KeepsLink old new
   pub outbox : new.outbox ≡ old.outbox
@@ -84,21 +86,21 @@ pub record Closes (old new : Partner) (code : ℕ) : Type 0 where
   pub whole : new.whole ≡ old.whole
   pub handed : new.handed ≡ old.handed
 
--- ---- how much a partner can still read before there is something to tell
+-- ---- how much a partner can still read before there is something to report
 
--- the messages until the link is negotiated, with the opening
+-- the number of messages until the link is negotiated, the opening included
 abbrev pub stage_left : Held → ℕ
 stage_left held.Opening = 2
 stage_left held.Negotiating = 1
 stage_left (held.Going pdu) = 0
 stage_left (held.Closed code) = 0
 
--- the octets that aren't acknowledged
+-- the number of octets that aren't acknowledged yet
 abbrev pub sending_left : Option HeldSending → ℕ
 sending_left None = 0
 sending_left (Some s) = length s.body - s.from
 
--- the octets that are still to come
+-- the number of octets still to come
 abbrev pub receiving_left : Option HeldReceiving → ℕ → ℕ
 receiving_left None came = 65536
 receiving_left (Some r) came = r.total - came
@@ -115,7 +117,7 @@ code_by step.NotYet = None
 code_by step.Sent = None
 code_by (step.Closed code) = Some code
 
--- What is told of a message that was taken is what the partner then holds.
+-- What is reported of a message that was taken is what the partner then holds.
 pub record Does (old new : Partner) (result : Step) : Type 0 where
   pub some : result ≢ step.NotYet
   pub closed : closed_of new ≡ code_by result
@@ -125,7 +127,7 @@ pub record Does (old new : Partner) (result : Step) : Type 0 where
   pub handed : new.handed ≡ None
   pub less : result ≡ step.Went → new.whole ≡ None → events_left new < events_left old
 
--- A put changes nothing else of a partner.
+-- Queueing changes nothing else of a partner.
 pub record KeepsRest (old new : Partner) : Type 0 where
   pub stage : new.stage ≡ old.stage
   pub number : new.number ≡ old.number
@@ -136,8 +138,8 @@ pub record KeepsRest (old new : Partner) : Type 0 where
   pub sending : is_none new.sending ≡ is_none old.sending
   pub left : sending_left new.sending ≡ sending_left old.sending
 
--- Whatever state the partner holds but for the block that is being received, with the octets of a fragment behind those
--- that came before, it keeps the fragment.
+-- The partner keeps the fragment. Before, it holds the state except the block being received; its buffer has the
+-- fragment's octets already, after those that came before.
 pub record KeepsPiece (old new : Partner) (block : HeldReceiving) (sequence number : ℕ) (more : Bool)
     : Type 0 where
   pub keeps : KeepsLink old new

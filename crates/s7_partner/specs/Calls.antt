@@ -25,18 +25,18 @@ pub record IsNew (p : Partner) (role : Role) (config : Config) : Type 0 where
 
 -- ---- giving a block
 
--- a block has from 1 to 65,535 octets: this profile's own limits
+-- a block has 1 to 65,535 octets, this profile's own limits
 abbrev pub HasSize : List ℕ → Type 0
 HasSize body = (0 < length body) × (length body ≤ 65535)
 
--- why a block isn't taken: the first cause that applies
+-- why a block isn't accepted: the first cause that applies
 abbrev pub IsRefused : Partner → List ℕ → SendFault → Type 0
 IsRefused p body refusal.Closed = IsSome (closed_of p)
 IsRefused p body refusal.Busy = (closed_of p ≡ None) × IsSome (sending_of p)
 IsRefused p body refusal.Size =
     (closed_of p ≡ None) × (sending_of p ≡ None) × ((length body ≡ 0) ⊎ (65535 < length body))
 
--- it was given
+-- the block was accepted
 pub record IsGiven (old new : Partner) (rid : ℕ) (body : List ℕ) : Type 0 where
   pub opened : closed_of old ≡ None
   pub idle : sending_of old ≡ None
@@ -57,16 +57,17 @@ IsClosing (Ok told.Idle) = ⊥
 IsClosing (Ok (told.Closed code)) = Unit {0}
 IsClosing (Err memory) = ⊥
 
--- the state with the acknowledgement of the block that was handed out, if there is one, which goes out first
+-- the state after the acknowledgement of the block that was handed out, if there is one; it is sent first
 abbrev pub acknowledged_first : State → State
 acknowledged_first s = last_acknowledged s s.handed
 
--- its acts, and what is told of them, since the partner stood for these acts and octets
+-- the acts of a poll, and what it reports of them, for a partner that had done these acts, and used and transmitted
+-- these octets
 pub record IsPolled (old new : Partner) (link link' : Shown) (acts : List Act) (b written received used more : List ℕ)
     (result : Result PartnerEvent Memory) : Type 0 where
   pub further : List Act
-  -- all that could be sent before, and the acknowledgement of what was handed out, was transmitted before an octet was
-  -- used, or received; and those that were kept were used before any was received
+  -- all that could be sent before, and the acknowledgement of what was handed out, was transmitted before an octet
+  -- was used or received; and the octets kept from before were used before any was received
   pub sent_before : 0 < length used
       → IsPrefixOf (acknowledged_first (after (role_of old) (config_of old) acts)).out (written ++ more)
   pub received_last : 0 < length received
@@ -85,8 +86,8 @@ closed_by (Ok told.Idle) = None
 closed_by (Ok (told.Closed code)) = Some code
 closed_by (Err memory) = None
 
--- What the link tells of a poll: it went on until the link failed, or had nothing to give, or no room, or its stream had
--- ended, and called no more on it then.
+-- How the counts of the link change in a poll, by its result. The poll went on until the link failed, wasn't ready,
+-- or its stream had ended, and made no further call of it then.
 abbrev pub CountsEvent : Result PartnerEvent Memory → Shown → Shown → Type 0
 CountsEvent (Ok told.Sent) link link' = MetNothing link link'
 CountsEvent (Ok (told.Received rid body)) link link' = MetNothing link link'
@@ -103,7 +104,7 @@ pub record IsPoll (old : Partner) (link : Shown) (new : Partner) (link' : Shown)
   pub moves : Moves (unread_of old) link (unread_of new) link'
   pub counts : CountsEvent result link link'
   pub closed : closed_of new ≡ closed_by result
-  -- the end stays: nothing is moved
+  -- a closed partner stays closed: nothing is moved
   pub stays : (code : ℕ) → closed_of old ≡ Some code
       → (result ≡ Ok (told.Closed code)) × (new ≡ old) × (link' ≡ link)
   pub polled : closed_of old ≡ None → (acts : List Act) (b written : List ℕ) → StandsFor old acts b written

@@ -1,5 +1,5 @@
--- What a message is where the negotiation (Snap7 1.4 sources, s7_types.h: TReqFunNegotiateParams), or its answer, is
--- awaited.
+-- How a message is read while the negotiation (Snap7 1.4 sources, s7_types.h: TReqFunNegotiateParams), or its
+-- answer, is awaited.
 use Rattle.std.specs.Prelude.{ℕ, nat_lt, if◌then◌else◌, List, [], ◌++◌, Option, None, Some, Result, Ok, Err}
 use Rattle.s7_header.specs.declared.header.Header.{Header}
 use Rattle.s7_header.specs.declared.header.Kind.{Kind}
@@ -24,7 +24,7 @@ abbrev pub pdu_of_grant : Option Grant → Result ℕ ℕ
 pdu_of_grant None = Err negotiation_failed
 pdu_of_grant (Some granted) = Ok granted.pdu
 
--- the PDU that is granted, or the number of an error
+-- the PDU that is granted, or an error number
 abbrev pub pdu_of_answer : Config → Option Answer → Result ℕ ℕ
 pdu_of_answer config None = Err invalid_answer
 pdu_of_answer config (Some (grants n)) = pdu_of_grant (taken_grant config n)
@@ -65,7 +65,7 @@ abbrev pub asked_by_header : List ℕ → Result Header HeaderFault → Option (
 asked_by_header octets (Err fault) = None
 asked_by_header octets (Ok h) = asked_by_kind h octets h.kind
 
--- what is asked for, under a sequence, where it can be granted
+-- the negotiation that a message asks for, with its sequence, if it can be granted
 abbrev pub asked_in : List ℕ → Option (ℕ × Negotiation)
 asked_in octets = asked_by_header octets (header_of octets)
 

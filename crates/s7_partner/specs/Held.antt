@@ -19,7 +19,7 @@ role_of p = p.role
 abbrev pub config_of : Partner → Config
 config_of p = p.config
 
--- the octets that were read and not used, and those that are still to be sent
+-- the octets that were received and not used yet, and those still to be sent
 abbrev pub unread_of : Partner → List ℕ
 unread_of p = p.inbox
 
@@ -32,7 +32,7 @@ code_in held.Negotiating = None
 code_in (held.Going pdu) = None
 code_in (held.Closed code) = Some code
 
--- the number that it closed with
+-- the error number with which the partner was closed, if it is closed
 abbrev pub closed_of : Partner → Option ℕ
 closed_of p = code_in p.stage
 
@@ -51,16 +51,16 @@ receiving_in octets r = record { number = r.number; rid = r.rid; total = r.total
 abbrev pub block_in : List ℕ → Arrived → Block
 block_in octets a = record { rid = a.rid; octets = octets; sequence = a.sequence; number = a.number }
 
--- the block that is being sent and isn't acknowledged
+-- the block that is being sent and isn't acknowledged yet
 abbrev pub sending_of : Partner → Option Sending
 sending_of p = option_map sending_in p.sending
 
--- The octets of a block that was handed out are no longer held.
+-- The partner no longer holds the octets of a block that was handed out.
 pub record HoldsHanded (held : Option Arrived) (handed : Option Block) : Type 0 where
   pub sequence : option_map (λ (a : Arrived). a.sequence) held ≡ option_map (λ (b : Block). b.sequence) handed
   pub number : option_map (λ (a : Arrived). a.number) held ≡ option_map (λ (b : Block). b.number) handed
 
--- THE PARTNER HOLDS A STATE, but for what may be sent and for the TPDU size before the opening
+-- THE PARTNER HOLDS A STATE, except what may be sent, and the TPDU size before the opening
 pub record Holds (p : Partner) (s : State) : Type 0 where
   pub stage : stage_in p.stage ≡ s.stage
   pub size : (n : ℕ) → size_at p.reader ≡ Some n → n ≡ s.size
@@ -71,8 +71,8 @@ pub record Holds (p : Partner) (s : State) : Type 0 where
   pub whole : option_map (block_in p.octets.octets) p.whole ≡ s.whole
   pub handed : HoldsHanded p.handed s.handed
 
--- THE PARTNER STANDS FOR these acts, and for the octets that it used and transmitted since it was made: it holds the
--- state behind them, and what is still to be sent is what may be sent beyond what was transmitted.
+-- THE PARTNER HAS DONE these acts, and used and transmitted these octets since it was made: it holds the state
+-- after them, and what is still to be sent is what may be sent beyond what was transmitted.
 pub record StandsFor (p : Partner) (acts : List Act) (b written : List ℕ) : Type 0 where
   pub opened : closed_of p ≡ None
   pub holds : Holds p (after p.role p.config acts)

@@ -8,11 +8,11 @@ use Rattle.s7_wire.specs.declared.found.Found.{Found}
 use Rattle.s7_wire.specs.declared.found.Found.TheVariants as finding
 use Rattle.s7_wire.specs.declared.reader.Reader.{Reader}
 
--- it has read some octets
+-- there are octets that the reader has read
 abbrev pub HasReadSome : Reader → Type 0
 HasReadSome r = ∥ ((b : List ℕ) × HasRead r b) ∥₁
 
--- the TPDU size behind a finding
+-- the TPDU size after a finding
 abbrev pub size_found : Found → Option ℕ → Option ℕ
 size_found finding.More size = size
 size_found (finding.Opened c) size = Some (size_of_code c.size_code)
@@ -20,11 +20,11 @@ size_found finding.Message size = size
 size_found finding.Disconnected size = size
 size_found (finding.Fault fault) size = size
 
--- how many octets it can still take, at most, before a message is whole or the link ends
+-- the greatest number of octets that the reader still takes before a message is whole or the link ends
 abbrev pub octets_left : Reader → ℕ
 octets_left r = (64 - r.transport.joiner.count) * 8200 + (8199 - length (held_by r))
 
--- An octet was used where the link goes on, and this was found in it.
+-- An octet was used on a link that hasn't ended, and this was found in it.
 pub record ReadsOctet (old new : Reader) (before after : List ℕ) (found : Found) : Type 0 where
   pub used : List ℕ
   pub few : length used ≤ 1

@@ -1,6 +1,6 @@
--- TWO PARTNERS OVER ONE LINK: each used octets that the other transmitted, however these were cut and whenever each was
--- polled. What one handed out is a front of what the other was given to send, and a block that one told as sent was
--- handed out by the other.
+-- TWO PARTNERS OVER ONE LINK: each used octets that the other transmitted, however these were cut and whenever each
+-- was polled. What one handed out is a prefix of what the other was given to send, and a block that one reported as
+-- sent was handed out by the other.
 use Rattle.std.specs.Prelude.{◌≡◌, ℕ, ◌+◌, ◌≤◌, Bool, ◌&&◌, not, if◌then◌else◌, List, [], ◌∷◌, ◌++◌}
 use Rattle.std.specs.Prelude.{length}
 use Rattle.s7_dialogue.specs.declared.config.Config.{Config}
@@ -9,14 +9,15 @@ use Rattle.s7_partner.specs.declared.role.Role.TheVariants.{Active, Passive}
 use Rattle.s7_partner.specs.States.{State, Act, Parcel, start, with_act, given_in, handed_in, is_sending}
 use Rattle.s7_partner.specs.Partners.{IsPrefixOf, Course}
 
--- a configuration that a partner is made with, within this profile's own limits
+-- a configuration with which a partner may be made, within this profile's own limits
 pub record IsConfig (config : Config) : Type 0 where
   pub least_pdu : 64 ≤ config.pdu
   pub most_pdu : config.pdu ≤ 1920
   pub least_jobs : 1 ≤ config.jobs
   pub most_jobs : config.jobs ≤ 8
 
--- an active partner and a passive one, with their acts, the octets that each used and those that it transmitted
+-- an active partner and a passive one, with their acts, the octets that each used, and the octets that each
+-- transmitted
 pub record ArePaired (config config' : Config) (acts acts' : List Act) (b b' written written' : List ℕ) : Type 0 where
   pub one : IsConfig config
   pub other : IsConfig config'
@@ -27,11 +28,11 @@ pub record ArePaired (config config' : Config) (acts acts' : List Act) (b b' wri
 
 -- ---- delivery
 
--- what was handed out is a front of what was given
+-- the blocks that were handed out are a prefix of those that were given
 abbrev pub Delivered : List Parcel → List Parcel → Type 0
 Delivered given handed = (rest : List Parcel) × (given ≡ handed ++ rest)
 
--- WHAT A PARTNER HANDS OUT is a front of what the other was given to send, in both directions
+-- WHAT A PARTNER HANDS OUT is a prefix of what the other was given to send, in both directions
 abbrev pub BlocksAreDelivered : Type 0
 BlocksAreDelivered =
     (config config' : Config) (acts acts' : List Act) (b b' written written' : List ℕ)
@@ -39,9 +40,9 @@ BlocksAreDelivered =
     → Delivered (given_in acts) (handed_in Passive config' acts')
     × Delivered (given_in acts') (handed_in Active config acts)
 
--- ---- what was told as sent
+-- ---- what was reported as sent
 
--- an act that ends a send: the acknowledgement of its last fragment was read
+-- an act that ends a send: it reads the acknowledgement of its last fragment
 abbrev pub ends_send : Role → Config → State → Act → Bool
 ends_send role config s act = is_sending s && not (is_sending (with_act role config s act))
 
@@ -50,11 +51,11 @@ sends_ended role config s [] = 0
 sends_ended role config s (act ∷ acts) =
     (if ends_send role config s act then 1 else 0) + sends_ended role config (with_act role config s act) acts
 
--- how many blocks a partner told as sent
+-- the number of blocks that a partner has reported as sent
 abbrev pub sent_in : Role → Config → List Act → ℕ
 sent_in role config acts = sends_ended role config (start role config) acts
 
--- AS MANY BLOCKS AS ONE TOLD AS SENT, the first that it was given, the other handed out by then
+-- IF ONE HAS REPORTED n BLOCKS AS SENT, the other has handed out the first n blocks that it was given
 abbrev pub SentAreHandedOut : Type 0
 SentAreHandedOut =
     (config config' : Config) (acts acts' : List Act) (b b' written written' : List ℕ)

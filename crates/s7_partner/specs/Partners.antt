@@ -1,4 +1,4 @@
--- What a partner stands for, and what its calls do.
+-- The acts and octets of a partner, and what its calls do.
 use Rattle.std.specs.Prelude.{◌≡◌, ◌⊎◌, ℕ, ◌<◌, Bool, true, false, ◌||◌, if◌then◌else◌, List, [], ◌∷◌, ◌++◌, length}
 use Rattle.std.specs.Prelude.{is_none, None, Some, Result, Ok, Err, IsTrue}
 use Rattle.std.specs.Io.KnownBytes.{IsAtEnd}
@@ -28,7 +28,7 @@ opening_by Passive = Request
 abbrev pub IsPrefixOf : List ℕ → List ℕ → Type 0
 IsPrefixOf front all = (rest : List ℕ) × (all ≡ front ++ rest)
 
--- acts behind which octets were used: none, or acts of which the last one read
+-- acts after which an octet may just have been used: none, or acts of which the last one read
 abbrev pub EndInRead : List Act → Type 0
 EndInRead acts = (acts ≡ []) ⊎ ((front : List Act) × (event : Event) × (acts ≡ front ++ reads event ∷ []))
 
@@ -40,8 +40,8 @@ pub record SentFirst (role : Role) (config : Config) (acts : List Act) (b writte
       → b ≡ used ++ unused → 0 < length unused → read_in front ≡ (reading (opening_by role) used).events
       → IsPrefixOf (after role config front).out written
 
--- THE ACTS OF A PARTNER that used these octets and transmitted those: what it read is what the octets are read as, and
--- what it transmitted is a front of what it may send.
+-- THE ACTS OF A PARTNER that used these octets and transmitted those: what it read is what the octets are read as,
+-- and what it transmitted is a prefix of what it may send.
 pub record Course (role : Role) (config : Config) (acts : List Act) (b written : List ℕ) : Type 0 where
   pub taken : AreTaken role config (after role config []) acts
   pub events : read_in acts ≡ (reading (opening_by role) b).events
@@ -50,7 +50,8 @@ pub record Course (role : Role) (config : Config) (acts : List Act) (b written :
 
 -- ---- why a partner closes
 
--- the number of an error in what is read: what doesn't open the link isn't the same before it was opened and after it
+-- the error number of a packet at fault; for a TPDU that isn't allowed it is another one before the link was opened
+-- than after
 abbrev pub code_of_fault : Bool → ReadFault → ℕ
 code_of_fault is_opened fault.BadFrame = bad_packet
 code_of_fault is_opened fault.FrameTooLong = message_too_long
@@ -69,33 +70,33 @@ is_opened negotiating = true
 is_opened (going pdu) = true
 is_opened (closed code) = true
 
--- what was read whole was handed out, and what was handed out was acknowledged
+-- each block that has arrived whole was handed out, and each block handed out was acknowledged
 pub record IsSettled (s : State) : Type 0 where
   pub handed : s.handed ≡ None
   pub none_whole : s.whole ≡ None
 
--- nothing that was used ends the link
+-- no octet that was used ends the link
 pub record GoesOn (role : Role) (s : State) (b : List ℕ) : Type 0 where
   pub opened : IsOpen s.stage
   pub unended : (reading (opening_by role) b).ending ≡ None
 
--- then all was sent, and no octet that came is unused
+-- the link goes on, all was sent, and no received octet is unused
 pub record HasRest (role : Role) (s : State) (kept b written : List ℕ) : Type 0 where
   pub goes_on : GoesOn role s b
   pub settled : IsSettled s
   pub sent : written ≡ s.out
   pub none : kept ≡ []
 
--- Why a partner with this state closes, by the octets that it used and transmitted and those that it keeps unused: the
--- first cause, of which a block that came whole is never lost.
+-- Why a partner with this state closes, by the octets that it used and transmitted and those that it keeps unused.
+-- The first cause counts, and no block that has arrived whole is lost.
 pub data Closes (role : Role) (s : State) (link link' : Shown) (kept b written : List ℕ) (code : ℕ) : Type 0 where
   -- a message that it read
   by_message : s.stage ≡ closed code → Closes role s link link' kept b written code
-  -- what can't be read, or a disconnect request
+  -- a packet at fault, or a disconnect request
   by_ending : (ending : Ending) → (reading (opening_by role) b).ending ≡ Some ending
       → code ≡ code_of_ending (is_opened s.stage) ending → IsOpen s.stage → IsSettled s → written ≡ s.out
       → Closes role s link link' kept b written code
-  -- the end of the link
+  -- the end of the stream
   by_end : IsAtEnd link'.left → IsTrue link'.has_ended → HasRest role s kept b written → code ≡ link_ended
       → Closes role s link link' kept b written code
   by_receive : Rose link.faults link'.faults → HasRest role s kept b written → code ≡ receive_failed
@@ -105,8 +106,8 @@ pub data Closes (role : Role) (s : State) (link link' : Shown) (kept b written :
 
 -- ---- polls
 
--- The link had nothing to give, or no room: where it tells its space there is none for what is still to be sent, or
--- nothing is left on it.
+-- The link wasn't ready: if it shows its space, there is none for what is still to be sent, or nothing is left to
+-- receive.
 pub record HasMetNotYet (s : State) (kept : List ℕ) (link link' : Shown) (written : List ℕ) : Type 0 where
   pub rose : Rose link.waits link'.waits
   pub full : (rest : List ℕ) (space : ℕ) → s.out ≡ written ++ rest → 0 < length rest → link'.space ≡ Some space
@@ -124,7 +125,7 @@ is_opening (closed code) = false
 abbrev pub is_waiting : State → Bool
 is_waiting s = is_sending s || is_opening s.stage
 
--- what a poll tells of its acts, from the state before it
+-- what a poll reports of its acts, from the state before it
 abbrev pub Tells : Role → Config → State → List Act → Shown → Shown → List ℕ → List ℕ → List ℕ
     → Result PartnerEvent Memory → Type 0
 Tells role config s acts link link' kept b written (Ok told.Sent) =
@@ -144,6 +145,6 @@ Tells role config s acts link link' kept b written (Ok told.Idle) =
     × HasMetNotYet (with_acts role config s acts) kept link link' written
 Tells role config s acts link link' kept b written (Ok (told.Closed code)) =
     AreQuiet role config s acts × Closes role (with_acts role config s acts) link link' kept b written code
--- the block that came whole is kept
+-- the block that has arrived whole is kept
 Tells role config s acts link link' kept b written (Err memory) =
     AreQuiet role config s acts × (is_none (with_acts role config s acts).whole ≡ false)

@@ -1,5 +1,5 @@
--- How a partner goes on: what it is given to send, what it reads, hands out and acknowledges, and what it may send
--- (Snap7 1.4 reference manual, `Par_BSend` and `Par_BRecv`).
+-- The states of a partner: what it is given to send, what it reads, hands out and acknowledges, and what it may
+-- send (Snap7 1.4 reference manual, `Par_BSend` and `Par_BRecv`).
 use Rattle.std.specs.Prelude.{ℕ, ◌+◌, Bool, false, ◌==◌, ◌&&◌, not, nat_le, nat_lt, min, if◌then◌else◌, List, [], ◌∷◌}
 use Rattle.std.specs.Prelude.{◌++◌, length, is_none, Option, None, Some, Result, Ok, Err}
 use Rattle.s7_cotp.specs.Told.{ConnectionTold}
@@ -35,20 +35,20 @@ pub record Sending : Type 0 where
   pub number : ℕ
   pub rid : ℕ
   pub body : List ℕ
-  -- where its fragment begins that is out, or that comes next
+  -- the offset of the fragment in flight, or of the next one
   pub from : ℕ
-  -- the sequence of that fragment, once it went out
+  -- the sequence of that fragment, once it was sent
   pub sequence : Option ℕ
 
--- a block of which fragments came
+-- a block of which fragments have come
 pub record Receiving : Type 0 where
   pub number : ℕ
   pub rid : ℕ
-  -- how many octets it has in all
+  -- the number of octets of the whole block
   pub total : ℕ
   pub octets : List ℕ
 
--- a block that came whole, with what its last fragment is acknowledged by
+-- a block that has arrived whole, and the sequence and number for the acknowledgement of its last fragment
 pub record Block : Type 0 where
   pub rid : ℕ
   pub octets : List ℕ
@@ -58,11 +58,11 @@ pub record Block : Type 0 where
 pub data Stage : Type 0 where
   -- the TPDU that opens the link is awaited: the confirm, or the request
   opening : Stage
-  -- the negotiation's answer is awaited, or the negotiation
+  -- the negotiation, or its answer, is awaited
   negotiating : Stage
-  -- fragments go with this PDU
+  -- fragments are exchanged, with this PDU
   going : (pdu : ℕ) → Stage
-  -- messages closed it, with the number of an error
+  -- messages closed the partner, with this error number
   closed : (code : ℕ) → Stage
 
 pub record State : Type 0 where
@@ -75,11 +75,11 @@ pub record State : Type 0 where
   pub number : ℕ
   pub sending : Option Sending
   pub receiving : Option Receiving
-  -- a block that came whole and wasn't handed out
+  -- a block that has arrived whole and wasn't handed out yet
   pub whole : Option Block
-  -- one that was handed out and whose last fragment wasn't acknowledged
+  -- a block that was handed out and whose last fragment isn't acknowledged yet
   pub handed : Option Block
-  -- all octets that may be sent so far
+  -- all octets that may have been sent by now
   pub out : List ℕ
 
 abbrev pub starting_octets : Role → Config → List ℕ
@@ -99,7 +99,7 @@ start role config = record {
   out = starting_octets role config;
 }
 
--- ---- what happens to it
+-- ---- the acts of a partner
 
 pub data Act : Type 0 where
   -- it is given a block to send
@@ -111,13 +111,13 @@ pub data Act : Type 0 where
   -- it acknowledges the last fragment of the block that it handed out
   acknowledges : Act
 
--- ---- fragments that go out
+-- ---- fragments that are sent
 
--- sends are numbered 1, 2 and so on, and after 255 comes 1: this profile's own
+-- the number of the next send: 1, 2 and so on, and 1 again after 255, which is this profile's own
 abbrev pub next_number : ℕ → ℕ
 next_number number = if number == 0xFF then 1 else number + 1
 
--- the fragment that comes next goes out under the next sequence
+-- the next fragment is sent with the next sequence
 abbrev pub with_piece : State → ℕ → Sending → State
 with_piece s pdu sending = record s {
   sequence = next_sequence s.sequence;
@@ -131,7 +131,7 @@ abbrev pub if_sending : State → ℕ → Option Sending → State
 if_sending s pdu None = s
 if_sending s pdu (Some sending) = with_piece s pdu sending
 
--- only on a link that was negotiated
+-- a fragment is sent only on a link that was negotiated
 abbrev pub if_going : State → Stage → State
 if_going s opening = s
 if_going s negotiating = s
@@ -153,8 +153,8 @@ given s rid body =
 
 -- ---- the opening
 
--- the confirm of a connect request (ISO 8073, 13.4): its source is the destination, this side's reference is 0001, the
--- class 00
+-- the confirm of a connection request (ISO 8073, 13.4): its destination is the source of the request, this side's
+-- reference is 0001, the class 00
 abbrev pub confirmed : ConnectionTold → ConnectionTold
 confirmed c = record {
   dst_ref = c.src_ref;
@@ -165,8 +165,8 @@ confirmed c = record {
   called = c.called;
 }
 
--- with the confirm the negotiation is asked (Snap7 1.4 sources, s7_types.h: TReqFunNegotiateParams), and the request is
--- confirmed
+-- the effect of the opening: after the confirm an active partner asks for the negotiation (Snap7 1.4 sources,
+-- s7_types.h: TReqFunNegotiateParams), and a passive one confirms the request
 abbrev pub opened_by : Role → Config → State → ConnectionTold → State
 opened_by Active config s c = record s {
   stage = negotiating;
@@ -183,7 +183,7 @@ opened_by Passive config s c = record s {
 abbrev pub with_code : State → ℕ → State
 with_code s code = record s { stage = closed code }
 
--- the link was negotiated: a block that was given by then begins to go out
+-- the link was negotiated: a block that was given before is begun to be sent
 abbrev pub goes : State → ℕ → State
 goes s pdu = if_going (record s { stage = going pdu }) (going pdu)
 
@@ -191,7 +191,7 @@ abbrev pub by_grant : State → Option Grant → State
 by_grant s None = with_code s negotiation_failed
 by_grant s (Some granted) = goes s granted.pdu
 
--- what an active partner makes of the answer to its negotiation
+-- the effect of the answer to the negotiation on an active partner
 abbrev pub by_answer : Config → State → Option Answer → State
 by_answer config s None = with_code s invalid_answer
 by_answer config s (Some (grants n)) = by_grant s (taken_grant config n)
@@ -206,8 +206,8 @@ by_answer config s (Some uploaded) = with_code s negotiation_failed
 by_answer config s (Some announced) = with_code s negotiation_failed
 by_answer config s (Some (calls sequence)) = with_code s negotiation_failed
 
--- what a passive partner grants: at most the PDU of its configuration, and from one to eight jobs each way, this
--- profile's own limits
+-- what a passive partner grants: at most the PDU of its configuration, and one to eight jobs in each direction,
+-- this profile's own limits
 abbrev pub granted_by : Config → Negotiation → Negotiation
 granted_by config asked = record {
   calling = jobs_granted asked.calling;
@@ -215,7 +215,7 @@ granted_by config asked = record {
   pdu = min asked.pdu config.pdu;
 }
 
--- and answers
+-- a passive partner answers a negotiation
 abbrev pub granting : Config → State → ℕ → Negotiation → State
 granting config s sequence asked =
     if nat_lt asked.pdu least_pdu then with_code s negotiation_failed
@@ -247,7 +247,7 @@ negotiated Passive config s octets = by_header config s octets (header_of octets
 
 -- ---- fragments and their acknowledgements (Snap7 1.4 reference manual, `Par_BSend` and `Par_BRecv`)
 
--- a message acknowledges the fragment that is out
+-- a message acknowledges the fragment in flight
 abbrev pub is_awaited : Option ℕ → ℕ → List ℕ → Bool
 is_awaited None number octets = false
 is_awaited (Some sequence) number octets = confirms sequence number octets
@@ -256,7 +256,7 @@ abbrev pub is_acknowledged : Option Sending → List ℕ → Bool
 is_acknowledged None octets = false
 is_acknowledged (Some sending) octets = is_awaited sending.sequence sending.number octets
 
--- then the next fragment goes out, and behind the last one the block was sent
+-- the effect of that acknowledgement: the next fragment is sent; after the last one the block was sent
 abbrev pub sent_on : State → ℕ → Sending → State
 sent_on s pdu sending =
     if nat_lt (sending.from + room pdu) (length sending.body)
@@ -267,13 +267,14 @@ abbrev pub acknowledged : State → ℕ → Option Sending → State
 acknowledged s pdu None = s
 acknowledged s pdu (Some sending) = sent_on s pdu sending
 
--- a fragment goes on with its block: more may follow one that isn't empty, and with the last one all octets came
+-- a fragment continues its block: only a fragment with octets may have successors, and after the last one all
+-- octets have come
 abbrev pub goes_on_with : ℕ → List ℕ → Piece → Bool
 goes_on_with total came p =
     if p.more then nat_lt 0 (length p.octets) && nat_le (length came + length p.octets) total
     else length came + length p.octets == total
 
--- it is kept and acknowledged where more follow, and else the block is whole
+-- a fragment is kept: it is acknowledged if more follow, and else the block is whole
 abbrev pub kept : State → ℕ → Receiving → Piece → State
 kept s sequence r p =
     if p.more
@@ -295,13 +296,13 @@ abbrev pub if_goes_on : State → ℕ → Receiving → Piece → State
 if_goes_on s sequence r p =
     if goes_on_with r.total r.octets p then kept s sequence r p else with_code s invalid_answer
 
--- the first fragment of a block
+-- the effect of the first fragment of a block
 abbrev pub begun : State → ℕ → Piece → Option ℕ → State
 begun s sequence p None = with_code s invalid_answer
 begun s sequence p (Some total) =
     if_goes_on s sequence (record { number = p.number; rid = p.rid; total = total; octets = [] }) p
 
--- a further one has the number and the R_ID of its block
+-- a further fragment has the number and the R_ID of its block
 abbrev pub is_of : Receiving → Piece → Bool
 is_of r p = p.number == r.number && p.rid == r.rid
 
@@ -324,7 +325,7 @@ by_stage role config s octets negotiating = negotiated role config s octets
 by_stage role config s octets (going pdu) = exchanged s pdu octets
 by_stage role config s octets (closed code) = s
 
--- a message has ten octets at least (Snap7 1.4 sources, s7_types.h: TS7ReqHeader)
+-- the effect of a message, which has at least ten octets (Snap7 1.4 sources, s7_types.h: TS7ReqHeader)
 abbrev pub with_message : Role → Config → State → List ℕ → State
 with_message role config s octets =
     if nat_lt (length octets) 10 then with_code s short_message else by_stage role config s octets s.stage
@@ -344,7 +345,7 @@ last_acknowledged s (Some block) = record s {
   out = s.out ++ sent_message s.size (confirm_message block.sequence block.number);
 }
 
--- WHAT AN ACT MAKES of a partner
+-- WHAT AN ACT DOES to a partner's state
 unfoldable pub with_act : Role → Config → State → Act → State
 with_act role config s (gives rid body) = given s rid body
 with_act role config s (reads event) = with_event role config s event
@@ -355,11 +356,11 @@ abbrev pub with_acts : Role → Config → State → List Act → State
 with_acts role config s [] = s
 with_acts role config s (act ∷ acts) = with_acts role config (with_act role config s act) acts
 
--- WHAT A PARTNER HAS after these acts
+-- THE STATE OF A PARTNER after these acts
 abbrev pub after : Role → Config → List Act → State
 after role config acts = with_acts role config (start role config) acts
 
--- ---- what the acts tell
+-- ---- what follows from the acts
 
 -- a block that is sent or received
 pub record Parcel : Type 0 where
@@ -383,7 +384,7 @@ read_by (reads event) = event ∷ []
 read_by hands = []
 read_by acknowledges = []
 
--- what was read, in order
+-- the events that were read, in order
 abbrev pub read_in : List Act → List Event
 read_in [] = []
 read_in (act ∷ acts) = read_by act ++ read_in acts
@@ -406,6 +407,6 @@ handed_from role config s (act ∷ acts) = handed_by s act ++ handed_from role c
 abbrev pub handed_in : Role → Config → List Act → List Parcel
 handed_in role config acts = handed_from role config (start role config) acts
 
--- a send is unacknowledged
+-- a block is being sent and isn't acknowledged yet
 abbrev pub is_sending : State → Bool
 is_sending s = not (is_none s.sending)

@@ -20,7 +20,7 @@ use Rattle.s7_partner.specs.Calls.{IsClosing as IsClosed, CountsEvent, closed_by
 use Rattle.s7_partner.specs.Octet.{octets_left}
 use Rattle.s7_partner.specs.At.{code_by, events_left}
 
--- what a step tells of its acts, from the state before it
+-- what a step reports of its acts, from the state before it
 abbrev pub TellsStep : Role → Config → State → List Act → Shown → Shown → List ℕ → List ℕ → List ℕ → Step → Type 0
 TellsStep role config s acts link link' kept b written step.Went = AreQuiet role config s acts
 TellsStep role config s acts link link' kept b written step.NotYet =
@@ -37,8 +37,8 @@ IsClosing step.NotYet = ⊥
 IsClosing step.Sent = ⊥
 IsClosing (step.Closed code) = Unit {0}
 
--- its acts, and what is told of them, since a partner with this role and configuration, and with these octets unread,
--- stood for these acts and octets
+-- the acts of a step, and what it reports of them, for a partner with this role and configuration and with these
+-- octets unused, which had done these acts, and used and transmitted these octets
 pub record HasRun (role : Role) (config : Config) (kept : List ℕ) (new : Partner) (link link' : Shown) (acts : List Act)
     (b written received used more : List ℕ) (result : Step) : Type 0 where
   pub further : List Act
@@ -50,14 +50,14 @@ pub record HasRun (role : Role) (config : Config) (kept : List ℕ) (new : Partn
       (written ++ more) result
   pub stands : (IsClosing result → ⊥) → StandsFor new (acts ++ further) (b ++ used) (written ++ more)
 
--- what the counts of a link tell of it
+-- how the counts of a link change in a step
 abbrev pub CountsStep : Step → Shown → Shown → Type 0
 CountsStep step.Went link link' = MetNothing link link'
 CountsStep step.NotYet link link' = MetNotYetOnce link link'
 CountsStep step.Sent link link' = MetNothing link link'
 CountsStep (step.Closed code) link link' = MetAsTold code link link' × (link'.waits ≡ link.waits)
 
--- A STEP over a link, or several
+-- A STEP over a link, or several steps
 pub record Runs (old : Partner) (link : Shown) (new : Partner) (link' : Shown) (result : Step) : Type 0 where
   pub role : role_of new ≡ role_of old
   pub config : config_of new ≡ config_of old
@@ -68,22 +68,24 @@ pub record Runs (old : Partner) (link : Shown) (new : Partner) (link' : Shown) (
       → HasRun (role_of old) (config_of old) (unread_of old) new link link' acts b written moves.received moves.used
       moves.written result
 
--- What was handed out is acknowledged: no octet is used or received.
+-- What was handed out is acknowledged, and no octet is used or received.
 pub record Acknowledges (old new : Partner) (link : Shown) : Type 0 where
   pub runs : Runs old link new link step.Went
   pub unused : runs.moves.used ≡ []
   pub unreceived : runs.moves.received ≡ []
 
--- how much a partner can still do before there is something to tell: octets to use, and then octets to send
+-- an upper bound of what a partner can still do before there is something to report: octets to use, and then octets
+-- to send
 abbrev pub work : Partner → ℕ
 work p = (events_left p * 533000 + octets_left p.reader) * 4097 + length p.outbox.unsent
 
--- nothing is to be done any more where a block is whole
+-- nothing is left to do in a poll once a block is whole
 abbrev pub unless_whole : Option Arrived → ℕ → ℕ
 unless_whole None work = work + 1
 unless_whole (Some block) work = 0
 
--- the acts of the rest of a poll, and what is told of them, since the partner stood for these acts and octets
+-- the acts of the rest of a poll, and what it reports of them, for a partner that had done these acts, and used and
+-- transmitted these octets
 pub record HasPolled (role : Role) (config : Config) (kept : List ℕ) (new : Partner) (link link' : Shown)
     (acts : List Act) (b written received used more : List ℕ) (result : Result PartnerEvent Memory) : Type 0 where
   pub further : List Act
@@ -95,7 +97,7 @@ pub record HasPolled (role : Role) (config : Config) (kept : List ℕ) (new : Pa
       (written ++ more) result
   pub stands : (IsClosed result → ⊥) → StandsFor new (acts ++ further) (b ++ used) (written ++ more)
 
--- a poll of a partner that isn't closed, behind the acknowledgement of what was handed out
+-- the rest of a poll of a partner that isn't closed, after the acknowledgement of what was handed out
 pub record Polls (old : Partner) (link : Shown) (new : Partner) (link' : Shown) (result : Result PartnerEvent Memory)
     : Type 0 where
   pub role : role_of new ≡ role_of old

@@ -1,5 +1,6 @@
--- What partners send each other (Snap7 1.4 reference manual, `Par_BSend` and `Par_BRecv`), which in its octets is this
--- profile's own: the fragments of a block, and the acknowledgement of each. Both are user data of group 46 and 86.
+-- What partners send each other (Snap7 1.4 reference manual, `Par_BSend` and `Par_BRecv`): the fragments of a
+-- block, and the acknowledgement of each. Both are user data, of the groups 46 and 86. Their octets are this
+-- profile's own.
 use Rattle.std.specs.Prelude.{ℕ, ◌+◌, ◌-◌, ◌*◌, ◌/◌, ◌%◌, Bool, true, false, ◌==◌, ◌&&◌, nat_le, nat_lt}
 use Rattle.std.specs.Prelude.{if◌then◌else◌, List, [], ◌∷◌, ◌++◌, length, take, drop, slice_index, Option, None, Some}
 use Rattle.std.specs.Prelude.{Result, Ok, Err}
@@ -21,11 +22,11 @@ use Rattle.s7_dialogue.specs.Question.{message_octets}
 
 -- A fragment of a block.
 pub record Piece : Type 0 where
-  -- the number of its send, from 1 to 255
+  -- the number of the send to which it belongs, from 1 to 255
   pub number : ℕ
-  -- what the two partners know the block by (R_ID)
+  -- the identifier by which the two partners know the block (R_ID)
   pub rid : ℕ
-  -- how many octets the block has, which the first fragment tells
+  -- the number of octets of the block, which the first fragment states
   pub total : Option ℕ
   pub octets : List ℕ
   -- whether further fragments follow
@@ -34,7 +35,7 @@ pub record Piece : Type 0 where
 abbrev pub four_octets : ℕ → List ℕ
 four_octets n = n / 16777216 ∷ n / 65536 % 256 ∷ n / 256 % 256 ∷ n % 256 ∷ []
 
--- what each fragment's data begin with
+-- the first octets of the data of each fragment
 abbrev pub piece_head : List ℕ
 piece_head = 0x12 ∷ 0x06 ∷ 0x13 ∷ 0x00 ∷ []
 
@@ -56,11 +57,11 @@ piece_params p = record {
 abbrev pub piece_data : Piece → List ℕ
 piece_data p = piece_head ++ (four_octets p.rid ++ (total_octets p.total ++ p.octets))
 
--- the message of a fragment, under this sequence
+-- the message of a fragment with this sequence
 abbrev pub piece_message : ℕ → Piece → List ℕ
 piece_message sequence p = message_octets User sequence (user_spelling (piece_params p)) (data_of (piece_data p))
 
--- the acknowledgement of a fragment of this sequence and number
+-- the parameters of the acknowledgement of a fragment of this number
 abbrev pub confirm_params : ℕ → UserParams
 confirm_params number = record {
   answer = true;
@@ -75,11 +76,11 @@ confirm_params number = record {
 abbrev pub confirm_message : ℕ → ℕ → List ℕ
 confirm_message sequence number = message_octets User sequence (user_spelling (confirm_params number)) no_data
 
--- how many octets of its block a fragment has, but for the last one
+-- the number of octets of its block that a fragment has; the last one may have fewer
 abbrev pub room : ℕ → ℕ
 room pdu = pdu - 36
 
--- the fragment of a block from this octet on
+-- the fragment of a block from this offset on
 abbrev pub piece_from : ℕ → ℕ → ℕ → List ℕ → ℕ → Piece
 piece_from pdu number rid body from = record {
   number = number;
@@ -98,7 +99,7 @@ abbrev pub rid_in : List ℕ → ℕ
 rid_in octets =
     number_of_four (slice_index octets 4) (slice_index octets 5) (slice_index octets 6) (slice_index octets 7)
 
--- the data of a fragment, which in the first one of a block tell how many octets it has
+-- the fragment in these data; the data of the first one of a block state the block's number of octets
 abbrev pub piece_of_data : Bool → UserParams → List ℕ → Option Piece
 piece_of_data first params octets =
     if bytes_eq (take 4 octets) piece_head && nat_le (if first then 10 else 8) (length octets)
@@ -115,7 +116,7 @@ abbrev pub piece_of_octets : Bool → UserParams → Option (List ℕ) → Optio
 piece_of_octets first params None = None
 piece_of_octets first params (Some octets) = piece_of_data first params octets
 
--- a fragment's parameters, with the number of a send; the sequence octet is passed over
+-- these are the parameters of a fragment, with the number of a send; the sequence octet is ignored
 abbrev pub is_piece : UserParams → Bool
 is_piece params =
     (params.answer && params.group == 0x46)
@@ -136,7 +137,7 @@ abbrev pub piece_of_header : Bool → List ℕ → Result Header HeaderFault →
 piece_of_header first message (Err fault) = None
 piece_of_header first message (Ok h) = piece_of_kind first h message h.kind
 
--- THE FRAGMENT that a message is, the first of a block or a further one
+-- THE FRAGMENT in a message: the first one of a block, or a further one
 unfoldable pub piece_in : Bool → List ℕ → Option Piece
 piece_in first message = piece_of_header first message (header_of message)
 
@@ -144,7 +145,7 @@ piece_in first message = piece_of_header first message (header_of message)
 abbrev pub sequence_of : List ℕ → ℕ
 sequence_of message = number_at message 4
 
--- an acknowledgement's parameters, for a fragment of this number; the sequence octet is passed over
+-- these are the parameters of the acknowledgement of a fragment of this number; the sequence octet is ignored
 abbrev pub is_confirm : ℕ → UserParams → Bool
 is_confirm number params =
     ((params.answer && params.group == 0x86) && (params.sub == 0x01 && params.unit == number))

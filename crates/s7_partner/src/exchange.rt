@@ -1,4 +1,4 @@
-// How fragments and their acknowledgements are taken.
+//! Taking fragments and their acknowledgements.
 ghost use Rattle.std.specs.Prelude.{◌≡◌, ◌≢◌, ◌++◌, ◌≤◌, ℕ, List, [], length, option_map, if◌then◌else◌, true, is_none};
 ghost use Rattle.std.specs.Bool.{OnTrue, OnFalse};
 ghost use Rattle.s7_partner.specs.Telegrams.{sequence_of};
@@ -22,7 +22,7 @@ impl Partner {
     ghost use Rattle.s7_partner.specs.Fits.{is_early};
     ghost use Rattle.s7_partner.specs.At.{Reaches, Does, IsIdle, KeepsPiece};
 
-    /// Takes the message where fragments go with this PDU.
+    /// Takes the message that was read, as a fragment or an acknowledgement. The link was negotiated with this PDU.
     pub(crate) fn exchange(&mut self, pdu: u16) -> Step
         requires going { self.old.stage ≡ Going pdu }
         requires idle { IsIdle self.old }
@@ -37,7 +37,8 @@ impl Partner {
         self.take_piece()
     }
 
-    // The fragment that is out was acknowledged: the next one goes out, and behind the last one the block was sent.
+    /// Takes the acknowledgement of the fragment in flight. The next fragment is queued; after the last one the
+    /// block was sent.
     fn send_on(&mut self, pdu: u16) -> Step
         requires going { self.old.stage ≡ Going pdu }
         requires idle { IsIdle self.old }
@@ -58,7 +59,7 @@ impl Partner {
         Step::Sent
     }
 
-    // Takes the fragment that the message is.
+    /// Takes the message as a fragment.
     fn take_piece(&mut self) -> Step
         requires live { closed_of self.old ≡ None }
         requires sized { is_none (size_at self.old.reader) ≡ false }
@@ -86,7 +87,8 @@ impl Partner {
         Step::Went
     }
 
-    // The block has the octets of a fragment of this sequence and number, which is acknowledged where more follow.
+    /// Keeps the block with the octets of a fragment of this sequence and number. If more fragments follow, this
+    /// one is acknowledged.
     fn keep(&mut self, block: Receiving, sequence: u16, number: u8, more: bool)
         requires idle { IsIdle self.old }
         requires sized { is_none (size_at self.old.reader) ≡ false }
@@ -109,7 +111,7 @@ impl Partner {
     }
 }
 
-// The message acknowledges the fragment that is out.
+/// Whether the message acknowledges the fragment in flight.
 fn is_acknowledged(sending: &Option<Sending>, message: &[u8]) -> bool
     ensures { result ≡ is_acknowledged (option_map sending_in sending.now) message.now }
 {
@@ -122,7 +124,8 @@ fn is_acknowledged(sending: &Option<Sending>, message: &[u8]) -> bool
     }
 }
 
-// The block that a fragment is of: a further one has the number and the R_ID of its block.
+/// The block to which a fragment belongs: a new one, or the block being received if the fragment has its number and
+/// R_ID. `None` if there is none.
 fn block_of(receiving: Option<Receiving>, piece: &Piece<'_>) -> Option<Receiving>
     ensures { (came : List ℕ)
         → option_map (receiving_in (if is_none receiving then [] else came)) result
@@ -135,7 +138,7 @@ fn block_of(receiving: Option<Receiving>, piece: &Piece<'_>) -> Option<Receiving
     }
 }
 
-// The block that a first fragment begins.
+/// The block that a first fragment begins; `None` if it isn't a first fragment.
 fn first_block(piece: &Piece<'_>) -> Option<Receiving>
     ensures { option_map (receiving_in []) result ≡ first_block (piece_held piece.now) }
 {
@@ -149,8 +152,9 @@ fn first_block(piece: &Piece<'_>) -> Option<Receiving>
     }
 }
 
-// Takes the octets of a fragment behind those that came, of which there are none where it is the first one, and says
-// whether it goes on with its block, of so many octets. None are taken where it doesn't.
+/// Appends the octets of a fragment to those received before, if the fragment continues its block of `total`
+/// octets, and returns whether it does. A first fragment drops the octets from before. If the fragment doesn't
+/// continue the block, nothing of it is taken.
 fn take_octets(octets: &mut Buffer, first: bool, total: u16, piece: &Piece<'_>) -> bool
     requires { octets.old.room ≡ 65535 }
     ensures goes_on { result ≡ goes_on_with total (if first then [] else octets.old.octets) (piece_held piece.now) }
@@ -170,7 +174,8 @@ fn take_octets(octets: &mut Buffer, first: bool, total: u16, piece: &Piece<'_>) 
     goes_on
 }
 
-// A fragment goes on with its block: more may follow one that isn't empty, and with the last one all octets came.
+/// Whether a fragment continues its block: only a fragment with octets may have successors, and after the last one
+/// all octets of the block have come.
 fn goes_on_with(total: u16, came: usize, piece: &Piece<'_>) -> bool
     requires { came ≤ 65535 }
     ensures { (octets : List ℕ) → length octets ≡ came → result ≡ goes_on_with total octets (piece_held piece.now) }

@@ -1,4 +1,4 @@
-//! Partners: two ends of a link that send each other blocks.
+//! Partners: the two ends of a link over which they send each other blocks.
 #![tactic(auto)]
 
 mod event;

@@ -1,15 +1,15 @@
-// Messages that are put together.
+//! Writing messages.
 ghost use Rattle.std.specs.Prelude.{◌≡◌, ◌+◌, ◌≤◌, ◌++◌, length};
 ghost use Rattle.s7_header.specs.Header.{has_error, spelling_of, header_len};
 
 use s7_header::{Header, Kind, MOST_PDU, write_header};
 use s7_outer::Buffer;
 
-/// How many octets a message has at most.
+/// The greatest number of octets of a message.
 pub(crate) const MOST_MESSAGE: usize = MOST_PDU as usize;
 
-/// Begins the one message that the buffer holds: a header without an error word, and these parameters, which data of
-/// so many octets follow.
+/// Begins the only message in the buffer: a header without an error word, and these parameters. Data of `body_len`
+/// octets are to follow.
 pub(crate) fn begin_message(
     message: &mut Buffer,
     kind: Kind,

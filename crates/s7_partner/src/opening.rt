@@ -1,4 +1,4 @@
-// How a link is opened: the connect request and its confirm, and the negotiation.
+//! Opening a link: the connection request and its confirm, and the negotiation.
 ghost use Rattle.std.specs.Prelude.{◌≡◌, ◌+◌, ◌==◌, ◌&&◌, ◌≤◌, [], length, if◌then◌else◌, Some, None, Err, Ok, IfOk};
 ghost use Rattle.std.specs.Prelude.{IfSome};
 ghost use Rattle.s7_outer.specs.Numbers.{two_octets};
@@ -35,19 +35,19 @@ use s7_header::{
 use s7_outer::Buffer;
 use s7_wire::{Opening, Outbox, put_message};
 
-/// The code of the TPDU size that is asked for: 1,024 octets.
+/// The code of the TPDU size to ask for: 1,024 octets.
 const SIZE_CODE: u8 = 0x0A;
 
-/// Each side's reference.
+/// The reference of each side.
 const REFERENCE: u16 = 1;
 
-/// How many octets a connect request or a confirm has at most.
+/// The greatest number of octets of a connection request or a confirm.
 const CONNECTION: usize = 64;
 
 /// The sequence of the negotiation.
 const FIRST_SEQUENCE: u16 = 1;
 
-/// The TPDU that a partner awaits first.
+/// The TPDU that opens the link for this partner: the confirm for an active one, the request for a passive one.
 pub(crate) fn opening_by(role: Role) -> Opening
     ensures { result ≡ opening_by role }
 {
@@ -57,7 +57,7 @@ pub(crate) fn opening_by(role: Role) -> Opening
     }
 }
 
-/// What is to be sent from the start: an active partner's connect request.
+/// What is to be sent at the start: the connection request of an active partner, and nothing for a passive one.
 pub(crate) fn starting(role: Role, config: &Config) -> Outbox
     ensures unsent { result.unsent ≡ starting_octets role config.now }
     ensures room { most_packets ≤ result.room }
@@ -71,7 +71,7 @@ pub(crate) fn starting(role: Role, config: &Config) -> Outbox
     outbox
 }
 
-// Puts the connect request.
+/// Queues the connection request.
 fn put_connect(outbox: &mut Outbox, config: &Config)
     requires { outbox.old ≡ record { unsent = []; room = most_waiting } }
     ensures unsent { outbox.new.unsent ≡ connect_octets config.now }
@@ -91,7 +91,7 @@ fn put_connect(outbox: &mut Outbox, config: &Config)
     outbox.put(&octets[..len]);
 }
 
-// A TSAP of two octets.
+/// A TSAP of two octets.
 fn tsap(number: u16) -> Tsap
     ensures octets { tsap_of result ≡ two_octets number }
     ensures len { result.len ≡ 2 }
@@ -102,7 +102,7 @@ fn tsap(number: u16) -> Tsap
     Tsap { octets, len: 2 }
 }
 
-// Puts the confirm of a connect request.
+/// Queues the confirm of a connection request.
 fn put_accept(outbox: &mut Outbox, request: &Connection)
     requires writable { CanBeWritten request.now }
     requires room { most_packets ≤ outbox.old.room }
@@ -121,7 +121,7 @@ fn put_accept(outbox: &mut Outbox, request: &Connection)
     outbox.put(&octets[..len]);
 }
 
-// Puts a message with the parameters of a negotiation.
+/// Queues a message with the parameters of a negotiation.
 fn put_negotiation(
     outbox: &mut Outbox,
     message: &mut Buffer,
@@ -142,7 +142,7 @@ fn put_negotiation(
     put_message(outbox, size.octets, message.as_slice());
 }
 
-// What an active partner asks for.
+/// The negotiation that an active partner asks for.
 fn asked_by(config: &Config) -> Negotiation
     ensures { result ≡ asked_by config.now }
 {
@@ -153,7 +153,7 @@ fn asked_by(config: &Config) -> Negotiation
     }
 }
 
-// The PDU that the answer to the negotiation grants, or the number of an error.
+/// The PDU that the answer to the negotiation grants, or an error number.
 #[tactic(auto, unfolding(s7_dialogue::specs::Answer::answer_of))]
 fn read_grant(config: &Config, message: &[u8]) -> Result<u16, u32>
     ensures granted { result ≡ granted_pdu config.now message.now }
@@ -174,7 +174,7 @@ fn read_grant(config: &Config, message: &[u8]) -> Result<u16, u32>
     }
 }
 
-// The number for an acknowledgement without data, which refuses where nothing follows its header.
+/// The error number for an acknowledgement without data. It is a refusal only if nothing follows its header.
 fn refusal_code(header: &Header) -> u32
     ensures { (config : Asking) → Err result ≡ pdu_of_answer config
         (if header.now.param_len == 0 && header.now.body_len == 0 then Some (refuses header.now.error) else None) }
@@ -186,7 +186,8 @@ fn refusal_code(header: &Header) -> u32
     }
 }
 
-// The PDU that an acknowledgement with this error word, these parameters and data grants.
+/// The PDU that an acknowledgement with this error word, these parameters and these data grants, or an error
+/// number.
 fn read_granted(config: &Config, error: u16, params: &[u8], body: &[u8]) -> Result<u16, u32>
     ensures granted { result ≡ pdu_of_answer config.now
         (if error == 0 then acknowledged (negotiates (asked_by config.now)) params.now body.now else None) }
@@ -205,7 +206,7 @@ fn read_granted(config: &Config, error: u16, params: &[u8], body: &[u8]) -> Resu
     Ok(granted.pdu)
 }
 
-// The negotiation that a message asks for, with its sequence, where one can be granted.
+/// The negotiation that a message asks for, with its sequence; `None` if it isn't one that can be granted.
 fn read_asked(message: &[u8]) -> Option<(u16, Negotiation)>
     ensures asked { result ≡ asked_in message.now }
     ensures least { IfSome result (λ asked. 64 ≤ asked.1.pdu) }
@@ -223,7 +224,7 @@ fn read_asked(message: &[u8]) -> Option<(u16, Negotiation)>
     }
 }
 
-// What a passive partner grants of it.
+/// What a passive partner grants of a negotiation.
 fn granted_by(config: &Config, asked: &Negotiation) -> Negotiation
     ensures { result ≡ granted_by config.now asked.now }
 {
@@ -234,6 +235,7 @@ fn granted_by(config: &Config, asked: &Negotiation) -> Negotiation
     }
 }
 
+/// The number of jobs granted.
 fn jobs_granted(asked: u16) -> u16
     ensures { result ≡ jobs_granted asked }
 {
@@ -249,8 +251,8 @@ impl Partner {
     ghost use Rattle.s7_partner.specs.Granting.{by_pdu, by_asked};
     ghost use Rattle.s7_partner.specs.At.{Reaches, KeepsLink, KeepsRest, GoesOut, IsIdle, Does, OpensBy};
 
-    /// The link was opened by this connect request or confirm: an active partner asks for the negotiation, a passive
-    /// one confirms.
+    /// Opens the link by this connection request or confirm: an active partner asks for the negotiation, a passive
+    /// one sends its confirm.
     pub(crate) fn open(&mut self, connection: &Connection)
         requires idle { IsIdle self.old }
         requires writable { CanBeWritten connection.now }
@@ -274,7 +276,7 @@ impl Partner {
         }
     }
 
-    /// Takes the message where the negotiation's answer is awaited, or the negotiation.
+    /// Takes the message as the negotiation, or as its answer.
     pub(crate) fn negotiate(&mut self) -> Step
         requires negotiating { self.old.stage ≡ Negotiating }
         requires idle { IsIdle self.old }
@@ -289,7 +291,7 @@ impl Partner {
         }
     }
 
-    // Takes the answer to the negotiation.
+    /// Takes the message as the answer to the negotiation.
     fn take_grant(&mut self) -> Step
         requires negotiating { self.old.stage ≡ Negotiating }
         requires idle { IsIdle self.old }
@@ -304,7 +306,7 @@ impl Partner {
         }
     }
 
-    // Answers the negotiation.
+    /// Takes the message as the negotiation, and answers it.
     fn grant(&mut self) -> Step
         requires negotiating { self.old.stage ≡ Negotiating }
         requires idle { IsIdle self.old }
@@ -329,7 +331,7 @@ impl Partner {
         self.set_out(granted.pdu)
     }
 
-    // The link was negotiated: a block that was given by then begins to go out.
+    /// Goes over to exchanging fragments with this PDU. A block that was given before is begun to be sent.
     fn set_out(&mut self, pdu: u16) -> Step
         requires negotiating { self.old.stage ≡ Negotiating }
         requires least { 64 ≤ pdu }
@@ -343,7 +345,7 @@ impl Partner {
         Step::Went
     }
 
-    /// Puts the next fragment of the block that is being sent, where the link was negotiated.
+    /// Queues the next fragment of the block being sent, if the link was negotiated.
     pub(crate) fn put_if_going(&mut self)
         requires { most_packets + room_unless (is_none self.old.whole && is_none self.old.handed)
             ≤ self.old.outbox.room }
@@ -357,7 +359,7 @@ impl Partner {
         self.put_next(pdu);
     }
 
-    /// Puts the next fragment of the block that is being sent, if there is one.
+    /// Queues the next fragment of the block being sent, if there is one.
     pub(crate) fn put_next(&mut self, pdu: u16)
         requires least { 64 ≤ pdu }
         requires most { pdu ≤ 1920 }

@@ -1,4 +1,4 @@
-// A partner.
+//! One of two partners.
 ghost use Rattle.std.specs.Prelude.{◌≡◌, ◌+◌, ◌<◌, ◌≤◌, ◌&&◌, ◌||◌, ℕ, List, true, length, is_none};
 ghost use Rattle.s7_wire.specs.Reads.{HasRead, size_at};
 ghost use Rattle.s7_partner.specs.Fits.{is_sound, total_in, kept_room};
@@ -14,19 +14,19 @@ use s7_outer::{Buffer, Memory, Octets};
 use s7_wire::{Inbox, Outbox, Reader};
 use std::alloc::Global;
 
-/// How many octets a block has at most.
+/// The greatest number of octets of a block.
 const MOST_BLOCK: usize = 65_535;
 
-/// How far the link is.
+/// The state of the link.
 #[derive(Drop)]
 pub(crate) enum Stage {
     /// The TPDU that opens the link is awaited.
     Opening,
-    /// The negotiation's answer is awaited, or the negotiation.
+    /// The negotiation, or its answer, is awaited.
     Negotiating,
-    /// Fragments go with this PDU.
+    /// Fragments are exchanged, with this PDU.
     Going(u16),
-    /// The link is closed, with the number of an error.
+    /// The link is closed, with this error number.
     Closed(u32),
 }
 
@@ -35,34 +35,41 @@ pub(crate) enum Stage {
 pub(crate) struct Sending {
     /// The number of the send, from 1 to 255.
     pub(crate) number: u8,
+    /// The R_ID under which it is sent.
     pub(crate) rid: u32,
+    /// The octets of the block.
     pub(crate) body: Octets,
-    /// Where its fragment begins that is out, or that comes next.
+    /// The offset of the fragment in flight, or of the next one.
     pub(crate) from: usize,
-    /// The sequence of that fragment, once it went out.
+    /// The sequence of that fragment, once it was sent.
     pub(crate) sequence: Option<u16>,
     ghost within: { from < length body },
     ghost most: { length body ≤ 65535 },
 }
 
-/// A block of which fragments came. Its octets so far are those that the partner's buffer holds.
+/// A block of which fragments have come. The partner's buffer holds its octets so far.
 #[derive(Clone, Copy, Drop)]
 pub(crate) struct Receiving {
+    /// The number of the send.
     pub(crate) number: u8,
+    /// The R_ID under which it is sent.
     pub(crate) rid: u32,
-    /// How many octets it has in all.
+    /// The number of octets of the whole block.
     pub(crate) total: u16,
 }
 
-/// A block that came whole, with what its last fragment is acknowledged by.
+/// A block that has arrived whole, and the sequence and number for the acknowledgement of its last fragment.
 #[derive(Clone, Copy, Drop)]
 pub(crate) struct Arrived {
+    /// The R_ID under which it was sent.
     pub(crate) rid: u32,
+    /// The sequence of its last fragment.
     pub(crate) sequence: u16,
+    /// The number of the send.
     pub(crate) number: u8,
 }
 
-/// One of two partners: blocks are given to it to send one at a time, and it is polled over its link.
+/// One of two partners. It is given blocks to send, one at a time, and it is polled over its link.
 #[derive(Drop)]
 pub struct Partner {
     pub(crate) role: Role,
@@ -70,21 +77,24 @@ pub struct Partner {
     pub(crate) reader: Reader,
     pub(crate) inbox: Inbox,
     pub(crate) outbox: Outbox,
-    /// The message that is written, with room for 1,920 octets.
+    /// The message that is being written, with room for 1,920 octets.
     pub(crate) message: Buffer,
+    /// The state of the link.
     pub(crate) stage: Stage,
     /// The sequence of the last telegram that this side numbered.
     pub(crate) sequence: u16,
     /// The number of the last send.
     pub(crate) number: u8,
+    /// The block that is being sent and isn't acknowledged yet.
     pub(crate) sending: Option<Sending>,
+    /// The block that is being received.
     pub(crate) receiving: Option<Receiving>,
-    /// The octets of the block that is being received, or that came whole and wasn't handed out. It has room for
-    /// 65,535.
+    /// The octets of the block that is being received, or that has arrived and wasn't handed out yet. The buffer
+    /// has room for 65,535.
     pub(crate) octets: Buffer,
-    /// A block that came whole and wasn't handed out.
+    /// A block that has arrived whole and wasn't handed out yet.
     pub(crate) whole: Option<Arrived>,
-    /// One that was handed out and whose last fragment wasn't acknowledged.
+    /// A block that was handed out and whose last fragment isn't acknowledged yet.
     pub(crate) handed: Option<Arrived>,
     ghost least_pdu: { 64 ≤ config.pdu },
     ghost most_pdu: { config.pdu ≤ 1920 },
@@ -104,8 +114,9 @@ impl Partner {
     ghost use Rattle.s7_partner.specs.Held.{closed_of, sending_of};
     ghost use Rattle.s7_partner.specs.Calls.{IsNew, IsRefused, IsGiven};
 
-    /// A partner whose link isn't opened. The PDU is from 64 to 1,920, the jobs from 1 to 8, the polls at least 1. An
-    /// active one has its connect request to send. `Memory` comes where there is none for its buffers.
+    /// A partner whose link isn't open yet. The PDU of `config` is from 64 to 1,920, its jobs from 1 to 8, its
+    /// polls at least 1. An active partner has its connection request to send. Returns `Memory` if the allocation
+    /// of its buffers fails.
     pub fn new(alloc: Global, role: Role, config: Config) -> Result<Partner, Memory>
         requires least_pdu { 64 ≤ config.pdu }
         requires most_pdu { config.pdu ≤ 1920 }
@@ -132,7 +143,7 @@ impl Partner {
         })
     }
 
-    /// The number of the error that the partner is closed with.
+    /// The error number with which the partner was closed; `None` if it isn't closed.
     pub fn closed(&self) -> Option<u32>
         ensures { result ≡ closed_of self.now }
     {
@@ -142,16 +153,16 @@ impl Partner {
         }
     }
 
-    /// A block that it was given isn't acknowledged.
+    /// Whether it was given a block that isn't acknowledged yet.
     pub fn is_sending(&self) -> bool
         ensures { result ≡ not (is_none (sending_of self.now)) }
     {
         self.sending.is_some()
     }
 
-    /// Gives a block of 1 to 65,535 octets to be sent under this R_ID, one at a time. A poll tells when it came whole
-    /// to the other side. A block that isn't taken is handed back with the first cause that applies, and nothing
-    /// changes. No memory is taken.
+    /// Gives the partner a block of 1 to 65,535 octets to send with this R_ID, one at a time. A poll reports when
+    /// the block has arrived whole at the other side. A block that isn't accepted is handed back with the first
+    /// cause that applies, and nothing changes. Nothing is allocated.
     pub fn b_send(&mut self, rid: u32, body: Octets) -> Result<(), (SendFault, Octets)>
         ensures refused { IfErr result (λ e. IsRefused self.old body e.0 × (e.1 ≡ body)) }
         ensures unchanged { OnErr result (self.new ≡ self.old) }

@@ -1,4 +1,4 @@
-// How a partner is polled.
+//! Polling a partner.
 ghost use Rattle.std.specs.Prelude.{◌≡◌};
 ghost use Rattle.s7_partner.specs.Partners.{code_of_fault, is_opened};
 ghost use Rattle.s7_partner.specs.Held.{stage_in};
@@ -16,7 +16,7 @@ use s7_outer::{Got, Link, Memory, Octets, Sent};
 use s7_wire::{Found, PIECE, ReadFault};
 use std::alloc::Global;
 
-/// The fewest octets of a message.
+/// The least number of octets of a message.
 const LEAST_MESSAGE: usize = 10;
 
 impl Partner {
@@ -30,12 +30,12 @@ impl Partner {
     ghost use Rattle.s7_partner.specs.At.{Closes, Reaches, Does, IsIdle, HoldsState};
     ghost use Rattle.s7_partner.specs.Steps.{Runs, Acknowledges, Polls, work};
 
-    /// Goes on over the link until there is something to tell: a block was sent or came whole, the partner is closed,
-    /// or the link had nothing to give, or no room, yet.
+    /// Goes on over the link until there is something to report: a block was sent or has arrived whole, the partner
+    /// is closed, or the link wasn't ready.
     ///
-    /// What was handed out by the poll before is acknowledged. All that may go out is sent before the next octet is
-    /// used, and octets are received only where all was sent and used. For want of memory to hand a block out
-    /// `Memory` comes, and the next poll hands it out.
+    /// A block that the poll before handed out is acknowledged first. All that may be sent is sent before the next
+    /// octet is used, and octets are received only if all was sent and used. Returns `Memory` if the allocation for
+    /// handing out a block fails; the next poll hands the block out.
     pub fn poll<L: Link>(&mut self, alloc: Global, link: &mut L) -> Result<PartnerEvent, Memory>
         ensures { IsPoll self.old (L.shows link.old) self.new (L.shows link.new) result }
     {
@@ -46,7 +46,7 @@ impl Partner {
         self.advance(alloc, link)
     }
 
-    // Acknowledges the last fragment of the block that was handed out.
+    /// Acknowledges the last fragment of the block that was handed out.
     fn acknowledge(&mut self)
         requires { closed_of self.old ≡ None }
         ensures acknowledges { (link : Shown) → Acknowledges self.old self.new link }
@@ -66,7 +66,7 @@ impl Partner {
         );
     }
 
-    // Hands out the block that came whole. It stays where memory is wanting.
+    /// Hands out the block that has arrived whole. If the allocation fails, the block stays.
     fn hand_out(&mut self, alloc: Global, block: Arrived) -> Result<PartnerEvent, Memory>
         requires live { closed_of self.old ≡ None }
         requires whole { self.old.whole ≡ Some block }
@@ -83,7 +83,7 @@ impl Partner {
         })
     }
 
-    // A send or the opening is outstanding.
+    /// Whether a send or the opening is outstanding.
     fn is_waiting(&self) -> bool
         ensures { (s : State) → HoldsState self.now s → result ≡ is_waiting s }
     {
@@ -93,7 +93,7 @@ impl Partner {
         }
     }
 
-    // Takes steps until there is something to tell. A block that is whole is handed out.
+    /// Takes steps until there is something to report. A block that has arrived whole is handed out.
     fn advance<L: Link>(&mut self, alloc: Global, link: &mut L) -> Result<PartnerEvent, Memory>
         requires live { closed_of self.old ≡ None }
         requires none_handed { self.old.handed ≡ None }
@@ -113,7 +113,8 @@ impl Partner {
         }
     }
 
-    // Sends what is left to send, or else uses an octet that was read, or else receives and uses one.
+    /// Sends what is left to send. If all was sent, uses an octet that was received; if all were used, receives
+    /// some and uses one.
     fn step<L: Link>(&mut self, link: &mut L) -> Step
         requires live { closed_of self.old ≡ None }
         requires none_whole { self.old.whole ≡ None }
@@ -140,7 +141,7 @@ impl Partner {
         }
     }
 
-    // Uses an octet that was read.
+    /// Uses an octet that was received.
     fn consume(&mut self) -> Step
         requires live { closed_of self.old ≡ None }
         requires none_whole { self.old.whole ≡ None }
@@ -168,7 +169,7 @@ impl Partner {
         }
     }
 
-    // Takes the message that is whole.
+    /// Takes the message that was read whole.
     fn take_message(&mut self) -> Step
         requires live { closed_of self.old ≡ None }
         requires idle { IsIdle self.old }
@@ -188,7 +189,7 @@ impl Partner {
         }
     }
 
-    /// Closes the partner with the number of an error.
+    /// Closes the partner with this error number.
     pub(crate) fn close(&mut self, code: u32) -> Step
         ensures result { result ≡ Step.Closed code }
         ensures closes { Closes self.old self.new code }
@@ -198,7 +199,7 @@ impl Partner {
     }
 }
 
-// The number of an error in what is read.
+/// The error number of a packet at fault.
 fn fault_code(stage: &Stage, fault: ReadFault) -> u32
     ensures { result ≡ code_of_fault (is_opened (stage_in stage.now)) fault }
 {
@@ -210,7 +211,7 @@ fn fault_code(stage: &Stage, fault: ReadFault) -> u32
     }
 }
 
-// What doesn't open the link isn't the same before it was opened and after it.
+/// The error number of a TPDU that isn't allowed. It is another one before the link was opened than after.
 fn unexpected_code(stage: &Stage) -> u32
     ensures { result ≡ code_of_fault (is_opened (stage_in stage.now)) ReadFault.Unexpected }
 {

@@ -1,10 +1,10 @@
-// Which partner opens the link.
+//! The roles of the two partners.
 
 /// Which of two partners opens the link.
 #[derive(Clone, Copy, Debug, PartialEq, Eq)]
 pub enum Role {
-    /// It sends the connect request and the negotiation.
+    /// It sends the connection request and the negotiation.
     Active,
-    /// It confirms and answers them.
+    /// It confirms the request and answers the negotiation.
     Passive,
 }

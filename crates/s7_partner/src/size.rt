@@ -1,9 +1,9 @@
-// The size of TPDUs.
+//! The size of TPDUs.
 ghost use Rattle.std.specs.Prelude.{◌≤◌};
 
 use s7_wire::tpdu_size;
 
-/// The size of a link's TPDUs in octets, their headers included (ISO 8073, 13.3.4).
+/// The TPDU size of a link in octets, headers included (ISO 8073, 13.3.4).
 #[derive(Clone, Copy, Debug, PartialEq, Eq)]
 pub(crate) struct TpduSize {
     pub(crate) octets: u16,
@@ -15,7 +15,7 @@ impl TpduSize {
     ghost use Rattle.std.specs.Prelude.{◌≡◌};
     ghost use Rattle.s7_wire.specs.Bounds.{size_of_code};
 
-    /// The size of a code, from 07 to 0D.
+    /// The TPDU size with this code, from 07 to 0D.
     pub(crate) fn of(code: u8) -> TpduSize
         requires least { 7 ≤ code }
         requires most { code ≤ 13 }

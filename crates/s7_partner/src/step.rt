@@ -1,14 +1,14 @@
-// What a step of a poll comes to.
+//! The outcome of a step of a poll.
 
-/// What one step comes to.
+/// The outcome of one step.
 #[derive(Clone, Copy, Debug, PartialEq, Eq)]
 pub(crate) enum Step {
-    /// It moved octets or used some, and a block may be whole then.
+    /// The step moved octets or used some; a block may be whole now.
     Went,
-    /// The link had nothing to give, or no room, yet.
+    /// The link wasn't ready.
     NotYet,
     /// The last fragment of the block that was being sent was acknowledged.
     Sent,
-    /// The partner is closed, with this number.
+    /// The partner is closed, with this error number.
     Closed(u32),
 }

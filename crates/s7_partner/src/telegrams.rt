@@ -1,5 +1,5 @@
-// The telegrams that partners send each other: fragments of blocks, and the acknowledgement of each (Snap7 1.4
-// reference manual, block send and receive).
+//! The telegrams of partners: fragments of blocks, and the acknowledgement of each fragment (Snap7 1.4 reference
+//! manual, block send and receive).
 ghost use Rattle.std.specs.Prelude.{◌≡◌, ◌+◌, ◌-◌, ◌==◌, ◌≤◌, ◌<◌, ◌++◌, length, option_map, if◌then◌else◌};
 ghost use Rattle.std.specs.Prelude.{MatchOption};
 ghost use Rattle.std.specs.Prelude.{None, Some, true, List, ℕ};
@@ -26,37 +26,40 @@ use s7_header::{Kind, UserParams, parts, read_header, read_user, write_user};
 use s7_outer::Buffer;
 use s7_wire::{Outbox, put_message};
 
-/// The group of a fragment, and of an acknowledgement.
+/// The group of a fragment.
 const FRAGMENT: u8 = 0x46;
 
+/// The group of an acknowledgement.
 const CONFIRM: u8 = 0x86;
 
-/// The subfunction of both.
+/// The subfunction of fragments and acknowledgements.
 const SUBFUNCTION: u8 = 0x01;
 
-/// What the data of each fragment begin with.
+/// The first octets of the data of each fragment.
 const PIECE_HEAD: [u8; 4] = [0x12, 0x06, 0x13, 0x00];
 
-/// The data without octets.
+/// The data of user data without content.
 const NO_DATA: [u8; 4] = [0x0A, 0x00, 0x00, 0x00];
 
-/// How many octets of a message aren't its block's, in the first fragment.
+/// The number of octets of a message besides its block's, in the first fragment.
 const OVERHEAD: u16 = 36;
 
 /// A fragment of a block.
 #[derive(Clone, Copy, Debug)]
 pub(crate) struct Piece<'a> {
-    /// The number of its send.
+    /// The number of the send to which it belongs.
     pub(crate) number: u8,
+    /// The R_ID of the block.
     pub(crate) rid: u32,
-    /// How many octets the block has, which the first fragment tells.
+    /// The number of octets of the block, which the first fragment states.
     pub(crate) total: Option<u16>,
+    /// The octets of the block in this fragment.
     pub(crate) octets: &'a [u8],
     /// Whether further fragments follow.
     pub(crate) more: bool,
 }
 
-/// How many octets of its block a fragment has, but for the last one.
+/// The number of octets of its block that a fragment has; the last fragment may have fewer.
 pub(crate) fn piece_room(pdu: u16) -> usize
     requires { 36 ≤ pdu }
     ensures { result ≡ room pdu }
@@ -75,14 +78,14 @@ pub(crate) fn sequence_after(sequence: u16) -> u16
     }
 }
 
-/// The number of the send after the one with this number.
+/// The number of the next send after the one with this number.
 pub(crate) fn number_after(number: u8) -> u8
     ensures { result ≡ next_number number }
 {
     if number == u8::MAX { 1 } else { number + 1 }
 }
 
-/// Puts the fragment that comes next behind what is to be sent, under this sequence.
+/// Queues the next fragment after what is to be sent, with this sequence.
 pub(crate) fn put_piece(
     outbox: &mut Outbox,
     message: &mut Buffer,
@@ -103,7 +106,7 @@ pub(crate) fn put_piece(
     put_message(outbox, size.octets, message.as_slice());
 }
 
-// The fragment that comes next.
+/// The next fragment to be sent.
 fn next_piece(sending: &Sending, pdu: u16) -> Piece<'_>
     requires least { 36 ≤ pdu }
     requires most { pdu ≤ 1920 }
@@ -127,7 +130,7 @@ fn next_piece(sending: &Sending, pdu: u16) -> Piece<'_>
     }
 }
 
-// Writes a fragment as the one message that the buffer holds.
+/// Writes a fragment as the only message in the buffer.
 fn write_piece(message: &mut Buffer, sequence: u16, piece: &Piece<'_>)
     requires fits { 36 + length piece.now.octets.now ≤ 1920 }
     requires room { message.old.room ≡ 1920 }
@@ -155,7 +158,7 @@ fn write_piece(message: &mut Buffer, sequence: u16, piece: &Piece<'_>)
     message.add(piece.octets);
 }
 
-/// Puts the acknowledgement of a fragment of this sequence and number behind what is to be sent.
+/// Queues the acknowledgement of a fragment of this sequence and number after what is to be sent.
 pub(crate) fn put_confirm(
     outbox: &mut Outbox,
     message: &mut Buffer,
@@ -182,7 +185,7 @@ pub(crate) fn put_confirm(
     put_message(outbox, size.octets, message.as_slice());
 }
 
-// Begins user data with these parameters of the long form, which data of so many octets follow.
+/// Begins user data with these parameters in the long form. Data of `body_len` octets are to follow.
 fn begin_user(message: &mut Buffer, sequence: u16, params: &UserParams, body_len: u16)
     requires form { params.now.answer ≡ true }
     requires room { message.old.room ≡ 1920 }
@@ -201,7 +204,7 @@ fn begin_user(message: &mut Buffer, sequence: u16, params: &UserParams, body_len
     begin_message(message, Kind::User, sequence, &spelled[..len], body_len);
 }
 
-// What stands before so many octets in the data, where there are some.
+/// The data's octets before their content of `len` octets, at least one.
 fn data_head(len: u16) -> [u8; 4]
     requires { 0 < len }
     ensures { (octets : List ℕ) → length octets ≡ len → data_of octets ≡ result ++ octets }
@@ -210,14 +213,15 @@ fn data_head(len: u16) -> [u8; 4]
     [0xFF, 0x09, high, low]
 }
 
-// A number in four octets, the high one first.
+/// A number in four octets, the high one first.
 fn four_octets(number: u32) -> [u8; 4]
     ensures { result ≡ four_octets number }
 {
     number.to_be_bytes()
 }
 
-// How many octets of the data stand before those of the block: a first fragment tells the block's length too.
+/// The number of octets of the data's content before the octets of the block; those of a first fragment include the
+/// block's length.
 fn front_len(first: bool) -> usize
     ensures { result ≡ (if first then 10 else 8) }
 {
@@ -232,7 +236,7 @@ pub(crate) fn sequence_of(message: &[u8]) -> u16
     number_at(message, 4)
 }
 
-/// The fragment that a message is, the first of a block or a further one.
+/// Reads the message as a fragment: as the first one of a block, or as a further one.
 #[tactic(auto, unfolding(crate::specs::Telegrams::piece_in))]
 pub(crate) fn read_piece(first: bool, message: &[u8]) -> Option<Piece<'_>>
     ensures { option_map piece_held result ≡ piece_in first message.now }
@@ -256,7 +260,7 @@ pub(crate) fn read_piece(first: bool, message: &[u8]) -> Option<Piece<'_>>
     }
 }
 
-// The parameters of a fragment. The sequence octet is passed over.
+/// Whether these are the parameters of a fragment. The sequence octet is ignored.
 fn is_piece(params: &UserParams) -> bool
     ensures { result ≡ is_piece params.now }
 {
@@ -268,7 +272,7 @@ fn is_piece(params: &UserParams) -> bool
         && params.error == 0
 }
 
-// The fragment of data with these octets.
+/// The fragment in data with these octets.
 fn piece_of_data<'a>(first: bool, params: &UserParams, octets: &'a [u8]) -> Option<Piece<'a>>
     ensures { option_map piece_held result ≡ piece_of_data first params.now octets.now }
 {
@@ -289,7 +293,7 @@ fn piece_of_data<'a>(first: bool, params: &UserParams, octets: &'a [u8]) -> Opti
     })
 }
 
-// What the partners know the block by.
+/// The R_ID, by which the partners know the block.
 fn rid_in(octets: &[u8]) -> u32
     requires { 8 ≤ length octets.now }
     ensures { result ≡ rid_in octets.now }
@@ -298,7 +302,7 @@ fn rid_in(octets: &[u8]) -> u32
     high * 65_536 + u32::from(number_at(octets, 6))
 }
 
-/// A message acknowledges the fragment of this sequence and number.
+/// Whether a message acknowledges the fragment of this sequence and number.
 #[tactic(auto, unfolding(crate::specs::Telegrams::confirms))]
 pub(crate) fn confirms(sequence: u16, number: u8, message: &[u8]) -> bool
     ensures { result ≡ confirms sequence number message.now }
@@ -316,7 +320,8 @@ pub(crate) fn confirms(sequence: u16, number: u8, message: &[u8]) -> bool
     }
 }
 
-// The parameters of an acknowledgement. The sequence octet is passed over.
+/// Whether these are the parameters of an acknowledgement of a fragment with this number. The sequence octet is
+/// ignored.
 fn is_confirm(number: u8, params: &UserParams) -> bool
     ensures { result ≡ is_confirm number params.now }
 {
@@ -328,7 +333,7 @@ fn is_confirm(number: u8, params: &UserParams) -> bool
         && params.error == 0
 }
 
-// The octets of the data, if they are data of user data.
+/// The content of the data, if they are data of user data.
 fn octets_in(body: &[u8]) -> Option<&[u8]>
     ensures { MatchOption result (octets_in body.now ≡ None) (λ octets. octets_in body.now ≡ Some octets.now) }
 {
@@ -342,7 +347,7 @@ fn octets_in(body: &[u8]) -> Option<&[u8]>
     }
 }
 
-// The data have octets.
+/// Whether the data have content.
 fn has_octets(body: &[u8]) -> bool
     ensures { result ≡ has_octets body.now }
 {
@@ -351,7 +356,7 @@ fn has_octets(body: &[u8]) -> bool
         && usize::from(number_at(body, 2)) == body.len() - 4
 }
 
-// The number in the two octets from this place on.
+/// The number in the two octets from this offset on.
 fn number_at(octets: &[u8], place: usize) -> u16
     requires { place + 1 < length octets.now }
     ensures { result ≡ number_at octets.now place }

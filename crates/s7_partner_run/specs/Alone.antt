@@ -19,7 +19,7 @@ use Rattle.s7_partner_run.specs.Text.{active_text, actives_text}
 use Rattle.s7_partner_run.specs.Talking.{Post, is_acknowledged, is_closed, is_over, IsTurn, Goes, blocks_of}
 use Rattle.s7_partner_run.specs.Sides.{IsSide}
 
--- so many turns are taken at most
+-- the most turns that are taken
 abbrev pub most_turns : ℕ
 most_turns = 18446744073709551615
 
@@ -27,18 +27,18 @@ most_turns = 18446744073709551615
 abbrev pub has_sent_all : Post → Bool
 has_sent_all p = is_acknowledged p && not (is_closed p)
 
--- how it ended where no turn is left to take
+-- how the turns ended, when none is left to take
 abbrev pub end_of : Post → TalkEnd
 end_of p = if has_sent_all p then end.Sent else end.Unsent
 
--- turns over the link, at most so many, and the lines of all that was told in them
+-- turns over the link, at most this number, and the lines of all news in them
 pub record Tells (most : ℕ) (old : Post) (link : Shown) (out : OutShown) (new : Post) (link' : Shown) (out' : OutShown)
     : Type 0 where
   pub news : List News
   pub goes : Goes most old link new link' news
   pub text : out'.text ≡ append_known out.text (actives_text news)
 
--- fewer turns, after which it wasn't over, and one more that came to this
+-- fewer turns, after which it wasn't over, and one more turn that ended in this way
 pub record TellsThen (old : Post) (link : Shown) (out : OutShown) (new : Post) (link' : Shown) (out' : OutShown)
     (ends : OutShown → Result (Option News) Memory → Type 0) : Type 0 where
   pub made : ℕ
@@ -59,12 +59,12 @@ pub record BreaksOff (out' : OutShown) (out'' : OutShown) (result : Result (Opti
   pub front : AppendsPrefix out''.text out'.text (active_text news)
   pub failed : Rose out''.faults out'.faults
 
--- memory was wanting, to hand a block out or for the line of its news, which wasn't printed
+-- an allocation failed, to hand a block out or for the line of its news, which wasn't printed
 pub record LacksMemory (out' : OutShown) (out'' : OutShown) (result : Result (Option News) Memory) : Type 0 where
   pub wanting : ((memory : Memory) × (result ≡ Err memory)) ⊎ ((news : News) × (result ≡ Ok (Some news)))
   pub same : out'.text ≡ out''.text
 
--- what printing the line of its news came to
+-- the result of printing the line of its news
 abbrev pub PrintsNews : News → OutShown → OutShown → Result Unit TalkEnd → Type 0
 PrintsNews news out out' (Ok done) = out'.text ≡ append_known out.text (active_text news)
 PrintsNews news out out' (Err end.Sent) = ⊥
@@ -73,7 +73,7 @@ PrintsNews news out out' (Err end.Output) =
     AppendsPrefix out.text out'.text (active_text news) × Rose out.faults out'.faults
 PrintsNews news out out' (Err end.Memory) = out' ≡ out
 
--- and what a turn and its line came to
+-- the result of a turn and of printing its line
 abbrev pub TalksOnce : Post → Shown → OutShown → Post → Shown → OutShown → Result Unit TalkEnd → Type 0
 TalksOnce old link out new link' out' (Ok done) =
     (news : Option News) × IsTurn old link new link' (Ok news)
@@ -93,16 +93,16 @@ Talked old link out new link' out' end.Unsent =
 Talked old link out new link' out' end.Output = TellsThen old link out new link' out' (BreaksOff out')
 Talked old link out new link' out' end.Memory = TellsThen old link out new link' out' (LacksMemory out')
 
--- ---- what it came to
+-- ---- the result
 
--- the last that it told is the number that it closed with
+-- its last news has the number with which it closed
 pub record EndsClosed (p : Post) (told : List News) : Type 0 where
   pub front : List News
   pub code : ℕ
   pub closed : closed_of p.partner ≡ Some code
   pub last : told ≡ front ++ news.Closed code ∷ []
 
--- ONE PARTNER over a link used octets that it took there, and transmitted these there
+-- ONE PARTNER over a link used octets that it took from the link, and transmitted these on it
 pub record IsSideOver (role : Role) (config : Config) (sends : List SendLine) (link link' : Shown) (news : List News)
     : Type 0 where
   pub side : IsSide role config (blocks_of sends) news

@@ -1,4 +1,4 @@
--- What partners tell that is news: a block that was sent, one that came, and the end.
+-- The news of partners: a block that was sent, a block that came, and the end.
 use Rattle.std.specs.Prelude.{ℕ, ◌+◌, Bool, true, false, if◌then◌else◌, List, [], ◌∷◌, ◌++◌, Option, None, Some}
 use Rattle.std.specs.Prelude.{Result, Ok, Err}
 use Rattle.s7_outer.specs.declared.memory.Memory.{Memory}
@@ -11,7 +11,7 @@ use Rattle.s7_partner_run.specs.declared.event.News.{News}
 use Rattle.s7_partner_run.specs.declared.event.News.TheVariants as news
 use Rattle.s7_partner_run.specs.declared.event.PairEvent.{PairEvent}
 
--- ---- of one partner
+-- ---- one partner
 
 abbrev pub news_of : PartnerEvent → Option News
 news_of told.Sent = Some news.Sent
@@ -20,7 +20,7 @@ news_of told.Pending = None
 news_of told.Idle = None
 news_of (told.Closed code) = Some (news.Closed code)
 
--- nothing is outstanding
+-- a poll reported that nothing is outstanding
 abbrev pub tells_idle : PartnerEvent → Bool
 tells_idle told.Sent = false
 tells_idle (told.Received rid body) = false
@@ -28,7 +28,7 @@ tells_idle told.Pending = false
 tells_idle told.Idle = true
 tells_idle (told.Closed code) = false
 
--- the same of a poll, which may want memory
+-- the news of a poll, whose allocation may fail
 abbrev pub news_by : Result PartnerEvent Memory → Result (Option News) Memory
 news_by (Ok event) = Ok (news_of event)
 news_by (Err memory) = Err memory
@@ -56,14 +56,14 @@ sent_by news.Sent = 1
 sent_by (news.Received rid body) = 0
 sent_by (news.Closed code) = 0
 
--- how many blocks were told as sent
+-- how many blocks were reported as sent
 abbrev pub sent_in : List News → ℕ
 sent_in [] = 0
 sent_in (n ∷ ns) = sent_by n + sent_in ns
 
--- ---- of two partners
+-- ---- two partners
 
--- what one of them tells
+-- the news of one of them
 abbrev pub events_of : Role → Option News → List PairEvent
 events_of role None = []
 events_of role (Some n) = record { role = role; news = n } ∷ []
@@ -74,7 +74,7 @@ is_same Active Passive = false
 is_same Passive Active = false
 is_same Passive Passive = true
 
--- WHAT ONE OF THEM TOLD, in order
+-- THE NEWS OF ONE OF THEM, in order
 abbrev pub told_by : Role → List PairEvent → List News
 told_by role [] = []
 told_by role (e ∷ es) = if is_same role e.role then e.news ∷ told_by role es else told_by role es

@@ -1,4 +1,4 @@
--- Two partners over two pipes: their turns, and what comes of them.
+-- Two partners over two pipes: their turns, and the result.
 use Rattle.std.specs.Prelude.{◌≡◌, ◌⊎◌, ℕ, zero, suc, ◌==◌, ◌&&◌, ◌||◌, ◌≤◌, Bool, true, false, if◌then◌else◌, List, []}
 use Rattle.std.specs.Prelude.{◌∷◌, ◌++◌, map, length, Option, None, Some, Result, Ok}
 use Rattle.std.specs.Borrow.{GName}
@@ -26,7 +26,7 @@ pub record State : Type 0 where
   pub passive : Post
   -- the octets on their way in either direction
   pub pipes : PipesHeld
-  -- what both told so far
+  -- the news of both so far
   pub events : List PairEvent
 
 abbrev pub state_of : Pair → State
@@ -52,13 +52,13 @@ side_of Passive = side.Server
 
 -- ---- turns
 
--- a turn over an end of the pipes, whichever loan that is
+-- a turn over an end of the pipes, by whichever borrow
 pub record TurnsOver (side : Side) (post : Post) (pipes : PipesHeld) (post' : Post) (pipes' : PipesHeld)
     (result : Result (Option News) Memory) : Type 0 where
   pub loan : GName
   pub turn : IsTurn post (end_of loan pipes side) post' (end_of loan pipes' side) result
 
--- a turn of one of them, and its news: everything else is the same
+-- a turn of one of them, and its news: everything else stays
 pub record TakesTurn (role : Role) (old new : State) (news : Option News) : Type 0 where
   pub post : Post
   pub pipes : PipesHeld
@@ -86,11 +86,11 @@ role_by actor = if actor == 0 then Active else Passive
 abbrev pub are_done : State → Bool
 are_done s = is_done s.active && is_done s.passive
 
--- or one is closed
+-- both are done, or one is closed
 abbrev pub is_over : State → Bool
 is_over s = is_closed s.active || (is_closed s.passive || are_done s)
 
--- ROUNDS of both, at most so many, which end where all is over
+-- ROUNDS of both, at most this number; they end when both are done or one is closed
 unfoldable pub Rounds : ℕ → State → State → Type 0
 Rounds zero old new = new ≡ old
 Rounds (suc more) old new =
@@ -99,21 +99,21 @@ Rounds (suc more) old new =
 
 -- ---- whole runs, of this profile's own lengths
 
--- two partners that have done nothing, with the blocks of each before it, and pipes of 4,096 octets whose clock stands
--- at 2024-01-01
+-- two partners that have done nothing, with all blocks of each still to be given, and pipes of 4,096 octets whose clock
+-- shows 2024-01-01
 pub record AreFresh (config : Config) (one other : List SendLine) (s : State) : Type 0 where
   pub active : IsFresh Active config one s.active
   pub passive : IsFresh Passive config other s.passive
   pub pipes : s.pipes ≡ empty_pipes 4096 1704067200000
   pub events : s.events ≡ []
 
--- A WHOLE RUN: so many turns that are drawn from a seed, and then rounds
+-- A WHOLE RUN: this number of turns that are drawn from a seed, and then rounds
 pub record IsRun (seed steps : ℕ) (old new : State) : Type 0 where
   pub middle : State
   pub turned : Turns (map role_by (seeded seed steps 2)) old middle
   pub rounds : Rounds 16777216 middle new
 
--- ---- what comes of it
+-- ---- the result
 
 pub record EndTold : Type 0 where
   pub events : List PairEvent
@@ -125,25 +125,25 @@ end_told e = record { events = e.events.items; is_done = e.is_done }
 abbrev pub state_told : State → EndTold
 state_told s = record { events = s.events; is_done = are_done s }
 
--- what one of them was given to send, by what the other told: a front of it came, at least as much as was told as sent,
--- and where both are done all of it, each block once
+-- what one of them was given to send, as the other received it: a prefix of it came, at least as many blocks as were
+-- reported as sent; and if both are done all of it, each block once
 pub record IsDelivered (sends : List SendLine) (end : EndTold) (sender receiver : Role) : Type 0 where
   pub front : Delivered (blocks_of sends) (received_in (told_by receiver end.events))
   pub sent : sent_in (told_by sender end.events) ≤ length (received_in (told_by receiver end.events))
   pub all : end.is_done ≡ true → received_in (told_by receiver end.events) ≡ blocks_of sends
   pub all_sent : end.is_done ≡ true → sent_in (told_by sender end.events) ≡ length sends
 
--- TWO PARTNERS over two pipes, each given the blocks of a list, were run, and this came of it
+-- TWO PARTNERS over two pipes, each given the blocks of a list, were run, with this result
 pub record PairRan (config : Config) (one other : List SendLine) (seed steps : ℕ) (end : EndTold) : Type 0 where
   pub start : State
   pub last : State
   pub fresh : AreFresh config one other start
   pub run : IsRun seed steps start last
   pub ends : end ≡ state_told last
-  -- by what each used and transmitted
+  -- the course of each, by the octets that it used and transmitted
   pub active : IsSide Active config (blocks_of one) (told_by Active end.events)
   pub passive : IsSide Passive config (blocks_of other) (told_by Passive end.events)
   pub paired : ArePaired config config active.acts passive.acts active.used passive.used active.written passive.written
-  -- all blocks come whole and in order
+  -- the blocks come whole and in order
   pub there : IsDelivered one end Active Passive
   pub back : IsDelivered other end Passive Active

@@ -1,4 +1,4 @@
--- What one partner came to that was given the blocks of a list.
+-- The result of one partner that was given the blocks of a list.
 use Rattle.std.specs.Prelude.{◌≡◌, ℕ, List, ◌++◌}
 use Rattle.s7_dialogue.specs.declared.config.Config.{Config}
 use Rattle.s7_partner.specs.declared.role.Role.{Role}
@@ -8,8 +8,8 @@ use Rattle.s7_partner.specs.Pairs as partners
 use Rattle.s7_partner_run.specs.declared.event.News.{News}
 use Rattle.s7_partner_run.specs.Events.{received_in, sent_in}
 
--- ONE PARTNER was given a front of these blocks, in order, and told these news: it took a course of acts by the octets
--- that it used and transmitted, and told each block that it handed out and each end of a send.
+-- ONE PARTNER was given a prefix of these blocks, in order, and reported these news: it took a course of acts by the
+-- octets that it used and transmitted, and reported each block that it handed out and each end of a send.
 pub record IsSide (role : Role) (config : Config) (blocks : List Parcel) (told : List News) : Type 0 where
   pub acts : List Act
   pub used : List ℕ

@@ -1,4 +1,4 @@
--- A partner with the blocks that it is still to be given, and its turns over a link.
+-- A partner with the blocks that weren't given to it yet, and its turns over a link.
 use Rattle.std.specs.Prelude.{◌≡◌, ◌⊎◌, ℕ, zero, suc, ◌==◌, ◌&&◌, ◌||◌, not, Bool, true, false, List, [], ◌∷◌, ◌++◌}
 use Rattle.std.specs.Prelude.{length, map, Option, None, Some, IsSome, is_none, Result, Ok}
 use Rattle.s7_outer.specs.Shown.{Shown}
@@ -16,16 +16,16 @@ use Rattle.s7_partner_run.specs.declared.talker.Talker.{Talker}
 use Rattle.s7_partner_run.specs.Events.{news_by, is_idle_by, list_of}
 
 pub record Post : Type 0 where
-  -- the blocks that it is still to be given
+  -- the blocks that weren't given to it yet
   pub rest : List SendLine
   pub partner : Partner
-  -- its last poll told that nothing is outstanding
+  -- its last poll reported that nothing is outstanding
   pub is_idle : Bool
 
 abbrev pub post_of : Talker → Post
 post_of t = record { rest = t.rest.items; partner = t.partner; is_idle = t.is_idle }
 
--- one that has done nothing
+-- a partner that has done nothing
 pub record IsFresh (role : Role) (config : Config) (sends : List SendLine) (p : Post) : Type 0 where
   pub rest : p.rest ≡ sends
   pub partner : IsNew p.partner role config
@@ -47,7 +47,7 @@ is_closed p = not (is_none (closed_of p.partner))
 abbrev pub is_acknowledged : Post → Bool
 is_acknowledged p = length p.rest == 0 && not (is_sending p)
 
--- and nothing is outstanding
+-- every block was given and acknowledged, and nothing is outstanding
 abbrev pub is_done : Post → Bool
 is_done p = p.is_idle && is_acknowledged p
 
@@ -62,7 +62,7 @@ pub record GivesNext (old new : Post) : Type 0 where
   pub given : IsGiven old.partner partner line.rid line.body
   pub same : new ≡ record old { rest = rest; partner = partner }
 
--- one is unacknowledged, or none is left
+-- no block is given: one is unacknowledged, or none is left
 pub record GivesNone (old new : Post) : Type 0 where
   pub none : (is_sending old ≡ true) ⊎ (old.rest ≡ [])
   pub same : new ≡ old
@@ -76,7 +76,7 @@ pub record PollsOnce (old : Post) (link : Shown) (new : Post) (link' : Shown) (r
   pub same : new ≡ record old { partner = partner; is_idle = is_idle_by told }
   pub news : result ≡ news_by told
 
--- where it isn't closed, its next block is given where none is unacknowledged, and it polls once
+-- unless it is closed, its next block is given if none is unacknowledged, and it polls once
 pub record Talks (old : Post) (link : Shown) (new : Post) (link' : Shown) (result : Result (Option News) Memory)
     : Type 0 where
   pub opened : is_closed old ≡ false
@@ -91,7 +91,7 @@ pub record IsStill (old : Post) (link : Shown) (new : Post) (link' : Shown) (res
   pub same_link : link' ≡ link
   pub no_news : result ≡ Ok None
 
--- A TURN over a link; one that is closed does nothing
+-- A TURN over a link; a partner that is closed does nothing
 abbrev pub IsTurn : Post → Shown → Post → Shown → Result (Option News) Memory → Type 0
 IsTurn old link new link' result = Talks old link new link' result ⊎ IsStill old link new link' result
 
@@ -101,7 +101,7 @@ IsTurn old link new link' result = Talks old link new link' result ⊎ IsStill o
 abbrev pub is_over : Post → Bool
 is_over p = is_closed p || is_acknowledged p
 
--- TURNS over a link, at most so many, which end where it is over, and what it told in them
+-- TURNS over a link, at most this number, which end when it is over, and the news in them
 unfoldable pub Goes : ℕ → Post → Shown → Post → Shown → List News → Type 0
 Goes zero old link new link' news = (new ≡ old) × (link' ≡ link) × (news ≡ [])
 Goes (suc more) old link new link' news =

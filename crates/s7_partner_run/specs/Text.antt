@@ -1,4 +1,4 @@
--- The lines that tell what partners told.
+-- The lines for the news of partners.
 use Rattle.std.specs.Prelude.{ℕ, ◌/◌, ◌%◌, List, [], ◌∷◌, ◌++◌, codes}
 use Rattle.std.specs.List.{flat_map}
 use Rattle.hex.specs.Hex.{encode_lower, encode_upper}
@@ -17,7 +17,7 @@ name_of Passive = codes "b"
 abbrev pub four_octets : ℕ → List ℕ
 four_octets n = n / 16777216 ∷ n / 65536 % 256 ∷ n / 256 % 256 ∷ n % 256 ∷ []
 
--- octets in lower-case hexadecimal digits, or `-` where there are none
+-- octets in lower-case hexadecimal digits, or `-` if there are none
 abbrev pub body_text : List ℕ → List ℕ
 body_text [] = codes "-"
 body_text (b ∷ bs) = encode_lower (b ∷ bs)
@@ -36,7 +36,7 @@ event_text e = name_of e.role ++ (news_text e.news ++ 10 ∷ [])
 abbrev pub events_text : List PairEvent → List ℕ
 events_text es = flat_map event_text es
 
--- those of what the active partner told
+-- the line for a piece of news of the active partner
 abbrev pub active_text : News → List ℕ
 active_text n = event_text (record { role = Active; news = n })
 

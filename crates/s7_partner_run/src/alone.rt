@@ -1,4 +1,4 @@
-// An active partner over one link.
+//! An active partner over one link.
 ghost use Rattle.std.specs.Prelude.{◌≡◌, ◌≤◌, IsErrOf};
 ghost use Rattle.s7_outer.specs.Count.{Rose};
 ghost use Rattle.s7_partner_run.specs.Alone.{PrintsNews, Talked, TalksOnce, end_of};
@@ -16,17 +16,17 @@ use std::alloc::Global;
 pub enum TalkEnd {
     /// Every block was acknowledged.
     Sent,
-    /// The partner is closed, or 2^64 - 1 turns were taken.
+    /// The partner is closed, or took 2^64 - 1 turns.
     Unsent,
     /// The output failed.
     Output,
-    /// Memory was wanting, to hand a block out or for a line.
+    /// An allocation failed, to hand a block out or for a line.
     Memory,
 }
 
-/// Turns of an active partner over a link until every block is acknowledged or it is closed, 2^64 - 1 at most. Each
-/// news is printed as it comes, in a line as `pair_text` has it. Behind a failure of the output, or want of memory, no
-/// turn is taken.
+/// Takes turns of an active partner over a link until every block is acknowledged or the partner is closed, 2^64 - 1
+/// turns at most. Prints each piece of news as it comes, in a line as `pair_text` writes it. After a failure of the
+/// output or of an allocation it takes no more turns.
 pub fn talk<L: Link, O: Out>(
     alloc: Global,
     talker: &mut Talker,
@@ -49,7 +49,7 @@ pub fn talk<L: Link, O: Out>(
     end_of(talker)
 }
 
-// How it ended where no turn is left to take.
+/// How the turns ended, when none is left to take.
 fn end_of(talker: &Talker) -> TalkEnd
     ensures { result ≡ end_of (post_of talker.now) }
 {
@@ -60,7 +60,7 @@ fn end_of(talker: &Talker) -> TalkEnd
     }
 }
 
-// A turn, and the line of its news.
+/// Takes a turn, and prints the line of its news.
 fn talk_once<L: Link, O: Out>(
     alloc: Global,
     talker: &mut Talker,
@@ -79,7 +79,7 @@ fn talk_once<L: Link, O: Out>(
     }
 }
 
-// Prints the line of the active partner's news.
+/// Prints the line of the active partner's news.
 fn print_news<O: Out>(alloc: Global, news: News, out: &mut O) -> Result<(), TalkEnd>
     ensures prints { PrintsNews news (O.shows out.old) (O.shows out.new) result }
     ensures failed { IsErrOf result TalkEnd.Output → Rose (O.shows out.old).faults (O.shows out.new).faults }

@@ -1,28 +1,28 @@
-// What partners tell that is news.
+//! The news of partners.
 use s7_outer::Octets;
 use s7_partner::Role;
 
-/// What a partner told that is news.
+/// A piece of news that a partner reported.
 #[derive(Debug, Drop)]
 pub enum News {
-    /// A block that it was given came whole to the other side, which acknowledged it.
+    /// A block that the partner was given came whole to the other side, which acknowledged it.
     Sent,
-    /// A block came whole.
+    /// A block came whole from the other side.
     Received {
-        /// What the two partners know the block by (R_ID).
+        /// The number that identifies the block for the two partners (R_ID).
         rid: u32,
-        /// Its octets.
+        /// The octets of the block.
         body: Octets,
     },
-    /// It closed, with the number of an error, one of `s7_client::codes`.
+    /// The partner closed, with the number of an error, one of `s7_client::codes`.
     Closed(u32),
 }
 
 /// News of one of two partners.
 #[derive(Debug, Drop)]
 pub struct PairEvent {
-    /// Which of the two.
+    /// Which of the two partners.
     pub role: Role,
-    /// What it told.
+    /// The news.
     pub news: News,
 }

@@ -1,4 +1,4 @@
-//! Partners that are given the blocks of sends files: two in memory, turn by turn, or one over a link.
+//! Partners that send the blocks of sends files: two in memory, turn by turn, or one over a link.
 #![tactic(auto)]
 
 mod alone;

@@ -1,4 +1,4 @@
-// Two partners over two pipes.
+//! Two partners over two pipes.
 ghost use Rattle.std.specs.Prelude.{◌≡◌, ◌∷◌, ◌++◌, ◌≤◌, All, [], IfOk, OnOk, map};
 ghost use Rattle.s7_schedule.specs.Drawing.{seeded};
 ghost use Rattle.s7_script.specs.Sends.{IsSized};
@@ -17,16 +17,16 @@ use s7_schedule::Draw;
 use s7_script::Sends;
 use std::alloc::Global;
 
-/// How many octets there may be in each pipe.
+/// The number of octets for which each pipe has room.
 const ROOM: usize = 4_096;
 
-/// 2024-01-01, in milliseconds since 1970, at which the clock of the pipes stands.
+/// The moment that the clock of the pipes shows: 2024-01-01, in milliseconds since 1970.
 const MOMENT: u64 = 1_704_067_200_000;
 
-/// So many rounds are made at most.
+/// The most rounds that are made.
 const MOST_ROUNDS: u32 = 16_777_216;
 
-/// Two partners, what is between them, and what they told.
+/// Two partners, the pipes between them, and their news.
 #[derive(Drop)]
 pub(crate) struct Pair {
     pub active: Talker,
@@ -35,18 +35,18 @@ pub(crate) struct Pair {
     pub events: Vec<PairEvent>,
 }
 
-/// What came of two partners.
+/// The result of a run of two partners.
 #[derive(Drop)]
 pub struct PairEnd {
-    /// What they told, in order.
+    /// The news of both, in order.
     pub events: Vec<PairEvent>,
-    /// Every block of both was acknowledged, and nothing was outstanding.
+    /// Whether every block of both was acknowledged, and nothing was outstanding.
     pub is_done: bool,
 }
 
 impl Pair {
-    /// Two partners that have done nothing, each to be given the blocks of a list. `Memory` comes where there is none
-    /// for them.
+    /// Two partners that have done nothing, each with the blocks of a list still to be given. Returns `Memory` if an
+    /// allocation fails.
     pub fn new(alloc: Global, config: Config, one: Sends, other: Sends) -> Result<Pair, Memory>
         requires least_pdu { 64 ≤ config.pdu }
         requires most_pdu { config.pdu ≤ 1920 }
@@ -65,8 +65,9 @@ impl Pair {
         })
     }
 
-    /// So many turns that are drawn from the seed, and then rounds of both, until both are done or one is closed, or
-    /// 16,777,216 were made. `Memory` comes where there is none for a block or for what is told.
+    /// Takes `steps` turns that are drawn from the seed, and then rounds of both. The rounds end when both are done or
+    /// one is closed, or after 16,777,216 rounds. Returns `Memory` if an allocation for a block or for a piece of news
+    /// fails.
     pub fn run(&mut self, alloc: Global, seed: u32, steps: u32) -> Result<(), Memory>
         ensures { OnOk result (IsRun seed steps (state_of self.old) (state_of self.new)) }
     {
@@ -74,7 +75,7 @@ impl Pair {
         self.take_rounds(alloc)
     }
 
-    // Turns that are drawn from the seed.
+    /// Takes turns that are drawn from the seed.
     fn take_drawn(&mut self, alloc: Global, seed: u32, steps: u32) -> Result<(), Memory>
         ensures { OnOk result (Turns (map role_by (seeded seed steps 2)) (state_of self.old) (state_of self.new)) }
     {
@@ -86,7 +87,7 @@ impl Pair {
         Ok(())
     }
 
-    // Rounds until all is over.
+    /// Takes rounds until both are done or one is closed.
     fn take_rounds(&mut self, alloc: Global) -> Result<(), Memory>
         ensures { OnOk result (Rounds 16777216 (state_of self.old) (state_of self.new)) }
     {
@@ -99,7 +100,7 @@ impl Pair {
         Ok(())
     }
 
-    // A turn of each.
+    /// Takes a turn of each.
     fn round(&mut self, alloc: Global) -> Result<(), Memory>
         ensures { OnOk result (Turns (Active ∷ Passive ∷ []) (state_of self.old) (state_of self.new)) }
     {
@@ -107,7 +108,7 @@ impl Pair {
         self.turn(alloc, Role::Passive)
     }
 
-    // A turn of one of them. Its news is kept.
+    /// Takes a turn of one of them, and keeps its news.
     fn turn(&mut self, alloc: Global, role: Role) -> Result<(), Memory>
         ensures { OnOk result (TurnsOnce role (state_of self.old) (state_of self.new)) }
     {
@@ -117,6 +118,7 @@ impl Pair {
         }
     }
 
+    /// Takes a turn of one of them, and returns its news.
     fn take_turn(&mut self, alloc: Global, role: Role) -> Result<Option<News>, Memory>
         ensures { IfOk result (λ news. TakesTurn role (state_of self.old) (state_of self.new) news) }
     {
@@ -126,7 +128,7 @@ impl Pair {
         }
     }
 
-    // Keeps what one of them told.
+    /// Keeps a piece of news of one of them.
     fn keep(&mut self, event: PairEvent) -> Result<(), Memory>
         ensures { OnOk result (state_of self.new ≡ record (state_of self.old) {
           events = self.old.events.items ++ event ∷ [];
@@ -138,20 +140,21 @@ impl Pair {
         Ok(())
     }
 
-    // Both are done, or one is closed.
+    /// Whether both are done, or one is closed.
     fn is_over(&self) -> bool
         ensures { result ≡ is_over (state_of self.now) }
     {
         self.active.is_closed() || self.passive.is_closed() || self.are_done()
     }
 
+    /// Whether both are done.
     fn are_done(&self) -> bool
         ensures { result ≡ are_done (state_of self.now) }
     {
         self.active.is_done() && self.passive.is_done()
     }
 
-    /// What came of it.
+    /// The result of the run.
     pub fn into_end(self) -> PairEnd
         ensures { end_told result ≡ state_told (state_of self) }
     {
@@ -162,7 +165,7 @@ impl Pair {
     }
 }
 
-// A turn over an end of the pipes.
+/// Takes a turn of a partner over its end of the pipes.
 fn turn_over(
     alloc: Global,
     talker: &mut Talker,
@@ -175,7 +178,7 @@ fn turn_over(
     talker.turn(alloc, &mut end)
 }
 
-// Actor 0 is the active partner, and actor 1 the passive one.
+/// Actor 0 is the active partner, and actor 1 the passive one.
 fn role_by(actor: usize) -> Role
     ensures { result ≡ role_by actor }
 {

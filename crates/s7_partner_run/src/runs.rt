@@ -1,4 +1,4 @@
-// A whole run of two partners.
+//! A whole run of two partners.
 ghost use Rattle.std.specs.Prelude.{◌≤◌, All, IfOk};
 ghost use Rattle.s7_script.specs.Sends.{IsSized};
 ghost use Rattle.s7_partner_run.specs.Pairs.{PairRan, end_told};
@@ -9,11 +9,11 @@ use s7_outer::Memory;
 use s7_script::Sends;
 use std::alloc::Global;
 
-/// Runs an active and a passive partner over two pipes of 4,096 octets each, which are given the blocks of `one` and
-/// of `other`. Each turn of a partner that isn't closed gives its next block where none is unacknowledged, and polls
-/// once. So many turns are drawn from the seed, where actor 0 is the active partner and actor 1 the passive one, and
-/// then come rounds of both. These end where every block was acknowledged and nothing is outstanding, where one of
-/// them is closed, or after 16,777,216 rounds. `Memory` comes where there is none.
+/// Runs an active and a passive partner over two pipes of 4,096 octets each. They are given the blocks of `one` and of
+/// `other`. In each turn, a partner that isn't closed is given its next block if none is unacknowledged, and polls
+/// once. First come `steps` turns that are drawn from the seed; actor 0 is the active partner and actor 1 the passive
+/// one. Then come rounds of both. The rounds end when every block was acknowledged and nothing is outstanding, when one
+/// of the partners is closed, or after 16,777,216 rounds. Returns `Memory` if an allocation fails.
 pub fn run_pair(
     alloc: Global,
     config: Config,

@@ -1,4 +1,4 @@
-// A partner that is given the blocks of a list, one after another.
+//! A partner that is given the blocks of a list, one after another.
 ghost use Rattle.std.specs.Prelude.{◌≡◌, All};
 ghost use Rattle.s7_script.specs.Sends.{IsSized};
 ghost use Rattle.s7_partner_run.specs.Events.{is_idle_by, news_by};
@@ -11,12 +11,12 @@ use s7_script::{SendLine, Sends};
 use std::alloc::Global;
 use std::collections::VecDeque;
 
-/// A partner, and the blocks that it is still to be given.
+/// A partner, and the blocks that weren't given to it yet.
 #[derive(Drop)]
 pub struct Talker {
     pub(crate) rest: VecDeque<SendLine>,
     pub(crate) partner: Partner,
-    /// Its last poll told that nothing is outstanding.
+    /// Whether its last poll reported that nothing is outstanding.
     pub(crate) is_idle: bool,
     ghost sized: { All IsSized rest.items },
 }
@@ -26,8 +26,8 @@ impl Talker {
     ghost use Rattle.s7_partner_run.specs.Talking.{GivesNext, GivesNone, IsFresh, IsTurn, PollsOnce};
     ghost use Rattle.s7_partner_run.specs.Talking.{is_acknowledged, is_closed, is_done, is_over, post_of};
 
-    /// A partner that has done nothing, and is to be given the blocks of these lines in order. The configuration is
-    /// one that `Client::new` takes. `Memory` comes where there is none for it.
+    /// A partner that has done nothing, and will be given the blocks of these lines in order. The configuration must be
+    /// one that `Client::new` takes. Returns `Memory` if an allocation fails.
     pub fn new(alloc: Global, role: Role, config: Config, sends: Sends) -> Result<Talker, Memory>
         requires least_pdu { 64 ≤ config.pdu }
         requires most_pdu { config.pdu ≤ 1920 }
@@ -44,37 +44,37 @@ impl Talker {
         })
     }
 
-    /// Every block was given and acknowledged.
+    /// Whether every block was given and acknowledged.
     pub fn is_acknowledged(&self) -> bool
         ensures { result ≡ is_acknowledged (post_of self.now) }
     {
         self.rest.is_empty() && !self.partner.is_sending()
     }
 
-    /// The partner is closed.
+    /// Whether the partner is closed.
     pub fn is_closed(&self) -> bool
         ensures { result ≡ is_closed (post_of self.now) }
     {
         self.partner.closed().is_some()
     }
 
-    /// Every block was given and acknowledged, or the partner is closed.
+    /// Whether every block was given and acknowledged, or the partner is closed.
     pub(crate) fn is_over(&self) -> bool
         ensures { result ≡ is_over (post_of self.now) }
     {
         self.is_closed() || self.is_acknowledged()
     }
 
-    /// Every block was given and acknowledged, and the last turn left nothing outstanding.
+    /// Whether every block was given and acknowledged, and the last turn left nothing outstanding.
     pub(crate) fn is_done(&self) -> bool
         ensures { result ≡ is_done (post_of self.now) }
     {
         self.is_idle && self.is_acknowledged()
     }
 
-    /// Its turn: where it isn't closed, its next block is given where none is unacknowledged, and it polls once. Gives
-    /// the news, if there is one. `Memory` comes where there is none to hand a block out; it is handed out by the next
-    /// turn.
+    /// Takes the partner's turn: unless it is closed, it is given its next block if none is unacknowledged, and polls
+    /// once. Returns the news, if there is one. Returns `Memory` if an allocation to hand a block out fails; the next
+    /// turn hands it out.
     pub fn turn<L: Link>(&mut self, alloc: Global, link: &mut L) -> Result<Option<News>, Memory>
         ensures { IsTurn (post_of self.old) (L.shows link.old) (post_of self.new) (L.shows link.new) result }
     {
@@ -85,7 +85,7 @@ impl Talker {
         self.poll_once(alloc, link)
     }
 
-    // Gives the next block, where none is unacknowledged and one is left.
+    /// Gives the partner its next block, if none is unacknowledged and one is left.
     fn give_next(&mut self)
         requires opened { is_closed (post_of self.old) ≡ false }
         ensures { GivesNext (post_of self.old) (post_of self.new) ⊎ GivesNone (post_of self.old) (post_of self.new) }
@@ -101,7 +101,7 @@ impl Talker {
         }
     }
 
-    // Polls once.
+    /// Polls once.
     fn poll_once<L: Link>(&mut self, alloc: Global, link: &mut L) -> Result<Option<News>, Memory>
         ensures { PollsOnce (post_of self.old) (L.shows link.old) (post_of self.new) (L.shows link.new) result }
     {
@@ -111,7 +111,7 @@ impl Talker {
     }
 }
 
-// Nothing is outstanding.
+/// Whether a poll reported that nothing is outstanding.
 fn tells_idle(told: &Result<PartnerEvent, Memory>) -> bool
     ensures { result ≡ is_idle_by told.now }
 {
@@ -121,7 +121,7 @@ fn tells_idle(told: &Result<PartnerEvent, Memory>) -> bool
     }
 }
 
-// The news of what a poll told.
+/// The news in what a poll reported.
 fn news_by(told: Result<PartnerEvent, Memory>) -> Result<Option<News>, Memory>
     ensures { result ≡ news_by told }
 {

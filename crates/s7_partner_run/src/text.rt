@@ -1,4 +1,4 @@
-// The lines that tell what partners told.
+//! The lines for the news of partners.
 ghost use Rattle.std.specs.Prelude.{◌≡◌, ◌++◌, ◌∷◌, IfOk, OnOk, codes};
 ghost use Rattle.hex.specs.Hex.{encode_lower, encode_upper};
 ghost use Rattle.s7_partner_run.specs.Text.{body_text, event_text, events_text, four_octets, name_of, news_text};
@@ -8,10 +8,10 @@ use s7_outer::Memory;
 use s7_partner::Role;
 use std::alloc::Global;
 
-/// The lines of what two partners told, in order: `a` for the active partner or `b` for the passive one, and then
+/// The lines for the news of two partners, in order: `a` for the active partner or `b` for the passive one, and then
 /// `sent`, `received RID HEX` or `closed CODE`, with one space between two. RID and HEX are in lower-case hexadecimal
-/// digits, where `-` stands for no octets, and CODE is the number of an error in eight upper-case ones. `Memory` comes
-/// where there is none for the text.
+/// digits; HEX is `-` if there are no octets. CODE is the number of an error in eight upper-case hexadecimal digits.
+/// Returns `Memory` if an allocation fails.
 pub fn pair_text(alloc: Global, events: &[PairEvent]) -> Result<Vec<u8>, Memory>
     ensures { IfOk result (λ text. text.items ≡ events_text events.now) }
 {
@@ -22,7 +22,7 @@ pub fn pair_text(alloc: Global, events: &[PairEvent]) -> Result<Vec<u8>, Memory>
     Ok(text)
 }
 
-/// Adds the line of an event.
+/// Appends the line of an event.
 pub(crate) fn add_event(alloc: Global, text: &mut Vec<u8>, event: &PairEvent) -> Result<(), Memory>
     ensures { OnOk result (text.new.items ≡ text.old.items ++ event_text event.now) }
 {
@@ -32,7 +32,7 @@ pub(crate) fn add_event(alloc: Global, text: &mut Vec<u8>, event: &PairEvent) ->
     Ok(())
 }
 
-// The active partner is `a`, the passive one `b`.
+/// The name of a partner: `a` for the active one, `b` for the passive one.
 fn name_of(role: Role) -> &'static [u8]
     ensures { result.now ≡ name_of role }
 {
@@ -42,6 +42,7 @@ fn name_of(role: Role) -> &'static [u8]
     }
 }
 
+/// Appends a piece of news.
 fn add_news(alloc: Global, text: &mut Vec<u8>, news: &News) -> Result<(), Memory>
     ensures { OnOk result (text.new.items ≡ text.old.items ++ news_text news.now) }
 {
@@ -60,6 +61,7 @@ fn add_news(alloc: Global, text: &mut Vec<u8>, news: &News) -> Result<(), Memory
     }
 }
 
+/// Appends the news of a block that came.
 fn add_received(alloc: Global, text: &mut Vec<u8>, rid: u32, body: &[u8]) -> Result<(), Memory>
     ensures { OnOk result (text.new.items
         ≡ text.old.items ++ (codes " received " ++ (encode_lower (four_octets rid) ++ 32 ∷ body_text body.now))) }
@@ -71,6 +73,7 @@ fn add_received(alloc: Global, text: &mut Vec<u8>, rid: u32, body: &[u8]) -> Res
     add_body(alloc, text, body)
 }
 
+/// Appends the octets of a block, or `-` if there are none.
 fn add_body(alloc: Global, text: &mut Vec<u8>, body: &[u8]) -> Result<(), Memory>
     ensures { OnOk result (text.new.items ≡ text.old.items ++ body_text body.now) }
 {
@@ -83,6 +86,7 @@ fn add_body(alloc: Global, text: &mut Vec<u8>, body: &[u8]) -> Result<(), Memory
     Ok(())
 }
 
+/// A number in four octets, the high one first.
 fn four_octets(n: u32) -> [u8; 4]
     ensures { result ≡ four_octets n }
 {

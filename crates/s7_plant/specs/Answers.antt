@@ -39,7 +39,7 @@ abbrev pub read_item : Memory → Bool → Item → DataItem
 read_item m right item =
     record { code = read_code m right item; word = item.word; octets = read_octets m right item }
 
--- how many octets a data item takes that has n octets, the last one or not
+-- the octets of a data item that carries n octets, `last` if no other data item follows it
 abbrev pub item_size : ℕ → Bool → ℕ
 item_size n last = 4 + n + padding_of n last
 
@@ -50,7 +50,7 @@ write_all m right (item ∷ items) [] octets = m
 write_all m right (item ∷ items) (place ∷ places) octets =
     write_all (written m right item (octets_at octets place)) right items places octets
 
--- their codes
+-- the codes of these writes, in order
 abbrev pub write_codes : Memory → Bool → List Item → List DataPlace → List ℕ → List ℕ
 write_codes m right [] places octets = []
 write_codes m right (item ∷ items) [] octets = []
@@ -60,29 +60,30 @@ write_codes m right (item ∷ items) (place ∷ places) octets =
 
 -- ---- status lists, the clock and control
 
--- a reply that refuses, by its error word
+-- a reply that refuses a request with this error word
 abbrev pub refused : ℕ → Said
 refused error = said error [] []
 
--- a guard lets nobody change the clock or the run state, have the memory tidied, or insert or delete blocks, without
--- its right: this profile's own
+-- the areas have a guard and the link has no right: then it can't change the clock or the run state, have the memory
+-- compressed or copied, or insert or delete blocks; this rule is this profile's own
 abbrev pub is_barred : State → Bool → Bool
 is_barred s right = not right && is_some s.memory.guard
 
--- the error word of what a right is wanted for (Snap7 1.4 sources, s7_types.h: Code7NeedPassword)
+-- the reply to a request that needs a right, and the error word without it (Snap7 1.4 sources, s7_types.h:
+-- Code7NeedPassword)
 abbrev pub guarded : State → Bool → Said → Said
 guarded s right reply = if is_barred s right then refused 0xD241 else reply
 
 abbrev pub if_allowed : State → Bool → State → State
 if_allowed s right next = if is_barred s right then s else next
 
--- the image of a status list, and an error word where there is no such list
+-- the reply with the image of a status list, or with an error word if there is no such list
 abbrev pub listed : Option (List ℕ) → Said
 listed None = refused 0xD401
 listed (Some image) = said 0 [] image
 
--- the functions of the two controls (Snap7 1.4 sources, s7_types.h: TReqFunPlcHotStart, TReqFunPlcStop), and what they
--- answer: the function and a status, 00 where it was done, which is this profile's own
+-- the functions of the two controls (Snap7 1.4 sources, s7_types.h: TReqFunPlcHotStart, TReqFunPlcStop), and their
+-- answer: the function and a status, which is 00 if the control was carried out; the status is this profile's own
 abbrev pub service_function : ℕ
 service_function = 0x28
 
@@ -92,7 +93,7 @@ stop_function = 0x29
 abbrev pub controlled : ℕ → ℕ → Said
 controlled function status = said 0 (function ∷ status ∷ []) []
 
--- a start of what runs already, and a stop of what is stopped already: statuses of this profile's own
+-- the status of a start if the plant runs already, and of a stop if it is stopped already: this profile's own
 abbrev pub start_status : Bool → ℕ
 start_status running = if running then 0x02 else 0x00
 
@@ -105,11 +106,11 @@ stop_status running = if running then 0x00 else 0x07
 abbrev pub kinds : List ℕ
 kinds = 0x38 ∷ 0x41 ∷ 0x42 ∷ 0x43 ∷ 0x44 ∷ 0x45 ∷ 0x46 ∷ []
 
--- data blocks, which are areas (Snap7 1.4 reference manual, `Cli_ListBlocksOfType`)
+-- the kind of data blocks, which are areas (Snap7 1.4 reference manual, `Cli_ListBlocksOfType`)
 abbrev pub db_kind : ℕ
 db_kind = 0x41
 
--- the numbers of the blocks of a kind, ascending
+-- the numbers of the blocks of a kind, in ascending order
 abbrev pub numbers_in : State → ℕ → List ℕ
 numbers_in s kind = if kind == db_kind then db_numbers (keys_of s.memory.areas) else numbers_of s.blocks.images kind
 
@@ -117,17 +118,17 @@ numbers_in s kind = if kind == db_kind then db_numbers (keys_of s.memory.areas) 
 abbrev pub db_octets : State → ℕ → Option (List ℕ)
 db_octets s number = area_octets s.memory (record { area = data_blocks; number = number })
 
--- a data block's image: its head and its octets, in a layout of this profile's own
+-- the image of a data block: its head and its octets, in a layout of this profile's own
 abbrev pub db_image : ℕ → List ℕ → List ℕ
 db_image number octets = spelling_of_head (db_head number (length octets)) ++ octets
 
--- the image of a block, and none where there is no such block
+-- the image of a block, `None` if there is no such block
 abbrev pub image_in : State → ℕ → ℕ → Option (List ℕ)
 image_in s kind number =
     if kind == db_kind then option_map (db_image number) (db_octets s number)
     else image_of_block s.blocks.images (record { kind = kind; number = number })
 
--- a kind with its count: `30`, the kind, and two octets (Snap7 1.4 reference manual, `Cli_ListBlocks`)
+-- a kind and the number of its blocks: `30`, the kind, and two octets (Snap7 1.4 reference manual, `Cli_ListBlocks`)
 abbrev pub kind_count : State → ℕ → List ℕ
 kind_count s kind = 0x30 ∷ kind ∷ two_octets (length (numbers_in s kind))
 
@@ -137,37 +138,38 @@ abbrev pub list_entry : State → ℕ → ℕ → List ℕ
 list_entry s kind number =
     two_octets number ++ take 2 (drop 3 (unwrap_or (image_in s kind number) []))
 
--- an error word where there is none (Snap7 1.4 sources, s7_types.h: Code7ResItemNotAvailable1)
+-- the reply with a list of blocks, or with an error word if the list is empty (Snap7 1.4 sources, s7_types.h:
+-- Code7ResItemNotAvailable1)
 abbrev pub entries_told : List ℕ → Said
 entries_told [] = refused 0xD209
 entries_told (x ∷ xs) = said 0 [] (x ∷ xs)
 
--- `30`, the kind, the length of what follows less two, and the head, in a layout of this profile's own, after
--- Snap7 1.4 sources, s7_types.h: TResDataBlockInfo
+-- the reply with a block's head: `30`, the kind, the length of what follows less two, and the head, in a layout of this
+-- profile's own, after Snap7 1.4 sources, s7_types.h: TResDataBlockInfo
 abbrev pub info_told : ℕ → Option (List ℕ) → Said
 info_told kind None = refused 0xD209
 info_told kind (Some image) = said 0 [] (0x30 ∷ kind ∷ 0x00 ∷ 0x22 ∷ take 36 image)
 
--- the function of an upload's start, six octets and the place of the upload's id, which its link writes there, and the
--- length of the image in seven digits behind their count (after
--- Snap7 1.4 sources, s7_types.h: TResFunStartUploadParams)
+-- the parameters of the answer to an upload's start: the function, six octets 00, an octet that the link replaces with
+-- the upload's id, the number of digits, and the length of the image in seven digits (after Snap7 1.4 sources,
+-- s7_types.h: TResFunStartUploadParams)
 abbrev pub upload_params : ℕ → List ℕ
 upload_params len =
     0x1D ∷ 0x00 ∷ 0x00 ∷ 0x00 ∷ 0x00 ∷ 0x00 ∷ 0x00 ∷ 0x00 ∷ 0x07 ∷ digits 7 len
 
--- an image that is uploaded (Snap7 1.4 reference manual, `Cli_FullUpload`): none longer than a reply has room for,
--- whose error word is this profile's own
+-- the reply with an image to upload (Snap7 1.4 reference manual, `Cli_FullUpload`); an image longer than a reply's room
+-- is refused, with an error word of this profile's own
 abbrev pub upload_told : Option (List ℕ) → Said
 upload_told None = refused 0xD209
 upload_told (Some image) =
     if nat_lt 65572 (length image) then refused 0x8F04 else said 0 (upload_params (length image)) image
 
--- without a right a guard of level 3 lets nobody upload: this profile's own
+-- without a right a guard of level 3 bars uploads: this profile's own
 abbrev pub uploaded : State → Bool → Said → Said
 uploaded s right reply = if is_read_barred s.memory.guard right then refused 0xD241 else reply
 
--- there is room for a block, or another one of its name that it takes the place of
--- (Snap7 1.4 reference manual, `Cli_Download`)
+-- the store has room for a block, or has one of its name that the new one replaces (Snap7 1.4 reference manual,
+-- `Cli_Download`)
 abbrev pub takes_block : State → ℕ → ℕ → Bool
 takes_block s kind number =
     nat_lt (length s.blocks.images) s.blocks.limit
@@ -182,7 +184,8 @@ with_inserted s kind number image =
     then record s { blocks = with_block s.blocks (record { kind = kind; number = number; image = image }) }
     else s
 
--- a block of the store is deleted (Snap7 1.4 reference manual, `Cli_Delete`); a data block is an area, which stays
+-- the reply to the deletion of a block of the store (Snap7 1.4 reference manual, `Cli_Delete`); a data block is an
+-- area, and can't be deleted
 abbrev pub deleted : State → ℕ → ℕ → Said
 deleted s kind number =
     if is_some (image_of_block s.blocks.images (record { kind = kind; number = number }))
@@ -190,10 +193,10 @@ deleted s kind number =
 
 -- ---- requests
 
--- THE ANSWER to a request with a right or without: the function of a read, the number of items and a data item for
--- each; or the function of a write, the number of items and the code of each; the image of a status list; the octets
--- of the clock, or none where it is set; the function of a control and its status. Of blocks: their counts, the list
--- of a kind, a head, the image of an upload, or the status of an insert or a delete.
+-- THE ANSWER to a request with a right or without. A read: its function, the number of items and a data item for each.
+-- A write: its function, the number of items and the code of each. A status list: its image. The clock: its octets, or
+-- nothing if it is set. A control: its function and status. Blocks: their counts, the list of a kind, a head, the image
+-- of an upload, or the status of an insert or a delete.
 abbrev pub answer : State → Bool → Request → Said
 answer s right (Read items) =
     said 0 (read_function ∷ length items ∷ []) (data_octets (map (read_item s.memory right) items))
@@ -213,8 +216,8 @@ answer s right (StartUpload kind number) = uploaded s right (upload_told (image_
 answer s right (Insert kind number image spare) = guarded s right (inserted s kind number)
 answer s right (Delete kind number) = guarded s right (deleted s kind number)
 
--- THE STATE that it leaves: what only reads changes nothing. A clock that is set is ahead by what is between the moment
--- that it is told and its value. A block that is inserted takes the place of the one of its name.
+-- THE STATE that a request leaves. What only reads changes nothing. A clock that is set is ahead by the difference
+-- between its value and the moment of the request. A block that is inserted replaces the one of its name.
 abbrev pub changed : State → Bool → Request → State
 changed s right (Read items) = s
 changed s right (Write items places octets) =
@@ -234,14 +237,14 @@ changed s right (StartUpload kind number) = s
 changed s right (Insert kind number image spare) = if_allowed s right (with_inserted s kind number image)
 changed s right (Delete kind number) = if_allowed s right (record s { blocks = without_block s.blocks kind number })
 
--- the same of what a link asks with
+-- the answer to what a link asks
 abbrev pub answer_of : State → Ask → Said
 answer_of s ask = answer s ask.right ask.request
 
 abbrev pub after : State → Ask → State
 after s ask = changed s ask.right ask.request
 
--- The reply is the one that this state gives, and the answer that is made of it has at most its full size.
+-- The reply is the answer that this state gives, and the telegram made of it has at most its full size.
 pub record IsReplyOf (s : State) (ask : Ask) (reply : Reply) : Type 0 where
   pub said : said_of reply ≡ answer_of s ask
   pub fits : Fits ask.request (said_of reply)

@@ -1,4 +1,4 @@
--- Laws of books: what a history leads to, in the plant and in what observers have.
+-- Laws of books: the plant that a history leads to, and what observers have seen of it.
 use Rattle.std.proofs.Common.{◌≡◌, ℕ, suc, ◌+◌, List, [], ◌∷◌, ◌++◌, length, map, refl, ap, sym, ◌∙◌, arith}
 use Rattle.std.proofs.lemmas.List.Sums.{fold-append}
 use Rattle.s7_turn.specs.declared.view.Entry.{Entry as Call}
@@ -40,13 +40,13 @@ calls_lead s (x ∷ xs) = calls_lead (after s x.ask) xs
 
 -- ---- a history as a machine's
 
--- the plant goes on as it does without observers
+-- the plant changes as it does without observers
 pub plant_of_replay : (s : BookState) (history : List (Call Ask))
     → (replay after_entry s history).plant ≡ replay after_call s.plant history
 plant_of_replay s [] = refl
 plant_of_replay s (call ∷ history) = plant_of_replay (after_entry s call) history
 
--- each observer was told of the history's events
+-- each observer was notified of the history's events
 pub seen_of_replay : (s : BookState) (history : List (Call Ask))
     → (replay after_entry s history).seen ≡ map (λ (x : Seen). told x (events_from s.plant s.number history)) s.seen
 seen_of_replay s [] = sym (map_same (λ x. x) (λ x. refl) s.seen)
@@ -77,11 +77,11 @@ length_events s number (x ∷ xs) = ap suc (length_events (after_call s x) (numb
 
 -- ---- who watches
 
--- no event changes nothing
+-- an empty list of events changes nothing
 pub watch_none : (ws : List Watch) → map (watch_all []) ws ≡ ws
 watch_none ws = map_same (watch_all []) (λ w. refl) ws
 
--- events one after another are told as all of them
+-- being notified of two lists of events one after another is being notified of all of them
 pub watch_more : (es es' : List Event) (ws : List Watch)
     → map (watch_all es') (map (watch_all es) ws) ≡ map (watch_all (es ++ es')) ws
 watch_more es es' ws =

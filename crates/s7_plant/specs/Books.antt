@@ -9,7 +9,7 @@ use Rattle.s7_plant.specs.Journals.{Entries, after_call, replay_entries}
 use Rattle.s7_plant.specs.Observers.{Seen, Watch, told_one, watch}
 use Rattle.s7_plant.specs.State.{State, state_of}
 
--- its plants and its journal, without who watches
+-- the plants and the journal of a book, without its observers
 pub record BookTold : Type 0 where
   pub opening : Plant
   pub plant : Plant
@@ -20,11 +20,11 @@ abbrev pub book_told : {O : Type 0} → Book O → BookTold
 book_told book =
     record { opening = book.opening; plant = book.plant; journal = book.journal; replayed = book.replayed }
 
--- who watches, and since when, where an observer shows this
+-- the observers of a book, and since when each watches, as `seen` shows them
 abbrev pub watches_of : {O : Type 0} → (O → Seen) → Book O → List Watch
 watches_of seen book = map (λ w. watch (seen w.observer) w.since) book.observers.items
 
--- what its observers have, in order
+-- what each observer of a book has, in order
 abbrev pub seen_of : {O : Type 0} → (O → Seen) → Book O → List Seen
 seen_of seen book = map (λ w. seen w.observer) book.observers.items
 
@@ -39,7 +39,7 @@ pub record BookState : Type 0 where
 abbrev pub book_state : State → ℕ → List Seen → BookState
 book_state plant number seen = record { plant = plant; number = number; seen = seen }
 
--- A CALL changes the plant, and each observer is told of it, once
+-- A CALL changes the plant, and each observer is notified of it once
 abbrev pub after_entry : BookState → Call Ask → BookState
 after_entry s call =
     book_state (after_call s.plant call) (s.number + 1)

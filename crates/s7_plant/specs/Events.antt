@@ -1,4 +1,4 @@
--- Events: what observers are told of a history, one for each call.
+-- Events: what observers are notified of, one for each call of a history.
 use Rattle.std.specs.Prelude.{◌≡◌, ℕ, ◌+◌, ◌≤◌, List, [], ◌∷◌, length, drop}
 use Rattle.std.specs.List.{AllByRecursion}
 use Rattle.s7_turn.specs.declared.view.Entry.{Entry as Call}
@@ -13,7 +13,7 @@ use Rattle.s7_plant.specs.Journals.{after_call}
 use Rattle.s7_plant.specs.Observers.{Watch, fresh, told}
 use Rattle.s7_plant.specs.State.{State}
 
--- the code of a request, one bit for each group of them (Snap7 1.4 reference manual, `Srv_SetMask`)
+-- the code of a request, one bit for each group of requests (Snap7 1.4 reference manual, `Srv_SetMask`)
 abbrev pub code_of : Request → ℕ
 code_of (Read items) = 0x0002_0000
 code_of (Write items places octets) = 0x0004_0000
@@ -31,7 +31,7 @@ code_of Compress = 0x0400_0000
 code_of CopyRam = 0x0400_0000
 code_of (Delete kind number) = 0x0400_0000
 
--- the event of a call that this state answers, as the entry of this number
+-- the event of a call to this state that becomes the entry of this number
 abbrev pub event_at : State → ℕ → Call Ask → Event
 event_at s number call = record {
   number = number;
@@ -40,17 +40,17 @@ event_at s number call = record {
   error = (answer_of s call.request).error;
 }
 
--- the events of calls, of which the first is the entry of this number
+-- the events of calls; the first call is the entry of this number
 abbrev pub events_from : State → ℕ → List (Call Ask) → List Event
 events_from s number [] = []
 events_from s number (call ∷ calls) = event_at s number call ∷ events_from (after_call s call) (number + 1) calls
 
--- THE EVENTS of a history that begins at a state
+-- THE EVENTS of a history that begins at this state
 abbrev pub events : State → List (Call Ask) → List Event
 events s history = events_from s 0 history
 
--- An observer of a book that began at a state and has this history: it was told of the events since it came, in order
--- and each once, and of nothing else.
+-- An observer of a book that began at a state and has this history: it was notified of all events since it came, in
+-- order and of each once, and of nothing else.
 pub record IsTold (opening : State) (history : List (Call Ask)) (w : Watch) : Type 0 where
   pub since : w.since ≤ length history
   pub told : w.seen ≡ told (fresh w.seen) (drop w.since (events opening history))

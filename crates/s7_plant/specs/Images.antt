@@ -1,4 +1,4 @@
--- The images of a plant that a book keeps, from which it makes the plant after so many entries.
+-- The images of a plant that a book keeps. From them it makes the plant after any number of entries.
 use Rattle.std.specs.Prelude.{◌≡◌, ℕ, ◌+◌, ◌*◌, ◌/◌, ◌%◌, ◌<◌, ◌≤◌, ◌==◌, ◌&&◌, Bool, true, if◌then◌else◌, Option, None, Some, List, length, map, slice_get, slice_set, slice_index_or, All}
 use Rattle.s7_area.specs.Memory.{shape_of}
 use Rattle.s7_block.specs.declared.block.BlockName.{BlockName}
@@ -29,34 +29,35 @@ abbrev pub stored_at : BlockName → Option Entry → Option (List ℕ)
 stored_at name None = None
 stored_at name (Some entry) = stored_as name entry.ask.request
 
--- THE IMAGE of a block that an entry stored, or that was there before the first of them
+-- THE IMAGE of a block by its source: the entry of this number stored it, or it was there at the opening
 abbrev pub image_of_source : BlockImages → List Entry → BlockName → Option ℕ → Option (List ℕ)
 image_of_source opening entries name None = image_at opening name
 image_of_source opening entries name (Some number) = stored_at name (slice_get entries number)
 
--- the names with the images that stand where they came from
+-- the names of blocks, each with the image at its source
 abbrev pub sourced : BlockImages → List Entry → Marked → List (BlockName × Option (List ℕ))
 sourced opening entries marks = map (λ e. (e.0, image_of_source opening entries e.0 e.1)) marks
 
--- images, each of which is there
+-- names with images, each of which exists
 abbrev pub all_there : BlockImages → List (BlockName × Option (List ℕ))
 all_there images = map (λ e. (e.0, Some e.1)) images
 
--- these say where the blocks came from, and there is room for as many as there may be
+-- these are the sources of the blocks, and they have room for as many as the store
 pub record AreSources (opening : State) (entries : List Entry) (sources : MarkList) (blocks : Store) : Type 0 where
   pub images : sourced opening.blocks.images entries sources.marks ≡ all_there blocks.images
   pub limit : sources.limit ≡ blocks.limit
 
 -- ---- what is kept
 
--- it is the state after the first n entries
+-- the kept state is the state after the first n entries
 pub record IsKeptAt (opening : State) (entries : List Entry) (n : ℕ) (kept : Kept) : Type 0 where
   pub memory : kept.areas ≡ (at opening entries n).memory
   pub offset : kept.offset ≡ (at opening entries n).offset
   pub running : kept.running ≡ (at opening entries n).running
   pub sources : AreSources opening entries kept.sources (at opening entries n).blocks
 
--- it has areas of these names and lengths, and room for so many sources
+-- the kept state has the areas' names and lengths of the opening, and room for as many sources as the opening's store
+-- has for blocks
 pub record HasRoomOf (opening : State) (kept : Kept) : Type 0 where
   pub shape : shape_of kept.areas ≡ shape_of opening.memory
   pub limit : kept.sources.limit ≡ opening.blocks.limit
@@ -76,7 +77,7 @@ pub record AreKept (opening : State) (journal : Entries) (images : Images) : Typ
 
 -- ---- one more entry
 
--- the sources after a request that was carried out with this error word as the entry of this number
+-- the sources of the blocks after a request that became the entry of this number and was answered with this error word
 abbrev pub sources_after : MarkList → ℕ → Request → ℕ → MarkList
 sources_after sources entry (Insert kind number image spare) error =
     if error == 0 then with_mark sources (named kind number) entry else sources
@@ -99,12 +100,12 @@ abbrev pub kept_of : Plant → MarkList → Kept
 kept_of plant sources =
     record { areas = plant.areas; offset = plant.offset; running = plant.running; sources = sources }
 
--- the state that is kept, with these blocks
+-- the state of what is kept, with these blocks
 abbrev pub kept_state : Kept → Store → State
 kept_state kept blocks =
     record { memory = kept.areas; blocks = blocks; offset = kept.offset; running = kept.running }
 
--- what a note of an entry needs
+-- what the record of an entry needs
 pub record CanBeNoted (images : Images) (entry : ℕ) (request : Request) (error : ℕ) (plant : Plant) : Type 0 where
   pub few : entry < 262144
   pub place : HasPlace images.sources request error
@@ -112,7 +113,7 @@ pub record CanBeNoted (images : Images) (entry : ℕ) (request : Request) (error
   pub shapes : All (λ (k : Kept). shape_of plant.areas ≡ shape_of k.areas) images.kept.items
   pub limits : All (λ (k : Kept). images.sources.limit ≡ k.sources.limit) images.kept.items
 
--- what a note of an entry leaves: the plant is kept in the next place where it is time
+-- what the record of an entry leaves: the plant is kept at the next index if its number is a multiple of 4,096
 pub record AreNoted (before : Images) (entry : ℕ) (request : Request) (error : ℕ) (plant : Plant) (after : Images) : Type 0 where
   pub sources : after.sources ≡ sources_after before.sources entry request error
   pub kept :

@@ -9,7 +9,7 @@ use Rattle.s7_plant.specs.Answers.{after}
 use Rattle.s7_plant.specs.Histories.{replay}
 use Rattle.s7_plant.specs.State.{State}
 
--- the entries in order, and how many there may be
+-- the entries in order, and the greatest number of them
 pub record Entries : Type 0 where
   pub entries : List Entry
   pub limit : ℕ
@@ -17,11 +17,11 @@ pub record Entries : Type 0 where
 abbrev pub entries_of : List Entry → ℕ → Entries
 entries_of entries limit = record { entries = entries; limit = limit }
 
--- an entry of this link that asks this
+-- the entry of this link for this request
 abbrev pub entered : ℕ → Ask → Entry
 entered link ask = record { link = link; ask = ask }
 
--- what the entries ask, in order
+-- what the entries asked, in order
 abbrev pub asks_of : List Entry → List Ask
 asks_of entries = map (λ (e : Entry). e.ask) entries
 
@@ -33,11 +33,11 @@ replay_entries s entries = replay s (asks_of entries)
 abbrev pub at : State → List Entry → ℕ → State
 at s entries n = replay_entries s (take n entries)
 
--- after each so many entries an image of the plant is kept
+-- an image of the plant is kept each time that this number of entries has been added
 abbrev pub image_interval : ℕ
 image_interval = 4096
 
--- how many steps it takes to come to that state from the newest image that isn't after it
+-- the number of steps to that state from the newest image at or before it
 abbrev pub steps_to : ℕ → ℕ
 steps_to n = n % image_interval
 
@@ -45,11 +45,11 @@ steps_to n = n % image_interval
 abbrev pub calls_of : List Entry → List (Call Ask)
 calls_of entries = map (λ (e : Entry). entry e.link e.ask) entries
 
--- what a call makes of a state
+-- the state after a call
 abbrev pub after_call : State → Call Ask → State
 after_call s call = after s call.request
 
--- as calls the entries lead to the same state
+-- read as calls, the entries lead to the same state
 abbrev pub CallsLeadTheSame : Type 0
 CallsLeadTheSame =
     (s : State) (entries : List Entry)
@@ -59,7 +59,7 @@ CallsLeadTheSame =
 abbrev pub AreReady : List Entry → Type 0
 AreReady entries = All (λ (e : Entry). IsReady e.ask.request) entries
 
--- the entries fit the limit, and there is room for so many
+-- the entries fit the limit, and the capacity is enough for the limit
 pub record IsJournal (entries : List Entry) (len limit capacity : ℕ) : Type 0 where
   pub some : 1 ≤ limit
   pub few : limit ≤ 262144

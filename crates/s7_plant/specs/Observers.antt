@@ -1,11 +1,11 @@
--- What an observer has after the events that it was told, by its mask
--- (Snap7 1.4 reference manual, `Srv_SetMask`). The tail is this profile's own.
+-- What an observer has after the events that it was notified of, by its mask (Snap7 1.4 reference manual,
+-- `Srv_SetMask`). The tail of last events is this profile's own.
 use Rattle.std.specs.Prelude.{◌≡◌, ℕ, ◌+◌, ◌-◌, ◌^◌, ◌==◌, List, [], ◌∷◌, ◌++◌, length, fold, slice_get}
 use Rattle.std.specs.Prelude.{Option, None, if◌then◌else◌, bit_and, min, nat_lt}
 use Rattle.circular_buffer.specs.Buffer.{keep_last}
 use Rattle.s7_plant.specs.declared.event.Event.{Event}
 
--- a mask of codes, how many of the last events stay, how many were counted, and those that stay
+-- a mask of codes, the greatest number of events that are kept, the number of events counted, and the events kept
 pub record Seen : Type 0 where
   pub mask : ℕ
   pub depth : ℕ
@@ -15,7 +15,7 @@ pub record Seen : Type 0 where
 abbrev pub seen_with : ℕ → ℕ → ℕ → List Event → Seen
 seen_with mask depth count tail = record { mask = mask; depth = depth; count = count; tail = tail }
 
--- the same mask and depth, and nothing counted
+-- the same mask and depth, with nothing counted
 abbrev pub fresh : Seen → Seen
 fresh s = seen_with s.mask s.depth 0 []
 
@@ -23,8 +23,8 @@ fresh s = seen_with s.mask s.depth 0 []
 abbrev pub IsFresh : Seen → Type 0
 IsFresh s = s ≡ fresh s
 
--- after one event: one whose code shares a bit with the mask raises the count by one, held at 2^64 - 1, and is appended
--- to the tail, of which the last ones stay; another one changes nothing
+-- after one event: if its code shares a bit with the mask, the count rises by one, at most to 2^64 - 1, and the event
+-- is appended to the tail, of which the last `depth` events stay; any other event changes nothing
 abbrev pub told_one : Seen → Event → Seen
 told_one s e =
     if bit_and e.code s.mask == 0 then s
@@ -34,11 +34,11 @@ told_one s e =
 abbrev pub told : Seen → List Event → Seen
 told s events = fold told_one s events
 
--- the event that has n events after it
+-- the event that n kept events follow
 abbrev pub newest_of : List Event → ℕ → Option Event
 newest_of tail n = if nat_lt n (length tail) then slice_get tail (length tail - n - 1) else None
 
--- an observer of a book, with the journal's length when it came
+-- an observer of a book, with the length that the journal had when the observer came
 pub record Watch : Type 0 where
   pub seen : Seen
   pub since : ℕ

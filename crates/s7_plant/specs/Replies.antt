@@ -1,4 +1,4 @@
--- Replies: what they say, and which have their rooms.
+-- Replies: their contents, and which are ready to be filled.
 use Rattle.std.specs.Prelude.{◌≡◌, ℕ, List}
 use Rattle.s7_plant.specs.declared.reply.Reply.{Reply}
 
@@ -14,7 +14,7 @@ said error params body = record { error = error; params = params; body = body }
 abbrev pub said_of : Reply → Said
 said_of reply = said reply.error reply.params.octets reply.body.octets
 
--- room for 16 octets of parameters, and for the longest image: this profile's own
+-- a reply with room for 16 octets of parameters and for the longest image: this profile's own
 pub record IsReadyReply (reply : Reply) : Type 0 where
   pub params : reply.params.room ≡ 16
   pub body : reply.body.room ≡ 65572

@@ -1,4 +1,4 @@
--- Requests: which of them are ready to be carried out, and what of them a history keeps.
+-- Requests: which of them are ready to be carried out, and what a history keeps of them.
 use Rattle.std.specs.Prelude.{◌≡◌, ℕ, ◌+◌, ◌≤◌, Bool, true, [], length, All}
 use Rattle.s7_item.specs.declared.places.DataPlace.{DataPlace}
 use Rattle.s7_item.specs.Sizes.{answer_size}
@@ -22,8 +22,8 @@ asked right request = record { right = right; request = request }
 abbrev pub no_room : Held
 no_room = record { octets = []; room = 0 }
 
--- The request as it stands in a history: the room that an insert brought is taken up. What a request is answered and
--- changes doesn't hang on that room.
+-- The request as a history keeps it: the room that an insert brought is used up. Neither the answer to a request nor
+-- its change depends on that room.
 abbrev pub kept_request : Request → Request
 kept_request (Read items) = Read items
 kept_request (Write items places octets) = Write items places octets
@@ -46,9 +46,9 @@ kept ask = asked ask.right (kept_request ask.request)
 
 -- ---- what can be carried out
 
--- A read's answer has at most 8,192 octets, this profile's own limit. A write has one place for each item, inside its
--- octets. A clock is set to a moment that clock octets have. A block that is inserted is of a kind that is stored, with
--- a head that is its own. All else can be carried out.
+-- A read's answer has at most 8,192 octets, this profile's own limit. A write has one range for each item, inside its
+-- octets. A clock is set to a moment that clock octets can represent. A block that is inserted is of a kind that is
+-- stored, with a head that agrees with its name. Every other request can be carried out.
 abbrev pub IsReady : Request → Type 0
 IsReady (Read items) = answer_size items ≤ 8192
 IsReady (Write items places octets) =
@@ -68,7 +68,7 @@ IsReady (StartUpload kind number) = Unit {0}
 IsReady (Insert kind number image spare) = (is_stored_kind kind ≡ true) × (head_agrees image kind number ≡ true)
 IsReady (Delete kind number) = Unit {0}
 
--- it brings the room that its change takes up: an insert that of its image, which is copied there
+-- the request brings the room that its change uses: an insert brings room for the copy of its image
 abbrev pub HasSpare : Request → Type 0
 HasSpare (Read items) = Unit {0}
 HasSpare (Write items places octets) = Unit {0}
@@ -86,28 +86,28 @@ HasSpare (StartUpload kind number) = Unit {0}
 HasSpare (Insert kind number image spare) = length image ≤ spare.room
 HasSpare (Delete kind number) = Unit {0}
 
--- what a step needs; of a history it needs readiness alone
+-- what a step needs; a request from a history needs readiness alone
 pub record CanBeDone (request : Request) : Type 0 where
   pub ready : IsReady request
   pub spare : HasSpare request
 
 -- ---- how long its answer is
 
--- where the reply has no error, its answer has at most so many octets
+-- if the reply has no error, the telegram made of it has at most this number of octets
 abbrev pub HasAtMost : ℕ → Said → Type 0
 HasAtMost most reply = reply.error ≡ 0 → 12 + length reply.params + length reply.body ≤ most
 
--- where the reply has no error, it has at most so many octets, of which answers to user data are cut
+-- if the reply has no error, its body has at most this number of octets; answers to user data are cut from it
 abbrev pub HasBody : ℕ → Said → Type 0
 HasBody most reply = reply.error ≡ 0 → length reply.body ≤ most
 
--- where the reply has no error, it has the 16 octets of an upload's start (after
--- Snap7 1.4 sources, s7_types.h: TResFunStartUploadParams) and an image that an upload has room for
+-- if the reply has no error, it has the 16 octets of an upload's start (after Snap7 1.4 sources, s7_types.h:
+-- TResFunStartUploadParams) and an image of at most 65,572 octets
 abbrev pub HasImage : Said → Type 0
 HasImage reply = reply.error ≡ 0 → (length reply.params ≡ 16) × (length reply.body ≤ 65572)
 
--- The answer that is made of the reply has at most the full size of answers to the request: of a control that is the
--- function and a status. The octets for user data have at most the length of a message.
+-- The telegram made of the reply has at most the full size of an answer to this request; for a control that is the
+-- function and a status. The octets of an answer to user data have at most 8,192 octets.
 abbrev pub Fits : Request → Said → Type 0
 Fits (Read items) reply = HasAtMost (answer_size items) reply
 Fits (Write items places octets) reply = HasAtMost (14 + length items) reply

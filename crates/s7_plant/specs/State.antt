@@ -7,9 +7,9 @@ use Rattle.s7_plant.specs.declared.plant.Plant.{Plant}
 
 pub record State : Type 0 where
   pub memory : Memory
-  -- the blocks that were loaded; data blocks are areas of the memory
+  -- the blocks of the store; data blocks are areas of the memory
   pub blocks : Store
-  -- by how many milliseconds its clock is ahead of the moments that it is told
+  -- how many milliseconds its clock is ahead of the moments that requests bring
   pub offset : ℤ
   pub running : Bool
 
@@ -17,7 +17,8 @@ pub record State : Type 0 where
 abbrev pub no_blocks : Store
 no_blocks = record { images = []; limit = 1024 }
 
--- a plant of this memory with these blocks, to which nothing has happened: it runs, and its clock is right
+-- a plant with this memory and these blocks at its beginning: it runs, and its clock shows the moments that requests
+-- bring
 abbrev pub opens_with : Memory → Store → State
 opens_with m blocks = record { memory = m; blocks = blocks; offset = pos 0; running = true }
 

@@ -1,4 +1,4 @@
-// What is said of a block.
+//! How questions about blocks are answered: heads, uploads, inserts and deletions.
 ghost use Rattle.std.specs.Prelude.{◌≡◌, ◌≤◌, ◌++◌, [], Some, length};
 ghost use Rattle.s7_area.specs.Guards.{is_read_barred};
 ghost use Rattle.s7_plant.specs.Answers.{deleted, guarded, image_in, info_told, inserted};
@@ -16,7 +16,7 @@ use crate::reply::{BODY_ROOM, Reply};
 use s7_area::Guard;
 use s7_block::write_digits;
 
-/// Says the head of a block, and refuses where there is no such block.
+/// Puts the head of a block into the reply. Refuses with D209 if there is no such block.
 pub(crate) fn say_info(plant: &Plant, kind: u8, number: u16, reply: &mut Reply)
     requires empty { said_of reply.old ≡ said 0 [] [] }
     requires reply { IsReadyReply reply.old }
@@ -26,7 +26,7 @@ pub(crate) fn say_info(plant: &Plant, kind: u8, number: u16, reply: &mut Reply)
 {
     match find_image(plant, kind, number) {
         Some(image) => {
-            // how many octets follow, less two
+            // // the length of what follows, less two octets
             reply.body.add(&[KIND_MARK, kind, 0x00, 0x22]);
             reply.body.add(&image.head);
         }
@@ -34,8 +34,8 @@ pub(crate) fn say_info(plant: &Plant, kind: u8, number: u16, reply: &mut Reply)
     }
 }
 
-/// Says the image of a block. Refuses where a guard bars reads and there is no right, where there is
-/// no such block, and where the image is longer than a reply has room for.
+/// Puts the image of a block into the reply. Refuses if the guard bars reads and the link has no right, if there is no
+/// such block, and if the image is longer than the reply's room.
 pub(crate) fn say_upload(plant: &Plant, right: bool, kind: u8, number: u16, reply: &mut Reply)
     requires empty { said_of reply.old ≡ said 0 [] [] }
     requires reply { IsReadyReply reply.old }
@@ -54,7 +54,7 @@ pub(crate) fn say_upload(plant: &Plant, right: bool, kind: u8, number: u16, repl
     }
 }
 
-/// There is no right, and the guard asks for one for reads.
+/// Whether a guard requires a right for reads and the link has none.
 fn is_read_barred(guard: Option<Guard>, right: bool) -> bool
     ensures { result ≡ is_read_barred guard right }
 {
@@ -64,7 +64,7 @@ fn is_read_barred(guard: Option<Guard>, right: bool) -> bool
     }
 }
 
-/// Says an image, and refuses one that is longer than a reply has room for.
+/// Puts an image into the reply. Refuses with 8F04 if it is longer than the reply's room.
 fn say_image(image: &Image<'_>, reply: &mut Reply)
     requires empty { said_of reply.old ≡ said 0 [] [] }
     requires reply { IsReadyReply reply.old }
@@ -77,7 +77,7 @@ fn say_image(image: &Image<'_>, reply: &mut Reply)
         reply.refuse(NO_ROOM);
         return;
     }
-    // six octets, the place of the upload's id, and how many digits follow
+    // // six octets 00, one for the upload's id, and the number of digits that follow
     reply.params.add(&[UPLOAD_FUNCTION, 0, 0, 0, 0, 0, 0, 0, 7]);
     let mut digits = [0; 7];
     write_digits(len as u32, &mut digits);
@@ -86,8 +86,8 @@ fn say_image(image: &Image<'_>, reply: &mut Reply)
     reply.body.add(image.rest);
 }
 
-/// Says that a block is stored, and refuses where control needs a right and there is none, and where
-/// there is no room for the block.
+/// Puts the answer to the insertion of a block into the reply; `step` then stores it. Refuses if the areas have a guard
+/// and the link has no right, and if there is no room for the block.
 pub(crate) fn say_insert(plant: &Plant, right: bool, kind: u8, number: u16, reply: &mut Reply)
     requires empty { said_of reply.old ≡ said 0 [] [] }
     requires reply { IsReadyReply reply.old }
@@ -104,8 +104,8 @@ pub(crate) fn say_insert(plant: &Plant, right: bool, kind: u8, number: u16, repl
     }
 }
 
-/// Says that a block is deleted, and refuses where control needs a right and there is none, and where
-/// there is no such block in the store.
+/// Puts the answer to the deletion of a block into the reply; `step` then deletes it. Refuses if the areas have a guard
+/// and the link has no right, and if the store has no such block.
 pub(crate) fn say_delete(plant: &Plant, right: bool, kind: u8, number: u16, reply: &mut Reply)
     requires empty { said_of reply.old ≡ said 0 [] [] }
     requires reply { IsReadyReply reply.old }

@@ -1,4 +1,4 @@
-// A plant with the journal that led to it, and who watches.
+//! A plant with the journal that led to it, and its observers.
 ghost use Rattle.std.specs.Prelude.{◌≡◌, ℕ, ◌≤◌, ◌<◌, ◌+◌, List, ◌++◌, ◌∷◌, ◌↔◌, [], Some, length, map};
 ghost use Rattle.std.specs.Prelude.{IsErr, IfErr, MatchResult, IfOk, OnOk, remove, slice_get, slice_set};
 ghost use Rattle.std.specs.List.{AllZip, AllByRecursion};
@@ -24,17 +24,19 @@ use std::alloc::Global;
 use std::mem;
 use std::sync::ledger::Ledger;
 
-/// A plant with its journal: the plant is what the journal's entries, one after another, made of the
-/// opening. Observers are told of each entry.
+/// A plant with its journal. The plant is what the journal's entries made of the opening, one after another. Observers
+/// are notified of each entry.
 #[derive(Drop)]
 pub struct Book<O> {
     /// The plant before the first entry.
     pub opening: Plant,
-    /// The plant after the last one.
+    /// The plant after the last entry.
     pub plant: Plant,
+    /// The entries since the opening.
     pub journal: Journal,
+    /// The observers, in the order in which they are notified.
     pub observers: Vec<Watcher<O>>,
-    // after each so many entries, so that the way to an earlier plant is short
+    // // the plant after every 4,096th entry, so that an earlier plant is reached in few steps
     pub(crate) images: Images,
     pub ghost replayed: { state_of plant ≡ replay_entries (state_of opening) journal.entries },
     pub ghost kept: { AreKept (state_of opening) journal images },
@@ -51,10 +53,10 @@ impl<O: Observer> Book<O> {
     ghost use Rattle.s7_plant.specs.Observers.{IsFresh, fresh, watch, watch_one};
     ghost use Rattle.s7_plant.specs.State.{opens_with};
 
-    /// A plant with these areas, these blocks, of which there may be 1,024, and nothing in its journal,
-    /// which takes `limit` entries, from 1 to 262,144, watched by these observers in their order, none of
-    /// which has counted anything. The room of all and a copy of the areas and the blocks are taken here;
-    /// `Memory` comes where there is none for them, and what was handed in is dropped then.
+    /// A book that opens with these areas and blocks, with an empty journal that takes `limit` entries, from 1 to
+    /// 262,144. The store of blocks has room for 1,024. The observers keep their order; none may have counted anything.
+    /// All room, and a copy of the areas and the blocks, is allocated here. Returns `Memory` if an allocation fails;
+    /// the areas, the blocks and the observers are dropped then.
     pub fn new(
         alloc: Global,
         areas: Areas,
@@ -90,8 +92,8 @@ impl<O: Observer> Book<O> {
         })
     }
 
-    /// Puts a new observer, which has counted nothing, in the place of another. That one is handed out as
-    /// it stands, and is told nothing more. Needs a place that there is.
+    /// Replaces the observer at this index with a new one that has counted nothing, and returns the old one unchanged.
+    /// The old one is notified of nothing more. The index must exist.
     pub fn swap_observer(&mut self, place: usize, new: O) -> O
         requires place { place < length self.old.observers.items }
         requires fresh { IsFresh (O.seen new) }
@@ -115,8 +117,8 @@ impl<O: Observer> Book<O> {
         out.observer
     }
 
-    /// Takes an observer out, which is handed out as it stands and is told nothing more. Needs a place that
-    /// there is.
+    /// Removes the observer at this index and returns it unchanged. It is notified of nothing more. The index must
+    /// exist.
     pub fn remove_observer(&mut self, place: usize) -> O
         requires place { place < length self.old.observers.items }
         ensures out { slice_get (map (λ w. w.observer) self.old.observers.items) place ≡ Some result }
@@ -133,11 +135,11 @@ impl<O: Observer> Book<O> {
         self.observers.remove(place).observer
     }
 
-    /// Carries out what a link asks and enters it under its number, and answers the entry's number, from
-    /// 0. The reply is the one of the plant that all earlier entries led to, as `Plant::reply` has it.
-    /// Each observer is then told of the entry, once. What was asked comes back exactly where the journal
-    /// has its limit's length, and nothing changes then, not even the reply, and no observer is told. Needs
-    /// a request that can be done and a ready reply, and leaves the reply ready. It takes no memory.
+    /// Carries out what a link asks, appends it to the journal under the link's number, and returns the entry's number,
+    /// counted from 0. The reply is what the plant answers after all earlier entries, as `Plant::reply` states. Each
+    /// observer is then notified of the entry once. `ask` is returned as `Err` exactly if the journal has reached its
+    /// limit; then nothing changes, not even the reply, and no observer is notified. Needs a request that can be done
+    /// and a ready reply, and leaves the reply ready. Allocates nothing.
     pub fn step(&mut self, link: u32, mut ask: Ask, reply: &mut Reply) -> Result<u64, Ask>
         requires request { CanBeDone ask.request }
         requires reply { IsReadyReply reply.old }
@@ -181,11 +183,11 @@ impl<O: Observer> Book<O> {
         Ok(number)
     }
 
-    /// The plant after the first `n` entries. Needs `n` to be at most the journal's length. It begins at
-    /// the newest image that isn't after them, of which there is one after each 4,096th entry. Each
-    /// application of an entry is one step, so there are `n` mod 4,096 of them. The images of blocks that
-    /// are stored are copied before the first step. `Memory` comes where there is none for the plant or
-    /// for them, and no step was taken then.
+    /// The plant after the first `n` entries; `n` may be at most the journal's length. It starts from the newest kept
+    /// image of the plant at or before entry `n` (one is kept after every 4,096th entry) and applies the entries since.
+    /// Each application counts as one step, so there are `n` mod 4,096 steps. The images of blocks that these entries
+    /// store are copied before the first step. Returns `Memory` if an allocation for the plant or for these copies
+    /// fails; then no step was taken.
     pub fn image_at<S: Ledger>(
         &self,
         alloc: Global,
@@ -215,8 +217,8 @@ impl<O: Observer> Book<O> {
     }
 }
 
-/// For each entry a copy of the image of the block that it stores, where it stores one. `Memory` comes
-/// where there is none for them.
+/// For each entry, a copy of the image of the block that the entry stores, or `None` if it stores none. Returns
+/// `Memory` if an allocation fails.
 fn copy_images(alloc: Global, entries: &[Entry]) -> Result<Vec<Option<Octets>>, Memory>
     ensures { IfOk result (λ copies. AllZip (λ entry copy. (kind number : ℕ) (image : List ℕ) (spare : Held)
         → entry.ask.request ≡ Request.Insert kind number image spare → copy ≡ Some image)

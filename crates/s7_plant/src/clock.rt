@@ -1,10 +1,11 @@
-// The clock of a plant.
+//! The clock of a plant.
 ghost use Rattle.std.specs.Prelude.{◌≡◌, pos, ◌+ℤ◌, ◌-ℤ◌};
 ghost use Rattle.s7_clock.specs.Moment.{IsHeld, held, moment_octets};
 
 use s7_clock::{date_of, hold, to_octets};
 
-/// The clock octets of what a clock shows at a moment, so many milliseconds ahead of it.
+/// The clock octets that a clock shows at `moment`, in milliseconds since 1970, if it is `offset` milliseconds ahead.
+/// Moments before 1990 or after 2089 count as the nearest one within, and so does the sum.
 pub(crate) fn shown_octets(moment: u64, offset: i64) -> [u8; 10]
     ensures { result ≡ moment_octets (held (pos (held (pos moment)) +ℤ offset)) }
 {
@@ -12,7 +13,7 @@ pub(crate) fn shown_octets(moment: u64, offset: i64) -> [u8; 10]
     to_octets(date_of(shown))
 }
 
-/// By how many milliseconds a clock is ahead that shows this value at this moment.
+/// How many milliseconds a clock that shows `value` at `moment` is ahead. Both are in milliseconds since 1970.
 pub(crate) fn offset_of(moment: u64, value: u64) -> i64
     requires { IsHeld value }
     ensures { result ≡ pos value -ℤ pos (held (pos moment)) }
@@ -20,11 +21,11 @@ pub(crate) fn offset_of(moment: u64, value: u64) -> i64
     value as i64 - nearest(moment) as i64
 }
 
-/// The moment nearest to this one of those that have clock octets.
+/// The nearest moment to this one that clock octets can represent: from 1990 to the end of 2089.
 fn nearest(moment: u64) -> u64
     ensures value { result ≡ held (pos moment) }
     ensures within { IsHeld result }
 {
-    // no moment that has clock octets is as late as `i64::MAX`
+    // // `i64::MAX` is later than every moment that clock octets can represent
     hold(moment.min(i64::MAX as u64) as i64)
 }

@@ -1,4 +1,4 @@
-// The data items that answer a read.
+//! The data items that answer a read.
 ghost use Rattle.std.specs.Prelude.{◌≡◌, ◌+◌, ◌≤◌, [], ◌∷◌, ◌++◌, length, map};
 ghost use Rattle.s7_item.specs.Item.{octet_count};
 ghost use Rattle.s7_item.specs.Codes.{good, read_function};
@@ -14,7 +14,7 @@ use s7_item::codes::{GOOD, READ_FUNCTION};
 use s7_item::{Item, Items, padding_of, stated_length, transport_of};
 use s7_outer::Buffer;
 
-/// Says what a read of the items gives.
+/// Puts the answer to a read of these items into the reply. The answer has at most 8,192 octets.
 pub(crate) fn say_items(areas: &Areas, right: bool, items: &Items, reply: &mut Reply)
     requires few { answer_size items.now ≤ 8192 }
     requires empty { said_of reply.old ≡ said 0 [] [] }
@@ -29,7 +29,7 @@ pub(crate) fn say_items(areas: &Areas, right: bool, items: &Items, reply: &mut R
     add_data_items(areas, right, items, &mut reply.body);
 }
 
-/// Adds a data item for each item, from left to right.
+/// Adds one data item for each item, from left to right.
 fn add_data_items(areas: &Areas, right: bool, items: &[Item], body: &mut Buffer)
     requires few { data_size (map octet_count items.now) ≤ 8178 }
     requires room { length body.old.octets + data_size (map octet_count items.now) ≤ body.old.room }
@@ -44,9 +44,8 @@ fn add_data_items(areas: &Areas, right: bool, items: &[Item], body: &mut Buffer)
     }
 }
 
-/// Adds the data item that answers the read of an item, the last one or not: code, transport size,
-/// length, octets, and a padding octet after an odd number of them where another item follows; with
-/// a code that refuses the item, the code and `00 00 00`.
+/// Adds the data item that answers the read of one item: code, transport size, length and octets. A padding octet
+/// follows an odd number of octets unless `last` is true. If the read is refused, adds the code and `00 00 00`.
 fn add_data_item(areas: &Areas, right: bool, item: &Item, last: bool, body: &mut Buffer)
     requires few { octet_count item.now ≤ 8178 }
     requires room { length body.old.octets + item_size (octet_count item.now) last ≤ body.old.room }
@@ -62,7 +61,7 @@ fn add_data_item(areas: &Areas, right: bool, item: &Item, last: bool, body: &mut
     }
 }
 
-/// Adds the data item of an item that has these octets.
+/// Adds the data item of an item that was read as these octets.
 fn add_octets(word: u8, octets: &[u8], last: bool, body: &mut Buffer)
     requires few { length octets.now ≤ 8178 }
     requires room { length body.old.octets + item_size (length octets.now) last ≤ body.old.room }
@@ -79,7 +78,7 @@ fn add_octets(word: u8, octets: &[u8], last: bool, body: &mut Buffer)
     }
 }
 
-/// The octets before those of an item that was read: code, transport size and length.
+/// The octets before those of an item that was read: code FF, transport size and length.
 fn head(word: u8, len: usize) -> [u8; 4]
     requires { len ≤ 8178 }
     ensures { result ≡ head_octets good word len }

@@ -1,14 +1,14 @@
-// What observers are told.
+//! The events that observers are notified of.
 
-/// An entry, as observers are told of it.
+/// An entry of a book's journal, as observers are notified of it.
 #[derive(Clone, Copy, Debug, PartialEq, Eq)]
 pub struct Event {
     /// The number of the entry in the journal, from 0.
     pub number: u64,
-    /// The link that asked.
+    /// The number of the link that asked.
     pub link: u32,
-    /// What was asked, as `Request::code` has it.
+    /// The code of the request, as `Request::code` returns it.
     pub code: u32,
-    /// The error word of the reply, 0 where there is none.
+    /// The error word of the reply, 0 if the request was carried out.
     pub error: u16,
 }

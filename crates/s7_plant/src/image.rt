@@ -1,4 +1,4 @@
-// The images of blocks.
+//! The images of blocks.
 ghost use Rattle.std.specs.Prelude.{◌≡◌, ◌≤◌, ◌++◌, length, option_map};
 ghost use Rattle.s7_item.specs.Codes.{data_blocks};
 ghost use Rattle.s7_area.specs.Memory.{area_octets};
@@ -12,17 +12,17 @@ use s7_block::kinds::DB;
 use s7_block::{Blocks, db_head};
 use s7_item::codes::DATA_BLOCKS;
 
-/// How many octets a head has.
+/// The number of octets of a block's head.
 const HEAD_LEN: usize = 36;
 
-/// The image of a block: its head, and the octets behind it.
+/// The image of a block: its head, and the octets after the head.
 #[derive(Drop)]
 pub(crate) struct Image<'a> {
     pub(crate) head: [u8; HEAD_LEN],
     pub(crate) rest: &'a [u8],
 }
 
-/// The image of a block, whose octets are lent. `None` comes exactly where there is no such block.
+/// The image of a block, borrowed from the plant. `None` exactly if there is no such block.
 pub(crate) fn find_image(plant: &Plant, kind: u8, number: u16) -> Option<Image<'_>>
     ensures { option_map (λ image. image.head ++ image.rest.now) result
         ≡ image_in (state_of plant.now) kind number }
@@ -34,12 +34,13 @@ pub(crate) fn find_image(plant: &Plant, kind: u8, number: u16) -> Option<Image<'
     }
 }
 
-/// The image of a data block, whose head is made here.
+/// The image of a data block. Its head is made here; its octets are those of the area. `None` exactly if there is no
+/// such area.
 fn find_area(areas: &Areas, number: u16) -> Option<Image<'_>>
     ensures { option_map (λ image. image.head ++ image.rest.now) result
         ≡ option_map (db_image number) (area_octets areas.now (record { area = data_blocks; number = number })) }
 {
-    // what is registered is within the limits of areas
+    // // every registered area is within the limits of areas
     let _numbers = areas.db_numbers();
     let key = AreaKey {
         area: DATA_BLOCKS,
@@ -55,7 +56,7 @@ fn find_area(areas: &Areas, number: u16) -> Option<Image<'_>>
     }
 }
 
-/// The image of a block that was loaded.
+/// The image of a block of the store. `None` exactly if the store has no such block.
 #[tactic(auto, unfolding(s7_block::specs::Heads::head_agrees))]
 fn find_stored(blocks: &Blocks, kind: u8, number: u16) -> Option<Image<'_>>
     ensures { option_map (λ image. image.head ++ image.rest.now) result
@@ -67,7 +68,7 @@ fn find_stored(blocks: &Blocks, kind: u8, number: u16) -> Option<Image<'_>>
     }
 }
 
-/// An image as its head and what stands behind it.
+/// Splits an image of at least 36 octets into its head and the octets after it.
 fn split(image: &[u8]) -> Image<'_>
     requires { 36 ≤ length image.now }
     ensures { result.head ++ result.rest.now ≡ image.now }

@@ -1,4 +1,4 @@
-// Images of a plant, kept after each so many entries.
+//! Images of a plant, one kept after every 4,096th entry.
 ghost use Rattle.std.specs.Prelude.{◌≡◌, ◌≤◌, ◌-◌, ◌%◌, [], Some, true, length, All, IfOk, IfSome, IsSome, option_map};
 ghost use Rattle.s7_area.specs.Memory.{shape_of};
 ghost use Rattle.s7_block.specs.Heads.{head_agrees};
@@ -16,21 +16,22 @@ use s7_block::{Block, BlockName, Blocks, Marks};
 use s7_outer::{Memory, Octets};
 use std::alloc::Global;
 
-/// After each so many entries an image is kept.
+/// An image of the plant is kept each time that this number of entries has been added.
 pub(crate) const IMAGE_INTERVAL: u64 = 4_096;
 
-/// A plant's state after so many entries, without the octets of its blocks.
+/// A plant's state at one point of the journal, without the octets of its blocks.
 #[derive(Drop)]
 pub(crate) struct Kept {
     areas: Areas,
     offset: i64,
     running: bool,
-    // the number of the entry that stored a block, and none of one that was there before
+    // // for each block the number of the entry that stored it, or none if it was there at the opening
     sources: Marks,
 }
 
 impl Kept {
-    /// Room for the state of this plant. `Memory` comes where there is none for it.
+    /// A kept state with the areas of this plant and room for its sources of blocks. Returns `Memory` if an allocation
+    /// fails.
     fn of(alloc: Global, plant: &Plant) -> Result<Kept, Memory>
         ensures areas { IfOk result (λ kept. kept.areas ≡ plant.now.areas) }
         ensures limit { IfOk result (λ kept. kept.sources.limit ≡ plant.now.blocks.limit) }
@@ -43,7 +44,8 @@ impl Kept {
         })
     }
 
-    /// Takes over the state of a plant whose blocks came from there. It takes no memory.
+    /// Copies the state of a plant whose blocks have these sources. The areas must have the names and lengths of those
+    /// kept here. Allocates nothing.
     fn overwrite(&mut self, plant: &Plant, sources: &Marks)
         requires shape { shape_of plant.now.areas ≡ shape_of self.old.areas }
         requires limit { sources.now.limit ≡ self.old.sources.limit }
@@ -55,7 +57,7 @@ impl Kept {
         self.sources.overwrite(sources);
     }
 
-    /// The plant with these blocks. `Memory` comes where there is none for it.
+    /// The plant of this kept state with these blocks. Returns `Memory` if an allocation fails.
     fn with_blocks(&self, alloc: Global, blocks: Blocks) -> Result<Plant, Memory>
         ensures { IfOk result (λ plant. state_of plant ≡ kept_state self.now blocks) }
     {
@@ -68,7 +70,7 @@ impl Kept {
     }
 }
 
-/// The images that are kept, with room for all that may be, and where each block came from by now.
+/// The kept images, with room for all that the journal can need, and the current source of each block.
 #[derive(Drop)]
 pub(crate) struct Images {
     kept: Vec<Kept>,
@@ -77,13 +79,13 @@ pub(crate) struct Images {
 }
 
 impl Images {
-    /// No image, and room for those of a journal with this limit, all of it taken here. `Memory` comes
-    /// where there is none for it.
+    /// No image, and room for all images of a journal with this limit, at most 262,144. All room is allocated here.
+    /// Returns `Memory` if an allocation fails.
     pub(crate) fn new(alloc: Global, opening: &Plant, limit: u64) -> Result<Images, Memory>
         requires { limit ≤ 262144 }
         ensures { IfOk result (AreKept (state_of opening.now) (entries_of [] limit)) }
     {
-        // a store has its blocks in order
+        // // a store keeps its blocks in order
         let _blocks = opening.blocks.len();
         let room = limit / IMAGE_INTERVAL;
         let mut kept = Vec::with_capacity(alloc, room as usize)?;
@@ -97,8 +99,8 @@ impl Images {
         })
     }
 
-    /// Notes what was asked as the entry of this number and answered with this error word, and left the
-    /// plant so. After each 4,096th entry the plant is kept. It takes no memory.
+    /// Records an entry: its number, what it asked, the error word of its answer, and the plant that it left. After
+    /// each 4,096th entry the plant is kept. Allocates nothing.
     pub(crate) fn note(&mut self, entry: u64, request: &Request, error: u16, plant: &Plant)
         requires { CanBeNoted self.old entry request.now error plant.now }
         ensures { AreNoted self.old entry request.now error plant.now self.new }
@@ -110,8 +112,8 @@ impl Images {
         }
     }
 
-    /// The plant of the newest image that isn't after the first `n` entries; the opening where there is
-    /// none. `Memory` comes where there is none for it.
+    /// The plant of the newest image at or before entry `n`, or the opening if there is none. Returns `Memory` if an
+    /// allocation fails.
     pub(crate) fn newest(
         &self,
         alloc: Global,
@@ -135,7 +137,8 @@ impl Images {
     }
 }
 
-/// Notes where the block comes from that a request stores, and that one is gone that it deletes.
+/// Records the entry as the source of the block that its request stores, and forgets the source of a block that it
+/// deletes. Changes nothing if the error word isn't 0.
 fn note_source(sources: &mut Marks, entry: u64, request: &Request, error: u16)
     requires { HasPlace sources.old request.now error }
     ensures { sources.new ≡ sources_after sources.old entry request.now error }
@@ -163,7 +166,8 @@ fn note_source(sources: &mut Marks, entry: u64, request: &Request, error: u16)
     }
 }
 
-/// The blocks that came from there. `Memory` comes where there is none for them.
+/// The blocks with these sources: their images are copied from the opening or from the entries. Returns `Memory` if an
+/// allocation fails.
 fn blocks_from(
     alloc: Global,
     opening: &Blocks,
@@ -184,7 +188,7 @@ fn blocks_from(
             unreachable!();
         };
         let image = Octets::copy_of(alloc, image)?;
-        // the names come in order, and there is room for all
+        // // the names come in order, and there is room for all of them
         let _ = blocks.insert(Block {
             kind: name.kind,
             number: name.number,
@@ -194,7 +198,8 @@ fn blocks_from(
     Ok(blocks)
 }
 
-/// The image of a block that came from there, lent.
+/// The image of a block with this source, borrowed: from the opening if `source` is `None`, otherwise from the entry of
+/// that number. `None` exactly if it isn't there.
 fn find_source<'a>(
     opening: &'a Blocks,
     entries: &'a [Entry],

@@ -1,4 +1,4 @@
-// What a plant was asked, in order.
+//! The journal: what a plant was asked, in order.
 ghost use Rattle.std.specs.Prelude.{◌≡◌, ◌<◌, ◌≤◌, ◌↔◌, [], ◌∷◌, ◌++◌, length};
 ghost use Rattle.std.specs.Prelude.{IsTrue, IfOk};
 ghost use Rattle.s7_plant.specs.Journals.{entries_of, AreReady};
@@ -9,15 +9,17 @@ use s7_outer::Memory;
 use std::alloc::Global;
 use std::marker::Model;
 
-/// A request that was carried out with its link's right or without, and the link that it came on.
+/// A request that was carried out, whether its link had the right, and the number of that link.
 #[derive(Drop)]
 pub struct Entry {
+    /// The number of the link that asked.
     pub link: u32,
+    /// What it asked, as a history keeps it.
     pub ask: Ask,
 }
 
-/// Entries in order, with room for all that may come. Contracts see the list and the limit of its
-/// length, which is from 1 to 262,144.
+/// Entries in order, with room for all that may come. Contracts see the list of entries and its limit, which is from 1
+/// to 262,144.
 #[derive(Drop)]
 pub struct Journal {
     entries: Vec<Entry>,
@@ -36,8 +38,8 @@ impl Model for Journal {
 }
 
 impl Journal {
-    /// No entries, and room for `limit` of them, all of it taken here. `Memory` comes where there is
-    /// none for it.
+    /// An empty journal with room for `limit` entries, from 1 to 262,144, all of it allocated here. Returns `Memory` if
+    /// the allocation fails.
     pub(crate) fn new(alloc: Global, limit: u64) -> Result<Journal, Memory>
         requires some { 1 ≤ limit }
         requires few { limit ≤ 262144 }
@@ -49,7 +51,7 @@ impl Journal {
         })
     }
 
-    /// How many entries there are.
+    /// The number of entries.
     pub fn len(&self) -> u64
         ensures len { result ≡ length self.now.entries }
         ensures most { result ≤ self.now.limit }
@@ -57,7 +59,7 @@ impl Journal {
         self.entries.len() as u64
     }
 
-    /// The entries, lent. The request of each is ready to be carried out again.
+    /// The entries, borrowed. Each of their requests is ready to be carried out again.
     pub fn as_slice(&self) -> &[Entry]
         ensures entries { result.now ≡ self.now.entries }
         ensures ready { AreReady self.now.entries }
@@ -65,14 +67,14 @@ impl Journal {
         self.entries.as_slice()
     }
 
-    /// There are as many entries as there may be.
+    /// Whether the journal has reached its limit.
     pub(crate) fn is_full(&self) -> bool
         ensures { IsTrue result ↔ (length self.now.entries ≡ self.now.limit) }
     {
         self.len() == self.limit
     }
 
-    /// Adds an entry at the end, which takes no memory.
+    /// Appends an entry. The journal must have room. Allocates nothing.
     pub(crate) fn push(&mut self, entry: Entry)
         requires room { length self.old.entries < self.old.limit }
         requires ready { IsReady entry.ask.request }

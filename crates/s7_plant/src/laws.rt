@@ -1,20 +1,20 @@
-// Laws of requests and histories.
+//! Laws of requests and histories.
 ghost use Rattle.s7_plant.specs.Histories.{KeptIsTheSame, KeptHistoriesAreTheSame, GoesOn};
 ghost use Rattle.s7_plant.specs.Journals.{CallsLeadTheSame};
 
-/// A law: what a history keeps of what was asked is answered and changes a state as that does, and so
-/// does a history of what was kept.
+/// A law: what a history keeps of a request has the same answer as the request and changes a state in the same way. A
+/// history of what is kept leads to the same state as the history of what was asked.
 pub fn kept_requests_are_the_same()
     ensures requests { KeptIsTheSame }
     ensures histories { KeptHistoriesAreTheSame }
 {}
 
-/// A law: one more request acts on the state that those before it left.
+/// A law: one more request acts on the state that the requests before it left.
 pub fn replay_goes_on()
     ensures { GoesOn }
 {}
 
-/// A law: a journal's entries lead to the state that they lead to as a history of calls.
+/// A law: a journal's entries, read as a history of calls, lead to the same state.
 pub fn calls_lead_the_same()
     ensures { CallsLeadTheSame }
 {}

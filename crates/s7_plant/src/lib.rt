@@ -1,6 +1,5 @@
-//! The plant: what clients ask of it, what it answers, and how its areas, its blocks, its clock and its
-//! run state go on; and the book, which is a plant with the journal that led to it,
-//! and observers that are told of each entry.
+//! The plant: what clients ask of it, what it answers, and how its areas, its blocks, its clock and its run state
+//! change. The book is a plant with the journal that led to it and with observers that are notified of each entry.
 #![tactic(auto)]
 
 mod blocks;

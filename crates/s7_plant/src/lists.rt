@@ -1,4 +1,4 @@
-// Lists of blocks.
+//! Lists of blocks.
 ghost use Rattle.std.specs.Prelude.{◌≡◌, ◌+◌, ◌≤◌, ◌==◌, ◌++◌, [], false, length};
 ghost use Rattle.std.specs.List.{flat_map};
 ghost use Rattle.s7_plant.specs.Answers.{kinds, kind_count, numbers_in, list_entry, entries_told};
@@ -15,7 +15,7 @@ use s7_outer::Buffer;
 /// The kinds of blocks in the order in which they are counted.
 const KINDS: [u8; 7] = [OB, DB, SDB, FC, SFC, FB, SFB];
 
-/// Says of each kind how many blocks there are.
+/// Puts the number of blocks of each kind into the reply.
 pub(crate) fn say_counts(plant: &Plant, reply: &mut Reply)
     requires empty { said_of reply.old ≡ said 0 [] [] }
     requires reply { IsReadyReply reply.old }
@@ -28,7 +28,7 @@ pub(crate) fn say_counts(plant: &Plant, reply: &mut Reply)
     }
 }
 
-/// Adds a kind with its count.
+/// Adds a kind and the number of its blocks.
 fn add_count(plant: &Plant, kind: u8, body: &mut Buffer)
     requires { length body.old.octets + 4 ≤ body.old.room }
     ensures octets { body.new.octets ≡ body.old.octets ++ kind_count (state_of plant.now) kind }
@@ -38,7 +38,7 @@ fn add_count(plant: &Plant, kind: u8, body: &mut Buffer)
     body.add(&[KIND_MARK, kind, high, low]);
 }
 
-/// How many blocks of a kind there are.
+/// The number of blocks of a kind.
 fn count_of(plant: &Plant, kind: u8) -> u16
     ensures { result ≡ length (numbers_in (state_of plant.now) kind) }
 {
@@ -49,7 +49,7 @@ fn count_of(plant: &Plant, kind: u8) -> u16
     }
 }
 
-/// Says which blocks of a kind there are, and refuses where there are none.
+/// Puts the list of the blocks of a kind into the reply. Refuses with D209 if there is no block of the kind.
 pub(crate) fn say_entries(plant: &Plant, kind: u8, reply: &mut Reply)
     requires empty { said_of reply.old ≡ said 0 [] [] }
     requires reply { IsReadyReply reply.old }
@@ -68,7 +68,7 @@ pub(crate) fn say_entries(plant: &Plant, kind: u8, reply: &mut Reply)
     }
 }
 
-/// Adds the data blocks.
+/// Adds the entries of all data blocks.
 fn add_areas(plant: &Plant, body: &mut Buffer)
     requires { length body.old.octets + 8192 ≤ body.old.room }
     ensures octets { let s = state_of plant.now in
@@ -81,7 +81,7 @@ fn add_areas(plant: &Plant, body: &mut Buffer)
     }
 }
 
-/// Adds the blocks of another kind.
+/// Adds the entries of all blocks of a kind other than data blocks.
 fn add_stored(plant: &Plant, kind: u8, body: &mut Buffer)
     requires other { (kind == DB) ≡ false }
     requires room { length body.old.octets + 8192 ≤ body.old.room }
@@ -95,7 +95,7 @@ fn add_stored(plant: &Plant, kind: u8, body: &mut Buffer)
     }
 }
 
-/// Adds a block: its number, and the flags and the language of its head.
+/// Adds the entry of a block: its number, and the flags and the language of its head.
 fn add_entry(plant: &Plant, kind: u8, number: u16, body: &mut Buffer)
     requires { length body.old.octets + 4 ≤ body.old.room }
     ensures octets { body.new.octets

@@ -1,4 +1,4 @@
-// Who is told of entries.
+//! Observers of a book's entries.
 ghost use Rattle.std.specs.Prelude.{◌≡◌, ◌≤◌, IfOk};
 ghost use Rattle.s7_plant.specs.Observers.{Seen, told_one, newest_of};
 
@@ -8,36 +8,35 @@ use s7_outer::Memory;
 use std::alloc::Global;
 use std::marker::Model;
 
-/// Is told of each entry of a book. It counts the events whose code shares a bit with its mask, and has
-/// the last of them. Mask and depth never change.
+/// Is notified of each entry of a book. It counts the events whose code shares a bit with its mask, and keeps the last
+/// of them. Its mask and its depth never change.
 pub trait Observer: Drop {
-    /// Its mask and depth, how many events it counted, and the last of them.
+    /// Its mask and depth, the number of events that it counted, and the last of them.
     ghost seen: { Self → Seen };
 
-    /// The codes that it hears, a bit for each.
+    /// The codes that it counts, one bit for each group of requests.
     fn mask(&self) -> u32
         ensures { result ≡ (seen self.now).mask };
 
-    /// How many of the last events it has at most.
+    /// The greatest number of events that it keeps.
     fn depth(&self) -> usize
         ensures { result ≡ (seen self.now).depth };
 
-    /// Tells it of an entry. One whose code shares a bit with the mask raises the count by one, held at
-    /// 2^64 - 1, and becomes the newest event; another one changes nothing.
+    /// Notifies it of an entry. If the event's code shares a bit with the mask, the count rises by one, at most to 2^64
+    /// - 1, and the event becomes the newest. Any other event changes nothing.
     fn tell(&mut self, event: &Event)
         ensures { seen self.new ≡ told_one (seen self.old) event.now };
 
-    /// How many events it counted.
+    /// The number of events that it counted.
     fn count(&self) -> u64
         ensures { result ≡ (seen self.now).count };
 
-    /// The event that has `n` events after it, 0 for the newest. `None` comes exactly where it has no more
-    /// than `n`.
+    /// The event that `n` kept events follow: 0 is the newest. `None` exactly if it keeps `n` events or fewer.
     fn newest(&self, n: usize) -> Option<Event>
         ensures { result ≡ newest_of (seen self.now).tail n };
 }
 
-/// Counts events, and has the last of them.
+/// An observer that counts events and keeps the last of them.
 #[derive(Drop)]
 pub struct Tail {
     mask: u32,
@@ -57,8 +56,8 @@ impl Tail {
     ghost use Rattle.std.specs.Prelude.{[]};
     ghost use Rattle.s7_plant.specs.Observers.{seen_with};
 
-    /// Hears the codes of this mask, and has the last `depth` events, at least 1. It has counted none.
-    /// Their room is taken here, and `Memory` comes where there is none for it.
+    /// Counts the events whose code shares a bit with `mask`, and keeps the last `depth` of them, at least 1. It has
+    /// counted none. The room for them is allocated here. Returns `Memory` if the allocation fails.
     pub fn new(alloc: Global, mask: u32, depth: usize) -> Result<Tail, Memory>
         requires { 1 ≤ depth }
         ensures { IfOk result (λ tail. tail ≡ seen_with mask depth 0 []) }

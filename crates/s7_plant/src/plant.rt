@@ -1,4 +1,4 @@
-// The plant.
+//! The plant.
 ghost use Rattle.std.specs.Prelude.{◌≡◌, ℕ, ◌≤◌, List, [], Some, true, length, IfOk};
 ghost use Rattle.s7_outer.specs.Held.{Held};
 ghost use Rattle.s7_block.specs.Heads.{head_agrees};
@@ -23,18 +23,19 @@ use s7_block::{Block, Blocks};
 use s7_outer::{Memory, Octets};
 use std::alloc::Global;
 
-/// How many blocks may be loaded.
+/// The greatest number of blocks in the store.
 pub const MOST_BLOCKS: usize = 1_024;
 
-/// A controller.
+/// A controller: its areas, its blocks, its clock and whether it runs.
 #[derive(Drop)]
 pub struct Plant {
-    /// Its areas, with their guard.
+    /// The areas, with their guard.
     pub areas: Areas,
-    /// The blocks that were loaded. Data blocks are areas.
+    /// The blocks of the store. Data blocks are areas and aren't among them.
     pub blocks: Blocks,
-    /// By how many milliseconds its clock is ahead of the moments that it is told.
+    /// How many milliseconds its clock is ahead of the moments that requests bring.
     pub offset: i64,
+    /// Whether it runs. A new plant does.
     pub running: bool,
 }
 
@@ -42,8 +43,8 @@ impl Plant {
     ghost use Rattle.s7_plant.specs.Answers.{answer, changed, guarded, is_barred, takes_block, with_inserted};
     ghost use Rattle.s7_plant.specs.State.{opens_with, state_of};
 
-    /// A plant with these areas and these blocks, of which there may be 1,024. Nothing has happened to
-    /// it: it runs, and its clock shows the moments that it is told.
+    /// A plant with these areas and these blocks; the store must have room for 1,024 blocks. The plant runs, and its
+    /// clock shows the moments that requests bring.
     pub fn new(areas: Areas, blocks: Blocks) -> Plant
         requires { blocks.limit ≡ 1024 }
         ensures { state_of result ≡ opens_with areas blocks }
@@ -56,7 +57,7 @@ impl Plant {
         }
     }
 
-    /// A copy. `Memory` comes where there is none for it.
+    /// A copy of the plant. Returns `Memory` if an allocation fails.
     pub(crate) fn copy(&self, alloc: Global) -> Result<Plant, Memory>
         ensures { IfOk result (λ copy. state_of copy ≡ state_of self.now) }
     {
@@ -68,43 +69,40 @@ impl Plant {
         })
     }
 
-    /// Answers a request as `step` does, and changes nothing. `right` is whether who asks has the right
-    /// that the guard's password gives. Needs a ready request and a ready reply, and leaves the reply
-    /// ready. The error word is 0 where none is named here; with another one nothing else is said.
+    /// Answers a request as `step` does, and changes nothing. `right` says whether the caller has the right that the
+    /// guard's password gives. Needs a ready request and a ready reply, and leaves the reply ready. The error word is 0
+    /// where no other is named here; with any other error word the reply has neither parameters nor a body.
     ///
-    /// A read is answered with `04`, the number of items, and a data item for each. A write is
-    /// answered with `05`, the number of items, and the code of each; its items are written from left
-    /// to right, each on what the one before left, and a refused item doesn't stop the next. Without a
-    /// right an item that the guard bars has code 03.
+    /// A read is answered with `04`, the number of items, and a data item for each. A write is answered with `05`, the
+    /// number of items, and the code of each. Its items are written from left to right, each on what the one before
+    /// left, and a refused item doesn't stop the next. Without a right, an item that the guard bars has code 03.
     ///
-    /// A status list is answered with its image, as `s7_szl::write_table` has it, and with error word
-    /// D401 where there is no such list and index.
+    /// A status list is answered with its image, as `s7_szl::write_table` writes it, or with error word D401 if there
+    /// is no such list and index.
     ///
-    /// A read of the clock is answered with ten clock octets, those of the request's moment plus the
-    /// plant's offset, both in milliseconds, the moment since 1970. The moment may be any: it counts as
-    /// the nearest one from 1990 to the end of 2089, and so does the sum. A clock that is set is
-    /// answered with nothing.
+    /// A read of the clock is answered with ten clock octets: those of the request's moment plus the plant's offset,
+    /// both in milliseconds, the moment since 1970. The moment may be any: it counts as the nearest one from 1990 to
+    /// the end of 2089, and so does the sum. The answer to a set of the clock has neither parameters nor a body.
     ///
-    /// A start, cold or not, is answered with `28 00`, and with `28 02` where the plant runs already; a
-    /// stop with `29 00`, and with `29 07` where it is stopped already; the compression of the memory
-    /// and its copy with `28 00`. These and the set clock are answered with error word D241 where there
-    /// is a guard, of either level, and no right.
+    /// A start, cold or warm, is answered with `28 00`, or with `28 02` if the plant runs already. A stop is answered
+    /// with `29 00`, or with `29 07` if the plant is stopped already. The compression of the memory and its copy are
+    /// answered with `28 00`. All of these, and the set of the clock, are answered with error word D241 if the areas
+    /// have a guard, of either level, and the caller has no right.
     ///
-    /// Blocks are counted by `30`, the kind and two octets, for the kinds OB, DB, SDB, FC, SFC, FB and
-    /// SFB. Data blocks are the areas of that kind. The list of a kind has for each block two octets of
-    /// its number, in ascending order, and the flags and the language of its head; error word D209
-    /// comes where there are none. The head of a block stands behind `30`, the kind and `00 22`; that
-    /// of a data block is made as `s7_block::db_head` has it.
+    /// The counts of blocks are `30`, the kind and two octets, for the kinds OB, DB, SDB, FC, SFC, FB and SFB. Data
+    /// blocks are the areas of that kind. The list of a kind has for each block two octets of its number, in ascending
+    /// order, and the flags and the language of its head; the error word is D209 if there is no block of the kind. The
+    /// head of a block follows `30`, the kind and `00 22`; the head of a data block is made by `s7_block::db_head`. The
+    /// error word is D209 if there is no such block.
     ///
-    /// The start of an upload is answered with `1D`, six octets 00, an octet 00 in the place of the
-    /// upload's id, `07` and seven digits of the image's length, and with the image. Error word D241
-    /// comes where the guard has level 3 and there is no right, D209 where there is no such block, and
-    /// 8F04 where the image has more than 65,572 octets.
+    /// The start of an upload is answered with `1D`, six octets 00, an octet 00 that the session replaces with the
+    /// upload's id, `07`, seven digits of the image's length, and the image. The error word is D241 if the guard has
+    /// level 3 and the caller has no right, D209 if there is no such block, and 8F04 if the image has more than 65,572
+    /// octets.
     ///
-    /// A block that is stored, in place of the one of its name, is answered with `28 00`, and with
-    /// error word 8F04 where there are 1,024 and none of its name. One that is deleted is answered with
-    /// `28 00`, and with D209 where there is none, so too for a data block. Both want a right as a start
-    /// does.
+    /// An insert stores a block in place of the one of the same name. It is answered with `28 00`, or with error word
+    /// 8F04 if the store has 1,024 blocks and none of that name. A deletion is answered with `28 00`, or with D209 if
+    /// the store has no such block; a data block is never in the store. Both need a right as a start does.
     pub fn reply(&self, right: bool, r: &Request, reply: &mut Reply)
         requires request { IsReady r.now }
         requires reply { IsReadyReply reply.old }
@@ -145,7 +143,7 @@ impl Plant {
         }
     }
 
-    /// Says these parameters, or refuses where control needs a right and there is none.
+    /// Puts these parameters into the reply. Refuses with D241 if the areas have a guard and the caller has no right.
     fn reply_if_allowed(&self, right: bool, params: &[u8], reply: &mut Reply)
         requires few { length params.now ≤ 16 }
         requires empty { said_of reply.old ≡ said 0 [] [] }
@@ -160,28 +158,27 @@ impl Plant {
         }
     }
 
-    /// Control of the clock, of the run state, of the memory and of the blocks needs a right, and there
-    /// is none.
+    /// Whether the areas have a guard and the caller has no right. Then the clock, the run state, the memory and the
+    /// blocks can't be changed.
     pub(crate) fn bars_control(&self, right: bool) -> bool
         ensures { result ≡ is_barred (state_of self.now) right }
     {
         !right && self.areas.guard().is_some()
     }
 
-    /// There is room for a block, or one of its name, which it takes the place of.
+    /// Whether the store has room for a block, or has one of its name that the new one replaces.
     pub(crate) fn takes_block(&self, kind: u8, number: u16) -> bool
         ensures { result ≡ takes_block (state_of self.now) kind number }
     {
         self.blocks.len() < self.blocks.limit() || self.blocks.get(kind, number).is_some()
     }
 
-    /// Answers a request as `reply` says of the plant that it finds, and makes its change. A write
-    /// changes the areas; a clock that is set shows its value at the request's moment from now on,
-    /// whatever it was set to before; a start and a stop change whether the plant runs; a block that is
-    /// stored or deleted changes the blocks. All else stays, and with D241 and 8F04 everything. The
-    /// request stays as a history keeps it, and is ready again. Needs a request that can be done and a
-    /// ready reply. It takes no memory: the image of a block that is stored is copied into the room that
-    /// the request brings.
+    /// Answers a request as `reply` states for the plant before the call, and makes the request's change. A write
+    /// changes the areas. A clock that is set shows its value at the request's moment, whatever it was set to before. A
+    /// start and a stop change whether the plant runs. An insert and a deletion change the blocks. Nothing else
+    /// changes, and with D241 and 8F04 nothing at all. The request stays as a history keeps it, and is ready again.
+    /// Needs a request that can be done and a ready reply. Allocates nothing: the image of an inserted block is copied
+    /// into the room that the request brings.
     pub fn step(&mut self, right: bool, r: &mut Request, reply: &mut Reply)
         requires request { CanBeDone r.old }
         requires reply { IsReadyReply reply.old }
@@ -196,8 +193,8 @@ impl Plant {
         self.act(right, r, copy, reply);
     }
 
-    /// Answers a request as `reply` says, and makes its change, for a request that stays. A block that
-    /// is stored has the copy of its image.
+    /// Answers a request as `reply` states and makes its change, but leaves the request unchanged. `copy` is the copy
+    /// of the image if the request inserts a block.
     pub(crate) fn act(&mut self, right: bool, r: &Request, copy: Option<Octets>, reply: &mut Reply)
         requires request { IsReady r.now }
         requires copy { (kind number : ℕ) (image : List ℕ) (spare : Held)
@@ -238,13 +235,13 @@ impl Plant {
         }
     }
 
-    /// Stores a block in place of the one of its name, where there is room for it.
+    /// Stores a block in place of the one of the same name, if there is room for it.
     fn insert(&mut self, kind: u8, number: u16, image: Octets)
         requires kind { is_stored_kind kind ≡ true }
         requires head { head_agrees image kind number ≡ true }
         ensures { state_of self.new ≡ with_inserted (state_of self.old) kind number image }
     {
-        // a block for which there is no room comes back, and goes
+        // // a block that has no room is returned, and dropped here
         let _ = self.blocks.insert(Block {
             kind,
             number,

@@ -1,4 +1,4 @@
-// What a plant answers.
+//! What a plant answers.
 ghost use Rattle.std.specs.Prelude.{◌≡◌, [], IfOk};
 ghost use Rattle.s7_plant.specs.Answers.{refused};
 ghost use Rattle.s7_plant.specs.Replies.{said, said_of};
@@ -6,16 +6,16 @@ ghost use Rattle.s7_plant.specs.Replies.{said, said_of};
 use s7_outer::{Buffer, Memory};
 use std::alloc::Global;
 
-/// How many octets of parameters a reply has room for.
+/// The octets of parameters that a reply has room for.
 pub const PARAMS_ROOM: usize = 16;
 
-/// How many octets a reply to any request has room for.
+/// The octets of body that a reply to any request has room for.
 pub const BODY_ROOM: usize = 65_572;
 
-/// What a plant answers to a request.
+/// The answer of a plant to a request.
 #[derive(Drop)]
 pub struct Reply {
-    /// The error word, 0 where the request was carried out.
+    /// The error word, 0 if the request was carried out.
     pub error: u16,
     /// The parameters of the answer.
     pub params: Buffer,
@@ -24,8 +24,8 @@ pub struct Reply {
 }
 
 impl Reply {
-    /// An empty reply with room for 16 octets of parameters and for `room` octets of body, all of it
-    /// taken here. `Memory` comes where there is none for it.
+    /// An empty reply with room for 16 octets of parameters and for `room` octets of body, all of it allocated here.
+    /// Returns `Memory` if an allocation fails.
     pub fn new(alloc: Global, room: usize) -> Result<Reply, Memory>
         ensures empty { IfOk result (λ reply. said_of reply ≡ said 0 [] []) }
         ensures params { IfOk result (λ reply. reply.params.room ≡ 16) }
@@ -38,7 +38,7 @@ impl Reply {
         })
     }
 
-    /// Lets go of what was said. The rooms stay.
+    /// Empties the reply. Its rooms stay.
     pub(crate) fn clear(&mut self)
         ensures said { said_of self.new ≡ said 0 [] [] }
         ensures params { self.new.params.room ≡ self.old.params.room }
@@ -49,7 +49,7 @@ impl Reply {
         self.body.clear();
     }
 
-    /// Says this error word, and nothing more. The rooms stay.
+    /// Makes the reply a refusal: this error word, no parameters and no body. Its rooms stay.
     pub(crate) fn refuse(&mut self, error: u16)
         ensures said { said_of self.new ≡ refused error }
         ensures params { self.new.params.room ≡ self.old.params.room }

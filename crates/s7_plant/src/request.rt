@@ -1,4 +1,4 @@
-// What is asked of a plant.
+//! What a plant can be asked.
 ghost use Rattle.std.specs.Prelude.{◌≡◌, ℕ, List, Some, true, IfOk, IfSome, option_map};
 ghost use Rattle.s7_block.specs.Heads.{head_agrees};
 ghost use Rattle.s7_block.specs.Kinds.{is_stored_kind};
@@ -10,86 +10,88 @@ use s7_item::{DataItems, Items};
 use s7_outer::{Buffer, Memory, Octets};
 use std::alloc::Global;
 
-/// What a link asks with.
+/// A request with the right of the link that sends it.
 #[derive(Drop)]
 pub struct Ask {
     /// Whether the link has the right that the guard's password gives.
     pub right: bool,
+    /// What the link asks.
     pub request: Request,
 }
 
-/// What is asked of a plant.
+/// A request to a plant.
 #[derive(Drop)]
 pub enum Request {
-    /// The octets of items.
+    /// Read the octets of items.
     Read {
         /// At most 20 items, in order.
         items: Items,
     },
-    /// New octets for items.
+    /// Write octets to items.
     Write {
         /// At most 20 items, in order.
         items: Items,
-        /// For each item the place of its octets.
+        /// For each item, the range of its new octets in `octets`.
         places: DataItems,
-        /// The octets that the places lie in.
+        /// The octets that `places` refers to.
         octets: Octets,
     },
-    /// The image of a status list.
+    /// Read the image of a status list.
     Szl {
         id: u16,
         index: u16,
     },
-    /// What the clock shows.
+    /// Read the clock.
     ClockRead {
-        /// The moment of the request, in milliseconds since 1970.
+        /// The time of the request, in milliseconds since 1970.
         moment: u64,
     },
-    /// That the clock shows this from now on.
+    /// Set the clock to this value.
     ClockSet {
-        /// The moment of the request, in milliseconds since 1970.
+        /// The time of the request, in milliseconds since 1970.
         moment: u64,
-        /// From 631,152,000,000 to 3,786,911,999,999, which is 1990 to the end of 2089.
+        /// The new time in milliseconds since 1970: 631,152,000,000 to 3,786,911,999,999, which is 1990 to the end of
+        /// 2089.
         value: u64,
     },
-    /// That the controller runs.
+    /// Start the controller.
     Start {
-        /// A cold start, which is answered as a warm one.
+        /// Whether it is a cold start, which has the answer and the effect of a warm one.
         cold: bool,
     },
-    /// That the controller stops.
+    /// Stop the controller.
     Stop,
-    /// That the memory is compressed, which changes nothing here.
+    /// Compress the memory, which changes nothing here.
     Compress,
-    /// That the memory is copied to the module, which changes nothing here.
+    /// Copy the memory to the module, which changes nothing here.
     CopyRam,
-    /// How many blocks there are of each kind.
+    /// Count the blocks of each kind.
     ListAll,
-    /// The blocks of a kind.
+    /// List the blocks of a kind.
     ListOf {
         kind: u8,
     },
-    /// The head of a block.
+    /// Read the head of a block.
     Info {
         kind: u8,
         number: u16,
     },
-    /// The image of a block, for an upload.
+    /// Start an upload: read the image of a block.
     StartUpload {
         kind: u8,
         number: u16,
     },
-    /// That a block is stored, in place of the one of its name.
+    /// Store a block in place of the one of the same name.
     Insert {
         /// OB, FC or FB.
         kind: u8,
         number: u16,
-        /// The image, whose head is the block's.
+        /// The image, whose head has this kind and number.
         image: Octets,
-        /// Room for the image, which is copied there. A history keeps none.
+        /// Room for a copy of the image, which the plant keeps. A request in a history has no such room.
         spare: Buffer,
     },
-    /// That a block is no longer stored.
+    /// Delete a block from the store.
     Delete {
         kind: u8,
         number: u16,
@@ -101,10 +103,10 @@ impl Request {
     ghost use Rattle.s7_plant.specs.Images.{stored_as};
     ghost use Rattle.s7_plant.specs.Requests.{HasSpare, IsReady, kept_request};
 
-    /// What it is, as observers are told of it, one bit for each group of requests (Snap7 1.4 reference
-    /// manual, `Srv_SetMask`): 00020000 a read, 00040000 a write, 00100000 a status list, 00200000
-    /// the clock, 00400000 the start of an upload, 00800000 a block that is stored, 01000000 what tells of
-    /// blocks, and 04000000 control of the run state, the memory and the deletion of a block.
+    /// The code of the request for observers, one bit for each group of requests (Snap7 1.4 reference manual,
+    /// `Srv_SetMask`): 00020000 a read, 00040000 a write, 00100000 a status list, 00200000 the clock, 00400000 the
+    /// start of an upload, 00800000 a block that is stored, 01000000 a question about blocks, and 04000000 control of
+    /// the run state and of the memory, and the deletion of a block.
     pub fn code(&self) -> u32
         ensures { result ≡ code_of self.now }
     {
@@ -121,7 +123,7 @@ impl Request {
         }
     }
 
-    /// The image of the block of this name, where it is to be stored, lent.
+    /// The image, borrowed, if the request stores the block of this name.
     pub(crate) fn image_for(&self, name: BlockName) -> Option<&[u8]>
         requires { IsReady self.now }
         ensures image { option_map (λ image. image.now) result ≡ stored_as name self.now }
@@ -139,8 +141,8 @@ impl Request {
         }
     }
 
-    /// A copy of the image of a block that is to be stored, made in the room that the request brings.
-    /// The request stays as a history keeps it.
+    /// If the request stores a block, a copy of its image, made in the room that the request brings. The request stays
+    /// as a history keeps it.
     pub(crate) fn take_copy(&mut self) -> Option<Octets>
         requires { HasSpare self.old }
         ensures copy { (kind number : ℕ) (image : List ℕ) (spare : Held)
@@ -157,7 +159,7 @@ impl Request {
         }
     }
 
-    /// The same copy, for which memory is taken. `Memory` comes where there is none for it.
+    /// The same copy, allocated here. Returns `Memory` if the allocation fails.
     pub(crate) fn copy_image(&self, alloc: Global) -> Result<Option<Octets>, Memory>
         ensures { IfOk result (λ copy. (kind number : ℕ) (image : List ℕ) (spare : Held)
             → self.now ≡ Request.Insert kind number image spare → copy ≡ Some image) }

@@ -1,4 +1,4 @@
-// Status lists.
+//! Reads of status lists.
 ghost use Rattle.std.specs.Prelude.{◌≡◌, ◌≤◌, [], length};
 ghost use Rattle.s7_szl.specs.Images.{image_of};
 ghost use Rattle.s7_plant.specs.Answers.{listed};
@@ -8,7 +8,7 @@ use crate::codes::NO_LIST;
 use crate::reply::Reply;
 use s7_szl::write_table;
 
-/// Says the image of a status list, and refuses where there is no such list.
+/// Puts the image of a status list into the reply. Refuses with D401 if there is no such list.
 pub(crate) fn say_list(id: u16, index: u16, running: bool, reply: &mut Reply)
     requires empty { said_of reply.old ≡ said 0 [] [] }
     requires reply { IsReadyReply reply.old }

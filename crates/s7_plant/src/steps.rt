@@ -1,10 +1,10 @@
-// The count of steps.
+//! The count of steps.
 ghost use Rattle.std.specs.Prelude.{◌≡◌, ◌+◌};
 
 use std::marker::Model;
 use std::sync::ledger::{Blank, Book, Ledger, Share};
 
-/// How many steps were taken. It takes no octets, and only `tick` changes it.
+/// Counts the steps that `Book::image_at` takes. The count occupies no octets at run time, and only `tick` changes it.
 #[derive(Drop)]
 pub struct Steps<S: Ledger> {
     book: Book<S>,
@@ -22,7 +22,7 @@ impl<S: Ledger> Model for Steps<S> {
 }
 
 impl<S: Ledger> Steps<S> {
-    /// No step yet. Needs the blank of a ledger of one part.
+    /// A count of 0. Needs the blank of a ledger that has one part.
     pub fn new(blank: Blank) -> Steps<S>
         requires name { blank.name ≡ S.name }
         requires parts { blank.parts ≡ S.parts }
@@ -33,7 +33,7 @@ impl<S: Ledger> Steps<S> {
         Steps { book, share }
     }
 
-    /// One step more.
+    /// Counts one step more.
     pub fn tick(&mut self)
         ensures { self.new ≡ self.old + 1 }
     {

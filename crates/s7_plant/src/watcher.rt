@@ -1,4 +1,4 @@
-// Observers of a book.
+//! The observers of a book.
 ghost use Rattle.std.specs.Prelude.{◌≡◌, map, IfOk};
 ghost use Rattle.s7_plant.specs.Observers.{watch, watch_one};
 
@@ -7,14 +7,16 @@ use crate::observer::Observer;
 use s7_outer::Memory;
 use std::alloc::Global;
 
-/// An observer, with the journal's length when it came.
+/// An observer, with the length that the journal had when the observer came to the book.
 #[derive(Drop)]
 pub struct Watcher<O> {
+    /// The observer.
     pub observer: O,
+    /// The length of the journal when the observer came.
     pub since: u64,
 }
 
-/// Tells each observer of an event, in order and once.
+/// Notifies each observer of an event, in order and once.
 pub(crate) fn tell_all<O: Observer>(watchers: &mut Vec<Watcher<O>>, event: &Event)
     ensures { map (λ w. watch (O.seen w.observer) w.since) watchers.new.items
         ≡ map (watch_one event.now) (map (λ w. watch (O.seen w.observer) w.since) watchers.old.items) }
@@ -22,6 +24,7 @@ pub(crate) fn tell_all<O: Observer>(watchers: &mut Vec<Watcher<O>>, event: &Even
     tell_each(watchers.as_mut_slice(), event);
 }
 
+/// Notifies each of these observers of an event, in order and once.
 fn tell_each<O: Observer>(watchers: &mut [Watcher<O>], event: &Event)
     ensures { map (λ w. watch (O.seen w.observer) w.since) watchers.new
         ≡ map (watch_one event.now) (map (λ w. watch (O.seen w.observer) w.since) watchers.old) }
@@ -31,8 +34,8 @@ fn tell_each<O: Observer>(watchers: &mut [Watcher<O>], event: &Event)
     }
 }
 
-/// Observers that have just come to a book without entries. `Memory` comes where there is none for the
-/// list of them, which are dropped then.
+/// The observers of a book without entries. Returns `Memory` if the allocation of the list fails; the observers are
+/// dropped then.
 pub(crate) fn watch_all<O: Observer>(
     alloc: Global,
     observers: Vec<O>,

@@ -1,4 +1,4 @@
-// The writes of a request.
+//! The writes of a request.
 ghost use Rattle.std.specs.Prelude.{◌≡◌, ◌+◌, ◌≤◌, [], ◌∷◌, ◌++◌, length, All};
 ghost use Rattle.s7_item.specs.Codes.{write_function};
 ghost use Rattle.s7_area.specs.Guards.{is_write_barred};
@@ -13,7 +13,7 @@ use s7_item::codes::{GOOD, NOT_ALLOWED, WRITE_FUNCTION, WRONG_SIZE};
 use s7_item::{DataItems, DataPlace, Item, Items};
 use s7_outer::{Buffer, Octets};
 
-/// Makes the writes of a request and says their codes.
+/// Writes the octets of a request to its items, and puts the answer with their codes into the reply.
 pub(crate) fn say_writes(
     areas: &mut Areas,
     right: bool,
@@ -45,7 +45,7 @@ pub(crate) fn say_writes(
     );
 }
 
-/// Says the codes that the writes of a request would have.
+/// Puts the answer into the reply that the writes would have, and writes nothing.
 pub(crate) fn say_codes(
     areas: &Areas,
     right: bool,
@@ -76,7 +76,7 @@ pub(crate) fn say_codes(
     );
 }
 
-/// Makes the writes from left to right, each on what the one before left, and adds their codes.
+/// Writes the items from left to right, each on what the one before left, and adds the code of each.
 fn write_items(
     areas: &mut Areas,
     right: bool,
@@ -147,7 +147,7 @@ fn judge_item(areas: &Areas, right: bool, item: &Item, octets: &[u8]) -> u8
     }
 }
 
-/// There is no right, and the guard asks for one.
+/// Whether a guard requires a right for writes and the link has none.
 fn is_write_barred(guard: Option<Guard>, right: bool) -> bool
     ensures { result ≡ is_write_barred guard right }
 {

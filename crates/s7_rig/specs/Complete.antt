@@ -1,4 +1,4 @@
--- Which jobs of a rig come off.
+-- Which jobs of a rig succeed.
 use Rattle.std.specs.Prelude.{◌≡◌, ◌≢◌, ◌⊎◌, ℕ, ◌<◌, ◌≤◌, Bool, true, false, ◌==◌, List, [], ◌∷◌, length, slice_get}
 use Rattle.std.specs.Prelude.{Option, None, Some, IsSome, MatchOption}
 use Rattle.std.specs.List.{AllByRecursion}
@@ -17,7 +17,7 @@ use Rattle.s7_turn.specs.Histories.{entry}
 use Rattle.s7_plant.specs.declared.request.Ask.{Ask}
 use Rattle.s7_session.specs.Books.{History}
 
--- the item stands in the areas
+-- the areas have the octets of the item
 abbrev pub IsThere : Memory → Item → Type 0
 IsThere m item = place_code m item ≡ 0xFF
 
@@ -25,26 +25,28 @@ IsThere m item = place_code m item ≡ 0xFF
 abbrev pub data_block : Memory → ℕ → Option (List ℕ)
 data_block m number = area_octets m (record { area = data_blocks; number = number })
 
--- a data block with a number of two octets stands in the areas
+-- the areas have the data block of this number, a number of two octets
 abbrev pub IsBlock : Memory → ℕ → Type 0
 IsBlock m number = (number < 65536) × IsSome (data_block m number)
 
--- and has no more octets than an upload has room for
+-- they have it, and its octets fit an upload
 abbrev pub HasBlock : Memory → ℕ → Type 0
 HasBlock m number = (number < 65536) × MatchOption (data_block m number) ⊥ (λ octets. length octets ≤ 65536)
 
--- nothing is guarded, or there is a right
+-- the areas have no guard, or the caller has the right
 abbrev pub IsAllowed : Memory → Bool → Type 0
 IsAllowed m right = (m.guard ≡ None) ⊎ (right ≡ true)
 
--- The job, whose telegrams have a right or not, can be asked with telegrams of this PDU, and where it reads or writes
--- one item, that stands in the areas and wants no right that it hasn't. Of several items each has a code of its own,
--- and the job comes off whatever these are. A status list comes off that there is, and blocks are counted, and the
--- clock and the run state tell, always; the clock is set, and the memory is tidied and copied, where no guard is, or
--- with the right. The head of a data block that stands in the areas is told, and the data blocks are listed where
--- there is one, always; such a block is read whole and uploaded where it may be read, the latter if it isn't too long,
--- and filled where it may be written. Of the other jobs nothing is said here: they hang on what was done before, or on
--- which blocks there are.
+-- The job can succeed on a link with this PDU, with the link's right or without. A read or a write of one item can if
+-- the client finds no fault in the item and its octets, the areas have its octets, and it needs no right that the link
+-- lacks. A read or a write of several items can if the client finds no fault in them and their octets for this PDU;
+-- each item has a code of its own, and the job succeeds whatever these are. A read of a status list can if there is
+-- such a list. Counting the blocks, reading the clock and reading the run state always can. Setting the clock can if
+-- the client finds no fault in the moment, and the areas have no guard or the link has the right; compressing the
+-- memory and copying it can under the same condition on guard and right. Reading the head of a data block of the areas
+-- can, and listing the data blocks if there is one. Such a block can be read whole if it may be read, uploaded if it
+-- also isn't too long, and filled if it may be written. A connect and a disconnect always can. Nothing is claimed here
+-- of the other jobs: they depend on what was done before, or on the blocks of the store.
 abbrev pub CanComeOff : Memory → Bool → ℕ → Job → Type 0
 CanComeOff m right pdu job.Connect = Unit {0}
 CanComeOff m right pdu (job.ReadArea item) =
@@ -81,9 +83,9 @@ AreWithRight history numbers =
     AllByRecursion (λ (number : ℕ). (caller : ℕ) (ask : Ask) → slice_get history number ≡ Some (entry caller ask)
     → ask.right ≡ true) numbers
 
--- The results of a client, in order, with the numbers of their calls in a history: up to the first that met its last
--- poll, and up to a disconnect, each job that can come off has code 0. A job whose calls all have the right comes off
--- where it can with the right.
+-- The results of a client, in order, with the numbers of their calls in a history. Up to the first job that timed out,
+-- and up to a disconnect, each job that can succeed has code 0. A job whose calls all have the right succeeds if it can
+-- with the right.
 unfoldable pub AllComeOff : Memory → History → ℕ → List JobResult → List (List ℕ) → Type 0
 AllComeOff m history pdu [] [] = Unit {0}
 AllComeOff m history pdu [] (numbers ∷ places) = ⊥

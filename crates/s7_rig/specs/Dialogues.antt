@@ -1,4 +1,4 @@
--- A job that is over, as both ends of its link have it.
+-- A job that is over, as both ends of its link see it.
 use Rattle.std.specs.Prelude.{◌≡◌, ℕ, ◌<◌, ◌≤◌, Bool, false, List, [], ◌∷◌, ◌++◌, length, map, Option, None, Some}
 use Rattle.std.specs.List.{AllByRecursion, flat_map}
 use Rattle.s7_area.specs.Memory.{read_code, read_octets}
@@ -29,13 +29,14 @@ use Rattle.s7_rig.specs.Heard.{connected_end}
 use Rattle.s7_rig.specs.Plants.{IsStateFor}
 use Rattle.s7_rig.specs.Settled.{Settled}
 
--- each reply is the one that some state gives to what was asked, of which a plant can be asked it
+-- each reply is the answer of some state to what was asked; if it is about blocks, of a state that a plant can be in
 abbrev pub AreReplies : List (Ask × Said) → Type 0
 AreReplies entries =
     AllByRecursion (λ (e : Ask × Said). (s : State) × (e.1 ≡ plant.answer_of s e.0) × IsStateFor e.0.request s) entries
 
--- The entries read these groups of items in order, each alone and with a right or without: whatever state gave the
--- reply of one, the codes and octets are those of its items in that state's memory, joined.
+-- The entries read these groups of items in order, each group in an entry of its own, with a right or without.
+-- Whichever state gave the reply of an entry, its codes and octets are those of its items in that state's memory. The
+-- codes and octets of all entries are joined.
 unfoldable pub ReadsGroups : List (List Item) → List (Ask × Said) → List ℕ → List ℕ → Type 0
 ReadsGroups [] [] octets codes = (octets ≡ []) × (codes ≡ [])
 ReadsGroups [] (e ∷ entries) octets codes = ⊥
@@ -52,13 +53,13 @@ ReadsGroups (group ∷ groups) (e ∷ entries) octets codes =
 abbrev pub AreGood : List ℕ → Type 0
 AreGood codes = AllByRecursion (λ (code : ℕ). code ≡ 0xFF) codes
 
--- The entries read these parts in order, each alone, as groups of one: whatever state gave the reply of one, its memory
--- has the part.
+-- The entries read these parts in order, each part alone in a group of its own. Whichever state gave the reply of an
+-- entry, its memory has the part.
 abbrev pub ReadsParts : List Item → List (Ask × Said) → List ℕ → Type 0
 ReadsParts parts entries octets = (codes : List ℕ) × AreGood codes × ReadsGroups (alone parts) entries octets codes
 
--- The first entry asks for the head of the data block, with a right or without: whatever state gave the reply, the block
--- stood in its memory with so many octets. The others read its parts.
+-- The first entry asks for the head of the data block, with a right or without. Whichever state gave the reply, its
+-- memory had the block with this number of octets. The other entries read the block's parts.
 abbrev pub ReadsBlock : ℕ → ℕ → List (Ask × Said) → List ℕ → Type 0
 ReadsBlock number pdu [] octets = ⊥
 ReadsBlock number pdu (e ∷ entries) octets =
@@ -68,16 +69,16 @@ ReadsBlock number pdu (e ∷ entries) octets =
     → (stood : List ℕ) × (data_block s.memory number ≡ Some stood) × (length stood ≡ size))
     × ReadsParts (data_parts number size pdu false) entries octets
 
--- what a job read that came off is what its entries read; the number of a data block has two octets
+-- what a job that succeeded read is what its entries read; the number of a data block has two octets
 abbrev pub ReadsAs : Job → ℕ → List (Ask × Said) → List ℕ → List ℕ → Type 0
 ReadsAs (job.ReadArea item) pdu entries octets codes = ReadsParts (parts_of item pdu false) entries octets
 ReadsAs (job.ReadMany items) pdu entries octets codes = ReadsGroups (groups_of pdu false items) entries octets codes
 ReadsAs (job.DbGet number) pdu entries octets codes = number < 65536 → ReadsBlock number pdu entries octets
 ReadsAs _ pdu entries octets codes = Unit {0}
 
--- A job on a connected client is over by octets: the client used and transmitted these for it. The session stood
--- between two messages before the job, and has used octets of those that the client transmitted since; it owes what
--- the client used, with octets behind it.
+-- A job of a connected client was ended by octets: `heard` are the octets that the client used for it, and `sent` those
+-- that it transmitted. Before the job the session was between two messages, and since then it has used octets of those
+-- that the client transmitted. Its expected output for them is what the client used, followed by the octets `behind`.
 pub record IsJobOver (first : LinkState) (origin : Origin) (pdu : ℕ) (heard sent : List ℕ) (end : End)
     (carried : List ℕ) (b used : List ℕ) (js verdicts : List Verdict) (behind : List ℕ) : Type 0 where
   pub grant : Grant
@@ -95,7 +96,7 @@ pub record IsJobOver (first : LinkState) (origin : Origin) (pdu : ℕ) (heard se
   pub replies : AreReplies (entered first (b ++ used) (js ++ verdicts))
   pub owed_is : owed first (b ++ used) (js ++ verdicts) ≡ (owed first b js ++ heard) ++ behind
 
--- Then both stand between two messages again, and a read that came off is what its entries read.
+-- Then both are between two messages again, and a read that succeeded read what its entries read.
 pub record IsJobSettled (first : LinkState) (origin : Origin) (pdu : ℕ) (heard sent : List ℕ) (end : End)
     (b used : List ℕ) (js verdicts : List Verdict) (behind : List ℕ) : Type 0 where
   pub all_used : used ≡ sent
@@ -108,7 +109,7 @@ pub record IsJobSettled (first : LinkState) (origin : Origin) (pdu : ℕ) (heard
       → (entries : List (Ask × Said)) × (entered first (b ++ sent) (js ++ verdicts) ≡ entered first b js ++ entries)
       × ReadsAs origin.job pdu entries end.octets end.codes
 
--- The first connect of a client is over by octets, on a link to areas with this guard of which the session has used
+-- The first connect of a client was ended by octets, on a link to areas with this guard, of which the session has used
 -- these octets.
 pub record IsConnectOver (guard : Option Guard) (origin : Origin) (heard sent : List ℕ) (end : End)
     (carried : List ℕ) (used : List ℕ) (verdicts : List Verdict) (behind : List ℕ) : Type 0 where
@@ -122,7 +123,7 @@ pub record IsConnectOver (guard : Option Guard) (origin : Origin) (heard sent : 
   pub met : (past (first_link guard) used verdicts).verdicts ≡ []
   pub owed_is : owed (first_link guard) used verdicts ≡ heard ++ behind
 
--- Then it came off, and both stand between two messages, with the PDU that was asked for.
+-- Then it succeeded, and both are between two messages, with the PDU that was asked for.
 pub record IsConnectSettled (guard : Option Guard) (origin : Origin) (heard sent : List ℕ) (end : End)
     (used : List ℕ) (verdicts : List Verdict) (behind : List ℕ) : Type 0 where
   pub grant : Grant

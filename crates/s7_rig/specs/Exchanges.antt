@@ -1,4 +1,4 @@
--- The questions of a job on a connected client, and what a session answers to each.
+-- The questions of a job of a connected client, and what a session answers to each.
 use Rattle.std.specs.Prelude.{◌≡◌, ◌⊎◌, ℕ, ◌+◌, ◌<◌, ◌≤◌, Bool, true, false, ◌==◌, ◌&&◌, nat_lt, if◌then◌else◌, List, []}
 use Rattle.std.specs.Prelude.{◌∷◌, ◌++◌, length, take, slice_index, map, is_some, Option, None, Some}
 use Rattle.s7_plant.specs.Answers as plant
@@ -45,8 +45,8 @@ use Rattle.s7_rig.specs.Settled.{Serves}
 use Rattle.s7_rig.specs.Dialogues.{AreReplies}
 use Rattle.s7_rig.specs.Written.{own_write, own_codes}
 
--- what a control asks of the plant: of blocks only those of a kind that is stored and with a number of two octets are
--- deleted, and none is inserted by a question alone
+-- the request of a control to the plant; a deletion asks the plant only if the block's kind is stored and its number
+-- has two octets, and no question alone asks for an insertion
 abbrev pub request_of : Control → Option Request
 request_of control.Start = Some (plain.Start false)
 request_of control.ColdStart = Some (plain.Start true)
@@ -59,7 +59,8 @@ request_of (control.Delete kind number) =
 
 -- ---- further octets
 
--- The link holds the octets behind these of an answer in user data, under this sequence octet: together they are whole.
+-- The link holds, under this sequence octet, the octets that follow these of an answer in user data; together they are
+-- the whole answer.
 pub record HoldsRest (link : LinkState) (subject : Subject) (octet : ℕ) (so_far : List ℕ) : Type 0 where
   pub held : Sliced
   pub is : link.sliced ≡ Some held
@@ -70,15 +71,15 @@ pub record HoldsRest (link : LinkState) (subject : Subject) (octet : ℕ) (so_fa
   pub whole : is_whole subject (so_far ++ held.rest) ≡ true
   pub most : length (so_far ++ held.rest) ≤ 8448
 
--- The link holds the octets behind these of the upload of this id: together they are as many as was stated, and no more
--- than an upload has.
+-- The link holds the octets that follow these of the upload of this id. Together they have the length that was stated,
+-- which is at most that of an upload.
 pub record HoldsImage (link : LinkState) (id size : ℕ) (so_far : List ℕ) : Type 0 where
   pub rest : List ℕ
   pub is : link.upload ≡ Some (record { id = id; left = Some rest })
   pub whole : length (so_far ++ rest) ≡ size
   pub most : size ≤ 65572
 
--- The link holds the download of this image, of a kind that is stored, of which the octets up to a place came, and the
+-- The link holds the download of this image, of a kind that is stored. Its octets up to an offset came, and the
 -- server's job of this sequence asks for the next ones.
 pub record HoldsPieces (link : LinkState) (image : List ℕ) (from call : ℕ) : Type 0 where
   pub stored : is_stored_kind (name_in image).kind ≡ true
@@ -86,13 +87,13 @@ pub record HoldsPieces (link : LinkState) (image : List ℕ) (from call : ℕ) :
       ≡ Some (record { name = name_in image; progress = awaiting (length image) (take from image) })
   pub job : link.server_job ≡ Some (record { sequence = call; function = piece_function })
 
--- It holds it with all its octets, and the server's job of this sequence closes it.
+-- The link holds the download with all its octets, and the server's job of this sequence closes it.
 pub record HoldsWhole (link : LinkState) (image : List ℕ) (call : ℕ) : Type 0 where
   pub stored : is_stored_kind (name_in image).kind ≡ true
   pub download : link.download ≡ Some (record { name = name_in image; progress = whole image })
   pub job : link.server_job ≡ Some (record { sequence = call; function = close_function })
 
--- what a question wants of the link: further octets are held, the upload that it names, or the download
+-- what a question needs of the link: that it holds further octets, the upload that the question names, or the download
 abbrev pub IsReadyFor : LinkState → Question → Type 0
 IsReadyFor link (asks_further subject octet so_far) = HoldsRest link subject octet so_far
 IsReadyFor link (slices_upload id size so_far) = HoldsImage link id size so_far
@@ -102,37 +103,37 @@ IsReadyFor link (gives image room from call) = HoldsPieces link image from call
 IsReadyFor link (inserts image call) = HoldsWhole link image call
 IsReadyFor link _ = Unit {0}
 
--- where more octets follow, they are held
+-- if more octets follow, the link holds them
 abbrev pub HoldsMore : Bool → LinkState → Subject → ℕ → List ℕ → Type 0
 HoldsMore more link subject octet so_far = more ≡ true → HoldsRest link subject octet so_far
 
--- where more slices follow, their octets are held, and else the upload is, until its end
+-- if more slices follow, the link holds their octets; otherwise it holds the upload, until its end
 abbrev pub HoldsUpload : Bool → LinkState → ℕ → ℕ → List ℕ → Type 0
 HoldsUpload true link id size so_far = HoldsImage link id size so_far
 HoldsUpload false link id size so_far = is_held link.upload id ≡ true
 
--- the server's job by which it asks for the first piece of an image
+-- the server's job that asks for the first piece of an image
 abbrev pub first_call : LinkState → List ℕ → List ℕ
 first_call link image = server_job_octets link.job_sequence piece_function (name_in image)
 
--- the messages that the session sent and its client hasn't heard, where this is asked: where the server is to ask for the
--- first piece it did so with its last answer, and else there is none
+-- the messages that the session has sent and its client hasn't read when this question is asked: the server's job for
+-- the first piece, which it sent with its last answer, if the client awaits that job; otherwise none
 abbrev pub IsAwaited : List (List ℕ) → LinkState → Question → Type 0
 IsAwaited unheard link (awaits_call image) = unheard ≡ first_call link image ∷ []
 IsAwaited unheard link _ = unheard ≡ []
 
--- those behind the answer to a question
+-- the messages after the answer to a question
 abbrev pub IsUnheard : List (List ℕ) → LinkState → Question → Answer → Type 0
 IsUnheard unheard link (announces image) announced = unheard ≡ first_call link image ∷ []
 IsUnheard unheard link _ _ = unheard ≡ []
 
--- where more of an image is to be given, the link awaits it, and else it has all of it
+-- if more of an image is to come, the link awaits it; otherwise it has all of it
 abbrev pub HoldsGiven : Bool → LinkState → List ℕ → ℕ → ℕ → Type 0
 HoldsGiven true link image from call = HoldsPieces link image from call
 HoldsGiven false link image from call = HoldsWhole link image call
 
--- what is left on the link behind an answer: the octets that follow it, or how far a download is. No slice answers an end,
--- and no user data a read or a write.
+-- what the link holds after an answer: the octets that follow it, or the progress of a download. A slice is no answer
+-- to an upload's end, and user data is none to a read or a write.
 abbrev pub GoesOn : LinkState → Question → Answer → Type 0
 GoesOn link (reads items) (brings octet more piece) = ⊥
 GoesOn link (writes items octets) (brings octet more piece) = ⊥
@@ -149,9 +150,9 @@ GoesOn link (gives image room from call) (calls next) =
 GoesOn link (inserts image call) (calls next) = ⊥
 GoesOn link _ _ = Unit {0}
 
--- ---- what is told
+-- ---- what is answered
 
--- what user data about something asks at a moment
+-- the request of user data about a subject at a moment
 abbrev pub AsksFor : Subject → List ℕ → ℕ → Request → Type 0
 AsksFor StatusList octets moment request = request ≡ plain.Szl (number_at octets 0) (number_at octets 2)
 AsksFor RunState octets moment request = request ≡ plain.Szl (number_at octets 0) (number_at octets 2)
@@ -167,20 +168,21 @@ AsksFor ClockSetting octets moment request =
 AsksFor Password octets moment request = ⊥
 AsksFor PasswordClearing octets moment request = ⊥
 
--- a password is set or given back, which no plant is asked
+-- a password is set or given back, of which no plant is asked
 abbrev pub IsSecurity : Subject → Type 0
 IsSecurity Password = Unit {0}
 IsSecurity PasswordClearing = Unit {0}
 IsSecurity _ = ⊥
 
--- the octets name a kind that there isn't, or no block, which no plant is asked
+-- the octets name a kind that doesn't exist, or no block, of which no plant is asked
 abbrev pub NamesNone : Subject → List ℕ → Type 0
 NamesNone BlocksOfKind octets = is_some (head_code (slice_index octets 1)) ≡ false
 NamesNone BlockHead octets = named octets 0x41 ≡ None
 NamesNone DataHead octets = named octets 0x41 ≡ None
 NamesNone _ octets = ⊥
 
--- what is heard of a reply to a control, and to user data with this PDU and under this sequence octet
+-- the answer that the client reads for a reply to a control, and to user data with this PDU and under this sequence
+-- octet
 abbrev pub control_heard : Said → Answer
 control_heard reply = if reply.error == 0 then stands (slice_index reply.params 1) else refuses reply.error
 
@@ -190,42 +192,43 @@ user_heard pdu octet reply =
     then brings octet (nat_lt (slice_room pdu) (length reply.body)) (take (slice_room pdu) reply.body)
     else refuses reply.error
 
--- the block whose upload is asked for, as the octets of its name are read: itself, where it has a kind that there is
--- and a number of two octets
+-- the block whose upload is asked for, as the octets of its name are read: the block itself if its kind exists and its
+-- number has two octets
 abbrev pub uploaded_of : BlockName → Option BlockName
 uploaded_of name = named (name_octets name 0x41) 0x41
 
--- what is heard of a reply to the start of an upload, under this id
+-- the answer that the client reads for a reply to the start of an upload, under this id
 abbrev pub upload_heard : ℕ → Said → Answer
 upload_heard id reply = if reply.error == 0 then uploads id (length reply.body) else refuses reply.error
 
 abbrev pub security_heard : ℕ → ℕ → Answer
 security_heard octet error = if error == 0 then brings octet false [] else refuses error
 
--- a verdict is that the history was full, or that the clock failed, and this is the error word for it
+-- a verdict says that the history was full, or that the clock failed, and this is the error word for it
 abbrev pub IsUndone : List Verdict → ℕ → Type 0
 IsUndone verdicts error =
     (AnyFull verdicts × (error ≡ 0x8F01)) ⊎ ((0 < clock_failures verdicts) × (error ≡ 0x8F02))
 
--- this request was entered, with a right or without, and its reply says what is heard
+-- this request was entered, with a right or without, and its reply gives the answer
 abbrev pub IsEntered : Request → List (Ask × Said) → (Bool → Said → Type 0) → Type 0
 IsEntered request new heard =
     (right : Bool) × (reply : Said) × (new ≡ (asked right request, reply) ∷ []) × heard right reply
 
--- a deletion of a block that isn't deleted is refused
+-- the deletion of a block that can't be deleted is refused
 abbrev pub IsBarred : Control → Answer → Type 0
 IsBarred (control.Delete kind number) answer =
     (request_of (control.Delete kind number) ≡ None)
     × (answer ≡ refuses (if is_name kind number then 0x8F03 else 0x8404))
 IsBarred _ answer = ⊥
 
--- What a question that was not undone was answered on a link of this PDU, and what was entered for it. A request was
--- entered with a right or without: a read tells what the memory has of the state that gave the reply, a write notes the
--- codes that this memory gives, and of control, of user data, of the start of an upload and of the insertion of the very
--- image that was given the reply is told. Passwords, further octets, slices and the end of an upload enter nothing, and
--- neither do a download up to its insertion, a name of no block, which is refused, a block that isn't deleted, since its
--- kind isn't stored or its number is too large, or one that isn't downloaded, since its kind isn't stored. Further octets
--- and slices are as many as a telegram takes of those that make them whole. A negotiation is no such question.
+-- The answer to a question for which neither the history was full nor the clock failed, on a link of this PDU, and what
+-- was entered for it. A request was entered with a right or without. A read answers what the memory of the state that
+-- gave the reply has; a write answers the codes that this memory gives. A control, user data, the start of an upload,
+-- and the insertion of the very image that was given answer what the reply says. Passwords, further octets, slices and
+-- the end of an upload enter nothing. Nor do a download up to its insertion, a name of no block, which is refused, a
+-- block that can't be deleted because its kind isn't stored or its number is too large, and a block that can't be
+-- downloaded because its kind isn't stored. Further octets and slices are as many as fit a telegram of those that
+-- complete the answer or the image. A negotiation is no such question.
 abbrev pub IsTold : ℕ → Question → Answer → List (Ask × Said) → Type 0
 IsTold pdu (reads items) answer new =
     IsEntered (Read items) new
@@ -265,16 +268,16 @@ IsTold pdu (inserts image call) answer new =
     (λ right reply. answer ≡ control_heard reply)
 IsTold pdu _ answer new = ⊥
 
--- The same by the verdicts that the question met itself. It is refused, and nothing entered, where one of these is that
--- the history was full or the clock failed.
+-- The same, given the verdicts for the question itself. If one of them says that the history was full or the clock
+-- failed, the question is refused and nothing is entered.
 pub data HasTold (pdu : ℕ) (own : List Verdict) (question : Question) (answer : Answer) (new : List (Ask × Said))
     : Type 0 where
   is_refused : (error : ℕ) → IsUndone own error → new ≡ [] → answer ≡ refuses error
       → HasTold pdu own question answer new
   is_told : IsTold pdu question answer new → HasTold pdu own question answer new
 
--- The message is an answer to the question, behind which these messages are unheard, this was entered for it, and the link
--- goes on with what follows it.
+-- The message is an answer to the question, these messages after it weren't read yet, this was entered for the
+-- question, and the link holds what follows the answer.
 pub record IsHeard (pdu : ℕ) (own : List Verdict) (link : LinkState) (question : Question) (number : ℕ)
     (message : List ℕ) (behind : List (List ℕ)) (new : List (Ask × Said)) : Type 0 where
   pub answer : Answer
@@ -283,7 +286,7 @@ pub record IsHeard (pdu : ℕ) (own : List Verdict) (link : LinkState) (question
   pub goes_on : GoesOn link question answer
   pub unheard : IsUnheard behind link question answer
 
--- a password is judged by the guard of the link, and it is given back by its right
+-- a password is judged by the link's guard, and is given back by the link's right
 abbrev pub IsSecuredBy : LinkState → Subject → List ℕ → Answer → Type 0
 IsSecuredBy link Password octets answer =
     answer ≡ security_heard (next_octet link.user_sequence) (set_error link.guard (decoded octets))
@@ -291,7 +294,7 @@ IsSecuredBy link PasswordClearing octets answer =
     answer ≡ security_heard (next_octet link.user_sequence) (clear_error link.guard link.right)
 IsSecuredBy link _ octets answer = Unit {0}
 
--- what the link alone tells: what comes of passwords, and the next of the octets that it held
+-- what the link alone decides: the answers about passwords, and the next of the octets that it held
 abbrev pub IsByLink : LinkState → ℕ → Question → Answer → Type 0
 IsByLink link pdu (asks subject octets) answer = IsSecuredBy link subject octets answer
 IsByLink link pdu (asks_further subject octet so_far) answer =
@@ -307,10 +310,10 @@ abbrev pub link_past : LinkState → List ℕ → ℕ → Question → List Verd
 link_past first b number question verdicts =
     (past first (b ++ sent_messages 1024 (messages_of number question)) verdicts).link
 
--- A question is answered by one message, the first of those that the session sent and its client hasn't heard, with
--- what it sends for the question behind them. The first of the verdicts that follow are its own. Where the replies are
--- those of states, the message is no longer than the greatest PDU, and the client hears it as an answer. What the link
--- alone tells is by what it had before.
+-- A question is answered by one message, the first of those that the session sent and its client hasn't read; after it
+-- come the messages that the session sends for the question. The first of the verdicts that follow are the question's
+-- own. If the replies are those of states, the message is no longer than the greatest PDU, and the client reads it as
+-- an answer. What the link alone decides follows from its state before.
 pub record Replies (first : LinkState) (b : List ℕ) (js vs : List Verdict) (unheard : List (List ℕ)) (pdu : ℕ)
     (question : Question) (number : ℕ) : Type 0 where
   pub own : List Verdict

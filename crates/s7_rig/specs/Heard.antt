@@ -1,4 +1,4 @@
--- What a client hears of a read and of a connect that come off.
+-- The answer that a client reads for a read that succeeds, and the end of a connect that succeeds.
 use Rattle.std.specs.Prelude.{Bool, []}
 use Rattle.s7_item.specs.declared.item.Item.{Item}
 use Rattle.s7_area.specs.Memory.{Memory, read_code, read_octets}
@@ -8,11 +8,11 @@ use Rattle.s7_dialogue.specs.Codes.{no_fault}
 use Rattle.s7_dialogue.specs.Answer.{ItemAnswer}
 use Rattle.s7_dialogue.specs.Dialogue.{End}
 
--- what is told of an item, with a right or without: its return code, and the octets that the memory gives, none where
--- the code refuses it
+-- the answer about an item, with a right or without: its return code, and the octets that the memory gives, none if the
+-- code refuses the item
 abbrev pub told_of : Memory → Bool → Item → ItemAnswer
 told_of m right item = record { code = read_code m right item; octets = read_octets m right item }
 
--- the end of a connect
+-- the end of a connect that succeeds
 abbrev pub connected_end : Grant → End
 connected_end granted = record { code = no_fault; octets = []; codes = []; leaves = Connected granted }

@@ -1,4 +1,4 @@
--- What becomes of a job whose client's peer is a session.
+-- The results of jobs whose client is served by a session.
 use Rattle.std.specs.Prelude.{◌≡◌, ℕ, Bool, true, List, ◌++◌, map, Option}
 use Rattle.s7_area.specs.Memory.{Memory}
 use Rattle.s7_area.specs.declared.guard.Guard.{Guard}
@@ -17,16 +17,17 @@ use Rattle.s7_rig.specs.Dialogues.{IsJobOver, IsJobSettled, IsConnectOver, IsCon
 use Rattle.s7_rig.specs.Scripts.{IsNoConnect}
 use Rattle.s7_rig.specs.Split.{ReadStands}
 
--- EACH JOB IS SETTLED that the octets end of which its client heard a front of what a session owes for what the client
--- sent: a read with code 0 reads what its entries read, in their order, it stood at rising places of a history, and a
--- first connect comes off.
+-- EACH JOB IS SETTLED that ends by octets which are a prefix of the expected output of a session for what its client
+-- sent: a read with code 0 read what its entries read, in their order; these are at rising numbers of a history; and a
+-- first connect succeeds.
 pub record JobsAreSettled : Type 0 where
   pub settled : (first : LinkState) (origin : Origin) (pdu : ℕ) (heard sent : List ℕ) (end : End)
       (carried b used : List ℕ) (js verdicts : List Verdict) (behind : List ℕ)
       → IsJobOver first origin pdu heard sent end carried b used js verdicts behind
       → IsJobSettled first origin pdu heard sent end b used js verdicts behind
-  -- and where the session is a link's on a book that began with this memory, what a read with code 0 told stood at the
-  -- numbers of its entries, which rise: they are the link's own calls in the history, behind the earlier ones
+  -- and if the session is a link's on a book that began with this memory, what a read with code 0 gave is what the
+  -- areas held at the numbers of its entries, which rise: they are the link's own calls in the history, after the
+  -- earlier ones
   pub stands : (opening : Memory) (history : History) (link : ℕ) (earlier mine : List Entry)
       (first : LinkState) (origin : Origin) (pdu : ℕ) (heard sent : List ℕ) (end : End) (carried b used : List ℕ)
       (js verdicts : List Verdict) (behind : List ℕ)
@@ -41,9 +42,9 @@ pub record JobsAreSettled : Type 0 where
       → IsConnectOver guard origin heard sent end carried used verdicts behind
       → IsConnectSettled guard origin heard sent end used verdicts behind
 
--- SUCH A JOB COMES OFF WHERE IT CAN, where the session is a link's on a book that began with this memory. Its entries are
--- the link's own calls in the history, behind the earlier ones; no telegram of the job met a full history or a clock
--- that failed, and where it wants a right, all its entries have it.
+-- SUCH A JOB SUCCEEDS IF IT CAN and the session is a link's on a book that began with this memory. Its entries are the
+-- link's own calls in the history, after the earlier ones. The history wasn't full and the clock didn't fail for any
+-- telegram of the job. If the job needs a right, all its entries have it.
 pub record JobsComeOff : Type 0 where
   pub comes_off : (opening : Memory) (history : History) (link : ℕ) (right : Bool) (earlier mine : List Entry)
       (first : LinkState) (origin : Origin) (pdu : ℕ) (heard sent : List ℕ) (end : End) (carried b used : List ℕ)

@@ -16,30 +16,31 @@ use Rattle.s7_rig.specs.Complete.{AllComeOff}
 use Rattle.s7_rig.specs.State.{Post}
 use Rattle.s7_rig.specs.Runs.{moment}
 
--- THE HISTORY IS LEGAL FOR A LINK whose client transmitted these octets and whose session transmitted these
+-- THE HISTORY IS LEGAL FOR A LINK whose client transmitted the octets `sent` and whose session transmitted the octets
+-- `answered`
 pub record IsLegalPost (opening : Memory) (limit pdu : ℕ) (history : History) (p : Post) (sent answered : List ℕ)
     : Type 0 where
   -- the octets that the session used, in order; the others that the client transmitted wait
   pub used : List ℕ
   pub waiting : sent ≡ used ++ (unread p.session ++ p.pipes.to_server)
-  -- and the client those that it used of the session's
+  -- the octets of the session that the client used; the others wait
   pub heard : List ℕ
   pub coming : answered ≡ heard ++ (client.unread_of p.client ++ p.pipes.to_client)
-  -- the telegrams in the octets that were used asked this, and each met its verdict, the last one too
+  -- the telegrams in the octets that were used ask for these requests, and each has its verdict, the last one too
   pub mets : List Met
   pub asked : telegrams (first_link opening.guard) used (verdicts_of mets) ≡ mets
   pub judged : (past (first_link opening.guard) used (verdicts_of mets)).standing ≢ unjudged
-  -- the session transmitted what is owed for what it used, but for what it has still to send
+  -- the session transmitted the expected output for what it used, except what it has still to send
   pub owed_is : owed (first_link opening.guard) used (verdicts_of mets) ≡ answered ++ unsent p.session
-  -- the history has it, and nothing else of this link
+  -- the history has these calls, and no others of this link
   pub legal : IsLegalFor (begins_with opening) limit history p.link mets (Some moment)
       (entry_count p.session) (newest p.session)
-  -- a session that isn't closed still lives, the clock never failed, and memory was wanting for no telegram
+  -- a session that isn't closed still lives, the clock never failed, and an allocation failed for no telegram
   pub lives : closed_with p.session ≡ None
       → (past (first_link opening.guard) used (verdicts_of mets)).standing ≡ lives
   pub clock : clock_failures (verdicts_of mets) ≡ 0
   pub remembers : AllByRecursion (λ (verdict : Verdict). verdict ≢ NoMemory) (verdicts_of mets)
-  -- where none met a full history, each job that can come off does, unless it met its last poll
+  -- if the history was full for none of them, each job that can succeed does, unless it timed out
   pub complete : (AnyFull (verdicts_of mets) → ⊥) → AllComeOff opening history pdu p.results p.places
 
 -- the numbers of the links, and how many telegrams of each were entered

@@ -15,7 +15,7 @@ use Rattle.s7_session.specs.Verdict.{Verdict}
 use Rattle.s7_rig.specs.Settled.{Settled, Serves}
 use Rattle.s7_rig.specs.Exchanges.{IsReadyFor, IsAwaited, Replies}
 
--- A negotiation is answered by one message, which the client hears as a grant.
+-- A negotiation is answered by one message, which the client reads as a grant.
 pub record IsNegotiated (first : LinkState) (b : List ℕ) (js : List Verdict) (asked : Negotiation) (number : ℕ)
     : Type 0 where
   pub granted : Negotiation
@@ -24,11 +24,11 @@ pub record IsNegotiated (first : LinkState) (b : List ℕ) (js : List Verdict) (
       (sent_message 1024 message) []
   pub heard : answer_of (negotiates asked) number message ≡ Some (grants granted)
 
--- What a client asks is answered by a session between two messages, with an answer to it. Where the server is to ask on
--- in a download, it has asked before.
+-- A session between two messages answers what a client asks, with an answer to that question. If the question awaits a
+-- job of the server's in a download, the server has sent that job before.
 pub record QuestionsAreHeard : Type 0 where
-  -- a question of a job on a connected client, where the session's link holds what it wants and lives after it, whatever
-  -- state gives the reply, of blocks whatever state of a plant
+  -- a question of a job of a connected client, if the session's link holds what the question needs and lives after it,
+  -- whichever state gives the reply; for questions about blocks, whichever state of a plant
   pub asked : (origin : Origin) (granted : Grant) (answers : List (Option Answer)) (question : Question) (number : ℕ)
       (first : LinkState) (b : List ℕ) (js vs : List Verdict) (unheard : List (List ℕ))
       → origin.granted ≡ Some granted → 64 ≤ granted.pdu → granted.pdu ≤ most_pdu → number < 65536

@@ -1,4 +1,4 @@
--- What a whole rig comes to.
+-- What a whole rig leaves.
 use Rattle.std.specs.Prelude.{◌≡◌, ◌⊎◌, ℕ, ◌<◌, List, [], length, slice_get, Option, Some, option_map}
 use Rattle.std.specs.List.{AllByRecursion}
 use Rattle.s7_area.specs.Memory.{Memory}
@@ -18,7 +18,7 @@ use Rattle.s7_rig.specs.Complete.{AllComeOff}
 use Rattle.s7_rig.specs.Runs.{AreFresh, IsRun}
 use Rattle.s7_rig.specs.Stopped.{RunStops}
 
--- which turns are made: the stated ones, and so many drawn from a seed
+-- which turns are taken: the stated ones, and a number of turns drawn from a seed
 pub record Turning : Type 0 where
   pub turns : List ℕ
   pub seed : ℕ
@@ -37,24 +37,25 @@ pub record RigRan (opening : Memory) (limit : ℕ) (config : Config) (scripts : 
   pub fresh : AreFresh opening.guard config 1 scripts start.posts
   pub run : IsRun turning.turns turning.seed turning.steps start last
   pub ends : end ≡ state_told last
-  -- the book is the one that the calls of the links make of the areas
+  -- the book is what the calls of the links make of the areas
   pub book : IsLegalBook (plant.begins_with opening) limit (links_of last.posts) last.book
-  -- its history is legal for all links, by what their clients and sessions transmitted
+  -- its history is legal for all links, given what their clients and sessions transmitted
   pub legal : (k : ℕ) (p : Post) → slice_get last.posts k ≡ Some p
       → IsLegalPost opening limit config.pdu (history_of last.book) p
       (sent_by k turning.turns turning.seed turning.steps start last run)
       (answered_by k turning.turns turning.seed turning.steps start last run)
-  -- what a read of one item, of several or of a whole data block with code 0 told stood at its places
+  -- what a read of one item, of several items or of a whole data block gave with code 0 is what the areas held at its
+  -- entries
   pub reads : AllByRecursion (λ (c : ClientTold). AllStand (plant.begins_with opening) (history_of end.book) c.link
       config.pdu c.results c.places) end.clients
-  -- and where the journal has room left, each job that can come off does, unless it met its last poll
+  -- and if the journal has room left, each job that can succeed does, unless it timed out
   pub complete : length (history_of end.book) < limit
       → AllByRecursion (λ (c : ClientTold). AllComeOff opening (history_of end.book) config.pdu c.results c.places)
       end.clients
 
--- ---- a rig that memory was wanting for
+-- ---- a rig for which an allocation failed
 
--- such a rig came to a state: its run stopped there, or ended there
+-- such a rig came to this state: its run stopped there, or ended there
 pub record CameTo (opening : Memory) (limit : ℕ) (config : Config) (scripts : List (List Job)) (turning : Turning)
     (last : State) : Type 0 where
   pub start : State
@@ -65,8 +66,8 @@ pub record CameTo (opening : Memory) (limit : ℕ) (config : Config) (scripts : 
   pub reached : RunStops turning.turns turning.seed turning.steps start last
       ⊎ IsRun turning.turns turning.seed turning.steps start last
 
--- MEMORY WAS WANTING: a completion was told of nothing, or of each result that the first client of such a rig had then,
--- once and in order
+-- AN ALLOCATION FAILED: the completion was notified of nothing, or of each result that the first client of such a rig
+-- had by then, once and in order
 abbrev pub ToldWanting : Memory → ℕ → Config → List (List Job) → Turning → Option Told → Option Told → Type 0
 ToldWanting opening limit config scripts turning before after =
     (after ≡ before)

@@ -16,7 +16,7 @@ use Rattle.s7_rig.specs.Turns.{IsTurnOf}
 
 -- ---- turns one after another
 
--- the turns of these actors in order, and whether one of them stirred
+-- the turns of these actors in order, and whether one of them made progress
 unfoldable pub Turns : List ℕ → State → State → Bool → Type 0
 Turns [] old new stirs = (new ≡ old) × (stirs ≡ false)
 Turns (actor ∷ actors) old new stirs =
@@ -29,8 +29,8 @@ actors_of s = count_from 0 (2 * length s.posts)
 
 -- ---- rounds
 
--- ROUNDS of all actors in order, at most so many: they end where every client is finished, and after a round in which
--- nothing stirred
+-- ROUNDS of all actors in order, at most this number: they end when every client is finished, and after a round that
+-- made no progress
 unfoldable pub Rounds : ℕ → State → State → Type 0
 Rounds zero old new = new ≡ old
 Rounds (suc more) old new =
@@ -38,7 +38,7 @@ Rounds (suc more) old new =
     ⊎ ((are_finished old ≡ false) × (middle : State) × (stirs : Bool) × Turns (actors_of old) old middle stirs
     × (((stirs ≡ false) × (new ≡ middle)) ⊎ ((stirs ≡ true) × Rounds more middle new)))
 
--- so many rounds are made at most
+-- the most rounds that are made
 abbrev pub most_rounds : ℕ
 most_rounds = 16777216
 
@@ -52,8 +52,8 @@ pipe_room = 4096
 abbrev pub moment : ℕ
 moment = 1704067200000
 
--- a client that has done nothing, with all its jobs before it, and a session that has taken nothing, to areas with this
--- guard
+-- a client that has done nothing, with all its jobs still to start, and a session that has taken nothing, to areas with
+-- this guard
 pub record IsFreshPost (guard : Option Guard) (config : Config) (link : ℕ) (jobs : List Job) (p : Post) : Type 0 where
   pub link_is : p.link ≡ link
   pub rest : p.rest ≡ jobs

@@ -6,12 +6,12 @@ use Rattle.s7_rig.specs.Turns.{IsTurnOf}
 use Rattle.s7_schedule.specs.Drawing.{seeded}
 use Rattle.s7_rig.specs.Runs.{Turns, Rounds, IsRun, actors_of, most_rounds}
 
--- what the client at a place transmits in a turn
+-- what the client of this index transmits in a turn
 abbrev pub sent_in_turn : (k actor : ℕ) (old new : State) (stirs : Bool) → IsTurnOf actor old new stirs → List ℕ
 sent_in_turn k actor old new stirs (inl h) = if actor == k then h.1.turn.polls.poll.poll.moves.written else []
 sent_in_turn k actor old new stirs (inr h) = []
 
--- what its session transmits
+-- what the session of this index transmits in a turn
 abbrev pub answered_in_turn : (k actor : ℕ) (old new : State) (stirs : Bool) → IsTurnOf actor old new stirs → List ℕ
 answered_in_turn k actor old new stirs (inl h) = []
 answered_in_turn k actor old new stirs (inr h) =
@@ -25,7 +25,7 @@ in_turns octets [] old new stirs h = []
 in_turns octets (actor ∷ actors) old new stirs h =
     octets actor old h.0 h.1 h.3 ++ in_turns octets actors h.0 new h.2 h.4
 
--- of the second case alone
+-- the octets of the second case, none of the first
 abbrev pub second_or_none : {A B : Type 0} → A ⊎ B → (B → List ℕ) → List ℕ
 second_or_none (inl a) octets = []
 second_or_none (inr b) octets = octets b
@@ -38,7 +38,7 @@ in_rounds octets (suc more) old new (inl h) = []
 in_rounds octets (suc more) old new (inr h) =
     in_turns octets (actors_of old) old h.1 h.2 h.3 ++ second_or_none h.4 (λ k. in_rounds octets more h.1 new k.1)
 
--- WHAT THE CLIENT AT A PLACE TRANSMITTED in a run, and what its session did
+-- WHAT THE CLIENT OF THIS INDEX TRANSMITTED in a run, or what its session transmitted
 abbrev pub in_run : ((actor : ℕ) (old new : State) (stirs : Bool) → IsTurnOf actor old new stirs → List ℕ)
     → (turns : List ℕ) (seed steps : ℕ) (old new : State) → IsRun turns seed steps old new → List ℕ
 in_run octets turns seed steps old new run =

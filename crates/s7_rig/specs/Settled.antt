@@ -1,4 +1,4 @@
--- A link between two messages, and what a message makes of it. The link began in a state that is given.
+-- A link between two messages, and what a message does to it. The link began with a given state.
 use Rattle.std.specs.Prelude.{◌≡◌, ℕ, List, [], ◌++◌, Option, None, Some}
 use Rattle.s7_tpkt.specs.Packets.{rest_of}
 use Rattle.s7_plant.specs.declared.request.Ask.{Ask}
@@ -10,8 +10,8 @@ use Rattle.s7_session.specs.LinkState.{LinkState}
 use Rattle.s7_session.specs.Owed.{past, owed, entered}
 use Rattle.s7_session.specs.Verdict.{Verdict}
 
--- A link stands between two messages: its packets are whole, nothing in them ends it, no message is unfinished, its
--- TPDU size is 1,024, it lives, every telegram has met its verdict, and this PDU was granted.
+-- A link is between two messages: its packets are complete, nothing in them ends it, no message is unfinished, its TPDU
+-- size is 1,024, it lives, every telegram has its verdict, and this PDU was granted.
 pub record Settled (first : LinkState) (b : List ℕ) (js : List Verdict) (granted : Option ℕ) : Type 0 where
   pub rest : rest_of (limits Request) b ≡ []
   pub unended : (reading Request b).ending ≡ None
@@ -22,8 +22,8 @@ pub record Settled (first : LinkState) (b : List ℕ) (js : List Verdict) (grant
   pub size : (past first b js).size ≡ Some 1024
   pub grants : (past first b js).link.granted ≡ granted
 
--- What was sent leaves the link between two messages, with these verdicts met and this PDU granted. These octets more are
--- owed for it, and this was entered.
+-- What was sent leaves the link between two messages, with all these verdicts used and this PDU granted. These octets
+-- are the further expected output for it, and these are its entries.
 pub record Serves (first : LinkState) (b : List ℕ) (js : List Verdict) (sent : List ℕ) (js' : List Verdict)
     (granted : Option ℕ) (out : List ℕ) (new : List (Ask × Said)) : Type 0 where
   pub settled : Settled first (b ++ sent) js' granted

@@ -8,7 +8,7 @@ use Rattle.s7_rig.specs.declared.rig.Rig.{Rig}
 use Rattle.s7_rig.specs.declared.station.Station.{Station}
 use Rattle.s7_rig.specs.State.{Post, State}
 
--- a station as its place in the state
+-- a station as an element of the state
 abbrev pub post_of : Station → Post
 post_of s = record {
   link = s.link;
@@ -24,13 +24,13 @@ post_of s = record {
 abbrev pub state_of : Rig → State
 state_of r = record { book = book_told r.book; posts = map post_of r.stations.items }
 
--- what is told of a client in the end
+-- the result of a client: its link, its results and the numbers of their entries
 pub record ClientTold : Type 0 where
   pub link : ℕ
   pub results : List JobResult
   pub places : List (List ℕ)
 
--- and of the whole
+-- the result of the whole rig
 pub record EndTold : Type 0 where
   pub book : BookTold
   pub clients : List ClientTold
@@ -41,7 +41,7 @@ client_told c = record { link = c.link; results = c.results.items; places = c.pl
 abbrev pub end_told : RigEnd → EndTold
 end_told e = record { book = book_told e.book; clients = map client_told e.clients.items }
 
--- the results of the first client, none where there is no client
+-- the results of the first client, none if there is no client
 abbrev pub results_in_first : List ClientTold → List JobResult
 results_in_first [] = []
 results_in_first (c ∷ clients) = c.results

@@ -1,4 +1,4 @@
--- What jobs read that came off, by the calls of a history.
+-- What jobs that succeeded read, by the calls of a history.
 use Rattle.std.specs.Prelude.{◌≡◌, ℕ, ◌<◌, Bool, false, List, [], ◌∷◌, ◌++◌, length, map, take, slice_get, Some}
 use Rattle.std.specs.List.{flat_map}
 use Rattle.s7_area.specs.Memory.{read_code, read_octets}
@@ -32,8 +32,8 @@ Rise [] = Unit {0}
 Rise (n ∷ []) = Unit {0}
 Rise (n ∷ m ∷ more) = (n < m) × Rise (m ∷ more)
 
--- the call of this number is the link's read of the group alone, with a right or without, and these are the codes and
--- the octets of its items in the memory that all calls before it left: none where the code of an item refuses it
+-- the call of this number is the link's read of this group alone, with a right or without, and these are the codes and
+-- the octets of its items in the memory that all calls before it left: no octets of an item whose code refuses it
 pub record IsGroupReadAt (opening : State) (history : History) (link : ℕ) (group : List Item) (number : ℕ)
     (octets codes : List ℕ) : Type 0 where
   pub right : Bool
@@ -52,8 +52,8 @@ AreGroupsReadAt opening history link (group ∷ groups) (number ∷ numbers) oct
     × IsGroupReadAt opening history link group number front first
     × AreGroupsReadAt opening history link groups numbers rest others
 
--- A READ OF SEVERAL ITEMS: the numbers rise, there is one for each group of items that a telegram takes, and the octets
--- and codes are those that stood there
+-- A READ OF SEVERAL ITEMS: the numbers rise, there is one for each group of items that fits a telegram, and the octets
+-- and codes are those of the areas at that call
 pub record GroupedRead (opening : State) (history : History) (numbers : List ℕ) (link : ℕ) (items : List Item) (pdu : ℕ)
     (octets codes : List ℕ) : Type 0 where
   pub rise : Rise numbers
@@ -61,12 +61,13 @@ pub record GroupedRead (opening : State) (history : History) (numbers : List ℕ
 
 -- ---- one item
 
--- The octets are those of the parts, each read alone at its number, as groups of one: the memory has each part.
+-- The octets are those of the parts, each part read alone at its number; the memory has each part.
 abbrev pub AreReadAt : State → History → ℕ → List Item → List ℕ → List ℕ → Type 0
 AreReadAt opening history link parts numbers octets =
     (codes : List ℕ) × AreGood codes × AreGroupsReadAt opening history link (alone parts) numbers octets codes
 
--- A SPLIT READ: the numbers rise, there is one for each part of the item, and the octets are those that stood there
+-- A SPLIT READ: the numbers rise, there is one for each part of the item, and the octets are those that the areas held
+-- at that call
 pub record SplitRead (opening : State) (history : History) (numbers : List ℕ) (link : ℕ) (item : Item) (pdu : ℕ)
     (octets : List ℕ) : Type 0 where
   pub rise : Rise numbers
@@ -74,8 +75,9 @@ pub record SplitRead (opening : State) (history : History) (numbers : List ℕ) 
 
 -- ---- a whole data block
 
--- A DATA BLOCK READ WHOLE: the first number is the place of the link's question for its head, where the block stood with
--- so many octets, the numbers rise, there is one more for each of its parts, and the octets are those that stood there
+-- A DATA BLOCK READ WHOLE: the first number is that of the link's question for its head; the areas then had the block
+-- with this number of octets. The numbers rise, there is one more for each part of the block, and the octets are those
+-- that the areas held at that call
 pub record BlockRead (opening : State) (history : History) (numbers : List ℕ) (link number pdu : ℕ) (octets : List ℕ)
     : Type 0 where
   pub asked_at : ℕ
@@ -90,7 +92,7 @@ pub record BlockRead (opening : State) (history : History) (numbers : List ℕ) 
 
 -- ---- results
 
--- what a job read stood at its places; the number of a data block has two octets
+-- what a job read is what the areas held at its entries; the number of a data block has two octets
 abbrev pub ReadStands : State → History → ℕ → ℕ → Job → List ℕ → List ℕ → List ℕ → Type 0
 ReadStands opening history link pdu (job.ReadArea item) places octets codes =
     SplitRead opening history places link item pdu octets
@@ -100,13 +102,13 @@ ReadStands opening history link pdu (job.DbGet number) places octets codes =
     number < 65536 → BlockRead opening history places link number pdu octets
 ReadStands opening history link pdu _ places octets codes = Unit {0}
 
--- a result with code 0 of a read stood at its places
+-- if the result of a read has code 0, it is what the areas held at its entries
 abbrev pub StandsAtPlaces : State → History → ℕ → ℕ → JobResult → List ℕ → Type 0
 StandsAtPlaces opening history link pdu told places =
     told.code ≡ no_fault
     → ReadStands opening history link pdu told.job places told.octets (take told.count told.codes)
 
--- each result has its places
+-- each result with the numbers of its entries
 unfoldable pub AllStand : State → History → ℕ → ℕ → List JobResult → List (List ℕ) → Type 0
 AllStand opening history link pdu [] [] = Unit {0}
 AllStand opening history link pdu [] (numbers ∷ places) = ⊥

@@ -5,7 +5,7 @@ use Rattle.s7_session.specs.LinkState.{LinkState}
 use Rattle.s7_session.specs.Stands.{Stands}
 use Rattle.s7_session.specs.Verdict.{Verdict}
 
--- the session stands for some octets of a link, verdicts and written octets
+-- the session represents some octets of a link, verdicts and written octets
 pub record HasStood (s : Session) : Type 0 where
   pub first : LinkState
   pub used : List ℕ
@@ -13,7 +13,7 @@ pub record HasStood (s : Session) : Type 0 where
   pub written : List ℕ
   pub stands : Stands first s used verdicts written
 
--- the room that the result of the job under way takes
+-- the room that the result of the job under way needs
 abbrev pub room_for : {A : Type 0} → Option A → ℕ
 room_for None = 0
 room_for (Some a) = 1

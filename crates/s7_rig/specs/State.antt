@@ -9,27 +9,27 @@ use Rattle.s7_client.specs.Polling.{job_of}
 use Rattle.s7_plant.specs.Books.{BookTold}
 use Rattle.s7_session.specs.declared.session.Session.{Session}
 
--- a client, the session that serves it, and what stands between them
+-- a client, the session that serves it, and the pipes between them
 pub record Post : Type 0 where
   -- the number of their link
   pub link : ℕ
-  -- the jobs that are still to be started
+  -- the jobs that weren't started yet
   pub rest : List Job
   pub client : Connection
   pub session : Session
   -- the octets on their way in either direction
   pub pipes : PipesHeld
-  -- what came of each job that is done, and the numbers of the entries that the session made while it was under way
+  -- the result of each job that is done, and the numbers of the entries that the session made while it was under way
   pub results : List JobResult
   pub places : List (List ℕ)
-  -- the numbers of the entries so far since the job under way was started, if there is one
+  -- the numbers of the entries since the job under way was started, `None` if no job is under way
   pub noted : Option (List ℕ)
 
 pub record State : Type 0 where
   pub book : BookTold
   pub posts : List Post
 
--- no job is left and none is outstanding
+-- every job was started and none is outstanding
 abbrev pub is_finished : Post → Bool
 is_finished p = length p.rest == 0 && is_none (job_of p.client)
 

@@ -15,7 +15,8 @@ pub record TurnsLead (schedule left : List ℕ) (old new : State) : Type 0 where
 abbrev pub TurnsStop : List ℕ → State → State → Type 0
 TurnsStop schedule old last = (actor : ℕ) × (left : List ℕ) × TurnsLead schedule (actor ∷ left) old last
 
--- at most so many rounds of all actors in order stopped at a turn: all before that round went on, as `Rounds` has it
+-- at most this number of rounds of all actors in order stopped at a turn; all rounds before it made progress, as
+-- `Rounds` states
 unfoldable pub RoundsStop : ℕ → State → State → Type 0
 RoundsStop zero old last = ⊥
 RoundsStop (suc more) old last =
@@ -27,7 +28,7 @@ RoundsStop (suc more) old last =
 abbrev pub first_turns : List ℕ → ℕ → ℕ → State → List ℕ
 first_turns turns seed steps s = turns ++ seeded seed steps (2 * length s.posts)
 
--- A RUN STOPPED at a turn: one of its first turns, or behind them all one of its rounds
+-- A RUN STOPPED at a turn: at one of its first turns, or at a turn of a round after all of them
 abbrev pub RunStops : List ℕ → ℕ → ℕ → State → State → Type 0
 RunStops turns seed steps old last =
     TurnsStop (first_turns turns seed steps old) old last

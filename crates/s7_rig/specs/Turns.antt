@@ -1,5 +1,5 @@
--- The turns of a rig's actors: the clients, and the sessions that serve them. A turn stirs where it moves an octet,
--- uses one that its session had read, or ends a job.
+-- The turns of a rig's actors: the clients, and the sessions that serve them. A turn makes progress if it moves an
+-- octet, uses one that its session had read, or ends a job.
 use Rattle.std.specs.Prelude.{◌≡◌, ◌≢◌, ◌⊎◌, ℕ, ◌-◌, ◌<◌, ◌≤◌, ◌==◌, ◌&&◌, ◌||◌, not, nat_lt}
 use Rattle.std.specs.Prelude.{Bool, true, false, List, [], ◌∷◌, ◌++◌, length, slice_get}
 use Rattle.std.specs.Prelude.{slice_set, None, Some, option_map, unwrap_or, IsSome}
@@ -26,14 +26,14 @@ use Rattle.s7_session.specs.Books.{own, history_of, GoesOnBy}
 use Rattle.s7_rig.specs.Numbers.{count_from}
 use Rattle.s7_rig.specs.State.{Post, State}
 
--- One of the pipes holds another number of octets. In a turn each pipe only fills or only empties, so this tells
+-- One of the pipes holds another number of octets. In a turn each pipe only fills or only empties, so this shows
 -- whether an octet was moved.
 abbrev pub have_moved : PipesHeld → PipesHeld → Bool
 have_moved old new = not (length new.to_client == length old.to_client && length new.to_server == length old.to_server)
 
 -- ---- a client's turn
 
--- the next job is started, where none is outstanding and one is left
+-- the next job is started; none is outstanding and one is left
 pub record StartsNext (old new : Post) : Type 0 where
   pub idle : job_of old.client ≡ None
   pub job : Job
@@ -43,12 +43,12 @@ pub record StartsNext (old new : Post) : Type 0 where
   pub started : IsStarted old.client client job
   pub same : new ≡ record old { rest = rest; client = client; noted = Some [] }
 
--- a job is outstanding, or none is left to start
+-- nothing is started: a job is outstanding, or none is left to start
 pub record StartsNothing (old new : Post) : Type 0 where
   pub none : IsSome (job_of old.client) ⊎ (old.rest ≡ [])
   pub same : new ≡ old
 
--- a job that is done gives its result, and the numbers that were noted are its places
+-- a job that is done adds its result, and the numbers of its entries that were kept
 abbrev pub with_polled : Polled → Post → Post
 with_polled (polled.Done told) p = record p {
   results = p.results ++ told ∷ [];
@@ -63,7 +63,7 @@ is_done (polled.Done told) = true
 is_done polled.Pending = false
 is_done polled.Idle = false
 
--- a client polls over its end of the pipes, whichever loan that is
+-- a client polls over its end of the pipes, by whichever borrow
 pub record PollsOver (client : Connection) (pipes : PipesHeld) (client' : Connection) (pipes' : PipesHeld) (result : Polled)
     : Type 0 where
   pub loan : GName
@@ -80,7 +80,7 @@ pub record PollsOnce (old new : Post) (stirs : Bool) : Type 0 where
   -- an octet was moved, or a job is done
   pub stirs_is : stirs ≡ (have_moved old.pipes pipes || is_done result)
 
--- A CLIENT'S TURN: its next job is started where none is outstanding, and it polls once
+-- A CLIENT'S TURN: its next job is started if none is outstanding, and it polls once
 pub record IsClientTurn (old new : Post) (stirs : Bool) : Type 0 where
   pub ready : Post
   pub starts : StartsNext old ready ⊎ StartsNothing old ready
@@ -92,15 +92,15 @@ pub record IsClientTurn (old new : Post) (stirs : Bool) : Type 0 where
 abbrev pub stands_in : ℕ → BookTold → List Entry → Type 0
 stands_in link book entries = entries ≡ own (state_of book.opening) link (history_of book)
 
--- the book is full, whatever is asked
+-- the book is full, whatever the request
 abbrev pub is_full_in : BookTold → Ask → Type 0
 is_full_in book ask = length (history_of book) ≡ book.journal.limit
 
--- a book lacks memory for nothing
+-- no allocation of a book fails
 abbrev pub lacks_in : BookTold → Ask → Type 0
 lacks_in book ask = ⊥
 
--- a session takes a turn over its end of the pipes, whichever loan that is, and the book goes on by calls of its link
+-- a session takes a turn over its end of the pipes, by whichever borrow, and the book goes on by calls of its link
 pub record TakesTurn (link : ℕ) (session : Session) (pipes : PipesHeld) (book : BookTold) (session' : Session)
     (pipes' : PipesHeld) (book' : BookTold) (result : Turn) : Type 0 where
   pub loan : GName
@@ -110,7 +110,7 @@ pub record TakesTurn (link : ℕ) (session : Session) (pipes : PipesHeld) (book 
   pub number : number_of session' ≡ number_of session
   pub goes_on : GoesOnBy link book book'
 
--- how many calls were entered
+-- the number of calls that were entered
 abbrev pub entry_count : BookTold → ℕ
 entry_count book = length (history_of book)
 
@@ -120,19 +120,19 @@ pub record IsSessionTurn (old new : Post) (book book' : BookTold) (stirs : Bool)
   pub pipes : PipesHeld
   pub result : Turn
   pub takes : TakesTurn old.link old.session old.pipes book session pipes book' result
-  -- the numbers of the entries that it made are noted for the job under way
+  -- the numbers of the entries that it made are kept for the job under way
   pub same : new ≡ record old {
     session = session;
     pipes = pipes;
     noted = option_map (λ numbers. numbers ++ count_from (entry_count book) (entry_count book' - entry_count book))
         old.noted;
   }
-  -- memory was not wanting
+  -- no allocation failed
   pub remembers : closed_with session ≢ Some outcome.Memory
-  -- an octet was moved, or one that had been read was used
+  -- an octet was moved, or an octet that had been read was used
   pub stirs_is : stirs ≡ (have_moved old.pipes pipes || nat_lt 0 (length takes.turn.moves.used))
 
--- ---- a turn of an actor: everything else is the same
+-- ---- a turn of an actor: everything else stays
 
 pub record ClientTurn (k : ℕ) (old new : State) (stirs : Bool) : Type 0 where
   pub post : Post
@@ -146,11 +146,11 @@ pub record SessionTurn (k : ℕ) (old new : State) (stirs : Bool) : Type 0 where
   pub post' : Post
   pub at : slice_get old.posts k ≡ Some post
   pub turn : IsSessionTurn post post' old.book new.book stirs
-  -- what is entered can be carried out again
+  -- every request that is entered can be carried out again
   pub ready : AreReady new.book.journal.entries
   pub same : new.posts ≡ slice_set old.posts k post'
 
--- With K clients the actors below K are the clients, and those from K on their sessions.
+-- With K clients, actors 0 to K - 1 are the clients, and actors K on are their sessions.
 abbrev pub IsTurnOf : ℕ → State → State → Bool → Type 0
 IsTurnOf actor old new stirs =
     ((actor < length old.posts) × ClientTurn actor old new stirs)

@@ -1,5 +1,4 @@
-//! A rig: clients and the sessions that serve them, all on one book, which act turn by turn over pipes
-//! in memory.
+//! A rig: clients and the sessions that serve them, all on one book. They act turn by turn over pipes in memory.
 #![tactic(auto)]
 
 mod end;

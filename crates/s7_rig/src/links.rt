@@ -1,4 +1,4 @@
-// What goes over the pipes between a client and its session.
+//! The two pipes between a client and its session.
 ghost use Rattle.std.specs.Prelude.{◌≡◌, ◌≤◌, length};
 ghost use Rattle.s7_plant.specs.Books.{book_told};
 ghost use Rattle.s7_rig.specs.Turns.{PollsOver, TakesTurn};
@@ -9,14 +9,14 @@ use s7_plant::{Book, Tail};
 use s7_session::{BookDoer, Session, Turn};
 use std::alloc::Global;
 
-/// How many octets wait for the client, and how many for the server.
+/// The numbers of octets that wait in the pipes, for the client and for the server.
 #[derive(Clone, Copy, Debug, PartialEq, Eq)]
 pub(crate) struct Held {
     to_client: usize,
     to_server: usize,
 }
 
-/// How many octets wait in the pipes.
+/// Counts the octets that wait in the pipes.
 pub(crate) fn count_held(pipes: &Pipes) -> Held
     ensures to_client { result.to_client ≡ length pipes.now.to_client }
     ensures to_server { result.to_server ≡ length pipes.now.to_server }
@@ -28,7 +28,7 @@ pub(crate) fn count_held(pipes: &Pipes) -> Held
     }
 }
 
-/// The client polls once over its end.
+/// The client polls once over its end of the pipes.
 pub(crate) fn poll_over(client: &mut Connection, pipes: &mut Pipes) -> Polled
     ensures { PollsOver client.old pipes.old client.new pipes.new result }
 {
@@ -39,7 +39,7 @@ pub(crate) fn poll_over(client: &mut Connection, pipes: &mut Pipes) -> Polled
     client.poll(&mut end)
 }
 
-/// The session takes a turn over its end, and asks the book.
+/// The session takes one turn over its end of the pipes, on the book.
 pub(crate) fn turn_over(
     alloc: Global,
     link: u32,

@@ -1,4 +1,4 @@
-// The numbers of entries.
+//! The numbers of the entries that a job made.
 ghost use Rattle.std.specs.Prelude.{◌≡◌, ◌≤◌, ◌-◌, ◌++◌, [], OnOk};
 ghost use Rattle.s7_rig.specs.Numbers.{count_from};
 
@@ -6,8 +6,8 @@ use s7_outer::Memory;
 use std::alloc::Global;
 use std::marker::Model;
 
-/// The numbers of the entries that a link's session made while a job was under way, in order: those
-/// at which the job's telegrams were answered. Contracts see the list.
+/// The numbers of the entries that a link's session made while a job was under way, in order. At these entries the
+/// job's telegrams were answered. Contracts see the list.
 #[derive(Drop)]
 pub struct Places {
     numbers: Vec<u64>,
@@ -22,7 +22,7 @@ impl Model for Places {
 }
 
 impl Places {
-    /// No number.
+    /// An empty list.
     pub(crate) fn new(alloc: Global) -> Places
         ensures { result ≡ [] }
     {
@@ -31,15 +31,14 @@ impl Places {
         }
     }
 
-    /// The numbers, lent.
+    /// The numbers, borrowed.
     pub fn as_slice(&self) -> &[u64]
         ensures { result.now ≡ self.now }
     {
         self.numbers.as_slice()
     }
 
-    /// Adds the numbers from `first` on that are below `end`. `Memory` comes where there is none for
-    /// them.
+    /// Adds the numbers from `first` on that are below `end`. Returns `Memory` if an allocation fails.
     pub(crate) fn add(&mut self, first: u64, end: u64) -> Result<(), Memory>
         requires { first ≤ end }
         ensures { OnOk result (self.new ≡ self.old ++ count_from first (end - first)) }

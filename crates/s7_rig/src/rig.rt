@@ -1,4 +1,4 @@
-// A rig: clients and the sessions that serve them, on one book.
+//! A rig: clients and the sessions that serve them, on one book.
 ghost use Rattle.std.specs.Prelude.{◌≡◌, ◌<◌, ◌≤◌, ◌*◌, Bool, All, length, map, [], IfOk, OnOk, OnErr, is_some};
 ghost use Rattle.std.specs.Prelude.{option_map};
 ghost use Rattle.s7_schedule.specs.Drawing.{seeded};
@@ -22,10 +22,10 @@ use s7_plant::{Book, MOST_BLOCKS, Tail};
 use s7_schedule::Draw;
 use std::alloc::Global;
 
-/// So many rounds are made at most.
+/// The most rounds that are made.
 const MOST_ROUNDS: u32 = 16_777_216;
 
-/// Clients and the sessions that serve them, on one book. Each turn is a client's or a session's.
+/// Clients and the sessions that serve them, on one book. Each turn is a turn of one client or of one session.
 #[derive(Drop)]
 pub struct Rig {
     pub(crate) book: Book<Tail>,
@@ -33,9 +33,8 @@ pub struct Rig {
 }
 
 impl Rig {
-    /// A rig over these areas with a journal of this limit, from 1 to 262,144, and a client for each
-    /// list of jobs. Their links are numbered from 1 in order. `Memory` comes where there is none for
-    /// it.
+    /// A rig over these areas with a journal of this limit, from 1 to 262,144, and a client for each list of jobs. The
+    /// links are numbered from 1 in that order. Returns `Memory` if an allocation fails.
     pub fn new(
         alloc: Global,
         areas: Areas,
@@ -72,11 +71,11 @@ impl Rig {
         })
     }
 
-    /// The turns of these actors, then `steps` turns drawn from the seed, and then rounds of all actors
-    /// in order. With K clients the actors below K are the clients, and those from K on their sessions.
-    /// The rounds end where every client is finished, after a round in which nothing was moved, used
-    /// or done, or after 16,777,216 of them. The completion is told of each job of the first client when it is
-    /// done, once, in order, and of nothing else. `Memory` comes where there is none.
+    /// Takes the turns of these actors, then `steps` turns that are drawn from the seed, and then rounds of all actors
+    /// in order. With K clients, actors 0 to K - 1 are the clients, and actors K to 2K - 1 are their sessions. The
+    /// rounds end when every client is finished, after a round in which nothing was moved, used or done, or after
+    /// 16,777,216 rounds. The completion is notified of each job of the first client when the job is done, once, in
+    /// order, and of nothing else. Returns `Memory` if an allocation fails.
     pub fn run<C: Completion>(
         &mut self,
         alloc: Global,
@@ -100,7 +99,7 @@ impl Rig {
         self.take_rounds(alloc, done)
     }
 
-    // A turn of an actor. Only the first client's jobs are told.
+    /// Takes a turn of an actor. The completion is notified of jobs of the first client only.
     fn turn<C: Completion>(
         &mut self,
         alloc: Global,
@@ -125,7 +124,7 @@ impl Rig {
         }
     }
 
-    // The turns of these actors.
+    /// Takes the turns of these actors.
     fn take_stated<C: Completion>(
         &mut self,
         alloc: Global,
@@ -147,7 +146,7 @@ impl Rig {
         Ok(())
     }
 
-    // Turns that are drawn from the seed.
+    /// Takes turns that are drawn from the seed.
     fn take_drawn<C: Completion>(
         &mut self,
         alloc: Global,
@@ -175,7 +174,7 @@ impl Rig {
         Ok(())
     }
 
-    // Rounds until all clients are finished, or nothing stirs.
+    /// Takes rounds until all clients are finished, or until a round makes no progress.
     fn take_rounds<C: Completion>(
         &mut self,
         alloc: Global,
@@ -200,7 +199,7 @@ impl Rig {
         Ok(())
     }
 
-    // A turn of each actor. Says whether one of them stirred.
+    /// Takes a turn of each actor. Returns whether one of them made progress.
     fn round<C: Completion>(&mut self, alloc: Global, done: &mut Option<C>) -> Result<bool, Memory>
         ensures turns { IfOk result
             (λ stirs. Turns (actors_of (state_of self.old)) (state_of self.old) (state_of self.new) stirs) }
@@ -218,14 +217,14 @@ impl Rig {
         Ok(stirred)
     }
 
-    // Whether every client is finished.
+    /// Whether every client is finished.
     fn are_finished(&self) -> bool
         ensures { result ≡ are_finished (state_of self.now) }
     {
         self.stations.iter().all(|station| station.is_finished())
     }
 
-    /// The book, and what each client has, by rising number of its link.
+    /// The book, and the results of each client in the order of their links' numbers.
     pub fn into_end(self, alloc: Global) -> Result<RigEnd, Memory>
         ensures { IfOk result (λ end. end_told end ≡ state_told (state_of self)) }
     {
@@ -244,7 +243,7 @@ impl Rig {
     }
 }
 
-// A book of these areas that nobody watches, with no blocks and nothing in its journal.
+/// A book of these areas without observers, blocks or entries.
 fn unwatched(alloc: Global, areas: Areas, limit: u64) -> Result<Book<Tail>, Memory>
     requires some { 1 ≤ limit }
     requires few { limit ≤ 262144 }

@@ -1,4 +1,4 @@
-// A whole run of a rig.
+//! A whole run of a rig.
 ghost use Rattle.std.specs.Prelude.{◌≡◌, ◌≤◌, ◌<◌, ◌*◌, All, length, map, IfOk, OnErr, is_some, option_map};
 ghost use Rattle.std.specs.List.{AllByRecursion};
 ghost use Rattle.s7_header.specs.Negotiation.{most_pdu};
@@ -14,8 +14,8 @@ use s7_client::{Completion, Config, Job};
 use s7_outer::Memory;
 use std::alloc::Global;
 
-/// Which turns a rig makes before its rounds. With K clients the actors below K are the clients, and
-/// those from K to 2K - 1 their sessions.
+/// The turns that a rig takes before its rounds. With K clients, actors 0 to K - 1 are the clients, and actors K to 2K
+/// - 1 are their sessions.
 #[derive(Clone, Copy, Debug, PartialEq, Eq)]
 pub struct Schedule<'a> {
     /// The actors of the first turns, in order.
@@ -26,18 +26,18 @@ pub struct Schedule<'a> {
     pub steps: u32,
 }
 
-/// Runs a rig over these areas, with a journal of this limit, from 1 to 262,144, and a client for
-/// each list of jobs, of 1 to 1,024, whose links are numbered from 1 in order. The first job of each
-/// list is a connect, and no other is. The clients ask for a PDU from 64 to 1,920 and for 1 to 8 jobs, and
-/// have at least 1 poll for a job. A client's turn starts its next job where none is outstanding, and
-/// polls once; a session's turn is one turn on the book.
+/// Runs a rig over these areas, with a journal of this limit, from 1 to 262,144, and a client for each list of jobs, of
+/// which there are 1 to 1,024. The links are numbered from 1 in that order. The first job of each list is a connect,
+/// and no other job is. The clients ask for a PDU from 64 to 1,920 octets and for 1 to 8 parallel jobs, and a job takes
+/// at least 1 poll that finds the link not ready before it times out. In its turn a client starts its next job if none
+/// is outstanding, and polls once. In its turn a session takes one turn on the book.
 ///
-/// The turns of the schedule come first, and then rounds of all actors in order. These end where every
-/// client is finished, after a round in which no octet was moved or used and no job was done, or after
-/// 16,777,216 rounds. `Memory` comes where there is none for the rig, for a job or for a session.
+/// The turns of the schedule come first, and then rounds of all actors in order. The rounds end when every client is
+/// finished, after a round in which no octet was moved or used and no job was done, or after 16,777,216 rounds. Returns
+/// `Memory` if an allocation for the rig, for a job or for a session fails.
 ///
-/// The completion is told of each job of the first client when it is done, once, in order, and of nothing else: with
-/// `Memory` of those that a front of the run did, or of none.
+/// The completion is notified of each job of the first client when the job is done, once, in order, and of nothing
+/// else. If `Memory` is returned, it was notified of the jobs that were done by then, or of none.
 pub fn run_rig<C: Completion>(
     alloc: Global,
     areas: Areas,
@@ -68,7 +68,7 @@ pub fn run_rig<C: Completion>(
         (option_map C.told done.old) (option_map C.told done.new)) }
     ensures handed { is_some done.new ≡ is_some done.old }
 {
-    // what is registered is within the limits of areas
+    // // every registered area is within the limits of areas
     let _numbers = areas.db_numbers();
     let mut rig = Rig::new(alloc, areas, limit, scripts, config)?;
     rig.run(alloc, schedule.turns, schedule.seed, schedule.steps, done)?;

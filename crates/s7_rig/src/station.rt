@@ -1,4 +1,4 @@
-// A client and the session that serves it.
+//! A client and the session that serves it.
 ghost use Rattle.std.specs.Prelude.{◌≡◌, ◌+◌, ◌≤◌, None, length, vec_capacity, IsSome};
 ghost use Rattle.s7_client.specs.Polling.{job_of};
 ghost use Rattle.s7_rig.specs.Standing.{HasStood, room_for};
@@ -13,15 +13,15 @@ use std::collections::VecDeque;
 #[derive(Drop)]
 pub struct Station {
     pub(crate) link: u32,
-    /// The jobs that are still to be started.
+    /// The jobs that weren't started yet.
     pub(crate) rest: VecDeque<Job>,
     pub(crate) client: Connection,
     pub(crate) session: Session,
     pub(crate) pipes: Pipes,
     pub(crate) results: Vec<JobResult>,
-    /// The places of each job that is done.
+    /// For each job that is done, the numbers of its entries.
     pub(crate) places: Vec<Places>,
-    /// The places so far of the job under way.
+    /// The numbers of the entries so far of the job under way, `None` if no job is.
     pub(crate) noted: Option<Places>,
     ghost idle: { noted ≡ None → job_of client ≡ None },
     ghost busy: { IsSome noted → IsSome (job_of client) },

@@ -1,4 +1,4 @@
-// The turns of a client and of the session that serves it.
+//! The turns of a client and of the session that serves it.
 ghost use Rattle.std.specs.Prelude.{◌≡◌, ◌≢◌, ◌<◌, ◌≤◌, ◌⊎◌, ◌-◌, ◌++◌, ◌∷◌, [], length, vec_capacity, None, Some};
 ghost use Rattle.std.specs.Prelude.{false, is_some, option_map, unwrap_or, IfOk, OnOk, OnErr, IsSome};
 ghost use Rattle.s7_header.specs.Negotiation.{most_pdu};
@@ -25,15 +25,15 @@ use s7_session::{Outcome, Session, Turn};
 use std::alloc::Global;
 use std::collections::VecDeque;
 
-/// How many octets there may be in each pipe.
+/// The number of octets for which each pipe has room.
 const ROOM: usize = 4_096;
 
-/// 2024-01-01, in milliseconds since 1970, at which the clock of the pipes stands.
+/// The moment that the clock of the pipes shows: 2024-01-01, in milliseconds since 1970.
 const MOMENT: u64 = 1_704_067_200_000;
 
 impl Station {
-    /// A client of this link with these jobs before it, and a session that has taken nothing, to areas
-    /// with this guard.
+    /// A client of this link with all these jobs still to start, and a session that has taken nothing, to areas with
+    /// this guard. Returns `Memory` if an allocation fails.
     pub(crate) fn new(
         alloc: Global,
         link: u32,
@@ -61,15 +61,15 @@ impl Station {
         })
     }
 
-    /// Whether no job is left and none is outstanding.
+    /// Whether every job was started and none is outstanding.
     pub(crate) fn is_finished(&self) -> bool
         ensures { result ≡ is_finished (post_of self.now) }
     {
         self.rest.is_empty() && self.noted.is_none()
     }
 
-    /// The client's turn: it starts its next job where none is outstanding, and polls once. Says
-    /// whether an octet was moved or a job is done. `Memory` comes where there is none for the job.
+    /// The client's turn: it starts its next job if none is outstanding, and polls once. Returns whether an octet was
+    /// moved or a job is done, or `Memory` if an allocation for the job fails.
     pub(crate) fn client_turn(&mut self, alloc: Global) -> Result<bool, Memory>
         ensures { IfOk result (λ stirs. IsClientTurn (post_of self.old) (post_of self.new) stirs) }
     {
@@ -77,7 +77,7 @@ impl Station {
         Ok(self.poll_once())
     }
 
-    /// The client's turn, of which a completion is told where a job is done.
+    /// The client's turn. The completion is notified if a job is done.
     pub(crate) fn told_turn<C: Completion>(
         &mut self,
         alloc: Global,
@@ -97,7 +97,7 @@ impl Station {
         Ok(stirs)
     }
 
-    // Starts the next job, where none is outstanding and one is left.
+    /// Starts the next job, if none is outstanding and one is left.
     fn start_next(&mut self, alloc: Global) -> Result<(), Memory>
         ensures { OnOk result (StartsNext (post_of self.old) (post_of self.new)
             ⊎ StartsNothing (post_of self.old) (post_of self.new)) }
@@ -115,6 +115,7 @@ impl Station {
         Ok(())
     }
 
+    /// Polls once. Returns whether an octet was moved or a job is done.
     fn poll_once(&mut self) -> bool
         ensures { PollsOnce (post_of self.old) (post_of self.new) result }
     {
@@ -130,8 +131,8 @@ impl Station {
         }
     }
 
-    /// The session's turn. Says whether an octet was moved, or one that had been read was used.
-    /// `Memory` comes where there is none for the session or for the numbers of its entries.
+    /// The session's turn. Returns whether an octet was moved, or an octet that had been read was used; returns
+    /// `Memory` if an allocation for the session or for the numbers of its entries fails.
     pub(crate) fn session_turn(
         &mut self,
         alloc: Global,
@@ -149,13 +150,13 @@ impl Station {
         if was_wanting(turn) {
             return Err(Memory);
         }
-        // what is entered can be carried out again
+        // // every request that is entered can be carried out again
         let _entries = book.journal.as_slice();
         self.note(first, book.journal.len())?;
         Ok(count_held(&self.pipes) != before || self.session.used() != used)
     }
 
-    // Notes the numbers of entries for the job under way.
+    /// Adds the numbers of entries to those of the job under way.
     fn note(&mut self, first: u64, end: u64) -> Result<(), Memory>
         requires { first ≤ end }
         ensures { OnOk result (post_of self.new ≡ record (post_of self.old) {
@@ -169,14 +170,14 @@ impl Station {
     }
 }
 
-// Whether memory was wanting in the turn.
+/// Whether an allocation failed in the turn.
 fn was_wanting(turn: Turn) -> bool
     ensures { result ≡ false → closed_by turn ≢ Some Outcome.Memory }
 {
     turn == Turn::Closed(Outcome::Memory)
 }
 
-// Keeps the result of the job that is done, and the places that were noted for it.
+/// Keeps the result of the job that is done, and the numbers of its entries.
 fn keep(
     told: JobResult,
     results: &mut Vec<JobResult>,

@@ -1,4 +1,4 @@
-// What a book holds in the end is compared with what a row states.
+//! Compares the book that a server leaves with what a row states.
 use crate::compare::{block_of, compare_count, compare_item, compare_line};
 use crate::row::Row;
 use crate::texts::add_number;
@@ -7,7 +7,7 @@ use s7_area::AreaKey;
 use s7_item::Item;
 use s7_plant::{Book, Entry, Event, Observer, Request, Tail};
 
-/// Notes differences of a server's book.
+/// Appends the differences of a server's book to `differences`.
 pub fn compare_book(
     row: &Row<'_>,
     book: &Book<Tail>,
@@ -21,7 +21,7 @@ pub fn compare_book(
     compare_told(row, book, differences)
 }
 
-// Data blocks have the octets that the row states.
+/// Compares the octets of data blocks with those that the row states.
 fn compare_blocks(row: &Row<'_>, book: &Book<Tail>, differences: &mut String) -> Result<(), Wrong> {
     for k in 0..u64::MAX {
         let Some(value) = row.nth(0, "block", k) else {
@@ -39,6 +39,7 @@ pub fn octets_of(book: &Book<Tail>, number: u16) -> &[u8] {
     book.plant.areas.octets_of(key).unwrap_or(&[])
 }
 
+/// The number of blocks in the store.
 fn loaded(book: &Book<Tail>) -> u64 {
     book.plant.blocks.len() as u64
 }
@@ -48,7 +49,8 @@ pub fn entries(book: &Book<Tail>) -> &[Entry] {
     book.journal.as_slice()
 }
 
-// The entries were asked for with the rights that the row states: + with the right and - without it.
+/// Compares the rights of the entries with those that the row states: `+` is an entry with the right, `-` one without
+/// it.
 fn compare_rights(row: &Row<'_>, entries: &[Entry], differences: &mut String) -> Result<(), Wrong> {
     let mut rights = String::new(row.alloc);
     for entry in entries {
@@ -57,7 +59,7 @@ fn compare_rights(row: &Row<'_>, entries: &[Entry], differences: &mut String) ->
     compare_line(row, 0, "rights", rights.as_str(), differences)
 }
 
-/// Notes a difference of what a link's entries ask. The row's lines speak of it as the link `place`.
+/// Appends a difference of what a link's entries ask. `place` is the number of the link in the row's lines.
 pub fn compare_asked(
     row: &Row<'_>,
     place: u64,
@@ -74,7 +76,7 @@ pub fn compare_asked(
     compare_line(row, place, "asked", asked.as_str(), differences)
 }
 
-// Adds what is asked, behind a stroke where something stands before it.
+/// Appends what is asked, after a stroke if `text` isn't empty.
 fn add_request(request: &Request, text: &mut String) -> Result<(), Wrong> {
     if !text.is_empty() {
         text.push_str(" / ")?;
@@ -92,6 +94,7 @@ fn add_request(request: &Request, text: &mut String) -> Result<(), Wrong> {
     }
 }
 
+/// Appends items.
 fn add_items(items: &[Item], text: &mut String) -> Result<(), Wrong> {
     for item in items {
         add_item(item, text)?;
@@ -99,7 +102,7 @@ fn add_items(items: &[Item], text: &mut String) -> Result<(), Wrong> {
     Ok(())
 }
 
-// Adds an item's area in hexadecimal digits, its data block, its word length, its count and its address.
+/// Appends an item's area in hexadecimal digits, its data block, its word length, its count and its address.
 fn add_item(item: &Item, text: &mut String) -> Result<(), Wrong> {
     let (area, block, word) = (item.area, item.db, item.word);
     let (count, address) = (item.count, item.address);
@@ -107,7 +110,7 @@ fn add_item(item: &Item, text: &mut String) -> Result<(), Wrong> {
     Ok(text.push_str(item.as_str())?)
 }
 
-// The observer was told what the row states.
+/// Compares the events that the observer was notified of with those that the row states.
 fn compare_told(row: &Row<'_>, book: &Book<Tail>, differences: &mut String) -> Result<(), Wrong> {
     let mut told = String::new(row.alloc);
     if let Some(watcher) = book.observers.first() {
@@ -116,7 +119,7 @@ fn compare_told(row: &Row<'_>, book: &Book<Tail>, differences: &mut String) -> R
     compare_line(row, 0, "told", told.as_str(), differences)
 }
 
-// Adds how many events an observer was told of, and the newest one: its number, link, code and error word.
+/// Appends how many events an observer was notified of, and the newest one: its number, link, code and error word.
 fn add_told(observer: &Tail, text: &mut String) -> Result<(), Wrong> {
     add_number(observer.count(), text)?;
     match observer.newest(0) {
@@ -125,6 +128,7 @@ fn add_told(observer: &Tail, text: &mut String) -> Result<(), Wrong> {
     }
 }
 
+/// Appends an event: its number, link, code and error word.
 fn add_event(event: &Event, text: &mut String) -> Result<(), Wrong> {
     let (number, link) = (event.number, event.link);
     let (code, error) = (event.code, event.error);

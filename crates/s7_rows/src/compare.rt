@@ -1,11 +1,11 @@
-// What came is compared with what a row states, and differences are noted.
+//! Compares results with what a row states, and notes differences.
 use crate::octets::{add_items, plain_octets};
 use crate::parts::{cut, number};
 use crate::row::Row;
 use crate::texts::{digits_of, hex_of, text_of};
 use crate::wrong::Wrong;
 
-/// Notes what was wanted and what came.
+/// Appends a difference: what was expected, and what came.
 pub fn note(what: &str, wanted: &str, came: &str, differences: &mut String) -> Result<(), Wrong> {
     for part in [
         "  ",
@@ -21,7 +21,7 @@ pub fn note(what: &str, wanted: &str, came: &str, differences: &mut String) -> R
     Ok(())
 }
 
-/// Notes a difference of numbers, where there is one.
+/// Appends a difference of numbers, if they differ.
 pub fn compare_numbers(
     what: &str,
     wanted: u64,
@@ -37,7 +37,7 @@ pub fn compare_numbers(
     note(what, wanted.as_str(), came.as_str(), differences)
 }
 
-/// Notes a difference of a number from what the row states, where it states one.
+/// Appends a difference of a number from what the row states, if it states one.
 pub fn compare_count(
     row: &Row<'_>,
     link: u64,
@@ -49,7 +49,7 @@ pub fn compare_count(
     compare_numbers(word, wanted, came, differences)
 }
 
-/// Notes a difference of a line of text from what the row states, where it states one.
+/// Appends a difference of a line of text from what the row states, if it states one.
 pub fn compare_line(
     row: &Row<'_>,
     link: u64,
@@ -64,7 +64,7 @@ pub fn compare_line(
     note(word, wanted, came, differences)
 }
 
-/// Notes a difference of octets, where there is one.
+/// Appends a difference of octets, if they differ.
 pub fn compare_octets(
     what: &str,
     wanted: &[u8],
@@ -80,7 +80,7 @@ pub fn compare_octets(
     note(what, wanted.as_str(), came.as_str(), differences)
 }
 
-/// Notes a difference of texts, where there is one.
+/// Appends a difference of texts, if they differ.
 pub fn compare_texts(
     what: &str,
     wanted: &str,
@@ -95,7 +95,7 @@ pub fn compare_texts(
     note(what, wanted, came.as_str(), differences)
 }
 
-/// Notes a difference of what was printed from what the word states.
+/// Appends a difference of the printed text from what the lines with the word state.
 pub fn compare_printed(
     row: &Row<'_>,
     first: u64,
@@ -110,8 +110,8 @@ pub fn compare_printed(
     compare_texts(word, wanted.as_str(), came, differences)
 }
 
-/// Notes differences of what was written on a link from what the row states for it. A word `wrote` says that only so
-/// many of the octets stated were written.
+/// Appends the differences of what was written on a link from what the row states for it. A word `wrote` says how many
+/// of the octets stated were written.
 pub fn compare_written(
     row: &Row<'_>,
     link: u64,
@@ -131,7 +131,7 @@ pub fn compare_written(
     compare_octets(what.as_str(), wanted.as_slice(), came, differences)
 }
 
-/// The number of a data block and the item of its octets, which the value of a line `block` states.
+/// The number of a data block and the item of its octets, as the value of a line `block` states them.
 pub fn block_of(value: &str) -> Result<(u16, &str), Wrong> {
     let (name, item) = cut(value);
     match name.strip_prefix("DB") {
@@ -140,7 +140,7 @@ pub fn block_of(value: &str) -> Result<(u16, &str), Wrong> {
     }
 }
 
-/// Notes a difference of octets from those of an item.
+/// Appends a difference of octets from those of an item.
 pub fn compare_item(
     row: &Row<'_>,
     what: &str,

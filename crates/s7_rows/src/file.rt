@@ -1,18 +1,18 @@
-// A file of rows.
+//! A file of rows.
 use crate::octets::{Scope, add_named};
 use crate::parts::cut;
 use crate::wrong::Wrong;
 use std::alloc::Global;
 
-/// Octets that have a name.
+/// Octets with a name.
 #[derive(Drop)]
 pub struct Name<'a> {
     pub name: &'a str,
     pub octets: Vec<u8>,
 }
 
-/// The lines of a file, with a newline before each. Comments and empty lines are left out, and a line that begins with
-/// a blank goes on the line before it.
+/// The lines of a file, each after a newline. Comments and empty lines are left out. A line that begins with a blank is
+/// joined to the line before it.
 pub fn joined(alloc: Global, text: &str) -> Result<String, Wrong> {
     let mut lines = String::new(alloc);
     for line in text.split('\n') {
@@ -23,13 +23,14 @@ pub fn joined(alloc: Global, text: &str) -> Result<String, Wrong> {
     Ok(lines)
 }
 
+/// Appends a line.
 fn add_line(line: &str, lines: &mut String) -> Result<(), Wrong> {
     lines.push(if line.starts_with(' ') { ' ' } else { '\n' })?;
     lines.push_str(line.trim())?;
     Ok(())
 }
 
-/// The names of a file, in the order of their lines `let`.
+/// The named octets of a file, in the order of its lines `let`.
 pub fn names_of(alloc: Global, lines: &str) -> Result<Vec<Name<'_>>, Wrong> {
     let mut names = Vec::new(alloc);
     for line in lines.split('\n') {
@@ -42,6 +43,7 @@ pub fn names_of(alloc: Global, lines: &str) -> Result<Vec<Name<'_>>, Wrong> {
     Ok(names)
 }
 
+/// The octets of items, which may use the names so far.
 fn named_octets(alloc: Global, names: &[Name<'_>], items: &str) -> Result<Vec<u8>, Wrong> {
     let mut octets = Vec::new(alloc);
     let scope = Scope {

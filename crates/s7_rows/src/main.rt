@@ -1,5 +1,5 @@
-//! Runs the rows of files through `server_main` and `tool_main` over objects in memory, and prints what differs from
-//! what the rows state. `docs/ROWS.md` describes the language of the rows.
+//! Runs the rows of files through `server_main` and `tool_main` over objects in memory, and prints how the results
+//! differ from what the rows state. `docs/ROWS.md` describes the language of the rows.
 #![tactic(auto)]
 
 mod book;
@@ -45,6 +45,7 @@ struct RowFile<'a> {
     is_tool: bool,
 }
 
+/// Runs all files. Exits with 0 if every row holds, with 1 if one differs, and with 2 if rows can't be run.
 fn main(rt: HostRuntime) -> ExitCode {
     let mut tally = Tally {
         rows: 0,
@@ -59,7 +60,7 @@ fn main(rt: HostRuntime) -> ExitCode {
     }
 }
 
-/// Prints how many rows hold or differ.
+/// Prints how many rows hold and how many differ.
 fn report<R: Print>(rt: &R, tally: Tally) -> ExitCode {
     let Tally { rows, differing } = tally;
     let printed = if differing == 0 {
@@ -103,12 +104,13 @@ fn run_file<R: Print + Files + AllocGlobal + Threads + Wait + Clock + Sync>(
     }
 }
 
-/// Says which file, or which row, can't be run.
+/// Prints which file or which row can't be run, and why.
 fn unread<R: Print>(rt: &R, what: &str, wrong: Wrong) -> Result<(), Wrong> {
     let _ = rt.println(format_args!("can't be run: {what}"));
     Err(wrong)
 }
 
+/// Runs the rows of a file's text.
 fn run_text<R: Print + Threads + Wait + Clock + Sync>(
     rt: &R,
     alloc: Global,
@@ -130,7 +132,7 @@ fn run_text<R: Print + Threads + Wait + Clock + Sync>(
     Ok(())
 }
 
-/// Runs the rows of a table, which stand behind the lines that they share.
+/// Runs the rows of a table, which follow the lines that they share.
 fn run_table<'a, R: Print + Threads + Wait + Clock + Sync>(
     rt: &R,
     file: &RowFile<'a>,
@@ -147,6 +149,7 @@ fn run_table<'a, R: Print + Threads + Wait + Clock + Sync>(
     Ok(())
 }
 
+/// A row with its own lines and those of its table.
 fn row_of<'a>(file: &RowFile<'a>, table: &'a str, own: &'a str) -> Row<'a> {
     let (title, _) = own.split_once('\n').unwrap_or((own, ""));
     let scope = Scope {
@@ -163,7 +166,7 @@ fn row_of<'a>(file: &RowFile<'a>, table: &'a str, own: &'a str) -> Row<'a> {
     }
 }
 
-/// Runs one row, and prints what differs.
+/// Runs one row, and prints the differences.
 fn run_row<R: Print + Threads + Wait + Clock + Sync>(
     rt: &R,
     file: &RowFile<'_>,
@@ -183,7 +186,7 @@ fn run_row<R: Print + Threads + Wait + Clock + Sync>(
     Ok(())
 }
 
-/// Runs one row by the program that its file names, and notes what differs.
+/// Runs one row with the program that its file names, and appends the differences.
 fn play<R: Threads + Wait + Clock + Sync>(
     rt: &R,
     is_tool: bool,

@@ -1,4 +1,4 @@
-// The links, the door, the files and the output of a row.
+//! The links, the door, the files and the output of a row.
 use crate::compare::{compare_texts, note};
 use crate::octets::add_items;
 use crate::parts::cut;
@@ -13,14 +13,14 @@ use std::alloc::Global;
 /// A link of a row.
 pub type RowLink = FailingLink<MemoryLink>;
 
-/// How many octets a link takes, and the output, where nothing is said.
+/// The default room of a link and of the output, in octets.
 const ROOM: u64 = 65_536;
 
-/// The moment of each link's clock: 2024-02-29, a Thursday, at 13:45:30.123.
+/// The moment of each link's clock, in milliseconds since 1970: 2024-02-29, a Thursday, at 13:45:30.123.
 const MOMENT: u64 = 1_709_214_330_123;
 
-/// What a link has: what comes on it, how many octets a call moves, its room, the moment of its clock, and the fates of
-/// its calls.
+/// The properties of a link: what comes on it, how many octets a call moves, its room, the moment of its clock, and the
+/// fates of its calls.
 #[derive(Drop)]
 struct Wire {
     input: Vec<u8>,
@@ -42,7 +42,7 @@ pub fn link_of(row: &Row<'_>, way: &Way, link: u64) -> Result<RowLink, Wrong> {
     wired(row.alloc, wire)
 }
 
-/// What comes on a link, as far as the way gives it.
+/// The octets that come on a link, as many as the way gives.
 fn input_of(row: &Row<'_>, way: &Way, link: u64) -> Result<Vec<u8>, Wrong> {
     let mut input = Vec::new(row.alloc);
     if let Some(items) = row.value(link, "in") {
@@ -52,6 +52,7 @@ fn input_of(row: &Row<'_>, way: &Way, link: u64) -> Result<Vec<u8>, Wrong> {
     Ok(input)
 }
 
+/// A link with these properties.
 fn wired(alloc: Global, wire: Wire) -> Result<RowLink, Wrong> {
     let (most, room) = (wire.most.max(1) as usize, wire.room as usize);
     let inner = MemoryLink::new(alloc, Octets::of_vec(wire.input), most, room, wire.moment)?;
@@ -70,6 +71,7 @@ pub fn door_of(row: &Row<'_>, way: &Way) -> Result<MemoryDoor<RowLink>, Wrong> {
     Ok(MemoryDoor::new(links, Some(fail_at as usize)))
 }
 
+/// The row's links.
 fn links_of(row: &Row<'_>, way: &Way) -> Result<Vec<RowLink>, Wrong> {
     let mut links = Vec::new(row.alloc);
     for before in 0..row.links()? {
@@ -87,6 +89,7 @@ pub fn files_of(row: &Row<'_>, first: u64) -> Result<MemoryFiles, Wrong> {
     Ok(files)
 }
 
+/// Adds the files whose texts the row states.
 fn add_texts(row: &Row<'_>, first: u64, files: &mut MemoryFiles) -> Result<(), Wrong> {
     for k in 0..u64::MAX {
         let Some(value) = row.nth(0, "file", k) else {
@@ -97,12 +100,14 @@ fn add_texts(row: &Row<'_>, first: u64, files: &mut MemoryFiles) -> Result<(), W
     Ok(())
 }
 
+/// Adds a file with a text.
 fn add_text(row: &Row<'_>, first: u64, value: &str, files: &mut MemoryFiles) -> Result<(), Wrong> {
     let (path, _) = cut(value);
     let text = path_text(row, first, "file", path)?;
     insert(row.alloc, path, text.as_bytes(), files)
 }
 
+/// Adds the files whose octets the row states.
 fn add_octets(row: &Row<'_>, files: &mut MemoryFiles) -> Result<(), Wrong> {
     for k in 0..u64::MAX {
         let Some(value) = row.nth(0, "octets", k) else {
@@ -113,6 +118,7 @@ fn add_octets(row: &Row<'_>, files: &mut MemoryFiles) -> Result<(), Wrong> {
     Ok(())
 }
 
+/// Adds a file with octets.
 fn add_file(row: &Row<'_>, value: &str, files: &mut MemoryFiles) -> Result<(), Wrong> {
     let (path, items) = cut(value);
     let mut octets = Vec::new(row.alloc);
@@ -120,22 +126,23 @@ fn add_file(row: &Row<'_>, value: &str, files: &mut MemoryFiles) -> Result<(), W
     insert(row.alloc, path, octets.as_slice(), files)
 }
 
+/// Adds a file under a path.
 fn insert(alloc: Global, path: &str, octets: &[u8], files: &mut MemoryFiles) -> Result<(), Wrong> {
     let octets = Octets::copy_of(alloc, octets)?;
     Ok(files.insert(alloc, meant(path), octets)?)
 }
 
-/// The path that is meant: an empty one is written as two quotes.
+/// The path that a row writes; an empty path is written as two quotes.
 fn meant(path: &str) -> &str {
     if path == "\"\"" { "" } else { path }
 }
 
-/// The octets of a file.
+/// The octets of the file under a path, `None` if there is none.
 fn file<'a>(files: &'a MemoryFiles, path: &str) -> Option<&'a [u8]> {
     files.get(meant(path))
 }
 
-/// Notes differences of the files that are left from what the row states.
+/// Appends the differences of the files that are left from what the row states.
 pub fn compare_files(
     row: &Row<'_>,
     first: u64,
@@ -151,6 +158,7 @@ pub fn compare_files(
     compare_absent(row, files, differences)
 }
 
+/// Appends a difference of one file.
 fn compare_file(
     row: &Row<'_>,
     first: u64,
@@ -164,6 +172,7 @@ fn compare_file(
     compare_texts(value, wanted.as_str(), came, differences)
 }
 
+/// Appends a difference if a file exists that shouldn't.
 fn compare_absent(
     row: &Row<'_>,
     files: &MemoryFiles,

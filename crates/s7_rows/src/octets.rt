@@ -1,34 +1,38 @@
-// Octets that items state.
+//! The octets that items name.
 use crate::file::Name;
 use crate::parts::{cut, number};
 use crate::wrong::Wrong;
 use std::alloc::Global;
 
+/// The packet of a connect request.
 const CONNECT: &str = "0300001611E00000000100C0010AC1020100C2020102";
 
+/// The packet of a connect confirm.
 const CONFIRM: &str = "0300001611D00001000100C0010AC1020100C2020102";
 
-/// A setup of the communication, and its answer, without the numbers of jobs and the size of the PDU.
+/// A negotiation, without the numbers of jobs and the size of the PDU.
 const NEGOTIATE: &str = "32010000000400080000F000";
 
+/// The answer to it, without these numbers.
 const NEGOTIATED: &str = "320300000004000800000000F000";
 
-/// A setup of the first job's sequence, and its answer, the same way.
+/// A negotiation with the sequence of the first job, without these numbers.
 const ASKED: &str = "32010000000100080000F000";
 
+/// The answer to it, without these numbers.
 const GRANTED: &str = "320300000001000800000000F000";
 
 /// What words and items may name.
 #[derive(Clone, Copy)]
 pub struct Scope<'a> {
     pub names: &'a [Name<'a>],
-    /// The item that `$` stands for.
+    /// The item that `$` represents.
     pub with: &'a str,
     /// How many jobs may be under way.
     pub jobs: u8,
 }
 
-/// Adds the octets of items, each message of which stands in a packet of its own.
+/// Appends the octets of items. Each message is in a packet of its own.
 pub fn add_items(scope: &Scope<'_>, items: &str, all: &mut Vec<u8>) -> Result<(), Wrong> {
     for item in items.split(',') {
         add_item(scope, item.trim(), all)?;
@@ -36,7 +40,7 @@ pub fn add_items(scope: &Scope<'_>, items: &str, all: &mut Vec<u8>) -> Result<()
     Ok(())
 }
 
-/// Adds the octets that a name stands for: those of one item without a packet, or those of several items.
+/// Appends the octets that a name represents: those of one item without a packet, or those of several items.
 pub fn add_named(scope: &Scope<'_>, items: &str, all: &mut Vec<u8>) -> Result<(), Wrong> {
     if items.contains(',') || items.contains('*') {
         add_items(scope, items, all)
@@ -45,7 +49,7 @@ pub fn add_named(scope: &Scope<'_>, items: &str, all: &mut Vec<u8>) -> Result<()
     }
 }
 
-/// Adds an item, or that of the row's line `with` for `$`.
+/// Appends an item; `$` is the item of the row's line `with`.
 fn add_item(scope: &Scope<'_>, item: &str, all: &mut Vec<u8>) -> Result<(), Wrong> {
     if item == "$" {
         add_packets(scope, scope.with, all)
@@ -54,6 +58,7 @@ fn add_item(scope: &Scope<'_>, item: &str, all: &mut Vec<u8>) -> Result<(), Wron
     }
 }
 
+/// Appends the packets of an item, repeated as often as the number before its `*` states.
 fn add_packets(scope: &Scope<'_>, item: &str, all: &mut Vec<u8>) -> Result<(), Wrong> {
     let (times, item) = item.split_once('*').unwrap_or(("1", item));
     for _ in 0..number(times)? {
@@ -62,6 +67,7 @@ fn add_packets(scope: &Scope<'_>, item: &str, all: &mut Vec<u8>) -> Result<(), W
     Ok(())
 }
 
+/// Appends the packet of an item; after `raw` the octets are its words as they are.
 fn add_packet(scope: &Scope<'_>, item: &str, all: &mut Vec<u8>) -> Result<(), Wrong> {
     match item.strip_prefix("raw ") {
         Some(words) => add_words(scope, words, all),
@@ -69,7 +75,7 @@ fn add_packet(scope: &Scope<'_>, item: &str, all: &mut Vec<u8>) -> Result<(), Wr
     }
 }
 
-/// Adds the octets of an item, in a packet where they are a message.
+/// Appends the octets of an item, in a packet if they are a message.
 fn add_message(scope: &Scope<'_>, item: &str, all: &mut Vec<u8>) -> Result<(), Wrong> {
     let mut octets = Vec::new(*all.allocator());
     add_plain(scope, item, &mut octets)?;
@@ -80,7 +86,7 @@ fn add_message(scope: &Scope<'_>, item: &str, all: &mut Vec<u8>) -> Result<(), W
     Ok(())
 }
 
-/// What stands in a packet before a message of so many octets.
+/// The octets of a packet before a message of this length.
 fn head_of(length: usize) -> [u8; 7] {
     let [high, low] = (length.min(65_528) as u16 + 7).to_be_bytes();
     [0x03, 0x00, high, low, 0x02, 0xF0, 0x80]
@@ -97,6 +103,7 @@ pub fn plain_octets(alloc: Global, scope: &Scope<'_>, item: &str) -> Result<Vec<
     Ok(octets)
 }
 
+/// Appends the octets of an item without a packet around them.
 fn add_plain(scope: &Scope<'_>, item: &str, all: &mut Vec<u8>) -> Result<(), Wrong> {
     let (first, second) = cut(item);
     match first {
@@ -110,6 +117,7 @@ fn add_plain(scope: &Scope<'_>, item: &str, all: &mut Vec<u8>) -> Result<(), Wro
     }
 }
 
+/// Appends a negotiation or its answer, with these numbers.
 fn add_setup(front: &str, jobs: u8, pdu: &str, all: &mut Vec<u8>) -> Result<(), Wrong> {
     add_digits(front, all)?;
     let [high, low] = (number(pdu)?.min(65_535) as u16).to_be_bytes();
@@ -117,6 +125,7 @@ fn add_setup(front: &str, jobs: u8, pdu: &str, all: &mut Vec<u8>) -> Result<(), 
     Ok(())
 }
 
+/// Appends the octets of words.
 fn add_words(scope: &Scope<'_>, words: &str, all: &mut Vec<u8>) -> Result<(), Wrong> {
     for word in words.split_ascii_whitespace() {
         add_word(scope, word, all)?;
@@ -124,7 +133,7 @@ fn add_words(scope: &Scope<'_>, words: &str, all: &mut Vec<u8>) -> Result<(), Wr
     Ok(())
 }
 
-// Adds the octets of a word so many times as stands before its `x`.
+/// Appends the octets of a word, repeated as often as the number before its `x` states.
 fn add_word(scope: &Scope<'_>, word: &str, all: &mut Vec<u8>) -> Result<(), Wrong> {
     let (times, word) = word.split_once('x').unwrap_or(("1", word));
     for _ in 0..number(times)? {
@@ -133,7 +142,7 @@ fn add_word(scope: &Scope<'_>, word: &str, all: &mut Vec<u8>) -> Result<(), Wron
     Ok(())
 }
 
-/// Adds the octets of a name, of a pattern or of digits.
+/// Appends the octets of a name, of a pattern or of digits.
 pub fn add_octets(scope: &Scope<'_>, word: &str, all: &mut Vec<u8>) -> Result<(), Wrong> {
     if let Some(octets) = octets_of(scope.names, word) {
         return Ok(all.extend_from_slice(octets)?);
@@ -144,7 +153,7 @@ pub fn add_octets(scope: &Scope<'_>, word: &str, all: &mut Vec<u8>) -> Result<()
     }
 }
 
-// Adds the octets from one number to another of a pattern, which begins anew with each 251st.
+/// Appends the octets of a pattern from one number to another. The pattern repeats after 251 octets.
 fn add_pattern(from: u64, to: u64, all: &mut Vec<u8>) -> Result<(), Wrong> {
     for k in from..to {
         all.push((k % 251) as u8)?;
@@ -152,7 +161,7 @@ fn add_pattern(from: u64, to: u64, all: &mut Vec<u8>) -> Result<(), Wrong> {
     Ok(())
 }
 
-/// The octets of a name.
+/// The octets of a name, `None` if there is no such name.
 fn octets_of<'a>(names: &'a [Name<'_>], word: &str) -> Option<&'a [u8]> {
     for name in names {
         if name.name == word {
@@ -162,6 +171,7 @@ fn octets_of<'a>(names: &'a [Name<'_>], word: &str) -> Option<&'a [u8]> {
     None
 }
 
+/// Appends the octets of hexadecimal digits.
 fn add_digits(digits: &str, all: &mut Vec<u8>) -> Result<(), Wrong> {
     match hex::decode(*all.allocator(), digits) {
         Ok(octets) => Ok(all.extend_from_slice(octets.as_slice())?),

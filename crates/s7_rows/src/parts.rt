@@ -1,7 +1,7 @@
-// Parts of texts.
+//! Splitting texts.
 use crate::wrong::Wrong;
 
-/// The text before the first blank and the text after it, or the whole text and an empty one.
+/// The text before the first blank and the text after it; without a blank, the whole text and an empty one.
 pub fn cut(text: &str) -> (&str, &str) {
     text.split_once(' ').unwrap_or((text, ""))
 }
@@ -14,7 +14,7 @@ pub fn number(text: &str) -> Result<u64, Wrong> {
     }
 }
 
-/// The two numbers of a range, as 5 and 8 of `5..8`.
+/// The two numbers of a range, for instance 5 and 8 of `5..8`.
 pub fn range(text: &str) -> Result<(u64, u64), Wrong> {
     match text.split_once("..") {
         Some((from, to)) => Ok((number(from)?, number(to)?)),

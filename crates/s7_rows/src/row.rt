@@ -1,4 +1,4 @@
-// A row with what its table and its file say.
+//! A row with the lines of its table.
 use crate::octets::Scope;
 use crate::parts::{cut, number};
 use crate::wrong::Wrong;
@@ -15,8 +15,8 @@ pub struct Row<'a> {
 }
 
 impl<'a> Row<'a> {
-    /// The value of a line with the word, behind so many others of them: of the row's own lines where it has such a
-    /// line, else of its table's.
+    /// The value of the line with this word that `before` others precede: of the row's own lines if they have such a
+    /// line, otherwise of its table's.
     pub fn nth(&self, link: u64, word: &str, before: u64) -> Option<&'a str> {
         if find(self.own, link, word, 0).is_some() {
             find(self.own, link, word, before)
@@ -30,7 +30,7 @@ impl<'a> Row<'a> {
         self.nth(link, word, 0)
     }
 
-    /// The number after a word, or else this one.
+    /// The number after a word, or `other` if there is no such line.
     pub fn number_or(&self, link: u64, word: &str, other: u64) -> Result<u64, Wrong> {
         match self.value(link, word) {
             Some(text) => number(text),
@@ -38,12 +38,13 @@ impl<'a> Row<'a> {
         }
     }
 
-    /// How many links the door has: the greatest number of a line `link`.
+    /// The number of links of the door: the greatest number of a line `link`.
     pub fn links(&self) -> Result<u64, Wrong> {
         Ok(most(self.own)?.max(most(self.table)?))
     }
 }
 
+/// The value of the line with this word that `before` others precede, among these lines.
 fn find<'a>(lines: &'a str, link: u64, word: &str, before: u64) -> Option<&'a str> {
     let mut of = 0;
     let mut left = before;
@@ -61,6 +62,7 @@ fn find<'a>(lines: &'a str, link: u64, word: &str, before: u64) -> Option<&'a st
     None
 }
 
+/// The greatest number of a line `link` among these lines.
 fn most(lines: &str) -> Result<u64, Wrong> {
     let mut most = 0;
     for line in lines.split('\n') {

@@ -1,4 +1,4 @@
-// A row that runs the server.
+//! A row that runs the server.
 ghost use Rattle.std.specs.Prelude.{IfOk};
 ghost use Rattle.std.specs.List.{AllByRecursion};
 ghost use Rattle.s7_plant.specs.Observers.{IsFresh};
@@ -28,7 +28,7 @@ const LOOKS: u64 = 1_000_000_000;
 /// What the server leaves.
 type Left = ServerEnd<RowLink, Tail>;
 
-/// What a server is given but its words, its link and its observer.
+/// What a server is given besides its words, its link and its observer.
 #[derive(Drop)]
 struct Outside {
     files: MemoryFiles,
@@ -37,7 +37,7 @@ struct Outside {
     out: MemoryOut,
 }
 
-/// Runs a row in each of its ways, and notes what differs.
+/// Runs a row in each of its ways, and appends the differences.
 pub fn play<R: Threads + Wait + Clock + Sync>(
     rt: &R,
     row: &Row<'_>,
@@ -49,6 +49,7 @@ pub fn play<R: Threads + Wait + Clock + Sync>(
     Ok(())
 }
 
+/// Runs a row in one way, and appends the differences.
 fn play_way<R: Threads + Wait + Clock + Sync>(
     rt: &R,
     row: &Row<'_>,
@@ -59,6 +60,7 @@ fn play_way<R: Threads + Wait + Clock + Sync>(
     play_in(rt, row, way, &mut outside, differences)
 }
 
+/// Runs a row in one way.
 fn play_in<R: Threads + Wait + Clock + Sync>(
     rt: &R,
     row: &Row<'_>,
@@ -72,6 +74,7 @@ fn play_in<R: Threads + Wait + Clock + Sync>(
     compare_outside(row, way.first, outside, differences)
 }
 
+/// Runs the server with these words.
 fn play_words<R: Threads + Wait + Clock + Sync>(
     rt: &R,
     row: &Row<'_>,
@@ -86,6 +89,7 @@ fn play_words<R: Threads + Wait + Clock + Sync>(
     compare_left(row, &left, differences)
 }
 
+/// What the server is given in one way.
 fn outside_of(row: &Row<'_>, way: &Way) -> Result<Outside, Wrong> {
     let gate = gate_of(row)?;
     let out = out_of(row)?;
@@ -99,7 +103,7 @@ fn outside_of(row: &Row<'_>, way: &Way) -> Result<Outside, Wrong> {
     })
 }
 
-/// The row's gate, which keeps one link until another one has sent two requests.
+/// The row's gate, which holds one link until another one has sent two requests.
 fn gate_of(row: &Row<'_>) -> Result<HoldGate, Wrong> {
     let Some(text) = row.value(0, "hold") else {
         return Ok(HoldGate::new(0, 0, 0));
@@ -110,11 +114,12 @@ fn gate_of(row: &Row<'_>) -> Result<HoldGate, Wrong> {
     }
 }
 
+/// The number of a link.
 fn link_number(text: &str) -> Result<u32, Wrong> {
     Ok(number(text)?.min(0xFFFF_FFFF) as u32)
 }
 
-/// The row's observer, which hears the codes of a mask and keeps its newest event, or none.
+/// The row's observer, which counts the codes of a mask and keeps its newest event; none if the row has no mask.
 fn observers_of(row: &Row<'_>) -> Result<Vec<Tail>, Wrong>
     ensures { IfOk result (λ tails. AllByRecursion (λ o. IsFresh o) tails.items) }
 {
@@ -124,6 +129,7 @@ fn observers_of(row: &Row<'_>) -> Result<Vec<Tail>, Wrong>
     }
 }
 
+/// An observer with this mask.
 fn one_observer(alloc: Global, mask: &str) -> Result<Vec<Tail>, Wrong>
     ensures { IfOk result (λ tails. AllByRecursion (λ o. IsFresh o) tails.items) }
 {
@@ -160,7 +166,7 @@ fn serve<R: Threads + Wait + Clock + Sync>(
     )
 }
 
-// What was printed and the files are as the row states, and the gate didn't give up.
+/// Compares what was printed and the files with what the row states, and checks that the gate didn't give up.
 fn compare_outside(
     row: &Row<'_>,
     first: u64,
@@ -175,6 +181,7 @@ fn compare_outside(
     Ok(())
 }
 
+/// Compares what the server left with what the row states.
 fn compare_left(row: &Row<'_>, left: &Left, differences: &mut String) -> Result<(), Wrong> {
     let status = row.number_or(0, "status", 0)?;
     compare_numbers("status", status, u64::from(left.status), differences)?;
@@ -184,6 +191,7 @@ fn compare_left(row: &Row<'_>, left: &Left, differences: &mut String) -> Result<
     }
 }
 
+/// Compares a run with what the row states.
 fn compare_run(
     row: &Row<'_>,
     run: &Run<RowLink, Tail>,
@@ -199,7 +207,7 @@ fn compare_run(
     compare_book(row, &run.book, differences)
 }
 
-// What was written on a link, and the number of its newest entry, are as the row states.
+/// Compares what was written on a link, and the number of its newest entry, with what the row states.
 fn compare_link(
     row: &Row<'_>,
     place: u64,

@@ -1,11 +1,11 @@
-// Texts that lines state.
+//! The texts that lines state.
 use crate::octets::add_octets;
 use crate::parts::{cut, number};
 use crate::row::Row;
 use crate::wrong::Wrong;
 use std::alloc::Global;
 
-/// The text of a word's lines: each part between two ` / ` is a line of it.
+/// The text of a word's lines. Each part between two ` / ` is a line of it.
 pub fn text_of(row: &Row<'_>, first: u64, word: &str) -> Result<String, Wrong> {
     let mut text = String::new(row.alloc);
     for k in 0..u64::MAX {
@@ -29,6 +29,7 @@ pub fn path_text(row: &Row<'_>, first: u64, word: &str, path: &str) -> Result<St
     Ok(text)
 }
 
+/// Appends the text of one line of the word, if it begins with the path.
 fn add_path_lines(
     row: &Row<'_>,
     value: &str,
@@ -43,7 +44,7 @@ fn add_path_lines(
     Ok(())
 }
 
-/// Adds the lines of a value. A value that ends with `^` has no newline at its end.
+/// Appends the lines of a value. A value that ends with `^` has no newline at its end.
 fn add_lines(row: &Row<'_>, value: &str, first: u64, text: &mut String) -> Result<(), Wrong> {
     match value.strip_suffix('^') {
         Some(value) => add_part(row, value, first, text),
@@ -54,7 +55,7 @@ fn add_lines(row: &Row<'_>, value: &str, first: u64, text: &mut String) -> Resul
     }
 }
 
-/// Adds a text in which what stands between two `~` is put in place of it.
+/// Appends a text in which each part between two `~` is replaced.
 pub fn add_part(row: &Row<'_>, part: &str, first: u64, text: &mut String) -> Result<(), Wrong> {
     let mut is_placed = false;
     for piece in part.split('~') {
@@ -68,7 +69,7 @@ pub fn add_part(row: &Row<'_>, part: &str, first: u64, text: &mut String) -> Res
     Ok(())
 }
 
-// Adds a text with a newline for each ` / `.
+/// Appends a text with a newline for each ` / `.
 fn add_plain(piece: &str, text: &mut String) -> Result<(), Wrong> {
     let mut is_first = true;
     for line in piece.split(" / ") {
@@ -81,7 +82,8 @@ fn add_plain(piece: &str, text: &mut String) -> Result<(), Wrong> {
     Ok(())
 }
 
-// Adds a carriage return, a tilde, a number, a text so many times, or the digits of the octets of a word.
+/// Appends what replaces a part: a carriage return, a tilde, a number, a repeated text, or the digits of the octets of
+/// a word.
 fn add_placed(row: &Row<'_>, piece: &str, first: u64, text: &mut String) -> Result<(), Wrong> {
     match piece {
         "r" => return Ok(text.push('\r')?),
@@ -97,6 +99,7 @@ fn add_placed(row: &Row<'_>, piece: &str, first: u64, text: &mut String) -> Resu
     }
 }
 
+/// Appends a text, repeated.
 fn add_repeated(repeated: &str, times: u64, text: &mut String) -> Result<(), Wrong> {
     for _ in 0..times {
         text.push_str(repeated)?;
@@ -104,7 +107,7 @@ fn add_repeated(repeated: &str, times: u64, text: &mut String) -> Result<(), Wro
     Ok(())
 }
 
-// Adds the octets of a word in hexadecimal digits.
+/// Appends the octets of a word in hexadecimal digits.
 fn add_digits(row: &Row<'_>, word: &str, text: &mut String) -> Result<(), Wrong> {
     let mut octets = Vec::new(row.alloc);
     add_octets(&row.scope, word, &mut octets)?;
@@ -122,7 +125,7 @@ pub fn digits_of(alloc: Global, number: u64) -> Result<String, Wrong> {
     Ok(format!(in alloc; "{number}")?)
 }
 
-/// Adds a number.
+/// Appends a number.
 pub fn add_number(number: u64, text: &mut String) -> Result<(), Wrong> {
     let digits = digits_of(*text.allocator(), number)?;
     Ok(text.push_str(digits.as_str())?)
@@ -143,6 +146,7 @@ pub fn words_of(row: &Row<'_>, first: u64) -> Result<Vec<String>, Wrong> {
     Ok(words)
 }
 
+/// Appends the words of a piece.
 fn add_words(row: &Row<'_>, piece: &str, first: u64, words: &mut Vec<String>) -> Result<(), Wrong> {
     for word in piece.split_ascii_whitespace() {
         let mut text = String::new(row.alloc);
@@ -152,7 +156,7 @@ fn add_words(row: &Row<'_>, piece: &str, first: u64, words: &mut Vec<String>) ->
     Ok(())
 }
 
-/// The words, lent.
+/// The words, borrowed.
 pub fn lent(alloc: Global, owned: &[String]) -> Result<Vec<&str>, Wrong> {
     let mut words = Vec::new(alloc);
     for word in owned {

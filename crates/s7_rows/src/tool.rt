@@ -1,4 +1,4 @@
-// A row that runs the tool.
+//! A row that runs the tool.
 use crate::objects::{RowLink, files_of, link_of, out_of, printed};
 use crate::octets::Scope;
 use crate::parts::number;
@@ -16,7 +16,7 @@ use std::alloc::Global;
 /// What the tool leaves.
 pub type Left = ToolEnd<RowLink, Counter>;
 
-/// What the tool is given but its words.
+/// What the tool is given besides its words.
 #[derive(Drop)]
 struct Outside {
     files: MemoryFiles,
@@ -24,7 +24,7 @@ struct Outside {
     out: MemoryOut,
 }
 
-/// Runs a row with each of its numbers of jobs and in each of its ways, and notes what differs.
+/// Runs a row with each of its numbers of jobs and in each of its ways, and appends the differences.
 pub fn play(row: &Row<'_>, differences: &mut String) -> Result<(), Wrong> {
     let with = row.value(0, "with").unwrap_or("");
     for jobs in row.value(0, "jobs").unwrap_or("").split(' ') {
@@ -38,7 +38,7 @@ pub fn play(row: &Row<'_>, differences: &mut String) -> Result<(), Wrong> {
     Ok(())
 }
 
-/// How many jobs may be under way, where nothing is said one.
+/// How many jobs may be under way; one if nothing is stated.
 fn count_of(jobs: &str) -> Result<u8, Wrong> {
     if jobs.is_empty() {
         return Ok(1);
@@ -46,7 +46,7 @@ fn count_of(jobs: &str) -> Result<u8, Wrong> {
     Ok(number(jobs)?.min(255) as u8)
 }
 
-/// Runs a row in each of its ways, each of which prints the same.
+/// Runs a row in each of its ways, all of which must print the same.
 fn play_ways(row: &Row<'_>, jobs: &str, differences: &mut String) -> Result<(), Wrong> {
     let mut first: Option<Vec<u8>> = None;
     for way in ways_of(row)?.iter() {
@@ -59,6 +59,7 @@ fn play_ways(row: &Row<'_>, jobs: &str, differences: &mut String) -> Result<(), 
     Ok(())
 }
 
+/// Appends a difference of what two ways printed.
 fn compare_ways(first: &[u8], text: &[u8], differences: &mut String) -> Result<(), Wrong> {
     if first != text {
         differences.push_str("  prints another text in another way\n")?;
@@ -66,7 +67,7 @@ fn compare_ways(first: &[u8], text: &[u8], differences: &mut String) -> Result<(
     Ok(())
 }
 
-/// Runs a row in a way, and gives what was printed.
+/// Runs a row in one way, and returns what was printed.
 fn play_way(
     row: &Row<'_>,
     jobs: &str,
@@ -77,6 +78,7 @@ fn play_way(
     play_in(row, jobs, way, &mut outside, differences)
 }
 
+/// Runs a row in one way.
 fn play_in(
     row: &Row<'_>,
     jobs: &str,
@@ -94,6 +96,7 @@ fn play_in(
     Ok(Vec::from_slice(row.alloc, printed(&outside.out))?)
 }
 
+/// Runs the tool with these words.
 fn play_words(
     row: &Row<'_>,
     words: &[&str],
@@ -104,6 +107,7 @@ fn play_words(
     compare_left(row, &left, outside.dial.calls(), differences)
 }
 
+/// What the tool is given in one way.
 fn outside_of(row: &Row<'_>, way: &Way) -> Result<Outside, Wrong> {
     let out = out_of(row)?;
     let files = files_of(row, way.first)?;
@@ -111,7 +115,7 @@ fn outside_of(row: &Row<'_>, way: &Way) -> Result<Outside, Wrong> {
     Ok(Outside { files, dial, out })
 }
 
-/// The link that the dial gives, where something may come and `nobody` doesn't stand there.
+/// The link that the dial gives; none if the row states nothing that comes, or states `nobody`.
 fn line_of(row: &Row<'_>, way: &Way) -> Result<Option<RowLink>, Wrong> {
     if has_line(row) {
         Ok(Some(link_of(row, way, 0)?))
@@ -120,7 +124,7 @@ fn line_of(row: &Row<'_>, way: &Way) -> Result<Option<RowLink>, Wrong> {
     }
 }
 
-/// The dial has a link.
+/// Whether the dial has a link.
 pub fn has_line(row: &Row<'_>) -> bool {
     row.value(0, "in").is_some() && row.value(0, "nobody").is_none()
 }

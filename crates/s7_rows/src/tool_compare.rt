@@ -1,4 +1,4 @@
-// What the tool left is compared with what a row states.
+//! Compares what the tool left with what a row states.
 use crate::book::octets_of;
 use crate::compare::{
     block_of, compare_count, compare_line, compare_numbers, compare_octets, compare_printed,
@@ -15,7 +15,7 @@ use s7_rig::RigEnd;
 use s7_tool_main::RunEnd;
 use std::alloc::Global;
 
-/// Notes what differs of what the tool left, which dialled so often.
+/// Appends the differences of what the tool left. It dialled this number of times.
 pub fn compare_left(
     row: &Row<'_>,
     left: &Left,
@@ -33,7 +33,7 @@ pub fn compare_left(
     }
 }
 
-/// What is printed is a text, or begins or ends with one, or has its lines in some order.
+/// Compares the printed text with a text, with its beginning or its end, or with its lines in any order.
 pub fn compare_text(
     row: &Row<'_>,
     first: u64,
@@ -60,7 +60,7 @@ pub fn compare_text(
     Ok(())
 }
 
-/// The lines that came are those of a text, in some order.
+/// Compares the lines that came with those of a text, in any order.
 fn compare_mixed(text: &str, came: &[u8], differences: &mut String) -> Result<(), Wrong> {
     let alloc = *differences.allocator();
     let came = String::from_utf8_lossy(alloc, came)?;
@@ -72,7 +72,7 @@ fn compare_mixed(text: &str, came: &[u8], differences: &mut String) -> Result<()
     Ok(())
 }
 
-/// The lines of a text in their order.
+/// The lines of a text, sorted.
 fn sorted(alloc: Global, text: &str) -> Result<Vec<String>, Wrong> {
     let mut lines = Vec::new(alloc);
     for line in text.split('\n') {
@@ -82,8 +82,9 @@ fn sorted(alloc: Global, text: &str) -> Result<Vec<String>, Wrong> {
     Ok(lines)
 }
 
-/// The status is the one that the row states. The dial is called once where it has a link or the dial failed, and else
-/// not at all, and a script was run exactly where it has one. There are as many clients of a rig as the row states.
+/// Compares the status with the one that the row states. The dial is called once if it has a link or the dial failed,
+/// and otherwise not at all. A script was run exactly if the dial has a link. A rig has as many clients as the row
+/// states.
 fn compare_end(
     row: &Row<'_>,
     left: &Left,
@@ -105,6 +106,7 @@ fn compare_end(
     compare_numbers("clients", clients, client_count(&left.rig), differences)
 }
 
+/// The number of a rig's clients.
 fn client_count(rig: &Option<RigEnd>) -> u64 {
     match rig {
         Some(rig) => rig.clients.len() as u64,
@@ -112,7 +114,8 @@ fn client_count(rig: &Option<RigEnd>) -> u64 {
     }
 }
 
-/// The completion came back, told of each result of the run or of a rig's first client, and as the row states.
+/// Compares what the completion was notified of: each result of the run, or of a rig's first client, and as the row
+/// states.
 fn compare_done(row: &Row<'_>, left: &Left, differences: &mut String) -> Result<(), Wrong> {
     let Some(counter) = left.done else {
         return note("completion", "one", "none", differences);
@@ -124,7 +127,7 @@ fn compare_done(row: &Row<'_>, left: &Left, differences: &mut String) -> Result<
     compare_line(row, 0, "told", told.as_str(), differences)
 }
 
-/// How many results the run has, or a rig's first client.
+/// The number of results of the run, or of a rig's first client.
 fn result_count(left: &Left) -> u64 {
     match (&left.run, &left.rig) {
         (Some(run), _) => run.results.len() as u64,
@@ -136,7 +139,7 @@ fn result_count(left: &Left) -> u64 {
     }
 }
 
-// Adds how often a completion was told, and of which job at last and its code.
+/// Appends how often a completion was notified, and the last job with its code.
 fn add_told(counter: Counter, text: &mut String) -> Result<(), Wrong> {
     add_number(counter.calls(), text)?;
     match counter.last() {
@@ -148,7 +151,7 @@ fn add_told(counter: Counter, text: &mut String) -> Result<(), Wrong> {
     }
 }
 
-/// A data block of the rig begins with the octets that the row states.
+/// Compares the beginning of a data block of the rig with the octets that the row states.
 fn compare_rig(row: &Row<'_>, rig: &RigEnd, differences: &mut String) -> Result<(), Wrong> {
     let Some(block) = row.value(0, "block") else {
         return Ok(());
@@ -160,7 +163,7 @@ fn compare_rig(row: &Row<'_>, rig: &RigEnd, differences: &mut String) -> Result<
     compare_octets("block", wanted.as_slice(), front, differences)
 }
 
-/// What was written on the link, and the results.
+/// Compares what was written on the link, and the results.
 fn compare_run(
     row: &Row<'_>,
     run: &RunEnd<RowLink>,
@@ -172,7 +175,7 @@ fn compare_run(
     compare_results(row, run.results.as_slice(), differences)
 }
 
-/// How many results there are, and the messages that they carry.
+/// Compares the number of results, and the messages that they carry.
 fn compare_results(
     row: &Row<'_>,
     results: &[JobResult],
@@ -186,6 +189,7 @@ fn compare_results(
     compare_octets("carried", wanted.as_slice(), came.as_slice(), differences)
 }
 
+/// Appends the messages that the results carry.
 fn add_carried(results: &[JobResult], all: &mut Vec<u8>) -> Result<(), Wrong> {
     for told in results {
         all.extend_from_slice(told.carried.as_slice())?;

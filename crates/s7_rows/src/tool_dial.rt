@@ -1,7 +1,7 @@
-// A dial that counts its calls.
+//! A dial that counts its calls.
 use s7_outer::{Dial, Dialled};
 
-/// Calls by the dial inside, and counts how often.
+/// Calls the dial inside, and counts the calls.
 #[derive(Drop)]
 pub struct CountedDial<K> {
     inner: K,
@@ -9,6 +9,7 @@ pub struct CountedDial<K> {
 }
 
 impl<K> CountedDial<K> {
+    /// A dial around this one, with no call yet.
     pub fn new(inner: K) -> CountedDial<K> {
         CountedDial { inner, calls: 0 }
     }

@@ -1,4 +1,4 @@
-// The ways in which a row is run.
+//! The ways in which a row is run.
 use crate::parts::{number, range};
 use crate::row::Row;
 use crate::wrong::Wrong;
@@ -7,16 +7,16 @@ use s7_memory::Fate;
 /// One run of a row.
 #[derive(Clone, Copy)]
 pub struct Way {
-    /// How many octets a call of a link moves at most.
+    /// The most octets that a call of a link moves.
     pub most: u64,
-    /// How many octets of what comes on a link are given.
+    /// The number of octets that are given of what comes on a link.
     pub first: u64,
-    /// How many of the first link's calls pass before one that waits.
+    /// How many calls of the first link pass before one that waits.
     pub waits: Option<u64>,
 }
 
-/// The ways of a row: for each number of octets that a call of a link moves those of each number of octets that come,
-/// or of each call that waits.
+/// The ways of a row: for each number of octets that a call of a link moves, one for each number of octets that come,
+/// or for each call that waits.
 pub fn ways_of(row: &Row<'_>) -> Result<Vec<Way>, Wrong> {
     let mut ways = Vec::new(row.alloc);
     for cut in row.value(0, "cut").unwrap_or("8192").split(' ') {
@@ -30,6 +30,7 @@ pub fn ways_of(row: &Row<'_>) -> Result<Vec<Way>, Wrong> {
     Ok(ways)
 }
 
+/// Appends the ways that begin with this one.
 fn add_ways(row: &Row<'_>, way: Way, ways: &mut Vec<Way>) -> Result<(), Wrong> {
     if let Some(firsts) = row.value(0, "first") {
         return add_firsts(firsts, way, ways);
@@ -40,6 +41,7 @@ fn add_ways(row: &Row<'_>, way: Way, ways: &mut Vec<Way>) -> Result<(), Wrong> {
     }
 }
 
+/// Appends a way for each number of octets that come.
 fn add_firsts(firsts: &str, way: Way, ways: &mut Vec<Way>) -> Result<(), Wrong> {
     let (from, to) = range(firsts)?;
     for first in from..to {
@@ -48,6 +50,7 @@ fn add_firsts(firsts: &str, way: Way, ways: &mut Vec<Way>) -> Result<(), Wrong> 
     Ok(())
 }
 
+/// Appends a way for each call that waits.
 fn add_waits(waits: &str, way: Way, ways: &mut Vec<Way>) -> Result<(), Wrong> {
     let (from, to) = range(waits)?;
     for passing in from..to {
@@ -57,7 +60,7 @@ fn add_waits(waits: &str, way: Way, ways: &mut Vec<Way>) -> Result<(), Wrong> {
     Ok(())
 }
 
-/// What becomes of the calls of a link, one after another.
+/// The fates of the calls of a link, one after another.
 pub fn fates_of(row: &Row<'_>, way: &Way, link: u64) -> Result<Vec<Fate>, Wrong> {
     let mut fates = Vec::new(row.alloc);
     for letter in row.value(link, "fates").unwrap_or("").bytes() {
@@ -73,6 +76,7 @@ pub fn fates_of(row: &Row<'_>, way: &Way, link: u64) -> Result<Vec<Fate>, Wrong>
     Ok(fates)
 }
 
+/// Appends the fates of a call that waits after others.
 fn add_wait(passing: u64, fates: &mut Vec<Fate>) -> Result<(), Wrong> {
     for _ in 0..passing {
         fates.push(Fate::Pass)?;

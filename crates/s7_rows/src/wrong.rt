@@ -1,10 +1,11 @@
-// Why rows can't be run.
+//! Why rows can't be run.
 use s7_outer::Memory;
 use std::alloc::{AllocError, AllocFailed};
 
-/// What can't be read, or that memory was wanting.
+/// What can't be read, or that memory ran out.
 #[derive(Clone, Copy)]
 pub enum Wrong {
+    /// Memory ran out.
     Memory,
     File,
     Octets,
@@ -16,7 +17,7 @@ pub enum Wrong {
 }
 
 impl Wrong {
-    /// Its text.
+    /// The text of the reason.
     pub fn text(self) -> &'static str {
         match self {
             Wrong::Memory => "no memory",

@@ -1,28 +1,28 @@
--- What is drawn from a seed: numbers, and from these the actors of turns.
+-- What is drawn from a seed: numbers, and the actors of turns.
 use Rattle.std.specs.Prelude.{ℕ, zero, suc, ◌+◌, ◌*◌, ◌/◌, ◌%◌, List, [], ◌∷◌}
 
--- x goes on by a linear congruence modulo 2^31
+-- the x after this one, by a linear congruential generator modulo 2^31
 abbrev pub next_x : ℕ → ℕ
 next_x x = (1103515245 * x + 12345) % 2147483648
 
--- a seed counts modulo 2^31
+-- the first x: the seed modulo 2^31
 abbrev pub first_x : ℕ → ℕ
 first_x seed = seed % 2147483648
 
--- THE NUMBER that x gives is its high part
+-- THE NUMBER drawn from x, its high part
 abbrev pub number_by : ℕ → ℕ
 number_by x = x / 65536
 
--- so many numbers, of each x that comes after this one
+-- this number of numbers, drawn from the x after this one on
 unfoldable pub drawn_from : ℕ → ℕ → List ℕ
 drawn_from x zero = []
 drawn_from x (suc more) = number_by (next_x x) ∷ drawn_from (next_x x) more
 
--- THE ACTOR that x gives, of so many
+-- THE ACTOR drawn from x, of this number of actors
 abbrev pub actor_by : ℕ → ℕ → ℕ
 actor_by x actors = number_by x % actors
 
--- the actors of so many turns
+-- the actors of this number of turns
 unfoldable pub drawn : ℕ → ℕ → ℕ → List ℕ
 drawn x zero actors = []
 drawn x (suc steps) actors = actor_by (next_x x) actors ∷ drawn (next_x x) steps actors

@@ -1,4 +1,4 @@
-//! Numbers that are drawn from a seed, and actors of turns.
+//! Numbers that are drawn from a seed, and the actors of turns.
 #![tactic(auto)]
 
 ghost use Rattle.std.specs.Prelude.{◌≡◌, ◌<◌, ◌%◌};
@@ -6,7 +6,7 @@ ghost use Rattle.s7_schedule.specs.Drawing.{actor_by, first_x, next_x, number_by
 
 use std::marker::Model;
 
-/// Draws numbers by a linear congruence modulo 2^31. Contracts see its x, from which the next number comes.
+/// Draws numbers by a linear congruential generator modulo 2^31. Contracts see its state x.
 #[derive(Drop)]
 pub struct Draw {
     x: u32,
@@ -23,7 +23,7 @@ impl Model for Draw {
 }
 
 impl Draw {
-    /// Begins with a seed, which counts modulo 2^31.
+    /// A generator with this seed, taken modulo 2^31.
     pub fn new(seed: u32) -> Draw
         ensures { result ≡ first_x seed }
     {
@@ -32,8 +32,8 @@ impl Draw {
         }
     }
 
-    /// The next number below `count`, which is at least 1: the high part of the next x, modulo `count`. It is below
-    /// 32,768.
+    /// Draws the next number below `count`, which is at least 1: the high part of the next x, modulo `count`. It is
+    /// below 32,768.
     pub fn below(&mut self, count: u32) -> u32
         requires { 0 < count }
         ensures x { self.new ≡ next_x self.old }
@@ -43,7 +43,7 @@ impl Draw {
         self.next() % count
     }
 
-    /// The next of so many actors, at least one, which are counted from 0.
+    /// Draws the next of `actors` actors, which are numbered from 0. There must be at least one.
     pub fn actor(&mut self, actors: usize) -> usize
         requires { 0 < actors }
         ensures x { self.new ≡ next_x self.old }
@@ -53,7 +53,7 @@ impl Draw {
         self.next() as usize % actors
     }
 
-    // The high part of the next x.
+    /// Advances x, and returns its high part.
     fn next(&mut self) -> u32
         ensures x { self.new ≡ next_x self.old }
         ensures number { result ≡ number_by self.new }

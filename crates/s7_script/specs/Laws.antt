@@ -16,11 +16,11 @@ use Rattle.s7_symbol.specs.declared.tag.Tag.{Tag}
 use Rattle.s7_script.specs.Tagged.{script_by}
 use Rattle.s7_script.specs.declared.scripts.script_list.ScriptLine.{ScriptLine}
 
--- What is written for what a text names, of either version, is read as what the text names.
+-- The text that is written for what an area file names, of either version, is read as the same areas.
 pub record AreasMigrate : Type 0 where
   pub migrates : (text : Text) (m : Memory) → areas text ≡ Ok m → areas (spelling m) ≡ Ok m
 
--- What is told of an end that has its form can be printed.
+-- The result of an end that has its form can be printed.
 pub record EndsPrint : Type 0 where
   pub prints : (asked : Job) (end : End) (message : List ℕ) (told : JobResult) → IsResult told asked end message
       → HasForm asked end → IsPrintable told

@@ -1,4 +1,4 @@
--- The areas that a word names, as far as they are told.
+-- What a word gives of the areas that it names.
 use Rattle.std.specs.Prelude.{◌≡◌, ◌≢◌, ◌⊎◌, ℕ, nat_lt, List, length, Option, Some, None, Result, Ok, Err, IsTrue, if◌then◌else◌}
 use Rattle.s7_outer.specs.Count.{Rose}
 use Rattle.s7_outer.specs.FilesShown.{FilesShown}
@@ -21,29 +21,29 @@ abbrev pub with_line_fault : Result Memory AreasFault → Result Memory LoadFaul
 with_line_fault (Ok m) = Ok m
 with_line_fault (Err e) = Err (fault.Line e.line)
 
--- what lies under a path, as an area file
+-- what the file under a path gives, as an area file
 abbrev pub file_gives : Option Text → Result Memory LoadFault
 file_gives None = Err fault.Failed
 file_gives (Some octets) =
     if nat_lt file_limit (length octets) then Err fault.TooLong else with_line_fault (areas octets)
 
--- what is named gives, over the files under their paths
+-- what the named areas give, if these are the files under their paths
 abbrev pub named_gives : Named → (Text → Option Text) → Result Memory LoadFault
 named_gives (path p) held = file_gives (held p)
 named_gives (block number octets) held = Ok (opening number octets)
 named_gives faulty held = Err (fault.Line 1)
 
--- whether it is told what is named: inline words say it themselves
+-- whether contracts see the octets: inline words contain them
 abbrev pub IsTold : Named → FilesShown → Type 0
 IsTold (path p) files = IsTrue files.tells
 IsTold (block number octets) files = Unit {0}
 IsTold faulty files = Unit {0}
 
--- what is named gives this over the files, where that is told
+-- the named areas give this result, if contracts see the octets
 abbrev pub NamedGives : Named → FilesShown → Result Memory LoadFault → Type 0
 NamedGives named files result = IsTold named files → named_gives named files.held ≡ result
 
--- what was answered is what was told, unless memory ran out or the file failed
+-- the result is what the named areas give, unless memory ran out or the file failed
 abbrev pub Answers : Result Memory LoadFault → Result Memory LoadFault → Type 0
 Answers told (Ok m) = told ≡ Ok m
 Answers told (Err fault.Failed) = Unit {0}
@@ -55,11 +55,11 @@ Answers told (Err fault.Memory) = Unit {0}
 abbrev pub PathFailed : Text → (Text → ℕ) → (Text → ℕ) → Type 0
 PathFailed p old new = Rose (old p) (new p) × NonePathFell old new × NoPathRoseTwice old new
 
--- AT MOST ONE CALL FAILED: the counts are as they were, or one call on some path failed
+-- AT MOST ONE CALL FAILED: the counts are as before, or one call on some path failed
 abbrev pub FailedOnce : (Text → ℕ) → (Text → ℕ) → Type 0
 FailedOnce old new = (new ≡ old) ⊎ ((p : Text) × PathFailed p old new)
 
--- the file that is named failed; an inline word never does
+-- the named file failed; an inline word never does
 abbrev pub HasFailed : Named → FilesShown → FilesShown → Type 0
 HasFailed (path p) old new = PathFailed p old.faults new.faults
 HasFailed (block number octets) old new = ⊥
@@ -77,7 +77,7 @@ pub record Loads (named : Named) (old new : FilesShown) (result : Result Memory 
   pub failed : result ≡ Err fault.Failed → HasFailed named old new
   -- unless the file failed, no count rose either
   pub unfailed : result ≢ Err fault.Failed → new ≡ old
-  -- a file that isn't there fails
+  -- a file that doesn't exist fails
   pub missing : IsTold named old → named_gives named old.held ≡ Err fault.Failed → result ≡ Err fault.Failed
   pub left : LeavesFiles named old new
 

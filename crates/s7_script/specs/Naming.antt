@@ -1,5 +1,5 @@
--- What an AREAS word names: a data block that is given inline, or a path. A word is inline exactly where it begins with
--- DB and holds =.
+-- What an AREAS word names: a data block that is given inline, or a path. A word is inline exactly if it begins with DB
+-- and contains =.
 use Rattle.std.specs.Prelude.{ℕ, ◌&&◌, nat_le, List, length, take, drop, codes, Option, Some, None, Result, Ok, Err, if◌then◌else◌}
 use Rattle.std.specs.Str.{bytes_eq}
 use Rattle.hex.specs.Hex.{decode_of}

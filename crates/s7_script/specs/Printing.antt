@@ -1,4 +1,4 @@
--- The line that is printed for what came of a job.
+-- The line that is printed for the result of a job.
 use Rattle.std.specs.Prelude.{◌≡◌, ◌≢◌, ℕ, Bool, ◌==◌, ◌≤◌, ◌+◌, ◌/◌, ◌%◌, slice_index, Option, None, Some, IsSome, List, [], ◌∷◌, ◌++◌, length, map, take, drop, codes, if◌then◌else◌}
 use Rattle.std.specs.List.{flat_map}
 use Rattle.std.specs.Fmt.{decimal}
@@ -47,11 +47,11 @@ word_of job.Disconnect = codes "disconnect"
 abbrev pub four_octets : ℕ → List ℕ
 four_octets n = n / 16777216 ∷ n / 65536 % 256 ∷ n / 256 % 256 ∷ n % 256 ∷ []
 
--- two digits
+-- a code in two digits
 abbrev pub code_text : ℕ → Text
 code_text code = encode_upper (code ∷ [])
 
--- of each item its code, a colon and its octets
+-- for each item its code, a colon and its octets
 unfoldable pub read_values : List Item → List ℕ → List ℕ → List Text
 read_values [] cs octets = []
 read_values (item ∷ items) [] octets = []
@@ -63,11 +63,11 @@ abbrev pub octets_value : List ℕ → List Text
 octets_value [] = []
 octets_value (b ∷ bs) = encode_lower (b ∷ bs) ∷ []
 
--- the number in the two octets from this place on
+-- the number in the two octets from this offset on
 abbrev pub number_in : List ℕ → ℕ → ℕ
 number_in octets at = number_of_two (slice_index octets at) (slice_index octets (at + 1))
 
--- of each four octets the number in two of them, from this place on
+-- for each four octets the number in two of them, from this offset on
 unfoldable pub numbers_told : ℕ → List ℕ → List Text
 numbers_told at [] = []
 numbers_told at (a ∷ []) = []
@@ -97,7 +97,7 @@ job_values r job.ClockRead = clock_values (parts_in r.octets)
 job_values r job.Status = mode_values (mode_of r.octets)
 job_values r _ = []
 
--- there are values only where the job came off
+-- there are values only if the job succeeded
 abbrev pub values : JobResult → List Text
 values r = if r.code == 0 then job_values r r.job else []
 
@@ -108,7 +108,7 @@ abbrev pub or_dash : Text → Text
 or_dash [] = codes " -"
 or_dash (b ∷ bs) = b ∷ bs
 
--- each value after a space, and `-` where there is none
+-- each value after a space, and `-` if there is none
 abbrev pub values_text : List Text → Text
 values_text vs = or_dash (flat_map spaced vs)
 
@@ -118,7 +118,7 @@ print line r =
     decimal line ++ 32 ∷ word_of r.job ++ 32 ∷ encode_upper (four_octets r.code) ++ values_text (values r) ++ 10 ∷ []
 
 -- of several items there are as many codes as items, and the octets of those that were read; the octets of a clock have
--- a date and time, and those of a run state tell it
+-- a date and time, and those of a run state show it
 abbrev pub IsPrintableOf : JobResult → Job → Type 0
 IsPrintableOf r (job.ReadMany items) = (r.count ≤ 20) × (r.count ≡ length items) × (length r.octets ≡ octets_read items (codes_of r))
 IsPrintableOf r (job.WriteMany items octets) = (r.count ≤ 20) × (r.count ≡ length items)

@@ -1,4 +1,4 @@
--- What an area file says: its guard and its areas, or the first faulty line.
+-- The guard and the areas of an area file, or its first faulty line.
 use Rattle.std.specs.Prelude.{ℕ, Bool, true, false, ◌==◌, ◌&&◌, ◌+◌, ◌-◌, ◌≡◌, nat_lt, nat_le, List, [], ◌∷◌, ◌++◌, length, replicate, slice_index, codes, Option, Some, None, Result, Ok, Err, if◌then◌else◌}
 use Rattle.std.specs.List.{list_all}
 use Rattle.std.specs.Str.{bytes_eq}
@@ -27,7 +27,7 @@ abbrev pub ◌>>=◌ : {A B : Type 0} → Result A AreasFault → (A → Result 
 abbrev pub fault_at : {A : Type 0} → ℕ → AreasKind → Result A AreasFault
 fault_at line kind = Err (record { line = line; kind = kind })
 
--- a number that fits its field
+-- a number that is in the range of its field
 abbrev pub number_within : ℕ → ℕ → Option ℕ → ℕ → Result ℕ AreasFault
 number_within low high None line = fault_at line kind.Number
 number_within low high (Some n) line =
@@ -46,15 +46,15 @@ version_of text =
 abbrev pub is_graphic : ℕ → Bool
 is_graphic b = nat_le 0x21 b && nat_le b 0x7E
 
--- one to eight of them
+-- one to eight such octets
 abbrev pub is_word : Text → Bool
 is_word text = (nat_le 1 (length text) && nat_le (length text) 8) && list_all is_graphic text
 
--- a word, filled up with spaces to eight octets
+-- a word, padded with spaces to eight octets
 abbrev pub password_of : Text → List ℕ
 password_of word = word ++ replicate (8 - length word) 0x20
 
--- the password, which is the last field: no space is in a word
+-- the password, which is the last field, since a word has no space
 abbrev pub with_word : ℕ → ℕ → Option Text → Result Guard AreasFault
 with_word line level None = fault_at line kind.Line
 with_word line level (Some text) =
@@ -121,7 +121,7 @@ abbrev pub run_octet : ℕ → Result (List ℕ) FromHexError → Result ℕ Are
 run_octet line (Ok octets) = Ok (slice_index octets 0)
 run_octet line (Err e) = fault_at line kind.Digits
 
--- how often which octet stands, for what is before and after the * of a run
+-- the count and the octet of a run, from the texts before and after its `*`
 abbrev pub run_of : ℕ → Text × Text → Result (ℕ × ℕ) AreasFault
 run_of line parts = do
   count ← number_within 1 9999999999 (number_of parts.0) line
@@ -133,7 +133,7 @@ run_octets line parts = do
   run ← run_of line parts
   Ok (replicate run.0 run.1)
 
--- what is before and after the * of a run: version 1 has no runs
+-- the texts before and after the `*` of a run; version 1 has no runs
 abbrev pub run_parts : Version → Text → Option (Text × Text)
 run_parts One text = None
 run_parts Two text = parts_around 42 text
@@ -142,7 +142,7 @@ abbrev pub octets_by : ℕ → Text → Option (Text × Text) → Result (List �
 octets_by line text None = hex_octets line (decode_of text)
 octets_by line text (Some parts) = run_octets line parts
 
--- the octets that a line stands for
+-- the octets that a line states
 abbrev pub line_octets : ℕ → Version → Text → Result (List ℕ) AreasFault
 line_octets line version text = octets_by line text (run_parts version text)
 
@@ -159,7 +159,7 @@ pub record State : Type 0 where
   pub version : Version
   -- no guard and no area came yet
   pub may_guard : Bool
-  -- the areas that are whole, and the guard
+  -- the complete areas, and the guard
   pub areas : Memory
   pub current : Option Open
 
@@ -167,7 +167,7 @@ pub record State : Type 0 where
 abbrev pub is_guard_line : Text → Bool
 is_guard_line text = bytes_eq (field_of text) (codes "protect")
 
--- the fault of an area that isn't taken
+-- the fault of an area that is refused
 abbrev pub kind_of : RegisterFault → AreasKind
 kind_of refusal.Memory = kind.Memory
 kind_of refusal.Key = kind.Register refusal.Key
@@ -178,7 +178,7 @@ kind_of refusal.TooManyDbs = kind.Register refusal.TooManyDbs
 abbrev pub with_guard : Memory → Guard → Memory
 with_guard m guard = record m { guard = Some guard }
 
--- one guard at most, before any area
+-- at most one guard, before any area
 abbrev pub guarded : ℕ → State → Option Text → Result State AreasFault
 guarded line s rest =
     if s.may_guard
@@ -189,11 +189,11 @@ abbrev pub joined : State → Open → Option RegisterFault → Result State Are
 joined s a None = Ok (record s { areas = with_area s.areas a.key a.octets; current = None })
 joined s a (Some fault) = fault_at a.line (kind.Register fault)
 
--- an area that is whole joins the others
+-- an area that is complete joins the others
 abbrev pub registered : State → Open → Result State AreasFault
 registered s a = joined s a (fault_of s.areas a.key (length a.octets))
 
--- an area with more octets, which may be the last
+-- an area with more octets, which may be complete now
 abbrev pub filled : State → Open → Result State AreasFault
 filled s a = if length a.octets == a.size then registered s a else Ok (record s { current = Some a })
 
@@ -206,7 +206,7 @@ opened line s area = if is_wrong_size s.areas area.0 area.1
       current = Some (record { line = line; key = area.0; size = area.1; octets = [] });
     })
 
--- the octets of a line join those before
+-- the octets of a line are appended to those before
 abbrev pub with_more : ℕ → State → Open → List ℕ → Result State AreasFault
 with_more line s a octets = if nat_lt a.size (length a.octets + length octets)
     then fault_at line kind.Length

@@ -1,4 +1,4 @@
--- What the lines of scripts say: the jobs that they name.
+-- The jobs that the lines of scripts name.
 use Rattle.std.specs.Prelude.{ℕ, Bool, ◌≡◌, ◌==◌, ◌&&◌, ◌+◌, ◌*◌, ◌/◌, ◌%◌, ◌||◌, nat_le, List, [], ◌∷◌, ◌++◌, length, take, drop, codes, unwrap_or, Option, Some, None, Result, Ok, Err, if◌then◌else◌}
 use Rattle.std.specs.List.{position, list_all}
 use Rattle.std.specs.Str.{bytes_eq}
@@ -24,7 +24,7 @@ abbrev pub ◌>>=◌ : {A B E : Type 0} → Result A E → (A → Result B E) �
 (Ok x) >>= f = f x
 (Err e) >>= f = Err e
 
--- ---- fields, of which the first wrong one from the left decides
+-- ---- fields; the first wrong one from the left decides
 
 -- a number in a range
 abbrev pub within : ℕ → ℕ → Option ℕ → Result ℕ ScriptKind
@@ -36,7 +36,7 @@ abbrev pub ended : {A : Type 0} → A → Option Text → Result A ScriptKind
 ended x None = Ok x
 ended x (Some rest) = Err kind.Fields
 
--- an area that is there once
+-- an area that exists once
 abbrev pub named_key : Option ℕ → Result AreaKey ScriptKind
 named_key None = Err kind.Word
 named_key (Some area) = Ok (record { area = area; number = 0 })
@@ -85,7 +85,7 @@ octet_place field = do
   octet ← within 0 2097151 (number_of field)
   Ok (octet * 8)
 
--- the address that a start names: counters and timers have numbers
+-- the address that a start names; counters and timers have numbers
 abbrev pub address_of : AreaKey → ℕ → Text → Result ℕ ScriptKind
 address_of key word field =
     if key.area == counters || key.area == timers then within 0 16777215 (number_of field)
@@ -94,7 +94,7 @@ address_of key word field =
 
 -- ---- items
 
--- where an item lies, and the fields that follow
+-- the place of an item, and the fields that follow
 pub record Place : Type 0 where
   pub key : AreaKey
   pub word : ℕ
@@ -140,7 +140,7 @@ read_item text = do
   p ← place text
   with_count p p.rest
 
--- how many octets an element of the word has
+-- the number of octets of an element of the word
 abbrev pub element_size : ℕ → ℕ
 element_size word = unwrap_or (size_of word) 1
 
@@ -197,7 +197,7 @@ read_items (part ∷ rest) = do
   items ← read_items rest
   Ok (item ∷ items)
 
--- the same with their octets joined
+-- the same, with their octets joined
 unfoldable pub written_items : List Text → Result (List Item × List ℕ) ScriptKind
 written_items [] = Ok ([], [])
 written_items (part ∷ rest) = do
@@ -341,7 +341,7 @@ abbrev pub set_clock_job : Option Text → Result Job ScriptKind
 set_clock_job None = Err kind.Fields
 set_clock_job (Some text) = moment_job (moment_named (field_of text)) (rest_of text)
 
--- printable ASCII, which may be none at all
+-- printable ASCII without space
 abbrev pub is_printable : ℕ → Bool
 is_printable b = nat_le 33 b && nat_le b 126
 

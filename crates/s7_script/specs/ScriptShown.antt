@@ -1,4 +1,4 @@
--- What the reader of scripts holds, as contracts see it.
+-- What contracts see of the state of the reader of scripts.
 use Rattle.std.specs.Prelude.{ℕ, ◌==◌, List, [], ◌++◌, length, Option, None, Some, Result, Ok, Err, if◌then◌else◌}
 use Rattle.std.specs.Option.{option_map}
 use Rattle.hex.specs.Hex.{decode_of}
@@ -31,16 +31,16 @@ abbrev pub octets_or_fault : Result (List ℕ) FromHexError → Result (List ℕ
 octets_or_fault (Ok octets) = Ok octets
 octets_or_fault (Err e) = Err kind.Digits
 
--- at least two of them
+-- at least two digits
 abbrev pub octets_in : Text → Result (List ℕ) ScriptKind
 octets_in field = if length field == 0 then Err kind.Digits else octets_or_fault (decode_of field)
 
--- the parts of a text that may not be there
+-- the parts of a text, none if there is no text
 abbrev pub parts_left : Option Text → List Text
 parts_left None = []
 parts_left (Some text) = parts text
 
--- more after what stands
+-- more elements after these
 abbrev pub appended : {X E : Type 0} → List X → Result (List X) E → Result (List X) E
 appended xs more = more >>= (λ others. Ok (xs ++ others))
 

@@ -1,4 +1,4 @@
--- What a sends file says: the blocks that a partner is given to send, line by line, or the first faulty line.
+-- The blocks that a sends file gives to send, line by line, or its first faulty line.
 use Rattle.std.specs.Prelude.{ℕ, ◌==◌, ◌+◌, ◌*◌, ◌<◌, ◌≤◌, nat_le, List, [], ◌∷◌, ◌++◌, length, codes, Option, Some, None}
 use Rattle.std.specs.Prelude.{Result, Ok, Err, if◌then◌else◌}
 use Rattle.std.specs.Str.{bytes_eq}
@@ -12,7 +12,7 @@ use Rattle.s7_script.specs.declared.scripts.script_fault.ScriptFault.{ScriptFaul
 use Rattle.s7_script.specs.declared.scripts.script_fault.ScriptKind.{ScriptKind}
 use Rattle.s7_script.specs.declared.scripts.script_fault.ScriptKind.TheVariants as kind
 
--- what a line gives to send
+-- a block to send
 pub record Send : Type 0 where
   pub rid : ℕ
   pub body : List ℕ
@@ -47,7 +47,7 @@ block_sent (Some text) = do
 abbrev pub IsSized : SendLine → Type 0
 IsSized line = (0 < length line.body) × (length line.body ≤ 65535)
 
--- what a line gives to send: `send RID HEX`
+-- the block of a line: `send RID HEX`
 abbrev pub send_of : Text → Result Send ScriptKind
 send_of text = if bytes_eq (field_of text) (codes "send") then block_sent (rest_of text) else Err kind.Word
 

@@ -1,4 +1,4 @@
--- What the reader of sends files holds, as contracts see it.
+-- What contracts see of the state of the reader of sends files.
 use Rattle.s7_script.specs.Sends.{Send}
 use Rattle.s7_script.specs.declared.sends.send_line.NamedBlock.{NamedBlock}
 

@@ -1,4 +1,4 @@
--- What the reader holds, as contracts see it.
+-- What contracts see of the state of the reader of area files.
 use Rattle.std.specs.Prelude.{option_map}
 use Rattle.s7_script.specs.Reading.{Open as OpenArea, State as Reading}
 use Rattle.s7_script.specs.declared.areas.opening.Open.{Open}

@@ -18,7 +18,7 @@ header = codes "s7 areas 2"
 
 -- ---- the line of the guard
 
--- a password without the spaces that fill it up
+-- a password without the spaces that pad it
 abbrev pub word_of : List ℕ → Text
 word_of password = field_of password
 
@@ -26,14 +26,14 @@ word_of password = field_of password
 abbrev pub guard_head : Guard → Text
 guard_head guard = codes "protect " ++ (decimal guard.level ++ 32 ∷ word_of guard.password)
 
--- its text, where there is a guard
+-- the line of the guard, if there is one
 abbrev pub guard_text : Option Guard → Text
 guard_text None = []
 guard_text (Some guard) = guard_head guard ++ 10 ∷ []
 
 -- ---- the lines of octets
 
--- how many equal octets a list begins with
+-- the number of equal octets with which a list begins
 unfoldable pub front_of : List ℕ → ℕ
 front_of [] = 0
 front_of (b ∷ bs) = prefix_len (λ x. x == b) (b ∷ bs)
@@ -42,12 +42,12 @@ front_of (b ∷ bs) = prefix_len (λ x. x == b) (b ∷ bs)
 abbrev pub begins_run : List ℕ → Bool
 begins_run octets = nat_le 33 (front_of octets)
 
--- how many octets stand before the first place where a run begins
+-- the number of octets before the first run
 unfoldable pub before_run : List ℕ → ℕ
 before_run [] = 0
 before_run (b ∷ bs) = if begins_run (b ∷ bs) then 0 else 1 + before_run bs
 
--- how many octets the next line stands for: all of a run that begins, or at most 32 and none of a run
+-- the number of octets that the next line states: all octets of a run, or at most 32 that precede one
 unfoldable pub line_length : List ℕ → ℕ
 line_length octets = if begins_run octets then front_of octets else min 32 (before_run octets)
 
@@ -57,7 +57,7 @@ line_text octets =
     if begins_run octets then decimal (front_of octets) ++ 42 ∷ encode_lower (take 1 octets)
     else encode_lower (take (min 32 (before_run octets)) octets)
 
--- the lines of these octets, of which there are at most k
+-- the lines of these octets, at most k lines
 unfoldable pub octet_lines : ℕ → List ℕ → Text
 octet_lines zero octets = []
 octet_lines (suc k) [] = []
@@ -83,7 +83,7 @@ head_text key size =
 abbrev pub area_text : AreaKey → List ℕ → Text
 area_text key octets = head_text key (length octets) ++ 10 ∷ octet_lines (length octets) octets
 
--- the text of an area, where there is one of this name
+-- the text of the area of this name, if there is one
 abbrev pub part_of : AreaKey → Option (List ℕ) → Text
 part_of key None = []
 part_of key (Some octets) = area_text key octets
@@ -91,7 +91,7 @@ part_of key (Some octets) = area_text key octets
 unfoldable pub part : Memory → AreaKey → Text
 part m key = part_of key (area_octets m key)
 
--- a number that fits its field, and octets where there is an area of this name
+-- the number is within its field, and the octets, if there is an area of this name, are octets
 abbrev pub IsInRange : Memory → AreaKey → Type 0
 IsInRange m key = (key.number < 65536) × IfSome (area_octets m key) IsBytes
 

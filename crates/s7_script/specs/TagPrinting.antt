@@ -1,4 +1,4 @@
--- The line that is printed for what came of a job that gets or puts a tag.
+-- The line that is printed for the result of a job that gets or puts a tag.
 use Rattle.std.specs.Prelude.{ℕ, ◌==◌, ◌∷◌, ◌++◌, [], codes, if◌then◌else◌}
 use Rattle.std.specs.Fmt.{decimal}
 use Rattle.hex.specs.Hex.{encode_upper}
@@ -16,7 +16,7 @@ tag_word (job.ReadArea item) = codes "get"
 tag_word (job.WriteArea item octets) = codes "put"
 tag_word other = word_of other
 
--- what a tag of this type is shown as where it was got, and `-` for what wasn't or is no tag that is got
+-- the text of a tag of this type that was read, and `-` for any other job
 abbrev pub value_got : TagKind → JobResult → Job → Text
 value_got of r (job.ReadArea item) = if r.code == 0 then shown of r.octets else codes "-"
 value_got of r other = codes "-"

@@ -1,4 +1,4 @@
--- What a script says, where tags may have names: its jobs line by line, or the first faulty line.
+-- The jobs of a script that may name tags, line by line, or its first faulty line.
 use Rattle.std.specs.Prelude.{ℕ, List, [], ◌∷◌, ◌++◌, codes, Option, Some, None, Result, Ok, Err, if◌then◌else◌}
 use Rattle.std.specs.List.{find}
 use Rattle.std.specs.Str.{bytes_eq}
@@ -61,7 +61,7 @@ abbrev pub untagged : Result Job ScriptKind → Result Tagged ScriptKind
 untagged (Ok job) = Ok (job, None)
 untagged (Err e) = Err e
 
--- `get` and `put` are words only where tags have names
+-- `get` and `put` are words of a script only if there are tags
 abbrev pub tagged_by : Option (List Tag) → Text → Option Text → Result Tagged ScriptKind
 tagged_by None name rest = untagged (job_named name rest)
 tagged_by (Some tags) name rest =
@@ -94,10 +94,10 @@ script_lines tags line (text ∷ rest) = do
 abbrev pub script_by : Option (List Tag) → Text → Result (List ScriptLine) ScriptFault
 script_by tags text = script_lines tags 1 (lines text)
 
--- WHAT A SCRIPT SAYS without tags
+-- THE JOBS OF A SCRIPT without tags
 abbrev pub script : Text → Result (List ScriptLine) ScriptFault
 script text = script_by None text
 
--- WHAT A SCRIPT SAYS where these tags have names
+-- THE JOBS OF A SCRIPT that may name these tags
 abbrev pub tag_script : List Tag → Text → Result (List ScriptLine) ScriptFault
 tag_script tags text = script_by (Some tags) text

@@ -1,4 +1,4 @@
-// Area files: read, written and opened.
+//! Area files: read, written and opened.
 
 pub(crate) mod area_line;
 pub(crate) mod fault;

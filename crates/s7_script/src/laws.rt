@@ -1,17 +1,17 @@
-// Laws of area files, of printing and of scripts.
+//! Laws of area files, of printing and of scripts.
 ghost use Rattle.s7_script.specs.Laws.{AreasMigrate, EndsPrint, ScriptsKeepLinks};
 
 use s7_area::areas_join;
 
-/// A law: the text that is written for what an area file names, of either version, names the same
-/// areas and the same guard.
+/// A law: if an area file, of either version, names areas and a guard, then the file that is written for them names the
+/// same areas and the same guard.
 pub fn areas_migrate()
     ensures { AreasMigrate }
 {
     areas_join();
 }
 
-/// A law: what a client tells of a job, whose end has its form, can be printed.
+/// A law: the result of a job whose end has its form can be printed.
 pub fn ends_print()
     ensures { EndsPrint }
 {}

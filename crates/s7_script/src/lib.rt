@@ -1,5 +1,4 @@
-//! Area files, texts that name areas, their octets and a guard; scripts, texts that name jobs; and sends files, texts
-//! that name blocks to send.
+//! The text files: area files name areas, their octets and a guard; scripts name jobs; sends files name blocks to send.
 #![tactic(auto)]
 
 mod areas;

@@ -1,4 +1,4 @@
-// Printing what came of jobs.
+//! Printing the results of jobs.
 ghost use Rattle.std.specs.Prelude.{◌≡◌, ◌≤◌, ◌<◌, ◌+◌, ◌∷◌, ◌++◌, [], OnOk, IfOk, IsSome, length, map};
 ghost use Rattle.std.specs.List.{flat_map};
 ghost use Rattle.std.specs.Fmt.{decimal};
@@ -21,23 +21,24 @@ use s7_szl::read_mode;
 use s7_text::clock_text;
 use std::alloc::Global;
 
-/// The octets of each kind that is counted, and of each block that is listed.
+/// The number of octets of each entry: the count of a kind, or a block in a list.
 const ENTRY: usize = 4;
 
-/// Where the count of a kind stands, and the number of a block.
+/// The offset of the count in the entry of a kind.
 const COUNT_AT: usize = 2;
 
+/// The offset of the number in the entry of a block.
 const NUMBER_AT: usize = 0;
 
-/// The line that tells what came of the job of a line: the line's number, the job's word, its code in
-/// eight upper-case hexadecimal digits, and the value, with one space between them and LF at the end.
+/// The line for the result of a job: the line's number, the job's word, its code in eight upper-case hexadecimal
+/// digits, and the value, with one space between them and LF at the end.
 ///
-/// The value of `read`, `info`, `upload`, `dbget` and `szl` is their octets in lower case, that of `list` the
-/// seven counts, that of `listof` the blocks' numbers, in decimal. That of `readmany` is of each item its
-/// code in two upper-case digits, a colon, and its octets where the code is FF; that of `writemany` the
-/// codes; with one space between two. That of `clock` is its date and time, `YYYY-MM-DDThh:mm:ss.mmm`, and
-/// that of `status` `run` or `stop`. The value is `-` where there is none, as after other jobs and where the
-/// code isn't 0. `Memory` comes where there is none.
+/// The value of `read`, `info`, `upload`, `dbget` and `szl` is their octets, in lower-case digits. The value of `list`
+/// is the seven counts, and that of `listof` the blocks' numbers, in decimal. The value of `readmany` is, for each
+/// item, its code in two upper-case digits, a colon, and its octets if the code is FF; the value of `writemany` is the
+/// codes; there is one space between two. The value of `clock` is its date and time, `YYYY-MM-DDThh:mm:ss.mmm`, and
+/// that of `status` is `run` or `stop`. If there is no value, as after other jobs and if the code isn't 0, it is `-`.
+/// Returns `Memory` if an allocation fails.
 pub fn print_result(alloc: Global, line: u32, done: &JobResult) -> Result<Octets, Memory>
     requires { IsPrintable done.now }
     ensures { IfOk result (λ text. text ≡ print line done.now) }
@@ -54,7 +55,7 @@ pub fn print_result(alloc: Global, line: u32, done: &JobResult) -> Result<Octets
     Ok(Octets::of_vec(text))
 }
 
-/// Adds the line's number, the job's word and the code.
+/// Appends the line's number, the job's word and the code.
 pub(crate) fn add_head(
     alloc: Global,
     text: &mut Vec<u8>,
@@ -72,6 +73,7 @@ pub(crate) fn add_head(
     Ok(())
 }
 
+/// The word of a job.
 pub(crate) fn word_of(job: &Job) -> &'static str
     ensures { result.now ≡ word_of job.now }
 {
@@ -104,6 +106,7 @@ pub(crate) fn word_of(job: &Job) -> &'static str
     }
 }
 
+/// A number in four octets, the high one first.
 fn four_octets(n: u32) -> [u8; 4]
     ensures { result ≡ four_octets n }
 {
@@ -122,7 +125,7 @@ fn values_text(alloc: Global, done: &JobResult) -> Result<Vec<u8>, Memory>
     Ok(text)
 }
 
-/// Adds the values of a job that came off.
+/// Appends the values of a job that succeeded.
 fn add_job_values(alloc: Global, text: &mut Vec<u8>, done: &JobResult) -> Result<(), Memory>
     requires { IsPrintableOf done.now done.now.job }
     ensures { OnOk result (text.new.items
@@ -160,7 +163,7 @@ fn add_job_values(alloc: Global, text: &mut Vec<u8>, done: &JobResult) -> Result
     }
 }
 
-/// Adds octets, where there are any.
+/// Appends octets, if there are any.
 fn add_octets(alloc: Global, text: &mut Vec<u8>, octets: &[u8]) -> Result<(), Memory>
     ensures { OnOk result (text.new.items ≡ text.old.items ++ flat_map spaced (octets_value octets.now)) }
 {
@@ -173,7 +176,7 @@ fn add_octets(alloc: Global, text: &mut Vec<u8>, octets: &[u8]) -> Result<(), Me
     Ok(())
 }
 
-/// Adds the date and time that the octets of a clock show.
+/// Appends the date and time of clock octets.
 fn add_clock(text: &mut Vec<u8>, octets: &[u8]) -> Result<(), Memory>
     requires { IsSome (moment_in octets.now) }
     ensures { OnOk result (text.new.items
@@ -184,7 +187,7 @@ fn add_clock(text: &mut Vec<u8>, octets: &[u8]) -> Result<(), Memory>
     Ok(())
 }
 
-/// Adds whether the controller runs, where the image of a status list tells it.
+/// Appends whether the controller runs, if the image of a status list says so.
 fn add_mode(text: &mut Vec<u8>, octets: &[u8]) -> Result<(), Memory>
     ensures { OnOk result (text.new.items
         ≡ text.old.items ++ flat_map spaced (mode_values (mode_of octets.now))) }
@@ -197,7 +200,7 @@ fn add_mode(text: &mut Vec<u8>, octets: &[u8]) -> Result<(), Memory>
     Ok(())
 }
 
-/// Adds codes.
+/// Appends codes.
 fn add_codes(alloc: Global, text: &mut Vec<u8>, codes: &[u8]) -> Result<(), Memory>
     ensures { OnOk result (text.new.items ≡ text.old.items ++ flat_map spaced (map code_text codes.now)) }
 {
@@ -207,6 +210,7 @@ fn add_codes(alloc: Global, text: &mut Vec<u8>, codes: &[u8]) -> Result<(), Memo
     Ok(())
 }
 
+/// Appends a code.
 fn add_code(alloc: Global, text: &mut Vec<u8>, code: u8) -> Result<(), Memory>
     ensures { OnOk result (text.new.items ≡ text.old.items ++ spaced (code_text code)) }
 {
@@ -216,7 +220,7 @@ fn add_code(alloc: Global, text: &mut Vec<u8>, code: u8) -> Result<(), Memory>
     Ok(())
 }
 
-/// Adds of each entry the number in its two octets from this place on.
+/// Appends, of each entry, the number in its two octets from this offset on.
 fn add_numbers(alloc: Global, text: &mut Vec<u8>, octets: &[u8], at: usize) -> Result<(), Memory>
     requires { at ≤ 2 }
     ensures { OnOk result (text.new.items ≡ text.old.items ++ flat_map spaced (numbers_told at octets.now)) }
@@ -230,7 +234,7 @@ fn add_numbers(alloc: Global, text: &mut Vec<u8>, octets: &[u8], at: usize) -> R
     Ok(())
 }
 
-/// The number in the two octets from this place on.
+/// The number in the two octets from this offset on.
 fn number_in(octets: &[u8], at: usize) -> u16
     requires { at + 1 < length octets.now }
     ensures { result ≡ number_in octets.now at }
@@ -238,6 +242,7 @@ fn number_in(octets: &[u8], at: usize) -> u16
     u16::from(octets[at]) * 256 + u16::from(octets[at + 1])
 }
 
+/// Appends a number.
 fn add_number(alloc: Global, text: &mut Vec<u8>, number: u16) -> Result<(), Memory>
     ensures { OnOk result (text.new.items ≡ text.old.items ++ spaced (decimal number)) }
 {
@@ -247,7 +252,7 @@ fn add_number(alloc: Global, text: &mut Vec<u8>, number: u16) -> Result<(), Memo
     Ok(())
 }
 
-/// Adds the codes of items and the octets of those that were read.
+/// Appends the codes of items, and the octets of those that were read.
 fn add_items(
     alloc: Global,
     text: &mut Vec<u8>,
@@ -269,14 +274,14 @@ fn add_items(
     Ok(())
 }
 
-/// How many octets an item with this code has.
+/// The number of octets that a read gave of an item with this code.
 fn count_read(item: &Item, code: u8) -> usize
     ensures { result ≡ count_read item.now code }
 {
     if code == GOOD { item.octet_count() } else { 0 }
 }
 
-/// Adds an item's code and octets.
+/// Appends an item's code and octets.
 fn add_item(alloc: Global, text: &mut Vec<u8>, code: u8, octets: &[u8]) -> Result<(), Memory>
     ensures { OnOk result (text.new.items
         ≡ text.old.items ++ spaced (code_text code ++ 58 ∷ encode_lower octets.now)) }

@@ -1,4 +1,4 @@
-// Scripts: their lines and the jobs that these name.
+//! Scripts: their lines, and the jobs that the lines name.
 
 pub(crate) mod block_line;
 pub(crate) mod data_line;

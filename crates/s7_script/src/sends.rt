@@ -1,4 +1,4 @@
-// Reading sends files.
+//! Reading sends files.
 ghost use Rattle.std.specs.Prelude.{◌≡◌, All, OnOk, IfErr, IfOk, Ok};
 ghost use Rattle.s7_script.specs.Script.{GivesScript, LineFails};
 ghost use Rattle.s7_script.specs.ScriptShown.{appended};
@@ -16,14 +16,14 @@ pub(crate) mod send_list;
 
 /// The blocks that a sends file names, or its first wrong line.
 ///
-/// Lines end and are passed over as `read_script` has it. Every other line is `send RID HEX`, with one space between
-/// fields: `RID` is what the two partners know the block by, in eight hexadecimal digits, and `HEX` the block's octets,
-/// an even number of hexadecimal digits, at least two. Digits are of either case.
+/// Lines end and are skipped as `read_script` states. Every other line is `send RID HEX`, with one space between
+/// fields: `RID` identifies the block for the two partners, in eight hexadecimal digits, and `HEX` is the block's
+/// octets, an even number of hexadecimal digits, at least two. Digits are in either case.
 ///
-/// The fault is that of the first wrong line, and of its first wrong field from the left; a field that is missing or
-/// too many comes last. `Word`: the first word isn't `send`. `Digits`: the R_ID or the octets aren't such digits.
-/// `Number`: there are more than 65,535 octets. `Fields`: a field is missing or too many. `Memory` comes where there is
-/// none.
+/// The fault is that of the first wrong line, and of this line's first wrong field from the left; a field that is
+/// missing or too many is checked last. It is `Word` if the first word isn't `send`, `Digits` if the R_ID or the octets
+/// aren't such digits, `Number` if there are more than 65,535 octets, and `Fields` if a field is missing or too many.
+/// Returns `Memory` if an allocation fails.
 pub fn read_sends(alloc: Global, text: &[u8]) -> Result<Sends, ScriptFault>
     ensures given { GivesScript (λ s. s) result (sends text.now) }
     ensures sized { IfOk result (All IsSized) }
@@ -40,7 +40,7 @@ pub fn read_sends(alloc: Global, text: &[u8]) -> Result<Sends, ScriptFault>
     Ok(Sends::of_vec(found))
 }
 
-/// Adds the block of a line, where it has one.
+/// Adds the block of a line, if the line has one.
 fn take_line(
     alloc: Global,
     line: u32,

@@ -1,4 +1,4 @@
-// Printing what came of jobs that get or put a tag.
+//! Printing the results of jobs that get or put a tag.
 ghost use Rattle.std.specs.Prelude.{◌≡◌, ◌++◌, OnOk, IfOk};
 ghost use Rattle.s7_script.specs.TagPrinting.{print_tag, tag_word, value_got};
 
@@ -8,12 +8,12 @@ use s7_outer::{Memory, Octets};
 use s7_symbol::{TagKind, add_shown};
 use std::alloc::Global;
 
-/// The line that tells what came of a job that gets or puts a tag of this type: the line's number, `get` or `put`, the
-/// code in eight upper-case hexadecimal digits, and the value, with one space between them and LF at the end.
+/// The line for the result of a job that gets or puts a tag of this type: the line's number, `get` or `put`, the code
+/// in eight upper-case hexadecimal digits, and the value, with one space between them and LF at the end.
 ///
-/// The value of `get` is the text of the tag's value, or `bad` and the octets in lower case where they are no value of
-/// the type. It is `-` after `put` and where the code isn't 0. A job that reads or writes no single item has the word
-/// that `print_result` gives it, and `-`. `Memory` comes where there is none.
+/// The value of `get` is the text of the tag's value, or `bad` and the octets in lower case if they have no value of
+/// the type. It is `-` after `put` and if the code isn't 0. A job that reads or writes no single item has the word that
+/// `print_result` gives it, and `-`. Returns `Memory` if an allocation fails.
 pub fn print_tag(
     alloc: Global,
     line: u32,
@@ -30,6 +30,7 @@ pub fn print_tag(
     Ok(Octets::of_vec(text))
 }
 
+/// The word of a job that gets or puts a tag.
 fn tag_word(job: &Job) -> &'static str
     ensures { result.now ≡ tag_word job.now }
 {
@@ -40,7 +41,7 @@ fn tag_word(job: &Job) -> &'static str
     }
 }
 
-/// Adds the value that was got, or `-`.
+/// Appends the value that was read, or `-`.
 fn add_value(
     alloc: Global,
     text: &mut Vec<u8>,

@@ -4,12 +4,12 @@ use Rattle.std.specs.Borrow.{Bor}
 use Rattle.s7_args.specs.Server.{ServerTold, server_words, pipe, serve}
 use Rattle.s7_server_main.specs.declared.asked.Asked.{Asked}
 
--- the command that the words name, and none where they are usage
+-- the command that the words name, `None` if they are usage
 abbrev pub command_of : List (Bor (List ℕ)) → Option ServerTold
 command_of words = server_words (map (λ w. w.now) words)
 
--- what is asked to be served: a word for the areas, the path that they are saved to, the journal's room, and behind how
--- many entries the areas are shown too
+-- what is asked to be served: the word for the areas, the path to which they are saved, the limit of the journal, and
+-- the number of entries after which the areas are printed
 pub record AskedTold : Type 0 where
   pub areas : List ℕ
   pub save : Option (List ℕ)

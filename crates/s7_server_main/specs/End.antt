@@ -1,4 +1,4 @@
--- How it ended, and what was left behind.
+-- How the program ended, and what it left.
 use Rattle.std.specs.Prelude.{◌≡◌, ℕ, List, [], Option, Some, None, IsNone, IsSomeAnd}
 use Rattle.std.specs.Prelude.{Ok, Err, is_some, if◌then◌else◌}
 use Rattle.s7_outer.specs.Count.{Rose}
@@ -27,13 +27,13 @@ use Rattle.s7_server_main.specs.Told.{RunTold, run_told}
 
 -- ---- what was served
 
--- THE LINKS WERE SERVED OVER THE AREAS THAT ARE NAMED, which are those of the file where that is told
+-- THE LINKS WERE SERVED OVER THE AREAS THAT ARE NAMED; these are the areas of the file, if the files show their octets
 pub record ServesNamed (asked : AskedTold) (files : FilesShown) (serves : Memory → ℕ → Type 0) : Type 0 where
   pub opening : Memory
   pub opened : NamedGives (naming asked.areas) files (Ok opening)
   pub served : serves opening asked.journal
 
--- what a command serves: `pipe` the one link, and `serve` those that the door gives
+-- what a command serves: `pipe` the one link, and `serve` the links that the door gives
 abbrev pub Serves : {L : Type 0} → (L → Shown) → Option ServerTold → FilesShown → Shown → DoorShown L → DoorShown L
     → RunTold → Type 0
 Serves shows None files link door door' run = ⊥
@@ -43,20 +43,20 @@ Serves shows (Some (serve areas port links save journal entry)) files link door 
     ServesNamed (asked_by (serve areas port links save journal entry)) files
     (λ opening limit. ServesDoor shows port links opening limit door door' run)
 
--- the link that a command hands back: `pipe` the one that it didn't serve, and `serve` the one that it never touches
+-- the link that a command hands back: `pipe` the link if it didn't serve it, and `serve` the link that it never uses
 abbrev pub handed_back : {L O : Type 0} → Option ServerTold → Option (Run L O) → L → Option L
 handed_back None run link = Some link
 handed_back (Some (pipe areas save journal)) run link = if is_some run then None else Some link
 handed_back (Some (serve areas port links save journal entry)) run link = Some link
 
--- no command but `serve` touches the door
+-- no command but `serve` uses the door
 abbrev pub KeepsDoor : {L : Type 0} → Option ServerTold → DoorShown L → DoorShown L → Type 0
 KeepsDoor None door door' = door' ≡ door
 KeepsDoor (Some (pipe areas save journal)) door door' = door' ≡ door
 KeepsDoor (Some (serve areas port links save journal entry)) door door' = Unit {0}
 
--- a book that was opened with the areas that are named, which are those of the file where that is told, and in which
--- nothing was entered
+-- a book that was opened with the named areas, which are those of the file if the files show their octets; nothing was
+-- entered in it
 pub record Opens (asked : AskedTold) (files : FilesShown) (book : BookTold) : Type 0 where
   pub opened : NamedGives (naming asked.areas) files (Ok book.opening.areas)
   pub begins : state_of book.opening ≡ begins_with book.opening.areas
@@ -65,8 +65,8 @@ pub record Opens (asked : AskedTold) (files : FilesShown) (book : BookTold) : Ty
 
 -- ---- what was refused, and what failed
 
--- THE AREAS WERE REFUSED for their first faulty line or their length, which are those of the file where that is told,
--- and the line for this was printed
+-- THE AREAS WERE REFUSED for their first faulty line or their length, as the file has them if the files show their
+-- octets, and the line for this was printed
 pub record RefusesNamed (named : Named) (files : FilesShown) (printed : List ℕ → Type 0) : Type 0 where
   pub fault : LoadFault
   pub line : List ℕ
@@ -83,31 +83,31 @@ path_of (path p) = Some p
 path_of (block number octets) = None
 path_of faulty = None
 
--- the path of the area file, where the areas lie in one
+-- the path of the area file, if the areas are named by a path
 abbrev pub areas_path : Option ServerTold → Option (List ℕ)
 areas_path None = None
 areas_path (Some command) = path_of (naming (asked_by command).areas)
 
--- behind how many entries the areas are shown, where that is asked for
+-- the number of entries after which the areas are printed, if that is asked for
 abbrev pub entry_asked : Option ServerTold → Option ℕ
 entry_asked None = None
 entry_asked (Some command) = (asked_by command).entry
 
--- the path that the areas are saved to, where that is asked for
+-- the path to which the areas are saved, if that is asked for
 abbrev pub save_path : Option ServerTold → Option (List ℕ)
 save_path None = None
 save_path (Some command) = (asked_by command).save
 
--- A FILE FAILED: the count of this path rose, and the line for it was printed
+-- A FILE FAILED: the counter of this path rose, and the line for this was printed
 abbrev pub FileFails : Option (List ℕ) → FilesShown → FilesShown → OutShown → OutShown → Type 0
 FileFails failed files files' out out' =
     IsSomeAnd failed (λ p. Rose (files.faults p) (files'.faults p) × Printed out out' (file_line p))
 
--- the areas that are named were read, which are those of the file where that is told
+-- the named areas were read; they are those of the file if the files show their octets
 abbrev pub ReadsNamed : Named → FilesShown → Type 0
 ReadsNamed named files = (opening : Memory) × NamedGives named files (Ok opening)
 
--- THE DOOR FAILED before a link came, after the areas were read, and the line for it was printed
+-- THE DOOR FAILED before a link came, after the areas were read, and the line for this was printed
 abbrev pub DoorFails : {L : Type 0} → Option ServerTold → FilesShown → DoorShown L → DoorShown L → OutShown → OutShown
     → Type 0
 DoorFails None files door door' out out' = ⊥
@@ -126,12 +126,12 @@ Unopened asked files files' out out' ended.Done = ⊥
 Unopened asked files files' out out' ended.Output = ⊥
 Unopened asked files files' out out' ended.Door = ⊥
 
--- the areas that a run left lie where they are to be saved
+-- the areas that a run left are in the file to which they are saved
 abbrev pub Saves : {L O : Type 0} → AskedTold → Run L O → FilesShown → FilesShown → Type 0
 Saves asked run files files' = HoldsAreas asked.save files files' run.book.plant.areas
 
--- HOW IT ENDED, by what was asked for, the run where there is one, and the files and the output before and after; where
--- a door may fail before a link comes, by what holds then
+-- HOW A COMMAND ENDED, by what was asked for, the run if there is one, and the files and the output before and after;
+-- for a door that failed before a link came, by `failed`
 abbrev pub Ends : {L O : Type 0} → (L → Shown) → AskedTold → Type 0 → Option (Run L O)
     → FilesShown → FilesShown → OutShown → OutShown → Ended → Type 0
 Ends shows asked failed run files files' out out' ended.Done =

@@ -1,4 +1,4 @@
--- Links that a command served, over a book.
+-- Links that a command served over a book.
 use Rattle.std.specs.Prelude.{◌≡◌, ℕ, false, List, [], ◌∷◌, map}
 use Rattle.s7_outer.specs.DoorShown.{DoorShown}
 use Rattle.s7_outer.specs.Shown.{Shown}
@@ -17,11 +17,11 @@ use Rattle.s7_server_main.specs.Told.{RunTold}
 abbrev pub piped_link : ℕ
 piped_link = 1
 
--- the state in which a link begins to areas of this memory: by its guard
+-- the state in which a link to areas of this memory begins, with their guard
 abbrev pub first_of : Memory → LinkState
 first_of opening = first_link opening.guard
 
--- LINKS THAT SHOWED THIS WERE SERVED over these areas, with room for so many entries: each over the history of the one
+-- LINKS THAT SHOWED THIS WERE SERVED over these areas, with a journal of this limit: each over the history of the one
 -- book that is left, which is legal for them
 pub record HostsOver (opening : Memory) (limit : ℕ) (pipes : List Shown)
     (links : List ServedTold) (book : BookTold) : Type 0 where
@@ -33,7 +33,7 @@ pub record ServesPipe (opening : Memory) (limit : ℕ) (pipe : Shown) (run : Run
   pub hosts : HostsOver opening limit (pipe ∷ []) run.links run.book
   pub door : run.door_failed ≡ false
 
--- the links were served that a door gave while it heard this port, at most so many
+-- the links were served that a door gave while it listened on this port, at most `most`
 pub record ServesDoor {L : Type 0} (shows : L → Shown) (port most : ℕ) (opening : Memory) (limit : ℕ)
     (old new : DoorShown L) (run : RunTold) : Type 0 where
   pub lines : List L

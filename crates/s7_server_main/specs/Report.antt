@@ -1,4 +1,4 @@
--- What is printed.
+-- The text that is printed.
 use Rattle.std.specs.Prelude.{◌≡◌, ◌⊎◌, ℕ, List, ◌∷◌, [], ◌++◌, length, codes, Option, Some, None, IsSomeAnd}
 use Rattle.std.specs.Prelude.{Bool, true, false, nat_le, if◌then◌else◌}
 use Rattle.std.specs.Fmt.{decimal}
@@ -52,16 +52,16 @@ line_of served = line_with served.link (outcome_text served.outcome) served.entr
 abbrev pub journal_line : ℕ → List ℕ
 journal_line journal = codes "journal " ++ (decimal journal ++ line_end)
 
--- the line for a door that failed after a first link
+-- the line for a door that failed after the first link
 abbrev pub door_text : Bool → List ℕ
 door_text false = []
 door_text true = codes "door" ++ line_end
 
--- THE REPORT: a line for each link, by rising number, one for the journal, and one more where the door failed
+-- THE REPORT: a line for each link in the order of their numbers, one for the journal, and one more if the door failed
 abbrev pub report_of : List ServedTold → ℕ → Bool → List ℕ
 report_of links journal door_failed = flat_map line_of links ++ (journal_line journal ++ door_text door_failed)
 
--- THE AREAS BEHIND SO MANY ENTRIES: their number and an area file, or that there aren't so many
+-- THE AREAS AFTER THE FIRST n ENTRIES: this number and an area file, or a line that says that there are fewer entries
 abbrev pub entry_text : BookTold → Option ℕ → List ℕ
 entry_text book None = []
 entry_text book (Some n) =
@@ -70,7 +70,7 @@ entry_text book (Some n) =
     ++ (line_end ++ spelling (at (state_of book.opening) book.journal.entries n).memory))
     else codes "at " ++ (decimal n ++ (codes " none" ++ line_end))
 
--- the report of a run, and behind it the areas that are asked for
+-- the report of a run, and after it the areas that are asked for
 abbrev pub report_text : RunTold → Option ℕ → List ℕ
 report_text run entry =
     report_of run.links (length run.book.journal.entries) run.door_failed ++ entry_text run.book entry
@@ -78,7 +78,7 @@ report_text run entry =
 abbrev pub usage_line : List ℕ
 usage_line = codes "usage: s7server pipe AREAS, s7server serve AREAS" ++ line_end
 
--- the line for areas that can't be read; there is none for a file that failed, nor for want of memory
+-- the line for areas that can't be read; there is none for a file that failed, nor if memory ran out
 abbrev pub refusal_line : LoadFault → Option (List ℕ)
 refusal_line (fault.Line n) = Some (codes "areas line " ++ (decimal n ++ line_end))
 refusal_line fault.TooLong = Some (codes "areas too long" ++ line_end)
@@ -95,22 +95,22 @@ door_line = codes "door failed" ++ line_end
 abbrev pub memory_line : List ℕ
 memory_line = codes "memory" ++ line_end
 
--- ---- what becomes of the output
+-- ---- the output
 
--- an output gained a text
+-- an output gained this text
 abbrev pub Gains : OutShown → OutShown → List ℕ → Type 0
 Gains old new text = new.text ≡ append_known old.text text
 
--- an output failed, and gained a front of a text
+-- an output failed, and gained a prefix of this text
 pub record BreaksOff (old new : OutShown) (text : List ℕ) : Type 0 where
   pub front : AppendsPrefix old.text new.text text
   pub failed : Rose old.faults new.faults
 
--- A LINE WAS PRINTED, or a front of it where the output failed
+-- A LINE WAS PRINTED, or a prefix of it if the output failed
 abbrev pub Printed : OutShown → OutShown → List ℕ → Type 0
 Printed old new line = Gains old new line ⊎ BreaksOff old new line
 
--- THE REPORT WAS PRINTED, or a front of it where the output failed, or the line for want of memory
+-- THE REPORT WAS PRINTED, or a prefix of it if the output failed, or the line that says that memory ran out
 abbrev pub Reports : List ℕ → OutShown → OutShown → Ended → Type 0
 Reports text old new ended.Done = Gains old new text
 Reports text old new ended.Output = BreaksOff old new text
@@ -119,7 +119,7 @@ Reports text old new ended.Areas = ⊥
 Reports text old new ended.File = ⊥
 Reports text old new ended.Door = ⊥
 
--- WHY NO AREAS WERE LOADED from what is named, or why a path wasn't written, was printed
+-- WHY NO AREAS WERE LOADED, or why a path wasn't written, was printed
 abbrev pub TellsFault : LoadFault → List ℕ → OutShown → OutShown → Ended → Type 0
 TellsFault why path old new ended.Areas = IsSomeAnd (refusal_line why) (Printed old new)
 TellsFault why path old new ended.File = (why ≡ fault.Failed) × Printed old new (file_line path)

@@ -1,4 +1,4 @@
--- What becomes of the files.
+-- How the files change.
 use Rattle.std.specs.Prelude.{◌≡◌, ℕ, List, Option, Some, None, IsTrue}
 use Rattle.s7_outer.specs.FilesShown.{FilesShown}
 use Rattle.s7_outer.specs.Files.{KeepsOtherPaths}
@@ -6,7 +6,7 @@ use Rattle.s7_area.specs.Memory.{Memory}
 use Rattle.s7_script.specs.Loading.{FailedOnce}
 use Rattle.s7_script.specs.Spelling.{spelling}
 
--- every path but this one has what it had
+-- the content of every path but this one stays
 abbrev pub KeepsBut : Option (List ℕ) → FilesShown → FilesShown → Type 0
 KeepsBut None old new = (new.held ≡ old.held) × (new.tells ≡ old.tells)
 KeepsBut (Some path) old new = KeepsOtherPaths path old.held new.held × (new.tells ≡ old.tells)
@@ -16,7 +16,7 @@ pub record ChangesOnly (path : Option (List ℕ)) (old new : FilesShown) : Type 
   pub kept : KeepsBut path old new
   pub counts : FailedOnce old.faults new.faults
 
--- the area file of these areas lies under the path
+-- the file of the path is the area file of these areas
 abbrev pub HoldsAreas : Option (List ℕ) → FilesShown → FilesShown → Memory → Type 0
 HoldsAreas None old new areas = Unit {0}
 HoldsAreas (Some path) old new areas = IsTrue old.tells → new.held path ≡ Some (spelling areas)

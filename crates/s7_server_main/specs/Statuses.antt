@@ -27,11 +27,11 @@ door = 4
 abbrev pub output : ℕ
 output = 5
 
--- memory was wanting
+-- memory ran out
 abbrev pub memory : ℕ
 memory = 9
 
--- the status for how it ended
+-- the status for how the command ended
 abbrev pub status_of : Ended → ℕ
 status_of ended.Done = done
 status_of ended.Areas = areas

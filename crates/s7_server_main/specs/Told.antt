@@ -1,4 +1,4 @@
--- What was served, by what the lines of the links show.
+-- What was served, as contracts see it.
 use Rattle.std.specs.Prelude.{Bool, List, map}
 use Rattle.s7_plant.specs.declared.event.Event.{Event}
 use Rattle.s7_outer.specs.Shown.{Shown}
@@ -23,6 +23,6 @@ abbrev pub run_told : {L O : Type 0} → (L → Shown) → Run L O → RunTold
 run_told shows run =
     record { book = book_told run.book; links = all_told shows run.links.items; door_failed = run.door_failed }
 
--- what there is to tell of a book, one event for each entry
+-- the events of a book, one for each entry
 abbrev pub events_of : BookTold → List Event
 events_of book = events (state_of book.opening) (history_of book)

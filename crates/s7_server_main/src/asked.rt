@@ -1,9 +1,9 @@
-// What the words ask to be served.
+//! The arguments of the commands `pipe` and `serve` that both have.
 ghost use Rattle.std.specs.Prelude.{◌≤◌};
 
-/// What the words ask to be served: the word that names the areas, the path that they are saved to
-/// where it is given, how many entries the journal takes, from 1 to 262,144, and behind how many of them
-/// the areas are printed too, where that is given.
+/// What a command asks to be served: the word that names the areas; the path to which they are saved, if it is given;
+/// the greatest number of entries in the journal, from 1 to 262,144; and the number of entries after which the areas
+/// are printed in the end, if it is given.
 #[derive(Clone, Copy)]
 pub(crate) struct Asked<'a> {
     pub areas: &'a str,

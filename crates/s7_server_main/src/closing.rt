@@ -1,4 +1,4 @@
-// What becomes of a run.
+//! The end of a run: saving and printing.
 ghost use Rattle.std.specs.Prelude.{◌≡◌, ◌≢◌, Err, IsErrOf, OnOk, Some};
 ghost use Rattle.s7_outer.specs.Count.{Rose};
 ghost use Rattle.s7_server_main.specs.Asked.{asked_told};
@@ -14,8 +14,8 @@ use s7_plant::Observer;
 use s7_script::write_areas;
 use std::alloc::Global;
 
-/// Saves the areas that are left where that is asked for, prints the report with the areas behind so many
-/// entries where these are asked for, and says how that went.
+/// Saves the areas that are left if that is asked for, prints the report, with the areas after the first `at` entries
+/// if these are asked for, and returns how that ended.
 pub(crate) fn close<F: Files, L: Link + Drop, U: Out, O: Observer>(
     alloc: Global,
     asked: Asked<'_>,
@@ -39,7 +39,7 @@ pub(crate) fn close<F: Files, L: Link + Drop, U: Out, O: Observer>(
     }
 }
 
-// Writes the area file of areas.
+/// Writes the area file of these areas to a path.
 fn save_areas<F: Files>(
     alloc: Global,
     areas: &Areas,

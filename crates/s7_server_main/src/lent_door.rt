@@ -1,10 +1,10 @@
-// A door that was lent.
+//! A door behind a mutable borrow.
 ghost use Rattle.s7_server_main.specs.LentDoor.{lent_shown};
 
 use s7_outer::{Arrival, Door, DoorFailed};
 
-/// A door that was lent, as one of its own. It does what the lent one does, and shows which loan that
-/// is, so that whoever lent it knows what became of it.
+/// A mutable borrow of a door, as a door of its own. It does what the borrowed door does. It also shows which borrow it
+/// is, so that its owner knows what was done to the door.
 #[derive(Drop)]
 pub(crate) struct LentDoor<'a, D> {
     pub door: &'a mut D,

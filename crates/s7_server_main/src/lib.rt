@@ -1,4 +1,4 @@
-//! What the program `s7server` does: areas are served as a controller would, over one link or to the links of a door.
+//! What the program `s7server` does: it serves areas as a controller would, over one link or to the links of a door.
 #![tactic(auto)]
 
 mod asked;

@@ -1,4 +1,4 @@
-// The book that a command begins with.
+//! Opening the book of a command.
 ghost use Rattle.std.specs.Prelude.{◌≡◌, ◌≢◌, ◌≤◌, [], IfErr, IfOk, None, OnOk, map};
 ghost use Rattle.std.specs.List.{AllByRecursion};
 ghost use Rattle.s7_plant.specs.Books.{book_told, seen_of};
@@ -19,8 +19,8 @@ use s7_plant::{Book, MOST_BLOCKS, Observer};
 use s7_script::load_areas;
 use std::alloc::Global;
 
-/// Loads the areas that are asked for, and opens a book with them, which these observers watch. Where
-/// there is none, prints why, and says how it ended so.
+/// Loads the areas that are asked for, and opens a book with them and these observers, which must have counted nothing.
+/// If that fails, prints why, and returns how the command ends.
 pub(crate) fn open_book<F: Files, U: Out, O: Observer>(
     alloc: Global,
     asked: Asked<'_>,
@@ -50,7 +50,7 @@ pub(crate) fn open_book<F: Files, U: Out, O: Observer>(
     }
 }
 
-// A book of these areas, with no blocks. `Memory` comes where there is none for it.
+/// A book of these areas, without blocks. Returns `Memory` if an allocation fails.
 fn new_book<O: Observer>(
     alloc: Global,
     areas: Areas,

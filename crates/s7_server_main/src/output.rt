@@ -1,4 +1,4 @@
-// What is printed, by how it ended.
+//! Printing the report and the lines for failures.
 ghost use Rattle.std.specs.Prelude.{◌≡◌};
 ghost use Rattle.s7_server_main.specs.Report.{Printed, Reports, TellsFault, report_text};
 ghost use Rattle.s7_server_main.specs.Told.{run_told};
@@ -10,8 +10,7 @@ use s7_plant::Observer;
 use s7_script::LoadFault;
 use std::alloc::Global;
 
-/// Prints the report, with the areas behind so many entries where these are asked for, and says how that
-/// went.
+/// Prints the report, with the areas after the first `at` entries if these are asked for, and returns how that ended.
 pub(crate) fn print_report<L: Link + Drop, U: Out, O: Observer>(
     alloc: Global,
     run: &Run<L, O>,
@@ -29,7 +28,7 @@ pub(crate) fn print_report<L: Link + Drop, U: Out, O: Observer>(
     }
 }
 
-/// Prints why the areas weren't loaded, and says how it ended so.
+/// Prints why the areas weren't loaded, and returns how the command ends.
 pub(crate) fn print_refusal<O: Out>(
     alloc: Global,
     fault: LoadFault,
@@ -49,7 +48,7 @@ pub(crate) fn print_refusal<O: Out>(
     }
 }
 
-/// Prints that a file failed, and says how it ended so.
+/// Prints that a file failed, and returns how the command ends.
 pub(crate) fn print_failed<O: Out>(alloc: Global, path: &str, out: &mut O) -> Ended
     ensures { TellsFault LoadFault.Failed path.now (O.shows out.old) (O.shows out.new) result }
 {
@@ -59,7 +58,7 @@ pub(crate) fn print_failed<O: Out>(alloc: Global, path: &str, out: &mut O) -> En
     }
 }
 
-/// Prints the line for how it ended, and says that.
+/// Prints this line, and returns `ended`.
 pub(crate) fn print_as<O: Out>(ended: Ended, line: &[u8], out: &mut O) -> Ended
     ensures ended { result ≡ ended }
     ensures line { Printed (O.shows out.old) (O.shows out.new) line.now }
@@ -68,7 +67,7 @@ pub(crate) fn print_as<O: Out>(ended: Ended, line: &[u8], out: &mut O) -> Ended
     ended
 }
 
-/// Prints a line, whose failure changes nothing.
+/// Prints a line. A failure of the output is ignored.
 pub(crate) fn print_line<O: Out>(line: &[u8], out: &mut O)
     ensures { Printed (O.shows out.old) (O.shows out.new) line.now }
 {

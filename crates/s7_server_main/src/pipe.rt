@@ -1,4 +1,4 @@
-// The command that serves one link.
+//! The command `pipe`, which serves one link.
 ghost use Rattle.std.specs.Prelude.{◌≡◌, ◌≢◌, ◌∷◌, [], IfErr, IfOk, IfSome, None, Some, if◌then◌else◌, is_some, map};
 ghost use Rattle.std.specs.List.{AllByRecursion};
 ghost use Rattle.s7_plant.specs.Books.{book_told, seen_of};
@@ -28,10 +28,10 @@ use std::alloc::Global;
 use std::sync::Wait;
 use std::time;
 
-// The number of the one link.
+/// The number of the one link.
 const LINK: u32 = 1;
 
-/// Serves the link over the areas that are asked for, saves those that are left, and prints the report.
+/// Serves the link over the areas that are asked for, saves the areas that are left, and prints the report.
 pub(crate) fn run_pipe<
     R: Wait + time::Clock,
     F: Files,
@@ -84,7 +84,7 @@ pub(crate) fn run_pipe<
     }
 }
 
-// Serves the link over a fresh book. It comes back as it was where there is no memory for a list of it.
+/// Serves the link over a fresh book. If the allocation of the list of links fails, hands the link back unused.
 fn serve_book<R: Wait + time::Clock, L: Link + Clock + Drop, O: Observer>(
     rt: &R,
     alloc: Global,
@@ -111,7 +111,7 @@ fn serve_book<R: Wait + time::Clock, L: Link + Clock + Drop, O: Observer>(
     })
 }
 
-// Serves a link over a fresh book.
+/// Serves a link over a fresh book.
 fn serve_link<R: Wait + time::Clock, L: Link + Clock + Drop, O: Observer>(
     rt: &R,
     alloc: Global,
@@ -138,7 +138,7 @@ fn serve_link<R: Wait + time::Clock, L: Link + Clock + Drop, O: Observer>(
         };
     };
     let outcome = serve_session(rt, alloc, &mut session, &mut line, book);
-    // each entry is one of this link
+    // // each entry is of this link
     prove!(session.entries() == book.journal.len());
     Served {
         link: LINK,
@@ -149,7 +149,7 @@ fn serve_link<R: Wait + time::Clock, L: Link + Clock + Drop, O: Observer>(
     }
 }
 
-// Serves a link over a fresh book by a fresh session, and shuts it then.
+/// Serves a link over a fresh book with a fresh session, and then shuts it down.
 fn serve_session<R: Wait + time::Clock, L: Link + Clock, O: Observer>(
     rt: &R,
     alloc: Global,

@@ -1,4 +1,4 @@
-// What is printed.
+//! The text of the report.
 ghost use Rattle.std.specs.Prelude.{◌≡◌, ◌≤◌, ◌++◌, Some, IfOk, OnOk, length, string_bytes};
 ghost use Rattle.std.specs.List.{flat_map};
 ghost use Rattle.s7_plant.specs.Books.{book_told};
@@ -19,8 +19,8 @@ use std::alloc::{AllocError, Global};
 use std::marker::Brand;
 use std::sync::ledger::{Blank, Ledger};
 
-/// The report of a run: a line for each link that was served, one for the journal, and one more where
-/// the door failed; and behind it the areas after the first `at` entries, where these are asked for.
+/// The report of a run: a line for each link that was served, one for the journal, and one more if the door failed.
+/// Then, if they are asked for, the areas after the first `at` entries.
 pub fn report<L: Link + Drop, O: Observer>(
     alloc: Global,
     run: &Run<L, O>,
@@ -41,7 +41,7 @@ pub fn report<L: Link + Drop, O: Observer>(
     Ok(text)
 }
 
-// Adds the areas after the first `n` entries, or that there aren't so many.
+/// Appends the areas after the first `n` entries, or a line that says that there are fewer entries.
 fn add_areas<O: Observer>(
     alloc: Global,
     text: &mut Vec<u8>,
@@ -63,7 +63,7 @@ fn add_areas<O: Observer>(
     Ok(())
 }
 
-// The plant after the first `n` entries.
+/// The plant after the first `n` entries.
 fn plant_at<O: Observer, S: Ledger>(
     alloc: Global,
     book: &Book<O>,
@@ -81,7 +81,7 @@ fn plant_at<O: Observer, S: Ledger>(
     book.image_at(alloc, n, &mut steps)
 }
 
-// Adds a line for each link.
+/// Appends a line for each link.
 fn add_links<L: Link + Drop>(
     alloc: Global,
     text: &mut Vec<u8>,
@@ -96,6 +96,7 @@ fn add_links<L: Link + Drop>(
     Ok(())
 }
 
+/// The line of a link.
 fn link_line<L: Link + Drop>(alloc: Global, served: &Served<L>) -> Result<String, AllocError>
     ensures { IfOk result (λ line. string_bytes line ≡ line_of (told_of L.shows served.now)) }
 {
@@ -103,12 +104,14 @@ fn link_line<L: Link + Drop>(alloc: Global, served: &Served<L>) -> Result<String
     line_with(alloc, served.link, outcome.as_str(), served.entries)
 }
 
+/// The line of a link with this number, outcome and number of entries.
 fn line_with(alloc: Global, link: u32, outcome: &str, entries: u64) -> Result<String, AllocError>
     ensures { IfOk result (λ line. string_bytes line ≡ line_with link outcome.now entries) }
 {
     format!(in alloc; "link {link} {outcome} entries {entries}\n")
 }
 
+/// The text of an outcome.
 fn outcome_text(alloc: Global, outcome: Outcome) -> Result<String, AllocError>
     ensures { IfOk result (λ text. string_bytes text ≡ outcome_text outcome) }
 {
@@ -129,13 +132,14 @@ fn outcome_text(alloc: Global, outcome: Outcome) -> Result<String, AllocError>
     }
 }
 
+/// The line of the journal's length.
 fn journal_line(alloc: Global, entries: u64) -> Result<String, AllocError>
     ensures { IfOk result (λ line. string_bytes line ≡ journal_line entries) }
 {
     format!(in alloc; "journal {entries}\n")
 }
 
-/// The line for areas whose line of this number is faulty.
+/// The line for an area file whose line of this number is faulty.
 pub fn areas_line(alloc: Global, number: u32) -> Result<String, AllocError>
     ensures { IfOk result (λ text. refusal_line (LoadFault.Line number) ≡ Some (string_bytes text)) }
 {

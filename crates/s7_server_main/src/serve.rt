@@ -1,4 +1,4 @@
-// The command that serves the links of a door.
+//! The command `serve`, which serves the links of a door.
 ghost use Rattle.std.specs.Prelude.{◌≡◌, ◌≢◌, [], IfOk, IfSome, IsErrOf, None, if◌then◌else◌, is_some, map};
 ghost use Rattle.std.specs.List.{AllByRecursion};
 ghost use Rattle.s7_plant.specs.Books.{book_told, seen_of};
@@ -27,8 +27,8 @@ use std::sync::Wait;
 use std::thread::Threads;
 use std::time;
 
-/// Serves the links of the door over the areas that are asked for, saves those that are left, and prints
-/// the report.
+/// Serves the links of the door over the areas that are asked for, saves the areas that are left, and prints the
+/// report.
 pub(crate) fn run_serve<
     R: Threads + Wait + time::Clock + Sync,
     F: Files,
@@ -77,7 +77,7 @@ pub(crate) fn run_serve<
     }
 }
 
-// Serves the links of the lent door over a fresh book, each of them by the guard of the areas.
+/// Serves the links of the borrowed door over a fresh book. Each link begins with the guard of the areas.
 fn serve_book<
     R: Threads + Wait + time::Clock + Sync,
     L: Link + Clock + Send + Drop,
@@ -110,8 +110,8 @@ fn serve_book<
     run
 }
 
-// The same by a door of one's own. It is handed back alone, and not beside the run, so that it is known
-// whether a lent door is the one that was lent.
+/// Serves the links of an owned door over a fresh book. The door is returned by itself, not with the run, so that
+/// contracts can tell that a borrowed door is the one that was handed in.
 fn host<
     R: Threads + Wait + time::Clock + Sync,
     L: Link + Clock + Send + Drop,

@@ -1,4 +1,4 @@
-// The whole of what the program does, over files, links and an output that are handed in.
+//! The whole program, over files, links, a door and an output that are handed in.
 ghost use Rattle.std.specs.Prelude.{◌≡◌, ◌≢◌, ◌⊎◌, IfSome, IsSome, IsNone, Some, None, is_some, if◌then◌else◌, map};
 ghost use Rattle.std.specs.List.{AllByRecursion};
 ghost use Rattle.s7_outer.specs.Count.{Rose};
@@ -27,49 +27,55 @@ use std::sync::Wait;
 use std::thread::Threads;
 use std::time;
 
-/// All went well.
+/// The status if all went well.
 pub const DONE: u8 = 0;
 
-/// The words are no command.
+/// The status if the words are no command.
 pub const USAGE: u8 = 1;
 
-/// The areas can't be read.
+/// The status if the areas can't be read.
 pub const AREAS: u8 = 2;
 
-/// A file failed.
+/// The status if a file failed.
 pub const FILE: u8 = 3;
 
-/// The door failed before a link came.
+/// The status if the door can't listen, or failed before a link came.
 pub const DOOR: u8 = 4;
 
-/// The output failed.
+/// The status if the output failed.
 pub const OUTPUT: u8 = 5;
 
-/// Memory was wanting.
+/// The status if memory ran out.
 pub const MEMORY: u8 = 9;
 
-/// Reads the words, loads the areas that they name, serves links over them with a journal of the room
-/// that the words say, saves the areas that are left where the words ask for it, and prints the report.
-/// `pipe` serves the one link, and `serve` those that come by the door while it hears the port that the
-/// words name, as many as they say at the most.
+/// Parses the words, loads the areas that they name, serves links over these areas with a journal of the stated length,
+/// saves the areas that are left if the words ask for it, and prints the report. `pipe` serves the one link. `serve`
+/// serves the links that come by the door while it listens on the port that the words name, at most as many as they
+/// state.
 ///
-/// The status is 1 where the words are no command; 2 where the areas can't be read: a faulty line,
-/// an inline word among these, or more than 67,108,864 octets; 3 where the area file failed, or the
-/// file to save to; 4 where the door can't listen, or failed before a link came; 9 where memory was
-/// wanting outside the links' sessions, which may come in the place of 1, 2 and 3 too; 5 where the
-/// output failed at the report; and else 0. For 1, 2, 3, 4 and 9 one line is printed instead, and its
-/// failure changes nothing.
+/// The status is
 ///
-/// Each observer, which has counted nothing yet, is told of each entry inside its turn, in order, so a slow
-/// one holds up all links.
+/// - 1 if the words are no command;
+/// - 2 if the areas can't be read: a line is faulty, an inline word included, or the file has more than 67,108,864
+///   octets;
+/// - 3 if the area file failed, or the file to save to;
+/// - 4 if the door can't listen, or failed before a link came;
+/// - 5 if the output failed at the report;
+/// - 9 if memory ran out outside the links' sessions, which may happen instead of 1, 2 and 3, too;
+/// - 0 otherwise.
 ///
-/// A run is there where links were served, or the door ended before one came. It has the book with its
-/// observers, the links by rising number, from 1 on, and whether the door failed after a first link. All
-/// memory but that of the links' sessions is taken before a link is read or the door is asked. Where no run
-/// is there the link comes back as it was, no path changes, and the door has given no link; with a status
-/// other than 4 it is as it was. `serve` never touches the link, and `pipe` never the door. Where a run is
-/// there, no path changes but the one to save to. With status 0 or 5 the areas that are left lie there; with
-/// 3 or 9 it may hold anything.
+/// For 1, 2, 3, 4 and 9 one line is printed instead of the report, and a failure of the output is ignored.
+///
+/// Each observer must have counted nothing. It is notified of each entry inside the entry's turn, in order, so a slow
+/// observer delays all links.
+///
+/// `run` is `Some` if links were served, or if the door ended before a link came. It holds the book with its observers,
+/// the served links in the order of their numbers, from 1 on, and whether the door failed after the first link. All
+/// memory except that of the links' sessions is allocated before a link is read or the door is asked to listen. If
+/// `run` is `None`, `pipe` is handed back unused, no file was changed and the door gave no link; with every status but
+/// 4 the door wasn't used at all. `serve` never uses the link, and `pipe` never the door. If `run` is `Some`, no file
+/// was changed except the one to save to. With status 0 or 5 that file holds the areas that are left; with 3 or 9 its
+/// content isn't specified.
 pub fn server_main<
     R: Threads + Wait + time::Clock + Sync,
     F: Files,
@@ -90,7 +96,7 @@ pub fn server_main<
     observers: Vec<O>,
 ) -> ServerEnd<L, O>
     requires fresh { AllByRecursion (λ o. IsFresh (O.seen o)) observers.items }
-    // The status.
+    // // The statuses.
     ensures statuses { (result.status ≡ status.done) ⊎ (result.status ≡ status.usage) ⊎ (result.status ≡ status.areas)
         ⊎ (result.status ≡ status.file) ⊎ (result.status ≡ status.door) ⊎ (result.status ≡ status.output)
         ⊎ (result.status ≡ status.memory) }
@@ -106,10 +112,10 @@ pub fn server_main<
         (D.shows door.old) (D.shows door.new) (U.shows out.old) (U.shows out.new) }
     ensures output_failed { result.status ≡ status.output → Rose (U.shows out.old).faults (U.shows out.new).faults }
 
-    // Links were served, over the areas that the words name, or the link is handed back as it was.
+    // // Links were served over the areas that the words name, or the link is handed back unused.
     ensures served { IfSome result.run (λ run. Serves L.shows (command_of words.now) (F.shows files.old)
         (L.shows pipe) (D.shows door.old) (D.shows door.new) (run_told L.shows run)) }
-    // Each observer was told of each entry, once and in order, and of nothing else.
+    // // Each observer was notified of each entry, once and in order, and of nothing else.
     ensures told { IfSome result.run (λ run. seen_of O.seen run.book
         ≡ map (λ o. told (O.seen o) (events_of (book_told run.book))) observers.items) }
     ensures unserved { result.pipe ≡ handed_back (command_of words.now) result.run pipe }
@@ -120,18 +126,18 @@ pub fn server_main<
     ensures no_run { (result.status ≡ status.usage) ⊎ (result.status ≡ status.areas) ⊎ (result.status ≡ status.door)
         → IsNone result.run }
 
-    // What the files hold.
+    // // The content of the files.
     ensures saved { (result.status ≡ status.done) ⊎ (result.status ≡ status.output) → IfSome result.run (λ run.
         HoldsAreas (save_path (command_of words.now)) (F.shows files.old) (F.shows files.new) run.book.plant.areas) }
     ensures paths { KeepsBut (if is_some result.run then save_path (command_of words.now) else None)
         (F.shows files.old) (F.shows files.new) }
-    // At most one call on a path failed, and none where the status doesn't say that a file failed or memory ran out.
+    // // At most one call on a path failed, and none unless the status says that a file failed or memory ran out.
     ensures file_faults { FailedOnce (F.shows files.old).faults (F.shows files.new).faults }
     ensures unfailed { result.status ≢ status.file → result.status ≢ status.memory
         → (F.shows files.new).faults ≡ (F.shows files.old).faults }
     ensures unread { command_of words.now ≡ None → F.shows files.new ≡ F.shows files.old }
 
-    // What was printed.
+    // // The text that was printed.
     ensures done { result.status ≡ status.done → IfSome result.run (λ run.
         Gains (U.shows out.old) (U.shows out.new)
         (report_text (run_told L.shows run) (entry_asked (command_of words.now)))) }
@@ -177,7 +183,7 @@ pub fn server_main<
     }
 }
 
-// What a command asks to be served.
+/// What a command asks to be served.
 fn asked_of<'a>(command: ServerWords<'a>) -> Asked<'a>
     requires { HasRoom command }
     ensures { asked_told result ≡ asked_by (server_told_of command.entry) }
@@ -208,6 +214,7 @@ fn asked_of<'a>(command: ServerWords<'a>) -> Asked<'a>
     }
 }
 
+/// The status for how a command ended.
 fn status_of(ended: Ended) -> u8
     ensures { result ≡ status.status_of ended }
 {
@@ -221,8 +228,8 @@ fn status_of(ended: Ended) -> u8
     }
 }
 
-// The end where the words name nothing to be served: one line is printed, and its failure changes
-// nothing.
+/// The end of the program if the words ask for nothing to be served: prints one line, and ignores a failure of the
+/// output.
 fn unserved<L: Link + Drop, U: Out, O>(
     status: u8,
     line: &[u8],

@@ -13,33 +13,34 @@ use Rattle.s7_session.specs.LinkState.{LinkState}
 use Rattle.s7_session.specs.Telegrams.{entered_of, verdicts_of, last_number, looks_in, NoneTimed, AllAt, clock_failures}
 use Rattle.s7_session.specs.Verdict.{Verdict}
 
--- whether the link goes on, by what became of a message at this place
+-- whether the link goes on, by the result of handling the message at this offset
 abbrev pub standing_by : ℕ → Handled → Standing
 standing_by at handled.Answered = lives
 standing_by at (handled.Entered number) = lives
 standing_by at handled.NoMemory = stops
 standing_by at handled.NotS7 = closes (NotS7 at)
 
--- the newest entry's number afterwards
+-- the number of the newest entry afterwards
 abbrev pub last_after : Option ℕ → Handled → Option ℕ
 last_after before handled.Answered = before
 last_after before (handled.Entered number) = Some number
 last_after before handled.NoMemory = before
 last_after before handled.NotS7 = before
 
--- how many entries it made
+-- how many entries the message made
 abbrev pub entries_by : Handled → ℕ
 entries_by handled.Answered = 0
 entries_by (handled.Entered number) = 1
 entries_by handled.NoMemory = 0
 entries_by handled.NotS7 = 0
 
--- What is owed was put, what the doer entered is what was asked, and of the line no more than the clock was asked.
+-- What handling one message does: the expected output was queued, the doer entered what was asked, and of the line at
+-- most the clock was used.
 pub record Answers {D : Type 0} (stands : D → List Entry → Type 0) (is_full may_lack : D → Ask → Type 0)
     (line : Shown) (d : D) (line' : Shown) (d' : D)
     (made : List Verdict → Made) (at : ℕ) (size : Option ℕ) (link : LinkState) (sent : List ℕ) (result : Handled)
     : Type 0 where
-  -- the verdict of the message's telegram, if it asks
+  -- the verdict of the message's telegram, if it asks the plant
   pub verdicts : List Verdict
   pub one : length verdicts ≤ 1
   -- the doer's new entry, if there is one
@@ -56,11 +57,11 @@ pub record Answers {D : Type 0} (stands : D → List Entry → Type 0) (is_full 
   pub last : (before : Option ℕ) → last_number before entries ≡ last_after before result
   pub doer : (es : List Entry) → stands d es → stands d' (es ++ entries)
   pub trail : Trail is_full may_lack d (made verdicts).mets d'
-  -- of the line nothing changed but how often its clock failed, as often as the verdict says, and how often it was
-  -- asked: once, if the telegram wants the moment
+  -- nothing of the line changed but two counters: of its clock's failures, by as many as the verdict says, and of its
+  -- clock's reads, by one if the telegram needs the time
   pub line_is : line' ≡ record line { clock_faults = line'.clock_faults; looks = line'.looks }
   pub clock : RoseExactly (clock_failures verdicts) line.clock_faults line'.clock_faults
   pub unasked : NoneTimed (made verdicts).mets → line'.clock_faults ≡ line.clock_faults
   pub looks : RoseExactly (looks_in (made verdicts).mets) line.looks line'.looks
-  -- the entry has the moment that the clock told
+  -- the entry has the moment that the clock showed
   pub moments : AllAt line.moment entries

@@ -1,4 +1,4 @@
--- Books go on by calls of one link, one after another.
+-- Laws of books that go on by calls of one link, one call after another.
 use Rattle.std.proofs.Common.{◌≡◌, ℕ, List, [], ◌∷◌, ◌++◌, length, map, refl, ap, sym, ◌∙◌, subst, length-append}
 use Rattle.std.proofs.lemmas.List.{append-nil, append_assoc}
 use Rattle.std.proofs.lemmas.List.Sums.{fold-append}
@@ -30,16 +30,16 @@ goes_on_both link other a b c same p q = record {
   own = are_both link p.calls q.calls p.own (subst (λ n. AreOf n q.calls) same q.own);
 }
 
--- ---- who watches
+-- ---- observers
 
--- the events of calls that come to a history that began at a state
+-- the events of calls that follow a history that began at a state
 abbrev events_on : State → History → History → List Event
 events_on s history calls = events_from (replay after_call s history) (length history) calls
 
 pub told_on_same : (b : BookTold) (ws : List Watch) → AreToldOn b b ws ws
 told_on_same b ws = record { calls = []; history = sym (append-nil (history_of b)); told = sym (watch_none ws) }
 
--- those of more calls are those of the first, and those of the others
+-- the events of two lists of calls are the events of the first and then those of the second
 events_on_more : (s : State) (history xs ys : History)
     → events_on s history xs ++ events_on s (history ++ xs) ys ≡ events_on s history (xs ++ ys)
 events_on_more s history xs ys =

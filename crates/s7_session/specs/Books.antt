@@ -1,4 +1,4 @@
--- What a link has of a history: its own calls among those of all links.
+-- The calls of one link among those of all links in a history.
 use Rattle.std.specs.Prelude.{◌≡◌, ℕ, ◌+◌, ◌==◌, List, [], ◌∷◌, ◌++◌, length, map, if◌then◌else◌}
 use Rattle.std.specs.List.{AllByRecursion}
 use Rattle.s7_turn.specs.declared.view.Entry.{Entry as Call}
@@ -12,11 +12,11 @@ use Rattle.s7_plant.specs.Observers.{Watch, watch_all}
 use Rattle.s7_plant.specs.State.{State, state_of}
 use Rattle.s7_session.specs.Entry.{Entry}
 
--- what links asked one after another, in the order in which it was carried out; a caller is the number of a link
+-- what links asked, in the order in which it was carried out; a caller is the number of a link
 abbrev pub History : Type 0
 History = List (Call Ask)
 
--- that of a book
+-- the history of a book
 abbrev pub history_of : BookTold → History
 history_of book = calls_of book.journal.entries
 
@@ -33,7 +33,7 @@ own_from number s link (call ∷ history) =
     then entry_at number s call.request ∷ own_from (number + 1) (after s call.request) link history
     else own_from (number + 1) (after s call.request) link history
 
--- a history that begins at a state has them
+-- the calls of a link in a history that begins at a state
 abbrev pub own : State → ℕ → History → List Entry
 own s link history = own_from 0 s link history
 
@@ -41,8 +41,7 @@ own s link history = own_from 0 s link history
 abbrev pub AreOf : ℕ → History → Type 0
 AreOf link history = AllByRecursion (λ (call : Call Ask). call.caller ≡ link) history
 
--- A book goes on by calls of one link: it begins where it began, has the room that it had, and nothing that was entered
--- is lost.
+-- A book goes on by calls of one link: its opening and its limit stay, and no entry is lost.
 pub record GoesOnBy (link : ℕ) (old new : BookTold) : Type 0 where
   pub opening : new.opening ≡ old.opening
   pub limit : new.journal.limit ≡ old.journal.limit
@@ -50,8 +49,8 @@ pub record GoesOnBy (link : ℕ) (old new : BookTold) : Type 0 where
   pub history : history_of new ≡ history_of old ++ calls
   pub own : AreOf link calls
 
--- While the book went on, each of its observers was told of the events of the calls that were entered, in order and
--- each once, and of nothing else.
+-- While the book went on, each of its observers was notified of the events of the calls that were entered, in order and
+-- of each once, and of nothing else.
 pub record AreToldOn (old new : BookTold) (ws ws' : List Watch) : Type 0 where
   pub calls : History
   pub history : history_of new ≡ history_of old ++ calls

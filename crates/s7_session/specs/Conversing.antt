@@ -9,7 +9,7 @@ use Rattle.s7_session.specs.LinkState.{LinkState, Download}
 use Rattle.s7_session.specs.ServerJobs.{job_of}
 use Rattle.s7_session.specs.Slices.{sliced_of}
 
--- a download is held unless its image is none
+-- a link holds a download unless its image is idle
 abbrev pub held_as : BlockName → Progress → Option Download
 held_as name idle = None
 held_as name (awaiting len octets) = Some (record { name = name; progress = awaiting len octets })
@@ -33,6 +33,6 @@ link_of held = record {
 abbrev pub tpdu_size_of : Option TpduSize → Option ℕ
 tpdu_size_of size = option_map (λ (s : TpduSize). s.octets) size
 
--- what it has still to send
+-- the octets that are still to be sent
 abbrev pub sends : Conversation → List ℕ
 sends c = c.sender.outbox.unsent

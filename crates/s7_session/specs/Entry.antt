@@ -3,7 +3,7 @@ use Rattle.std.specs.Prelude.{ℕ}
 use Rattle.s7_plant.specs.declared.request.Ask.{Ask}
 use Rattle.s7_plant.specs.Replies.{Said}
 
--- its number in the history, what was asked as it is kept, and the reply
+-- its number in the history, what was asked as the history keeps it, and the reply
 pub record Entry : Type 0 where
   pub number : ℕ
   pub ask : Ask

@@ -1,5 +1,5 @@
--- The error words of refusals. Those from 8403 to 8404 and from 8F01 to 8F03 are this profile's own; the others are
--- told apart in Snap7 1.4 sources, s7_micro_client.cpp: TSnap7MicroClient::CpuError.
+-- The error words of refusals. Those from 8403 to 8404 and from 8F01 to 8F03 are this profile's own; Snap7 1.4 sources,
+-- s7_micro_client.cpp: TSnap7MicroClient::CpuError distinguishes the others.
 use Rattle.std.specs.Prelude.{ℕ}
 use Rattle.s7_session.specs.declared.judge.Refusal.{Refusal}
 use Rattle.s7_session.specs.declared.judge.Refusal.TheVariants.{UnknownFunction, NotNegotiated, Unreadable, OverPdu}
@@ -25,10 +25,10 @@ CLOCK_FAILED = 0x8F02
 abbrev pub NO_GUARD : ℕ
 NO_GUARD = 0xD605
 
--- a right is cleared that the link hasn't (Snap7 1.4 sources, s7_types.h: Code7NoPasswordToClear)
+-- the link clears a right that it doesn't have (Snap7 1.4 sources, s7_types.h: Code7NoPasswordToClear)
 abbrev pub NO_RIGHT : ℕ
 NO_RIGHT = 0xD604
 
--- a password is set that isn't the guard's (Snap7 1.4 sources, s7_types.h: Code7InvalidPassword)
+-- the password that is set isn't the guard's (Snap7 1.4 sources, s7_types.h: Code7InvalidPassword)
 abbrev pub WRONG_PASSWORD : ℕ
 WRONG_PASSWORD = 0xD602

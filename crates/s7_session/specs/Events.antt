@@ -1,4 +1,4 @@
--- What an event of a link makes: a connect request, or a message.
+-- What an event of a link leads to: a connect request, or a message.
 use Rattle.std.specs.Prelude.{ℕ, Bool, true, false, ◌==◌, ◌&&◌, nat_le, List, [], ◌∷◌, length}
 use Rattle.std.specs.Prelude.{slice_index, Option, None, Some, if◌then◌else◌}
 use Rattle.s7_tpkt.specs.Packets.{packet_of}
@@ -18,21 +18,21 @@ use Rattle.s7_session.specs.Verdict.{Verdict, Entered, Full, ClockFailed, NoMemo
 -- whether a link goes on
 pub data Standing : Type 0 where
   lives : Standing
-  -- memory was wanting for a telegram: nothing more is owed
+  -- an allocation for a telegram failed: nothing more is sent
   stops : Standing
-  -- a telegram that asks has no verdict: nothing more is owed
+  -- a telegram that asks the plant has no verdict: nothing more is sent
   unjudged : Standing
   -- a fault or a disconnect request closes it
   closes : (end : Outcome) → Standing
 
--- what an event and the verdict of its telegram make
+-- what an event and the verdict of its telegram lead to
 pub record Made : Type 0 where
-  -- the TPDU size of the connect request, and none before it
+  -- the TPDU size of the connect request, `None` before it
   pub size : Option ℕ
   pub link : LinkState
-  -- the octets that are owed
+  -- the octets to send
   pub out : List ℕ
-  -- the telegram that met its verdict, if there is one
+  -- the telegram that asked the plant, with its verdict, if there is one
   pub mets : List Met
   -- the verdicts of the telegrams to come
   pub verdicts : List Verdict
@@ -40,7 +40,7 @@ pub record Made : Type 0 where
 
 -- ---- a message
 
--- it is answered, or owes nothing, without the plant
+-- the message is answered, or needs no answer, without the plant
 abbrev pub settled : Option ℕ → LinkState → List ℕ → List Verdict → Made
 settled size link out verdicts =
     record { size = size; link = link; out = out; mets = []; verdicts = verdicts; standing = lives }
@@ -48,7 +48,7 @@ settled size link out verdicts =
 abbrev pub refusal_sent : ℕ → ℕ → ℕ → List ℕ
 refusal_sent size sequence error = sent_message size (refusal_octets sequence error)
 
--- its telegram met this verdict
+-- its telegram has this verdict
 abbrev pub judged : Option ℕ → LinkState → List ℕ → Asking → Verdict → List Verdict → Standing → Made
 judged size link out asking verdict later standing =
     record {
@@ -60,7 +60,7 @@ judged size link out asking verdict later standing =
       standing = standing;
     }
 
--- the clock is asked only by what asks for a moment
+-- the clock is read only for a request that needs a moment
 abbrev pub by_clock : Bool → ℕ → LinkState → ℕ → Asking → List Verdict → Made
 by_clock true size link sequence asking later =
     judged (Some size) link (refusal_sent size sequence CLOCK_FAILED) asking ClockFailed later lives
@@ -75,7 +75,7 @@ by_verdict size link sequence asking Full later =
 by_verdict size link sequence asking ClockFailed later = by_clock asking.is_timed size link sequence asking later
 by_verdict size link sequence asking NoMemory later = judged (Some size) link [] asking NoMemory later stops
 
--- Nothing is owed from the first telegram on that asks and has no verdict.
+-- From the first telegram on that asks the plant and has no verdict, nothing is sent.
 abbrev pub asks : ℕ → LinkState → ℕ → Asking → List Verdict → Made
 asks size link sequence asking [] =
     record { size = Some size; link = link; out = []; mets = []; verdicts = []; standing = unjudged }
@@ -88,7 +88,7 @@ by_judgement size link sequence verdicts (own messages next) =
     settled (Some size) next (sent_messages size messages) verdicts
 by_judgement size link sequence verdicts (ask asking) = asks size link sequence asking verdicts
 
--- a message of this protocol (Snap7 1.4 sources, s7_types.h: TS7ReqHeader)
+-- a message of S7 (Snap7 1.4 sources, s7_types.h: TS7ReqHeader)
 abbrev pub is_s7 : List ℕ → Bool
 is_s7 m = nat_le 10 (length m) && slice_index m 0 == 0x32
 
@@ -106,8 +106,8 @@ message_made size link m at verdicts =
 
 -- ---- events
 
--- the confirm of a connect request (ISO 8073, 13.4): its source is the destination, the server's reference is 0001, the
--- class 00
+-- the confirm of a connect request (ISO 8073, 13.4): its destination reference is the source reference of the request,
+-- the server's reference is 0001, the class 00
 abbrev pub confirmed : ConnectionTold → ConnectionTold
 confirmed c = record {
   dst_ref = c.src_ref;
@@ -118,8 +118,8 @@ confirmed c = record {
   called = c.called;
 }
 
--- WHAT AN EVENT MAKES, by the TPDU size and the state of the link, and the verdicts of its telegrams: no message comes
--- before the connect request
+-- WHAT AN EVENT LEADS TO, by the TPDU size and the state of the link, and the verdicts of its telegrams; a message
+-- before the connect request changes nothing
 unfoldable pub made : Option ℕ → LinkState → Event → List Verdict → Made
 made size link (opened c) verdicts =
     settled (Some (size_of_code c.size_code)) link (packet_of (spelling_of_confirm (confirmed c))) verdicts

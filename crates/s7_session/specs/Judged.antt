@@ -1,4 +1,4 @@
--- What the code's judgement says, on a link and for a message of this sequence.
+-- The meaning of the code's judgement, for a message of this sequence on a link in this state.
 use Rattle.std.specs.Prelude.{◌≡◌, ℕ, ◌+◌, ◌≤◌, [], ◌∷◌, length, All, Option, None, Some}
 use Rattle.s7_header.specs.Negotiation.{negotiation_spelling, IsGrant}
 use Rattle.s7_item.specs.declared.places.DataPlace.{DataPlace}
@@ -51,7 +51,7 @@ judgement_of link sequence (code.Piece more octets) =
 judgement_of link sequence code.Closed = own [] (record link { server_job = None })
 judgement_of link sequence code.Dropped = dropped link
 
--- what brings no octets: a read whose full answer fits the PDU, or what a control asks
+-- a request without data to copy: a read whose full answer fits the PDU, or a control
 abbrev pub IsPlain : Option ℕ → Request → Type 0
 IsPlain granted (Read items) = (pdu : ℕ) × (granted ≡ Some pdu) × (answer_size items ≤ pdu)
 IsPlain granted (Write items places octets) = ⊥
@@ -90,7 +90,7 @@ IsWithin granted (code.Piece more octets) = Unit {0}
 IsWithin granted code.Closed = Unit {0}
 IsWithin granted code.Dropped = Unit {0}
 
--- a job of an upload or of a download that asks nothing of the plant, or an answer to the server's own
+-- a job of an upload or of a download that asks nothing of the plant, or an answer to the server's own job
 abbrev pub IsTransfer : Judgement → Type 0
 IsTransfer (code.Refuse refusal) = ⊥
 IsTransfer (code.Grant n) = ⊥

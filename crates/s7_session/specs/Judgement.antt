@@ -55,8 +55,8 @@ use Rattle.s7_session.specs.declared.judge.Refusal.{Refusal}
 use Rattle.s7_session.specs.declared.judge.Refusal.TheVariants.{UnknownFunction, NotNegotiated, Unreadable, OverPdu}
 use Rattle.s7_session.specs.declared.judge.Refusal.TheVariants.{NotAllowed}
 
--- what asks the plant: what it asks by the moment, whether it asks for one, whether the request is copied, and what an
--- entered reply leaves and is answered
+-- a message that asks the plant: its request by the moment, whether it needs a moment, whether the request is copied,
+-- and, by the reply that was entered, the link's state afterwards and the messages that answer it
 pub record Asking : Type 0 where
   pub ask : ℕ → Ask
   pub is_timed : Bool
@@ -65,9 +65,9 @@ pub record Asking : Type 0 where
   pub messages : Said → List (List ℕ)
 
 pub data Judgement : Type 0 where
-  -- it is refused
+  -- the message is refused
   refuse : (refusal : Refusal) → Judgement
-  -- it is answered from the link's own earlier messages
+  -- it is answered from the link's own state, without the plant
   own : (messages : List (List ℕ)) → (link : LinkState) → Judgement
   -- it asks the plant
   ask : (asking : Asking) → Judgement
@@ -92,12 +92,12 @@ answer_octets sequence params body =
 abbrev pub refusal_octets : ℕ → ℕ → List ℕ
 refusal_octets sequence error = spelling_of (refusal_of sequence error)
 
--- the answer of a reply, which is a refusal where it has an error
+-- the answer that is made of a reply, a refusal if the reply has an error
 abbrev pub reply_octets : ℕ → Said → List ℕ
 reply_octets sequence reply =
     if reply.error == 0 then answer_octets sequence reply.params reply.body else refusal_octets sequence reply.error
 
--- a write's octets are copied, and the image of a block that is inserted
+-- the octets of a write are copied, and the image of a block that is inserted
 abbrev pub is_copied : Request → Bool
 is_copied (Read items) = false
 is_copied (Write items places octets) = true
@@ -115,7 +115,7 @@ is_copied (request.StartUpload kind number) = false
 is_copied (request.Insert kind number image spare) = true
 is_copied (request.Delete kind number) = false
 
--- a request with the link's right that leaves the link as it is, and asks for no moment
+-- a request with the link's right that leaves the link's state as it is and needs no moment
 abbrev pub plainly : LinkState → ℕ → Request → Asking
 plainly link sequence request = record {
   ask = λ moment. asked link.right request;
@@ -139,7 +139,7 @@ abbrev pub negotiation : LinkState → ℕ → Result Negotiation BadParams → 
 negotiation link sequence (Err bad) = refuse Unreadable
 negotiation link sequence (Ok asked) = negotiated link sequence (granted asked)
 
--- a read is unreadable with a data part, and over the PDU where its full answer is
+-- a read with data is unreadable; a read whose full answer is longer than the PDU is over the PDU
 abbrev pub read : LinkState → ℕ → ℕ → List ℕ → Result (List Item) ItemFault → Judgement
 read link pdu sequence body (Err fault) = refuse Unreadable
 read link pdu sequence body (Ok items) =
@@ -160,16 +160,16 @@ write link pdu sequence body (Ok items) = write_of link pdu sequence items body 
 
 -- ---- control (Snap7 1.4 sources, s7_types.h: TReqFunPlcHotStart, TReqFunPlcStop, TReqControlBlockParams)
 
--- a block is inserted that the link holds as a finished download, with a head that is its own
+-- a block is inserted if the link holds its finished download, and the head of the image agrees with its name
 abbrev pub insert : LinkState → ℕ → ℕ → ℕ → Option (List ℕ) → Judgement
 insert link sequence kind number None = refuse NotAllowed
 insert link sequence kind number (Some image) =
     if is_stored_kind kind && head_agrees image kind number
     then asks_plainly link sequence (request.Insert kind number image no_room) else refuse NotAllowed
 
--- what a control asks (Snap7 1.4 sources, s7_types.h: TReqFunPlcHotStart, TReqFunPlcColdStart, TReqFunPlcStop,
--- TReqFunCompress, TReqFunCopyRamToRom, TReqControlBlockParams); that blocks are inserted and deleted of the kinds that
--- are stored is this profile's own
+-- the requests of controls (Snap7 1.4 sources, s7_types.h: TReqFunPlcHotStart, TReqFunPlcColdStart, TReqFunPlcStop,
+-- TReqFunCompress, TReqFunCopyRamToRom, TReqControlBlockParams); that only blocks of stored kinds are inserted and
+-- deleted is this profile's own
 abbrev pub control_asked : LinkState → ℕ → Control → Judgement
 control_asked link sequence control.Start = asks_plainly link sequence (request.Start false)
 control_asked link sequence control.ColdStart = asks_plainly link sequence (request.Start true)
@@ -181,7 +181,7 @@ control_asked link sequence (control.Insert kind number) =
 control_asked link sequence (control.Delete kind number) =
     if is_stored_kind kind then asks_plainly link sequence (request.Delete kind number) else refuse NotAllowed
 
--- a control has no data part
+-- a control with data is unreadable
 abbrev pub control_in : LinkState → ℕ → List ℕ → Result Control BadControl → Judgement
 control_in link sequence body (Err bad) = refuse Unreadable
 control_in link sequence body (Ok c) =
@@ -189,8 +189,8 @@ control_in link sequence body (Ok c) =
 
 -- ---- uploads
 
--- the answer to an upload's start: with an id where it is started (after
--- Snap7 1.4 sources, s7_types.h: TResFunStartUploadParams)
+-- the answer to an upload's start, with an id if the upload was started (after Snap7 1.4 sources, s7_types.h:
+-- TResFunStartUploadParams)
 abbrev pub upload_reply : LinkState → ℕ → Said → List ℕ
 upload_reply link sequence reply =
     if reply.error == 0 then answer_octets sequence (with_id reply.params (next_octet link.upload_id)) []
@@ -209,13 +209,14 @@ abbrev pub upload_started : LinkState → ℕ → Option BlockName → Judgement
 upload_started link sequence None = refuse Unreadable
 upload_started link sequence (Some name) = ask (by_upload link sequence name)
 
--- the answer with a slice of the image, whose parameters say whether others follow (after
--- Snap7 1.4 sources, s7_types.h: TReqFunUploadParams, TResDownloadDataHeader)
+-- the answer with a slice of the image, whose parameters say whether others follow (after Snap7 1.4 sources,
+-- s7_types.h: TReqFunUploadParams, TResDownloadDataHeader)
 abbrev pub slice_answer : ℕ → Piece → List ℕ
 slice_answer sequence piece =
     answer_octets sequence (slice_function ∷ more_octet piece.more ∷ []) (image_data piece.octets)
 
--- The next octets of the upload of this id, where some are left: behind the last of them only the end is answered.
+-- The next octets of the upload of this id, if any are left. After the last of them only the end of the upload is
+-- answered.
 abbrev pub upload_sliced : LinkState → ℕ → ℕ → ℕ → Option (List ℕ) → Judgement
 upload_sliced link pdu sequence id None = refuse Unreadable
 upload_sliced link pdu sequence id (Some octets) =
@@ -243,13 +244,14 @@ end_asked link sequence (Some id) = upload_ended link sequence id
 abbrev pub server_job : LinkState → ℕ → BlockName → List ℕ
 server_job link function name = server_job_octets (next_sequence link.job_sequence) function name
 
--- a download that begins takes the place of the one before: the first piece is asked for at once
+-- a download that begins replaces the one before; the first piece is asked for at once
 abbrev pub download_begun : LinkState → ℕ → BlockName → ℕ → Judgement
 download_begun link sequence name size =
     own (answer_octets sequence (announce_function ∷ []) [] ∷ server_job link piece_function name ∷ [])
     (with_server_job link piece_function name (awaiting size []))
 
--- a block of a kind that is stored, and an image of 36 to 65,536 octets: this profile's own limits
+-- a download is started of a block of a kind that is stored, with an image of 36 to 65,536 octets: this profile's own
+-- limits
 abbrev pub download_started : LinkState → ℕ → Option Announced → Judgement
 download_started link sequence None = refuse Unreadable
 download_started link sequence (Some a) =
@@ -271,8 +273,8 @@ is_transfer code =
 
 -- ---- the functions that need a PDU
 
--- Reading and writing items, control, uploads and downloads, of which none but a write has a data part
--- (Snap7 1.4 sources, s7_types.h: TReqFunReadParams, TReqFunPlcHotStart, TReqFunPlcStop, TReqFunStartUploadParams,
+-- The functions that read and write items, control, upload and download. Of these only a write has data (Snap7 1.4
+-- sources, s7_types.h: TReqFunReadParams, TReqFunPlcHotStart, TReqFunPlcStop, TReqFunStartUploadParams,
 -- TReqStartDownloadParams).
 abbrev pub function : LinkState → ℕ → ℕ → ℕ → List ℕ → List ℕ → Judgement
 function link pdu code sequence params body =
@@ -297,7 +299,7 @@ job link sequence (code ∷ params) body =
 
 -- ---- user data (Snap7 1.4 sources, s7_types.h: TReqFunTypedParams, TS7Params7)
 
--- the parameters of an answer that is whole
+-- the parameters of an answer that fits one slice
 abbrev pub user_answer : ℕ → ℕ → ℕ → ℕ → UserParams
 user_answer group subfunction sequence error = record {
   answer = true;
@@ -315,21 +317,21 @@ user_octets sequence params body =
     spelling_of (record { kind = User; sequence = sequence; param_len = 12; body_len = length body; error = 0 })
     ++ user_spelling params ++ body
 
--- the data of user data: FF, transport size 09 and the length before the octets; without octets 0A alone
+-- the data of user data: FF, transport size 09 and the length before the octets; without octets `0A 00 00 00`
 abbrev pub user_data : List ℕ → List ℕ
 user_data [] = no_data
 user_data (x ∷ xs) = 0xFF ∷ 0x09 ∷ (two_octets (length (x ∷ xs)) ++ (x ∷ xs))
 
--- how many octets of an answer go out at once: header, parameters and the head of the data take 26 of the PDU
--- (Snap7 1.4 sources, s7_types.h: TS7ResHeader17, TS7Params7)
+-- the greatest number of octets in one slice of an answer: its header, its parameters and the head of its data take 26
+-- of the PDU (Snap7 1.4 sources, s7_types.h: TS7ResHeader17, TS7Params7)
 abbrev pub slice_room : ℕ → ℕ
 slice_room pdu = pdu - 26
 
--- the answer's group, by that of the request
+-- the answer's group, by the group of the request
 abbrev pub group_of_answer : ℕ → ℕ
 group_of_answer group = group + 0x40
 
--- the answer with the first of these octets, which says whether more follow
+-- the answer with as many of the first of these octets as fit, which says whether more follow
 abbrev pub slice_octets : ℕ → ℕ → ℕ → ℕ → ℕ → List ℕ → List ℕ
 slice_octets sequence group subfunction octet pdu octets =
     user_octets sequence
@@ -338,7 +340,7 @@ slice_octets sequence group subfunction octet pdu octets =
     })
     (user_data (take (slice_room pdu) octets))
 
--- what is held then: the octets that follow, if there are any
+-- the octets that the link holds after that: those that follow, if there are any
 abbrev pub slices_left : ℕ → ℕ → ℕ → ℕ → List ℕ → Option Sliced
 slices_left group subfunction octet pdu octets =
     if nat_lt (slice_room pdu) (length octets)
@@ -358,7 +360,7 @@ user_reply link pdu sequence group subfunction reply =
     else user_octets sequence
     (user_answer (group_of_answer group) subfunction (next_octet link.user_sequence) reply.error) no_data
 
--- any answer counts the sequence octet, and takes the place of a sliced answer that was held: this profile's own
+-- any answer counts the sequence octet, and replaces a sliced answer that was held: this profile's own
 abbrev pub user_link : LinkState → ℕ → ℕ → ℕ → Said → LinkState
 user_link link pdu group subfunction reply = record link {
   user_sequence = next_octet link.user_sequence;
@@ -367,7 +369,7 @@ user_link link pdu group subfunction reply = record link {
       else None;
 }
 
--- user data of this group and subfunction asks this, by the moment, and for a moment or not
+-- the request by user data of this group and subfunction, by the moment; `is_timed` says whether it needs one
 abbrev pub by_user : LinkState → ℕ → ℕ → ℕ → ℕ → Bool → (ℕ → Request) → Asking
 by_user link pdu sequence group subfunction is_timed request = record {
   ask = λ moment. asked link.right (request moment);
@@ -395,15 +397,15 @@ further_of link pdu sequence params (Some held) =
     (record link { sliced = slices_left params.group params.sub params.sequence pdu held.rest })
     else refuse Unreadable
 
--- The next octets of the answer that is held: it has the group, the subfunction and the sequence octet that are asked
--- for, and the data are none. For other answers than status lists this is this profile's own.
+-- The next octets of the answer that is held. The request has the answer's group, subfunction and sequence octet, and
+-- no data. For answers other than status lists this is this profile's own.
 abbrev pub further : LinkState → ℕ → ℕ → UserParams → List ℕ → Judgement
 further link pdu sequence params body =
     if bytes_eq body no_data then further_of link pdu sequence params link.sliced else refuse Unreadable
 
 -- ---- status lists (Snap7 1.4 sources, s7_types.h: TReqFunReadSZLFirst)
 
--- the data name a list and an index
+-- the data name a status list by its id and index
 abbrev pub names_list : List ℕ → Bool
 names_list body = length body == 8 && bytes_eq (take 4 body) (0xFF ∷ 0x09 ∷ 0x00 ∷ 0x04 ∷ [])
 
@@ -425,7 +427,7 @@ lists link pdu sequence params body =
 abbrev pub names_moment : List ℕ → Bool
 names_moment body = length body == 14 && bytes_eq (take 4 body) (0xFF ∷ 0x09 ∷ 0x00 ∷ 0x0A ∷ [])
 
--- whatever the data are
+-- a read of the clock, whatever its data are
 abbrev pub clock_read : LinkState → ℕ → ℕ → Judgement
 clock_read link pdu sequence = asks_user link pdu sequence 0x47 0x01 true (λ moment. request.ClockRead moment)
 
@@ -448,7 +450,7 @@ clock link pdu sequence params body =
 
 -- ---- passwords (Snap7 1.4 sources, s7_types.h: TReqFunSecurity, TReqDataSecurity)
 
--- the link has this right from now on, and holds no sliced answer
+-- the link has the right that `right` says from now on, and holds no sliced answer
 abbrev pub secured : LinkState → Bool → LinkState
 secured link right = record link { right = right; user_sequence = next_octet link.user_sequence; sliced = None }
 
@@ -458,7 +460,7 @@ security_answer link sequence subfunction error right =
     own (user_octets sequence (user_answer 0x85 subfunction (next_octet link.user_sequence) error) no_data ∷ [])
     (secured link right)
 
--- the guard's password gives the right, and another one changes nothing
+-- the guard's password gives the right; any other password changes no right
 abbrev pub password_set : LinkState → ℕ → List ℕ → Judgement
 password_set link sequence body =
     if is_password body then (
@@ -474,7 +476,8 @@ password_cleared link sequence body =
     security_answer link sequence 0x02 error (link.right && not (error == 0))
     ) else refuse Unreadable
 
--- The long form of the parameters asks for a further slice of an answer, and no answer of this group has one.
+-- Parameters of the long form ask for a further slice of an answer. No answer of this group has one, so they are
+-- refused.
 abbrev pub security : LinkState → ℕ → UserParams → List ℕ → Judgement
 security link sequence params body =
     if params.sub == 0x01 then (if params.answer then refuse Unreadable else password_set link sequence body)
@@ -483,7 +486,7 @@ security link sequence params body =
 
 -- ---- blocks (Snap7 1.4 reference manual, `Cli_ListBlocks`, `Cli_ListBlocksOfType`, `Cli_GetAgBlockInfo`)
 
--- the data name a kind
+-- the data name a kind of blocks
 abbrev pub names_kind : List ℕ → Bool
 names_kind body =
     (length body == 6 && bytes_eq (take 5 body) (0xFF ∷ 0x09 ∷ 0x00 ∷ 0x02 ∷ 0x30 ∷ []))
@@ -495,7 +498,7 @@ kind_listed link pdu sequence body =
     then asks_user link pdu sequence 0x43 0x02 false (λ moment. request.ListOf (slice_index body 5))
     else refuse Unreadable
 
--- the block that the data name, which is at `A`
+-- the block that the data name, at `A`
 abbrev pub block_told : List ℕ → Option BlockName
 block_told body =
     if bytes_eq (take 4 body) (0xFF ∷ 0x09 ∷ 0x00 ∷ 0x08 ∷ []) then named (drop 4 body) 0x41 else None
@@ -505,7 +508,7 @@ informed link pdu sequence None = refuse Unreadable
 informed link pdu sequence (Some name) =
     asks_user link pdu sequence 0x43 0x03 false (λ moment. request.Info name.kind name.number)
 
--- the counts of all kinds are asked for by whatever data
+-- the counts of all kinds are given whatever the data are
 abbrev pub blocks_asked : LinkState → ℕ → ℕ → ℕ → List ℕ → Judgement
 blocks_asked link pdu sequence subfunction body =
     if subfunction == 0x01 then asks_user link pdu sequence 0x43 0x01 false (λ moment. request.ListAll)
@@ -537,7 +540,8 @@ user_at link (Some pdu) sequence (x ∷ params) body = group link pdu sequence b
 
 -- ---- a message (Snap7 1.4 sources, s7_types.h: TS7ReqHeader)
 
--- the greatest length of a message: before the negotiation that of the greatest PDU, this profile's own
+-- the greatest length of a message: the PDU that was granted; before the negotiation the greatest PDU, this profile's
+-- own
 abbrev pub pdu_limit : Option ℕ → ℕ
 pdu_limit None = most_pdu
 pdu_limit (Some pdu) = pdu
@@ -560,17 +564,17 @@ is_request m = slice_index m 1 == 0x01 || slice_index m 1 == 0x07
 
 -- ---- answers to the server's own jobs
 
--- an acknowledgement with the sequence of the job that isn't answered (Snap7 1.4 sources, s7_types.h: TS7ResHeader23)
+-- an acknowledgement with the sequence of the server's outstanding job (Snap7 1.4 sources, s7_types.h: TS7ResHeader23)
 abbrev pub answers_job : Option ServerJob → List ℕ → Bool
 answers_job None m = false
 answers_job (Some job) m =
     (slice_index m 1 == 0x02 || slice_index m 1 == 0x03) && sequence_of m == job.sequence
 
--- the download is dropped, and nothing is owed: this profile's own
+-- the download is dropped, and nothing is sent: this profile's own
 abbrev pub dropped : LinkState → Judgement
 dropped link = own [] (without_download link)
 
--- what is asked for behind a piece, by what it made of the image
+-- the server's next job after a piece, by what the piece made of the image
 abbrev pub asked_next : LinkState → BlockName → Progress → List (List ℕ)
 asked_next link name idle = []
 asked_next link name (awaiting len octets) = server_job link piece_function name ∷ []
@@ -584,7 +588,7 @@ piece_came link None piece = dropped link
 piece_came link (Some d) None = dropped link
 piece_came link (Some d) (Some piece) = goes_on link d.name (with_piece 65536 d.progress piece)
 
--- the download is closed, and stays held
+-- the download is closed; the link keeps its image
 abbrev pub closed : LinkState → List ℕ → List ℕ → Judgement
 closed link params body =
     if bytes_eq params (close_function ∷ []) && length body == 0 then own [] (record link { server_job = None })
@@ -595,8 +599,8 @@ job_answered link function params body =
     if function == piece_function then piece_came link link.download (piece_in (pdu_limit link.granted) params body)
     else closed link params body
 
--- The answer to the server's job with this function (after Snap7 1.4 sources, s7_types.h: TReqDownloadParams). One that
--- can't be read as that, or has an error, drops the download.
+-- The answer to the server's job with this function (after Snap7 1.4 sources, s7_types.h: TReqDownloadParams). An
+-- answer that can't be read as such, or that has an error, drops the download.
 abbrev pub answer_came : LinkState → ℕ → List ℕ → Result Header HeaderFault → Judgement
 answer_came link function m (Err fault) = dropped link
 answer_came link function m (Ok h) =
@@ -609,12 +613,12 @@ by_server_job link (Some job) m = answer_came link job.function m (header_of m)
 
 -- ---- a message as a whole
 
--- what is no request is the awaited answer to the server's job, or isn't served
+-- a message that is no request is the answer to the server's outstanding job, or isn't served
 abbrev pub no_request : LinkState → List ℕ → Judgement
 no_request link m =
     if answers_job link.server_job m then by_server_job link link.server_job m else refuse UnknownFunction
 
--- THE JUDGEMENT of a message: what the server's job is answered, or the first refusal that applies, and else what it
--- asks for
+-- THE JUDGEMENT of a message: the answer to the server's job; or the first refusal that applies; or else what it asks
+-- for
 unfoldable pub judge : LinkState → List ℕ → Judgement
 judge link m = if is_request m then headed link m (header_of m) else no_request link m

@@ -1,4 +1,4 @@
--- A LEGAL HISTORY: what it has of each link, and what the book is that it was entered in.
+-- A LEGAL HISTORY: what it contains of each link, and the book in which it was entered.
 use Rattle.std.specs.Prelude.{◌≡◌, ◌⊎◌, ℕ, ◌+◌, List, [], ◌∷◌, length, map, Option, None}
 use Rattle.std.specs.List.{AllByRecursion}
 use Rattle.s7_turn.specs.declared.view.Entry.{Entry as Call}
@@ -12,30 +12,30 @@ use Rattle.s7_session.specs.Entry.{answered}
 use Rattle.s7_session.specs.Telegrams.{Met, verdicts_of, entered_of, AnyFull, FullStays}
 use Rattle.s7_session.specs.Telegrams.{MemoryIsLast, AreCaused, AllAt, last_number}
 
--- ---- of a link
+-- ---- for a link
 
--- The history that began at a state, and has room for so many calls, is legal for a link whose telegrams asked this and
--- met these verdicts, whose clock told this moment, and of which so many telegrams were entered, the newest under this
+-- A history that began at a state and has room for `limit` calls is legal for a link. The link's telegrams asked this
+-- and have these verdicts; its clock showed this moment; `entries` of its telegrams were entered, the newest under this
 -- number.
 pub record IsLegalFor (opening : State) (limit : ℕ) (history : History) (link : ℕ) (mets : List Met)
     (moment : Option ℕ) (entries : ℕ) (newest : Option ℕ)
     : Type 0 where
-  -- the link's own calls are what was asked and entered, in order and each once, each answered by the state at its
-  -- place
+  -- the link's own calls are the requests that were entered, in order and each once, each answered by the state at its
+  -- point in the history
   pub calls : map answered (own opening link history) ≡ entered_of mets
-  -- a telegram was refused for want of room only where the history is full, and none was entered afterwards
+  -- a telegram was refused for lack of room only if the history is full, and none was entered afterwards
   pub full : AnyFull (verdicts_of mets) → length history ≡ limit
   pub full_stays : FullStays (verdicts_of mets)
-  -- memory was wanting for the last one at most, where octets of it are copied, and the clock failed only for what asks
-  -- for a moment
+  -- an allocation failed for the last telegram at most, and only if octets of it are copied; the clock failed only for
+  -- a telegram that needs a moment
   pub memory : MemoryIsLast (verdicts_of mets)
   pub causes : AreCaused mets
-  -- what asks for a moment has the one that the clock told
+  -- a request that needs a moment has the one that the clock showed
   pub moments : AllAt moment (own opening link history)
   pub count : entries ≡ length (own opening link history)
   pub last : newest ≡ last_number None (own opening link history)
 
--- ---- of a book
+-- ---- for a book
 
 -- links that were served: their numbers, and how many telegrams of each were entered
 abbrev pub Links : Type 0
@@ -56,8 +56,9 @@ abbrev pub sum_of : Links → ℕ
 sum_of [] = 0
 sum_of (link ∷ links) = link.1 + sum_of links
 
--- The book opened with this state and this room. Each call is of a link that was served, whose numbers are different,
--- the counts of these add up to the whole history, and what is left is what the history leads to.
+-- The book opened with this state and this limit. Each call is of a link that was served. The links' numbers are
+-- different, and their counts add up to the length of the history. The plant is in the state to which the history
+-- leads.
 pub record IsLegalBook (opening : State) (limit : ℕ) (links : Links) (book : BookTold) : Type 0 where
   pub opened : state_of book.opening ≡ opening
   pub limited : book.journal.limit ≡ limit

@@ -1,4 +1,4 @@
--- What a whole run of a link is, from outside.
+-- What a whole run of a link is, seen from outside.
 use Rattle.std.specs.Prelude.{◌≡◌, ◌≢◌, ℕ, ◌-◌, ◌<◌, ◌≤◌, List, [], ◌++◌, length, map}
 use Rattle.std.specs.Prelude.{Option, None, option_map, IfSome, IsTrue}
 use Rattle.std.specs.Io.KnownBytes.{prepend_known, append_known, IsAtEnd}
@@ -26,15 +26,15 @@ pub record IsFresh (first : LinkState) (s : Session) : Type 0 where
   pub count : entry_count s ≡ 0
   pub newest : newest s ≡ None
 
--- The link failed at a transmit: a front of what is owed was written that is not all of it, with the whole answers of
--- all but at most one of the telegrams that were entered.
+-- The link failed to transmit. A prefix of the expected output was written, but not all of it; it contains the whole
+-- answers of all telegrams that were entered, except at most one.
 pub record IsBrokenOff (first : LinkState) (b : List ℕ) (js : List Verdict) (written : List ℕ) : Type 0 where
   pub left : List ℕ
   pub front : owed first b js ≡ written ++ left
   pub some : 0 < length left
   pub whole : AllButOne first b js written
 
--- all that is owed was written
+-- the whole expected output was written
 abbrev pub IsAllWritten : LinkState → List ℕ → List Verdict → List ℕ → Type 0
 IsAllWritten first b js written = written ≡ owed first b js
 
@@ -54,7 +54,7 @@ IsWritten first outcome.WriteFault b js written = IsBrokenOff first b js written
 IsWritten first outcome.Spent b js written = IsAllWritten first b js written
 IsWritten first outcome.Memory b js written = IsAllWritten first b js written
 
--- the client ended the link, where no disconnect request came
+-- the client ended the link, unless a disconnect request came
 abbrev pub IsLeft : Shown → LinkState → List ℕ → List Verdict → Type 0
 IsLeft link' first b js = (past first b js).standing ≡ lives → IsAtEnd link'.left × IsTrue link'.has_ended
 
@@ -79,25 +79,25 @@ pub record IsLinkRun {D : Type 0} (stands : D → List Entry → Type 0) (is_ful
     (first : LinkState) (link : Shown) (d : D) (link' : Shown) (d' : D)
     (result : Outcome) (accepted : ℕ) (last : Option ℕ)
     : Type 0 where
-  -- the octets taken from the link, and those written
+  -- the octets taken from the link, and the octets written on it
   pub taken : List ℕ
   pub written : List ℕ
-  -- the telegrams that asked, with their verdicts, and the doer's new entries
+  -- the telegrams that asked the plant, with their verdicts, and the doer's new entries
   pub mets : List Met
   pub entries : List Entry
   pub took : link.left ≡ prepend_known taken link'.left
   pub wrote : link'.written ≡ append_known link.written written
-  -- the link has room for as many fewer, works on what it worked on, and its clock tells the same moment; nothing shut
-  -- it
+  -- the link's room shrank by the octets written; it works on the same external object, and its clock shows the same
+  -- moment; the run didn't shut it
   pub fits : IfSome link.space (λ s. length written ≤ s)
   pub space : link'.space ≡ option_map (λ s. s - length written) link.space
   pub lent : link'.lent ≡ link.lent
   pub shut : link'.shut ≡ link.shut
   pub moment : link'.moment ≡ link.moment
   pub owed : IsWritten first result taken (verdicts_of mets) written
-  -- the octets ask this, and each met its verdict
+  -- the octets taken ask for these requests, and these are their verdicts
   pub asked : telegrams first taken (verdicts_of mets) ≡ mets
-  -- the doer entered what was asked and entered, in order and nothing else, with these replies
+  -- the doer entered the requests that have such a verdict, in order and with these replies, and nothing else
   pub entered : map answered entries ≡ entered_of mets
   pub doer : (es : List Entry) → stands d es → stands d' (es ++ entries)
   pub trail : Trail is_full may_lack d mets d'
@@ -105,9 +105,9 @@ pub record IsLinkRun {D : Type 0} (stands : D → List Entry → Type 0) (is_ful
   pub last_is : last ≡ last_number None entries
   pub clock : RoseExactly (clock_failures (verdicts_of mets)) link.clock_faults link'.clock_faults
   pub unasked : NoneTimed mets → link'.clock_faults ≡ link.clock_faults
-  -- the clock was asked once for each telegram that wants the moment, and not else
+  -- the clock was read once for each telegram that needs the moment, and at no other time
   pub looks : RoseExactly (looks_in mets) link.looks link'.looks
   pub moments : AllAt link.moment entries
-  -- it failed once where that ended the run, and not else
+  -- the link failed once if a failure ended the run, and otherwise not at all
   pub fails : FailsBy result link.faults link'.faults
   pub end : IsEnd link link' first taken (verdicts_of mets) result

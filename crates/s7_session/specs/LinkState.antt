@@ -1,4 +1,4 @@
--- What a link's earlier messages and their verdicts leave.
+-- The state that a link's earlier messages and their verdicts leave.
 use Rattle.std.specs.Prelude.{ℕ, ◌+◌, ◌==◌, Bool, false, if◌then◌else◌, List, Option, None}
 use Rattle.s7_block.specs.declared.block.BlockName.{BlockName}
 use Rattle.s7_block.specs.Sides.{Upload}
@@ -12,7 +12,7 @@ pub record Sliced : Type 0 where
   pub sequence : ℕ
   pub rest : List ℕ
 
--- a download: of which block, and how far its image is
+-- a download: its block, and the progress of its image
 pub record Download : Type 0 where
   pub name : BlockName
   pub progress : Progress
@@ -23,7 +23,7 @@ pub record ServerJob : Type 0 where
   pub function : ℕ
 
 pub record LinkState : Type 0 where
-  -- the PDU that was granted last, and none before
+  -- the PDU that was granted last, `None` before the first negotiation
   pub granted : Option ℕ
   -- whether the link has the right that the guard's password gives
   pub right : Bool
@@ -34,15 +34,15 @@ pub record LinkState : Type 0 where
   pub sliced : Option Sliced
   -- the last id of an upload, 0 before the first
   pub upload_id : ℕ
-  -- the upload that is held, with the octets that are still to be asked for
+  -- the upload under way, with the octets that weren't asked for yet
   pub upload : Option Upload
   -- the last sequence of a job of the server's, 0 before the first
   pub job_sequence : ℕ
   pub download : Option Download
-  -- the one that the client hasn't answered
+  -- the job of the server's own that the client hasn't answered
   pub server_job : Option ServerJob
 
--- a link on which nothing came, to areas with this guard
+-- the state of a link on which nothing came, to areas with this guard
 abbrev pub first_link : Option Guard → LinkState
 first_link guard = record {
   granted = None;
@@ -57,10 +57,11 @@ first_link guard = record {
   server_job = None;
 }
 
--- the next sequence octet of an answer to user data, or the next id of an upload: after FF comes 01, this profile's own
+-- the octet after this one, as the sequence octet of an answer to user data or the id of an upload: 01 follows FF, this
+-- profile's own
 abbrev pub next_octet : ℕ → ℕ
 next_octet n = if n == 0xFF then 1 else n + 1
 
--- the next sequence of the server's own jobs: after FFFF comes 0001, this profile's own
+-- the next sequence of the server's own jobs: 0001 follows FFFF, this profile's own
 abbrev pub next_sequence : ℕ → ℕ
 next_sequence n = if n == 0xFFFF then 1 else n + 1

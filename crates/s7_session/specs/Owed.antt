@@ -1,4 +1,5 @@
--- What a link is owed for the octets taken from it, and how it ends. It begins with a state that is given.
+-- The expected output of a link for the octets taken from it, and how the link ends. The link begins with a given
+-- state.
 use Rattle.std.specs.Prelude.{ℕ, List, [], ◌∷◌, ◌++◌, Option, None, Some}
 use Rattle.s7_plant.specs.declared.request.Ask.{Ask}
 use Rattle.s7_plant.specs.Replies.{Said}
@@ -13,12 +14,12 @@ use Rattle.s7_session.specs.LinkState.{LinkState}
 use Rattle.s7_session.specs.Telegrams.{Met, entered_of}
 use Rattle.s7_session.specs.Verdict.{Verdict}
 
--- what became of the events so far
+-- the result of the events so far
 pub record Past : Type 0 where
-  -- the TPDU size, and none before the connect request
+  -- the TPDU size, `None` before the connect request
   pub size : Option ℕ
   pub link : LinkState
-  -- all octets that are owed
+  -- the whole expected output
   pub owed : List ℕ
   -- the telegrams that asked the plant, with their verdicts
   pub mets : List Met
@@ -57,7 +58,7 @@ run p (event ∷ events) = run (next p event) events
 
 -- ---- how a link ends
 
--- a packet that can't be read, at its place
+-- a packet that can't be read, with its offset
 abbrev pub outcome_of : ReadFault → ℕ → Outcome
 outcome_of fault.BadFrame at = outcome.BadFrame at
 outcome_of fault.FrameTooLong at = outcome.FrameTooLong at
@@ -66,7 +67,7 @@ outcome_of fault.Unexpected at = outcome.Unexpected at
 outcome_of fault.TooManyFragments at = outcome.TooManyFragments at
 outcome_of fault.TooLong at = outcome.TooLong at
 
--- the client's end between messages, or in a packet or a message of which so many octets came
+-- the client ended the link: between two messages, or within a packet or message of which this number of octets came
 abbrev pub torn_or_ended : Option ℕ → Outcome
 torn_or_ended None = outcome.Ended
 torn_or_ended (Some octets) = outcome.Torn octets
@@ -75,7 +76,7 @@ abbrev pub ended_by : Option ℕ → Ending → Outcome
 ended_by torn disconnected = torn_or_ended torn
 ended_by torn (faulted fault at) = outcome_of fault at
 
--- what the octets end, where the messages ended nothing
+-- how the end of the octets changes the standing, if no message ended the link before
 abbrev pub standing_with : Option ℕ → Standing → Option Ending → Standing
 standing_with torn lives None = lives
 standing_with torn lives (Some ending) = closes (ended_by torn ending)
@@ -86,16 +87,16 @@ standing_with torn (closes end) ending = closes end
 abbrev pub with_ending : Option ℕ → Option Ending → Past → Past
 with_ending torn ending p = record p { standing = standing_with torn p.standing ending }
 
--- WHAT BECAME OF THESE OCTETS, with the verdicts of their telegrams in order
+-- THE RESULT OF THESE OCTETS, with the verdicts of their telegrams in order
 unfoldable pub past : LinkState → List ℕ → List Verdict → Past
 past first b verdicts =
     with_ending (torn_of Request b) (reading Request b).ending (run (start first verdicts) (reading Request b).events)
 
--- THE OCTETS OWED for the octets taken from a link
+-- THE EXPECTED OUTPUT for the octets taken from a link
 abbrev pub owed : LinkState → List ℕ → List Verdict → List ℕ
 owed first b verdicts = (past first b verdicts).owed
 
--- what asked the plant, in order, with the verdicts
+-- the telegrams that asked the plant, in order, with their verdicts
 abbrev pub telegrams : LinkState → List ℕ → List Verdict → List Met
 telegrams first b verdicts = (past first b verdicts).mets
 
@@ -103,13 +104,13 @@ telegrams first b verdicts = (past first b verdicts).mets
 abbrev pub entered : LinkState → List ℕ → List Verdict → List (Ask × Said)
 entered first b verdicts = entered_of (telegrams first b verdicts)
 
--- A telegram has no verdict only where a transmit failed, or a link isn't at its end.
+-- A telegram lacks a verdict only if a transmit failed, or if the link isn't at its end.
 abbrev pub end_by : Standing → Option ℕ → Outcome
 end_by lives torn = torn_or_ended torn
 end_by stops torn = outcome.Memory
 end_by unjudged torn = outcome.WriteFault
 end_by (closes end) torn = end
 
--- THE OUTCOME that the octets give where no more come
+-- THE OUTCOME of a link that took these octets and no more
 abbrev pub end_of : LinkState → List ℕ → List Verdict → Outcome
 end_of first b verdicts = end_by (past first b verdicts).standing (torn_of Request b)

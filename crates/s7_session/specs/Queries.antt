@@ -31,7 +31,7 @@ is_timed (Szl id index) = false
 is_timed ClockRead = true
 is_timed (ClockSet value) = true
 
--- what it asks at a moment
+-- the request of a query at a moment
 abbrev pub request_at : Query → ℕ → Request
 request_at ListAll moment = request.ListAll
 request_at (ListOf kind) moment = request.ListOf kind
@@ -40,7 +40,7 @@ request_at (Szl id index) moment = request.Szl id index
 request_at ClockRead moment = request.ClockRead moment
 request_at (ClockSet value) moment = request.ClockSet moment value
 
--- a clock is set to a moment that clock octets have
+-- a clock is set to a moment that clock octets can represent
 abbrev pub IsReadyQuery : Query → Type 0
 IsReadyQuery ListAll = Unit {0}
 IsReadyQuery (ListOf kind) = Unit {0}
@@ -49,7 +49,7 @@ IsReadyQuery (Szl id index) = Unit {0}
 IsReadyQuery ClockRead = Unit {0}
 IsReadyQuery (ClockSet value) = IsHeld value
 
--- the request that it makes: at the moment that the clock told where it asks for one, and else at 0
+-- the request of a query: with the moment that the clock showed if the query needs one, otherwise with 0
 pub record IsMade (query : Query) (told : Option ℕ) (request : Request) : Type 0 where
   pub moment : ℕ
   pub request_is : request ≡ request_at query moment

@@ -4,7 +4,7 @@ use Rattle.s7_header.specs.declared.user_params.UserParams.{UserParams}
 use Rattle.s7_session.specs.Judgement.{is_slice_of}
 use Rattle.s7_session.specs.LinkState.{Sliced}
 
--- octets are left to be asked for
+-- octets are left that may be asked for
 abbrev pub is_left : Sliced → Bool
 is_left s = nat_lt 0 (length s.rest)
 

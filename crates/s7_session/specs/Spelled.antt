@@ -1,5 +1,6 @@
--- TELEGRAMS THAT ARE SPELLED AS THE STANDARD HAS THEM ARE ASKED (Snap7 1.4 reference manual, `Cli_ReadMultiVars`,
--- `Cli_WriteMultiVars`): what a link asks for that negotiated a PDU, where the telegram and its full answer fit it.
+-- TELEGRAMS THAT ARE SPELLED AS THE STANDARD HAS THEM ARE ASKED OF THE PLANT (Snap7 1.4 reference manual,
+-- `Cli_ReadMultiVars`, `Cli_WriteMultiVars`), on a link that negotiated a PDU, if the telegram and its full answer fit
+-- it.
 use Rattle.std.specs.Prelude.{◌≡◌, ◌≤◌, ◌<◌, ℕ, ◌+◌, List, [], ◌++◌, length, Some}
 use Rattle.std.specs.List.{AllByRecursion}
 use Rattle.s7_header.specs.declared.header.Kind.TheVariants.{Job}
@@ -34,8 +35,8 @@ read_spelled sequence items = job_spelled sequence (items_params read_function i
 abbrev pub write_spelled : ℕ → List Item → List DataItem → List ℕ
 write_spelled sequence items written = job_spelled sequence (items_params write_function items) (data_octets written)
 
--- one to twenty items (Snap7 1.4 reference manual, `Cli_ReadMultiVars`), a sequence of two octets, and a PDU that was
--- negotiated and is long enough for the telegram
+-- one to twenty items (Snap7 1.4 reference manual, `Cli_ReadMultiVars`), a sequence of two octets, and a negotiated PDU
+-- that is large enough for the telegram
 pub record IsSpelled (link : LinkState) (pdu sequence : ℕ) (items : List Item) (telegram : List ℕ) : Type 0 where
   pub granted : link.granted ≡ Some pdu
   pub pdu_is : pdu ≤ 1920
@@ -44,14 +45,14 @@ pub record IsSpelled (link : LinkState) (pdu sequence : ℕ) (items : List Item)
   pub most : length items ≤ 20
   pub fits : length telegram ≤ pdu
 
--- a read is asked whose full answer fits the PDU
+-- a read whose full answer fits the PDU is asked of the plant
 abbrev pub ReadsAreAsked : Type 0
 ReadsAreAsked =
     (link : LinkState) (pdu sequence : ℕ) (items : List Item)
     → IsSpelled link pdu sequence items (read_spelled sequence items) → answer_size items ≤ pdu
     → judge link (read_spelled sequence items) ≡ asks_plainly link sequence (Read items)
 
--- a write is asked that has octets for each item
+-- a write that has octets for each item is asked of the plant
 abbrev pub WritesAreAsked : Type 0
 WritesAreAsked =
     (link : LinkState) (pdu sequence : ℕ) (items : List Item) (written : List DataItem)

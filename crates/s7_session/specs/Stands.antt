@@ -1,4 +1,4 @@
--- What a session stands for, and what its turns do.
+-- What a session represents, and what its turns do.
 use Rattle.std.specs.Prelude.{◌≡◌, ◌≢◌, ℕ, ◌+◌, ◌-◌, ◌<◌, ◌≤◌, List, [], ◌++◌, length, map}
 use Rattle.std.specs.Prelude.{Option, None, Some, option_map, IfSome, IsTrue}
 use Rattle.std.specs.Io.KnownBytes.{prepend_known, append_known, IsAtEnd}
@@ -51,11 +51,11 @@ entry_count s = s.count
 abbrev pub newest : Session → Option ℕ
 newest s = s.newest
 
--- what the link's earlier messages left
+-- the state that the link's earlier messages left
 abbrev pub link_at : Session → LinkState
 link_at s = link_of s.conversation.held
 
--- what a turn answers that handled a message at this place
+-- the result of a turn that handled the message at this offset
 abbrev pub turn_by : ℕ → Handled → Turn
 turn_by at handled.Answered = turn.Went
 turn_by at (handled.Entered number) = turn.Went
@@ -66,8 +66,8 @@ turn_by at handled.NotS7 = turn.Closed (outcome.NotS7 at)
 abbrev pub IsIdle : Session → Type 0
 IsIdle s = (unsent s ≡ []) × (unread s ≡ [])
 
--- All but at most one of the telegrams that were entered have their whole answers among the octets written: those of a
--- front of the octets and of the verdicts.
+-- All telegrams that were entered, except at most one, have their whole answers among the octets written: the expected
+-- output for a prefix of the octets and of the verdicts is written.
 pub record AllButOne (first : LinkState) (b : List ℕ) (js : List Verdict) (written : List ℕ) : Type 0 where
   pub front : List ℕ
   pub behind : List ℕ
@@ -79,9 +79,9 @@ pub record AllButOne (first : LinkState) (b : List ℕ) (js : List Verdict) (wri
   pub whole : written ≡ owed first front met ++ part
   pub all_but_one : length (entered first b js) ≤ length (entered first front met) + 1
 
--- The session stands for the octets that were used on a link that began in this state, the verdicts of their telegrams
--- and the octets that were written: it holds their open packet and message, what their telegrams left, and what of the
--- octets owed is still to be sent.
+-- The session represents the octets that were used on a link that began in this state, the verdicts of their telegrams,
+-- and the octets that were written. It holds the open packet and message, the link's state, and the part of the
+-- expected output that is still to be sent.
 pub record Stands (first : LinkState) (s : Session) (b : List ℕ) (js : List Verdict) (written : List ℕ) : Type 0 where
   pub read : HasRead s.reader b
   pub used : length b ≡ used_of s
@@ -92,7 +92,7 @@ pub record Stands (first : LinkState) (s : Session) (b : List ℕ) (js : List Ve
   pub link : closed_with s ≡ None → (past first b js).link ≡ link_at s
   pub size : closed_with s ≡ None → (past first b js).size ≡ tpdu_size_of s.conversation.size
 
--- What calls did to a session, its link and its doer, however many they were.
+-- What any number of calls did to a session, its link and its doer.
 pub record Moves {D : Type 0} (stands : D → List Entry → Type 0) (is_full may_lack : D → Ask → Type 0)
     (old : Session) (link : Shown) (d : D) (new : Session) (link' : Shown) (d' : D)
     : Type 0 where
@@ -100,30 +100,30 @@ pub record Moves {D : Type 0} (stands : D → List Entry → Type 0) (is_full ma
   pub received : List ℕ
   pub used : List ℕ
   pub written : List ℕ
-  -- the telegrams that asked, with their verdicts, and the doer's new entries
+  -- the telegrams that asked the plant, with their verdicts, and the doer's new entries
   pub mets : List Met
   pub entries : List Entry
   pub took : link.left ≡ prepend_known received link'.left
   pub wrote : link'.written ≡ append_known link.written written
-  -- the link has room for as many fewer, works on what it worked on, and nothing shut it
+  -- the link's room shrank by the octets written, it works on the same external object, and the calls didn't shut it
   pub fits : IfSome link.space (λ s. length written ≤ s)
   pub space : link'.space ≡ option_map (λ s. s - length written) link.space
   pub lent : link'.lent ≡ link.lent
   pub shut : link'.shut ≡ link.shut
   pub inbox : unread old ++ received ≡ used ++ unread new
-  -- whatever the session stands for
+  -- for whatever the session represents
   pub stood : (first : LinkState) (b : List ℕ) (js : List Verdict) (w : List ℕ) → Stands first old b js w
       → Stands first new (b ++ used) (js ++ verdicts_of mets) (w ++ written)
   pub asked : (first : LinkState) (b : List ℕ) (js : List Verdict) (w : List ℕ) → Stands first old b js w
       → telegrams first (b ++ used) (js ++ verdicts_of mets) ≡ telegrams first b js ++ mets
-  -- the doer's new entries are what was asked and entered, with the replies
+  -- the doer's new entries are the requests that were entered, with the replies
   pub entered : map answered entries ≡ entered_of mets
   pub count : entry_count new ≡ entry_count old + length entries
   pub newest : newest new ≡ last_number (newest old) entries
   pub doer : (es : List Entry) → stands d es → stands d' (es ++ entries)
   pub trail : Trail is_full may_lack d mets d'
-  -- the clock failed as often as it was told, told one moment, and was asked once for each telegram that wants the
-  -- moment, and not else
+  -- the clock failed as often as the verdicts say, showed one moment, and was read once for each telegram that needs
+  -- the moment, and at no other time
   pub clock : RoseExactly (clock_failures (verdicts_of mets)) link.clock_faults link'.clock_faults
   pub unasked : NoneTimed mets → link'.clock_faults ≡ link.clock_faults
   pub looks : RoseExactly (looks_in mets) link.looks link'.looks
@@ -132,7 +132,7 @@ pub record Moves {D : Type 0} (stands : D → List Entry → Type 0) (is_full ma
   pub faults : link.faults ≤ link'.faults
   pub waits : link.waits ≤ link'.waits
 
--- the octets end because the client ended the link, and where no disconnect request came nothing is left on it
+-- the octets end because the client ended the link; unless a disconnect request came, nothing is left on it
 pub record HasEnded (link' : Shown) (first : LinkState) (s : Session) (b : List ℕ) (js : List Verdict) (o : Outcome)
     : Type 0 where
   pub end : end_of first b js ≡ o
@@ -164,13 +164,13 @@ HasCause link link' first s b js outcome.Spent =
     (length b ≡ spent) × IsIdle s × ((past first b js).standing ≡ lives)
 HasCause link link' first s b js outcome.Memory = ((past first b js).standing ≡ stops) × (unsent s ≡ [])
 
--- A link fails once where that closes it, and not else: no fault is passed over.
+-- A link fails once if that closes it, and otherwise not at all: no failure is passed over.
 abbrev pub FailsBy : Outcome → ℕ → ℕ → Type 0
 FailsBy outcome.ReadFault before now = RoseExactly 1 before now
 FailsBy outcome.WriteFault before now = RoseExactly 1 before now
 FailsBy _ before now = now ≡ before
 
--- how often a link failed and waited in a turn
+-- how often a link failed and wasn't ready in a turn
 abbrev pub Counts : Turn → Shown → Shown → Type 0
 Counts turn.Went link link' = (link'.faults ≡ link.faults) × (link'.waits ≡ link.waits)
 Counts turn.NotYet link link' = (link'.faults ≡ link.faults) × RoseExactly 1 link.waits link'.waits
@@ -181,8 +181,8 @@ closed_by turn.Went = None
 closed_by turn.NotYet = None
 closed_by (turn.Closed o) = Some o
 
--- Something is left to send, and a link that tells its space has none. Or nothing is left to send or to use, and
--- nothing is left on such a link.
+-- Either octets are left to send, and a link that shows its space has none. Or nothing is left to send or to use, and a
+-- link that shows its space has nothing left to give.
 pub record HasMetNotYet (old : Session) (link : Shown) : Type 0 where
   pub idle : unsent old ≡ [] → unread old ≡ []
   pub full : (space : ℕ) → link.space ≡ Some space → (unsent old ≡ [] → ⊥) → space ≡ 0
@@ -192,16 +192,16 @@ pub record IsTurn {D : Type 0} (stands : D → List Entry → Type 0) (is_full m
     (old : Session) (link : Shown) (d : D) (new : Session) (link' : Shown) (d' : D) (result : Turn)
     : Type 0 where
   pub moves : Moves stands is_full may_lack old link d new link' d'
-  -- at most one telegram met its verdict
+  -- at most one telegram has a verdict in a turn
   pub one : length moves.mets ≤ 1
   pub went : result ≡ turn.Went → 0 < length moves.received + length moves.used + length moves.written
   pub not_yet : result ≡ turn.NotYet
       → (moves.received ≡ []) × (moves.used ≡ []) × (moves.written ≡ []) × Rose link.waits link'.waits
       × HasMetNotYet old link × (unsent new ≡ unsent old)
-  -- it receives only where nothing is left to send or to use, and uses octets only where nothing is left to send
+  -- it receives only if nothing is left to send or to use, and uses octets only if nothing is left to send
   pub receives : 0 < length moves.received → IsIdle old
   pub uses : 0 < length moves.used → unsent old ≡ []
-  -- so it fails to receive only there, and to transmit only where something is left to send
+  -- so a receive fails only then, and a transmit fails only if octets are left to send
   pub read_fails : result ≡ turn.Closed outcome.ReadFault → closed_with old ≡ None → IsIdle old × (moves.used ≡ [])
   pub write_fails : result ≡ turn.Closed outcome.WriteFault → closed_with old ≡ None
       → (0 < length (unsent old)) × (moves.used ≡ [])
@@ -211,7 +211,7 @@ pub record IsTurn {D : Type 0} (stands : D → List Entry → Type 0) (is_full m
       → (first : LinkState) (b : List ℕ) (js : List Verdict) (w : List ℕ) → Stands first old b js w
       → HasCause link link' first new (b ++ moves.used) (js ++ verdicts_of moves.mets) o
 
--- what turns do, up to the one that closed
+-- what turns do, up to the one that closes the link
 pub record IsServed {D : Type 0} (stands : D → List Entry → Type 0) (is_full may_lack : D → Ask → Type 0)
     (old : Session) (link : Shown) (d : D) (new : Session) (link' : Shown) (d' : D) (result : Outcome)
     : Type 0 where
@@ -222,8 +222,8 @@ pub record IsServed {D : Type 0} (stands : D → List Entry → Type 0) (is_full
       → (first : LinkState) (b : List ℕ) (js : List Verdict) (w : List ℕ) → Stands first old b js w
       → HasCause link link' first new (b ++ moves.used) (js ++ verdicts_of moves.mets) result
 
--- What a session makes of the message that its reader holds: it answers it, and ends where that ends the link. Nothing
--- else of it changes.
+-- What a session does with the complete message of its reader: it answers it, and closes if that ends the link. Nothing
+-- else of the session changes.
 pub record Handles {D : Type 0} (stands : D → List Entry → Type 0) (is_full may_lack : D → Ask → Type 0)
     (old : Session) (link : Shown) (d : D) (new : Session) (link' : Shown) (d' : D) (result : Turn)
     : Type 0 where

@@ -1,4 +1,4 @@
--- The telegrams of a link that asked the plant, and what became of them.
+-- The telegrams of a link that asked the plant, and their verdicts.
 use Rattle.std.specs.Prelude.{◌≡◌, ℕ, ◌+◌, Bool, true, false, IsTrue, List, [], ◌∷◌, ◌++◌, map, Option, None, Some}
 use Rattle.std.specs.List.{AllByRecursion}
 use Rattle.s7_plant.specs.declared.request.Ask.{Ask}
@@ -10,7 +10,7 @@ use Rattle.s7_session.specs.Entry.{Entry}
 use Rattle.s7_session.specs.Judgement.{Asking}
 use Rattle.s7_session.specs.Verdict.{Verdict, Entered, Full, ClockFailed, NoMemory}
 
--- a telegram that asks, and its verdict
+-- a telegram that asks the plant, and its verdict
 pub record Met : Type 0 where
   pub asking : Asking
   pub verdict : Verdict
@@ -33,23 +33,23 @@ abbrev pub entered_of : List Met → List (Ask × Said)
 entered_of [] = []
 entered_of (m ∷ mets) = entered_by m.asking m.verdict ++ entered_of mets
 
--- how often the clock is asked for a telegram: once, if it wants the moment
+-- how often the clock is read for a telegram: once, if it needs the moment
 abbrev pub looks_for : Bool → ℕ
 looks_for true = 1
 looks_for false = 0
 
--- and for all of them
+-- how often the clock is read for all of them
 abbrev pub looks_in : List Met → ℕ
 looks_in [] = 0
 looks_in (m ∷ mets) = looks_for m.asking.is_timed + looks_in mets
 
--- none asked for a moment
+-- none needs a moment
 abbrev pub NoneTimed : List Met → Type 0
 NoneTimed mets = AllByRecursion (λ (m : Met). m.asking.is_timed ≡ false) mets
 
 -- ---- verdicts
 
--- a telegram met a full doer
+-- the doer was full for a telegram
 abbrev pub AnyFull : List Verdict → Type 0
 AnyFull [] = ⊥
 AnyFull (Full ∷ verdicts) = Unit {0}
@@ -65,7 +65,7 @@ NoneEntered (Entered reply moment ∷ verdicts) = ⊥
 NoneEntered (ClockFailed ∷ verdicts) = NoneEntered verdicts
 NoneEntered (NoMemory ∷ verdicts) = NoneEntered verdicts
 
--- once one met a full doer, none is entered
+-- once the doer was full for a telegram, none is entered
 abbrev pub FullStays : List Verdict → Type 0
 FullStays [] = Unit {0}
 FullStays (Full ∷ verdicts) = NoneEntered verdicts
@@ -73,7 +73,7 @@ FullStays (Entered reply moment ∷ verdicts) = FullStays verdicts
 FullStays (ClockFailed ∷ verdicts) = FullStays verdicts
 FullStays (NoMemory ∷ verdicts) = FullStays verdicts
 
--- memory was wanting for the last one at most
+-- an allocation failed for the last telegram at most
 abbrev pub MemoryIsLast : List Verdict → Type 0
 MemoryIsLast [] = Unit {0}
 MemoryIsLast (Full ∷ verdicts) = MemoryIsLast verdicts
@@ -81,8 +81,8 @@ MemoryIsLast (Entered reply moment ∷ verdicts) = MemoryIsLast verdicts
 MemoryIsLast (ClockFailed ∷ verdicts) = MemoryIsLast verdicts
 MemoryIsLast (NoMemory ∷ verdicts) = verdicts ≡ []
 
--- A verdict has its cause: the clock failed only where a moment is asked for, and memory was wanting only where octets
--- of the telegram are copied.
+-- A verdict has its cause: the clock failed only if the telegram needs a moment, and an allocation failed only if
+-- octets of the telegram are copied.
 abbrev pub IsCaused : Asking → Verdict → Type 0
 IsCaused asking (Entered reply moment) = Unit {0}
 IsCaused asking Full = Unit {0}
@@ -92,7 +92,7 @@ IsCaused asking NoMemory = IsTrue asking.is_copied
 abbrev pub AreCaused : List Met → Type 0
 AreCaused mets = AllByRecursion (λ (m : Met). IsCaused m.asking m.verdict) mets
 
--- for how many the clock failed
+-- for how many telegrams the clock failed
 abbrev pub clock_failures : List Verdict → ℕ
 clock_failures [] = 0
 clock_failures (Entered reply moment ∷ verdicts) = clock_failures verdicts
@@ -120,7 +120,7 @@ moment_of (request.StartUpload kind number) = None
 moment_of (request.Insert kind number image spare) = None
 moment_of (request.Delete kind number) = None
 
--- a request that has a moment has the one that the clock told
+-- a request that has a moment has the one that the clock showed
 abbrev pub IsAt : Option ℕ → Option ℕ → Type 0
 IsAt None moment = Unit {0}
 IsAt (Some told) None = Unit {0}

@@ -1,6 +1,6 @@
--- What the telegrams of uploads and downloads say (after Snap7 1.4 sources, s7_types.h: TReqFunStartUploadParams,
--- TReqFunUploadParams, TReqFunEndUploadParams, TReqStartDownloadParams, TReqDownloadParams), and what they leave of a
--- link. The layouts are this profile's own.
+-- The layouts of the telegrams of uploads and downloads (after Snap7 1.4 sources, s7_types.h: TReqFunStartUploadParams,
+-- TReqFunUploadParams, TReqFunEndUploadParams, TReqStartDownloadParams, TReqDownloadParams), and how they change the
+-- state of a link. The layouts are this profile's own.
 use Rattle.std.specs.Prelude.{ℕ, ◌-◌, ◌==◌, ◌&&◌, nat_le, is_some, if◌then◌else◌, Option, None, Some}
 use Rattle.std.specs.Prelude.{List, [], ◌∷◌, ◌++◌, length, take, drop, slice_index}
 use Rattle.std.specs.Str.{bytes_eq}
@@ -24,17 +24,17 @@ abbrev pub block_in : ℕ → ℕ → List ℕ → Option BlockName
 block_in function place params =
     if bytes_eq (take 10 params) (name_front function) then named (take 8 (drop 10 params)) place else None
 
--- the block whose upload is asked for: it is at `A` (after Snap7 1.4 sources, s7_types.h: TReqFunStartUploadParams)
+-- the block whose upload is asked for, at `A` (after Snap7 1.4 sources, s7_types.h: TReqFunStartUploadParams)
 abbrev pub upload_asked : List ℕ → Option BlockName
 upload_asked params = if length params == 18 then block_in start_function 0x41 params else None
 
--- a block whose download is announced, and how many octets its image has
+-- a block whose download is announced, and the number of octets of its image
 pub record Announced : Type 0 where
   pub name : BlockName
   pub size : ℕ
 
--- The length of an image: `0D 31`, six digits of it, and six of the body's length, which is used for nothing (after
--- Snap7 1.4 sources, s7_types.h: TReqStartDownloadParams).
+-- The length of an image: `0D 31`, six digits of it, and six digits of the body's length, which isn't used (after Snap7
+-- 1.4 sources, s7_types.h: TReqStartDownloadParams).
 abbrev pub size_announced : List ℕ → Option ℕ
 size_announced octets =
     if bytes_eq (take 2 octets) (0x0D ∷ 0x31 ∷ []) && is_some (number_in (drop 8 octets))
@@ -52,7 +52,7 @@ download_announced params =
     if length params == 32
     then announced (block_in announce_function 0x50 params) (size_announced (drop 18 params)) else None
 
--- an upload's id, behind the function and six octets 00 (after Snap7 1.4 sources, s7_types.h: TReqFunUploadParams,
+-- an upload's id, after the function and six octets 00 (after Snap7 1.4 sources, s7_types.h: TReqFunUploadParams,
 -- TReqFunEndUploadParams)
 abbrev pub id_in : ℕ → List ℕ → Option ℕ
 id_in function params =
@@ -70,8 +70,8 @@ piece_in pdu params body =
 
 -- ---- uploads
 
--- The link holds the upload that was started, under the next id, in place of the one before. One that isn't started
--- changes nothing.
+-- The link holds the upload that was started, under the next id, in place of the upload before. An upload that wasn't
+-- started changes nothing.
 abbrev pub with_upload : LinkState → Said → LinkState
 with_upload link reply =
     if reply.error == 0
@@ -81,8 +81,8 @@ with_upload link reply =
     }
     else link
 
--- the parameters of the answer, with the id in its place (after
--- Snap7 1.4 sources, s7_types.h: TResFunStartUploadParams)
+-- the parameters of the answer to an upload's start, with the id filled in (after Snap7 1.4 sources, s7_types.h:
+-- TResFunStartUploadParams)
 abbrev pub with_id : List ℕ → ℕ → List ℕ
 with_id params id = take 7 params ++ id ∷ drop 8 params
 
@@ -95,7 +95,7 @@ server_job_octets sequence function name =
     spelling_of (record { kind = Job; sequence = sequence; param_len = 18; body_len = 0; error = 0 })
     ++ name_front function ++ name_octets name 0x50
 
--- the download that is this far, for which the server sends this job
+-- the link's state with a download at this progress, for which the server sends the next job
 abbrev pub with_server_job : LinkState → ℕ → BlockName → Progress → LinkState
 with_server_job link function name progress = record link {
   job_sequence = next_sequence link.job_sequence;
@@ -103,12 +103,12 @@ with_server_job link function name progress = record link {
   server_job = Some (record { sequence = next_sequence link.job_sequence; function = function });
 }
 
--- neither a download is held nor is an answer awaited
+-- the link holds no download and awaits no answer
 abbrev pub without_download : LinkState → LinkState
 without_download link = record link { download = None; server_job = None }
 
--- What a piece leaves, by what it makes of the image: the next one is asked for, or the download is closed. A piece
--- that is wrong drops the download.
+-- What a piece leads to, by what it makes of the image: the next piece is asked for, or the download is closed. A wrong
+-- piece drops the download.
 abbrev pub piece_left : LinkState → BlockName → Progress → LinkState
 piece_left link name idle = without_download link
 piece_left link name (awaiting len octets) = with_server_job link piece_function name (awaiting len octets)

@@ -1,4 +1,4 @@
-// A doer that enters in a book.
+//! A doer that enters each request in a book.
 ghost use Rattle.std.specs.Prelude.{◌≡◌, length};
 ghost use Rattle.std.proofs.Common.{refl, ◌∙◌};
 ghost use Rattle.s7_plant.specs.Books.{book_told, watches_of};
@@ -10,10 +10,10 @@ use crate::doer::{Doer, NotDone};
 use s7_plant::{Ask, Book, Observer, Reply};
 use std::alloc::Global;
 
-/// Who carries out what one link asks on a book. Each request is answered by the plant that all earlier
-/// entries led to, those of other links among them, and is entered under the link's number, and the
-/// book's observers are told of it. The history that the doer stands for is the link's own entries in
-/// the book, and it is full exactly where the book's journal has its limit's length. It takes no memory.
+/// Carries out the requests of one link on a book. Each request is answered by the plant after all earlier entries,
+/// those of other links included. It is entered under the link's number, and the book's observers are notified of it.
+/// The history that the doer represents is the link's own entries in the book. It is full exactly if the book's journal
+/// has reached its limit. It allocates nothing.
 #[derive(Drop)]
 pub struct BookDoer<'a, O> {
     pub book: &'a mut Book<O>,

@@ -1,4 +1,4 @@
-// What a link holds of its messages, and what it has to send.
+//! The state that a link's messages leave, and the octets to send.
 ghost use Rattle.std.specs.Prelude.{◌≡◌, ◌≤◌, length, IfOk};
 ghost use Rattle.s7_plant.specs.declared.request.Request.TheVariants.{Write};
 ghost use Rattle.s7_session.specs.Events.{is_s7};
@@ -21,19 +21,19 @@ use s7_outer::{Clock, Link, Memory, Octets};
 use s7_plant::{Ask, BODY_ROOM, Reply, Request};
 use std::alloc::Global;
 
-/// The server's reference in a confirm.
+/// The server's reference in a connect confirm.
 const REFERENCE: u16 = 1;
 
-/// The error word of a refusal where the history is full.
+/// The error word of a refusal because the history is full.
 pub(crate) const FULL: u16 = 0x8F01;
 
-/// That of a refusal where the clock failed.
+/// The error word of a refusal because the clock failed.
 const CLOCK_FAILED: u16 = 0x8F02;
 
 /// The messages of one link: what its earlier ones left, and what is still to be sent.
 #[derive(Drop)]
 pub(crate) struct Conversation {
-    /// The TPDU size of the connect request, and none before it.
+    /// The TPDU size of the connect request, `None` before it.
     pub(crate) size: Option<TpduSize>,
     pub(crate) held: Held,
     pub(crate) reply: Reply,
@@ -64,7 +64,8 @@ impl Conversation {
     ghost use Rattle.s7_session.specs.Queries.{group_of, subfunction_of, IsReadyQuery};
     ghost use Rattle.s7_session.specs.Telegrams.{moment_of};
 
-    /// A link on which nothing came, to areas with this guard. All its buffers are taken here.
+    /// A link on which nothing came, to areas with this guard. All its buffers are allocated here. Returns `Memory` if
+    /// an allocation fails.
     pub(crate) fn new(alloc: Global, guard: Option<Guard>) -> Result<Conversation, Memory>
         ensures size { IfOk result (λ c. tpdu_size_of c.size ≡ None) }
         ensures link { IfOk result (λ c. link_of c.held ≡ first_link guard) }
@@ -78,7 +79,7 @@ impl Conversation {
         })
     }
 
-    /// Confirms a connect request.
+    /// Queues the confirm of a connect request. Nothing else may be waiting to be sent.
     pub(crate) fn open(&mut self, request: &Connection)
         requires sent { sends self.old ≡ [] }
         requires writable { CanBeWritten request.now }
@@ -98,7 +99,8 @@ impl Conversation {
         self.size = Some(TpduSize::of(request.size_code));
     }
 
-    /// Handles a whole message.
+    /// Handles a complete message: judges it, has the doer carry out what it asks, and queues the answer. Nothing else
+    /// may be waiting to be sent.
     pub(crate) fn message<L: Link + Clock, D: Doer>(
         &mut self,
         alloc: Global,
@@ -124,8 +126,8 @@ impl Conversation {
         self.answer(alloc, size, sequence_of(octets), judgement, line, doer)
     }
 
-    // Answers a message of this sequence by its judgement. There is no copy but that of a write's octets, and
-    // of the image of a block that is inserted.
+    /// Answers a message of this sequence according to its judgement. The only octets that are copied are those of a
+    /// write, and the image of a block that is inserted.
     fn answer<L: Link + Clock, D: Doer>(
         &mut self,
         alloc: Global,
@@ -194,7 +196,7 @@ impl Conversation {
         }
     }
 
-    // Puts the refusal of a message.
+    /// Queues the refusal of a message.
     pub(crate) fn refuse(&mut self, size: TpduSize, sequence: u16, refusal: Refusal)
         requires sent { sends self.old ≡ [] }
         requires room { self.old.sender.outbox.room ≡ most_waiting }
@@ -205,7 +207,7 @@ impl Conversation {
         self.sender.put_refusal(size, sequence, refusal.error());
     }
 
-    // Answers a telegram about a password, after which the link has this right.
+    /// Answers a telegram about a password. After it the link has the right that `right` says.
     fn secure(&mut self, size: TpduSize, sequence: u16, subfunction: u8, error: u16, right: bool)
         requires sent { sends self.old ≡ [] }
         requires room { self.old.sender.outbox.room ≡ most_waiting }
@@ -224,8 +226,8 @@ impl Conversation {
             .put_user(size, sequence, &answer.params(0, error), &[]);
     }
 
-    // Has a request that has no moment carried out with the link's right and puts its answer, or the refusal
-    // where the doer is full for it.
+    /// Carries out a request that needs no clock, with the link's right, and queues the answer; queues a refusal if the
+    /// doer has no room for it.
     pub(crate) fn ask<D: Doer>(
         &mut self,
         alloc: Global,
@@ -264,8 +266,8 @@ impl Conversation {
         }
     }
 
-    // Has what user data asks carried out with the link's right and puts its answer, or the refusal where the
-    // clock failed or the doer is full for it. The clock comes first.
+    /// Carries out what user data asks, with the link's right, and queues the answer. Queues a refusal if the clock
+    /// failed or the doer has no room for the request. The clock is read first.
     fn query<L: Link + Clock, D: Doer>(
         &mut self,
         alloc: Global,
@@ -310,7 +312,7 @@ impl Conversation {
         }
     }
 
-    // Puts the answer that is made of the reply to what user data asked.
+    /// Queues the answer to user data that is made of the reply.
     fn put_user_reply(&mut self, size: TpduSize, sequence: u16, pdu: u16, query: Query)
         requires body { HasBody 8192 (said_of self.old.reply) }
         requires least { least_pdu ≤ pdu }
@@ -338,7 +340,7 @@ impl Conversation {
         self.put_slice(size, sequence, pdu, answer);
     }
 
-    // Puts the next octets of an answer to user data. Those that are left may be asked for under its name.
+    /// Queues the next octets of an answer to user data. The octets left may be asked for under the answer's id.
     fn put_slice(&mut self, size: TpduSize, sequence: u16, pdu: u16, answer: AnswerId)
         requires least { least_pdu ≤ pdu }
         requires most { pdu ≤ most_pdu }
@@ -361,7 +363,7 @@ impl Refusal {
     ghost use Rattle.std.specs.Prelude.{◌≡◌};
     ghost use Rattle.s7_session.specs.Errors.{error_of};
 
-    // Its error word.
+    /// The error word of the refusal.
     fn error(self) -> u16
         ensures { result ≡ error_of self }
     {
@@ -375,14 +377,14 @@ impl Refusal {
     }
 }
 
-// A message of this protocol.
+/// Whether a message is one of S7: ten octets or more, the first of them 32.
 fn is_s7(message: &[u8]) -> bool
     ensures { result ≡ is_s7 message.now }
 {
     message.len() >= 10 && message[0] == 0x32
 }
 
-// A write with a copy of the octets that its places lie in.
+/// A write request with a copy of the octets that its ranges refer to. Returns `Memory` if the allocation fails.
 fn copied_write(
     alloc: Global,
     items: Items,

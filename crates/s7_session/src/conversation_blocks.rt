@@ -1,4 +1,4 @@
-// How uploads, downloads and the insertion of blocks are answered.
+//! How uploads, downloads and the insertion of blocks are answered.
 ghost use Rattle.std.specs.Prelude.{◌≡◌, ◌&&◌, IfOk};
 ghost use Rattle.s7_block.specs.Heads.{head_agrees};
 ghost use Rattle.s7_block.specs.Kinds.{is_stored_kind};
@@ -34,7 +34,7 @@ impl Conversation {
     ghost use Rattle.s7_session.specs.Transfers.{with_upload, finished};
     ghost use Rattle.s7_session.specs.Verdict.{Verdict};
 
-    /// Answers a job of an upload or of a download, or takes the answer to the server's own.
+    /// Answers a job of an upload or of a download, or takes the client's answer to the server's own job.
     pub(crate) fn transfer(&mut self, size: TpduSize, sequence: u16, judgement: Judgement<'_>)
         requires within { IsWithin self.old.held.granted judgement }
         requires transfers { IsTransfer judgement }
@@ -58,7 +58,8 @@ impl Conversation {
         }
     }
 
-    /// Has an upload started and puts its answer, with the id that the link gives it.
+    /// Starts an upload and queues its answer, with the id that the link gives it. Queues a refusal if the plant
+    /// refuses or the doer has no room for the request.
     pub(crate) fn start_upload<D: Doer>(
         &mut self,
         alloc: Global,
@@ -97,7 +98,7 @@ impl Conversation {
         }
     }
 
-    // Holds the image of the reply and puts its answer, or the refusal where the reply has an error.
+    /// Keeps the image of the reply for the upload and queues the answer; queues a refusal if the reply has an error.
     fn put_upload_reply(&mut self, size: TpduSize, sequence: u16)
         requires image { HasImage (said_of self.old.reply) }
         requires sent { sends self.old ≡ [] }
@@ -117,7 +118,7 @@ impl Conversation {
         self.sender.put_answer(size, sequence, &params, &[]);
     }
 
-    // Puts the next slice of the upload of this id, or the refusal where nothing of it is left.
+    /// Queues the next slice of the upload of this id; queues a refusal if nothing of it is left.
     fn put_upload_slice(&mut self, size: TpduSize, sequence: u16, pdu: u16, id: u8)
         requires least { least_pdu ≤ pdu }
         requires most { pdu ≤ most_pdu }
@@ -136,7 +137,7 @@ impl Conversation {
         }
     }
 
-    // Drops the upload of this id and puts the answer, or the refusal where it isn't held.
+    /// Drops the upload of this id and queues the answer; queues a refusal if the link doesn't hold it.
     fn end_upload(&mut self, size: TpduSize, sequence: u16, id: u8)
         requires sent { sends self.old ≡ [] }
         requires room { self.old.sender.outbox.room ≡ most_waiting }
@@ -152,7 +153,7 @@ impl Conversation {
         }
     }
 
-    // Begins a download: puts the answer, and the server's first job behind it.
+    /// Begins a download: queues the answer, and after it the server's first job.
     fn start_download(&mut self, size: TpduSize, sequence: u16, name: BlockName, octets: u32)
         requires sent { sends self.old ≡ [] }
         requires room { self.old.sender.outbox.room ≡ most_waiting }
@@ -166,7 +167,7 @@ impl Conversation {
         self.sender.put_job(size, job, name);
     }
 
-    // Adds a piece to the image of the download, and puts the server's next job, if there is one.
+    /// Adds a piece to the image of the download, and queues the server's next job, if there is one.
     fn take_piece(&mut self, size: TpduSize, more: bool, octets: &[u8])
         requires sent { sends self.old ≡ [] }
         requires room { self.old.sender.outbox.room ≡ most_waiting }
@@ -183,8 +184,9 @@ impl Conversation {
         }
     }
 
-    /// Has the block of the finished download inserted, or puts the refusal where the link holds none of this name
-    /// whose head agrees.
+    /// Inserts the block of the finished download and queues the answer. Queues a refusal if the link holds no finished
+    /// download of this name, if the head of its image doesn't agree with the name, or if the doer has no room for the
+    /// request.
     pub(crate) fn insert<D: Doer>(
         &mut self,
         alloc: Global,
@@ -219,14 +221,15 @@ impl Conversation {
     }
 }
 
-// A block of a kind that is stored, and an image whose head is its own.
+/// Whether blocks of this kind are stored and the head of the image agrees with the name.
 fn is_insertable(image: &[u8], name: BlockName) -> bool
     ensures { result ≡ (is_stored_kind name.kind && head_agrees image.now name.kind name.number) }
 {
     is_stored_kind(name.kind) && head_agrees(image, name.kind, name.number)
 }
 
-// An insert with a copy of the image, and with the room for another that it brings.
+/// An insert request with a copy of the image, and with the room for the copy that the plant keeps. Returns `Memory` if
+/// an allocation fails.
 fn copied_insert(alloc: Global, name: BlockName, image: &[u8]) -> Result<Request, Memory>
     ensures kept { IfOk result (λ request. kept_request request
         ≡ Request.Insert name.kind name.number image.now no_room) }

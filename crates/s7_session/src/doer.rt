@@ -1,4 +1,4 @@
-// Who does what a link's telegrams ask.
+//! Who carries out what a link's telegrams ask.
 ghost use Rattle.std.specs.Prelude.{◌≡◌, List, [], ◌∷◌, ◌++◌, Err, IfOk, OnOk, OnErr, IsErr};
 ghost use Rattle.s7_plant.specs.declared.request.Ask.{Ask};
 ghost use Rattle.s7_plant.specs.Requests.{CanBeDone, Fits, kept};
@@ -9,49 +9,49 @@ ghost use Rattle.s7_session.specs.Entry.{Entry};
 use s7_plant::{Ask, Reply};
 use std::alloc::Global;
 
-/// Why what was asked wasn't done. It comes back.
+/// Why a request wasn't carried out. It is handed back.
 #[derive(Drop)]
 pub enum NotDone {
-    /// There is no room for a further entry.
+    /// The history has no room for one more entry.
     Full(Ask),
-    /// Memory was wanting.
+    /// An allocation failed.
     Memory(Ask),
 }
 
-/// Carries out what links ask, and enters each of it in a history.
+/// Carries out what links ask, and enters each request in a history.
 pub trait Doer {
-    /// For which lists of its own entries, in order, the doer stands.
+    /// The lists of its own entries, in order, that the doer represents.
     ghost stands: { Self → List Entry → Type 0 };
 
-    /// For what it is full.
+    /// The requests for which it is full.
     ghost is_full: { Self → Ask → Type 0 };
 
-    /// For what memory may be wanting.
+    /// The requests for which an allocation may fail.
     ghost may_lack: { Self → Ask → Type 0 };
 
-    /// What no call changes, as a limit or an opening state.
+    /// What no call changes, for instance a limit or an opening state.
     ghost keeps: { Self → Self → Type 0 };
 
-    /// Carries out what is asked, enters it and gives its number and its reply. It comes back with `Full`
-    /// where the doer is full for it, and with `Memory` where memory was wanting. Then the doer's entries
-    /// and the reply are as they were. A doer that was full for it before gives it back.
+    /// Carries out `ask`, appends it to the history and returns the number of its entry; `reply` then holds the answer.
+    /// On failure the doer's entries and `reply` are unchanged and `ask` is handed back: in `Full` if there is no room
+    /// for it, in `Memory` if an allocation failed. A doer that was full for `ask` before the call always fails.
     fn act(&mut self, alloc: Global, ask: Ask, reply: &mut Reply) -> Result<u64, NotDone>
         requires request { CanBeDone ask.request }
         requires reply { IsReadyReply reply.old }
 
-        // Whatever list the doer stands for, it stands for that list with one more entry.
+        // // Whatever list the doer represented, it now represents that list with one more entry.
         ensures ok { IfOk result (λ number. (entries : List Entry) → stands self.old entries
             → stands self.new
             (entries ++ record { number = number; ask = kept ask; reply = said_of reply.new } ∷ [])) }
         ensures err { OnErr result ((entries : List Entry) → stands self.old entries → stands self.new entries) }
 
         ensures ready { IsReadyReply reply.new }
-        // Where the reply has no error, its answer has at most its full size.
+        // // If the reply has no error, its answer has at most its full size.
         ensures fits { OnOk result (Fits ask.request (said_of reply.new)) }
         ensures err_reply { OnErr result (reply.new ≡ reply.old) }
 
-        // It refuses only where it is full or lacks memory for what is asked, as a history keeps it, and always where
-        // it was full.
+        // // It fails only if it is full for the request as a history keeps it, or if an allocation for it may fail. It
+        // always fails if it was full for it before.
         ensures full { (back : Ask) → result ≡ Err (NotDone.Full back)
             → (back ≡ ask) × is_full self.new (kept ask) }
         ensures lacked { (back : Ask) → result ≡ Err (NotDone.Memory back)

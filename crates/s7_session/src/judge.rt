@@ -1,4 +1,4 @@
-// How a message is judged.
+//! How a message is judged.
 ghost use Rattle.std.specs.Prelude.{◌≡◌, ◌≤◌, ℕ, length, IfSome, Some};
 ghost use Rattle.s7_header.specs.Negotiation.{negotiation_of};
 ghost use Rattle.s7_item.specs.Params.{items_of};
@@ -25,7 +25,7 @@ use s7_item::{DataItems, Items, answer_size, read_data_items, read_items};
 use s7_plant::Request;
 use s7_plant::codes::{SERVICE_FUNCTION, STOP_FUNCTION};
 
-/// The function of a job that negotiates.
+/// The function of a job that negotiates the PDU.
 const NEGOTIATE: u8 = 0xF0;
 
 /// Why a message is refused.
@@ -37,20 +37,20 @@ pub(crate) enum Refusal {
     NotNegotiated,
     /// Parameters or data can't be read.
     Unreadable,
-    /// The lengths disagree, or the message or its answer passes the PDU.
+    /// The lengths in the header disagree with the message, or the message or its answer is longer than the PDU.
     OverPdu,
-    /// Blocks of this kind or length aren't downloaded, inserted or deleted, or no such block was downloaded.
+    /// Blocks of this kind or length can't be downloaded, inserted or deleted, or no such block was downloaded.
     NotAllowed,
 }
 
 /// What a message asks for.
 #[derive(Drop)]
 pub(crate) enum Judgement<'a> {
-    /// Nothing that can be given.
+    /// The telegram is refused, for this reason.
     Refuse(Refusal),
-    /// A PDU and parallel jobs: this is granted.
+    /// A negotiation, for which this PDU and this number of parallel jobs are granted.
     Grant(Negotiation),
-    /// What brings no octets: the read of items, or what a control asks.
+    /// A request without data to copy: a read, or a control.
     Ask(Request),
     /// New octets for items.
     Write {
@@ -58,27 +58,27 @@ pub(crate) enum Judgement<'a> {
         places: DataItems,
         body: &'a [u8],
     },
-    /// An answer to a telegram about a password, after which the link has this right.
+    /// The answer to a telegram about a password, and whether the link has the right after it.
     Security {
         subfunction: u8,
         error: u16,
         right: bool,
     },
-    /// What user data asks, on a link with this PDU.
+    /// A request by user data, on a link with this PDU.
     Query {
         pdu: u16,
         query: Query,
     },
-    /// The next octets of the answer that is held, on a link with this PDU.
+    /// A request for the next octets of an answer that is held, on a link with this PDU.
     Further {
         pdu: u16,
         answer: AnswerId,
     },
-    /// That the block is inserted whose download the link holds.
+    /// The insertion of the block whose download the link holds.
     Insert(BlockName),
-    /// The upload of a block.
+    /// The start of an upload of this block.
     Upload(BlockName),
-    /// The next octets of the upload of this id, on a link with this PDU.
+    /// A request for the next octets of the upload of this id, on a link with this PDU.
     Slice {
         pdu: u16,
         id: u8,
@@ -87,7 +87,7 @@ pub(crate) enum Judgement<'a> {
     End {
         id: u8,
     },
-    /// The download of a block of a kind that is stored, whose image has so many octets.
+    /// The download of a block of a kind that is stored, with the number of octets of its image.
     Download {
         name: BlockName,
         size: u32,
@@ -99,11 +99,11 @@ pub(crate) enum Judgement<'a> {
     },
     /// The answer to the server's job that closes a download.
     Closed,
-    /// Another answer than the server's job awaits.
+    /// An answer that isn't the one expected for the server's job. It drops the download.
     Dropped,
 }
 
-/// Judges a message of ten octets or more that begins with 32, by what the link's earlier ones left.
+/// Judges a message of ten octets or more that begins with 32, by the state that the link's earlier messages left.
 #[tactic(auto, unfolding(crate::specs::Judgement::judge))]
 pub(crate) fn judge<'a>(held: &Held, message: &'a [u8]) -> Judgement<'a>
     requires { 10 ≤ length message.now }
@@ -128,7 +128,7 @@ pub(crate) fn judge<'a>(held: &Held, message: &'a [u8]) -> Judgement<'a>
     }
 }
 
-// A job or user data.
+/// Whether a message is a job or user data.
 fn is_request(message: &[u8]) -> bool
     requires { 10 ≤ length message.now }
     ensures { result ≡ is_request message.now }
@@ -136,12 +136,14 @@ fn is_request(message: &[u8]) -> bool
     message[1] == 0x01 || message[1] == 0x07
 }
 
+/// The greatest length of a message: the PDU that was granted, or 1,920 before the negotiation.
 pub(crate) fn pdu_limit(granted: Option<u16>) -> usize
     ensures { result ≡ pdu_limit granted }
 {
     usize::from(granted.unwrap_or(MOST_PDU))
 }
 
+/// Judges a job: a negotiation, or a function that needs a granted PDU.
 fn judge_job<'a>(granted: Option<u16>, params: &[u8], body: &'a [u8]) -> Judgement<'a>
     ensures judged { (link : LinkState) (sequence : ℕ) → link.granted ≡ granted
         → judgement_of link sequence result ≡ job link sequence params.now body.now }
@@ -159,6 +161,7 @@ fn judge_job<'a>(granted: Option<u16>, params: &[u8], body: &'a [u8]) -> Judgeme
     }
 }
 
+/// Judges a negotiation.
 fn judge_negotiation<'a>(params: &[u8]) -> Judgement<'a>
     ensures judged { (link : LinkState) (sequence : ℕ) → judgement_of link sequence result
         ≡ negotiation link sequence (negotiation_of params.now) }
@@ -173,6 +176,7 @@ fn judge_negotiation<'a>(params: &[u8]) -> Judgement<'a>
     }
 }
 
+/// Judges a job other than a negotiation, by its function.
 fn judge_function<'a>(
     granted: Option<u16>,
     code: u8,
@@ -195,6 +199,7 @@ fn judge_function<'a>(
     }
 }
 
+/// Judges a read of items. It has no data, and its full answer must fit the PDU.
 fn judge_read<'a>(pdu: u16, params: &[u8], body: &[u8]) -> Judgement<'a>
     ensures judged { (link : LinkState) (sequence : ℕ) → judgement_of link sequence result
         ≡ read link pdu sequence body.now (items_of params.now) }
@@ -210,6 +215,7 @@ fn judge_read<'a>(pdu: u16, params: &[u8], body: &[u8]) -> Judgement<'a>
     Judgement::Ask(Request::Read { items })
 }
 
+/// Judges a write of items. It has data for each item, and its answer must fit the PDU.
 fn judge_write<'a>(pdu: u16, params: &[u8], body: &'a [u8]) -> Judgement<'a>
     ensures judged { (link : LinkState) (sequence : ℕ) → judgement_of link sequence result
         ≡ write link pdu sequence body.now (items_of params.now) }
@@ -233,6 +239,7 @@ fn judge_write<'a>(pdu: u16, params: &[u8], body: &'a [u8]) -> Judgement<'a>
     }
 }
 
+/// Judges a control of the controller or of its blocks. It has no data.
 fn judge_control<'a>(params: &[u8], body: &[u8]) -> Judgement<'a>
     ensures judged { (link : LinkState) (sequence : ℕ) → judgement_of link sequence result
         ≡ control_in link sequence body.now (control_of params.now) }

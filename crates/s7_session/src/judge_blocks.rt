@@ -1,4 +1,4 @@
-// How user data about blocks is judged.
+//! How user data about blocks is judged.
 ghost use Rattle.std.specs.Prelude.{◌≡◌, ℕ, ◌<◌, length, slice_index, Some};
 ghost use Rattle.s7_session.specs.Conversing.{link_of};
 ghost use Rattle.s7_session.specs.Judgement.{blocks, names_kind, kind_listed, block_told, informed};
@@ -13,14 +13,16 @@ use s7_block::kinds::is_kind;
 use s7_block::{BlockName, read_name};
 use s7_header::UserParams;
 
-/// The head of the data that name a kind, and of those that name a block.
+/// The octets before a kind, in data that name a kind of blocks.
 const KIND_HEAD: [u8; 5] = [0xFF, 0x09, 0x00, 0x02, 0x30];
 
+/// The octets before the name, in data that name a block.
 const NAME_HEAD: [u8; 4] = [0xFF, 0x09, 0x00, 0x08];
 
-/// Where the block is whose head is asked for.
+/// The last octet of the name of a block whose head is read: `A`, for where the block is.
 const AT_A: u8 = 0x41;
 
+/// Judges user data of the group of blocks, by its subfunction.
 pub(crate) fn judge_blocks<'a>(
     held: &Held,
     pdu: u16,
@@ -44,6 +46,7 @@ pub(crate) fn judge_blocks<'a>(
     }
 }
 
+/// Judges a request for the list of the blocks of a kind.
 fn judge_list_of<'a>(pdu: u16, body: &[u8]) -> Judgement<'a>
     ensures judged { (link : LinkState) (sequence : ℕ) → judgement_of link sequence result
         ≡ kind_listed link pdu sequence body.now }
@@ -56,13 +59,14 @@ fn judge_list_of<'a>(pdu: u16, body: &[u8]) -> Judgement<'a>
     Judgement::Query { pdu, query }
 }
 
-// The data name a kind.
+/// Whether the data name a kind of blocks.
 fn names_kind(body: &[u8]) -> bool
     ensures { result ≡ names_kind body.now }
 {
     body.len() == 6 && &body[..5] == KIND_HEAD.as_slice() && is_kind(body[5])
 }
 
+/// Judges a request for the head of a block.
 fn judge_info<'a>(pdu: u16, body: &[u8]) -> Judgement<'a>
     ensures judged { (link : LinkState) (sequence : ℕ) → judgement_of link sequence result
         ≡ informed link pdu sequence (block_told body.now) }
@@ -77,7 +81,7 @@ fn judge_info<'a>(pdu: u16, body: &[u8]) -> Judgement<'a>
     }
 }
 
-// The block that the data name.
+/// The block that the data name, `None` if they name none.
 fn block_told(body: &[u8]) -> Option<BlockName>
     ensures { result ≡ block_told body.now }
 {

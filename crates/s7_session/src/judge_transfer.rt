@@ -1,4 +1,4 @@
-// How jobs of uploads and downloads are judged, and answers to the server's own.
+//! How the jobs of uploads and downloads are judged, and the answers to the server's own jobs.
 ghost use Rattle.std.specs.Prelude.{◌≡◌, ◌≤◌, ◌-◌, ◌==◌, ◌&&◌, ◌||◌, ℕ, true, nat_lt, nat_le, if◌then◌else◌, length};
 ghost use Rattle.std.specs.Prelude.{drop, slice_index};
 ghost use Rattle.std.specs.Prelude.{option_map, None, Some};
@@ -24,18 +24,19 @@ use s7_block::kinds::is_stored_kind;
 use s7_block::{BlockName, read_digits, read_name};
 use s7_header::{parts, read_header};
 
-/// Where the block is that is uploaded.
+/// The last octet of the name of a block that is uploaded: `A`, for where the block is.
 const AT_A: u8 = 0x41;
 
-/// The least length of an image that is downloaded, and the greatest.
+/// The least length of an image that is downloaded.
 const LEAST_IMAGE: u32 = 36;
 
+/// The greatest length of an image that is downloaded.
 const MOST_IMAGE: u32 = 65_536;
 
-/// What stands before the two lengths where a download is announced.
+/// The octets before the two lengths in the announcement of a download.
 const LENGTHS: [u8; 2] = [0x0D, 0x31];
 
-/// Judges a job of an upload or of a download. None has a data part.
+/// Judges a job of an upload or of a download. A job with data is refused.
 pub(crate) fn judge_transfer<'a>(pdu: u16, code: u8, params: &[u8], body: &[u8]) -> Judgement<'a>
     requires { is_transfer code ≡ true }
     ensures judged { (link : LinkState) (sequence : ℕ) → judgement_of link sequence result
@@ -54,6 +55,7 @@ pub(crate) fn judge_transfer<'a>(pdu: u16, code: u8, params: &[u8], body: &[u8])
     }
 }
 
+/// Judges the announcement of a download.
 fn judge_download<'a>(params: &[u8]) -> Judgement<'a>
     ensures judged { (link : LinkState) (sequence : ℕ) → judgement_of link sequence result
         ≡ download_started link sequence (download_announced params.now) }
@@ -68,7 +70,7 @@ fn judge_download<'a>(params: &[u8]) -> Judgement<'a>
     Judgement::Download { name, size }
 }
 
-// The block whose download is announced, and the length of its image.
+/// The block whose download is announced, and the length of its image.
 fn download_announced(params: &[u8]) -> Option<(BlockName, u32)>
     ensures { option_map (λ a. record { name = a.0; size = a.1 }) result ≡ download_announced params.now }
 {
@@ -80,7 +82,7 @@ fn download_announced(params: &[u8]) -> Option<(BlockName, u32)>
     Some((name, size))
 }
 
-// The length of an image, behind which the body's is read and used for nothing.
+/// The length of an image. The length of its body follows it: it must be a number, and isn't used.
 fn size_announced(octets: &[u8]) -> Option<u32>
     requires { length octets.now ≡ 14 }
     ensures { result ≡ size_announced octets.now }
@@ -92,6 +94,7 @@ fn size_announced(octets: &[u8]) -> Option<u32>
     read_digits(&octets[2..8])
 }
 
+/// Judges the start of an upload.
 fn judge_upload<'a>(params: &[u8]) -> Judgement<'a>
     ensures judged { (link : LinkState) (sequence : ℕ) → judgement_of link sequence result
         ≡ upload_started link sequence (upload_asked params.now) }
@@ -106,7 +109,8 @@ fn judge_upload<'a>(params: &[u8]) -> Judgement<'a>
     }
 }
 
-// The block that the first 18 octets of parameters name.
+/// The block that the first 18 octets of the parameters name, with this function and this last octet; `None` if they
+/// name none.
 fn block_in(function: u8, place: u8, params: &[u8]) -> Option<BlockName>
     requires { 18 ≤ length params.now }
     ensures { result ≡ block_in function place params.now }
@@ -118,6 +122,7 @@ fn block_in(function: u8, place: u8, params: &[u8]) -> Option<BlockName>
     read_name(&params[10..18], place)
 }
 
+/// Judges a request for the next slice of an upload.
 fn judge_slice<'a>(pdu: u16, params: &[u8]) -> Judgement<'a>
     ensures judged { (link : LinkState) (sequence : ℕ) → judgement_of link sequence result
         ≡ slice_asked link pdu sequence (id_in SLICE params.now) }
@@ -129,6 +134,7 @@ fn judge_slice<'a>(pdu: u16, params: &[u8]) -> Judgement<'a>
     }
 }
 
+/// Judges the end of an upload.
 fn judge_end<'a>(params: &[u8]) -> Judgement<'a>
     ensures judged { (link : LinkState) (sequence : ℕ) → judgement_of link sequence result
         ≡ end_asked link sequence (id_in END params.now) }
@@ -140,7 +146,7 @@ fn judge_end<'a>(params: &[u8]) -> Judgement<'a>
     }
 }
 
-// The id of an upload, behind the function and six octets 00.
+/// The id of an upload, which follows the function and six octets 00; `None` if the parameters have another form.
 fn id_in(function: u8, params: &[u8]) -> Option<u8>
     ensures { result ≡ id_in function params.now }
 {
@@ -150,8 +156,9 @@ fn id_in(function: u8, params: &[u8]) -> Option<u8>
     }
 }
 
-/// Judges what is neither a job nor user data: the answer to the server's job that isn't answered, or nothing that is
-/// served. An answer that can't be read, or that has an error, drops the download.
+/// Judges a message that is neither a job nor user data. If it has the sequence of the server's outstanding job, it is
+/// the answer to that job; anything else is refused. An answer that can't be read, or that has an error, drops the
+/// download.
 pub(crate) fn judge_answer<'a>(held: &Held, message: &'a [u8]) -> Judgement<'a>
     requires { 10 ≤ length message.now }
     ensures judged { (sequence : ℕ) → judgement_of (link_of held.now) sequence result
@@ -177,7 +184,7 @@ pub(crate) fn judge_answer<'a>(held: &Held, message: &'a [u8]) -> Judgement<'a>
     }
 }
 
-// An acknowledgement, with data or without.
+/// Whether a message is an acknowledgement, with or without data.
 fn is_answer(message: &[u8]) -> bool
     requires { 10 ≤ length message.now }
     ensures { result ≡ (slice_index message.now 1 == 2 || slice_index message.now 1 == 3) }
@@ -185,6 +192,7 @@ fn is_answer(message: &[u8]) -> bool
     message[1] == 0x02 || message[1] == 0x03
 }
 
+/// Judges the answer with a piece of an image.
 fn judge_piece<'a>(pdu: usize, params: &[u8], body: &'a [u8]) -> Judgement<'a>
     requires least { 18 ≤ pdu }
     requires most { pdu ≤ 1920 }
@@ -203,7 +211,8 @@ fn judge_piece<'a>(pdu: usize, params: &[u8], body: &'a [u8]) -> Judgement<'a>
     }
 }
 
-// The octets of an image, at most so many, which stand behind their length and `00 FB`.
+/// The octets of an image, at most `room` of them, which follow their length and `00 FB`; `None` if the data have
+/// another form.
 fn image_octets(room: usize, body: &[u8]) -> Option<&[u8]>
     requires { room ≤ 1902 }
     ensures { option_map (λ octets. octets.now) result
@@ -221,6 +230,7 @@ fn image_octets(room: usize, body: &[u8]) -> Option<&[u8]>
     }
 }
 
+/// Judges the answer to the server's job that closes a download.
 fn judge_close<'a>(params: &[u8], body: &[u8]) -> Judgement<'a>
     ensures judged { (link : LinkState) (sequence : ℕ) → judgement_of link sequence result
         ≡ closed link params.now body.now }

@@ -1,4 +1,4 @@
-// How user data is judged.
+//! How user data is judged.
 ghost use Rattle.std.specs.Prelude.{◌≡◌, ◌<◌, ℕ, ◌+◌, length, Some, IfSome};
 ghost use Rattle.s7_header.specs.Octets.{number_at};
 ghost use Rattle.s7_clock.specs.Moment.{moment_in, IsHeld};
@@ -17,20 +17,23 @@ use crate::slices::AnswerId;
 use s7_clock::{from_octets, moment_of};
 use s7_header::{UserParams, read_user};
 
-/// The group that sets and clears passwords.
+/// The group of user data that sets and clears passwords.
 pub(crate) const SECURITY: u8 = 0x45;
 
-/// Its subfunctions.
+/// The subfunction that sets a password.
 const SET_PASSWORD: u8 = 0x01;
 
+/// The subfunction that clears a password.
 const CLEAR_PASSWORD: u8 = 0x02;
 
-/// The head of the data that name a list, and of those that have the octets of a clock.
+/// The octets before the id and the index, in data that name a status list.
 const LIST_HEAD: [u8; 4] = [0xFF, 0x09, 0x00, 0x04];
 
+/// The octets before the clock octets, in data that set the clock.
 const CLOCK_HEAD: [u8; 4] = [0xFF, 0x09, 0x00, 0x0A];
 
-/// Judges user data by what the link's earlier messages left. Parameters of the long form ask for a further slice.
+/// Judges user data by the state that the link's earlier messages left. Parameters of the long form ask for a further
+/// slice of an answer.
 pub(crate) fn judge_user<'a>(held: &Held, params: &[u8], body: &[u8]) -> Judgement<'a>
     ensures judged { (sequence : ℕ) → judgement_of (link_of held.now) sequence result
         ≡ user_at (link_of held.now) held.now.granted sequence params.now body.now }
@@ -54,6 +57,7 @@ pub(crate) fn judge_user<'a>(held: &Held, params: &[u8], body: &[u8]) -> Judgeme
     }
 }
 
+/// Judges user data of the group of status lists.
 fn judge_lists<'a>(held: &Held, pdu: u16, asked: &UserParams, body: &[u8]) -> Judgement<'a>
     requires group { asked.now.group ≡ 0x44 }
     ensures judged { (sequence : ℕ) → judgement_of (link_of held.now) sequence result
@@ -67,6 +71,7 @@ fn judge_lists<'a>(held: &Held, pdu: u16, asked: &UserParams, body: &[u8]) -> Ju
     }
 }
 
+/// Judges a read of a status list.
 fn judge_list<'a>(pdu: u16, body: &[u8]) -> Judgement<'a>
     ensures judged { (link : LinkState) (sequence : ℕ) → judgement_of link sequence result
         ≡ list_read link pdu sequence body.now }
@@ -82,14 +87,14 @@ fn judge_list<'a>(pdu: u16, body: &[u8]) -> Judgement<'a>
     Judgement::Query { pdu, query }
 }
 
-// The data name a list and an index.
+/// Whether the data name a status list by its id and index.
 fn names_list(body: &[u8]) -> bool
     ensures { result ≡ names_list body.now }
 {
     body.len() == 8 && &body[..4] == LIST_HEAD.as_slice()
 }
 
-// The number in the two octets from this place on.
+/// The number in the two octets from this offset on.
 fn number_at(octets: &[u8], place: usize) -> u16
     requires { place + 1 < length octets.now }
     ensures { result ≡ number_at octets.now place }
@@ -97,6 +102,7 @@ fn number_at(octets: &[u8], place: usize) -> u16
     u16::from(octets[place]) * 256 + u16::from(octets[place + 1])
 }
 
+/// Judges user data of the group of the clock.
 fn judge_clock<'a>(held: &Held, pdu: u16, asked: &UserParams, body: &[u8]) -> Judgement<'a>
     requires group { asked.now.group ≡ 0x47 }
     ensures judged { (sequence : ℕ) → judgement_of (link_of held.now) sequence result
@@ -114,6 +120,7 @@ fn judge_clock<'a>(held: &Held, pdu: u16, asked: &UserParams, body: &[u8]) -> Ju
     }
 }
 
+/// Judges a set of the clock.
 fn judge_clock_set<'a>(pdu: u16, body: &[u8]) -> Judgement<'a>
     ensures judged { (link : LinkState) (sequence : ℕ) → judgement_of link sequence result
         ≡ clock_set link pdu sequence body.now }
@@ -131,14 +138,14 @@ fn judge_clock_set<'a>(pdu: u16, body: &[u8]) -> Judgement<'a>
     }
 }
 
-// The data have the ten octets of a clock.
+/// Whether the data have the ten octets of a clock.
 fn names_moment(body: &[u8]) -> bool
     ensures { result ≡ names_moment body.now }
 {
     body.len() == 14 && &body[..4] == CLOCK_HEAD.as_slice()
 }
 
-// The moment that clock octets say, and none where they are no date.
+/// The moment of clock octets, in milliseconds since 1970; `None` if they aren't a date and time.
 fn moment_in(octets: &[u8]) -> Option<u64>
     ensures moment { result ≡ moment_in octets.now }
     ensures held { IfSome result IsHeld }
@@ -149,7 +156,8 @@ fn moment_in(octets: &[u8]) -> Option<u64>
     }
 }
 
-// A further slice is there only of the answer that is held, as long as octets of it are left.
+/// Judges a request for a further slice. There is one only of the answer that the link holds, as long as octets of it
+/// are left.
 pub(crate) fn judge_further<'a>(
     held: &Held,
     pdu: u16,
@@ -172,7 +180,7 @@ pub(crate) fn judge_further<'a>(
     Judgement::Further { pdu, answer }
 }
 
-// No answer of this group has a further slice.
+/// Judges user data of the group of passwords. No answer of this group has a further slice.
 fn judge_security<'a>(held: &Held, asked: &UserParams, body: &[u8]) -> Judgement<'a>
     ensures judged { (sequence : ℕ) → judgement_of (link_of held.now) sequence result
         ≡ security (link_of held.now) sequence asked.now body.now }
@@ -186,6 +194,7 @@ fn judge_security<'a>(held: &Held, asked: &UserParams, body: &[u8]) -> Judgement
     }
 }
 
+/// Judges a telegram that sets a password.
 fn judge_password<'a>(held: &Held, body: &[u8]) -> Judgement<'a>
     ensures judged { (sequence : ℕ) → judgement_of (link_of held.now) sequence result
         ≡ password_set (link_of held.now) sequence body.now }
@@ -202,6 +211,7 @@ fn judge_password<'a>(held: &Held, body: &[u8]) -> Judgement<'a>
     }
 }
 
+/// Judges a telegram that clears a password.
 fn judge_clearing<'a>(held: &Held, body: &[u8]) -> Judgement<'a>
     ensures judged { (sequence : ℕ) → judgement_of (link_of held.now) sequence result
         ≡ password_cleared (link_of held.now) sequence body.now }

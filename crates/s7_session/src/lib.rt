@@ -1,5 +1,5 @@
-//! One served link: what is written on it is a stated function of what was taken from it, and of the
-//! verdicts of the doer that it asks.
+//! One served link. The octets written on it are a stated function of the octets taken from it and of the verdicts of
+//! the doer that carries out its telegrams.
 #![tactic(auto)]
 
 mod book_doer;

@@ -1,42 +1,42 @@
-// How a link ends, and what one turn does.
+//! How a link ends, and what one turn does.
 ghost use Rattle.std.specs.Prelude.{◌≡◌};
 ghost use Rattle.s7_session.specs.Owed.{outcome_of, torn_or_ended};
 
 use s7_wire::ReadFault;
 
-/// How a link ended. The places count the octets taken before the packet in question.
+/// How a link ended. `at` is the offset of the packet in question: the number of octets taken before it.
 #[derive(Clone, Copy, Debug, PartialEq, Eq)]
 pub enum Outcome {
-    /// The client ended between messages.
+    /// The client ended the link between two messages.
     Ended,
-    /// The client ended with so many octets of an unfinished packet and message.
+    /// The client ended the link within a packet or message, of which this number of octets came.
     Torn(usize),
-    /// A packet of another version than 03, or with a length below 7 (RFC 1006, section 6).
+    /// A packet has another version than 03, or a length below 7 (RFC 1006, section 6).
     BadFrame { at: u64 },
-    /// A packet of more octets than the TPDU size admits.
+    /// A packet is longer than the TPDU size allows.
     FrameTooLong { at: u64 },
-    /// A packet whose body is no TPDU of class 0 (ISO 8073, section 13).
+    /// The body of a packet is no TPDU of class 0 (ISO 8073, section 13).
     BadTpdu { at: u64 },
-    /// Another TPDU than a connect request before it, or a connect request, confirm or error after it.
+    /// The first TPDU isn't a connect request, or a later one is a connect request, a confirm or an error.
     Unexpected { at: u64 },
-    /// The 65th fragment of a message.
+    /// A message has a 65th fragment.
     TooManyFragments { at: u64 },
-    /// A fragment with which a message passes 8,192 octets.
+    /// A fragment makes a message longer than 8,192 octets.
     TooLong { at: u64 },
-    /// A message of fewer than ten octets, or one that doesn't begin with 32.
+    /// A message has fewer than ten octets, or doesn't begin with 32.
     NotS7 { at: u64 },
-    /// The link failed at a receive.
+    /// The link failed to receive.
     ReadFault,
-    /// The link failed at a transmit.
+    /// The link failed to transmit.
     WriteFault,
-    /// 4,294,967,295 octets were taken and used.
+    /// The session used 4,294,967,295 octets, the most that it takes from a link.
     Spent,
-    /// Memory was wanting for the session, or for a telegram, which wasn't accepted.
+    /// An allocation failed for the session, or for a telegram, which wasn't accepted.
     Memory,
 }
 
 impl Outcome {
-    /// The end of a link on which a packet at this place can't be read.
+    /// The outcome of a link on which the packet at this offset can't be read.
     pub(crate) fn of_fault(fault: ReadFault, at: u64) -> Outcome
         ensures { result ≡ outcome_of fault at }
     {
@@ -50,7 +50,8 @@ impl Outcome {
         }
     }
 
-    /// The client's end between messages, or with so many octets of an unfinished packet and message.
+    /// The outcome of a link that the client ended: between two messages, or within a packet or message of which this
+    /// number of octets came.
     pub(crate) fn of_torn(torn: Option<usize>) -> Outcome
         ensures { result ≡ torn_or_ended torn }
     {
@@ -64,10 +65,10 @@ impl Outcome {
 /// What one turn did.
 #[derive(Clone, Copy, Debug, PartialEq, Eq)]
 pub enum Turn {
-    /// It moved an octet on the link, or used one that was read.
+    /// It moved octets on the link, or used octets that were read.
     Went,
-    /// The link had nothing to give, or no room, yet.
+    /// The link wasn't ready: it had nothing to give, or no room.
     NotYet,
-    /// The link is closed, now and for all later turns.
+    /// The link is closed, with this outcome, now and for all later turns.
     Closed(Outcome),
 }

@@ -1,31 +1,31 @@
-// Passwords on their way (Snap7 1.4 sources, `TSnap7MicroClient::opSetPassword`).
+//! How passwords are masked and checked (Snap7 1.4 sources, `TSnap7MicroClient::opSetPassword`).
 ghost use Rattle.std.specs.Prelude.{◌≡◌, drop, true, false, IfSome, IfNone};
 ghost use Rattle.s7_session.specs.Passwords.{decoded, is_password, set_error, clear_error};
 
 use s7_area::Guard;
 
-/// The data of a telegram without data.
+/// The data part of a telegram that carries no data.
 pub(crate) const NO_DATA: [u8; 4] = [0x0A, 0x00, 0x00, 0x00];
 
-/// The head of the data that sets a password.
+/// The octets before the password, in data that set a password.
 const PASSWORD_HEAD: [u8; 4] = [0xFF, 0x09, 0x00, 0x08];
 
-/// The octets of a password.
+/// The number of octets of a password.
 const PASSWORD: usize = 8;
 
-/// With this each octet of a password is masked.
+/// The octet with which each octet of a password is masked.
 const MASK: u8 = 0x55;
 
-/// Nothing guards the areas.
+/// The error word if the areas have no guard.
 const NO_GUARD: u16 = 0xD605;
 
-/// The link has no right to clear.
+/// The error word if the link has no right to clear.
 const NO_RIGHT: u16 = 0xD604;
 
-/// It isn't the guard's password.
+/// The error word of a password that isn't the guard's.
 const WRONG_PASSWORD: u16 = 0xD602;
 
-/// The eight octets of a password that is set, and none of other data.
+/// The eight masked octets of a password in data that set one; `None` if the data have another form.
 pub(crate) fn password_in(body: &[u8]) -> Option<[u8; PASSWORD]>
     ensures some { IfSome result (λ octets. (is_password body.now ≡ true) × (octets ≡ drop 4 body.now)) }
     ensures none { IfNone result (is_password body.now ≡ false) }
@@ -38,8 +38,8 @@ pub(crate) fn password_in(body: &[u8]) -> Option<[u8; PASSWORD]>
     Some(octets)
 }
 
-/// The text of a password: each octet is masked, and from the third on masked again with the octet that
-/// came two before it.
+/// The text of a password from its masked octets. Each octet is masked with 55; from the third on it is also masked
+/// with the octet that came two before it.
 #[tactic(auto, unfolding(crate::specs::Passwords::decoded))]
 pub(crate) fn decode(octets: &[u8; PASSWORD]) -> [u8; PASSWORD]
     ensures { result ≡ decoded octets.now }
@@ -57,7 +57,7 @@ pub(crate) fn decode(octets: &[u8; PASSWORD]) -> [u8; PASSWORD]
     ]
 }
 
-/// The error word of a password that is set: 0 for the guard's.
+/// The error word of the answer to a password that is set: 0 if it is the guard's.
 pub(crate) fn set_error(guard: Option<Guard>, text: &[u8; PASSWORD]) -> u16
     ensures { result ≡ set_error guard text.now }
 {
@@ -68,7 +68,7 @@ pub(crate) fn set_error(guard: Option<Guard>, text: &[u8; PASSWORD]) -> u16
     if password == *text { 0 } else { WRONG_PASSWORD }
 }
 
-/// The error word of a right that is cleared: 0 where there is one.
+/// The error word of the answer to a right that is cleared: 0 if the link has the right.
 pub(crate) fn clear_error(guard: Option<Guard>, right: bool) -> u16
     ensures { result ≡ clear_error guard right }
 {

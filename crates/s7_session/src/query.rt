@@ -1,4 +1,4 @@
-// What user data asks of the plant.
+//! What user data asks of the plant.
 ghost use Rattle.std.specs.Prelude.{◌≡◌, ◌≤◌, ◌+◌, Some, IfSome, IfNone};
 ghost use Rattle.s7_outer.specs.Count.{Rose, RoseExactly};
 ghost use Rattle.s7_session.specs.Telegrams.{IsAt, looks_for};
@@ -7,42 +7,47 @@ use s7_block::BlockName;
 use s7_outer::{Clock, Link, Tick};
 use s7_plant::Request;
 
-/// The groups of user data that ask.
+/// The group of user data about blocks.
 pub(crate) const BLOCKS: u8 = 0x43;
 
+/// The group of user data about status lists.
 pub(crate) const LISTS: u8 = 0x44;
 
+/// The group of user data about the clock.
 pub(crate) const CLOCK: u8 = 0x47;
 
-/// The subfunctions of blocks: the counts of all kinds, the blocks of a kind, and the head of a block.
+/// The subfunction that counts the blocks of all kinds.
 pub(crate) const LIST_ALL: u8 = 0x01;
 
+/// The subfunction that lists the blocks of a kind.
 pub(crate) const LIST_OF: u8 = 0x02;
 
+/// The subfunction that reads the head of a block.
 pub(crate) const INFO: u8 = 0x03;
 
-/// The subfunction of status lists that reads one.
+/// The subfunction that reads a status list.
 pub(crate) const READ_LIST: u8 = 0x01;
 
-/// Those of the clock.
+/// The subfunction that reads the clock.
 pub(crate) const READ_CLOCK: u8 = 0x01;
 
+/// The subfunction that sets the clock.
 pub(crate) const SET_CLOCK: u8 = 0x02;
 
-/// What user data asks of the plant.
+/// A request to the plant by user data.
 #[derive(Clone, Copy, Debug, PartialEq, Eq)]
 pub(crate) enum Query {
-    /// How many blocks there are of each kind.
+    /// Count the blocks of each kind.
     ListAll,
-    /// The blocks of a kind.
+    /// List the blocks of a kind.
     ListOf { kind: u8 },
-    /// The head of a block.
+    /// Read the head of a block.
     Info { name: BlockName },
-    /// The image of a status list.
+    /// Read the image of a status list.
     Szl { id: u16, index: u16 },
-    /// What the clock shows.
+    /// Read the clock.
     ClockRead,
-    /// That the clock shows this, a moment of 1990 to 2089.
+    /// Set the clock to this value, in milliseconds since 1970, from 1990 to the end of 2089.
     ClockSet { value: u64 },
 }
 
@@ -50,7 +55,7 @@ impl Query {
     ghost use Rattle.std.specs.Prelude.{true, false};
     ghost use Rattle.s7_session.specs.Queries.{group_of, subfunction_of, is_timed, IsMade};
 
-    /// Its group.
+    /// The group of the query.
     pub(crate) fn group(self) -> u8
         ensures { result ≡ group_of self }
     {
@@ -61,7 +66,7 @@ impl Query {
         }
     }
 
-    /// Its subfunction.
+    /// The subfunction of the query.
     pub(crate) fn subfunction(self) -> u8
         ensures { result ≡ subfunction_of self }
     {
@@ -75,8 +80,8 @@ impl Query {
         }
     }
 
-    /// The request that it makes. One of the clock has the moment, for which the line's clock is asked once; there
-    /// is none where that fails.
+    /// The request to the plant. A query about the clock needs the time, so the line's clock is read once; any other
+    /// query reads no clock. `None` if the clock failed.
     pub(crate) fn request<L: Link + Clock>(self, line: &mut L) -> Option<Request>
         ensures some { IfSome result (IsMade self (L.shows line.old).moment) }
         ensures none { IfNone result (is_timed self ≡ true) }
@@ -112,7 +117,7 @@ impl Query {
     }
 }
 
-// What the line's clock tells.
+/// The time by the line's clock, in milliseconds since 1970; `None` if the clock failed.
 fn moment<L: Link + Clock>(line: &mut L) -> Option<u64>
     ensures told { IfSome result (λ moment. IsAt (L.shows line.old).moment (Some moment)) }
     ensures failed { IfNone result (Rose (L.shows line.old).clock_faults (L.shows line.new).clock_faults) }

@@ -1,4 +1,4 @@
-// Messages and confirms that go out.
+//! Messages and confirms that the server sends.
 ghost use Rattle.std.specs.Prelude.{◌≡◌, ◌+◌, ◌<◌, ◌≤◌, [], ◌++◌, length, true, IfOk};
 ghost use Rattle.s7_cotp.specs.Told.{connection_of};
 ghost use Rattle.s7_cotp.specs.Spelling.{spelling_of_confirm};
@@ -30,44 +30,50 @@ use s7_plant::Reply;
 use s7_wire::{Outbox, put_message};
 use std::alloc::Global;
 
-/// How many octets a message that goes out has at most.
+/// The greatest number of octets of a message that the server sends.
 const MOST: usize = MOST_PDU as usize;
 
-/// How many octets a confirm has at most: its header, and a size and two TSAPs.
+/// The greatest number of octets of a confirm: its header, a size and two TSAPs.
 const CONFIRM: usize = 64;
 
-/// The functions of uploads and downloads: a download is announced, its pieces are asked for, and it is closed; an
-/// upload is started, its slices are asked for, and it is ended.
+/// The function that announces a download.
 pub(crate) const ANNOUNCE: u8 = 0x1A;
 
+/// The function that asks for a piece of a download.
 pub(crate) const SEND_PIECE: u8 = 0x1B;
 
+/// The function that closes a download.
 pub(crate) const CLOSE: u8 = 0x1C;
 
+/// The function that starts an upload.
 pub(crate) const START: u8 = 0x1D;
 
+/// The function that asks for a slice of an upload.
 pub(crate) const SLICE: u8 = 0x1E;
 
+/// The function that ends an upload.
 pub(crate) const END: u8 = 0x1F;
 
-/// The length of a block's name, and what begins it.
+/// The length of a block's name in parameters.
 pub(crate) const NAME_LENGTH: u8 = 0x09;
 
+/// The octet with which a block's name begins.
 pub(crate) const NAME_MARK: u8 = 0x5F;
 
-/// What stands between the length of an image's octets and the octets.
+/// The octets between the length of an image's octets and the octets themselves.
 pub(crate) const IMAGE: [u8; 2] = [0x00, 0xFB];
 
-/// What of the PDU a telegram with octets of an image takes besides them: header, parameters and the head of the data.
+/// The octets that a telegram with octets of an image has besides them: its header, its parameters and the head of its
+/// data.
 const IMAGE_FRONT: usize = 18;
 
-/// Where the block is that is downloaded.
+/// The last octet of the name of a block that is downloaded: `P`, for where the block is.
 pub(crate) const AT_P: u8 = 0x50;
 
-/// Where the parameters of an upload's answer have its id.
+/// The index of the upload's id in the parameters of the answer to its start.
 pub(crate) const ID_PLACE: usize = 7;
 
-/// Puts messages together, and holds the octets that are to be sent.
+/// Builds messages, and holds the octets that are to be sent.
 #[derive(Drop)]
 pub(crate) struct Sender {
     message: Buffer,
@@ -76,7 +82,7 @@ pub(crate) struct Sender {
 }
 
 impl Sender {
-    /// Nothing is to be sent. `Memory` comes where there is none for the longest message.
+    /// A sender with nothing to send and room for the longest message. Returns `Memory` if an allocation fails.
     pub(crate) fn new(alloc: Global) -> Result<Sender, Memory>
         ensures { IfOk result (λ s. s.outbox ≡ record { unsent = []; room = most_waiting }) }
     {
@@ -86,7 +92,7 @@ impl Sender {
         })
     }
 
-    /// Begins a message with a header and parameters.
+    /// Begins a message with this header and these parameters.
     fn begin(&mut self, header: &Header, params: &[u8])
         requires header { IsHeader header.now }
         requires fits { length (spelling_of header.now) + length params.now ≤ most_pdu }
@@ -100,7 +106,7 @@ impl Sender {
         self.message.add(params);
     }
 
-    /// Puts a message of a header, parameters and data, of at most 1,920 octets.
+    /// Queues a message of a header, parameters and data, of at most 1,920 octets.
     fn put(&mut self, size: TpduSize, header: &Header, params: &[u8], body: &[u8])
         requires header { IsHeader header.now }
         requires fits { length (spelling_of header.now) + length params.now + length body.now ≤ most_pdu }
@@ -114,7 +120,7 @@ impl Sender {
         put_message(&mut self.outbox, size.octets, self.message.as_slice());
     }
 
-    /// Puts the answer to a job, of at most 1,920 octets.
+    /// Queues the answer to a job, of at most 1,920 octets.
     pub(crate) fn put_answer(&mut self, size: TpduSize, sequence: u16, params: &[u8], body: &[u8])
         requires fits { 12 + length params.now + length body.now ≤ most_pdu }
         requires room { most_packets ≤ self.old.outbox.room }
@@ -132,7 +138,7 @@ impl Sender {
         self.put(size, &header, params, body);
     }
 
-    /// Puts the answer to user data, whose parameters have the long form, with at most 1,894 octets.
+    /// Queues the answer to user data, with parameters of the long form and at most 1,894 octets of data.
     pub(crate) fn put_user(
         &mut self,
         size: TpduSize,
@@ -161,7 +167,7 @@ impl Sender {
         put_message(&mut self.outbox, size.octets, self.message.as_slice());
     }
 
-    /// Puts the answer to user data with the first of these octets, as many as fit the PDU. Its last-unit octet
+    /// Queues the answer to user data with as many of the first of these octets as fit the PDU. Its last-unit octet
     /// says whether more follow.
     pub(crate) fn put_slice(
         &mut self,
@@ -186,7 +192,7 @@ impl Sender {
         }
     }
 
-    /// Puts the refusal of a message with this sequence.
+    /// Queues the refusal of a message with this sequence, with this error word.
     pub(crate) fn put_refusal(&mut self, size: TpduSize, sequence: u16, error: u16)
         requires room { most_packets ≤ self.old.outbox.room }
         ensures { self.new.outbox.unsent ≡ self.old.outbox.unsent
@@ -197,7 +203,7 @@ impl Sender {
         put_message(&mut self.outbox, size.octets, &octets);
     }
 
-    /// Puts the answer of a reply: a refusal where it has an error.
+    /// Queues the answer that is made of a reply: a refusal if the reply has an error.
     pub(crate) fn put_reply(&mut self, size: TpduSize, sequence: u16, reply: &Reply)
         requires fits { HasAtMost most_pdu (said_of reply.now) }
         requires room { most_packets ≤ self.old.outbox.room }
@@ -216,7 +222,7 @@ impl Sender {
         }
     }
 
-    /// Puts the answer to a negotiation.
+    /// Queues the answer to a negotiation.
     pub(crate) fn put_grant(&mut self, size: TpduSize, sequence: u16, granted: &Negotiation)
         requires room { most_packets ≤ self.old.outbox.room }
         ensures { self.new.outbox.unsent ≡ self.old.outbox.unsent
@@ -227,7 +233,7 @@ impl Sender {
         self.put_answer(size, sequence, &params, &[]);
     }
 
-    /// Puts the answer with a slice of an image.
+    /// Queues the answer with a slice of an image. `more` says whether another slice follows.
     pub(crate) fn put_image(&mut self, size: TpduSize, sequence: u16, more: bool, octets: &[u8])
         requires fits { 18 + length octets.now ≤ most_pdu }
         requires room { most_packets ≤ self.old.outbox.room }
@@ -248,7 +254,7 @@ impl Sender {
         put_message(&mut self.outbox, size.octets, self.message.as_slice());
     }
 
-    /// Puts a job of the server's own for the download of a block.
+    /// Queues a job of the server's own for the download of this block.
     pub(crate) fn put_job(&mut self, size: TpduSize, job: ServerJob, name: BlockName)
         requires room { most_packets ≤ self.old.outbox.room }
         ensures { self.new.outbox.unsent ≡ self.old.outbox.unsent
@@ -268,7 +274,7 @@ impl Sender {
         self.put(size, &header, &front, &named);
     }
 
-    /// Puts the confirm of a connect request.
+    /// Queues the confirm of a connect request.
     pub(crate) fn put_confirm(&mut self, c: &Connection)
         requires least_size { 7 ≤ c.now.size_code }
         requires most_size { c.now.size_code ≤ 13 }
@@ -284,7 +290,8 @@ impl Sender {
     }
 }
 
-/// The head of the data of user data: FF, transport size 09 and the length; without octets 0A alone.
+/// The head of the data part of an answer to user data: FF, transport size 09 and the length. Without octets it is `0A
+/// 00 00 00`.
 fn data_head(octets: &[u8]) -> [u8; 4]
     requires { length octets.now < 65536 }
     ensures { result ++ octets.now ≡ user_data octets.now }
@@ -298,6 +305,7 @@ fn data_head(octets: &[u8]) -> [u8; 4]
     }
 }
 
+/// The function octet of a job of the server's own.
 fn function_code(function: ServerFunction) -> u8
     ensures { result ≡ function_of function }
 {
@@ -307,7 +315,7 @@ fn function_code(function: ServerFunction) -> u8
     }
 }
 
-/// How many octets of an image go in one telegram.
+/// The greatest number of octets of an image in one telegram on a link with this PDU.
 pub(crate) fn image_room(pdu: usize) -> usize
     requires { 18 ≤ pdu }
     ensures { result ≡ image_room pdu }

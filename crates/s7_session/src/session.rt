@@ -1,4 +1,4 @@
-// One served link.
+//! One served link.
 ghost use Rattle.std.specs.Prelude.{◌≡◌, ◌+◌, ◌≤◌, length};
 ghost use Rattle.s7_wire.specs.Reads.{opens_by};
 ghost use Rattle.s7_wire.specs.declared.found.Opening.TheVariants.{Request as OpensByRequest};
@@ -16,21 +16,20 @@ use std::sync::Wait;
 use std::thread;
 use std::time::{self, Duration};
 
-/// So many octets are taken from a link at most.
+/// The most octets that are taken from a link.
 const SPENT: u64 = 4_294_967_295;
 
-/// The server's side of one link: packets of RFC 1006, TPDUs of class 0 (ISO 8073), and messages.
-/// It begins with a connect request, and holds what was read and not used, and what is still to be
-/// sent.
+/// The server's side of one link: packets of RFC 1006, TPDUs of class 0 (ISO 8073), and messages. It begins with a
+/// connect request. It holds the octets that were read and not yet used, and those that are still to be sent.
 #[derive(Drop)]
 pub struct Session {
     link: u32,
     reader: Reader,
     inbox: Inbox,
     conversation: Conversation,
-    /// How many octets were used.
+    /// The number of octets that were used.
     used: u64,
-    /// How many telegrams were accepted.
+    /// The number of telegrams that were accepted.
     count: u64,
     /// The number of the newest entry.
     newest: Option<u64>,
@@ -51,8 +50,8 @@ impl Session {
     ghost use Rattle.s7_session.specs.Stands.{entry_count, newest, used_of, unread, unsent};
     ghost use Rattle.s7_session.specs.LinkRun.{IsFresh, IsLinkRun};
 
-    /// The session of a link of this number to areas with this guard, which has taken nothing and has no
-    /// right. All buffers of the link are taken here; `Memory` comes where there is none for them.
+    /// The session of the link of this number, to areas with this guard. It has taken no octets and has no right. All
+    /// buffers of the link are allocated here. Returns `Memory` if an allocation fails.
     pub fn new(alloc: Global, link: u32, guard: Option<Guard>) -> Result<Session, Memory>
         ensures fresh { IfOk result (IsFresh (first_link guard)) }
         ensures number { IfOk result (λ s. number_of s ≡ link) }
@@ -69,30 +68,31 @@ impl Session {
         })
     }
 
-    /// How many telegrams were accepted.
+    /// The number of telegrams that were accepted.
     pub fn entries(&self) -> u64
         ensures { result ≡ entry_count self.now }
     {
         self.count
     }
 
-    /// The number of the newest entry, and none before the first.
+    /// The number of the newest entry, `None` before the first entry.
     pub fn last(&self) -> Option<u64>
         ensures { result ≡ newest self.now }
     {
         self.newest
     }
 
-    /// How many octets were used.
+    /// The number of octets that were used.
     pub fn used(&self) -> u64
         ensures { result ≡ used_of self.now }
     {
         self.used
     }
 
-    /// Takes turns until one closes, and gives why; a link that is closed already answers at once. The link's
-    /// octets and the doer's entries are then one run from beginning to end. Behind a turn that answered
-    /// `NotYet` it sleeps for a millisecond, so that a link that doesn't wait by itself leaves the processor to others.
+    /// Takes turns until one closes the link, and returns its outcome. If the link is closed already, returns at once.
+    /// The link's octets and the doer's entries together are then one run from beginning to end. After a turn that
+    /// answered `NotYet` it sleeps for a millisecond, so that a link whose calls don't block leaves the processor to
+    /// others.
     pub fn serve<R: Wait + time::Clock, L: Link + Clock, D: Doer>(
         &mut self,
         rt: &R,
@@ -103,7 +103,7 @@ impl Session {
         ensures served { IsServed D.stands D.is_full D.may_lack
             self.old (L.shows line.old) doer.old self.new (L.shows line.new) doer.new result }
 
-        // A fresh session serves a link from its beginning.
+        // // A fresh session serves a link from its beginning.
         ensures run { (first : LinkState) → IsFresh first self.old → IsLinkRun D.stands D.is_full D.may_lack first
             (L.shows line.old) doer.old (L.shows line.new) doer.new result (entry_count self.new) (newest self.new) }
         ensures number { number_of self.new ≡ number_of self.old }
@@ -121,13 +121,13 @@ impl Session {
         unreachable!()
     }
 
-    /// Sends what is left to send, or else uses octets that were read, or else receives and uses
-    /// octets, up to the end of one packet.
+    /// Sends octets that are left to send; if there are none, uses octets that were read; if there are none of these
+    /// either, receives octets and uses them. It uses octets up to the end of one packet at most.
     ///
-    /// `Went` comes only where the turn moved an octet on the link or used one that was read,
-    /// `NotYet` only where it did neither and the link's `waits` rose. `Closed` stays for all later
-    /// turns. The link is read only where everything owed was written and every octet that was read is
-    /// used, and octets are used only where everything owed was written.
+    /// Returns `Went` only if the turn moved an octet on the link or used one that was read, and `NotYet` only if it
+    /// did neither and the link's `waits` rose. After `Closed` every later turn returns the same. The link is read only
+    /// if the whole expected output was written and every octet that was read is used. Octets are used only if the
+    /// whole expected output was written.
     pub fn turn<L: Link + Clock, D: Doer>(
         &mut self,
         alloc: Global,
@@ -170,7 +170,7 @@ impl Session {
         }
     }
 
-    // Uses octets that were read, up to the end of one packet.
+    /// Uses octets that were read, up to the end of one packet.
     fn consume<L: Link + Clock, D: Doer>(
         &mut self,
         alloc: Global,
@@ -206,7 +206,7 @@ impl Session {
         }
     }
 
-    // Handles the message that is whole.
+    /// Handles the message that is complete.
     fn handle<L: Link + Clock, D: Doer>(
         &mut self,
         alloc: Global,
@@ -238,7 +238,7 @@ impl Session {
         }
     }
 
-    // How the link ends where no more octets come.
+    /// The outcome if the client sends nothing more.
     fn end(&self) -> Outcome
         ensures torn { (b : List ℕ) → HasRead self.now.reader b → result ≡ torn_or_ended (torn_of OpensByRequest b) }
         ensures octets { (torn : Option ℕ) × (result ≡ torn_or_ended torn) }
@@ -246,6 +246,7 @@ impl Session {
         Outcome::of_torn(self.reader.torn())
     }
 
+    /// Closes the link with this outcome.
     fn close(&mut self, outcome: Outcome) -> Turn
         ensures result { result ≡ Turn.Closed outcome }
         ensures closed { closed_with self.new ≡ Some outcome }

@@ -1,4 +1,4 @@
-// The size of TPDUs.
+//! The size of TPDUs.
 ghost use Rattle.std.specs.Prelude.{◌≤◌};
 
 use s7_wire::tpdu_size;
@@ -15,7 +15,7 @@ impl TpduSize {
     ghost use Rattle.std.specs.Prelude.{◌≡◌};
     ghost use Rattle.s7_wire.specs.Bounds.{size_of_code};
 
-    /// The size of a code, from 07 to 0D.
+    /// The size for a code, from 07 to 0D.
     pub(crate) fn of(code: u8) -> TpduSize
         requires least { 7 ≤ code }
         requires most { code ≤ 13 }

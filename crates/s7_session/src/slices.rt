@@ -1,4 +1,4 @@
-// An answer to user data that goes out in slices.
+//! An answer to user data that is sent in slices.
 ghost use Rattle.std.specs.Prelude.{◌≡◌, ◌+◌, ◌<◌, ◌≤◌};
 ghost use Rattle.s7_header.specs.Negotiation.{least_pdu};
 ghost use Rattle.s7_session.specs.Judgement.{slice_room};
@@ -8,22 +8,22 @@ use s7_outer::{Buffer, Memory};
 use std::alloc::Global;
 use std::marker::Model;
 
-/// How many octets the longest answer to user data has.
+/// The number of octets of the longest answer to user data.
 const LONGEST: usize = 8_192;
 
-/// What of the PDU an answer to user data takes besides its octets: header, parameters and the head of
-/// the data.
+/// The octets that an answer to user data has besides its data octets: its header, its parameters and the head of its
+/// data.
 const FRONT: usize = 26;
 
-/// An answer has the group of its request with this more.
+/// The difference between the group of an answer and the group of its request.
 const ANSWER: u8 = 0x40;
 
-/// Which answer to user data it is.
+/// Identifies an answer to user data.
 #[derive(Clone, Copy, Debug, PartialEq, Eq)]
 pub(crate) struct AnswerId {
     /// The group of the request.
     pub(crate) group: u8,
-    /// Its subfunction.
+    /// The subfunction of the request.
     pub(crate) subfunction: u8,
     /// The sequence octet of the answer.
     pub(crate) sequence: u8,
@@ -52,13 +52,13 @@ impl AnswerId {
     }
 }
 
-/// The octets of an answer: the first of them were sent, and the rest may be asked for. Contracts see which
-/// answer it is, and its rest.
+/// The octets of an answer. The first of them were sent, and the rest may be asked for. Contracts see the answer's id
+/// and the rest.
 #[derive(Drop)]
 pub(crate) struct Slices {
     answer: AnswerId,
     octets: Buffer,
-    /// So many were sent.
+    /// The number of octets that were sent.
     sent: usize,
 }
 
@@ -82,8 +82,7 @@ impl Slices {
     ghost use Rattle.std.specs.Prelude.{◌≡◌, ◌≤◌, [], length, drop, IfOk};
     ghost use Rattle.s7_session.specs.Slices.{is_held};
 
-    /// No octets, and room for those of the longest answer, which is taken here. `Memory` comes where there
-    /// is none for it.
+    /// No octets, and room for the longest answer, which is allocated here. Returns `Memory` if the allocation fails.
     pub(crate) fn new(alloc: Global) -> Result<Slices, Memory>
         ensures { IfOk result (λ s. s.rest ≡ []) }
     {
@@ -98,7 +97,7 @@ impl Slices {
         })
     }
 
-    /// The octets that weren't sent.
+    /// The octets that weren't sent yet.
     pub(crate) fn rest(&self) -> &[u8]
         ensures { result.now ≡ self.now.rest }
     {
@@ -115,7 +114,7 @@ impl Slices {
             && self.answer.sequence == asked.sequence
     }
 
-    /// Holds the octets of a new answer, of which none were sent.
+    /// Holds the octets of a new answer, at most 8,192, of which none was sent.
     pub(crate) fn hold(&mut self, octets: &[u8])
         requires { length octets.now ≤ 8192 }
         ensures { self.new.rest ≡ octets.now }
@@ -125,7 +124,8 @@ impl Slices {
         self.sent = 0;
     }
 
-    /// The next octets were sent, as an answer of this name: so many, or all where there are fewer.
+    /// Records that the next `count` octets were sent, or all that are left if there are fewer, as the answer of this
+    /// id.
     pub(crate) fn advance(&mut self, answer: AnswerId, count: usize)
         ensures group { self.new.group ≡ answer.group }
         ensures subfunction { self.new.subfunction ≡ answer.subfunction }
@@ -137,7 +137,7 @@ impl Slices {
         self.sent += count.min(left);
     }
 
-    /// Lets go of the octets.
+    /// Drops the octets.
     pub(crate) fn clear(&mut self)
         ensures { self.new.rest ≡ [] }
     {
@@ -146,7 +146,7 @@ impl Slices {
     }
 }
 
-/// How many octets of an answer to user data go out at once.
+/// The greatest number of octets in one slice of an answer to user data, on a link with this PDU.
 pub(crate) fn slice_room(pdu: u16) -> usize
     requires { least_pdu ≤ pdu }
     ensures { result ≡ slice_room pdu }

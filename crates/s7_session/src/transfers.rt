@@ -1,4 +1,4 @@
-// The uploads and downloads of a link.
+//! The uploads and downloads of a link.
 ghost use Rattle.std.specs.Prelude.{◌≡◌};
 ghost use Rattle.s7_session.specs.LinkState.{next_sequence};
 
@@ -17,8 +17,8 @@ impl Held {
     ghost use Rattle.s7_session.specs.Transfers.{with_upload, with_server_job, without_download, with_next_piece};
     ghost use Rattle.s7_session.specs.Transfers.{piece_function};
 
-    /// Holds the upload of an image under the next id, which it gives, in place of the one before. The image is
-    /// exchanged for a buffer of the same room.
+    /// Begins the upload of an image in place of the upload before, and returns its id, the one after the last id. The
+    /// image is swapped with an equally large buffer, so `image` keeps its room.
     pub(crate) fn start_upload(&mut self, image: &mut Buffer) -> u8
         requires { image.old.room ≡ 65572 }
         ensures id { result ≡ next_octet (link_of self.old).upload_id }
@@ -31,7 +31,7 @@ impl Held {
         self.upload_id
     }
 
-    /// Drops the upload of this id, and says whether it was held.
+    /// Drops the upload of this id, and returns whether the link held it.
     pub(crate) fn end_upload(&mut self, id: u8) -> bool
         ensures held { result ≡ is_held (link_of self.old).upload id }
         ensures link { link_of self.new ≡ (if result then record (link_of self.old) { upload = None }
@@ -40,7 +40,7 @@ impl Held {
         self.upload.end(id)
     }
 
-    /// Begins the download of a block whose image has so many octets, in place of the one before, and gives the
+    /// Begins the download of a block with an image of `size` octets, in place of the download before, and returns the
     /// server's first job for it.
     pub(crate) fn start_download(&mut self, name: BlockName, size: u32) -> ServerJob
         ensures job { job_of result ≡ record {
@@ -54,8 +54,8 @@ impl Held {
         self.next_job(ServerFunction::SendPiece)
     }
 
-    /// Adds a piece to the image that is awaited, and gives the server's next job. There is none where the piece is
-    /// wrong, or none was awaited: the download is dropped then.
+    /// Adds a piece to the image of the download, and returns the server's next job. If the piece is wrong or none was
+    /// awaited, returns `None` and drops the download.
     pub(crate) fn add_piece(&mut self, more: bool, octets: &[u8]) -> Option<ServerJob>
         ensures link { link_of self.new ≡ with_next_piece (link_of self.old) (link_of self.old).download
             (record { more = more; octets = octets.now }) }
@@ -75,7 +75,7 @@ impl Held {
         }
     }
 
-    /// Drops the download, and awaits no answer of the client.
+    /// Drops the download. The server then awaits no answer of the client.
     pub(crate) fn drop_download(&mut self)
         ensures { link_of self.new ≡ without_download (link_of self.old) }
     {
@@ -83,14 +83,14 @@ impl Held {
         self.server_job = None;
     }
 
-    /// The client answered the server's last job.
+    /// Records that the client answered the server's last job. The download stays.
     pub(crate) fn close_download(&mut self)
         ensures { link_of self.new ≡ record (link_of self.old) { server_job = None } }
     {
         self.server_job = None;
     }
 
-    // Counts a job of the server's own.
+    /// Counts a job of the server's own, and returns it with its sequence.
     fn next_job(&mut self, function: ServerFunction) -> ServerJob
         ensures job { job_of result ≡ record {
           sequence = next_sequence (link_of self.old).job_sequence;
@@ -112,7 +112,7 @@ impl Held {
     }
 }
 
-// The next sequence of the server's own jobs: after FFFF comes 0001.
+/// The sequence of the server's own jobs after this one; 0001 follows FFFF.
 fn next_sequence(sequence: u16) -> u16
     ensures { result ≡ next_sequence sequence }
 {

@@ -8,7 +8,7 @@ use Rattle.s7_split.specs.Fits.{fits}
 use Rattle.s7_split.specs.declared.packing.PackFault.{PackFault}
 use Rattle.s7_split.specs.declared.packing.PackFault.TheVariants.{TooMany, ItemOverPdu}
 
--- the place of the first item that fits no telegram alone, where the list begins at place `at`
+-- the index of the first item that doesn't fit a telegram even alone; the list begins with index `at`
 abbrev pub first_over : ℕ → Bool → ℕ → List Item → Option ℕ
 first_over pdu write at [] = None
 first_over pdu write at (item ∷ items) =
@@ -23,7 +23,7 @@ abbrev pub packed_of : ℕ → Bool → List Item → Result Unit PackFault
 packed_of pdu write items =
     if nat_lt 20 (length items) then Err TooMany else over_of (first_over pdu write 0 items)
 
--- the groups of the items that follow those of a group which isn't full yet, and this group first
+-- the groups of these items, which follow the items of a group that isn't full yet; this group comes first
 abbrev pub groups_from : ℕ → Bool → List Item → List Item → List (List Item)
 groups_from pdu write group [] = group ∷ []
 groups_from pdu write group (item ∷ items) =
@@ -31,21 +31,21 @@ groups_from pdu write group (item ∷ items) =
     then groups_from pdu write (group ++ item ∷ []) items
     else group ∷ groups_from pdu write (item ∷ []) items
 
--- the groups of items, each of which fits alone: none where there are no items
+-- the groups of items, each of which fits a telegram alone; no items have no groups
 abbrev pub groups_of : ℕ → Bool → List Item → List (List Item)
 groups_of pdu write [] = []
 groups_of pdu write (item ∷ items) = groups_from pdu write (item ∷ []) items
 
--- where each group ends in the list of all their items, which begins at place `from`
+-- the index at which each group ends in the list of all their items, which begins with index `from`
 abbrev pub ends_of : ℕ → List (List Item) → List ℕ
 ends_of from [] = []
 ends_of from (group ∷ groups) = (from + length group) ∷ ends_of (from + length group) groups
 
--- from this place on there are no ends
+-- from this index on there are no ends
 abbrev pub IsBlankAfter : ℕ → List ℕ → Type 0
 IsBlankAfter count ends = (k : ℕ) → count ≤ k → slice_index ends k ≡ 0
 
--- the pieces of a list from a place on that end at these places
+-- the pieces of a list, cut at these indices; it begins with index `from`
 abbrev pub cut_at : ℕ → List ℕ → List Item → List (List Item)
 cut_at from [] items = []
 cut_at from (end ∷ ends) items = between from end items ∷ cut_at end ends items
@@ -55,21 +55,21 @@ pub record IsGroup (pdu : ℕ) (write : Bool) (group : List Item) : Type 0 where
   pub some : 0 < length group
   pub fits : fits pdu write group ≡ true
 
--- no group but the last still fits with the next item added
+-- no group but the last would still fit with the next item added
 abbrev pub AreFull : ℕ → Bool → List (List Item) → Type 0
 AreFull pdu write [] = Unit {0}
 AreFull pdu write (group ∷ []) = Unit {0}
 AreFull pdu write (group ∷ next ∷ groups) =
     (fits pdu write (group ++ take 1 next) ≡ false) × AreFull pdu write (next ∷ groups)
 
--- The lists are the groups of items: one after another they are these items, each in its order and
--- once, each group fits, and each but the last is full.
+-- The lists are the groups of items: one after another they are these items, each item once and in order; each
+-- group fits; and each but the last is full.
 pub record AreGroups (pdu : ℕ) (write : Bool) (items : List Item) (groups : List (List Item)) : Type 0 where
   pub whole : flat_map (λ (group : List Item). group) groups ≡ items
   pub each : AllByRecursion (IsGroup pdu write) groups
   pub full : AreFull pdu write groups
 
--- lists of items are the list of groups exactly where they are the groups of the items
+-- lists of items are the list of groups exactly if they are the groups of the items
 abbrev pub GroupsAreExact : Type 0
 GroupsAreExact =
     (pdu : ℕ) (write : Bool) (items : List Item) (groups : List (List Item))
@@ -82,7 +82,7 @@ GroupsAreShort =
     (pdu : ℕ) (write : Bool) (items : List Item) → packed_of pdu write items ≡ Ok tt
     → AllByRecursion (λ (group : List Item). length group ≤ 20) (groups_of pdu write items)
 
--- cut where the groups end, the items give the groups back
+-- cutting the items where the groups end gives the groups again
 abbrev pub EndsCutGroups : Type 0
 EndsCutGroups =
     (groups : List (List Item))

@@ -1,14 +1,14 @@
-// What fits a PDU length.
+//! What fits a PDU length.
 ghost use Rattle.std.specs.Prelude.{◌≡◌};
 ghost use Rattle.s7_split.specs.Fits.{fits};
 
 use s7_item::{Items, answer_size, request_size};
 
-// The octets of an answer before its data items or codes.
+/// The number of octets of an answer before its data items or codes.
 const ANSWER_HEAD: u32 = 14;
 
-/// The request for these items and its answer, where every item has all its octets, are no longer
-/// than the PDU length.
+/// Whether the request for these items and its answer, with all octets of every item, are at most as long as the
+/// PDU length.
 #[tactic(auto, unfolding(crate::specs::Fits::fits))]
 pub(crate) fn fits(items: &Items, pdu: u16, write: bool) -> bool
     ensures { result ≡ fits pdu write items.now }

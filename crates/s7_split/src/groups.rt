@@ -1,13 +1,15 @@
-// Where groups of items end.
+//! Where the groups of a list of items end.
 ghost use Rattle.std.specs.Prelude.{◌≡◌, ◌+◌, ◌<◌, ◌≤◌, ◌++◌, [], ◌∷◌, take};
 ghost use Rattle.s7_split.specs.Groups.{IsBlankAfter};
 
-/// Groups of items that follow one another in a list, at most twenty: how many there are, and in
-/// the first `count` places of `ends` where each ends. A group begins where the one before it ends,
-/// the first at 0, and its end isn't in it. The other places are 0.
+/// Groups of successive items of a list, at most twenty groups. `count` is their number. The first `count` elements
+/// of `ends` are the index at which each group ends, exclusive; the others are 0. A group begins where the one
+/// before it ends, and the first begins at 0.
 #[derive(Clone, Copy, Debug, PartialEq, Eq)]
 pub struct Groups {
+    /// The number of groups.
     pub count: u8,
+    /// The index at which each group ends, exclusive; 0 after the last group.
     pub ends: [u8; 20],
 }
 
@@ -23,7 +25,7 @@ impl Groups {
         }
     }
 
-    // One more group, which ends at `end`.
+    /// Appends a group that ends at `end`.
     pub(crate) fn push(&mut self, end: u8)
         requires room { self.old.count < 20 }
         requires blank { IsBlankAfter self.old.count self.old.ends }

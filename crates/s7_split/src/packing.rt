@@ -1,4 +1,4 @@
-// Items packed into as few telegrams as their order lets.
+//! Items packed into as few telegrams as their order allows.
 ghost use Rattle.std.specs.Prelude.{◌≡◌, ◌+◌, ◌<◌, ◌≤◌, [], ◌∷◌, ◌++◌, length, take, drop, true, OnOk, OnErr};
 ghost use Rattle.s7_split.specs.Fits.{fits};
 ghost use Rattle.s7_split.specs.Groups.{first_over, packed_of, groups_of, ends_of, IsBlankAfter};
@@ -12,15 +12,14 @@ use s7_item::{Item, Items, MOST_ITEMS};
 pub enum PackFault {
     /// There are more than twenty items.
     TooMany,
-    /// The item at this place, counted from 0, fits no telegram alone, and no item before it.
+    /// The item with this index, counted from 0, doesn't fit any telegram, even alone. It is the first such item.
     ItemOverPdu { place: usize },
 }
 
-/// Packs items, in order, into groups, each with as many items as fit its request and the answer
-/// for a PDU length of `pdu`, for a write if `write` is true. `groups` holds these groups after Ok,
-/// none after a refusal. `TooMany` comes exactly where there are more than twenty items, and else
-/// `ItemOverPdu` at the first item that fits no telegram alone. An item of an unknown word counts as
-/// one without octets.
+/// Packs items, in order, into groups. Each group takes as many items as fit its request and the answer for a PDU
+/// length of `pdu`; `write` says whether they are written. After Ok `groups` holds these groups; after a refusal it
+/// holds none. Returns `TooMany` exactly if there are more than twenty items, and else `ItemOverPdu` for the first
+/// item that doesn't fit a telegram even alone. An item of an unknown word length counts as one without octets.
 pub fn pack(items: &[Item], pdu: u16, write: bool, groups: &mut Groups) -> Result<(), PackFault>
     ensures result { result ≡ packed_of pdu write items.now }
     ensures ends { OnOk result (take groups.new.count groups.new.ends ≡ ends_of 0 (groups_of pdu write items.now)) }
@@ -39,7 +38,7 @@ pub fn pack(items: &[Item], pdu: u16, write: bool, groups: &mut Groups) -> Resul
     Ok(())
 }
 
-// The place of the first item that fits no telegram alone.
+/// The index of the first item that doesn't fit a telegram even alone.
 fn first_over(items: &[Item], pdu: u16, write: bool) -> Option<usize>
     ensures { result ≡ first_over pdu write 0 items.now }
 {
@@ -53,7 +52,7 @@ fn first_over(items: &[Item], pdu: u16, write: bool) -> Option<usize>
     None
 }
 
-// Packs items of which the first fits alone.
+/// Packs items, each of which fits a telegram alone.
 fn pack_each(items: &[Item], pdu: u16, write: bool, groups: &mut Groups)
     requires most { length items.now ≤ 20 }
     requires first { 0 < length items.now → fits pdu write (take 1 items.now) ≡ true }

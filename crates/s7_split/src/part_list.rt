@@ -1,4 +1,4 @@
-// The parts of an item, one after another.
+//! The parts of an item, as an iterator.
 ghost use Rattle.std.specs.Prelude.{◌≡◌, ◌+◌, ◌-◌, ◌/◌, ◌^◌, ◌<◌, ◌≤◌};
 ghost use Rattle.std.specs.Iterator.{YieldsFirst, item_count};
 ghost use Rattle.s7_split.specs.Parts.{step, elements, parts_from};
@@ -12,12 +12,16 @@ const COUNTERS: u8 = 0x1C;
 /// The area of timers, which are addressed by number.
 const TIMERS: u8 = 0x1D;
 
-/// The parts of an item, in order. An iterator of items, which takes no memory.
+/// The parts of an item, in order, as an iterator of items. It allocates nothing.
 #[derive(Drop)]
 pub struct Parts {
+    /// The item that is split.
     item: Item,
+    /// The greatest number of elements of a part.
     room: u16,
+    /// The index of the first element of the next part.
     from: u16,
+    /// The number of elements left.
     left: u16,
 }
 
@@ -34,7 +38,7 @@ impl Model for Parts {
 }
 
 impl Parts {
-    // Those of an item of at least one element, so many elements in each.
+    /// The parts of an item of at least one element, with `room` elements in each; the last may have fewer.
     pub(crate) fn of(item: &Item, room: u16) -> Parts
         requires some { 0 < item.now.count }
         requires room { 0 < room }
@@ -69,7 +73,7 @@ impl Iterator for Parts {
     }
 }
 
-// By how much the address rises from an element to the next.
+/// How much the address rises from one element to the next.
 fn step(item: &Item) -> u32
     ensures step { result ≡ step item.now }
     ensures most { result ≤ 32 }
@@ -81,7 +85,7 @@ fn step(item: &Item) -> u32
     }
 }
 
-// The item of `count` elements from the one at place `from` on.
+/// The item of `count` elements of this one, beginning with the element of index `from`.
 fn elements(item: &Item, from: u16, count: u16) -> Item
     requires { item.now.address ≤ 2 ^ 25 }
     ensures { result ≡ elements item.now from count }

@@ -1,4 +1,4 @@
-// An item that is longer than a telegram, split into parts.
+//! An item that is too long for a telegram, split into parts.
 ghost use Rattle.std.specs.Prelude.{◌≡◌, ◌^◌, ◌<◌, ◌≤◌, IsSome};
 ghost use Rattle.std.specs.List.{AllByRecursion};
 ghost use Rattle.s7_item.specs.Word.{size_of};
@@ -8,18 +8,17 @@ ghost use Rattle.s7_split.specs.Parts.{room_of, range_end, parts_of, AreParts, C
 use crate::part_list::Parts;
 use s7_item::{Item, size_of};
 
-/// The octets of an answer besides a part's elements.
+/// The number of octets of an answer besides a part's elements.
 const BESIDES_READ: u16 = 18;
 
-/// The octets that a write request keeps for what it has besides a part's elements.
+/// The number of octets that a write request reserves besides a part's elements.
 const BESIDES_WRITTEN: u16 = 35;
 
-/// Splits an item into parts for a PDU length of at least 64. The parts have its area, data block
-/// and word, adjoin, and together are its range. A part has `(pdu - 18) / size` elements, for a
-/// write `(pdu - 35) / size`, where `size` is the octets of an element; the last has what is left.
-/// Counters and timers advance by their number, all other areas by octets. The item needs a known
-/// word, at least one element, exactly one if it is a bit, and a range that ends inside the address
-/// field of 24 bits.
+/// Splits an item into parts for a PDU length of at least 64. The parts have its area, data block and word length,
+/// adjoin, and together are its range. A part has `(pdu - 18) / size` elements, for a write `(pdu - 35) / size`,
+/// where `size` is the number of octets of an element; the last part has the elements left. The address of counters
+/// and timers rises by 1 an element, that of other areas by the element's bits. The item has a known word length,
+/// at least one element, exactly one if it is a bit, and a range that ends inside the address field of 24 bits.
 pub fn parts(item: &Item, pdu: u16, write: bool) -> Parts
     requires known { IsSome (size_of item.now.word) }
     requires some { 0 < item.now.count }
@@ -34,7 +33,7 @@ pub fn parts(item: &Item, pdu: u16, write: bool) -> Parts
     Parts::of(item, room)
 }
 
-// How many elements a part has at most.
+/// The greatest number of elements of a part.
 fn room_of(item: &Item, pdu: u16, write: bool) -> u16
     requires known { IsSome (size_of item.now.word) }
     requires least { 64 ≤ pdu }
@@ -45,7 +44,7 @@ fn room_of(item: &Item, pdu: u16, write: bool) -> u16
     (pdu - besides) / size(item)
 }
 
-// How many octets an element has.
+/// The number of octets of an element.
 fn size(item: &Item) -> u16
     requires { IsSome (size_of item.now.word) }
     ensures size { result ≡ size item.now }

@@ -1,5 +1,5 @@
--- What the value of a tag says, by the tag's type. The types are those of STEP 7 (Siemens, S7-300 instruction list, data
--- types); how their values are written is this profile's own.
+-- The meaning of a tag's value, by the tag's type. The types are those of STEP 7 (Siemens, S7-300 instruction list,
+-- data types); the texts of their values are this profile's own.
 use Rattle.std.specs.Prelude.{ℕ, Bool, false, ◌==◌, ◌&&◌, nat_le, List}
 use Rattle.s7_clock.specs.Moment.{is_within}
 use Rattle.s7_text.specs.Moments.{Parts}
@@ -11,9 +11,9 @@ use Rattle.s7_symbol.specs.declared.kind.TagKind.TheVariants as kind
 pub data Meaning : Type 0 where
   number : ℕ → Meaning
   signed : Signed → Meaning
-  -- so many units, and the number of the unit: 0 for 10 ms to 3 for 10 s
+  -- a count of units, and the number of the unit: 0 for 10 ms to 3 for 10 s
   duration : (count : ℕ) → (unit : ℕ) → Meaning
-  -- a string that has room for so many characters, how many it has, and which
+  -- a string: the number of characters for which it has room, the number that it has, and the characters
   string : (room : ℕ) → (count : ℕ) → List ℕ → Meaning
   date : Parts → Meaning
 

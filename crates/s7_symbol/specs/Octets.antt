@@ -1,4 +1,4 @@
--- How values of tags stand in octets.
+-- The octets of tag values.
 use Rattle.std.specs.Prelude.{ℕ, ◌+◌, ◌-◌, ◌*◌, ◌/◌, ◌%◌, ◌==◌, ◌&&◌, if◌then◌else◌, List, [], ◌∷◌, ◌++◌, length, take, drop, replicate, Option, None, Some, option_and_then, option_map}
 use Rattle.std.specs.Str.{bytes_eq}
 use Rattle.s7_clock.specs.Clock.{bcd, digit, number_in, parts_in}
@@ -31,7 +31,7 @@ abbrev pub signed_of_four : List ℕ → Option Meaning
 signed_of_four (a ∷ b ∷ c ∷ d ∷ []) = Some (signed (signed_by 2147483648 (number_of_four a b c d)))
 signed_of_four _ = None
 
--- a number behind hundreds
+-- a number of two digits after hundreds
 abbrev pub behind : ℕ → Option ℕ → Option ℕ
 behind hundreds None = None
 behind hundreds (Some n) = Some (hundreds * 100 + n)
@@ -53,14 +53,14 @@ abbrev pub duration_in : List ℕ → Option Meaning
 duration_in (high ∷ low ∷ []) = option_map (duration_by (high / 16)) (hundreds_of (digit (high % 16)) low)
 duration_in _ = None
 
--- the room, the count, and as many octets as there is room, of which the first are the characters and the others
--- are passed over
+-- the room, the number of characters, and as many octets as the room; the first of these are the characters, and the
+-- others are ignored
 abbrev pub string_in : List ℕ → Option Meaning
 string_in (room ∷ count ∷ rest) =
     if length rest == room then Some (string room count (take count rest)) else None
 string_in _ = None
 
--- the clock octets of a date and time from the year on, with its weekday
+-- the octets are the clock octets of a date and time from the year on, with its weekday
 abbrev pub date_with : List ℕ → Parts → Option Meaning
 date_with octets p =
     if (is_date p && is_time p) && bytes_eq octets (drop 2 (moment_octets (moment_at p))) then Some (date p) else None
@@ -68,7 +68,7 @@ date_with octets p =
 abbrev pub date_in : List ℕ → Option Meaning
 date_in octets = option_and_then (date_with octets) (parts_in (0x00 ∷ 0x19 ∷ octets))
 
--- WHAT OCTETS SAY for a type, whatever the range, and none where no value stands so
+-- THE MEANING OF OCTETS for a type, whether or not it is in the type's range; `None` if they have no value of the type
 abbrev pub octets_meaning : TagKind → List ℕ → Option Meaning
 octets_meaning kind.Bool octets = one_number octets
 octets_meaning kind.Int octets = signed_of_two octets
@@ -83,7 +83,7 @@ octets_meaning kind.DateTime octets = date_in octets
 abbrev pub two_bcd : ℕ → List ℕ
 two_bcd n = bcd (n / 100) ∷ bcd (n % 100) ∷ []
 
--- THE OCTETS of a value in the range of a type: those of a string that aren't used are 00
+-- THE OCTETS of a value in the range of a type; the unused octets of a string are 00
 abbrev pub octets_spelling : TagKind → Meaning → List ℕ
 octets_spelling kind.Bool (number n) = n ∷ []
 octets_spelling kind.Int (signed z) = two_octets (complement 32768 z)

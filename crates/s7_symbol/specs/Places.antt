@@ -1,11 +1,11 @@
--- Where the lines of tag files and of scripts say that something lies: KEY and START.
+-- The places that the lines of tag files and of scripts name: KEY and START.
 use Rattle.std.specs.Prelude.{ℕ, ◌+◌, ◌*◌, Bool, ◌&&◌, nat_le, take, drop, codes, Option, None, Some, if◌then◌else◌}
 use Rattle.std.specs.Str.{bytes_eq}
 use Rattle.s7_item.specs.Codes.{data_blocks, flags, inputs, outputs}
 use Rattle.s7_text.specs.Lines.{Text}
 use Rattle.s7_text.specs.Fields.{number_of, parts_around}
 
--- an area and the number of a data block, 0 for others
+-- an area, and the number of a data block, which is 0 for other areas
 pub record Key : Type 0 where
   pub area : ℕ
   pub db : ℕ
@@ -30,7 +30,7 @@ key_of field =
     else (if bytes_eq field (codes "MK") then single flags
     else None)))
 
--- ---- where in the area, in bits
+-- ---- addresses in an area, in bits
 
 abbrev pub bit_behind : Option ℕ → ℕ → Option ℕ
 bit_behind None octet = None
@@ -49,6 +49,6 @@ abbrev pub in_bits : Option ℕ → Option ℕ
 in_bits None = None
 in_bits (Some octet) = Some (octet * 8)
 
--- an octet, or for a bit an octet, a point and a bit
+-- the address that a start names: an octet, or for a bit an octet, a point and a bit
 abbrev pub address_of : Bool → Text → Option ℕ
 address_of is_bit field = if is_bit then bit_place (parts_around 46 field) else in_bits (up_to 0 2097151 (number_of field))

@@ -59,6 +59,6 @@ pub record HasLine (t : Tag) : Type 0 where
   pub address : t.item.address < 16777216
   pub octet : is_bit t.kind ≡ false → t.item.address % 8 ≡ 0
 
--- ITS LINE IS READ as that tag.
+-- THE LINE of such a tag is read as that tag.
 abbrev pub TagsHaveLines : Type 0
 TagsHaveLines = (t : Tag) → HasLine t → tag_of (tag_line t) ≡ Ok t

@@ -1,4 +1,4 @@
--- What a tag file says: its tags line by line, or the first faulty line.
+-- The tags that a tag file names line by line, or its first faulty line.
 use Rattle.std.specs.Prelude.{◌≡◌, ℕ, ◌+◌, Bool, true, false, ◌==◌, ◌&&◌, ◌||◌, nat_le, nat_lt, List, [], ◌∷◌, ◌++◌, length, codes, Option, None, Some, Result, Ok, Err, if◌then◌else◌}
 use Rattle.std.specs.List.{list_all, list_any}
 use Rattle.std.specs.Str.{bytes_eq}
@@ -57,7 +57,7 @@ fields_of text = first_on (field_of text) (rest_of text)
 abbrev pub is_name_letter : ℕ → Bool
 is_name_letter b = (nat_le 48 b && nat_le b 57) || (nat_le 65 b && nat_le b 90) || (nat_le 97 b && nat_le b 122) || (b == 95)
 
--- 1 to 32 of them
+-- 1 to 32 such characters
 abbrev pub is_name : Text → Bool
 is_name text = (nat_le 1 (length text) && nat_le (length text) 32) && list_all is_name_letter text
 
@@ -65,7 +65,7 @@ abbrev pub text_kind : Option ℕ → Option TagKind
 text_kind None = None
 text_kind (Some most) = Some (kind.Text most)
 
--- the digits before `]`, behind which nothing stands
+-- the digits before `]`, after which nothing follows
 abbrev pub closed : Option (Text × Text) → Option TagKind
 closed None = None
 closed (Some parts) = if length parts.1 == 0 then text_kind (up_to 1 254 (number_of parts.0)) else None
@@ -93,7 +93,7 @@ abbrev pub is_bit : TagKind → Bool
 is_bit kind.Bool = true
 is_bit _ = false
 
--- how many octets a value has
+-- the number of octets of a value
 abbrev pub size_of : TagKind → ℕ
 size_of kind.Bool = 1
 size_of kind.Int = 2
@@ -103,7 +103,7 @@ size_of kind.S5Time = 2
 size_of (kind.Text most) = most + 2
 size_of kind.DateTime = 8
 
--- a bit, or so many bytes
+-- a bit, or as many bytes as the type has
 abbrev pub item_at : TagKind → Key → ℕ → Item
 item_at of key address = record {
   area = key.area;
@@ -132,7 +132,7 @@ tag_of text = do
 abbrev pub has_name : Text → List Tag → Bool
 has_name name tags = list_any (λ (t : Tag). bytes_eq t.name name) tags
 
--- a tag of a new name behind fewer than 2,048
+-- a tag with a new name, after fewer than 2,048 tags
 abbrev pub joined : List Tag → Tag → Result (List Tag) TagFaultKind
 joined tags tag =
     if has_name tag.name tags then Err fault.Double
@@ -147,7 +147,7 @@ abbrev pub at_line : ℕ → Result (List Tag) TagFaultKind → Result (List Tag
 at_line line (Ok tags) = Ok tags
 at_line line (Err kind) = Err (record { line = line; kind = kind })
 
--- the lines from this number on, behind these tags
+-- the lines from this number on, after these tags
 unfoldable pub tags_from : ℕ → List Tag → List Text → Result (List Tag) TagFault
 tags_from line tags [] = Ok tags
 tags_from line tags (text ∷ rest) = do
@@ -168,7 +168,7 @@ abbrev pub GivesTags : Result (List Tag) TagFault → Result (List Tag) TagFault
 GivesTags (Ok tags) told = told ≡ Ok tags
 GivesTags (Err e) told = FailsAs e e.kind told
 
--- what holds of every tag of a file
+-- what holds for every tag of a file
 pub record IsTag (t : Tag) : Type 0 where
   pub name : is_name t.name ≡ true
   pub size : t.item.count ≡ size_of t.kind

@@ -1,4 +1,4 @@
--- How values of tags are written.
+-- The texts of tag values.
 use Rattle.std.specs.Prelude.{◌≡◌, ℕ, Bool, ◌&&◌, ◌||◌, nat_le, nat_lt, if◌then◌else◌, List, [], ◌∷◌, ◌++◌, length, codes, Option, None, Some, option_map, Result, Ok, Err}
 use Rattle.std.specs.List.{list_all}
 use Rattle.std.specs.Result.{result_unwrap_or}
@@ -38,7 +38,7 @@ abbrev pub or_none : Result (List ℕ) FromHexError → Option (List ℕ)
 or_none (Ok octets) = Some octets
 or_none (Err e) = None
 
--- `-` for no characters, else their octets in pairs of such digits
+-- `-` for no characters, otherwise their octets in pairs of such digits
 abbrev pub characters_in : Text → Option (List ℕ)
 characters_in text =
     if bytes_eq text (codes "-") then Some []
@@ -57,7 +57,7 @@ pub record AreDigitsOf (digits : List ℕ) (text : Text) : Type 0 where
 abbrev pub string_for : ℕ → List ℕ → Meaning
 string_for room characters = string room (length characters) characters
 
--- WHAT A TEXT SAYS for a type, whatever the range, and none where no value is written so
+-- THE MEANING OF A TEXT for a type, whether or not it is in the type's range; `None` if it writes no value of the type
 abbrev pub text_meaning : TagKind → Text → Option Meaning
 text_meaning kind.Bool text = option_map number (plain_number text)
 text_meaning kind.Int text = option_map signed (signed_number text)

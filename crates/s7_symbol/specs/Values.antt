@@ -1,4 +1,4 @@
--- THE VALUES of tags: what is written, and what stands in octets.
+-- THE VALUES of tags: how their texts and their octets belong together.
 use Rattle.std.specs.Prelude.{◌≡◌, ℕ, true, false, ◌+◌, ◌-◌, if◌then◌else◌, List, [], ◌++◌, length, take, drop, replicate, slice_index, Option, None, Some, Result, Ok, Err, IsOk}
 use Rattle.s7_outer.specs.Numbers.{AreOctets}
 use Rattle.s7_text.specs.Lines.{Text}
@@ -10,44 +10,44 @@ use Rattle.s7_symbol.specs.declared.fault.ValueFault.TheVariants as fault
 use Rattle.s7_symbol.specs.declared.kind.TagKind.{TagKind}
 use Rattle.s7_symbol.specs.declared.kind.TagKind.TheVariants as kind
 
--- A VALUE of a type: a text and octets that say the same, which is in the type's range
+-- A VALUE of a type: a text and octets with the same meaning, which is in the type's range
 pub record Value (of : TagKind) (text : Text) (octets : List ℕ) : Type 0 where
   pub meaning : Meaning
   pub written : text_meaning of text ≡ Some meaning
   pub stored : octets_meaning of octets ≡ Some meaning
   pub in_range : is_in_range of meaning ≡ true
 
--- the octets of a string behind its characters
+-- the octets of a string after its characters
 abbrev pub unused : TagKind → List ℕ → List ℕ
 unused (kind.Text most) octets = drop (2 + slice_index octets 1) octets
 unused _ octets = []
 
--- what is before them
+-- the octets before the unused ones
 abbrev pub used : TagKind → List ℕ → List ℕ
 used of octets = take (length octets - length (unused of octets)) octets
 
--- ---- what the calls answer
+-- ---- what the calls return
 
--- so many octets stand at the front of a room, and what was behind them still does
+-- these octets are at the beginning of a buffer, and the octets after them are as before
 pub record Stands (said : List ℕ) (old new : List ℕ) (n : ℕ) : Type 0 where
   pub count : n ≡ length said
   pub room : new ≡ said ++ drop (length said) old
 
--- what says no value of the type, and what says one that is outside its range
+-- the fault of something without a value of the type, and of something with a value outside its range
 abbrev pub IsRefused : TagKind → Option Meaning → ValueFault → Type 0
 IsRefused of None fault.Form = Unit {0}
 IsRefused of None fault.Range = ⊥
 IsRefused of (Some meaning) fault.Form = ⊥
 IsRefused of (Some meaning) fault.Range = is_in_range of meaning ≡ false
 
--- octets that are a text's value, those that aren't used being 00
+-- octets with the value of a text, whose unused octets are 00
 pub record AreOctetsOf (of : TagKind) (text : Text) (old new : List ℕ) (n : ℕ) : Type 0 where
   pub octets : List ℕ
   pub value : Value of text octets
   pub blank : unused of octets ≡ replicate (length (unused of octets)) 0x00
   pub stands : Stands octets old new n
 
--- WHAT `octets_of` ANSWERS
+-- WHAT `octets_of` RETURNS
 abbrev pub AnswersOctets : TagKind → Text → List ℕ → List ℕ → Result ℕ ValueFault → Type 0
 AnswersOctets of text old new (Ok n) = AreOctetsOf of text old new n
 AnswersOctets of text old new (Err e) = IsRefused of (text_meaning of text) e × (new ≡ old)
@@ -57,14 +57,14 @@ pub record IsTextOf (of : TagKind) (octets : List ℕ) (old new : List ℕ) (n :
   pub value : Value of text octets
   pub stands : Stands text old new n
 
--- WHAT `text_of` ANSWERS
+-- WHAT `text_of` RETURNS
 abbrev pub AnswersText : TagKind → List ℕ → List ℕ → List ℕ → Result ℕ ValueFault → Type 0
 AnswersText of octets old new (Ok n) = IsTextOf of octets old new n
 AnswersText of octets old new (Err e) = IsRefused of (octets_meaning of octets) e × (new ≡ old)
 
 -- ---- the same step by step
 
--- what is spelled of a meaning, or why not
+-- the octets or the text of a meaning, or the fault
 abbrev pub spelled : TagKind → (Meaning → List ℕ) → Option Meaning → Result (List ℕ) ValueFault
 spelled of spell None = Err fault.Form
 spelled of spell (Some meaning) = if is_in_range of meaning then Ok (spell meaning) else Err fault.Range
@@ -76,16 +76,16 @@ octets_said of text = spelled of (octets_spelling of) (text_meaning of text)
 abbrev pub text_said : TagKind → List ℕ → Result Text ValueFault
 text_said of octets = spelled of text_spelling (octets_meaning of octets)
 
--- what a call answers that puts such a list into a room
+-- what a call returns that writes such a list to a buffer
 abbrev pub PutsSaid : Result (List ℕ) ValueFault → List ℕ → List ℕ → Result ℕ ValueFault → Type 0
 PutsSaid (Ok said) old new (Ok n) = Stands said old new n
 PutsSaid (Ok said) old new (Err e) = ⊥
 PutsSaid (Err e) old new (Ok n) = ⊥
 PutsSaid (Err e) old new (Err f) = (f ≡ e) × (new ≡ old)
 
--- ---- laws, of octets and not of greater numbers
+-- ---- laws, for octets below 256
 
--- THE CALLS ANSWER Ok exactly by `Value`, and else as the meaning says.
+-- THE CALLS RETURN Ok exactly for a `Value`, and otherwise the fault by the meaning.
 pub record ValuesAnswer : Type 0 where
   pub octets : (of : TagKind) (text : Text) (old new : List ℕ) (told : Result ℕ ValueFault)
       → PutsSaid (octets_said of text) old new told → AnswersOctets of text old new told
@@ -95,7 +95,7 @@ pub record ValuesAnswer : Type 0 where
   pub both : (of : TagKind) (text : Text) (octets : List ℕ) → Value of text octets
       → IsOk (octets_said of text) × IsOk (text_said of octets)
 
--- A VALUE HAS ONE TEXT and, but for what a string leaves unused, one list of octets.
+-- A VALUE HAS ONE TEXT and, apart from the unused octets of a string, one list of octets.
 pub record ValuesAreOne : Type 0 where
   pub text : (of : TagKind) (one other : Text) (octets : List ℕ) → Value of one octets → Value of other octets → one ≡ other
   pub octets : (of : TagKind) (text : Text) (one other : List ℕ) → AreOctets one → AreOctets other

@@ -1,4 +1,5 @@
-//! Tags: names of places with the types of their values, and the values as texts and as octets.
+//! Tags: names for places in areas with the types of their values. Reads and writes these values as texts and as
+//! octets.
 #![tactic(auto)]
 
 mod fault;

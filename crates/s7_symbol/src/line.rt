@@ -32,7 +32,7 @@ pub(crate) struct Placed {
     db: u16,
 }
 
-/// The tag of a line. `Memory` comes where there is none for its name.
+/// Reads the tag of a line. Returns `Memory` if the allocation for its name fails.
 pub(crate) fn read_tag(alloc: Global, text: &[u8]) -> Result<Tag, TagFaultKind>
     ensures { AnswersTag text.now result }
 {
@@ -61,7 +61,7 @@ pub(crate) fn read_tag(alloc: Global, text: &[u8]) -> Result<Tag, TagFaultKind>
     })
 }
 
-/// The four fields of a line; `None` where it has fewer or more.
+/// The four fields of a line; `None` if it has fewer or more.
 fn fields_of(text: &[u8]) -> Option<FieldTexts<'_>>
     ensures { option_map fields_told result ≡ fields_of text.now }
 {
@@ -80,7 +80,7 @@ fn fields_of(text: &[u8]) -> Option<FieldTexts<'_>>
     }
 }
 
-/// Whether it is 1 to 32 ASCII letters, digits or `_`.
+/// Whether the text is 1 to 32 ASCII letters, digits or `_`.
 fn is_name(text: &[u8]) -> bool
     ensures { result ≡ is_name text.now }
 {
@@ -96,7 +96,7 @@ fn are_name_letters(text: &[u8]) -> bool
     })
 }
 
-/// The type of this name.
+/// The type of this name, `None` if there is none.
 fn kind_named(name: &[u8]) -> Option<TagKind>
     ensures { result ≡ kind_named name.now }
 {
@@ -117,7 +117,7 @@ fn kind_named(name: &[u8]) -> Option<TagKind>
     }
 }
 
-/// The type `STRING[n]` of this name, with an n from 1 to 254.
+/// The type `STRING[n]` of this name, with an n from 1 to 254; `None` if it has another form.
 fn string_kind(name: &[u8]) -> Option<TagKind>
     ensures { result ≡ string_kind name.now }
 {
@@ -133,7 +133,7 @@ fn string_kind(name: &[u8]) -> Option<TagKind>
     Some(TagKind::Text(most as u8))
 }
 
-/// The area of a key: `PE`, `PA`, `MK`, or `DB` and a number.
+/// The area of a key: `PE`, `PA`, `MK`, or `DB` and a number; `None` for any other text.
 fn key_of(field: &[u8]) -> Option<Placed>
     ensures { option_map placed_told result ≡ key_of field.now }
 {
@@ -156,7 +156,7 @@ fn key_of(field: &[u8]) -> Option<Placed>
     Some(Placed { area, db: 0 })
 }
 
-/// A number in a range.
+/// The number, if there is one and it is in this range.
 fn up_to(low: u64, high: u64, found: Option<u64>) -> Option<u64>
     ensures value { result ≡ up_to low high found }
     ensures most { IfSome result (λ n. n ≤ high) }
@@ -167,7 +167,7 @@ fn up_to(low: u64, high: u64, found: Option<u64>) -> Option<u64>
     }
 }
 
-/// The address that a start names, in bits.
+/// The address that a start names, in bits; `None` if it names none.
 fn address_of(is_bit: bool, field: &[u8]) -> Option<u32>
     ensures { result ≡ address_of is_bit field.now }
 {
@@ -197,7 +197,7 @@ fn is_bit(kind: TagKind) -> bool
     }
 }
 
-/// How many octets a value has.
+/// The number of octets of a value of this type.
 fn size_of(kind: TagKind) -> u16
     ensures { result ≡ size_of kind }
 {
@@ -210,7 +210,7 @@ fn size_of(kind: TagKind) -> u16
     }
 }
 
-/// A bit, or so many bytes.
+/// The item of a tag: a bit, or as many bytes as the type has.
 fn item_at(kind: TagKind, key: Placed, address: u32) -> Item
     ensures { result ≡ item_at kind (placed_told key) address }
 {

@@ -1,4 +1,4 @@
-//! Numbers as tags write them.
+//! Numbers as tag values write them.
 ghost use Rattle.std.specs.Prelude.{◌≡◌, ◌≤◌, ◌<◌, ◌*◌, length, option_map, true};
 ghost use Rattle.std.specs.Fmt.{decimal};
 ghost use Rattle.s7_symbol.specs.Numbers.{counted_to, is_plain, plain_number};
@@ -7,7 +7,7 @@ ghost use Rattle.s7_symbol.specs.Values.{Stands};
 use itoa::Buffer;
 use s7_text::{all_digits, value_of};
 
-/// No number is told apart from here on.
+/// Numbers from here on are not distinguished.
 const BEYOND: u64 = 10_000_000_000;
 
 /// A whole number: its sign and its size.
@@ -21,7 +21,8 @@ impl Signed {
     ghost use Rattle.s7_symbol.specs.Numbers.{complement, fits_half, signed_by, signed_number, signed_to};
     ghost use Rattle.s7_symbol.specs.Texts.{signed_text};
 
-    /// The whole number that a text is, which `BEYOND` stands for where its size is that or more.
+    /// The whole number that a text writes, with a size of `BEYOND` for every greater size; `None` if the text is no
+    /// whole number.
     pub(crate) fn read(text: &[u8]) -> Option<Signed>
         ensures { result ≡ option_map signed_to (signed_number text.now) }
     {
@@ -43,7 +44,8 @@ impl Signed {
         }
     }
 
-    /// Whether two's complement has it, in octets that say twice `half` numbers.
+    /// Whether the number is from -`half` to `half` - 1, the range of a two's complement number that has 2 * `half`
+    /// values.
     pub(crate) fn fits(self, half: u64) -> bool
         ensures { result ≡ fits_half half self }
     {
@@ -54,7 +56,7 @@ impl Signed {
         }
     }
 
-    /// What stands for it in two's complement.
+    /// The two's complement representation of the number, among 2 * `half` values.
     pub(crate) fn complement(self, half: u64) -> u64
         requires few { half ≤ 2147483648 }
         requires fits { fits_half half self ≡ true }
@@ -69,7 +71,7 @@ impl Signed {
         }
     }
 
-    /// What this stands for in two's complement.
+    /// The number that `n` represents in two's complement, among 2 * `half` values.
     pub(crate) fn of_complement(half: u64, n: u64) -> Signed
         requires few { half ≤ 2147483648 }
         requires below { n < 2 * half }
@@ -89,7 +91,8 @@ impl Signed {
         }
     }
 
-    /// Puts its text to the front of a room.
+    /// Writes the number's text to the beginning of `into`, which has at least 41 octets, and returns the text's
+    /// length.
     pub(crate) fn put(self, into: &mut [u8]) -> usize
         requires { 41 ≤ length into.old }
         ensures { Stands (signed_text self) into.old into.new result }
@@ -104,7 +107,8 @@ impl Signed {
     }
 }
 
-/// The number that a text of digits is, without a zero in front of others; `BEYOND` where it is that or more.
+/// The number that a text of digits without a leading zero writes, `BEYOND` if it is that or more; `None` for any other
+/// text.
 pub(crate) fn plain_number(text: &[u8]) -> Option<u64>
     ensures { result ≡ option_map counted_to (plain_number text.now) }
 {
@@ -117,14 +121,14 @@ pub(crate) fn plain_number(text: &[u8]) -> Option<u64>
     }
 }
 
-/// Whether a text is decimal digits, at least one, and no zero in front of others.
+/// Whether a text is decimal digits, at least one, without a leading zero.
 fn is_plain(text: &[u8]) -> bool
     ensures { result ≡ is_plain text.now }
 {
     !text.is_empty() && all_digits(text) && (text[0] != b'0' || text.len() == 1)
 }
 
-/// Puts a number in decimal to the front of a room.
+/// Writes a number in decimal to the beginning of `into`, which has at least 40 octets, and returns the text's length.
 pub(crate) fn put_number(n: u64, into: &mut [u8]) -> usize
     requires { 40 ≤ length into.old }
     ensures { Stands (decimal n) into.old into.new result }
@@ -133,7 +137,7 @@ pub(crate) fn put_number(n: u64, into: &mut [u8]) -> usize
     put(buffer.format(n).as_bytes(), into)
 }
 
-/// Puts octets to the front of a room.
+/// Writes octets to the beginning of `into`, and returns how many they are.
 pub(crate) fn put(octets: &[u8], into: &mut [u8]) -> usize
     requires { length octets.now ≤ length into.old }
     ensures { Stands octets.now into.old into.new result }

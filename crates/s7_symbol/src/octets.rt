@@ -1,4 +1,4 @@
-//! Texts of values as octets.
+//! From texts to the octets of values.
 ghost use Rattle.std.specs.Prelude.{◌≡◌, ◌≤◌, ◌<◌, length};
 ghost use Rattle.s7_outer.specs.Numbers.{two_octets};
 ghost use Rattle.s7_clock.specs.Clock.{bcd};
@@ -12,9 +12,9 @@ use crate::strings::put_characters;
 use s7_clock::{date_of, to_octets};
 use s7_text::{names_date, read_moment, split_mark};
 
-/// Puts the octets of a value of this type to the front of a room of at least 512, and says how many they are. `Form`
-/// comes where no value of the type is written so, whatever its range, and `Range` where one outside its range is;
-/// then the room is as it was.
+/// Writes the octets of the value that `text` writes in this type to the beginning of `into`, which has at least 512
+/// octets, and returns their number. Returns `Form` if the text writes no value of the type, even outside its range,
+/// and `Range` if it writes one outside its range; then `into` is unchanged.
 pub fn octets_of(kind: TagKind, text: &[u8], into: &mut [u8]) -> Result<usize, ValueFault>
     requires { 512 ≤ length into.old }
     ensures { PutsSaid (octets_said kind text.now) into.old into.new result }
@@ -30,7 +30,7 @@ pub fn octets_of(kind: TagKind, text: &[u8], into: &mut [u8]) -> Result<usize, V
     }
 }
 
-/// The octet of a `BOOL`.
+/// The octet of the `BOOL` that a text writes.
 fn bool_octets(text: &[u8]) -> Result<[u8; 1], ValueFault>
     ensures { result ≡ octets_said TagKind.Bool text.now }
 {
@@ -41,7 +41,7 @@ fn bool_octets(text: &[u8]) -> Result<[u8; 1], ValueFault>
     }
 }
 
-/// The octets of an `INT`.
+/// The octets of the `INT` that a text writes.
 fn int_octets(text: &[u8]) -> Result<[u8; 2], ValueFault>
     ensures { result ≡ octets_said TagKind.Int text.now }
 {
@@ -52,7 +52,7 @@ fn int_octets(text: &[u8]) -> Result<[u8; 2], ValueFault>
     }
 }
 
-/// The octets of a `DINT`.
+/// The octets of the `DINT` that a text writes.
 fn dint_octets(text: &[u8]) -> Result<[u8; 4], ValueFault>
     ensures { result ≡ octets_said TagKind.Dint text.now }
 {
@@ -63,7 +63,7 @@ fn dint_octets(text: &[u8]) -> Result<[u8; 4], ValueFault>
     }
 }
 
-/// The octets of a `BCD`.
+/// The octets of the `BCD` that a text writes.
 fn bcd_octets(text: &[u8]) -> Result<[u8; 2], ValueFault>
     ensures { result ≡ octets_said TagKind.Bcd text.now }
 {
@@ -74,7 +74,7 @@ fn bcd_octets(text: &[u8]) -> Result<[u8; 2], ValueFault>
     }
 }
 
-/// The octets of an `S5TIME`.
+/// The octets of the `S5TIME` that a text writes.
 fn duration_octets(text: &[u8]) -> Result<[u8; 2], ValueFault>
     ensures { result ≡ octets_said TagKind.S5Time text.now }
 {
@@ -97,7 +97,7 @@ fn duration_octets(text: &[u8]) -> Result<[u8; 2], ValueFault>
     }
 }
 
-/// The octets of a `DATE_AND_TIME`.
+/// The octets of the `DATE_AND_TIME` that a text writes.
 fn date_octets(text: &[u8]) -> Result<[u8; 8], ValueFault>
     ensures { result ≡ octets_said TagKind.DateTime text.now }
 {

@@ -9,17 +9,17 @@ use crate::tag::{Tag, Tags};
 use s7_text::first_line;
 use std::alloc::Global;
 
-/// How many tags a file may have.
+/// The greatest number of tags in a file.
 const MOST_TAGS: usize = 2_048;
 
 /// The tags of a file, or its first wrong line.
 ///
-/// Each line ends with LF, before which a CR is passed over; the last LF may be missing. Empty lines and lines that
-/// begin with `#` are passed over. Every other line is `NAME TYPE KEY START`, with one space between fields. NAME is 1
+/// Each line ends with LF; a CR right before the LF is skipped, and the last LF may be missing. Empty lines and lines
+/// that begin with `#` are skipped. Every other line is `NAME TYPE KEY START`, with one space between fields. NAME is 1
 /// to 32 ASCII letters, digits or `_`. TYPE is `BOOL`, `INT`, `DINT`, `BCD`, `S5TIME`, `STRING[n]` with an n from 1 to
-/// 254, or `DATE_AND_TIME`. KEY is `PE`, `PA`, `MK`, or `DB` and the number of the data block from 1 to 65,535. START is
-/// an octet from 0 to 2,097,151; for `BOOL` an octet, a point and a bit from 0 to 7. Numbers are decimal, with at most
-/// ten digits. What is wrong with a line is found in the order of `TagFaultKind`.
+/// 254, or `DATE_AND_TIME`. KEY is `PE`, `PA`, `MK`, or `DB` and the number of the data block from 1 to 65,535. START
+/// is an octet from 0 to 2,097,151; for `BOOL` it is an octet, a point and a bit from 0 to 7. Numbers are decimal, with
+/// at most ten digits. The faults of a line are checked in the order of `TagFaultKind`.
 pub fn read_tags(alloc: Global, text: &[u8]) -> Result<Tags, TagFault>
     ensures { GivesTags result (tags text.now) }
 {
@@ -37,7 +37,7 @@ pub fn read_tags(alloc: Global, text: &[u8]) -> Result<Tags, TagFault>
     Ok(Tags::of_vec(found))
 }
 
-/// Adds the tag of a line, where it has one.
+/// Adds the tag of a line, if the line has one.
 fn take_line(alloc: Global, text: &[u8], found: &mut Vec<Tag>) -> Result<(), TagFaultKind>
     ensures ok { OnOk result (with_tag found.old.items text.now ≡ Ok found.new.items) }
     ensures err { IfErr result (FailsLine found.old.items text.now) }

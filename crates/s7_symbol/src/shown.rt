@@ -1,4 +1,4 @@
-//! What is shown of octets.
+//! The text that is shown for the octets of a tag.
 ghost use Rattle.std.specs.Prelude.{◌≡◌, ◌++◌, OnErr, OnOk, codes};
 ghost use Rattle.hex.specs.Hex.{encode_lower};
 ghost use Rattle.s7_symbol.specs.Shown.{shown};
@@ -8,8 +8,8 @@ use crate::texts::text_of;
 use s7_outer::Memory;
 use std::alloc::Global;
 
-/// Adds the text of the value of this type that stands in octets; `bad`, a space and their hexadecimal digits in lower
-/// case where they are no value of the type. `Memory` comes where there is none; then the text is as it was.
+/// Appends the text of the value of this type in these octets. If they have no value of the type, appends `bad`, a
+/// space and their hexadecimal digits in lower case. Returns `Memory` if an allocation fails; then `text` is unchanged.
 pub fn add_shown(
     alloc: Global,
     text: &mut Vec<u8>,
@@ -27,7 +27,8 @@ pub fn add_shown(
     Ok(())
 }
 
-/// Adds `bad`, a space and the octets in hexadecimal digits.
+/// Appends `bad`, a space and the octets in hexadecimal digits. Returns `Memory` if an allocation fails; then `text` is
+/// unchanged.
 fn add_bad(alloc: Global, text: &mut Vec<u8>, octets: &[u8]) -> Result<(), Memory>
     ensures ok { OnOk result (text.new.items ≡ text.old.items ++ (codes "bad " ++ encode_lower octets.now)) }
     ensures err { OnErr result (text.new.items ≡ text.old.items) }

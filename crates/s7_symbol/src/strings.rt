@@ -11,7 +11,7 @@ use crate::fault::ValueFault;
 use crate::kind::TagKind;
 use crate::numbers::put;
 
-/// Puts the octets of a string with room for so many characters.
+/// Writes the octets of the string that a text writes, of a type with room for `most` characters.
 pub(crate) fn put_characters(most: u8, text: &[u8], into: &mut [u8]) -> Result<usize, ValueFault>
     requires { 512 ≤ length into.old }
     ensures { PutsSaid (octets_said (TagKind.Text most) text.now) into.old into.new result }
@@ -35,7 +35,7 @@ fn has_room(most: u8) -> bool
     1 <= most && most <= 254
 }
 
-/// The digits of the characters that a text writes, none for `-`; `None` where it writes no characters.
+/// The digits of the characters that a text writes, none for `-`; `None` if it writes no characters.
 fn digits_in(text: &[u8]) -> Option<&[u8]>
     ensures none { IfNone result (characters_in text.now ≡ None) }
     ensures some { IfSome result (λ digits. AreDigitsOf digits.now text.now) }
@@ -49,7 +49,7 @@ fn digits_in(text: &[u8]) -> Option<&[u8]>
     }
 }
 
-/// Whether a text is pairs of hexadecimal digits in lower case, at least one.
+/// Whether a text is pairs of hexadecimal digits in lower case, at least one pair.
 fn are_pairs(text: &[u8]) -> bool
     ensures { result ≡ (nat_lt 0 (length text.now) && (length text.now % 2 == 0 && list_all is_lower_digit text.now)) }
 {
@@ -64,7 +64,7 @@ fn are_lower_digits(text: &[u8]) -> bool
         .all(|b| (48 <= *b && *b <= 57) || (97 <= *b && *b <= 102))
 }
 
-/// Puts a string with room for so many characters, of which these are the digits.
+/// Writes the octets of a string with room for `most` characters; these are the digits of its characters.
 fn put_pairs(most: u8, digits: &[u8], into: &mut [u8]) -> usize
     requires room { 512 ≤ length into.old }
     requires few { length digits.now / 2 ≤ most }
@@ -83,7 +83,7 @@ fn put_pairs(most: u8, digits: &[u8], into: &mut [u8]) -> usize
     end
 }
 
-/// Puts the text of a string with room for so many characters.
+/// Writes the text of the string in these octets, of a type with room for `most` characters.
 pub(crate) fn put_digits(most: u8, octets: &[u8], into: &mut [u8]) -> Result<usize, ValueFault>
     requires { 512 ≤ length into.old }
     ensures { PutsSaid (text_said (TagKind.Text most) octets.now) into.old into.new result }

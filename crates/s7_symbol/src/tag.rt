@@ -1,4 +1,4 @@
-//! Tags: names of places with the types of their values.
+//! Tags: names for places in areas, with the types of their values.
 ghost use Rattle.std.specs.Prelude.{◌≡◌};
 
 use crate::kind::TagKind;
@@ -6,7 +6,7 @@ use s7_item::Item;
 use s7_outer::Octets;
 use std::marker::Model;
 
-/// A tag: 1 to 32 ASCII letters, digits or `_`, and a bit or so many bytes of an area.
+/// A tag: a name of 1 to 32 ASCII letters, digits or `_`, and a bit or a number of bytes of an area.
 #[derive(Debug, Drop)]
 pub struct Tag {
     pub name: Octets,
@@ -30,14 +30,14 @@ impl Model for Tags {
 }
 
 impl Tags {
-    /// The tags of a vector, which is not copied.
+    /// The tags of a vector, which isn't copied.
     pub(crate) fn of_vec(tags: Vec<Tag>) -> Tags
         ensures { result ≡ tags.items }
     {
         Tags { tags }
     }
 
-    /// The tags, lent.
+    /// The tags, borrowed.
     pub fn as_slice(&self) -> &[Tag]
         ensures { result.now ≡ self.now }
     {

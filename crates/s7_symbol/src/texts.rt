@@ -1,4 +1,4 @@
-//! Octets of values as texts.
+//! From the octets of values to texts.
 ghost use Rattle.std.specs.Prelude.{◌≡◌, ◌≤◌, ◌+◌, ◌++◌, length};
 ghost use Rattle.s7_clock.specs.Clock.{digit, number_in};
 ghost use Rattle.s7_symbol.specs.Values.{PutsSaid, Stands, text_said};
@@ -11,9 +11,9 @@ use itoa::Buffer;
 use s7_clock::{from_octets, to_octets};
 use s7_text::clock_text;
 
-/// Puts the text of a value of this type to the front of a room of at least 512, and says how many octets it has. What
-/// a string leaves unused is passed over. `Form` comes where no value of the type stands so in octets, whatever its
-/// range, and `Range` where one outside its range does; then the room is as it was.
+/// Writes the text of the value in these octets to the beginning of `into`, which has at least 512 octets, and returns
+/// the text's length. The unused octets of a string are ignored. Returns `Form` if the octets have no value of the
+/// type, even outside its range, and `Range` if they have one outside its range; then `into` is unchanged.
 pub fn text_of(kind: TagKind, octets: &[u8], into: &mut [u8]) -> Result<usize, ValueFault>
     requires { 512 ≤ length into.old }
     ensures { PutsSaid (text_said kind octets.now) into.old into.new result }
@@ -29,7 +29,7 @@ pub fn text_of(kind: TagKind, octets: &[u8], into: &mut [u8]) -> Result<usize, V
     }
 }
 
-/// Puts the text of a `BOOL`.
+/// Writes the text of a `BOOL`.
 fn put_bool(octets: &[u8], into: &mut [u8]) -> Result<usize, ValueFault>
     requires { 512 ≤ length into.old }
     ensures { PutsSaid (text_said TagKind.Bool octets.now) into.old into.new result }
@@ -41,7 +41,7 @@ fn put_bool(octets: &[u8], into: &mut [u8]) -> Result<usize, ValueFault>
     }
 }
 
-/// Puts the text of an `INT`.
+/// Writes the text of an `INT`.
 fn put_int(octets: &[u8], into: &mut [u8]) -> Result<usize, ValueFault>
     requires { 512 ≤ length into.old }
     ensures { PutsSaid (text_said TagKind.Int octets.now) into.old into.new result }
@@ -53,7 +53,7 @@ fn put_int(octets: &[u8], into: &mut [u8]) -> Result<usize, ValueFault>
     Ok(Signed::of_complement(32_768, n).put(into))
 }
 
-/// Puts the text of a `DINT`.
+/// Writes the text of a `DINT`.
 fn put_dint(octets: &[u8], into: &mut [u8]) -> Result<usize, ValueFault>
     requires { 512 ≤ length into.old }
     ensures { PutsSaid (text_said TagKind.Dint octets.now) into.old into.new result }
@@ -65,7 +65,7 @@ fn put_dint(octets: &[u8], into: &mut [u8]) -> Result<usize, ValueFault>
     Ok(Signed::of_complement(2_147_483_648, n).put(into))
 }
 
-/// Puts the text of a `BCD`.
+/// Writes the text of a `BCD`.
 fn put_bcd(octets: &[u8], into: &mut [u8]) -> Result<usize, ValueFault>
     requires { 512 ≤ length into.old }
     ensures { PutsSaid (text_said TagKind.Bcd octets.now) into.old into.new result }
@@ -79,7 +79,7 @@ fn put_bcd(octets: &[u8], into: &mut [u8]) -> Result<usize, ValueFault>
     Ok(put_number(high * 100 + low, into))
 }
 
-/// Puts the text of an `S5TIME`.
+/// Writes the text of an `S5TIME`.
 fn put_duration(octets: &[u8], into: &mut [u8]) -> Result<usize, ValueFault>
     requires { 512 ≤ length into.old }
     ensures { PutsSaid (text_said TagKind.S5Time octets.now) into.old into.new result }
@@ -99,7 +99,7 @@ fn put_duration(octets: &[u8], into: &mut [u8]) -> Result<usize, ValueFault>
     Ok(put_two(digits, &[b'.', b'0' + unit], into))
 }
 
-/// Puts octets and others behind them to the front of a room.
+/// Writes `front` and then `back` to the beginning of `into`, and returns how many octets they are.
 fn put_two(front: &[u8], back: &[u8], into: &mut [u8]) -> usize
     requires { length front.now + length back.now ≤ length into.old }
     ensures { Stands (front.now ++ back.now) into.old into.new result }
@@ -110,7 +110,7 @@ fn put_two(front: &[u8], back: &[u8], into: &mut [u8]) -> usize
     end
 }
 
-/// Puts the text of a `DATE_AND_TIME`.
+/// Writes the text of a `DATE_AND_TIME`.
 fn put_date(octets: &[u8], into: &mut [u8]) -> Result<usize, ValueFault>
     requires { 512 ≤ length into.old }
     ensures { PutsSaid (text_said TagKind.DateTime octets.now) into.old into.new result }
@@ -139,7 +139,7 @@ fn put_date(octets: &[u8], into: &mut [u8]) -> Result<usize, ValueFault>
     }
 }
 
-/// The number in two BCD digits.
+/// The number in the two BCD digits of an octet; `None` if one of them isn't a decimal digit.
 fn number_in(octet: u8) -> Option<u64>
     ensures { result ≡ number_in octet }
 {
@@ -148,7 +148,7 @@ fn number_in(octet: u8) -> Option<u64>
     Some(high * 10 + low)
 }
 
-/// A decimal digit; `None` above 9.
+/// A decimal digit; `None` if it is above 9.
 fn digit(d: u8) -> Option<u64>
     ensures { result ≡ digit d }
 {

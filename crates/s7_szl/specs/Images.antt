@@ -19,11 +19,11 @@ image_with id index t = head_octets id index t.record_len (length t.records) ++ 
 abbrev pub image_of : ℕ → ℕ → Bool → Option (List ℕ)
 image_of id index running = option_map (image_with id index) (table_of id index running)
 
--- octets with an image, if there is one, in place of the first
+-- octets whose beginning is replaced by the image, if there is one
 abbrev pub with_image : Option (List ℕ) → List ℕ → List ℕ
 with_image None octets = octets
 with_image (Some image) octets = image ++ drop (length image) octets
 
--- an image has as many whole records behind its head as the head says
+-- an image has exactly the records after its head that the head states
 abbrev pub adds_up : List ℕ → Bool
 adds_up image = length image == 8 + number_at image 4 * number_at image 6

@@ -4,12 +4,12 @@ use Rattle.s7_szl.specs.declared.join.SzlAdded.{SzlAdded}
 use Rattle.s7_szl.specs.declared.join.SzlAdded.TheVariants.{More, Whole, Bad}
 
 pub record Joined : Type 0 where
-  -- the octets of the image that is whole, or else of the one that is open
+  -- the octets of the image that is whole, or else of the image that is open
   pub octets : List ℕ
-  -- the last answer, and `More` before the first
+  -- the last answer; `More` before the first
   pub state : SzlAdded
 
--- nothing was added
+-- a join without slices
 abbrev pub begun : Joined
 begun = record { octets = []; state = More }
 

@@ -1,6 +1,6 @@
--- The fields of images, from their places (Snap7 1.4 reference manual, `Cli_ReadSZL`: TS7SZL). A field is there exactly
--- where the image is of its list: where the head has the id, the index and the record length, and as many whole records
--- follow as it counts, one at least.
+-- The fields of images, read at their offsets (Snap7 1.4 reference manual, `Cli_ReadSZL`: TS7SZL). An image has a
+-- field exactly if it is of the field's list: its head has the id, the index and the record length of that list,
+-- and exactly the whole records that it states follow, at least one.
 use Rattle.std.specs.Prelude.{ℕ, zero, suc, ◌==◌, ◌&&◌, nat_lt, Bool, true, false, if◌then◌else◌}
 use Rattle.std.specs.Prelude.{List, [], ◌∷◌, take, drop, slice_index, Option, None, Some}
 use Rattle.s7_szl.specs.Octets.{number_at}
@@ -15,38 +15,39 @@ is_of id index record_len image =
     && nat_lt 0 (number_at image 6)
     && adds_up image
 
--- a field of an image of this list
+-- a field of an image, if the image is of its list
 abbrev pub field_of : {A : Type 0} → Bool → Option A → Option A
 field_of is found = if is then found else None
 
--- what an octet says of the operating mode: whether it runs (Snap7 1.4 reference manual, `Cli_GetPlcStatus`)
+-- whether the controller runs, by the octet of the operating mode (Snap7 1.4 reference manual, `Cli_GetPlcStatus`)
 abbrev pub mode_said : ℕ → Option Bool
 mode_said octet = if octet == 0x08 then Some true else (if octet == 0x04 then Some false else None)
 
--- whether it runs, by the fourth octet of the first record (Snap7 1.4 reference manual, `Cli_GetPlcStatus`)
+-- whether the controller runs, by the fourth octet of the first record (Snap7 1.4 reference manual,
+-- `Cli_GetPlcStatus`)
 abbrev pub mode_of : List ℕ → Option Bool
 mode_of image = field_of (is_of 0x0424 0 20 image) (mode_said (slice_index image 11))
 
--- the 20 octets behind the index of the first record (Snap7 1.4 reference manual, `Cli_GetOrderCode`)
+-- the 20 octets after the index of the first record (Snap7 1.4 reference manual, `Cli_GetOrderCode`)
 abbrev pub order_code_of : List ℕ → Option (List ℕ)
 order_code_of image = field_of (is_of 0x0011 0 28 image) (Some (take 20 (drop 10 image)))
 
--- the greatest PDU, behind the index of the first record (Snap7 1.4 reference manual, `Cli_GetCpInfo`)
+-- the greatest PDU, which follows the index of the first record (Snap7 1.4 reference manual, `Cli_GetCpInfo`)
 abbrev pub pdu_of : List ℕ → Option ℕ
 pdu_of image = field_of (is_of 0x0131 1 40 image) (Some (number_at image 10))
 
--- the level of protection in force (Snap7 1.4 reference manual, `Cli_GetProtection`: sch_rel), behind the index and the
--- two other levels of the first record
+-- the level of protection in force (Snap7 1.4 reference manual, `Cli_GetProtection`: sch_rel), which follows the
+-- index and the two other levels of the first record
 abbrev pub protection_of : List ℕ → Option ℕ
 protection_of image = field_of (is_of 0x0232 4 40 image) (Some (number_at image 14))
 
--- so many records of so many octets (Snap7 1.4 reference manual, `Cli_ReadSZL`: TS7SZL)
+-- the records of the octets, by their length and their number (Snap7 1.4 reference manual, `Cli_ReadSZL`: TS7SZL)
 abbrev pub records_in : ℕ → ℕ → List ℕ → List (List ℕ)
 records_in record_len zero octets = []
 records_in record_len (suc count) octets =
     take record_len octets ∷ records_in record_len count (drop record_len octets)
 
--- what stands behind the index in the first record that has this index
+-- what follows the index in the first record that has this index
 abbrev pub first_with : ℕ → List (List ℕ) → Option (List ℕ)
 first_with index [] = None
 first_with index (r ∷ rs) = if number_at r 0 == index then Some (drop 2 r) else first_with index rs

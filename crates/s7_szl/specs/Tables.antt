@@ -1,19 +1,19 @@
--- The status lists that are told, by id and index, as records (Snap7 1.4 reference manual, `Cli_ReadSZL`: TS7SZL).
--- Which lists there are, and what they say but run and stop, is this profile's own.
+-- The status lists that the server has, by id and index, as records (Snap7 1.4 reference manual, `Cli_ReadSZL`:
+-- TS7SZL). Which lists exist, and all their contents but run and stop, are this profile's own.
 use Rattle.std.specs.Prelude.{ℕ, ◌-◌, ◌==◌, ◌&&◌, Bool, if◌then◌else◌, Option, None, Some}
 use Rattle.std.specs.Prelude.{List, [], ◌∷◌, ◌++◌, length, map, replicate, codes}
 use Rattle.s7_outer.specs.Numbers.{two_octets}
 
--- a list: how many octets each record has, and its records
+-- a list: the number of octets of each record, and its records
 pub record Table : Type 0 where
   pub record_len : ℕ
   pub records : List (List ℕ)
 
--- so many octets 00
+-- this number of octets 00
 abbrev pub zeros : ℕ → List ℕ
 zeros count = replicate count 0
 
--- the ids of the lists that there are (Snap7 1.4 reference manual, `Cli_ReadSZLList`)
+-- the ids of the lists that exist (Snap7 1.4 reference manual, `Cli_ReadSZLList`)
 abbrev pub directory : Table
 directory = record {
   record_len = 2;
@@ -24,15 +24,15 @@ directory = record {
 abbrev pub order_code : List ℕ
 order_code = codes "S7SERVER AREA BOOK  "
 
--- what the module is: index 1, the order code, and its version (Snap7 1.4 reference manual, `Cli_GetOrderCode`:
--- TS7OrderCode)
+-- the identity of the module: index 1, the order code, and its version (Snap7 1.4 reference manual,
+-- `Cli_GetOrderCode`: TS7OrderCode)
 abbrev pub identification : Table
 identification = record {
   record_len = 28;
   records = (two_octets 1 ++ order_code ++ (0x00 ∷ 0x00 ∷ 0x00 ∷ 0x01 ∷ 0x00 ∷ 0x00 ∷ [])) ∷ [];
 }
 
--- a component: its index, and its text filled to 32 octets (Snap7 1.4 reference manual, `Cli_GetCpuInfo`: TS7CpuInfo)
+-- the text of a component, padded to 32 octets (Snap7 1.4 reference manual, `Cli_GetCpuInfo`: TS7CpuInfo)
 abbrev pub filled : List ℕ → List ℕ
 filled text = text ++ zeros (32 - length text)
 
@@ -54,14 +54,14 @@ components = record {
       ∷ [];
 }
 
--- the greatest PDU, and the greatest number of links (Snap7 1.4 reference manual, `Cli_GetCpInfo`: TS7CpInfo)
+-- the greatest PDU (Snap7 1.4 reference manual, `Cli_GetCpInfo`: TS7CpInfo); the greatest number of links follows
 abbrev pub greatest_pdu : ℕ
 greatest_pdu = 1920
 
 abbrev pub greatest_links : ℕ
 greatest_links = 1024
 
--- what can be communicated: index 1, the greatest PDU and number of links
+-- the limits of communication: index 1, the greatest PDU, and the greatest number of links
 abbrev pub communication : Table
 communication = record {
   record_len = 40;

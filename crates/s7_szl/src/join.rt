@@ -1,4 +1,4 @@
-//! Slices joined to images.
+//! Joining slices to images.
 
 ghost use Rattle.std.specs.Prelude.{◌≡◌, ◌≤◌, length, IfOk};
 ghost use Rattle.s7_szl.specs.Joined.{begun};
@@ -9,13 +9,13 @@ use s7_outer::{Buffer, Memory};
 use std::alloc::Global;
 use std::marker::Model;
 
-/// The most octets that an image has.
+/// The greatest number of octets of an image that is joined.
 const MOST_JOINED: usize = 8448;
 
-/// What a join answers to a slice.
+/// What a join reports after a slice.
 #[derive(Clone, Copy, Debug, PartialEq, Eq)]
 pub enum SzlAdded {
-    /// The image has begun, and its last slice has not come.
+    /// The image isn't whole: its last slice hasn't come yet.
     More,
     /// The image is whole.
     Whole,
@@ -23,7 +23,7 @@ pub enum SzlAdded {
     Bad,
 }
 
-/// Joins the slices of an answer of user data to one image. Its whole room is taken when it is made.
+/// Joins the slices of an answer of user data to one image. Its room is allocated when it is made, and never grows.
 #[derive(Drop)]
 pub struct SzlJoin {
     buffer: Buffer,
@@ -42,8 +42,7 @@ impl Model for SzlJoin {
 }
 
 impl SzlJoin {
-    /// A join that has no slice yet, with room for an image of 8,448 octets. `Memory` comes where there is none
-    /// for it.
+    /// A join without slices, with room for an image of 8,448 octets. Returns `Memory` if the allocation fails.
     pub fn new(alloc: Global) -> Result<SzlJoin, Memory>
         ensures { IfOk result (λ j. j ≡ begun) }
     {
@@ -53,10 +52,12 @@ impl SzlJoin {
         })
     }
 
-    /// Adds a slice of a status list, or begins the next image where one is whole. `more` says whether slices follow.
+    /// Adds a slice of a status list, or begins the next image if the last one is whole. `more` says whether
+    /// further slices follow.
     ///
-    /// `Bad` comes where `add_plain` says it, and where the image is whole and isn't 8 octets and as many records of
-    /// such a length as these 8 say. It stays: each later call answers the same and changes nothing, up to `clear`.
+    /// Returns `Bad` in the cases of `add_plain`, and if the image is whole but doesn't add up: its head of 8
+    /// octets states a record length and a number of records, and exactly these records have to follow. The fault
+    /// stays: until `clear` each later call returns `Bad` and changes nothing.
     pub fn add(&mut self, octets: &[u8], more: bool) -> SzlAdded
         ensures answer { result ≡ self.new.state }
         ensures value { self.new ≡ with_piece self.old (record { octets = octets.now; more = more }) }
@@ -67,10 +68,11 @@ impl SzlJoin {
         self.state
     }
 
-    /// Adds a slice as `add` does, to an image whose record length and count are not looked at.
+    /// Adds a slice as `add` does, without testing the record length and the number of records of the image.
     ///
-    /// `Bad` comes where the image passes 8,448 octets, and where the slice is empty though more follow. It adds
-    /// nothing, and stays: each later call answers the same and changes nothing, up to `clear`.
+    /// Returns `Bad` if the image would exceed 8,448 octets, and if the slice is empty although further slices
+    /// follow. Such a slice isn't added. The fault stays: until `clear` each later call returns `Bad` and changes
+    /// nothing.
     pub fn add_plain(&mut self, octets: &[u8], more: bool) -> SzlAdded
         ensures answer { result ≡ self.new.state }
         ensures value { self.new ≡ with_plain self.old (record { octets = octets.now; more = more }) }
@@ -88,8 +90,8 @@ impl SzlJoin {
         self.state
     }
 
-    /// The octets that were joined: the image where it is whole, else what there is of it. After `Bad` they are the
-    /// image that doesn't add up, or else what there was before the slice that was refused.
+    /// The octets joined so far: the image if it is whole, else its beginning. After `Bad` they are the image that
+    /// doesn't add up, or else the octets from before the refused slice.
     pub fn image(&self) -> &[u8]
         ensures octets { result.now ≡ self.now.octets }
         ensures most { length result.now ≤ 8448 }
@@ -97,14 +99,14 @@ impl SzlJoin {
         self.buffer.as_slice()
     }
 
-    /// Lets go of what was joined, `Bad` too, and begins anew. It takes no memory.
+    /// Drops what was joined, and a fault, and begins anew. Nothing is allocated.
     pub fn clear(&mut self)
         ensures { self.new ≡ begun }
     {
         self.buffer.clear();
         self.state = SzlAdded::More;
     }
-    // What a join that isn't at fault answers to a slice.
+    /// What a join without a fault answers to this slice.
     fn judge(&self, octets: &[u8], more: bool) -> SzlAdded
         ensures { result ≡ (joined_with self.now.octets (record { octets = octets.now; more = more })).state }
     {

@@ -1,4 +1,4 @@
-//! Laws of the definitions, for whoever builds on them. They run nothing.
+//! Laws of the definitions, for proofs that build on them. They do nothing at run time.
 
 ghost use Rattle.std.specs.Prelude.{◌≡◌, ◌≢◌, ℕ, ◌≤◌, ◌<◌, Bool, true, false, List, ◌++◌};
 ghost use Rattle.std.specs.Prelude.{length, drop, Some, None};
@@ -13,7 +13,7 @@ ghost use Rattle.s7_szl.specs.Joining.{Piece, open_octets, is_refused, is_list_r
 ghost use Rattle.s7_szl.specs.Joining.{with_plain, tested, with_piece, with_each};
 ghost use Rattle.s7_szl.specs.declared.join.SzlAdded.TheVariants.{Whole};
 
-/// Each record of a list has the list's record length, and the list's image adds up and has at most 212 octets.
+/// A law: each record of a list has the list's record length. The list's image adds up and has at most 212 octets.
 pub fn tables_are_exact()
     ensures records { (id index : ℕ) (running : Bool) (t : Table) → table_of id index running ≡ Some t
         → AllByRecursion (λ r. length r ≡ t.record_len) t.records }
@@ -23,7 +23,7 @@ pub fn tables_are_exact()
         → length image ≤ 212 }
 {}
 
-/// Each field is read from the image of its list, and each component that there is, and no other.
+/// A law: each field is read from the image of its list; so is each component that exists, and no other is.
 pub fn written_is_read()
     ensures mode { (running : Bool) → option_and_then mode_of (image_of 0x0424 0 running) ≡ Some running }
     ensures order_code { (running : Bool)
@@ -38,8 +38,9 @@ pub fn written_is_read()
         → option_and_then (component_of index) (image_of 0x001C 0 running) ≡ None }
 {}
 
-/// Slices that fit the room, of which none but the last may be empty, join to one image however it was cut, behind
-/// what there is of it; those of a status list where it adds up, as the image of each list does.
+/// A law: slices are appended to the octets of a join that isn't at fault, and give one image however that was cut,
+/// if they fit the room and only the last may be empty. Slices of a status list do so if the image adds up, as the
+/// image of each list does.
 pub fn pieces_join()
     ensures plain { (j : Joined) (fronts : List (List ℕ)) (last : List ℕ) → is_bad j.state ≡ false
         → AllByRecursion (λ front. 0 < length front) fronts
@@ -59,8 +60,8 @@ pub fn pieces_join()
         ≡ record { octets = concat fronts ++ last; state = Whole } }
 {}
 
-/// Whatever the slices are: a join holds their octets in order, behind what there was of the image, where it isn't
-/// at fault. Slices of a status list are joined as others are, and their image is tested at the end.
+/// A law: whatever the slices are, a join without a fault holds their octets in order, after the octets that it
+/// held before. Slices of a status list are joined like others, and their image is tested at the end.
 pub fn joins_hold()
     ensures open { (j : Joined) (fronts : List (List ℕ))
         → is_bad (with_each with_plain j (fronts_of fronts)).state ≡ false
@@ -74,7 +75,7 @@ pub fn joins_hold()
         → with_each with_piece j (pieces_of fronts last) ≡ tested (with_each with_plain j (pieces_of fronts last)) }
 {}
 
-/// A join that isn't at fault comes there exactly by a slice that is refused, and one that is at fault stays.
+/// A law: a join gets a fault exactly from a slice that is refused, and then keeps it.
 pub fn refusals_are_exact()
     ensures plain { (j : Joined) (p : Piece) → is_bad j.state ≡ false
         → is_bad (with_plain j p).state ≡ is_refused (open_octets j) p }

@@ -1,5 +1,5 @@
-//! Status lists (SZL): the images of the lists that are told, the fields of images that are read, and images
-//! joined from their slices.
+//! Status lists (SZL): the images of the lists that the server has, the fields that are read from images, and
+//! images joined from their slices.
 #![tactic(auto)]
 
 mod join;

@@ -6,10 +6,10 @@ ghost use Rattle.s7_szl.specs.Images.{adds_up};
 
 use bytes::Buf;
 
-// The octets of an image before its records: id, index, record length and record count.
+/// The length of an image before its records: id, index, record length and record count.
 pub(crate) const HEAD: usize = 8;
 
-// The number in the two octets from this place on.
+/// The number in the two octets from this offset on.
 pub(crate) fn number_at(octets: &[u8], place: usize) -> u16
     requires { place + 1 < length octets.now }
     ensures { result ≡ number_at octets.now place }
@@ -18,14 +18,14 @@ pub(crate) fn number_at(octets: &[u8], place: usize) -> u16
     rest.get_u16()
 }
 
-// A number in two octets.
+/// A number in two octets.
 pub(crate) fn two_octets(number: u16) -> [u8; 2]
     ensures { result ≡ two_octets number }
 {
     number.to_be_bytes()
 }
 
-// Whether an image has as many whole records behind its head as the head says.
+/// Whether an image has exactly the records after its head that the head states.
 pub(crate) fn adds_up(image: &[u8]) -> bool
     ensures { result ≡ adds_up image.now }
 {

@@ -5,14 +5,14 @@ ghost use Rattle.s7_szl.specs.Readers.{is_of, mode_of, order_code_of, pdu_of, pr
 
 use crate::octets::{HEAD, adds_up, number_at};
 
-/// The octets of a component: its index and its text.
+/// The length of a component: its index and its text.
 const COMPONENT: usize = 34;
 
-/// Whether the controller runs, by an image of list 0424: the fourth octet of its first record is 08 where it runs,
-/// and 04 where it stopped.
+/// Whether the controller runs, from an image of list 0424: the fourth octet of its first record is 08 if it runs,
+/// and 04 if it is stopped.
 ///
-/// `None` comes where the image isn't of that list: where its id, index (0) or record length (20) is another, it
-/// counts no record, its records don't add up to it, or that octet is another.
+/// Returns `None` if the image isn't of that list: its id, index (0) or record length (20) is another, it has no
+/// record, or its records don't add up to it. Returns `None` also if that octet is neither.
 pub fn read_mode(image: &[u8]) -> Option<bool>
     ensures { result ≡ mode_of image.now }
 {
@@ -26,10 +26,10 @@ pub fn read_mode(image: &[u8]) -> Option<bool>
     }
 }
 
-/// The order code, by an image of list 0011: the 20 octets behind the index of its first record.
+/// The order code, from an image of list 0011: the 20 octets after the index of its first record.
 ///
-/// `None` comes where the image isn't of that list: where its id, index (0) or record length (28) is another, it
-/// counts no record, or its records don't add up to it.
+/// Returns `None` if the image isn't of that list: its id, index (0) or record length (28) is another, it has no
+/// record, or its records don't add up to it.
 pub fn read_order_code(image: &[u8]) -> Option<[u8; 20]>
     ensures { result ≡ order_code_of image.now }
 {
@@ -41,12 +41,12 @@ pub fn read_order_code(image: &[u8]) -> Option<[u8; 20]>
     Some(code)
 }
 
-/// The text of a component, by an image of list 001C: the 32 octets of its first record that has this index. Of
-/// indices 1 is the system's name, 2 the module's name, 3 the plant, 4 the copyright, 5 the serial number and 7 the
-/// module's type.
+/// The text of a component, from an image of list 001C: the 32 octets after the index of its first record with this
+/// index. Index 1 is the system's name, 2 the module's name, 3 the plant, 4 the copyright, 5 the serial number and
+/// 7 the module's type.
 ///
-/// `None` comes where the image isn't of that list: where its id, index (0) or record length (34) is another, it
-/// counts no record, or its records don't add up to it; and where no record has this index.
+/// Returns `None` if the image isn't of that list: its id, index (0) or record length (34) is another, it has no
+/// record, or its records don't add up to it. Returns `None` also if no record has this index.
 pub fn read_component(image: &[u8], index: u16) -> Option<[u8; 32]>
     ensures { result ≡ component_of index image.now }
 {
@@ -64,10 +64,10 @@ pub fn read_component(image: &[u8], index: u16) -> Option<[u8; 32]>
     None
 }
 
-/// The greatest PDU in octets, by an image of list 0131: the number behind the index of its first record.
+/// The greatest PDU in octets, from an image of list 0131: the number after the index of its first record.
 ///
-/// `None` comes where the image isn't of that list: where its id, index (1) or record length (40) is another, it
-/// counts no record, or its records don't add up to it.
+/// Returns `None` if the image isn't of that list: its id, index (1) or record length (40) is another, it has no
+/// record, or its records don't add up to it.
 pub fn read_pdu(image: &[u8]) -> Option<u16>
     ensures { result ≡ pdu_of image.now }
 {
@@ -77,11 +77,11 @@ pub fn read_pdu(image: &[u8]) -> Option<u16>
     Some(number_at(image, HEAD + 2))
 }
 
-/// The level of protection that is in force, by an image of list 0232: the number behind the index and the two
-/// other levels of its first record (`sch_rel` of the Snap7 1.4 reference manual). 1 is no protection.
+/// The level of protection in force, from an image of list 0232: the number after the index and the two other
+/// levels of its first record (`sch_rel` of the Snap7 1.4 reference manual). 1 is no protection.
 ///
-/// `None` comes where the image isn't of that list: where its id, index (4) or record length (40) is another, it
-/// counts no record, or its records don't add up to it.
+/// Returns `None` if the image isn't of that list: its id, index (4) or record length (40) is another, it has no
+/// record, or its records don't add up to it.
 pub fn read_protection(image: &[u8]) -> Option<u16>
     ensures { result ≡ protection_of image.now }
 {
@@ -91,7 +91,7 @@ pub fn read_protection(image: &[u8]) -> Option<u16>
     Some(number_at(image, HEAD + 6))
 }
 
-// Whether an image is of a list, with whole records of so many octets, one at least.
+/// Whether an image is of this list: it has this id, index and record length, and at least one whole record.
 fn is_of(image: &[u8], id: u16, index: u16, record_len: u16) -> bool
     ensures { result ≡ is_of id index record_len image.now }
 {
@@ -106,7 +106,7 @@ fn is_of(image: &[u8], id: u16, index: u16, record_len: u16) -> bool
         && adds_up(image)
 }
 
-// The text of a component.
+/// The text of a component, which follows its index.
 fn text_of(component: &[u8]) -> [u8; 32]
     requires { length component.now ≡ 34 }
     ensures { result ≡ drop 2 component.now }

@@ -1,4 +1,4 @@
-//! The status lists that are told, written as images.
+//! The status lists that the server has, written as images.
 
 ghost use Rattle.std.specs.Prelude.{◌≡◌, ◌+◌, ◌/◌, ◌≤◌, ◌<◌, ◌++◌, length, drop};
 ghost use Rattle.std.specs.List.{concat};
@@ -8,16 +8,16 @@ ghost use Rattle.s7_szl.specs.Images.{head_octets, image_of, with_image};
 
 use crate::octets::{HEAD, two_octets};
 
-/// The most octets that an image has.
+/// The greatest number of octets of an image.
 const MOST_OCTETS: usize = 512;
 
-// The ids of the lists.
+/// The ids of the lists that exist.
 const DIRECTORY: &[u8; 12] = b"\x00\x00\x00\x11\x00\x1C\x01\x31\x02\x32\x04\x24";
 
-// Index 1, the order code, and the version of the module.
+/// Index 1, the order code, and the version of the module.
 const IDENTIFICATION: &[u8; 28] = b"\0\x01S7SERVER AREA BOOK  \0\0\0\x01\0\0";
 
-// For each component its index, and its text filled to 32 octets.
+/// For each component its index, and its text padded to 32 octets.
 const COMPONENTS: &[u8; 204] = b"\
     \0\x01S7SERVER\0\0\0\0\0\0\0\0\0\0\0\0\0\0\0\0\0\0\0\0\0\0\0\0\
     \0\x02AREA BOOK\0\0\0\0\0\0\0\0\0\0\0\0\0\0\0\0\0\0\0\0\0\0\0\
@@ -26,20 +26,20 @@ const COMPONENTS: &[u8; 204] = b"\
     \0\x050000000001\0\0\0\0\0\0\0\0\0\0\0\0\0\0\0\0\0\0\0\0\0\0\
     \0\x07S7SERVER PLC\0\0\0\0\0\0\0\0\0\0\0\0\0\0\0\0\0\0\0\0";
 
-// Index 1, the greatest PDU (1,920), the greatest number of links (1,024), and nothing more.
+/// Index 1, the greatest PDU (1,920), the greatest number of links (1,024); the rest is 00.
 const COMMUNICATION: &[u8; 40] =
     b"\0\x01\x07\x80\x04\x00\0\0\0\0\0\0\0\0\0\0\0\0\0\0\0\0\0\0\0\0\0\0\0\0\0\0\0\0\0\0\0\0\0\0";
 
-// Index 4, the three levels, the mode selector, the start-up switch, and nothing more.
+/// Index 4, the three levels, the mode selector, the start-up switch; the rest is 00.
 const PROTECTION: &[u8; 40] =
     b"\0\x04\0\x01\0\0\0\x01\0\x01\0\0\0\0\0\0\0\0\0\0\0\0\0\0\0\0\0\0\0\0\0\0\0\0\0\0\0\0\0\0";
 
-/// Writes the image of a status list at the front of `into`, and answers how many octets it has, 20 to 212: id,
-/// index, record length and record count, each a number of two octets, and the records (Snap7 1.4 reference
-/// manual, TS7SZL). What stands behind the image stays. `running` is said by list 0424 alone.
+/// Writes the image of a status list to the beginning of `into`, and returns its length, 20 to 212: id, index,
+/// record length and record count, each a number of two octets, and the records (Snap7 1.4 reference manual,
+/// TS7SZL). The rest of `into` stays. Only list 0424 depends on `running`.
 ///
-/// `None` comes where there is no such list and index, and leaves `into`. There are 0000, 0011, 001C and 0424 at
-/// index 0, 0131 at index 1, and 0232 at index 4.
+/// Returns `None` if there is no list with this id and index, and leaves `into` as it is. The lists are 0000, 0011,
+/// 001C and 0424 at index 0, 0131 at index 1, and 0232 at index 4.
 #[tactic(auto, unfolding(crate::specs::Tables::table_of))]
 pub fn write_table(
     id: u16,
@@ -62,7 +62,7 @@ pub fn write_table(
     }
 }
 
-// The record of the operating mode.
+/// The record of the operating mode.
 fn mode_record(running: bool) -> [u8; 20]
     ensures { result ≡ concat (mode running).records }
 {
@@ -72,7 +72,7 @@ fn mode_record(running: bool) -> [u8; 20]
     ]
 }
 
-// Writes an image at the front, and answers how many octets it has. The records have so many octets each.
+/// Writes an image to the beginning of `into`, and returns its length. Each record has `record_len` octets.
 fn write_image(
     id: u16,
     index: u16,

@@ -1,5 +1,4 @@
--- The lines of a text: each ends with LF, before which a CR is passed over, and the last LF may be
--- missing.
+-- The lines of a text. Each line ends with LF; a CR right before the LF is skipped, and the last LF may be missing.
 use Rattle.std.specs.Prelude.{ℕ, ◌+◌, Bool, true, false, ◌==◌, ◌&&◌, min, List, [], ◌∷◌, if◌then◌else◌}
 
 abbrev pub Text : Type 0
@@ -25,11 +24,12 @@ without_return [] = []
 without_return (b ∷ []) = if b == 13 then [] else b ∷ []
 without_return (b ∷ c ∷ cs) = b ∷ without_return (c ∷ cs)
 
--- an empty line, or a remark that begins with `#`: neither says anything
+-- an empty line, or a comment that begins with `#`: neither has a meaning
 abbrev pub is_passed : Text → Bool
 is_passed [] = true
 is_passed (b ∷ bs) = b == 35
 
--- the number of the line after this one: lines are numbered from 1, and those after line 4,294,967,295 have its number
+-- the number of the line after this one: lines are numbered from 1, and all lines after line 4,294,967,295 have that
+-- number
 abbrev pub next_line : ℕ → ℕ
 next_line line = min (line + 1) 4294967295

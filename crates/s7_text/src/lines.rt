@@ -1,4 +1,4 @@
-// The lines of a text, and the fields of a line.
+//! The lines of a text, and the fields of a line.
 ghost use Rattle.std.specs.Prelude.{◌≡◌, ◌≢◌, ◌==◌, ◌&&◌, nat_lt, nat_le, IfSome, IfNone, ◌<◌, ◌≤◌, ◌^◌, ◌∷◌, ℕ};
 ghost use Rattle.std.specs.Prelude.{length, option_map, slice_index, true};
 ghost use Rattle.std.specs.List.{list_all, position};
@@ -7,7 +7,7 @@ ghost use Rattle.std.specs.Str.Parse.{digits_value};
 ghost use Rattle.s7_text.specs.Lines.{lines, without_return};
 ghost use Rattle.s7_text.specs.Fields.{number_of, is_space, first_field, fields_after, parts_around};
 
-/// The first line of a text that isn't empty, and what follows it.
+/// The first line of a text that isn't empty, and the text after that line.
 pub fn first_line(text: &[u8]) -> (&[u8], &[u8])
     requires { 0 < length text.now }
     ensures line { lines text.now ≡ result.0.now ∷ lines result.1.now }
@@ -19,7 +19,7 @@ pub fn first_line(text: &[u8]) -> (&[u8], &[u8])
     }
 }
 
-/// Where the first LF is.
+/// The index of the first LF, `None` if there is none.
 fn newline(text: &[u8]) -> Option<usize>
     ensures within { IfSome result (λ n. n < length text.now) }
     ensures found { IfSome result (λ n. slice_index text.now n ≡ 10) }
@@ -49,7 +49,7 @@ fn cut_return(line: &[u8]) -> &[u8]
     }
 }
 
-/// The first field of a line, and those after it: fields are separated by one space.
+/// The first field of a line, and the fields after it. Fields are separated by one space.
 pub fn split_field(text: &[u8]) -> (&[u8], Option<&[u8]>)
     ensures first { result.0.now ≡ first_field text.now (position is_space text.now) }
     ensures rest { option_map (λ t. t.now) result.1 ≡ fields_after text.now (position is_space text.now) }
@@ -60,14 +60,14 @@ pub fn split_field(text: &[u8]) -> (&[u8], Option<&[u8]>)
     }
 }
 
-/// Where the first space is.
+/// The index of the first space, `None` if there is none.
 fn space(text: &[u8]) -> Option<usize>
     ensures { result ≡ position is_space text.now }
 {
     text.iter().position(|b| *b == b' ')
 }
 
-/// What stands before and after the first octet of this kind; `None` where there is none.
+/// The octets before and after the first octet of this value; `None` if there is none.
 pub fn split_mark(text: &[u8], mark: u8) -> Option<(&[u8], &[u8])>
     ensures { option_map (λ p. (p.0.now, p.1.now)) result ≡ parts_around mark text.now }
 {
@@ -75,14 +75,14 @@ pub fn split_mark(text: &[u8], mark: u8) -> Option<(&[u8], &[u8])>
     Some((&text[..place], &text[place + 1..]))
 }
 
-/// Where the first octet of this kind is.
+/// The index of the first octet of this value, `None` if there is none.
 fn mark_in(text: &[u8], mark: u8) -> Option<usize>
     ensures { result ≡ position (λ b. b == mark) text.now }
 {
     text.iter().position(|b| *b == mark)
 }
 
-/// The number that a field is: at most ten decimal digits.
+/// The number in a field of one to ten decimal digits; `None` if the field is anything else.
 pub fn number(field: &[u8]) -> Option<u64>
     ensures { result ≡ number_of field.now }
 {
@@ -108,7 +108,7 @@ pub fn all_digits(field: &[u8]) -> bool
     field.iter().all(|b| b.is_ascii_digit())
 }
 
-/// The number in decimal digits.
+/// The number that these decimal digits write; at most ten of them.
 pub fn value_of(digits: &[u8]) -> u64
     requires most { length digits.now ≤ 10 }
     requires digits { list_all is_ascii_digit digits.now ≡ true }

@@ -1,4 +1,4 @@
-// Dates and times: YYYY-MM-DDThh:mm:ss.mmm in scripts, tags and in what is printed.
+//! Dates and times as text, `YYYY-MM-DDThh:mm:ss.mmm`, in scripts, in tags and in printed lines.
 ghost use Rattle.std.specs.Prelude.{◌≡◌, ◌<◌, ◌≤◌, ◌+◌, ◌/◌, ◌%◌, ◌∷◌, ◌==◌, ◌&&◌, [], IfSome, IsSome, IsTrue};
 ghost use Rattle.std.specs.Prelude.{is_some, length, nat_le, pos, slice_index};
 ghost use Rattle.jiff.specs.Words.{days_in_month, is_leap_year};
@@ -10,10 +10,10 @@ ghost use Rattle.s7_text.specs.Moments.{clock_values};
 use crate::lines::{all_digits, value_of};
 use s7_clock::{from_octets, moment_of};
 
-/// How many octets a date and time has.
+/// The number of octets of a date and time.
 const LENGTH: usize = 23;
 
-/// The moment of a date and time of the years 1990 to 2089; `None` where the text is no such one.
+/// The moment of a date and time of the years 1990 to 2089, in milliseconds since 1970; `None` if the text isn't one.
 pub fn read_moment(field: &[u8]) -> Option<u64>
     ensures value { result ≡ moment_named field.now }
     ensures held { IfSome result IsHeld }
@@ -25,7 +25,7 @@ pub fn read_moment(field: &[u8]) -> Option<u64>
     if year < 1990 || year > 2089 {
         return None;
     }
-    // clock octets with these digits are the same date and time
+    // // clock octets with these digits represent the same date and time
     match from_octets(clock_octets(field).as_slice()) {
         Ok(date) => Some(moment_of(&date)),
         Err(_) => None,
@@ -39,7 +39,7 @@ pub fn names_date(field: &[u8]) -> bool
     is_moment(field) && has_date(field)
 }
 
-/// Whether the calendar has the date and a day the time of a text whose digits are at their places.
+/// Whether the calendar has the date and a day has the time. The text must have the form of a date and time.
 fn has_date(field: &[u8]) -> bool
     requires { IsTrue (is_moment field.now) }
     ensures { result ≡ (is_date (parts_named field.now) && is_time (parts_named field.now)) }
@@ -55,7 +55,7 @@ fn has_date(field: &[u8]) -> bool
     )
 }
 
-/// The number in so many digits from a place on.
+/// The number in the `count` digits from this index on.
 fn value_at(field: &[u8], place: usize, count: usize) -> u64
     requires within { place + count ≤ length field.now }
     requires few { count ≤ 10 }
@@ -79,7 +79,7 @@ fn is_time(hour: u64, minute: u64, second: u64) -> bool
     hour <= 23 && minute <= 59 && second <= 59
 }
 
-/// How many days the month has.
+/// The number of days of the month.
 fn days_in_month(year: u64, month: u64) -> u64
     ensures { result ≡ days_in_month (pos year) month }
 {
@@ -98,7 +98,7 @@ fn is_leap_year(year: u64) -> bool
     year % 4 == 0 && (year % 100 != 0 || year % 400 == 0)
 }
 
-/// Whether the digits and what stands between them are at their places.
+/// Whether the text has the form of a date and time: digits and separators where they belong.
 fn is_moment(field: &[u8]) -> bool
     ensures { result ≡ is_moment field.now }
 {
@@ -112,7 +112,7 @@ fn is_moment(field: &[u8]) -> bool
         && are_digits(field, 20, 3)
 }
 
-/// Whether so many digits stand from a place on, and this octet after them.
+/// Whether there are `count` digits from this index on, and then this octet.
 fn is_part(field: &[u8], place: usize, count: usize, mark: u8) -> bool
     requires { place + count < length field.now }
     ensures { result ≡ (are_digits place count field.now && slice_index field.now (place + count) == mark) }
@@ -120,7 +120,7 @@ fn is_part(field: &[u8], place: usize, count: usize, mark: u8) -> bool
     are_digits(field, place, count) && field[place + count] == mark
 }
 
-/// Whether so many digits stand from a place on.
+/// Whether there are `count` digits from this index on.
 fn are_digits(field: &[u8], place: usize, count: usize) -> bool
     requires { place + count ≤ length field.now }
     ensures { result ≡ are_digits place count field.now }
@@ -128,7 +128,7 @@ fn are_digits(field: &[u8], place: usize, count: usize) -> bool
     all_digits(&field[place..place + count])
 }
 
-/// The clock octets of a text whose digits are at their places: `00 19` and the digits, with no weekday.
+/// The clock octets of a text in the form of a date and time: `00 19` and the digits, without a weekday.
 fn clock_octets(field: &[u8]) -> [u8; 10]
     requires form { IsTrue (is_moment field.now) }
     requires year { IsTrue (is_within 1990 2089 (value_at 0 4 field.now)) }
@@ -148,7 +148,7 @@ fn clock_octets(field: &[u8]) -> [u8; 10]
     ]
 }
 
-/// Two decimal digits as one octet.
+/// Two decimal digits from this index on, as one octet.
 fn bcd_at(field: &[u8], place: usize) -> u8
     requires within { place + 2 ≤ length field.now }
     requires digits { IsTrue (are_digits place 2 field.now) }
@@ -157,7 +157,7 @@ fn bcd_at(field: &[u8], place: usize) -> u8
     (field[place] - b'0') * 16 + (field[place + 1] - b'0')
 }
 
-/// The date and time that clock octets show.
+/// The date and time of clock octets, as text.
 pub fn clock_text(octets: &[u8]) -> [u8; 23]
     requires { IsSome (parts_in octets.now) }
     ensures { clock_values (parts_in octets.now) ≡ result ∷ [] }

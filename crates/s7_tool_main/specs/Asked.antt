@@ -5,12 +5,12 @@ use Rattle.s7_dialogue.specs.declared.config.Config.{Config}
 use Rattle.s7_rig.specs.Rigs.{Turning}
 use Rattle.s7_args.specs.Tool.{RigTold, RunTold, ToolTold, tool_words}
 
--- the command that the words name, and none where they are usage
+-- the command that the words name, `None` if they are usage
 abbrev pub command_of : List (Bor (List ℕ)) → Option ToolTold
 command_of words = tool_words (map (λ w. w.now) words)
 
--- how the client of `run` connects: the calling TSAP 0100, and the called one of kind, rack and slot (Snap7 1.4
--- reference manual, `Cli_ConnectTo` and `Cli_SetConnectionType`)
+-- the configuration of the client of `run`: the calling TSAP is 0100, the called one is made of kind, rack and slot
+-- (Snap7 1.4 reference manual, `Cli_ConnectTo` and `Cli_SetConnectionType`)
 abbrev pub config_by : RunTold → Config
 config_by told = record {
   calling = 0x0100;
@@ -20,11 +20,11 @@ config_by told = record {
   polls = told.polls;
 }
 
--- how the clients of a rig connect: as programming devices to rack 0 and slot 2, with 1,000,000 polls each, this
+-- the configuration of a rig's clients: programming devices at rack 0 and slot 2, with 1,000,000 polls each, this
 -- profile's own
 abbrev pub rig_config : ℕ → ℕ → Config
 rig_config pdu jobs = record { calling = 0x0100; called = 0x0102; pdu = pdu; jobs = jobs; polls = 1000000 }
 
--- the turns that `rig` makes
+-- the turns that `rig` states
 abbrev pub turning_of : RigTold → Turning
 turning_of told = record { turns = told.turns; seed = told.seed; steps = told.steps }

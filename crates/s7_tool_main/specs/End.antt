@@ -1,4 +1,4 @@
--- How it ended, by the command that the words name, and what was left.
+-- How the program ended, by the command that the words name, and what it left.
 use Rattle.std.specs.Prelude.{◌≡◌, ℕ, List, [], Option, Some, None, IsNone, IsSomeAnd}
 use Rattle.s7_outer.specs.DialShown.{DialShown}
 use Rattle.s7_outer.specs.FilesShown.{FilesShown}
@@ -22,8 +22,8 @@ use Rattle.s7_tool_main.specs.Rigging.{FailsOneFile, RanRig, RefusesFile, RigWan
 
 -- ---- what was carried out
 
--- A COMMAND WAS CARRIED OUT, as far as it says how it ended: `run` ran its script, `rig` and `gen` their rig, and
--- `partner` its partners
+-- A COMMAND WAS CARRIED OUT, and ended in this way: `run` ran its script, `rig` and `gen` their rig, and `partner` its
+-- partners
 abbrev pub CarriesOut : {L C : Type 0} → (L → Shown) → Option ToolTold → FilesShown → DialShown L → OutShown → OutShown
     → ToolEnd L C → Ended → Type 0
 CarriesOut shows None files dial out out' end how = ⊥
@@ -36,7 +36,7 @@ CarriesOut shows (Some (gen seed)) files dial out out' end how =
 CarriesOut shows (Some (partner told)) files dial out out' end how =
     RanPartners shows told told.other files dial out out' end.run how
 
--- MEMORY WAS WANTING, and the line for this was printed, behind what `run` printed of a run that ended early
+-- MEMORY RAN OUT, and the line for this was printed, after what `run` or `partner` printed of a run that ended early
 abbrev pub LacksMemory : {L C : Type 0} → (L → Shown) → Option ToolTold → FilesShown → DialShown L → OutShown → OutShown
     → ToolEnd L C → Type 0
 LacksMemory shows None files dial out out' end = Printed out out' memory_line
@@ -56,7 +56,7 @@ Refuses (Some (rig told)) files printed = RefusesFile told files printed
 Refuses (Some (gen seed)) files printed = ⊥
 Refuses (Some (partner told)) files printed = RefusesOne told told.other files printed
 
--- A FILE FAILED: the one that came next for `run`, `rig` or `partner`
+-- A FILE FAILED: the next file of `run`, `rig` or `partner`
 abbrev pub FileFails : Option ToolTold → FilesShown → FilesShown → (List ℕ → Type 0) → Type 0
 FileFails None files files' printed = ⊥
 FileFails (Some (run told)) files files' printed = FailsRun told files files' printed
@@ -88,7 +88,7 @@ pub record IsUnrun {L C : Type 0} (end : ToolEnd L C) : Type 0 where
   pub run : IsNone end.run
   pub rig : IsNone end.rig
 
--- what a command may leave: `run` and `partner` a run, and `rig` and `gen` a rig
+-- what a command may leave: `run` and `partner` a run, `rig` and `gen` a rig
 abbrev pub LeavesOnly : {L C : Type 0} → Option ToolTold → ToolEnd L C → Type 0
 LeavesOnly None end = IsUnrun end
 LeavesOnly (Some (run told)) end = IsNone end.rig
@@ -96,14 +96,14 @@ LeavesOnly (Some (rig told)) end = IsNone end.run
 LeavesOnly (Some (gen seed)) end = IsNone end.run
 LeavesOnly (Some (partner told)) end = IsNone end.rig
 
--- ---- what a completion was told
+-- ---- what a completion was notified of
 
--- the results of a run, none where there is none
+-- the results of a run, none if there is none
 abbrev pub results_in : {L : Type 0} → Option (RunEnd L) → List JobResult
 results_in None = []
 results_in (Some r) = r.results.items
 
--- the results of a rig's first client, none where there is no rig
+-- the results of a rig's first client, none if there is no rig
 abbrev pub results_in_rig : Option RigEnd → List JobResult
 results_in_rig None = []
 results_in_rig (Some r) = first_results (end_told r)
@@ -112,12 +112,12 @@ abbrev pub heard_in : {L : Type 0} → Option (RunEnd L) → Option RigEnd → L
 heard_in None left = results_in_rig left
 heard_in (Some r) left = r.results.items
 
--- WHAT A COMPLETION HEARD: the results of the run where there is one, and else those of the rig's first client
+-- WHAT A COMPLETION WAS NOTIFIED OF: the results of the run if there is one, otherwise those of the rig's first client
 abbrev pub heard : {L C : Type 0} → ToolEnd L C → List JobResult
 heard end = heard_in end.run end.rig
 
--- WHAT A COMPLETION WAS TOLD where memory was wanting and no run is left: of nothing, or of what the first client of a
--- rig had done
+-- WHAT A COMPLETION WAS NOTIFIED OF if memory ran out and no run is left: nothing, or the results of the first client
+-- of a rig by then
 abbrev pub HeardWanting : Option ToolTold → FilesShown → Option Told → Option Told → Type 0
 HeardWanting None files before after = after ≡ before
 HeardWanting (Some (run told)) files before after = after ≡ before

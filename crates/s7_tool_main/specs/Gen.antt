@@ -24,25 +24,25 @@ flags_key = record { area = flags; number = 0 }
 abbrev pub block_key : ℕ → AreaKey
 block_key number = record { area = data_blocks; number = number }
 
--- so many octets, each 00
+-- this number of octets 00
 unfoldable pub blank_octets : ℕ → List ℕ
 blank_octets count = replicate count 0
 
--- so many octets that go up by one from this one on, modulo 256
+-- this number of octets that count up by one from `first`, modulo 256
 unfoldable pub rising_octets : ℕ → ℕ → List ℕ
 rising_octets first count = map (λ k. (first + k) % 256) (range_with_len 0 count)
 
 abbrev pub block_of : ℕ → AreaKey × List ℕ
 block_of number = (block_key number, rising_octets number 4096)
 
--- THE AREAS: the flags with 256 octets 00, and the data blocks 1 to 4 with 4,096 octets each, octet k of block d being
--- (d + k) mod 256; they have no guard
+-- THE AREAS: the flags with 256 octets 00, and the data blocks 1 to 4 with 4,096 octets each; octet k of block d is (d
+-- + k) mod 256. They have no guard
 abbrev pub made_areas : Memory
 made_areas = record { areas = (flags_key, blank_octets 256) ∷ map block_of (1 ∷ 2 ∷ 3 ∷ 4 ∷ []); guard = None }
 
 -- ---- the rig
 
--- its clients connect as those of `rig`, with a PDU of 240 and four parallel jobs
+-- the configuration of its clients is that of `rig`, with a PDU of 240 and four parallel jobs
 abbrev pub made_config : Config
 made_config = rig_config 240 4
 
@@ -50,12 +50,12 @@ made_config = rig_config 240 4
 abbrev pub made_turning : ℕ → Turning
 made_turning seed = record { turns = []; seed = seed; steps = 2000 }
 
--- A RIG RAN over the areas and the scripts that a seed gives, with room for 65,536 entries, and its text was printed
+-- A RIG RAN over the areas and the scripts of a seed, with a journal of 65,536 entries, and its text was printed
 pub record RanGen (seed : ℕ) (out out' : OutShown) (end : EndTold) (how : Ended) : Type 0 where
   pub ran : RigRan made_areas 65536 made_config (made_scripts seed) (made_turning seed) end
   pub printed : PrintsText (made_text end) (are_made_good end.clients) out out' how
 
--- HOW `gen` ENDED, by the output before and after, and the rig where one ran; it touches no file and dials nothing
+-- HOW `gen` ENDED, by the output before and after, and the rig if one ran; it uses no file and no dial
 abbrev pub GenEnds : ℕ → OutShown → OutShown → Option RigEnd → Ended → Type 0
 GenEnds seed out out' rig ended.Done = IsSomeAnd rig (λ r. RanGen seed out out' (end_told r) ended.Done)
 GenEnds seed out out' rig ended.Jobs = IsSomeAnd rig (λ r. RanGen seed out out' (end_told r) ended.Jobs)

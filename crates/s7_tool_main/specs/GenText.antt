@@ -1,4 +1,4 @@
--- What is printed of the rig of `gen`.
+-- The text that is printed of the rig of `gen`.
 use Rattle.std.specs.Prelude.{ℕ, ◌==◌, ◌&&◌, not, Bool, List, ◌++◌, codes, length, take, sum, sum_by}
 use Rattle.std.specs.Prelude.{option_map, unwrap_or}
 use Rattle.std.specs.Fmt.{decimal}
@@ -12,9 +12,9 @@ use Rattle.s7_tool_main.specs.Report.{line_end}
 use Rattle.s7_tool_main.specs.RigText.{journal_line}
 use Rattle.s7_tool_main.specs.Run.{is_good}
 
--- ---- of a client
+-- ---- one client
 
--- the results of the connect and of the 200 lines; that of the disconnect doesn't count
+-- the results of the connect and of the 200 lines; that of the disconnect isn't counted
 unfoldable pub counted : List JobResult → List JobResult
 counted results = take 201 results
 
@@ -24,7 +24,7 @@ errors_in results = count_by (λ told. not (is_good told)) results
 abbrev pub octets_in : List JobResult → ℕ
 octets_in results = sum_by (λ told. length told.octets) results
 
--- the line of these results: how many there are, how many have a code other than 0, and their octets
+-- the line of these results: their number, the number of codes other than 0, and the number of their octets
 abbrev pub tally_line : ℕ → List JobResult → List ℕ
 tally_line link results =
     codes "client " ++ (decimal link ++ (codes " results " ++ (decimal (length results)
@@ -34,20 +34,20 @@ tally_line link results =
 abbrev pub client_tally : ClientTold → List ℕ
 client_tally c = tally_line c.link (counted c.results)
 
--- ---- of the whole
+-- ---- the whole rig
 
 -- the sum of all octets of all areas
 abbrev pub octet_sum : Memory → ℕ
 octet_sum m = sum_by sum (values_of m.areas)
 
--- those of the area of a name, where there is one
+-- the sum of the octets of the area of this name, 0 if there is none
 abbrev pub sum_at : Memory → AreaKey → ℕ
 sum_at m key = unwrap_or (option_map sum (area_octets m key)) 0
 
 abbrev pub sum_line : ℕ → List ℕ
 sum_line count = codes "sum " ++ (decimal count ++ line_end)
 
--- THE TEXT: a line of each client in order, the journal's length, and the sum of the octets that are left in the areas
+-- THE TEXT: a line for each client in order, the journal's length, and the sum of the octets that are left in the areas
 abbrev pub made_text : EndTold → List ℕ
 made_text end =
     flat_map client_tally end.clients

@@ -1,4 +1,4 @@
--- What became of a tag file, of the file of a script, or of a sends file.
+-- How a tag file, a script or a sends file was loaded.
 use Rattle.std.specs.Prelude.{◌≡◌, ◌≢◌, ◌≤◌, ℕ, ◌+◌, List, length, Option, Some, None, Result, Ok, Err, IsTrue}
 use Rattle.s7_outer.specs.declared.files.FileFault.{FileFault}
 use Rattle.s7_outer.specs.declared.files.FileFault.TheVariants as file
@@ -19,14 +19,14 @@ use Rattle.s7_tool_main.specs.declared.load.TextKind.{TextKind}
 use Rattle.s7_tool_main.specs.declared.load.TextKind.TheVariants as kind
 use Rattle.s7_tool_main.specs.Report.{file_line, script_line, tags_line, too_long_line}
 
--- NO PATH CHANGES, and at most one call on a path failed
+-- NO FILE IS CHANGED, and at most one call on a path failed
 pub record KeepsPaths (old new : FilesShown) : Type 0 where
   pub kept : new ≡ record old { faults = new.faults }
   pub counts : FailedOnce old.faults new.faults
 
 -- ---- readers
 
--- what a reader makes of a text: what it names, or the number of its first faulty line
+-- a reader of a text: what the text names, or the number of its first faulty line
 abbrev pub Reader : Type 0 → Type 0
 Reader A = List ℕ → Result (List A) ℕ
 
@@ -37,16 +37,16 @@ numbered line_of (Err e) = Err (line_of e)
 abbrev pub tag_reader : Reader Tag
 tag_reader text = numbered (λ (e : TagFault). e.line) (tags text)
 
--- of scripts whose lines may name these tags
+-- the reader of scripts whose lines may name these tags
 abbrev pub script_reader : Option (List Tag) → Reader ScriptLine
 script_reader known text = numbered (λ (e : ScriptFault). e.line) (script_by known text)
 
 abbrev pub sends_reader : Reader SendLine
 sends_reader text = numbered (λ (e : ScriptFault). e.line) (sends text)
 
--- ---- a text that was read: a tag file, a script or a sends file, by what its reader makes of it
+-- ---- a text that was read: a tag file, a script or a sends file, with its reader
 
--- THE TEXT WAS READ: these octets, no more than the limit and those of the file where that is told, name these lines
+-- THE TEXT WAS READ: its octets, no more than the limit and those of the file if the files show them, name these lines
 pub record ReadsText {A : Type 0} (reader : Reader A) (path : List ℕ) (files : FilesShown) (then : List A → Type 0)
     : Type 0 where
   pub octets : List ℕ
@@ -56,9 +56,10 @@ pub record ReadsText {A : Type 0} (reader : Reader A) (path : List ℕ) (files :
   pub named : reader octets ≡ Ok lines
   pub so : then lines
 
--- ---- a text that wasn't
+-- ---- a text that wasn't read
 
--- the octets read, no more than the limit and those of the file where that is told, have their first faulty line there
+-- the octets read, no more than the limit and those of the file if the files show them, have their first faulty line
+-- here
 pub record HasFaultyLine {A : Type 0} (reader : Reader A) (path : List ℕ) (files : FilesShown) (n : ℕ)
     : Type 0 where
   pub octets : List ℕ
@@ -66,13 +67,13 @@ pub record HasFaultyLine {A : Type 0} (reader : Reader A) (path : List ℕ) (fil
   pub held : IsTrue files.tells → files.held path ≡ Some octets
   pub fails : reader octets ≡ Err n
 
--- more octets than the limit were read, the first of a longer file where that is told
+-- more octets than the limit were read; they are the first octets of a longer file if the files show them
 pub record IsTooLong (path : List ℕ) (files : FilesShown) : Type 0 where
   pub octets : List ℕ
   pub passed : length octets ≡ file_limit + 1
   pub cut : IsTrue files.tells → IsCutFrom (files.held path) octets
 
--- why the text can't be read; a file that failed and want of memory say nothing of it
+-- why the text can't be read; a file that failed, or memory that ran out, says nothing about the text
 abbrev pub IsRefusedFor : {A : Type 0} → Reader A → List ℕ → FilesShown → LoadFault → Type 0
 IsRefusedFor reader path files fault.Failed = Unit {0}
 IsRefusedFor reader path files fault.TooLong = IsTooLong path files
@@ -86,7 +87,7 @@ pub record IsUnloaded {A : Type 0} (reader : Reader A) (path : List ℕ) (old ne
   pub failed : why ≡ fault.Failed → PathFailed path old.faults new.faults
   pub unfailed : why ≢ fault.Failed → new ≡ old
 
--- what was answered for octets that were read
+-- the result for octets that were read
 abbrev pub AnswersText : {A : Type 0} → Reader A → List ℕ → Result (List A) LoadFault → Type 0
 AnswersText reader text (Ok lines) = reader text ≡ Ok lines
 AnswersText reader text (Err fault.Failed) = ⊥
@@ -94,21 +95,20 @@ AnswersText reader text (Err fault.TooLong) = ⊥
 AnswersText reader text (Err (fault.Line n)) = reader text ≡ Err n
 AnswersText reader text (Err fault.Memory) = Unit {0}
 
--- why a file was not loaded
+-- the fault of a file that couldn't be read
 abbrev pub fault_of : FileFault → LoadFault
 fault_of file.Failed = fault.Failed
 fault_of file.TooLong = fault.TooLong
 fault_of file.Memory = fault.Memory
 
--- ---- what is printed of it
+-- ---- what is printed about it
 
--- how a faulty line of a text of this kind is told
+-- the line for a faulty line of a text of this kind
 abbrev pub faulty_line : TextKind → ℕ → List ℕ
 faulty_line kind.Tags = tags_line
 faulty_line kind.Script = script_line
 
--- the line for a text that can't be read, where a faulty line is told so; there is none for a file that failed, nor for
--- want of memory
+-- the line for a text that can't be read; there is none for a file that failed, nor if memory ran out
 abbrev pub refusal_line : (ℕ → List ℕ) → LoadFault → Option (List ℕ)
 refusal_line faulty (fault.Line n) = Some (faulty n)
 refusal_line faulty fault.TooLong = Some too_long_line
@@ -131,23 +131,23 @@ pub record PathFails (path : List ℕ) (old new : FilesShown) (printed : List �
 
 -- ---- tag files, scripts and sends files
 
--- THE TAGS that lines of scripts may name were read: those of the tag file, and none where no such file is named
+-- THE TAGS that lines of scripts may name were read: those of the tag file, or none if no tag file is named
 abbrev pub ReadsTags : Option (List ℕ) → FilesShown → (Option (List Tag) → Type 0) → Type 0
 ReadsTags None files so = so None
 ReadsTags (Some path) files so = ReadsText tag_reader path files (λ found. so (Some found))
 
--- the tag file was refused, where one is named
+-- the tag file was refused, if one is named
 abbrev pub RefusesTags : Option (List ℕ) → FilesShown → (List ℕ → Type 0) → Type 0
 RefusesTags None files printed = ⊥
 RefusesTags (Some path) files printed = RefusesText tag_reader tags_line path files printed
 
--- the tag file that is named wasn't loaded, and why
+-- the named tag file wasn't loaded, for this reason
 pub record StopsAtTags (named : Option (List ℕ)) (old new : FilesShown) (path : List ℕ) (why : LoadFault)
     : Type 0 where
   pub is : named ≡ Some path
   pub unloaded : IsUnloaded tag_reader path old new why
 
--- the tag file failed, where one is named
+-- the tag file failed, if one is named
 abbrev pub FailsTags : Option (List ℕ) → FilesShown → FilesShown → (List ℕ → Type 0) → Type 0
 FailsTags None old new printed = ⊥
 FailsTags (Some path) old new printed = PathFails path old new printed

@@ -23,13 +23,13 @@ use Rattle.s7_tool_main.specs.declared.ended.RunEnd.{RunEnd}
 use Rattle.s7_tool_main.specs.Loading.{PathFails, ReadsSends, RefusesSends}
 use Rattle.s7_tool_main.specs.Report.{Gains, Printed, PrintsText, dial_line, memory_line}
 
--- partners connect as programming devices to rack 0 and slot 2, with a PDU of 480 and one telegram at a time
+-- the configuration of partners: programming devices at rack 0 and slot 2, with a PDU of 480 and one telegram at a time
 abbrev pub partner_config : Config
 partner_config = record { calling = 0x0100; called = 0x0102; pdu = 480; jobs = 1; polls = 50 }
 
 -- ---- two partners in memory
 
--- TWO PARTNERS RAN over two pipes, each given the blocks of its file, and what both told was printed
+-- TWO PARTNERS RAN over two pipes, each given the blocks of its file, and the news of both was printed
 pub record RanPair (told : PartnerTold) (one other : List SendLine) (out out' : OutShown) (how : Ended) : Type 0 where
   pub end : EndTold
   pub ran : PairRan partner_config one other told.seed told.steps end
@@ -41,7 +41,7 @@ RanBoth told path files out out' how =
 
 -- ---- one partner over a link
 
--- how it talked over the link; for want of memory a line is printed then
+-- how the partner talked over the link; if memory ran out, a line that says so is then printed
 abbrev pub TalksAs : Post → Shown → OutShown → Post → Shown → OutShown → Ended → Type 0
 TalksAs start link out last link' out' ended.Done = Talked start link out last link' out' end.Sent
 TalksAs start link out last link' out' ended.Jobs = Talked start link out last link' out' end.Unsent
@@ -53,9 +53,9 @@ TalksAs start link out last link' out' ended.Refused = ⊥
 TalksAs start link out last link' out' ended.File = ⊥
 TalksAs start link out last link' out' ended.Dial = ⊥
 
--- by the octets that it took and transmitted there it is one active partner that was given the blocks in order, and
--- the lines of what it told were printed; where all went well each block was told as sent, and where it closed the last
--- line has the number
+-- by the octets that it took and transmitted on the link it is one active partner that was given the blocks in order,
+-- and the lines of its news were printed; if all went well, each block was reported as sent; if it closed, the last
+-- line has the number of the error
 abbrev pub ComesTo : List SendLine → Shown → OutShown → Post → Shown → OutShown → Ended → Type 0
 ComesTo sends link out last link' out' ended.Done =
     (news : List News) × IsSideOver Active partner_config sends link link' news × Gains out out' (actives_text news)
@@ -79,7 +79,7 @@ pub record TalksOver {L : Type 0} (shows : L → Shown) (sends : List SendLine) 
   -- a partner has no results
   pub none : run.results.items ≡ []
 
--- A LINK WAS DIALLED, the one that the dial gives to the host and the port where that is told, and the active partner
+-- A LINK WAS DIALLED, the link that the dial gives for the host and the port if it shows that, and the active partner
 -- talked over it
 pub record TalksDialled {L : Type 0} (shows : L → Shown) (told : PartnerTold) (dial : DialShown L)
     (sends : List SendLine) (out out' : OutShown) (run : RunEnd L) (how : Ended) : Type 0 where
@@ -100,20 +100,20 @@ RefusesOne told None files printed = RefusesSends told.one files printed
 RefusesOne told (Some path) files printed =
     RefusesSends told.one files printed ⊎ ReadsSends told.one files (λ one. RefusesSends path files printed)
 
--- A SENDS FILE FAILED, the first or the one that came next
+-- A SENDS FILE FAILED, the first, or the second after the first was read
 abbrev pub FailsOne : PartnerTold → Option (List ℕ) → FilesShown → FilesShown → (List ℕ → Type 0) → Type 0
 FailsOne told None files files' printed = PathFails told.one files files' printed
 FailsOne told (Some path) files files' printed =
     PathFails told.one files files' printed ⊎ ReadsSends told.one files (λ one. PathFails path files files' printed)
 
--- the call failed after the file was read: the count of its host and port rose, and the line for this was printed
+-- the call failed after the file was read: the counter of its host and port rose, and the line for this was printed
 pub record DialFailsFor {L : Type 0} (told : PartnerTold) (files : FilesShown) (dial dial' : DialShown L)
     (printed : List ℕ → Type 0) : Type 0 where
   pub read : ReadsSends told.one files (λ one. Unit {0})
   pub rose : Rose (dial.faults told.host told.port) (dial'.faults told.host told.port)
   pub is_printed : printed dial_line
 
--- THE CALL FAILED: only the partner that is alone dials
+-- THE CALL FAILED: only a partner over a link dials
 abbrev pub CallFailsFor : {L : Type 0} → PartnerTold → Option (List ℕ) → FilesShown → DialShown L → DialShown L
     → (List ℕ → Type 0) → Type 0
 CallFailsFor told None files dial dial' printed = DialFailsFor told files dial dial' printed
@@ -121,21 +121,21 @@ CallFailsFor told (Some path) files dial dial' printed = ⊥
 
 -- ---- how it ended
 
--- WHAT RAN, as far as it says how it ended: two partners, or one over a link that is left
+-- WHAT RAN, and ended in this way: two partners in memory, or one over a link that is left
 abbrev pub RanPartners : {L : Type 0} → (L → Shown) → PartnerTold → Option (List ℕ) → FilesShown → DialShown L
     → OutShown → OutShown → Option (RunEnd L) → Ended → Type 0
 RanPartners shows told None files dial out out' run how =
     IsSomeAnd run (λ r. RanAlone shows told files dial out out' r how)
 RanPartners shows told (Some path) files dial out out' run how = IsNone run × RanBoth told path files out out' how
 
--- MEMORY WAS WANTING: a run is left that ended early, or there is none and the line for this was printed
+-- MEMORY RAN OUT: a run is left that ended early, or there is none and the line for this was printed
 abbrev pub PartnersLack : {L : Type 0} → (L → Shown) → PartnerTold → Option (List ℕ) → FilesShown → DialShown L
     → OutShown → OutShown → Option (RunEnd L) → Type 0
 PartnersLack shows told None files dial out out' run =
     MatchOption run (Printed out out' memory_line) (λ r. RanAlone shows told files dial out out' r ended.Memory)
 PartnersLack shows told (Some path) files dial out out' run = IsNone run × Printed out out' memory_line
 
--- HOW `partner` ENDED, by the files, the dial and the output before and after, and the run where there is one
+-- HOW `partner` ENDED, by the files, the dial and the output before and after, and the run if there is one
 abbrev pub PartnerEnds : {L : Type 0} → (L → Shown) → PartnerTold → FilesShown → FilesShown → DialShown L
     → DialShown L → OutShown → OutShown → Option (RunEnd L) → Ended → Type 0
 PartnerEnds shows told files files' dial dial' out out' run ended.Done =
@@ -153,7 +153,7 @@ PartnerEnds shows told files files' dial dial' out out' run ended.File =
 PartnerEnds shows told files files' dial dial' out out' run ended.Dial =
     IsNone run × CallFailsFor told told.other files dial dial' (Printed out out')
 
--- ---- the same from where the first file was read
+-- ---- the same after the first file was read
 
 pub record PairTells (one other : List SendLine) (seed steps : ℕ) (text : List ℕ) (done : Bool) : Type 0 where
   pub end : EndTold
@@ -174,7 +174,7 @@ BothEnd told one path files files' out out' ended.Refused = RefusesSends path fi
 BothEnd told one path files files' out out' ended.File = PathFails path files files' (Printed out out')
 BothEnd told one path files files' out out' ended.Dial = ⊥
 
--- how it ended by how it talked
+-- how the command ended, by how the partner talked
 abbrev pub EndsBy : TalkEnd → OutShown → OutShown → Ended → Type 0
 EndsBy end.Sent out out' how = (how ≡ ended.Done) × (out' ≡ out)
 EndsBy end.Unsent out out' how = (how ≡ ended.Jobs) × (out' ≡ out)

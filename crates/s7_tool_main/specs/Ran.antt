@@ -26,7 +26,7 @@ pub record RunsOver {L : Type 0} (shows : L → Shown) (config : Config) (lines 
   pub goes : Goes config lines (first_place link out)
       (record { link = shows run.line; between = after; results = run.results.items; out = out' }) how
 
--- A LINK WAS DIALLED, the one that the dial gives to the host and the port where that is told, and the jobs of these
+-- A LINK WAS DIALLED, the link that the dial gives for the host and the port if it shows that, and the jobs of these
 -- lines were carried out over it
 pub record RunsDialled {L : Type 0} (shows : L → Shown) (told : RunTold) (dial : DialShown L) (lines : List ScriptLine)
     (out out' : OutShown) (run : RunEnd L) (how : Ended) : Type 0 where
@@ -34,7 +34,7 @@ pub record RunsDialled {L : Type 0} (shows : L → Shown) (told : RunTold) (dial
   pub given : (next : L) → dial.next told.host told.port ≡ Some next → link ≡ shows next
   pub runs : RunsOver shows (config_by told) lines link out out' run how
 
--- THE SCRIPT WAS READ, and before it the tag file, where one is named, whose tags its lines may name
+-- THE SCRIPT WAS READ, and before it the tag file, if one is named, whose tags its lines may name
 abbrev pub ReadsAll : RunTold → FilesShown → (List ScriptLine → Type 0) → Type 0
 ReadsAll told files so = ReadsTags told.tags files (λ known. ReadsScript known told.script files so)
 
@@ -46,31 +46,31 @@ RanScript shows told files dial out out' run how =
 
 -- ---- how it ended
 
--- A FILE WAS REFUSED: the tag file where one is named, or else the script
+-- A FILE WAS REFUSED: the tag file if one is named, or after it the script
 abbrev pub RefusesRun : RunTold → FilesShown → (List ℕ → Type 0) → Type 0
 RefusesRun told files printed =
     RefusesTags told.tags files printed
     ⊎ ReadsTags told.tags files (λ known. RefusesScript known told.script files printed)
 
--- A FILE FAILED: the tag file where one is named, or else the script's
+-- A FILE FAILED: the tag file if one is named, or after it the script
 abbrev pub FailsRun : RunTold → FilesShown → FilesShown → (List ℕ → Type 0) → Type 0
 FailsRun told old new printed =
     FailsTags told.tags old new printed ⊎ ReadsTags told.tags old (λ known. PathFails told.script old new printed)
 
--- THE CALL FAILED after the files were read: the count of its host and port rose, and the line for this was printed
+-- THE CALL FAILED after the files were read: the counter of its host and port rose, and the line for this was printed
 pub record CallFails {L : Type 0} (told : RunTold) (files : FilesShown) (dial dial' : DialShown L)
     (printed : List ℕ → Type 0) : Type 0 where
   pub read : ReadsAll told files (λ lines. Unit {0})
   pub rose : Rose (dial.faults told.host told.port) (dial'.faults told.host told.port)
   pub is_printed : printed dial_line
 
--- memory was wanting: a run is left that ended early, or there is none and the line for this was printed
+-- memory ran out: a run is left that ended early, or there is none and the line for this was printed
 abbrev pub RunLacksMemory : {L : Type 0} → (L → Shown) → RunTold → FilesShown → DialShown L → OutShown → OutShown
     → Option (RunEnd L) → Type 0
 RunLacksMemory shows told files dial out out' run =
     MatchOption run (Printed out out' memory_line) (λ r. RanScript shows told files dial out out' r ended.Memory)
 
--- HOW `run` ENDED, by the files, the dial and the output before and after, and the run where there is one
+-- HOW `run` ENDED, by the files, the dial and the output before and after, and the run if there is one
 abbrev pub RunEnds : {L : Type 0} → (L → Shown) → RunTold → FilesShown → FilesShown → DialShown L → DialShown L
     → OutShown → OutShown → Option (RunEnd L) → Ended → Type 0
 RunEnds shows told files files' dial dial' out out' run ended.Done =
@@ -88,7 +88,7 @@ RunEnds shows told files files' dial dial' out out' run ended.File =
 RunEnds shows told files files' dial dial' out out' run ended.Dial =
     IsNone run × CallFails told files dial dial' (Printed out out')
 
--- ---- the same from where the script was read
+-- ---- the same after the script was read
 
 abbrev pub LinesEnd : {L : Type 0} → (L → Shown) → RunTold → List ScriptLine → DialShown L → DialShown L → OutShown
     → OutShown → Option (RunEnd L) → Ended → Type 0

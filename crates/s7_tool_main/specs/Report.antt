@@ -1,4 +1,4 @@
--- What is printed.
+-- The text that is printed.
 use Rattle.std.specs.Prelude.{◌≡◌, ◌⊎◌, ℕ, Bool, true, false, List, [], ◌∷◌, ◌++◌, codes, Option, None, Some, IsSomeAnd}
 use Rattle.std.specs.Fmt.{decimal}
 use Rattle.std.specs.Io.KnownBytes.{append_known}
@@ -19,16 +19,16 @@ use Rattle.s7_tool_main.specs.declared.ended.Ended.TheVariants as ended
 abbrev pub line_end : List ℕ
 line_end = 10 ∷ []
 
--- the line of what came of a job, by the number of its line and the type of the tag that it names
+-- the line for the result of a job, by the number of its line and the type of the tag that the line names
 abbrev pub line_by : ℕ → Option TagKind → JobResult → List ℕ
 line_by number None told = print number told
 line_by number (Some kind) told = print_tag number kind told
 
--- THE LINE of what came of the job of a line of a script
+-- THE LINE for the result of a job of a script's line
 abbrev pub line_text : ScriptLine → JobResult → List ℕ
 line_text next told = line_by next.line next.tag told
 
--- THE REPORT of these lines: of each what came of its job, as far as results go
+-- THE REPORT of these lines: the line for the result of each job that has one
 unfoldable pub report : List ScriptLine → List JobResult → List ℕ
 report [] results = []
 report (next ∷ lines) [] = []
@@ -58,22 +58,23 @@ dial_line = codes "dial failed" ++ line_end
 abbrev pub memory_line : List ℕ
 memory_line = codes "memory" ++ line_end
 
--- ---- what becomes of the output
+-- ---- the output
 
--- an output gained a text
+-- an output gained this text
 abbrev pub Gains : OutShown → OutShown → List ℕ → Type 0
 Gains old new text = new.text ≡ append_known old.text text
 
--- an output failed, and gained a front of a text
+-- an output failed, and gained a prefix of this text
 pub record BreaksOff (old new : OutShown) (text : List ℕ) : Type 0 where
   pub front : AppendsPrefix old.text new.text text
   pub failed : Rose old.faults new.faults
 
--- A LINE WAS PRINTED, or a front of it where the output failed
+-- A LINE WAS PRINTED, or a prefix of it if the output failed
 abbrev pub Printed : OutShown → OutShown → List ℕ → Type 0
 Printed old new line = Gains old new line ⊎ BreaksOff old new line
 
--- THE TEXT OF WHAT WAS DONE WAS PRINTED, or a front of it where the output failed, by whether all went well
+-- THE TEXT OF WHAT WAS DONE WAS PRINTED, or a prefix of it if the output failed; how the command ended, by whether all
+-- went well
 abbrev pub PrintsText : List ℕ → Bool → OutShown → OutShown → Ended → Type 0
 PrintsText text good old new ended.Done = Gains old new text × (good ≡ true)
 PrintsText text good old new ended.Jobs = Gains old new text × (good ≡ false)
@@ -83,7 +84,7 @@ PrintsText text good old new ended.File = ⊥
 PrintsText text good old new ended.Dial = ⊥
 PrintsText text good old new ended.Memory = ⊥
 
--- WHY A FILE WASN'T LOADED was printed: the line for a refusal, where there is one, or that for a file that failed
+-- WHY A FILE WASN'T LOADED was printed: the line for a refusal, if there is one, or the line for a file that failed
 abbrev pub TellsFault : Option (List ℕ) → Type 0 → List ℕ → OutShown → OutShown → Ended → Type 0
 TellsFault line failed path old new ended.Refused = IsSomeAnd line (Printed old new)
 TellsFault line failed path old new ended.File = failed × Printed old new (file_line path)

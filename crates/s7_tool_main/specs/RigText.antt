@@ -1,4 +1,4 @@
--- What is printed of a rig.
+-- The text that is printed of a rig.
 use Rattle.std.specs.Prelude.{ℕ, All, ◌+◌, ◌==◌, ◌&&◌, Bool, List, [], ◌∷◌, ◌++◌}
 use Rattle.std.specs.Prelude.{length, map, codes, if◌then◌else◌}
 use Rattle.std.specs.Fmt.{decimal}
@@ -11,11 +11,11 @@ use Rattle.s7_tool_main.specs.declared.head.Head.{Head}
 use Rattle.s7_tool_main.specs.Report.{line_by, line_end}
 use Rattle.s7_tool_main.specs.Run.{connect_line, is_good}
 
--- what a printed line has of a line of a script: its number, and the type of the tag that it names
+-- what a printed line needs of the line of a script: its number, and the type of the tag that it names
 abbrev pub head_of : ScriptLine → Head
 head_of next = record { line = next.line; tag = next.tag }
 
--- the heads of a client's lines: the connect's, and those of the script
+-- the heads of a client's lines: that of the connect, and those of the script
 abbrev pub heads_of : List ScriptLine → List Head
 heads_of lines = head_of connect_line ∷ map head_of lines
 
@@ -35,7 +35,7 @@ client_line link text = codes "client " ++ (decimal link ++ (codes " line " ++ t
 abbrev pub unfinished_line : ℕ → List ℕ
 unfinished_line link = codes "client " ++ (decimal link ++ (codes " unfinished" ++ line_end))
 
--- of each line what came of its job, as far as results go
+-- the line for the result of each job that has one
 unfoldable pub results_text : ℕ → List Head → List JobResult → List ℕ
 results_text link [] results = []
 results_text link (head ∷ heads) [] = []
@@ -58,7 +58,7 @@ journal_line count = codes "journal " ++ (decimal count ++ line_end)
 abbrev pub text_by : List (List Head) → EndTold → List ℕ
 text_by heads end = clients_text heads end.clients ++ journal_line (length end.book.journal.entries)
 
--- THE TEXT of a rig: of each client, in order, the results of its lines, and a line where it isn't finished; then the
+-- THE TEXT of a rig: for each client, in order, the results of its lines, and a line if it isn't finished; then the
 -- journal's length
 abbrev pub rig_text : List (List ScriptLine) → EndTold → List ℕ
 rig_text scripts end = text_by (map heads_of scripts) end

@@ -26,7 +26,7 @@ use Rattle.s7_tool_main.specs.Scripts.{ReadsBefore, ReadsScripts}
 
 -- ---- files
 
--- the line for areas that can't be read; there is none for a file that failed, nor for want of memory
+-- the line for areas that can't be read; there is none for a file that failed, nor if memory ran out
 abbrev pub areas_refusal_line : LoadFault → Option (List ℕ)
 areas_refusal_line (fault.Line n) = Some (areas_line n)
 areas_refusal_line fault.TooLong = Some too_long_line
@@ -53,7 +53,8 @@ pub record RefusesOneScript (known : Option (List Tag)) (told : RigTold) (files 
   pub next : ComesTo known told files path
   pub refused : RefusesScript known path files printed
 
--- A FILE WAS REFUSED: the first, the tag file before the others and these in the order of the words, that can't be read
+-- A FILE WAS REFUSED: the first that can't be read, in the order of the tag file, the areas and the scripts as the
+-- words name them
 abbrev pub RefusesFile : RigTold → FilesShown → (List ℕ → Type 0) → Type 0
 RefusesFile told files printed =
     RefusesTags told.tags files printed
@@ -65,31 +66,31 @@ IsPathOf (path p) q = q ≡ p
 IsPathOf (block number octets) q = ⊥
 IsPathOf faulty q = ⊥
 
--- that of the areas failed, or the script that was the next
+-- the file of the areas failed, or the next script
 pub record FailsOther (known : Option (List Tag)) (told : RigTold) (old new : FilesShown) (printed : List ℕ → Type 0)
     : Type 0 where
   pub path : List ℕ
   pub named : IsPathOf (naming told.areas) path ⊎ ComesTo known told old path
   pub fails : PathFails path old new printed
 
--- A FILE FAILED: the tag file where one is named, or else that of the areas or the script that was the next
+-- A FILE FAILED: the tag file if one is named, or after it the file of the areas or the next script
 abbrev pub FailsOneFile : RigTold → FilesShown → FilesShown → (List ℕ → Type 0) → Type 0
 FailsOneFile told old new printed =
     FailsTags told.tags old new printed ⊎ ReadsTags told.tags old (λ known. FailsOther known told old new printed)
 
 -- ---- the rig
 
--- a rig ran over these areas, with these jobs of each client, as the words have it
+-- a rig ran over these areas, with these jobs of each client, as the words ask
 abbrev pub RanJobs : RigTold → Memory → List (List Job) → EndTold → Type 0
 RanJobs told opening jobs end = RigRan opening told.journal (rig_config told.pdu told.jobs) jobs (turning_of told) end
 
--- memory was wanting for such a rig
+-- memory ran out for such a rig
 abbrev pub JobsWanting : RigTold → Memory → List (List Job) → Option Told → Option Told → Type 0
 JobsWanting told opening jobs before after =
     ToldWanting opening told.journal (rig_config told.pdu told.jobs) jobs (turning_of told) before after
 
--- A RIG RAN over the areas and the scripts that the words name, with the tags of the file that they name, which are those
--- of the files where that is told, and its text was printed
+-- A RIG RAN over the areas and the scripts that the words name, with the tags of the named file; all of them are those
+-- of the files if the files show their octets; and its text was printed
 pub record RanRig (told : RigTold) (files : FilesShown) (out out' : OutShown) (end : EndTold)
     (how : Ended) : Type 0 where
   pub known : Option (List Tag)
@@ -101,7 +102,7 @@ pub record RanRig (told : RigTold) (files : FilesShown) (out out' : OutShown) (e
   pub ran : RanJobs told opening (map jobs_of scripts) end
   pub printed : PrintsText (rig_text scripts end) (are_clients_good scripts end.clients) out out' how
 
--- HOW `rig` ENDED, by the files and the output before and after, and the rig where one ran
+-- HOW `rig` ENDED, by the files and the output before and after, and the rig if one ran
 abbrev pub RigEnds : RigTold → FilesShown → FilesShown → OutShown → OutShown → Option RigEnd → Ended → Type 0
 RigEnds told files files' out out' rig ended.Done =
     IsSomeAnd rig (λ r. RanRig told files out out' (end_told r) ended.Done)
@@ -114,9 +115,9 @@ RigEnds told files files' out out' rig ended.File = IsNone rig × FailsOneFile t
 RigEnds told files files' out out' rig ended.Memory = IsNone rig × Printed out out' memory_line
 RigEnds told files files' out out' rig ended.Dial = ⊥
 
--- ---- what a completion was told
+-- ---- what a completion was notified of
 
--- memory was wanting for a rig over the areas and the scripts that the words name
+-- memory ran out for a rig over the areas and the scripts that the words name
 pub record BreaksOffRig (told : RigTold) (files : FilesShown) (before after : Option Told) : Type 0 where
   pub known : Option (List Tag)
   pub tagged : ReadsTags told.tags files (λ found. found ≡ known)
@@ -126,6 +127,6 @@ pub record BreaksOffRig (told : RigTold) (files : FilesShown) (before after : Op
   pub read : ReadsScripts known told.scripts files scripts
   pub wanting : JobsWanting told opening (map jobs_of scripts) before after
 
--- MEMORY WAS WANTING: before a rig was begun, and the completion was told of nothing, or for that rig
+-- MEMORY RAN OUT: before a rig was begun, and the completion was notified of nothing, or for that rig
 abbrev pub RigWanting : RigTold → FilesShown → Option Told → Option Told → Type 0
 RigWanting told files before after = (after ≡ before) ⊎ BreaksOffRig told files before after

@@ -20,7 +20,7 @@ use Rattle.s7_tool_main.specs.Report.{Gains, Printed, line_text, memory_line, re
 
 -- ---- jobs
 
--- JOBS ONE AFTER ANOTHER, with a result each: each runs from where the one before left the link and the client
+-- JOBS ONE AFTER ANOTHER, each with its result: each runs from the link and the client as the job before left them
 unfoldable pub RunsJobs : Config → Between → List Job → Shown → List JobResult → Shown → Between → Type 0
 RunsJobs config before [] link [] link' after = (link' ≡ link) × (after ≡ before)
 RunsJobs config before [] link (told ∷ results) link' after = ⊥
@@ -40,24 +40,24 @@ connect_line = record { line = 0; job = job.Connect; tag = None }
 abbrev pub jobs_of : List ScriptLine → List Job
 jobs_of lines = job.Connect ∷ (map job_in lines ++ job.Disconnect ∷ [])
 
--- the job came off
+-- the job succeeded
 abbrev pub is_good : JobResult → Bool
 is_good told = told.code == no_fault
 
--- ---- places
+-- ---- points of a run
 
--- where a run stands: the link, what the client has, the results so far, and what the output shows
+-- a point of a run: the link, the state of the client, the results so far, and what the output shows
 pub record Place : Type 0 where
   pub link : Shown
   pub between : Between
   pub results : List JobResult
   pub out : OutShown
 
--- where a run begins over a link
+-- the point at which a run begins over a link
 abbrev pub first_place : Shown → OutShown → Place
 first_place link out = record { link = link; between = fresh; results = []; out = out }
 
--- where a run under way stands
+-- the point that a run under way has reached
 abbrev pub place : {L C : Type 0} → (L → Shown) → ScriptRun L C → OutShown → Place
 place shows run out =
     record {
@@ -67,7 +67,7 @@ place shows run out =
       out = out;
     }
 
--- ---- from place to place
+-- ---- from point to point
 
 -- a job was done, and its result kept
 pub record DoesJob (config : Config) (asked : Job) (old new : Place) : Type 0 where
@@ -82,7 +82,7 @@ pub record DoesLines (config : Config) (lines : List ScriptLine) (old new : Plac
   pub results : new.results ≡ old.results ++ told
   pub text : Gains old.out new.out (report lines told)
 
--- a front of a line was printed, and no more where the output failed
+-- a prefix of a line was printed
 abbrev pub PrintsFront : OutShown → OutShown → List ℕ → Type 0
 PrintsFront old new line = AppendsPrefix old.text new.text line
 
@@ -90,7 +90,7 @@ PrintsFront old new line = AppendsPrefix old.text new.text line
 abbrev pub PrintsNothing : OutShown → OutShown → List ℕ → Type 0
 PrintsNothing old new line = new ≡ old
 
--- the job of the first line was done, and what came of it was printed so far
+-- the job of the first line was done, and its result was printed in this way
 pub record DoesUnprinted (prints : OutShown → OutShown → List ℕ → Type 0) (config : Config) (next : ScriptLine)
     (old new : Place) : Type 0 where
   pub does : DoesJob config next.job old new
@@ -100,7 +100,7 @@ abbrev pub DoesFirst : (OutShown → OutShown → List ℕ → Type 0) → Confi
 DoesFirst prints config [] old new = ⊥
 DoesFirst prints config (next ∷ lines) old new = DoesUnprinted prints config next old new
 
--- A RUN THAT ENDED EARLY: a front of these lines was done, and then nothing or one job more, whose result was kept
+-- A RUN THAT ENDED EARLY: the first of these lines were done, and then at most one job more, whose result was kept
 pub record EndsEarly (prints : OutShown → OutShown → List ℕ → Type 0) (config : Config) (lines : List ScriptLine)
     (old new : Place) : Type 0 where
   pub front : List ScriptLine
@@ -110,12 +110,12 @@ pub record EndsEarly (prints : OutShown → OutShown → List ℕ → Type 0) (c
   pub done : DoesLines config front old broken
   pub stop : (new ≡ broken) ⊎ DoesFirst prints config rest broken new
 
--- a run that ended early where the output failed, while what came of a job was printed
+-- a run that ended early because the output failed while the result of a job was printed
 pub record FailsOutput (config : Config) (lines : List ScriptLine) (old new : Place) : Type 0 where
   pub early : EndsEarly PrintsFront config lines old new
   pub rose : Rose old.out.faults new.out.faults
 
--- a run that ended early for want of memory: all that was to be printed until then was, and then the line for this
+-- a run that ended early because memory ran out: every result until then was printed, and then the line for this
 pub record WantsMemory (config : Config) (lines : List ScriptLine) (old new : Place) : Type 0 where
   pub middle : OutShown
   pub early : EndsEarly PrintsNothing config lines old (record new { out = middle })
@@ -130,7 +130,7 @@ pub record DoesAll (config : Config) (lines : List ScriptLine) (old new : Place)
   pub results : new.results ≡ old.results ++ told
   pub text : Gains old.out new.out (report (connect_line ∷ lines) told)
 
--- HOW THE JOBS OF A SCRIPT WENT: all were done, and each came off or not, or they ended early
+-- HOW THE JOBS OF A SCRIPT ENDED: all were done, and all succeeded or not, or they ended early
 abbrev pub Goes : Config → List ScriptLine → Place → Place → Ended → Type 0
 Goes config lines old new ended.Done = DoesAll config lines old new × (list_all is_good new.results ≡ true)
 Goes config lines old new ended.Jobs = DoesAll config lines old new × (list_all is_good new.results ≡ false)

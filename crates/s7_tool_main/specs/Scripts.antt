@@ -14,12 +14,12 @@ ReadsScripts known (path ∷ paths) files [] = ⊥
 ReadsScripts known (path ∷ paths) files (lines ∷ scripts) =
     ReadsScript known path files (λ read. read ≡ lines) × ReadsScripts known paths files scripts
 
--- the script under a path was read, and is the last
+-- the script under a path was read, and is the last of the list
 abbrev pub AddsScript : Option (List Tag) → List ℕ → FilesShown → List (List ScriptLine) → List (List ScriptLine)
     → Type 0
 AddsScript known path files old new = ReadsScript known path files (λ read. new ≡ old ++ read ∷ [])
 
--- of these scripts this is the next: those before it were read
+-- this is the next of these scripts: those before it were read
 pub record ReadsBefore (known : Option (List Tag)) (paths : List (List ℕ)) (files : FilesShown) (path : List ℕ)
     : Type 0 where
   pub before : List (List ℕ)
@@ -28,7 +28,7 @@ pub record ReadsBefore (known : Option (List Tag)) (paths : List (List ℕ)) (fi
   pub scripts : List (List ScriptLine)
   pub read : ReadsScripts known before files scripts
 
--- of these scripts the first that wasn't loaded, and why
+-- the first of these scripts that wasn't loaded, and why
 pub record StopsAt (known : Option (List Tag)) (paths : List (List ℕ)) (old new : FilesShown) (path : List ℕ)
     (why : LoadFault) : Type 0 where
   pub next : ReadsBefore known paths old path

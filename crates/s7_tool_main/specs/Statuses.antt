@@ -11,7 +11,7 @@ done = 0
 abbrev pub usage : ℕ
 usage = 1
 
--- the tags, the script or the areas can't be read
+-- a tag file, a script, a sends file or the areas can't be read
 abbrev pub script : ℕ
 script = 2
 
@@ -27,15 +27,15 @@ dial = 4
 abbrev pub output : ℕ
 output = 5
 
--- all jobs were done, and a result's code isn't 0
+-- everything was done, and a result's code isn't 0, a client isn't finished, or a block wasn't acknowledged
 abbrev pub jobs : ℕ
 jobs = 6
 
--- memory was wanting
+-- memory ran out
 abbrev pub memory : ℕ
 memory = 9
 
--- the status for how it ended
+-- the status for how the command ended
 abbrev pub status_of : Ended → ℕ
 status_of ended.Done = done
 status_of ended.Refused = script

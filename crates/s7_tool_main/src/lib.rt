@@ -1,4 +1,4 @@
-//! What the program `s7tool` does: scripts run against controllers and in rigs, and partners send blocks.
+//! What the program `s7tool` does: it runs scripts against controllers and in rigs, and partners that send blocks.
 #![tactic(auto)]
 
 mod ended;

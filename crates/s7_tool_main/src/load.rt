@@ -1,4 +1,4 @@
-// The tag files, scripts and sends files that paths name.
+//! Loading tag files, scripts and sends files.
 ghost use Rattle.std.specs.Prelude.{◌≡◌, ◌+◌, All, IfErr, IfOk, OnOk, length, map, option_map, vec_len};
 ghost use Rattle.s7_script.specs.Script.{GivesScript};
 ghost use Rattle.s7_script.specs.Sends.{IsSized};
@@ -12,7 +12,7 @@ use s7_script::{Script, ScriptFault, ScriptKind, Sends, read_script, read_sends,
 use s7_symbol::{TagFaultKind, Tags, read_tags};
 use std::alloc::Global;
 
-/// What a text is.
+/// The kind of a text.
 #[derive(Clone, Copy, Debug, PartialEq, Eq)]
 pub(crate) enum TextKind {
     /// A tag file.
@@ -21,27 +21,27 @@ pub(crate) enum TextKind {
     Script,
 }
 
-/// Why a tag file, a script or a sends file was not loaded.
+/// Why a tag file, a script or a sends file wasn't loaded.
 #[derive(Clone, Copy, Debug, PartialEq, Eq)]
 pub enum LoadFault {
-    /// The file is not there, or could not be read.
+    /// The file doesn't exist, or couldn't be read.
     Failed,
     /// The file has more than 67,108,864 octets.
     TooLong,
-    /// The first faulty line of the text, from 1 on.
+    /// The number of the first faulty line of the text, from 1 on.
     Line(u32),
-    /// There is no memory.
+    /// An allocation failed.
     Memory,
 }
 
-/// A tag file or a script that wasn't loaded, and why.
+/// The path of a file that wasn't loaded, and why.
 #[derive(Clone, Copy, Debug, PartialEq, Eq)]
 pub(crate) struct Refused<'a> {
     pub path: &'a str,
     pub fault: LoadFault,
 }
 
-/// The tags of the file under a path, none where no path is given. No path changes.
+/// The tags of the file under this path, `None` if no path is given. No file is changed.
 pub(crate) fn load_tags<'a, F: Files>(
     alloc: Global,
     files: &mut F,
@@ -63,7 +63,7 @@ pub(crate) fn load_tags<'a, F: Files>(
     }
 }
 
-// The tags of the file under a path.
+/// The tags of the file under this path.
 fn load_tag_file<F: Files>(alloc: Global, files: &mut F, path: &str) -> Result<Tags, LoadFault>
     ensures ok { IfOk result (λ tags. ReadsText tag_reader path.now (F.shows files.old) (λ read. read ≡ tags)) }
     ensures err { IfErr result (λ fault.
@@ -78,7 +78,8 @@ fn load_tag_file<F: Files>(alloc: Global, files: &mut F, path: &str) -> Result<T
     }
 }
 
-/// The scripts under these paths, whose lines may name these tags, up to the first that isn't loaded. No path changes.
+/// The scripts under these paths, whose lines may name these tags. Stops at the first that isn't loaded. No file is
+/// changed.
 pub(crate) fn load_scripts<'a, F: Files>(
     alloc: Global,
     files: &mut F,
@@ -103,7 +104,7 @@ pub(crate) fn load_scripts<'a, F: Files>(
     Ok(scripts)
 }
 
-// Adds the script under a path.
+/// Appends the script under this path.
 fn next_script<F: Files>(
     alloc: Global,
     files: &mut F,
@@ -126,7 +127,7 @@ fn next_script<F: Files>(
     }
 }
 
-/// The script under a path, whose lines may name these tags. No path changes.
+/// The script under this path, whose lines may name these tags. No file is changed.
 pub(crate) fn load_script<F: Files>(
     alloc: Global,
     files: &mut F,
@@ -147,7 +148,7 @@ pub(crate) fn load_script<F: Files>(
     }
 }
 
-/// The sends file under a path. No path changes.
+/// The blocks of the sends file under this path. No file is changed.
 pub(crate) fn load_sends<F: Files>(
     alloc: Global,
     files: &mut F,
@@ -167,7 +168,7 @@ pub(crate) fn load_sends<F: Files>(
     }
 }
 
-// Why a file was not loaded.
+/// The fault of a file that couldn't be read.
 fn fault_of(fault: FileFault) -> LoadFault
     ensures { result ≡ fault_of fault }
 {
@@ -178,7 +179,7 @@ fn fault_of(fault: FileFault) -> LoadFault
     }
 }
 
-// The tags of a text, or the number of its first faulty line.
+/// The tags of a text, or the number of its first faulty line.
 fn tags_of(alloc: Global, text: &[u8]) -> Result<Tags, LoadFault>
     ensures { AnswersText tag_reader text.now result }
 {
@@ -189,7 +190,7 @@ fn tags_of(alloc: Global, text: &[u8]) -> Result<Tags, LoadFault>
     }
 }
 
-// The script of a text whose lines may name these tags, or the number of its first faulty line.
+/// The script of a text whose lines may name these tags, or the number of its first faulty line.
 fn script_of(alloc: Global, known: Option<&Tags>, text: &[u8]) -> Result<Script, LoadFault>
     ensures { AnswersText (script_reader (option_map (λ t. t.now) known.entry)) text.now result }
 {
@@ -200,7 +201,7 @@ fn script_of(alloc: Global, known: Option<&Tags>, text: &[u8]) -> Result<Script,
     }
 }
 
-// The script of a text whose lines may name these tags.
+/// The script of a text whose lines may name these tags.
 fn read_known(alloc: Global, known: Option<&Tags>, text: &[u8]) -> Result<Script, ScriptFault>
     ensures { GivesScript (λ s. s) result (script_by (option_map (λ t. t.now) known.entry) text.now) }
 {
@@ -210,7 +211,7 @@ fn read_known(alloc: Global, known: Option<&Tags>, text: &[u8]) -> Result<Script
     }
 }
 
-// The blocks of a text, or the number of its first faulty line.
+/// The blocks of a text, or the number of its first faulty line.
 fn sends_of(alloc: Global, text: &[u8]) -> Result<Sends, LoadFault>
     ensures answers { AnswersText sends_reader text.now result }
     ensures sized { IfOk result (All IsSized) }

@@ -1,4 +1,4 @@
-// A rig whose areas and scripts are drawn from a number.
+//! Rigs whose areas and scripts are made from a seed.
 
 pub(crate) mod gen_run;
 pub(crate) mod made_areas;

@@ -1,4 +1,4 @@
-// What is printed, by how it ended.
+//! Printing texts and the lines for failures.
 ghost use Rattle.std.specs.Prelude.{◌≡◌};
 ghost use Rattle.s7_tool_main.specs.Loading.{faulty_line, refusal_line};
 ghost use Rattle.s7_tool_main.specs.Report.{Printed, PrintsText, TellsFault};
@@ -11,7 +11,7 @@ use s7_outer::Out;
 use s7_script::LoadFault as AreasFault;
 use std::alloc::Global;
 
-/// Prints the text of what was done, and says how that ended, by whether all went well.
+/// Prints the text of what was done. Returns how that ended, given whether all went well.
 pub(crate) fn print_text<O: Out>(text: &[u8], is_good: bool, out: &mut O) -> Ended
     ensures { PrintsText text.now is_good (O.shows out.old) (O.shows out.new) result }
 {
@@ -22,7 +22,7 @@ pub(crate) fn print_text<O: Out>(text: &[u8], is_good: bool, out: &mut O) -> End
     }
 }
 
-/// Prints why a text of this kind wasn't loaded, and says how it ended so.
+/// Prints why a text of this kind wasn't loaded, and returns how the command ends.
 pub(crate) fn print_refusal<O: Out>(
     alloc: Global,
     kind: TextKind,
@@ -44,7 +44,7 @@ pub(crate) fn print_refusal<O: Out>(
     }
 }
 
-/// Prints why the areas weren't loaded, and says how it ended so.
+/// Prints why the areas weren't loaded, and returns how the command ends.
 pub(crate) fn print_areas_refusal<O: Out>(
     alloc: Global,
     fault: AreasFault,
@@ -65,7 +65,7 @@ pub(crate) fn print_areas_refusal<O: Out>(
     }
 }
 
-// Prints that a file failed, and says how it ended so.
+/// Prints that a file failed, and returns how the command ends.
 fn print_failed<O: Out>(alloc: Global, path: &str, out: &mut O) -> Ended
     ensures { TellsFault None (Unit {0}) path.now (O.shows out.old) (O.shows out.new) result }
 {
@@ -75,7 +75,7 @@ fn print_failed<O: Out>(alloc: Global, path: &str, out: &mut O) -> Ended
     }
 }
 
-/// Prints the line for how it ended, and says that.
+/// Prints this line, and returns `ended`.
 pub(crate) fn print_as<O: Out>(ended: Ended, line: &[u8], out: &mut O) -> Ended
     ensures ended { result ≡ ended }
     ensures line { Printed (O.shows out.old) (O.shows out.new) line.now }
@@ -84,7 +84,7 @@ pub(crate) fn print_as<O: Out>(ended: Ended, line: &[u8], out: &mut O) -> Ended
     ended
 }
 
-/// Prints a line, whose failure changes nothing.
+/// Prints a line. A failure of the output is ignored.
 pub fn print_line<O: Out>(line: &[u8], out: &mut O)
     ensures { Printed (O.shows out.old) (O.shows out.new) line.now }
 {

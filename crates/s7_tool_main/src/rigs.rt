@@ -1,4 +1,4 @@
-// Rigs of clients in memory.
+//! Rigs of clients in memory.
 
 pub(crate) mod rig_report;
 pub(crate) mod rigging;

@@ -1,4 +1,4 @@
-// Scripts against a server, and partners.
+//! Runs over a link: scripts against a server, and partners.
 
 pub(crate) mod jobs;
 pub(crate) mod partner_run;

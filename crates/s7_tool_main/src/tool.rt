@@ -1,4 +1,4 @@
-// The whole of what the program does, over files, a dial and an output that are handed in.
+//! The whole program, over files, a dial and an output that are handed in.
 ghost use Rattle.std.specs.Prelude.{◌≡◌, ◌≢◌, ◌⊎◌, IsNone, IsSome, None, is_some, option_map};
 ghost use Rattle.s7_client.specs.Completions.{told_of_results};
 ghost use Rattle.s7_outer.specs.Count.{Rose, RoseExactly};
@@ -22,62 +22,75 @@ use s7_client::Completion;
 use s7_outer::{Dial, Files, Link, Out};
 use std::alloc::Global;
 
-/// All went well.
+/// The status if all went well.
 pub const DONE: u8 = 0;
 
-/// The words are no command.
+/// The status if the words are no command.
 pub const USAGE: u8 = 1;
 
-/// The tags, the script or the areas can't be read.
+/// The status if a tag file, a script, a sends file or the areas can't be read.
 pub const SCRIPT: u8 = 2;
 
-/// A file failed.
+/// The status if a file failed.
 pub const FILE: u8 = 3;
 
-/// The dial failed.
+/// The status if the dial failed.
 pub const DIAL: u8 = 4;
 
-/// The output failed.
+/// The status if the output failed.
 pub const OUTPUT: u8 = 5;
 
-/// All jobs were done, and a result's code isn't 0.
+/// The status if everything was done, and a result's code isn't 0, a client of a rig isn't finished, or a block of a
+/// partner wasn't acknowledged.
 pub const JOBS: u8 = 6;
 
-/// Memory was wanting.
+/// The status if memory ran out.
 pub const MEMORY: u8 = 9;
 
-/// Reads the words, and carries out their command.
+/// Parses the words, and carries out their command.
 ///
-/// `run` reads the script, dials the controller, and carries out a connect, the jobs of the script in
-/// order, and a disconnect. Each result but the disconnect's is printed as soon as its job is done, the
-/// connect's as that of line 0. `rig` reads the areas and then the scripts in order, and runs a client
-/// for each script, with a connect before and a disconnect after it, on one book of these areas. What
-/// came of it is printed in the end: of each client its results but the disconnect's, and a line where
-/// not all of its jobs were done; and then the journal's length. `gen` makes areas and four scripts from
-/// its number, and runs them as `rig` does. It prints of each client how many results but the disconnect's
-/// it has, how many of them have a code other than 0, and how many octets they have; and then the
-/// journal's length, and the sum of the octets that the areas have in the end. `partner` reads the sends
-/// files in order. With two it runs two partners in memory, and prints what they told in the end; with one it
-/// dials, and runs the active partner over the link, each of whose news is printed as it comes.
+/// `run` reads the script, dials the controller, and carries out a connect, the jobs of the script in order, and a
+/// disconnect. Each result but the disconnect's is printed as soon as its job is done; the connect's is printed as that
+/// of line 0.
 ///
-/// With `--tags` `run` and `rig` read the tag file before all other files. The lines of scripts may name its tags then,
-/// and the result of a line that names one is printed with the value of the tag.
+/// `rig` reads the areas and then the scripts in order. It runs a client for each script, with a connect before the
+/// script and a disconnect after it, on one book of these areas. At the end it prints, for each client, its results but
+/// the disconnect's, and a line if not all of its jobs were done; and then the journal's length.
 ///
-/// The status is 1 where the words are no command; 2 where a tag file, a script, a sends file or the areas can't be
-/// read: a faulty line, or more than 67,108,864 octets; 3 where a file that the words name failed; 4 where the dial
-/// failed; 5 where the output failed at a result or a news, which ends a run, or at the text of a rig or of two
-/// partners; 6 where a result's code isn't 0, a client of a rig isn't finished, or a block of a partner wasn't
-/// acknowledged; 9 where memory was wanting, which may come in the place of 1 to 4 too; and else 0. The first file that
-/// can't be read decides. For 1 to 4 and 9 one line is printed, with 9 after what was printed before, and its failure
-/// changes nothing.
+/// `gen` makes areas and four scripts from its number, and runs them as `rig` does. It prints, for each client, how
+/// many results but the disconnect's it has, how many of them have a code other than 0, and how many octets they have;
+/// and then the journal's length, and the sum of the octets that the areas have at the end.
 ///
-/// No path changes. A run is there exactly where a link was dialled, by one call. With status 0 or 6 it has the
-/// result of each job, and with 5 or 9 those of the jobs that were done. Where none is there the dial is
-/// as it was, but for status 4. A rig is there exactly for `rig` and `gen` with status 0, 5 or 6; these
-/// dial nothing, `gen` reads no file, and a run of `partner` has no results.
+/// `partner` reads the sends files in order. With two files it runs two partners in memory, and prints their news at
+/// the end. With one it dials, and runs the active partner over the link; each piece of news is printed as it comes.
 ///
-/// The completion is handed back. It was told of each job of `run`, or of the first client of `rig` or `gen`, when
-/// the job was done, once, in order, and of nothing else: with 9 of a rig of those that a front of it did, or of none.
+/// With `--tags`, `run` and `rig` read the tag file before all other files. The lines of scripts may then name its
+/// tags, and the result of a line that names one is printed with the value of the tag.
+///
+/// The status is
+///
+/// - 1 if the words are no command;
+/// - 2 if a tag file, a script, a sends file or the areas can't be read: a line is faulty, or the file has more than
+///   67,108,864 octets;
+/// - 3 if a file that the words name failed;
+/// - 4 if the dial failed;
+/// - 5 if the output failed at a result or a piece of news, which ends a run, or at the text of a rig or of two
+///   partners;
+/// - 6 if a result's code isn't 0, a client of a rig isn't finished, or a block of a partner wasn't acknowledged;
+/// - 9 if memory ran out, which may happen instead of 1 to 4, too;
+/// - 0 otherwise.
+///
+/// The first file that can't be read decides. For 1 to 4 and 9 one line is printed, with 9 after what was printed
+/// before, and a failure of the output is ignored.
+///
+/// No file is changed. `run` is `Some` exactly if a link was dialled, by one call. With status 0 or 6 it has the result
+/// of each job, and with 5 or 9 the results of the jobs that were done. If it is `None`, the dial wasn't used, except
+/// with status 4. `rig` is `Some` exactly for `rig` and `gen` with status 0, 5 or 6. These two dial nothing, and `gen`
+/// reads no file. A run of `partner` has no results.
+///
+/// The completion is handed back. It was notified of each job of `run`, or of the first client of `rig` or `gen`, when
+/// the job was done, once, in order, and of nothing else; with 9 and a rig, of the jobs that were done by then, or of
+/// none.
 pub fn tool_main<F: Files, L: Link + Drop, K: Dial<L>, O: Out, C: Completion>(
     alloc: Global,
     words: &[&str],
@@ -86,7 +99,7 @@ pub fn tool_main<F: Files, L: Link + Drop, K: Dial<L>, O: Out, C: Completion>(
     out: &mut O,
     done: Option<C>,
 ) -> ToolEnd<L, C>
-    // The status.
+    // // The statuses.
     ensures statuses { (result.status ≡ status.done) ⊎ (result.status ≡ status.usage)
         ⊎ (result.status ≡ status.script) ⊎ (result.status ≡ status.file) ⊎ (result.status ≡ status.dial)
         ⊎ (result.status ≡ status.output) ⊎ (result.status ≡ status.jobs) ⊎ (result.status ≡ status.memory) }
@@ -101,7 +114,7 @@ pub fn tool_main<F: Files, L: Link + Drop, K: Dial<L>, O: Out, C: Completion>(
         (K.shows dial.old) (K.shows dial.new) (Printed (O.shows out.old) (O.shows out.new)) }
     ensures output_failed { result.status ≡ status.output → Rose (O.shows out.old).faults (O.shows out.new).faults }
 
-    // What was done: all of it, with every result good or not, or a part.
+    // // What was done: everything, with all results good or not, or a part.
     ensures done { result.status ≡ status.done → CarriesOut L.shows (command_of words.now)
         (F.shows files.old) (K.shows dial.old) (O.shows out.old) (O.shows out.new) result Ended.Done }
     ensures jobs { result.status ≡ status.jobs → CarriesOut L.shows (command_of words.now)
@@ -111,16 +124,16 @@ pub fn tool_main<F: Files, L: Link + Drop, K: Dial<L>, O: Out, C: Completion>(
     ensures wanting { result.status ≡ status.memory → LacksMemory L.shows (command_of words.now)
         (F.shows files.old) (K.shows dial.old) (O.shows out.old) (O.shows out.new) result }
 
-    // What is left of it.
+    // // What is left.
     ensures left { LeavesOnly (command_of words.now) result }
     ensures unrun { (result.status ≡ status.usage) ⊎ (result.status ≡ status.script)
         ⊎ (result.status ≡ status.file) ⊎ (result.status ≡ status.dial) → IsUnrun result }
 
-    // What else was printed.
+    // // What else was printed.
     ensures usage_line { result.status ≡ status.usage → Printed (O.shows out.old) (O.shows out.new) usage_line }
 
-    // No path changes, a call on a path failed only where the status says so or memory ran out, and then one, and nothing
-    // is dialled but for a run, and that once.
+    // // No file is changed. A call on a path failed only if the status says so or memory ran out, and then only one.
+    // Nothing is dialled except for a run, and for that once.
     ensures paths { KeepsPaths (F.shows files.old) (F.shows files.new) }
     ensures unfailed { result.status ≢ status.file → result.status ≢ status.memory
         → F.shows files.new ≡ F.shows files.old }
@@ -131,8 +144,8 @@ pub fn tool_main<F: Files, L: Link + Drop, K: Dial<L>, O: Out, C: Completion>(
         → RoseExactly 1 (K.shows dial.old).calls (K.shows dial.new).calls }
     ensures undropped { result.status ≡ status.dial → (K.shows dial.new).next ≡ (K.shows dial.old).next }
 
-    // The completion comes back, told of the results that are left. A rig that memory was wanting for leaves none, and
-    // it was told of those that there were.
+    // // The completion is handed back, notified of the results that are left. A rig for which memory ran out leaves
+    // none; the completion was notified of those that there were.
     ensures handed_back { is_some result.done ≡ is_some done }
     ensures told { (result.status ≢ status.memory) ⊎ IsSome result.run → option_map C.told result.done
         ≡ option_map (λ t. told_of_results t (heard result)) (option_map C.told done) }
@@ -187,6 +200,7 @@ pub fn tool_main<F: Files, L: Link + Drop, K: Dial<L>, O: Out, C: Completion>(
     }
 }
 
+/// The status for how a command ended.
 fn status_of(ended: Ended) -> u8
     ensures { result ≡ status.status_of ended }
 {
@@ -201,7 +215,7 @@ fn status_of(ended: Ended) -> u8
     }
 }
 
-// The end where the words name nothing to be run: one line is printed, and its failure changes nothing.
+/// The end of the program if the words name nothing to be run: prints one line, and ignores a failure of the output.
 fn unrun<L: Link + Drop, O: Out, C>(
     status: u8,
     line: &[u8],

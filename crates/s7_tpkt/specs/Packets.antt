@@ -6,7 +6,7 @@ use Rattle.s7_tpkt.specs.declared.state.FedState.{FedState}
 use Rattle.s7_tpkt.specs.declared.state.FedState.TheVariants.{Whole, More, BadVersion, BadLength, TooLong}
 
 -- A packet: the version is 03, the reserved octet may be anything, and the length field counts the four header
--- octets too. The least length is 7, as RFC 1006 has it, and the greatest is a limit of the receiver.
+-- octets too. The least length is 7, as RFC 1006 states, and the greatest is a limit of the receiver.
 abbrev pub IsPacket : ℕ → List ℕ → Type 0
 IsPacket limit (v ∷ r ∷ hi ∷ lo ∷ body) = (v ≡ 3) × (256 * hi + lo ≡ length body + 4) × (7 ≤ length body + 4) × (length body + 4 ≤ limit)
 IsPacket limit (v ∷ r ∷ hi ∷ []) = ⊥
@@ -14,7 +14,7 @@ IsPacket limit (v ∷ r ∷ []) = ⊥
 IsPacket limit (v ∷ []) = ⊥
 IsPacket limit [] = ⊥
 
--- what follows its four header octets
+-- the octets after the four header octets
 abbrev pub body_of : List ℕ → List ℕ
 body_of packet = drop 4 packet
 
@@ -29,25 +29,25 @@ Packed limits before b [] rest = b ≡ rest
 Packed limits before b (p ∷ ps) rest = (q : List ℕ) × (more : List ℕ) × IsPacket (limits before) q × (p ≡ body_of q) ×
     (b ≡ q ++ more) × Packed limits (before ++ p ∷ []) more ps rest
 
--- no packet stands at the front
+-- no packet stands at the beginning of the octets
 abbrev pub NoPacketAhead : ℕ → List ℕ → Type 0
 NoPacketAhead limit rest = (q more : List ℕ) → IsPacket limit q → rest ≢ q ++ more
 
--- the octets are these packets, as many as there are, and a rest
+-- the octets are these packets, as many as there are, and a rest that begins no further packet
 abbrev pub Packets : (List (List ℕ) → ℕ) → List ℕ → List (List ℕ) → List ℕ → Type 0
 Packets limits b ps rest = Packed limits [] b ps rest × NoPacketAhead (limits ps) rest
 
--- what a front of a stream shows, by its length field and its length
+-- the state by the length field and the number of octets held
 abbrev pub state_by : ℕ → ℕ → ℕ → FedState
 state_by limit size held =
     if nat_lt size 7 then BadLength else (if nat_lt limit size then TooLong else (if nat_lt held size then More else Whole))
 
--- what is shown where the version is right
+-- the state if the version is right, and `BadVersion` if it isn't
 abbrev pub if_begun : ℕ → FedState → FedState
 if_begun v state = if v == 3 then state else BadVersion
 
--- What the octets at the front of a stream show: a whole packet, a fault, or that more has to come. The first
--- octet shows the version, and the fourth ends the length field.
+-- What the octets at the beginning of a stream show: a whole packet, a fault, or that more octets are needed. The
+-- first octet shows the version, and the length field ends with the fourth.
 abbrev pub state_of : ℕ → List ℕ → FedState
 state_of limit [] = More
 state_of limit (v ∷ []) = if_begun v More
@@ -55,7 +55,7 @@ state_of limit (v ∷ r ∷ []) = if_begun v More
 state_of limit (v ∷ r ∷ hi ∷ []) = if_begun v More
 state_of limit (v ∷ r ∷ hi ∷ lo ∷ body) = if_begun v (state_by limit (256 * hi + lo) (length body + 4))
 
--- whether a packet stands at the front
+-- whether the state is that of a whole packet
 abbrev pub is_whole : FedState → Bool
 is_whole Whole = true
 is_whole More = false
@@ -63,7 +63,7 @@ is_whole BadVersion = false
 is_whole BadLength = false
 is_whole TooLong = false
 
--- whether it is a fault, which no more octets mend
+-- whether the state is a fault; no further octets change it
 abbrev pub is_fault : FedState → Bool
 is_fault Whole = false
 is_fault More = false
@@ -71,7 +71,7 @@ is_fault BadVersion = true
 is_fault BadLength = true
 is_fault TooLong = true
 
--- the length field, or 0 where it isn't there yet
+-- the length field; 0 if it isn't complete yet
 abbrev pub length_field : List ℕ → ℕ
 length_field (v ∷ r ∷ hi ∷ lo ∷ body) = 256 * hi + lo
 length_field (v ∷ r ∷ hi ∷ []) = 0
@@ -79,7 +79,7 @@ length_field (v ∷ r ∷ []) = 0
 length_field (v ∷ []) = 0
 length_field [] = 0
 
--- the bodies before and those of the packets at the front, at most n of them, and the rest
+-- the bodies in `before` and the bodies of at most n packets at the beginning of the octets, and the rest
 abbrev pub cut : (List (List ℕ) → ℕ) → List (List ℕ) → ℕ → List ℕ → List (List ℕ) × List ℕ
 cut limits before zero b = (before, b)
 cut limits before (suc n) b =
@@ -91,26 +91,26 @@ cut limits before (suc n) b =
 unfoldable pub packets_of : (List (List ℕ) → ℕ) → List ℕ → List (List ℕ)
 packets_of limits b = (cut limits [] (length b) b).0
 
--- what stands behind them
+-- the octets after the last whole packet of a stream
 unfoldable pub rest_of : (List (List ℕ) → ℕ) → List ℕ → List ℕ
 rest_of limits b = (cut limits [] (length b) b).1
 
--- a cutter holds the rest of these octets, and has its limit
+-- a cutter holds the rest of these octets, and has the limit for it
 pub record HoldsRest (limits : List (List ℕ) → ℕ) (b : List ℕ) (cutter : Cut) : Type 0 where
   pub held : rest_of limits b ≡ cutter.held
   pub limit : limits (packets_of limits b) ≡ cutter.limit
 
--- The octets go on by more of them, and no further packet is whole.
+-- `more` follows the octets, and no further packet becomes whole.
 pub record GoesOn (limits : List (List ℕ) → ℕ) (b more : List ℕ) : Type 0 where
   pub packets : packets_of limits (b ++ more) ≡ packets_of limits b
   pub rest : rest_of limits (b ++ more) ≡ rest_of limits b ++ more
 
--- The octets go on by more of them, which end a packet with this body.
+-- `more` follows the octets, and ends one more packet, which has this body.
 pub record EndsPacket (limits : List (List ℕ) → ℕ) (b more body : List ℕ) : Type 0 where
   pub packets : packets_of limits (b ++ more) ≡ packets_of limits b ++ body ∷ []
   pub rest : rest_of limits (b ++ more) ≡ []
 
--- The octets go on by more of them, whatever these are.
+-- `more` follows the octets, whatever it is: the packets before stay.
 pub record GoesFurther (limits : List (List ℕ) → ℕ) (b more : List ℕ) : Type 0 where
   pub tail : List (List ℕ)
   pub packets : packets_of limits (b ++ more) ≡ packets_of limits b ++ tail

@@ -1,4 +1,4 @@
-//! The cutter: one packet at a time out of the pieces of a stream.
+//! The cutter: it takes a stream in pieces and gives its packets one at a time.
 
 ghost use Rattle.std.specs.Prelude.{◌≡◌, ◌≢◌, ℕ, ◌+◌, ◌<◌, ◌≤◌, List, [], ◌++◌, length, take, if◌then◌else◌};
 ghost use Rattle.s7_tpkt.specs.Packets.{state_of, is_whole, IsPacket, body_of, HoldsRest, GoesOn, EndsPacket};
@@ -8,15 +8,18 @@ use crate::front::{HEADER, state_of, wanted};
 use crate::state::{Fed, FedState};
 use std::marker::Model;
 
-/// The octets that a cutter can hold, and its first limit.
+/// The greatest number of octets that a cutter holds; also its first limit.
 const MOST: usize = 8_199;
 
-/// Cuts a stream of octets into the packets of RFC 1006, section 6. It holds the octets of one packet in
-/// an array of its own, and takes no memory.
+/// Cuts a stream of octets into the packets of RFC 1006, section 6. It holds the octets of one packet in an array
+/// of its own, and never allocates.
 #[derive(Drop)]
 pub struct Cutter {
+    /// The octets of the current packet, at the beginning.
     octets: [u8; MOST],
+    /// The number of octets held.
     len: usize,
+    /// The greatest length of a packet.
     limit: usize,
 }
 
@@ -36,7 +39,7 @@ impl Model for Cutter {
 }
 
 impl Cutter {
-    /// A cutter that holds nothing, with the limit 8,199.
+    /// A cutter that holds no octet, with the limit 8,199.
     pub fn new() -> Cutter
         ensures held { result.held ≡ [] }
         ensures limit { result.limit ≡ 8199 }
@@ -48,7 +51,8 @@ impl Cutter {
         }
     }
 
-    /// Sets the greatest length of a packet, header octets included, for the packets from here on.
+    /// Sets the limit: the greatest length of a packet, header included, for this packet and all later ones. The
+    /// cutter holds no octet yet.
     pub fn set_limit(&mut self, limit: u16)
         requires least { 7 ≤ limit }
         requires most { limit ≤ 8199 }
@@ -59,12 +63,12 @@ impl Cutter {
         self.limit = usize::from(limit);
     }
 
-    /// Takes octets until a packet is whole, a fault shows or the piece is used up.
+    /// Takes octets from the piece until a packet is whole, a fault shows or the piece is used up.
     ///
-    /// `BadVersion` comes where a packet's first octet isn't 03, `BadLength` where its length field is below
-    /// 7, and `TooLong` where it passes the limit. The octet that shows a fault is the last one taken.
+    /// The state is `BadVersion` if a packet's first octet isn't 03, `BadLength` if its length field is below 7,
+    /// and `TooLong` if its length field exceeds the limit. The octet that shows a fault is the last one taken.
     pub fn feed(&mut self, piece: &[u8]) -> Fed
-        // Nothing that was held or taken is lost, so it doesn't matter how a stream is cut into pieces.
+        // No octet that was held or taken is lost, so it doesn't matter how a stream is cut into pieces.
         ensures taken { result.taken ≤ length piece.now }
         ensures held { self.new.held ≡ self.old.held ++ take result.taken piece.now }
         ensures limit { self.new.limit ≡ self.old.limit }
@@ -74,7 +78,7 @@ impl Cutter {
             → result.state ≡ FedState.Whole
             → EndsPacket limits b (take result.taken piece.now) (body_of self.new.held) }
 
-        // The state is that of the octets held, and no octet is taken past a state other than `More`.
+        // The state is that of the octets held. Octets are taken only while the state is `More`.
         ensures state { result.state ≡ state_of self.new.limit self.new.held }
         ensures whole { result.state ≡ FedState.Whole → IsPacket self.new.limit self.new.held }
         ensures used_up { result.state ≡ FedState.More → result.taken ≡ length piece.now }
@@ -82,7 +86,7 @@ impl Cutter {
             → state_of self.old.limit (self.old.held ++ take k piece.now) ≡ FedState.More }
         ensures shown { 0 < result.taken → IsShownAt result.state (length self.new.held) }
 
-        // A packet that is whole and a fault stay.
+        // Once a packet is whole or a fault has shown, nothing is taken and nothing changes.
         ensures stays { state_of self.old.limit self.old.held ≢ FedState.More
             → (result.taken ≡ 0) × (result.state ≡ state_of self.old.limit self.old.held) × (self.new ≡ self.old) }
     {
@@ -96,7 +100,7 @@ impl Cutter {
         }
     }
 
-    /// What follows the four header octets of the packet, which is whole.
+    /// The body of the whole packet: what follows its four header octets.
     pub fn body(&self) -> &[u8]
         requires { state_of self.now.limit self.now.held ≡ FedState.Whole }
         ensures body { result.now ≡ body_of self.now.held }
@@ -107,7 +111,7 @@ impl Cutter {
         &held[HEADER..]
     }
 
-    /// Lets go of the packet, which is whole, and begins the next.
+    /// Drops the whole packet, so that the next one can begin.
     pub fn clear(&mut self)
         requires { state_of self.old.limit self.old.held ≡ FedState.Whole }
         ensures held { self.new.held ≡ [] }
@@ -116,7 +120,7 @@ impl Cutter {
         self.len = 0;
     }
 
-    /// How many octets are held of a packet that isn't whole: 0 where it is.
+    /// The number of octets held of a packet that isn't whole; 0 if a packet is whole.
     pub fn held(&self) -> usize
         ensures held { result ≡ (if is_whole (state_of self.now.limit self.now.held) then 0 else length self.now.held) }
         ensures most { result ≤ 8199 }
@@ -127,7 +131,7 @@ impl Cutter {
         }
     }
 
-    // What the octets held show.
+    /// The state of the octets held.
     fn state(&self) -> FedState
         ensures state { result ≡ state_of self.now.limit self.now.held }
         ensures whole { result ≡ FedState.Whole → IsPacket self.now.limit self.now.held }
@@ -135,7 +139,7 @@ impl Cutter {
         state_of(self.limit, &self.octets[..self.len])
     }
 
-    // Takes as many octets as are wanted next, or all of the piece where it has fewer.
+    /// Takes the octets up to the next point where a state may show, or the whole piece if it is shorter.
     fn fill(&mut self, piece: &[u8]) -> usize
         requires more { state_of self.old.limit self.old.held ≡ FedState.More }
         requires some { 0 < length piece.now }

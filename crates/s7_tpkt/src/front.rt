@@ -1,4 +1,4 @@
-//! What octets at the front of a stream show.
+//! What the octets at the beginning of a stream show.
 
 ghost use Rattle.std.specs.Prelude.{◌≡◌, ◌+◌, ◌*◌};
 ghost use Rattle.s7_tpkt.specs.Packets.{state_of};
@@ -10,13 +10,13 @@ use bytes::Buf;
 /// The version octet of RFC 1006, section 6.
 pub(crate) const VERSION: u8 = 3;
 
-/// The octets before a packet's body.
+/// The number of octets before a packet's body.
 pub(crate) const HEADER: usize = 4;
 
-/// The least length of a packet.
+/// The least value of a packet's length field.
 const LEAST: usize = 7;
 
-/// The state by what is held.
+/// The state of the octets held, with this limit for the packet's length.
 pub(crate) fn state_of(limit: usize, held: &[u8]) -> FedState
     ensures { result ≡ state_of limit held.now }
 {
@@ -39,7 +39,7 @@ pub(crate) fn state_of(limit: usize, held: &[u8]) -> FedState
     }
 }
 
-/// How many octets to take at once.
+/// The number of octets to take next: one in the header, and the rest of the body after it.
 pub(crate) fn wanted(held: &[u8]) -> usize
     ensures { result ≡ wanted held.now }
 {
@@ -51,7 +51,7 @@ pub(crate) fn wanted(held: &[u8]) -> usize
     }
 }
 
-// The length field.
+/// The length field, from its two octets.
 fn length_field(high: u8, low: u8) -> usize
     ensures { result ≡ 256 * high + low }
 {

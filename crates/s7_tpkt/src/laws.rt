@@ -1,4 +1,4 @@
-//! Laws of the definitions, for whoever builds on them. They run nothing.
+//! Laws of the definitions, for proofs that build on them. They do nothing at run time.
 
 ghost use Rattle.std.specs.Prelude.{◌≡◌, ◌≢◌, ℕ, ◌+◌, ◌≤◌, List, [], ◌∷◌, ◌++◌, length, true};
 ghost use Rattle.s7_tpkt.specs.Packets.{packets_of, rest_of, state_of, is_fault, Packets, NoPacketAhead, GoesOn};
@@ -7,8 +7,8 @@ ghost use Rattle.s7_tpkt.specs.Cut.{Cut};
 
 use crate::state::FedState;
 
-/// What a state says of packets: `Whole` that one stands at the front, any other state that none does, and a
-/// fault that none will, whatever follows.
+/// A law: in state `Whole` a packet stands at the beginning of the octets, and in any other state none does. After
+/// a fault none will, whatever octets follow.
 pub fn states_tell()
     ensures whole { (limit : ℕ) (b : List ℕ) → state_of limit b ≡ FedState.Whole → (q : List ℕ) × (more : List ℕ) ×
         IsPacket limit q × (b ≡ q ++ more) }
@@ -17,7 +17,7 @@ pub fn states_tell()
         → NoPacketAhead limit (b ++ more) }
 {}
 
-/// The packets that the functions give are the ones, and the only ones, that the relation admits.
+/// A law: the packets that `packets_of` and `rest_of` give satisfy the relation `Packets`, and no others do.
 pub fn one_reading()
     ensures reads { (limits : List (List ℕ) → ℕ) (b : List ℕ)
         → Packets limits b (packets_of limits b) (rest_of limits b) }
@@ -26,8 +26,9 @@ pub fn one_reading()
         → (packets_of limits b ≡ ps) × (rest_of limits b ≡ rest) }
 {}
 
-/// A cutter that holds what stands behind the packets of a stream goes on to do so, whatever the pieces are:
-/// at the start, while no packet is whole, and where the next one is begun.
+/// A law: a cutter holds the octets after the last whole packet of a stream, however the stream is cut into pieces.
+/// This is true at the start, stays true while no packet becomes whole, and is true again when the next packet
+/// begins.
 pub fn held_is_rest()
     ensures begins { (limits : List (List ℕ) → ℕ) (cutter : Cut) → cutter.held ≡ [] → cutter.limit ≡ limits [] →
         HoldsRest limits [] cutter }
@@ -39,7 +40,7 @@ pub fn held_is_rest()
         → new.held ≡ [] → new.limit ≡ limits (packets_of limits b ++ body ∷ []) → HoldsRest limits (b ++ more) new }
 {}
 
-/// Octets behind others take nothing from what those were read as, and add nothing behind a fault.
+/// A law: later octets don't change how earlier ones were read, and after a fault they add nothing.
 pub fn octets_behind()
     ensures further { (limits : List (List ℕ) → ℕ) (b more : List ℕ) → GoesFurther limits b more }
     ensures fault { (limits : List (List ℕ) → ℕ) (b more : List ℕ) →
@@ -49,7 +50,7 @@ pub fn octets_behind()
         state_of limit (held ++ more) ≡ state_of limit held }
 {}
 
-/// A packet that is written for a body is a packet, and is read as that one body with no rest.
+/// A law: what is written for a body is a packet, and is read as that one body with no rest.
 pub fn written_is_read()
     ensures packet { (limit : ℕ) (body : List ℕ) → 3 ≤ length body → length body + 4 ≤ limit
         → IsPacket limit (packet_of body) }

@@ -1,4 +1,5 @@
-//! Packets of RFC 1006 (TPKT) on a stream of octets: cut out of whatever pieces come, and written.
+//! Packets of RFC 1006 (TPKT) on a stream of octets. Reading cuts them out of pieces of any size; writing makes one
+//! from its body.
 #![tactic(auto)]
 
 mod cutting;

@@ -1,25 +1,25 @@
-//! What a cutter answers.
+//! What a cutter reports.
 
-/// What the octets show that a cutter holds.
+/// What the octets held by a cutter show.
 #[derive(Clone, Copy, Debug, PartialEq, Eq)]
 pub enum FedState {
-    /// They are one packet, whole.
+    /// The octets are one whole packet.
     Whole,
-    /// They are the beginning of a packet, as far as they show.
+    /// The octets may be the beginning of a packet.
     More,
     /// The first octet isn't the version 03.
     BadVersion,
     /// The length field is below 7.
     BadLength,
-    /// The length field passes the limit.
+    /// The length field exceeds the limit.
     TooLong,
 }
 
-/// How many octets of a piece were taken, and what is held then.
+/// The outcome of one call of `Cutter::feed`.
 #[derive(Clone, Copy, Debug, PartialEq, Eq)]
 pub struct Fed {
-    /// A number of octets.
+    /// The number of octets taken from the piece.
     pub taken: usize,
-    /// What all octets that are held show.
+    /// The state of all octets held.
     pub state: FedState,
 }

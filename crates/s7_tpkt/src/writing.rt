@@ -1,15 +1,15 @@
-//! Packets that go out.
+//! Writing packets.
 
 ghost use Rattle.std.specs.Prelude.{◌≡◌, ◌+◌, ◌≤◌, ◌++◌, length, drop};
 ghost use Rattle.s7_tpkt.specs.Packets.{packet_of};
 
 use crate::front::{HEADER, VERSION};
 
-/// The octet that a receiver passes over.
+/// The reserved octet, which a receiver ignores.
 const RESERVED: u8 = 0;
 
-/// Writes the packet with this body, of 3 to 65,531 octets, to the front of `into`, and says how many octets
-/// it has. The rest of `into` stays.
+/// Writes the packet with this body, of 3 to 65,531 octets, to the beginning of `into`, and returns its length in
+/// octets. The rest of `into` stays.
 pub fn write_packet(body: &[u8], into: &mut [u8]) -> usize
     requires least { 3 ≤ length body.now }
     requires most { length body.now ≤ 65531 }

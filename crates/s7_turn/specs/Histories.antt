@@ -1,4 +1,4 @@
--- Histories, as lists of entries: whose they are, and what they lead to.
+-- Histories, as lists of entries: their callers, and the states to which they lead.
 use Rattle.std.specs.Prelude.{◌≡◌, ℕ, ◌+◌, ◌≤◌, ◌||◌, Bool, false, if◌then◌else◌, List, [], ◌∷◌, ◌++◌, length, eqb, fold}
 use Rattle.s7_turn.specs.declared.view.Entry.{Entry}
 
@@ -15,24 +15,24 @@ module _ {R : Type 0} where
   Each P [] = Unit {0}
   Each P (e ∷ es) = P e × Each P es
 
-  -- no entry bears one of these callers
+  -- no entry is of one of these callers
   abbrev pub NoneBy : List ℕ → List (Entry R) → Type 0
   NoneBy callers h = Each (λ e. has callers e.caller ≡ false) h
 
-  -- the history begins with what was seen, and no later entry bears one of these callers
+  -- the history begins with what was seen, and no later entry is of one of these callers
   abbrev pub Agrees : List (Entry R) → List ℕ → List (Entry R) → Type 0
   Agrees seen callers h = (rest : List (Entry R)) × (h ≡ seen ++ rest) × NoneBy callers rest
 
-  -- the places of one caller's entries, where the first entry's place is k
+  -- the indices of one caller's entries, if the first entry has index k
   abbrev pub places_from : ℕ → ℕ → List (Entry R) → List ℕ
   places_from k c [] = []
   places_from k c (e ∷ es) = if eqb e.caller c then k ∷ places_from (k + 1) c es else places_from (k + 1) c es
 
-  -- the calls of one caller: the places of its entries
+  -- the calls of one caller: the indices of its entries
   abbrev pub calls : ℕ → List (Entry R) → List ℕ
   calls c h = places_from 0 c h
 
-  -- the state after a history, from an opening state
+  -- the state to which a history leads from an opening state
   abbrev pub replay : {O : Type 0} → (O → Entry R → O) → O → List (Entry R) → O
   replay after o h = fold after o h
 

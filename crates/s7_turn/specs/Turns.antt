@@ -1,6 +1,6 @@
--- The rule of the table, and what each step tells.
--- Word 0 counts the tickets that were drawn, and word 1 those that were served, both modulo 2 ^ 64. The slot holds the machine.
--- The other words are for those who sleep. The rule says nothing of them.
+-- The rule of the table, and what each step shows. Word 0 counts the tickets that were drawn, and word 1 those that
+-- were served, both modulo 2 ^ 64. The slot holds the machine. The other words are for seats that sleep, and the rule
+-- doesn't restrict them.
 use Rattle.std.specs.Prelude.{◌≡◌, ◌≢◌, ℕ, ◌+◌, ◌%◌, ◌^◌, ◌<◌, ◌≤◌, ◌⊎◌, true, false, ltb, if◌then◌else◌, List, [], ◌∷◌, ◌++◌, length, Option, Some, None, is_some}
 use Rattle.std.specs.Option.{option_or}
 use mathlib.Core.Option.{some, none}
@@ -15,7 +15,7 @@ use Rattle.s7_turn.specs.declared.view.Stage.TheVariants.{Idle, Waits, Called, T
 use Rattle.s7_turn.specs.declared.view.View.{View}
 use Rattle.s7_turn.specs.Histories.{has, Each, Agrees, AddedBy, calls}
 
--- how many callers there may be
+-- the greatest number of callers
 abbrev pub most : ℕ
 most = 1048576
 
@@ -23,12 +23,12 @@ most = 1048576
 abbrev pub IsSized : TableId → Type 0
 IsSized z = (z.words ≡ 36) × (z.slots ≡ 1)
 
--- what a number counts over a list
+-- the sum of f over a list
 abbrev pub total : {V : Type 0} → (V → ℕ) → List V → ℕ
 total f [] = 0
 total f (v ∷ vs) = f v + total f vs
 
--- where the machine is: at rest in the slot, out with the seat whose turn it is, or back with a longer history
+-- the place of the machine: at rest in the slot, out with the seat whose turn it is, or back with a longer history
 pub data Phase (R : Type 0) : Type 0 where
   rests : Phase R
   out : Phase R
@@ -45,18 +45,20 @@ module _ {R : Type 0} where
   tickets_of (Gave t h) = 1
   tickets_of (Joined a b) = 0
 
-  -- of two seats, the one that saw less agrees with what the other saw, and not both give numbers
+  -- of two seats, the one that saw less agrees with what the other saw, and not both hand out numbers
   pub record Match (a b : Note R) : Type 0 where
     pub first : length a.seen ≤ length b.seen → Agrees a.seen a.callers b.seen
     pub second : length b.seen ≤ length a.seen → Agrees b.seen b.callers a.seen
     pub one_gives : a.gives ≡ true → b.gives ≡ false
 
-  -- what a joined seat noted of one of its two still agrees with what is past, since it stands for the callers
+  -- what a joined seat recorded of one of its two seats still agrees with the past, since it represents that seat's
+  -- callers
   pub record Noted (past : List (Entry R)) (callers : List ℕ) (n : Note R) : Type 0 where
     pub agrees : Agrees n.seen n.callers past
     pub within : (x : ℕ) → has n.callers x ≡ true → has callers x ≡ true
 
--- the numbers of the rule: tickets drawn and served, who has which ticket, where the machine is, what is past
+-- the numbers of the rule: tickets drawn and served, the seat of each ticket, the place of the machine, and the past
+-- history
 pub record Turn (R : Type 0) : Type 0 where
   pub drawn : ℕ
   pub served : ℕ
@@ -64,14 +66,14 @@ pub record Turn (R : Type 0) : Type 0 where
   pub phase : Phase R
   pub past : List (Entry R)
 
--- the callers: how many there are, the seat that stands for each, and the seat that gives numbers
+-- the callers: their number, the seat that represents each, and the seat that hands out numbers
 pub record Crowd : Type 0 where
   pub count : ℕ
   pub seat_of : ℕ → ℕ
   pub giver : ℕ
 
 module _ {R A : Type 0} where
-  -- a seat with a ticket: it is its own, and its caller is one that it stands for
+  -- a seat with a ticket: the ticket is its own, and it represents its caller
   pub record Queued (w : Turn R) (seat : ℕ) (v : View R A) (t : ℕ) : Type 0 where
     pub from : w.served ≤ t
     pub below : t < w.drawn
@@ -160,7 +162,7 @@ module _ {R A : Type 0} where
   abbrev pub note_of : View R A → Note R
   note_of v = record { seen = v.seen; callers = v.callers; gives = is_some v.next }
 
-  -- two seats made one
+  -- two seats joined
   abbrev pub joined : View R A → View R A → View R A
   joined v w = record { caller = v.caller; callers = v.callers ++ w.callers; seen = longer v.seen w.seen; next = option_or v.next w.next; origin = v.origin; stage = Joined (note_of v) (note_of w) }
 
@@ -181,11 +183,11 @@ module _ {B R A : Type 0} where
   abbrev pub advanced : Step (Option B) → Sat B R A → ℕ → Sat B R A → Type 0
   advanced st m found m' = m' ≡ (record m.0 { seen = left_by m.0.stage; stage = Idle }, m.1)
 
-  -- the machine is given back
+  -- the machine is put back
   abbrev pub gave : Step (Option B) → Sat B R A → ℕ → Sat B R A → Type 0
   gave st m found m' = m' ≡ (at_stage m.0 (Gave (ticket_of m.0.stage) (left_by m.0.stage)), [])
 
-  -- a word for those who sleep tells nothing
+  -- a word for seats that sleep shows nothing
   abbrev pub rang : Step (Option B) → Sat B R A → ℕ → Sat B R A → Type 0
   rang st m found m' = m' ≡ m
 
@@ -195,14 +197,14 @@ module _ {B R A : Type 0} where
       × ((n x : ℕ) → m.0.next ≡ Some n → n ≤ x → calls x m.0.seen ≡ [])
 
 module _ {B R A : Type 0} (From : B → A → Type 0) (history : B → List (Entry R)) where
-  -- the machine is taken. Its history agrees with what the seat has seen
+  -- the machine is taken; its history agrees with what the seat has seen
   abbrev pub took : Step (Option B) → Sat B R A → ℕ → Sat B R A → Type 0
   took st m found m' = (b : B) × (m' ≡ (at_stage m.0 (Took (ticket_of m.0.stage) (history b)), (0, Some b) ∷ m.1))
       × Agrees m.0.seen m.0.callers (history b) × ((x : A) → m.0.origin ≡ Some x → From b x)
       × ((n : ℕ) → m.0.next ≡ Some n → Each (λ e. e.caller < n) (history b))
 
 module _ {B R A : Type 0} (history : B → List (Entry R)) where
-  -- the entry is noted, while the machine is still out
+  -- the entry is recorded, while the machine is still out
   abbrev pub entered : Step (Option B) → Sat B R A → ℕ → Sat B R A → Type 0
   entered st m found m' = (h : List (Entry R)) × (m' ≡ (at_stage m.0 (Entered (ticket_of m.0.stage) h), m.1))
       × ((b : B) → m.1 ≡ (0, Some b) ∷ [] → h ≡ history b)

@@ -1,4 +1,4 @@
-//! A machine that adds, to try a hall with.
+//! A machine that adds, as an example of what a hall serves.
 ghost use Rattle.std.specs.Prelude.{◌≡◌, ℕ, ◌+◌, ◌%◌, ◌^◌, ◌≤◌, [], IfOk, vec_capacity, vec_len};
 ghost use Rattle.s7_turn.specs.Histories.{replay};
 
@@ -7,7 +7,7 @@ use crate::view::Entry;
 use s7_outer::Memory;
 use std::alloc::Global;
 
-/// It adds up its requests modulo 2^64, and answers the sum before the request.
+/// Adds up its requests modulo 2^64, and answers each with the sum before it.
 #[derive(Drop)]
 pub struct Adder {
     pub entries: Vec<Entry<u64>>,
@@ -18,7 +18,8 @@ pub struct Adder {
 }
 
 impl Adder {
-    /// Takes the memory for so many entries. `Memory` comes where there is none for it.
+    /// A machine with sum 0 and an empty history of at most `limit` entries, whose memory is allocated here. Returns
+    /// `Memory` if the allocation fails.
     pub fn new(alloc: Global, limit: usize) -> Result<Adder, Memory>
         ensures { IfOk result (λ a. (a.entries.items ≡ []) × (a.limit ≡ limit) × (a.sum ≡ 0)) }
     {

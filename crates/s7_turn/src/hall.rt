@@ -13,20 +13,23 @@ use std::snapshot::Snapshot;
 
 mod calls;
 
-/// What the machine answers with: the entry's number in the history, from 0.
+/// The result of a call: the number of its entry in the history, counted from 0.
 #[derive(Clone, Copy, Debug, PartialEq, Eq)]
 pub struct Receipt {
+    /// The number of the entry.
     pub number: u64,
 }
 
-/// The history has its greatest length, `len`. The request comes back.
+/// The history has reached its greatest length, `len`. The request is handed back.
 #[derive(Debug, Drop)]
 pub struct Full<R> {
+    /// The request, handed back.
     pub request: R,
+    /// The length of the history.
     pub len: u64,
 }
 
-/// A machine that many callers use, each through a seat of its own. Their calls take turns, and stand in one history.
+/// A machine that many callers use, each through a seat of its own. Their calls take turns, and enter one history.
 #[derive(Drop)]
 pub struct Hall<M: Machine> {
     table: Table<Option<Box<M>>, View<M::Request, M>, Snapshot<M>, Turns<M>, Global>,

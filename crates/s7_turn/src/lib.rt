@@ -1,4 +1,4 @@
-//! One machine for many callers: each call takes its turn, and the machine's history is one for all of them.
+//! One machine for many callers. Each call takes its turn, and all calls enter the machine's one history.
 #![tactic(auto)]
 
 mod adder;

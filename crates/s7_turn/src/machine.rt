@@ -1,17 +1,19 @@
-//! What a hall serves.
+//! The trait of the machines that a hall serves.
 ghost use Rattle.std.specs.Prelude.{◌≡◌, ◌<◌, ℕ, List, [], ◌∷◌, ◌++◌, length, MatchResult};
 ghost use Rattle.s7_turn.specs.declared.view.Entry.{Entry};
 ghost use Rattle.s7_turn.specs.Histories.{entry, replay};
 
-/// A state that requests change one by one, with the history of those that it took.
+/// A state that requests change one by one, with the history of the requests that it carried out.
 ///
-/// A hall gives back a machine whose state is the replay of its history, so an impl puts into `State` all that is to be
-/// known then.
+/// A hall returns a machine whose state is the replay of its history. So an impl puts everything into `State` that is
+/// to be known then.
 pub trait Machine {
+    /// What callers ask.
     type Request;
 
+    /// What they are answered.
     type Reply;
-    // What a history leads to.
+    // // The state to which a history leads.
     ghost State: { Type 0 };
 
     // The state before the first entry.
@@ -24,28 +26,28 @@ pub trait Machine {
 
     ghost state: { Self → State };
 
-    // The state after an entry.
+    // // The state after one more entry.
     ghost after: { State → Entry Self.Request → State };
 
-    // A request as it stands in the history.
+    // // What the history keeps of a request.
     ghost kept: { Self.Request → Self.Request };
 
     ghost request_ready: { Self.Request → Type 0 };
 
     ghost reply_ready: { Self.Reply → Type 0 };
 
-    // A state gives this reply to a caller's request, as kept.
+    // // The reply that a state may give to a caller's request, as the history keeps it.
     ghost gives: { State → ℕ → Self.Request → Self.Reply → Type 0 };
 
-    // What else each step keeps, of a machine whose type does not say it.
+    // // What else each step preserves, of a machine whose type doesn't say it.
     ghost holds: { Self → Type 0 } = { λ _. Unit {0} };
 
-    /// How many entries the history has.
+    /// The number of entries in the history.
     fn len(&self) -> u64
         ensures { result ≡ length (history self.now) };
 
-    /// Takes the request and answers its number in the history, from 0. It comes back where the history has its
-    /// greatest length, and nothing changes then.
+    /// Carries out the request and returns its number in the history, counted from 0. Hands the request back if the
+    /// history has its greatest length; then nothing changes.
     fn step(
         &mut self,
         caller: u32,

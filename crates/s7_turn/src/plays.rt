@@ -1,4 +1,4 @@
-//! The rule of the table, and what each step on it tells.
+//! The rule of the table, and what each step on it shows.
 ghost use Rattle.s7_turn.specs.Machines.{IsFrom};
 ghost use Rattle.s7_turn.specs.Turns.{Kept, opener, drew, looked, took, entered, gave, advanced, compared, rang};
 ghost use Rattle.s7_turn.specs.Turns.{gave_number, newcomer, joined, nobody};
@@ -9,7 +9,7 @@ use atomic_table::{Join, Play, Seat, Shared, Split, TableRule};
 use std::marker::PhantomData;
 use std::snapshot::Snapshot;
 
-/// The table as seats share it.
+/// The table as all seats share it.
 pub(crate) type Top<M> = Shared<
     Option<Box<M>>,
     View<<M as Machine>::Request, M>,
@@ -17,9 +17,10 @@ pub(crate) type Top<M> = Shared<
     Turns<M>,
 >;
 
-/// A seat at it.
+/// A seat at the table.
 pub(crate) type Place<M> = Seat<Option<Box<M>>, View<<M as Machine>::Request, M>>;
 
+/// The rule of the table of a hall.
 pub struct Turns<M> {
     machine: PhantomData<M>,
 }
@@ -30,18 +31,21 @@ impl<M: Machine> TableRule<Option<Box<M>>, View<M::Request, M>, Snapshot<M>> for
     ghost first = { λ key. opener key.value };
 }
 
+/// The step that draws a ticket.
 pub(crate) struct Draw;
 
 impl<B, R, O> Play<Option<B>, View<R, O>> for Draw {
     ghost then = { drew };
 }
 
+/// The step that looks at a word.
 pub(crate) struct Look;
 
 impl<B, R, O> Play<Option<B>, View<R, O>> for Look {
     ghost then = { looked };
 }
 
+/// The step that takes the machine out of its slot.
 pub(crate) struct Take<M> {
     machine: PhantomData<M>,
 }
@@ -50,7 +54,7 @@ impl<M: Machine> Play<Option<Box<M>>, View<M::Request, M>> for Take<M> {
     ghost then = { took (λ b m. IsFrom M.Machine b.value m) (λ b. M.history b.value) };
 }
 
-/// Notes the entry that the machine has made.
+/// The step that records the entry that the machine has made.
 pub(crate) struct Enter<M> {
     machine: PhantomData<M>,
 }
@@ -59,32 +63,35 @@ impl<M: Machine> Play<Option<Box<M>>, View<M::Request, M>> for Enter<M> {
     ghost then = { entered (λ b. M.history b.value) };
 }
 
+/// The step that puts the machine back into its slot.
 pub(crate) struct Give;
 
 impl<B, R, O> Play<Option<B>, View<R, O>> for Give {
     ghost then = { gave };
 }
 
+/// The step that advances the turn.
 pub(crate) struct Advance;
 
 impl<B, R, O> Play<Option<B>, View<R, O>> for Advance {
     ghost then = { advanced };
 }
 
+/// The step that compares what two joined seats have seen.
 pub(crate) struct Compare;
 
 impl<B, R, O> Play<Option<B>, View<R, O>> for Compare {
     ghost then = { compared };
 }
 
-/// What is written for those who sleep.
+/// A step on a word for seats that sleep.
 pub(crate) struct Ring;
 
 impl<B, R, O> Play<Option<B>, View<R, O>> for Ring {
     ghost then = { rang };
 }
 
-/// A number for a new caller.
+/// The split that hands out a number for a new caller.
 pub(crate) struct Number;
 
 impl<R, O> Split<View<R, O>> for Number {
@@ -93,6 +100,7 @@ impl<R, O> Split<View<R, O>> for Number {
     ghost right = { newcomer };
 }
 
+/// The join of two seats.
 pub(crate) struct Both;
 
 impl<R, O> Join<View<R, O>> for Both {

@@ -14,6 +14,7 @@ use crate::plays::{Advance, Draw, Enter, Give, Look, Place, Take, Top};
 use crate::words::{SERVING, TICKET};
 use std::sync::Wait;
 
+/// Draws a ticket for this seat, and waits until its turn has come.
 pub(crate) fn wait_turn<M: Machine, R: Wait>(rt: &R, top: &Top<M>, place: &mut Place<M>)
     requires table { (place.old.table_id ≡ top.now.table_id) × IsSized top.now.table_id }
     requires idle { (place.old.me.0.stage ≡ Idle) × (has place.old.me.0.callers place.old.me.0.caller ≡ true) }
@@ -33,7 +34,7 @@ pub(crate) fn wait_turn<M: Machine, R: Wait>(rt: &R, top: &Top<M>, place: &mut P
     unreachable!()
 }
 
-// Takes the machine out of its slot.
+/// Takes the machine out of its slot.
 pub(crate) fn take<M: Machine>(top: &Top<M>, place: &mut Place<M>) -> Box<M>
     requires table { (place.old.table_id ≡ top.now.table_id) × IsSized top.now.table_id }
     requires called { (place.old.me.1 ≡ []) × ((t : ℕ) × (place.old.me.0.stage ≡ Called t)) }
@@ -48,7 +49,7 @@ pub(crate) fn take<M: Machine>(top: &Top<M>, place: &mut Place<M>) -> Box<M>
     top.exchange(place, 0, None).unwrap()
 }
 
-// Gives the machine back, and the turn to the next.
+/// Puts the machine back, and passes the turn on.
 pub(crate) fn give<M: Machine>(top: &Top<M>, place: &mut Place<M>, machine: Box<M>)
     requires table { (place.old.table_id ≡ top.now.table_id) × IsSized top.now.table_id }
     requires took { (place.old.me.1 ≡ (0, None) ∷ [])

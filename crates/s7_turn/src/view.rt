@@ -1,7 +1,7 @@
-//! What a seat at the table knows. No value of these types is made, but for entries.
+//! What a seat at the table knows, for contracts. No value of these types exists at run time, except entries.
 use std::collections::LinkedList;
 
-/// One step of a history: who asked, and what.
+/// One entry of a history: the caller, and what it asked.
 #[derive(Drop)]
 pub struct Entry<R> {
     pub caller: u32,
@@ -15,7 +15,7 @@ pub struct Note<R> {
     pub gives: bool,
 }
 
-/// How far a seat is with its call. A history is the one that it found, or the one that it leaves.
+/// How far a seat is with its call. A history here is the one that the seat found, or the one that it leaves.
 pub enum Stage<R> {
     Idle,
     /// It has a ticket.
@@ -24,22 +24,23 @@ pub enum Stage<R> {
     Called(u64),
     /// It has taken the machine, with this history.
     Took(u64, LinkedList<Entry<R>>),
-    /// The machine has made its step, and has this history.
+    /// The machine has carried out the request, and has this history.
     Entered(u64, LinkedList<Entry<R>>),
-    /// It has given the machine back, with this history.
+    /// It has put the machine back, with this history.
     Gave(u64, LinkedList<Entry<R>>),
-    /// It was joined with another, and has not compared the two.
+    /// It was joined of two seats, and hasn't compared yet what the two have seen.
     Joined(Note<R>, Note<R>),
 }
 
+/// All that a seat knows.
 pub struct View<R, M> {
     pub caller: u32,
-    /// Whom it stands for.
+    /// The callers that it represents.
     pub callers: LinkedList<u32>,
     pub seen: LinkedList<Entry<R>>,
-    /// The next caller's number, if it gives numbers.
+    /// The next caller's number, if it hands out numbers.
     pub next: Option<u32>,
-    /// The machine as the hall was made with it. A spent view has none.
+    /// The machine with which the hall was made. A spent view has none.
     pub origin: Option<M>,
     pub stage: Stage<R>,
 }

@@ -13,23 +13,23 @@ first_limit = 8199
 abbrev pub size_of_code : ℕ → ℕ
 size_of_code code = 2 ^ code
 
--- Some senders count only user data, so a packet may have the header's three octets more than the TPDU size: this
--- profile's own.
+-- The greatest length of a packet by the TPDU size. Some senders count only user data in that size, so a packet may
+-- have three octets more, besides its own header's four. This is this profile's own.
 abbrev pub limit_of_size : ℕ → ℕ
 limit_of_size size = size + 7
 
--- the greatest length of a message that goes out: that of the greatest PDU
+-- the greatest length of a message that is sent, which is that of the greatest PDU
 abbrev pub most_sent : ℕ
 most_sent = 1920
 
--- how many octets such a message takes at most, in the packets of its fragments of the least TPDU size
+-- the greatest number of octets of such a message in its packets; it is needed at the least TPDU size
 abbrev pub most_packets : ℕ
 most_packets = 2032
 
--- how many octets may wait to be sent
+-- the greatest number of octets that may wait to be sent
 abbrev pub most_waiting : ℕ
 most_waiting = 4096
 
--- how many octets one receive takes at most
+-- the greatest number of octets of one receive
 abbrev pub most_received : ℕ
 most_received = 8192

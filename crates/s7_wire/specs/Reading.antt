@@ -1,5 +1,6 @@
--- What octets are read as on a link, whichever side reads: a TPDU that opens the link, the messages after it, and how
--- it ends. The octets are packets (RFC 1006, section 6) whose bodies are TPDUs of class 0 (ISO 8073, 13.3 to 13.7).
+-- What the octets of a link are read as, whichever side reads: a TPDU that opens the link, the messages after it,
+-- and how the link ends. The octets are packets (RFC 1006, section 6) whose bodies are TPDUs of class 0 (ISO 8073,
+-- 13.3 to 13.7).
 use Rattle.std.specs.Prelude.{◌≡◌, ℕ, ◌+◌, ◌==◌, ◌&&◌, if◌then◌else◌, List, [], ◌∷◌, ◌++◌, length, Option, None, Some, Result, Ok, Err}
 use Rattle.s7_tpkt.specs.Packets.{packets_of, rest_of, state_of}
 use Rattle.s7_tpkt.specs.declared.state.FedState.{FedState}
@@ -17,7 +18,7 @@ use Rattle.s7_wire.specs.declared.found.ReadFault.TheVariants.{BadFrame, FrameTo
 
 -- ---- the opening
 
--- the connection of the TPDU that opens: a connect request (ISO 8073, 13.3) or a connect confirm (13.4)
+-- the connection of the TPDU that opens: a connection request (ISO 8073, 13.3) or a connection confirm (13.4)
 abbrev pub opening_of : Opening → Told → Option ConnectionTold
 opening_of Request (connect c) = Some c
 opening_of Request (confirm c) = None
@@ -30,29 +31,29 @@ opening_of Confirm (fragment last user) = None
 opening_of Confirm (disconnect reason) = None
 opening_of Confirm (reject cause) = None
 
--- the length that no packet passes, by the TPDU size (ISO 8073, 13.3.4), and before there is one
+-- the greatest length of a packet: by the TPDU size (ISO 8073, 13.3.4), or before one is agreed
 abbrev pub limit_by : Option ℕ → ℕ
 limit_by None = first_limit
 limit_by (Some size) = limit_of_size size
 
--- the TPDU size that an opening tells (ISO 8073, 13.3.4)
+-- the TPDU size that an opening states (ISO 8073, 13.3.4)
 abbrev pub size_told : Option ConnectionTold → Option ℕ
 size_told None = None
 size_told (Some c) = Some (size_of_code c.size_code)
 
--- the length that no packet passes behind the first one
+-- the greatest length of the packets after the first one
 abbrev pub limit_after : Opening → Result Told CotpFault → ℕ
 limit_after opening (Ok told) = limit_by (size_told (opening_of opening told))
 limit_after opening (Err fault) = first_limit
 
--- the length that no packet passes, by the bodies of those before it: the first one opens
+-- the greatest length of the next packet, by the bodies of the packets before it; the first of them opens
 abbrev pub limits : Opening → List (List ℕ) → ℕ
 limits opening [] = first_limit
 limits opening (body ∷ bodies) = limit_after opening (tpdu_of body)
 
 -- ---- what is read
 
--- the fragments of a message that isn't whole (ISO 8073, 13.7): their octets, and how many they are
+-- the fragments of a message that isn't whole (ISO 8073, 13.7): their octets and their number
 pub record Unfinished : Type 0 where
   pub octets : List ℕ
   pub count : ℕ
@@ -63,25 +64,25 @@ nothing_unfinished = record { octets = []; count = 0 }
 pub data Event : Type 0 where
   -- the link was opened
   opened : (connection : ConnectionTold) → Event
-  -- a message is whole; its place is the number of octets of the packets before the one that ended it
+  -- a message is whole; `at` is the number of octets before the packet that ended it
   message : (octets : List ℕ) → (at : ℕ) → Event
 
 pub data Ending : Type 0 where
-  -- a disconnect request (13.5)
+  -- a disconnect request came (13.5)
   disconnected : Ending
-  -- a packet at fault; its place is the number of octets of the packets before it
+  -- a packet is at fault; `at` is the number of octets before it
   faulted : (fault : ReadFault) → (at : ℕ) → Ending
 
 pub record Progress : Type 0 where
   -- the number of octets of the packets so far
   pub at : ℕ
-  -- the TPDU size, and none before the opening
+  -- the TPDU size; `None` before the opening
   pub size : Option ℕ
   pub unfinished : Unfinished
   pub events : List Event
   pub ending : Option Ending
 
--- nothing came
+-- no octet was read
 abbrev pub start : Progress
 start = record { at = 0; size = None; unfinished = nothing_unfinished; events = []; ending = None }
 
@@ -91,11 +92,11 @@ with_ending p ending = record p { ending = Some ending }
 abbrev pub with_fault : Progress → ReadFault → Progress
 with_fault p fault = with_ending p (faulted fault p.at)
 
--- a packet has four octets before its body (RFC 1006, section 6)
+-- the number of octets read after a packet, which has four octets before its body (RFC 1006, section 6)
 abbrev pub after_packet : ℕ → List ℕ → ℕ
 after_packet at body = at + 4 + length body
 
--- before the opening nothing else may come (ISO 8073, 6.5)
+-- before the opening no other TPDU may come (ISO 8073, 6.5)
 abbrev pub with_opening : Progress → List ℕ → Option ConnectionTold → Progress
 with_opening p body None = with_fault p Unexpected
 with_opening p body (Some c) =
@@ -105,7 +106,7 @@ with_opening p body (Some c) =
       events = p.events ++ opened c ∷ [];
     }
 
--- a fragment (ISO 8073, 13.7)
+-- the effect of a fragment (ISO 8073, 13.7)
 abbrev pub with_joining : Progress → List ℕ → Step → Progress
 with_joining p body (more octets count) =
     record p { at = after_packet p.at body; unfinished = record { octets = octets; count = count } }
@@ -118,7 +119,7 @@ with_joining p body (whole octets) =
 with_joining p body too_many_fragments = with_fault p TooManyFragments
 with_joining p body too_long = with_fault p TooLong
 
--- after the opening come fragments (ISO 8073, 13.7), and a disconnect request ends (ISO 8073, 13.5)
+-- after the opening fragments may come (ISO 8073, 13.7), and a disconnect request ends the link (ISO 8073, 13.5)
 abbrev pub connected : Progress → List ℕ → Told → Progress
 connected p body (fragment last user) =
     with_joining p body
@@ -136,12 +137,12 @@ abbrev pub with_tpdu : Opening → Progress → List ℕ → Result Told CotpFau
 with_tpdu opening p body (Err fault) = with_fault p BadTpdu
 with_tpdu opening p body (Ok told) = with_told opening p body p.size told
 
--- behind an ending nothing is read
+-- after an ending nothing is read
 abbrev pub unless_ended : Option Ending → Progress → Progress → Progress
 unless_ended None next p = next
 unless_ended (Some ending) next p = p
 
--- WHAT A PACKET WITH THIS BODY MAKES of what was read before it
+-- WHAT IS READ AFTER A PACKET WITH THIS BODY, by what was read before it
 unfoldable pub with_body : Opening → Progress → List ℕ → Progress
 with_body opening p body = unless_ended p.ending (with_tpdu opening p body (tpdu_of body)) p
 
@@ -149,7 +150,7 @@ abbrev pub with_bodies : Opening → Progress → List (List ℕ) → Progress
 with_bodies opening p [] = p
 with_bodies opening p (body ∷ bodies) = with_bodies opening (with_body opening p body) bodies
 
--- octets behind the packets show that they can't be one (RFC 1006, section 6)
+-- the octets after the last whole packet may show that they can't be a packet (RFC 1006, section 6)
 abbrev pub with_state : Progress → FedState → Progress
 with_state p fed.BadVersion = with_fault p BadFrame
 with_state p fed.BadLength = with_fault p BadFrame
@@ -160,7 +161,7 @@ with_state p fed.Whole = p
 abbrev pub with_rest : Progress → FedState → Progress
 with_rest p state = unless_ended p.ending (with_state p state) p
 
--- what the octets behind the packets show
+-- what the octets after the last whole packet show
 abbrev pub state_behind : Opening → List ℕ → FedState
 state_behind opening b = state_of (limits opening (packets_of (limits opening) b)) (rest_of (limits opening) b)
 
@@ -168,19 +169,19 @@ state_behind opening b = state_of (limits opening (packets_of (limits opening) b
 unfoldable pub reading : Opening → List ℕ → Progress
 reading opening b = with_rest (with_bodies opening start (packets_of (limits opening) b)) (state_behind opening b)
 
--- ---- what is torn where no more octets come
+-- ---- what is unfinished if no more octets come
 
--- the octets of the open packet: behind an ending none is open
+-- the octets of the open packet; after an ending none is open
 abbrev pub open_packet : Option Ending → List ℕ → List ℕ
 open_packet None rest = rest
 open_packet (Some ending) rest = []
 
--- A fragment without octets leaves its message unfinished too.
+-- A message with only empty fragments is unfinished too.
 abbrev pub torn_by : ℕ → Unfinished → Option ℕ
 torn_by held unfinished =
     if held == 0 && unfinished.count == 0 then None else Some (held + length unfinished.octets)
 
--- how many octets of an open packet and an open message there are, and none where neither is open
+-- the number of octets of an open packet and an open message; `None` if neither is open
 abbrev pub torn_of : Opening → List ℕ → Option ℕ
 torn_of opening b =
     let p = reading opening b in
@@ -195,15 +196,15 @@ messages_in (message octets at ∷ events) = octets ∷ messages_in events
 
 -- ---- what is known of readings
 
--- Octets behind others are read from where those end: the further packets, and what stands behind them. How octets are
--- cut makes no difference.
+-- Later octets are read from where the earlier ones end: they add further packets and a new rest. It makes no
+-- difference where octets are cut.
 pub record ReadsOn (opening : Opening) (b rest : List ℕ) : Type 0 where
   pub further : List (List ℕ)
   pub packets : packets_of (limits opening) (b ++ rest) ≡ packets_of (limits opening) b ++ further
   pub reading : reading opening (b ++ rest)
       ≡ with_rest (with_bodies opening (reading opening b) further) (state_behind opening (b ++ rest))
 
--- More events come, and those before stay.
+-- Further events may follow, and the events before stay.
 pub record GrowsTo (p p' : Progress) : Type 0 where
   pub further : List Event
   pub events : p'.events ≡ p.events ++ further
@@ -221,7 +222,7 @@ pub record Opens (opening : Opening) (body : List ℕ) (connection : ConnectionT
   pub spelled : tpdu_of body ≡ Ok told
   pub opens : opening_of opening told ≡ Some connection
 
--- What is read as these bodies is an opening, and the messages of the fragments behind it.
+-- What is read as these bodies is an opening, and the messages of the fragments after it.
 pub record JoinsMessages (opening : Opening) (first : List ℕ) (bodies : List (List ℕ)) (p : Progress) : Type 0 where
   pub connection : ConnectionTold
   pub opens : Opens opening first connection

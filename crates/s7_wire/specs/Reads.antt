@@ -1,4 +1,4 @@
--- What a reader holds of the octets that it has read, and what it finds in more of them.
+-- What a reader holds of the octets that it has read, and what it finds in further octets.
 use Rattle.std.specs.Prelude.{◌≡◌, ◌≢◌, ℕ, ◌-◌, ◌^◌, min, List, [], ◌∷◌, ◌++◌, Option, None, Some}
 use Rattle.s7_tpkt.specs.Packets.{HoldsRest}
 use Rattle.s7_cotp.specs.Told.{connection_of}
@@ -14,9 +14,9 @@ use Rattle.s7_wire.specs.declared.found.Ended.TheVariants as end_of
 use Rattle.s7_wire.specs.declared.transport.Transport.{Transport}
 use Rattle.s7_wire.specs.declared.reader.Reader.{Reader}
 
--- ---- what a finding tells
+-- ---- what a finding means
 
--- the event, with this message
+-- the event of this finding, with this message
 abbrev pub events_by : Found → List ℕ → ℕ → List Event
 events_by finding.More octets at = []
 events_by (finding.Opened c) octets at = opened (connection_of c) ∷ []
@@ -24,7 +24,7 @@ events_by finding.Message octets at = message octets at ∷ []
 events_by finding.Disconnected octets at = []
 events_by (finding.Fault fault) octets at = []
 
--- the ending, where the packet in question has this place
+-- the ending of this finding; `at` is the number of octets before the packet
 abbrev pub ending_by : Found → ℕ → Option Ending
 ending_by finding.More at = None
 ending_by (finding.Opened c) at = None
@@ -32,7 +32,7 @@ ending_by finding.Message at = None
 ending_by finding.Disconnected at = Some disconnected
 ending_by (finding.Fault fault) at = Some (faulted fault at)
 
--- what is found of a link that has ended
+-- what is found on a link that has ended
 abbrev pub found_by : Ended → Found
 found_by end_of.Disconnected = finding.Disconnected
 found_by (end_of.Faulted fault) = finding.Fault fault
@@ -43,14 +43,14 @@ ending_at (Some end) at = ending_by (found_by end) at
 
 -- ---- what is held
 
--- a count of 64 bits stays at its greatest value
+-- a count of 64 bits, which stays at its greatest value
 abbrev pub counted : ℕ → ℕ
 counted n = min n (2 ^ 64 - 1)
 
 abbrev pub unfinished_in : Gathered → Unfinished
 unfinished_in joiner = record { octets = open_octets joiner; count = joiner.count }
 
--- What is held is what was read of the packets so far.
+-- The transport holds what was read from the packets so far.
 pub record IsAt (t : Transport) (p : Progress) : Type 0 where
   pub at : t.at ≡ counted p.at
   pub size : t.size ≡ p.size
@@ -59,7 +59,7 @@ pub record IsAt (t : Transport) (p : Progress) : Type 0 where
   -- the packet that ended the link is the last one
   pub place : (end : Ended) → t.ended ≡ Some end → t.place ≡ t.at
 
--- What was read of one packet more, or of octets that show a fault, is what was found.
+-- What one more packet, or octets that show a fault, add to what was read is what was found.
 pub record Finds (p p' : Progress) (t : Transport) (found : Found) : Type 0 where
   pub is : IsAt t p'
   pub events : p'.events ≡ p.events ++ events_by found t.joiner.octets p.at
@@ -72,31 +72,31 @@ pub record Finds (p p' : Progress) (t : Transport) (found : Found) : Type 0 wher
 abbrev pub opens_by : Reader → Opening
 opens_by r = r.transport.opening
 
--- why nothing more is read
+-- why nothing more is read, if the link has ended
 abbrev pub ended_with : Reader → Option Ended
 ended_with r = r.transport.ended
 
--- the octets of the packet that has begun, or of one that is at fault
+-- the octets of the open packet, or of a packet at fault
 abbrev pub held_by : Reader → List ℕ
 held_by r = r.cutter.held
 
--- the length that the packet doesn't pass
+-- the greatest length of the packet
 abbrev pub limit_at : Reader → ℕ
 limit_at r = r.cutter.limit
 
--- the TPDU size, and none before the opening
+-- the TPDU size; `None` before the opening
 abbrev pub size_at : Reader → Option ℕ
 size_at r = r.transport.size
 
--- the place of the last packet that was whole or at fault
+-- the number of octets before the last packet that was whole or at fault
 abbrev pub place_at : Reader → ℕ
 place_at r = r.transport.place
 
--- a message is whole, and no fragment came behind it
+-- a message is whole, and no fragment came after it
 abbrev pub HasMessage : Reader → Type 0
 HasMessage r = r.transport.joiner.state ≡ Whole
 
--- that message
+-- the message that was found last
 abbrev pub message_at : Reader → List ℕ
 message_at r = r.transport.joiner.octets
 
@@ -105,7 +105,7 @@ pub record HasRead (r : Reader) (b : List ℕ) : Type 0 where
   pub rest : ended_with r ≡ None → HoldsRest (limits (opens_by r)) b r.cutter
   pub is : IsAt r.transport (reading (opens_by r) b)
 
--- THE READER HAS READ MORE OCTETS behind these, and has found this in them.
+-- THE READER HAS READ FURTHER OCTETS after these, and has found this in them.
 pub record HasFound (r : Reader) (b more : List ℕ) (found : Found) : Type 0 where
   pub read : HasRead r (b ++ more)
   pub events : (reading (opens_by r) (b ++ more)).events

@@ -1,12 +1,12 @@
-// What a reader finds.
+//! What a reader finds in the octets of a link.
 use s7_cotp::{Connection, Tpdu};
 
-/// Which TPDU opens a link (ISO 8073, 13.3 and 13.4).
+/// Which TPDU opens the link (ISO 8073, 13.3 and 13.4).
 #[derive(Clone, Copy, Debug, PartialEq, Eq)]
 pub enum Opening {
-    /// The connect request, for the side that is dialled.
+    /// A connection request: this side is called.
     Request,
-    /// The connect confirm, for the side that dials.
+    /// A connection confirm: this side calls.
     Confirm,
 }
 
@@ -16,7 +16,7 @@ impl Opening {
     ghost use Rattle.s7_cotp.specs.Told.{IsPaddedConnection, IsPaddedTpdu};
     ghost use Rattle.s7_wire.specs.Reading.{opening_of};
 
-    /// The connection of a TPDU that opens, and none of another.
+    /// The connection of the TPDU, if this TPDU opens the link; else `None`.
     pub(crate) fn connection(self, tpdu: &Tpdu<'_>) -> Option<Connection>
         requires writable { CanBeWrittenAgain tpdu.now }
         requires padded { IsPaddedTpdu tpdu.now }
@@ -32,51 +32,55 @@ impl Opening {
     }
 }
 
-/// Why a packet can't be read.
+/// Why a packet was refused.
 #[derive(Clone, Copy, Debug, PartialEq, Eq)]
 pub enum ReadFault {
     /// Its version isn't 03, or its length is below 7 (RFC 1006, section 6).
     BadFrame,
-    /// It has more octets than the TPDU size and 7: before the opening than 8,199.
+    /// Its length exceeds the limit: the TPDU size plus 7, or 8,199 before the opening.
     FrameTooLong,
-    /// Its body is no TPDU of class 0 (ISO 8073, section 13).
+    /// Its body isn't a TPDU of class 0 (ISO 8073, section 13).
     BadTpdu,
-    /// Its TPDU isn't the one that opens, or opens again, or is an error (ER).
+    /// Its TPDU isn't allowed here: before the opening, any TPDU but the one that opens; after it, a CR, a CC or an
+    /// error (ER).
     Unexpected,
     /// It has the 65th fragment of a message.
     TooManyFragments,
-    /// Its fragment makes a message of more than 8,192 octets.
+    /// With its fragment the message has more than 8,192 octets.
     TooLong,
 }
 
-/// What octets were found to be.
+/// What the octets taken have ended.
 #[derive(Clone, Copy, Debug, PartialEq, Eq)]
 pub enum Found {
-    /// Nothing yet: a packet has begun, or one with a fragment that isn't its message's last has ended.
+    /// Nothing is complete yet: a packet is open, or the packet that ended carried a fragment that isn't its
+    /// message's last.
     More,
-    /// The link is open.
+    /// The link was opened.
     Opened(Connection),
     /// A message is whole.
     Message,
-    /// The other side has disconnected (ISO 8073, 13.5). Nothing is read from here on.
+    /// The other side has disconnected (ISO 8073, 13.5). Nothing is read from now on.
     Disconnected,
-    /// A packet is at fault. Nothing is read from here on.
+    /// A packet was refused. Nothing is read from now on.
     Fault(ReadFault),
 }
 
-/// How many octets of a piece were taken, and what was found.
+/// The outcome of one call of `Reader::read`.
 #[derive(Clone, Copy, Debug, PartialEq, Eq)]
 pub struct Taken {
-    /// A number of octets.
+    /// The number of octets taken from the piece.
     pub octets: usize,
-    /// What they end.
+    /// What these octets have ended.
     pub found: Found,
 }
 
 /// Why nothing more is read.
 #[derive(Clone, Copy, Debug, PartialEq, Eq)]
 pub(crate) enum Ended {
+    /// The other side has disconnected.
     Disconnected,
+    /// A packet was refused.
     Faulted(ReadFault),
 }
 
@@ -84,7 +88,7 @@ impl Ended {
     ghost use Rattle.std.specs.Prelude.{◌≡◌};
     ghost use Rattle.s7_wire.specs.Reads.{found_by};
 
-    /// What is found from then on.
+    /// What every later call finds.
     pub(crate) fn found(self) -> Found
         ensures { result ≡ found_by self }
     {

@@ -1,4 +1,4 @@
-// The octets that were read and not used.
+//! The octets that were received and not used yet.
 ghost use Rattle.std.specs.Prelude.{◌≡◌, ◌≢◌, ◌==◌, ◌↔◌, ℕ, ◌+◌, ◌<◌, ◌≤◌, [], length, drop, Some, IsTrue, IsSome};
 ghost use Rattle.std.specs.Io.KnownBytes.{prepend_known, IsAtEnd};
 ghost use Rattle.s7_outer.specs.Count.{Rose};
@@ -7,14 +7,17 @@ ghost use Rattle.s7_wire.specs.Bounds.{most_received};
 use s7_outer::{Got, Link};
 use std::marker::Model;
 
-/// How many octets one receive takes at most.
+/// The greatest number of octets of one receive.
 pub const PIECE: usize = 8_192;
 
-/// The octets that were read and not used yet.
+/// The octets that were received and not used yet.
 #[derive(Drop)]
 pub struct Inbox {
+    /// Octets that were used, then those not used yet.
     octets: [u8; PIECE],
+    /// The offset of the first octet not used yet.
     from: usize,
+    /// The offset after the last octet received.
     upto: usize,
 }
 
@@ -30,7 +33,7 @@ impl Model for Inbox {
 }
 
 impl Inbox {
-    /// Nothing was read.
+    /// An inbox without octets.
     pub fn new() -> Inbox
         ensures { result ≡ [] }
     {
@@ -41,14 +44,14 @@ impl Inbox {
         }
     }
 
-    /// Whether every octet that was read is used.
+    /// Whether every octet that was received is used.
     pub fn is_empty(&self) -> bool
         ensures { result ≡ (length self.now == 0) }
     {
         self.from == self.upto
     }
 
-    /// The octets that were read and not used, at most 8,192.
+    /// The octets that were received and not used yet, at most 8,192.
     pub fn as_slice(&self) -> &[u8]
         ensures octets { result.now ≡ self.now }
         ensures fits { length self.now ≤ most_received }
@@ -57,7 +60,7 @@ impl Inbox {
         &read[self.from..]
     }
 
-    /// So many of the first octets are used.
+    /// Uses up the first `count` octets.
     pub fn advance(&mut self, count: usize)
         requires { count ≤ length self.old }
         ensures { self.new ≡ drop count self.old }
@@ -65,11 +68,11 @@ impl Inbox {
         self.from += count;
     }
 
-    /// Receives octets by one receive, where none are left, and at most so many.
+    /// Receives at most `most` octets by one receive. The inbox is empty before the call.
     ///
-    /// Nothing is there afterwards but what came with `Bytes`. `End` comes only where the link has
-    /// ended, `NotYet` only where its `waits` rose in this call, `Failed` only where its `faults`
-    /// did. A link that tells its space answers `NotYet` exactly where nothing is left on it.
+    /// Afterwards it holds exactly the octets of `Bytes`. `End` is returned only if the link has ended. `NotYet`
+    /// raises the link's `waits`, and `Failed` raises its `faults`. A link that shows its space returns `NotYet`
+    /// exactly if no octet is left on it.
     pub fn refill<L: Link>(&mut self, line: &mut L, most: usize) -> Got
         requires empty { self.old ≡ [] }
         requires some { 0 < most }

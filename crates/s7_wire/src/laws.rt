@@ -1,4 +1,4 @@
-//! Laws of the definitions, for whoever builds on them. They run nothing.
+//! Laws of the definitions, for proofs that build on them. They do nothing at run time.
 ghost use Rattle.std.specs.Prelude.{◌≡◌, ◌≤◌, ℕ, List, ◌∷◌, ◌++◌, length, None, Some, Ok, Err};
 ghost use Rattle.s7_tpkt.specs.Packets.{packets_of};
 ghost use Rattle.s7_cotp.specs.Told.{Told, ConnectionTold};
@@ -11,8 +11,8 @@ ghost use Rattle.s7_wire.specs.Bounds.{first_limit, size_of_code, limit_of_size}
 ghost use Rattle.s7_wire.specs.Reads.{HasRead, opens_by, ended_with, ending_by, found_by};
 ghost use Rattle.s7_wire.specs.Reading.{Ending, limits, limit_by, opening_of, reading, ReadsOn, GrowsTo, JoinsMessages};
 
-/// Octets that are read in two pieces are read as if they came at once, wherever they are cut. Events that
-/// were read stay, and behind an ending nothing is read.
+/// A law: octets in two pieces are read as if they came at once, wherever they are cut. Events that were read stay.
+/// After an ending nothing more is read.
 pub fn reading_goes_on()
     ensures goes_on { (opening : Opening) (b rest : List ℕ) → ReadsOn opening b rest }
     ensures events { (opening : Opening) (b rest : List ℕ) → GrowsTo (reading opening b) (reading opening (b ++ rest)) }
@@ -20,15 +20,15 @@ pub fn reading_goes_on()
         → reading opening (b ++ rest) ≡ reading opening b }
 {}
 
-/// Where nothing has ended, the packets behind the first one are data TPDUs, and the messages that were read
-/// are those of their fragments.
+/// A law: while the link hasn't ended, all packets after the first one are data TPDUs, and the messages read are
+/// those of their fragments.
 pub fn fragments_are_joined()
     ensures { (opening : Opening) (b first : List ℕ) (bodies : List (List ℕ))
         → packets_of (limits opening) b ≡ first ∷ bodies → (reading opening b).ending ≡ None
         → JoinsMessages opening first bodies (reading opening b) }
 {}
 
-/// The first packet alone sets the limit of those behind it, where it opens the link.
+/// A law: only the first packet sets the limit of later packets, and only if it opens the link.
 pub fn limits_of_openings()
     ensures opened { (opening : Opening) (body : List ℕ) (bodies : List (List ℕ)) (told : Told) (c : ConnectionTold)
         → tpdu_of body ≡ Ok told → opening_of opening told ≡ Some c
@@ -39,7 +39,7 @@ pub fn limits_of_openings()
         → tpdu_of body ≡ Err fault → limits opening (body ∷ bodies) ≡ first_limit }
 {}
 
-/// A reader has ended exactly where what it read has.
+/// A law: a reader has ended exactly if the reading of its octets has.
 pub fn readers_end()
     ensures going { (r : Reader) (b : List ℕ) → HasRead r b → (reading (opens_by r) b).ending ≡ None
         → ended_with r ≡ None }
@@ -47,7 +47,8 @@ pub fn readers_end()
         → (reading (opens_by r) b).ending ≡ ending_by (found_by end) (reading (opens_by r) b).at }
 {}
 
-/// The limit of the next packet is that of the TPDU size, and a place counts octets that were read.
+/// A law: the limit of the next packet follows from the TPDU size, and an event's offset never exceeds the number
+/// of octets read.
 pub fn numbers_of_readings()
     ensures limit { (opening : Opening) (b : List ℕ) → (reading opening b).ending ≡ None
         → limits opening (packets_of (limits opening) b) ≡ limit_by (reading opening b).size }

@@ -1,5 +1,5 @@
-//! The octets of one link, whichever side of it: what was read and not used, what octets are read as, what
-//! is to be sent, and messages that go out in fragments.
+//! The octets of one link, for either side: the octets received and not used yet, what octets are read as, the
+//! octets to be sent, and messages sent in fragments.
 #![tactic(auto)]
 
 mod found;

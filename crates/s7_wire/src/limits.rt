@@ -1,11 +1,11 @@
-//! Limits of packets and messages, whichever side of a link reads them.
+//! Limits of packets and messages, for either side of a link.
 
-/// How many octets a message that is joined from fragments has at most.
+/// The greatest number of octets of a message that is joined from fragments.
 pub const MESSAGE_LIMIT: usize = 8_192;
 
-/// The length in octets that no packet passes before a TPDU size is agreed.
+/// The greatest length of a packet in octets before a TPDU size is agreed.
 pub const FIRST_LIMIT: u16 = 8_199;
 
-/// How many octets more than the TPDU size a packet may have: four of its header, and three for
-/// senders that count user data alone.
+/// How many octets a packet may have beyond the TPDU size: four of its header, and three for senders that count
+/// only user data in the TPDU size.
 pub const HEADERS: u16 = 7;

@@ -1,4 +1,4 @@
-// Messages that go out in fragments.
+//! Messages that are sent in fragments.
 ghost use Rattle.std.specs.Prelude.{◌≡◌, ◌+◌, ◌≤◌, ◌++◌, length};
 ghost use Rattle.s7_wire.specs.Bounds.{most_sent, most_packets};
 ghost use Rattle.s7_wire.specs.Sent.{sent_message, fragment_octets};
@@ -6,17 +6,17 @@ ghost use Rattle.s7_wire.specs.Sent.{sent_message, fragment_octets};
 use crate::outbox::Outbox;
 use s7_cotp::{fragments, write_data};
 
-/// How many octets a message that goes out has at most.
+/// The greatest number of octets of a message that is sent.
 pub const MOST_MESSAGE: usize = 1_920;
 
-/// The header of a data TPDU.
+/// The length of a data TPDU's header.
 const DATA_HEADER: usize = 3;
 
-/// Puts a message of at most 1,920 octets behind what is to be sent, in as many fragments as the TPDU size
-/// wants, each in a packet (ISO 8073, 13.7; RFC 1006, section 6).
+/// Queues a message of at most 1,920 octets after what is to be sent, in as many fragments as the TPDU size needs,
+/// each in a packet (ISO 8073, 13.7; RFC 1006, section 6).
 ///
-/// The TPDU size is from 128 to 8,192, the header's three octets included. The packets take at most 2,032
-/// octets: at the size 128 a fragment has at most 125 octets of the message, and its packet 7 more.
+/// The TPDU size is from 128 to 8,192, the header's three octets included. The packets have at most 2,032 octets:
+/// at the size 128 a fragment has at most 125 octets of the message, and its packet has 7 more.
 pub fn put_message(outbox: &mut Outbox, size: u16, message: &[u8])
     requires least { 128 ≤ size }
     requires most { size ≤ 8192 }
@@ -31,6 +31,7 @@ pub fn put_message(outbox: &mut Outbox, size: u16, message: &[u8])
     }
 }
 
+/// Queues the packet with the message's octets from `start` to `end`.
 fn put_fragment(outbox: &mut Outbox, message: &[u8], start: usize, end: usize)
     requires order { start ≤ end }
     requires within { end ≤ length message.now }

@@ -1,4 +1,4 @@
-// The octets that are to be sent.
+//! The octets to be sent.
 ghost use Rattle.std.specs.Prelude.{◌≡◌, ◌≢◌, ◌==◌, ◌↔◌, ℕ, ◌+◌, ◌-◌, ◌<◌, ◌≤◌, [], ◌++◌, length, drop, IfSome};
 ghost use Rattle.std.specs.Prelude.{option_map};
 ghost use Rattle.std.specs.Io.KnownBytes.{append_known};
@@ -10,14 +10,17 @@ use s7_outer::{Link, Sent};
 use s7_tpkt::write_packet;
 use std::marker::Model;
 
-/// How many octets may wait to be sent.
+/// The greatest number of octets that may wait to be sent.
 const OUTGOING: usize = 4_096;
 
-/// The octets that are still to be sent, and the room for more.
+/// The octets still to be sent, and the room for more.
 #[derive(Drop)]
 pub struct Outbox {
+    /// Octets that were sent, then those still to be sent, then room.
     octets: [u8; OUTGOING],
+    /// The offset of the first octet still to be sent.
     from: usize,
+    /// The offset after the last octet to be sent.
     upto: usize,
 }
 
@@ -36,7 +39,7 @@ impl Model for Outbox {
 impl Outbox {
     ghost use Rattle.s7_tpkt.specs.Packets.{packet_of};
 
-    /// Nothing is to be sent.
+    /// An outbox without octets.
     pub fn new() -> Outbox
         ensures { result ≡ record { unsent = []; room = most_waiting } }
     {
@@ -47,13 +50,14 @@ impl Outbox {
         }
     }
 
-    /// Whether nothing is left to send.
+    /// Whether every octet was sent.
     pub fn is_empty(&self) -> bool
         ensures { result ≡ (length self.now.unsent == 0) }
     {
         self.from == self.upto
     }
 
+    /// The octets still to be sent.
     fn as_slice(&self) -> &[u8]
         ensures { result.now ≡ self.now.unsent }
     {
@@ -61,7 +65,7 @@ impl Outbox {
         &octets[self.from..]
     }
 
-    /// All room is there again, where nothing is left to send.
+    /// Makes all room free again. The caller ensures that every octet was sent.
     pub fn clear(&mut self)
         requires { self.old.unsent ≡ [] }
         ensures { self.new ≡ record { unsent = []; room = most_waiting } }
@@ -70,7 +74,7 @@ impl Outbox {
         self.upto = 0;
     }
 
-    /// Puts the packet with this body behind what is to be sent.
+    /// Queues the packet with this body after what is to be sent.
     pub fn put(&mut self, body: &[u8])
         requires least { 3 ≤ length body.now }
         requires room { length body.now + 4 ≤ self.old.room }
@@ -80,11 +84,11 @@ impl Outbox {
         self.upto += write_packet(body, &mut self.octets[self.upto..]);
     }
 
-    /// Sends octets, by one transmit of all that are left.
+    /// Sends octets by one transmit of all octets left.
     ///
-    /// `NotYet` comes only where the link's `waits` rose in this call, `Failed` only where its
-    /// `faults` did; neither sends an octet. A link that tells its space answers `NotYet` exactly
-    /// where it is 0. The room stays: only `clear` gives it back.
+    /// `NotYet` raises the link's `waits`, and `Failed` raises its `faults`; neither sends an octet. A link that
+    /// shows its space returns `NotYet` exactly if its space is 0. The room stays: only `clear` makes it free
+    /// again.
     pub fn flush<L: Link>(&mut self, line: &mut L) -> Sent
         requires { 0 < length self.old.unsent }
         ensures sent { self.old.unsent ≡ octets_sent result self.old.unsent ++ self.new.unsent }
@@ -124,7 +128,7 @@ impl Outbox {
         sent
     }
 
-    // The first octets went.
+    /// Drops the first `count` octets, which were sent.
     fn advance(&mut self, count: usize)
         requires { count ≤ length self.old.unsent }
         ensures unsent { self.new.unsent ≡ drop count self.old.unsent }

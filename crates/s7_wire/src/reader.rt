@@ -1,4 +1,4 @@
-// The reader of a link's octets.
+//! The reader of a link's octets.
 ghost use Rattle.std.specs.Prelude.{◌≡◌, None};
 ghost use Rattle.s7_tpkt.specs.Packets.{state_of};
 ghost use Rattle.s7_tpkt.specs.declared.state.FedState.TheVariants.{More};
@@ -9,12 +9,12 @@ use s7_outer::Memory;
 use s7_tpkt::{Cutter, FedState};
 use std::alloc::Global;
 
-/// Reads the octets of one link in whatever pieces they come: packets (RFC 1006, section 6), TPDUs of
-/// class 0 (ISO 8073, section 13), and the messages that data TPDUs bring in fragments.
+/// Reads the octets of one link, in pieces of any size. It reads packets (RFC 1006, section 6), TPDUs of class 0
+/// (ISO 8073, section 13), and the messages that data TPDUs carry in fragments.
 ///
-/// The first TPDU opens the link. A packet has at most 8,199 octets before it, and 7 more than its TPDU
-/// size after it. A message has at most 64 fragments and 8,192 octets. All buffers are taken when the
-/// reader is made.
+/// The first TPDU opens the link. Before it a packet has at most 8,199 octets, and after it at most 7 more than the
+/// TPDU size. A message has at most 64 fragments and 8,192 octets. All buffers are allocated when the reader is
+/// made.
 #[derive(Drop)]
 pub struct Reader {
     cutter: Cutter,
@@ -33,7 +33,7 @@ impl Reader {
     ghost use Rattle.s7_wire.specs.Reads.{HasRead, HasFound, HasMessage, message_at, opens_by};
     ghost use Rattle.s7_wire.specs.Reads.{ended_with, size_at, place_at, held_by, limit_at, found_by};
 
-    /// A reader that has read nothing. `Memory` comes where there is none for its buffers.
+    /// A reader that has read no octet. Returns `Memory` if the allocation of its buffers fails.
     pub fn new(alloc: Global, opening: Opening) -> Result<Reader, Memory>
         ensures read { IfOk result (λ r. HasRead r []) }
         ensures opening { IfOk result (λ r. opens_by r ≡ opening) }
@@ -46,7 +46,7 @@ impl Reader {
         })
     }
 
-    /// Begins anew, as a reader that has read nothing. The buffers stay, and no memory is taken.
+    /// Begins anew, as a reader that has read no octet. The buffers stay, and nothing is allocated.
     pub fn restart(&mut self)
         ensures read { HasRead self.new [] }
         ensures opening { opens_by self.new ≡ opens_by self.old }
@@ -57,27 +57,27 @@ impl Reader {
         self.transport.restart();
     }
 
-    /// Takes octets up to the end of one packet or of the piece, and says what they end.
+    /// Takes octets up to the end of one packet or of the piece, and returns what they have ended.
     ///
-    /// `Message` comes with the packet that ends one; `message` then lends it. `Disconnected` and `Fault`
-    /// end the link: from then on no octet is taken, and each call answers the same.
+    /// `Message` is returned for the packet that ends a message; `message` then gives it. `Disconnected` and
+    /// `Fault` end the link: from then on no octet is taken, and each call returns the same.
     pub fn read(&mut self, piece: &[u8]) -> Taken
         ensures taken { result.octets ≤ length piece.now }
         ensures opening { opens_by self.new ≡ opens_by self.old }
 
-        // Whatever octets were read before, these are read behind them.
+        // Whatever octets were read before, these are read after them.
         ensures found { (b : List ℕ) → HasRead self.old b
             → HasFound self.new b (take result.octets piece.now) result.found }
         ensures message { result.found ≡ Found.Message → HasMessage self.new }
         ensures writable { (c : Connection) → result.found ≡ Found.Opened c → CanBeWritten c }
         ensures padded { (c : Connection) → result.found ≡ Found.Opened c → IsPaddedConnection c }
 
-        // Octets are taken as long as the link goes on, and left over only at the end of a packet.
+        // Octets are taken until the link has ended, and are left over only at the end of a packet.
         ensures some { ended_with self.old ≡ None → 0 < length piece.now → 0 < result.octets }
         ensures left_over { result.found ≡ Found.More → result.octets < length piece.now
             → held_by self.new ≡ [] }
 
-        // Only the last octet that is taken ends a packet or shows a fault.
+        // Only the last octet taken ends a packet or shows a fault.
         ensures earliest { (k : ℕ) → k < result.octets
             → state_of (limit_at self.old) (held_by self.old ++ take k piece.now) ≡ FedState.More }
         ensures ended { (end : Ended) → ended_with self.old ≡ Some end
@@ -107,7 +107,7 @@ impl Reader {
         }
     }
 
-    /// The message that was found last. It is there until the next call of `read`.
+    /// The message that was found last. It stays until the next call of `read`.
     pub fn message(&self) -> &[u8]
         requires { HasMessage self.now }
         ensures { result.now ≡ message_at self.now }
@@ -115,15 +115,15 @@ impl Reader {
         self.transport.joiner.message()
     }
 
-    /// Where the packet begins that ended what was found last, by the number of octets before it: after
-    /// `Message` its last fragment's. 0 where nothing was read; behind `More` it tells nothing.
+    /// The number of octets before the packet that ended what was found last; after `Message` that is the packet of
+    /// its last fragment. 0 if nothing was read; after `More` it has no meaning.
     pub fn place(&self) -> u64
         ensures { result ≡ place_at self.now }
     {
         self.transport.place
     }
 
-    /// The TPDU size in octets, from 128 to 8,192, and none before the opening.
+    /// The TPDU size in octets, from 128 to 8,192; `None` before the opening.
     pub fn size(&self) -> Option<u16>
         ensures size { result ≡ size_at self.now }
         ensures least { ForSome result (λ n. 128 ≤ n) }
@@ -132,16 +132,15 @@ impl Reader {
         self.transport.size
     }
 
-    /// How many octets there are of a packet and a message that aren't whole, and none where there is
-    /// neither. A fragment without octets leaves its message unfinished too; once the link has ended only
-    /// the message counts.
+    /// The number of octets of a packet and a message that aren't whole, or `None` if there is neither. A message
+    /// with only empty fragments counts too. Once the link has ended only the message counts.
     pub fn torn(&self) -> Option<usize>
         ensures { (b : List ℕ) → HasRead self.now b → result ≡ torn_of (opens_by self.now) b }
     {
         self.transport.torn(self.held())
     }
 
-    // How many octets there are of a packet that isn't whole: behind an ending none is open.
+    /// The number of octets of a packet that isn't whole; 0 once the link has ended.
     fn held(&self) -> usize
         ensures held { (b : List ℕ) → HasRead self.now b
             → result ≡ length (open_packet (reading (opens_by self.now) b).ending

@@ -1,4 +1,4 @@
-// TPDU sizes.
+//! TPDU sizes.
 ghost use Rattle.std.specs.Prelude.{◌≡◌, ◌≤◌};
 ghost use Rattle.s7_wire.specs.Bounds.{size_of_code};
 

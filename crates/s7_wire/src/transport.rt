@@ -1,4 +1,4 @@
-// What the packets of a link come to: the opening, the messages, and how it ends.
+//! What the packets of a link amount to: the opening, the messages, and how the link ends.
 ghost use Rattle.std.specs.Prelude.{◌≡◌, ◌≤◌, None, false};
 ghost use Rattle.std.specs.Option.{ForSome};
 ghost use Rattle.s7_cotp.specs.Gathered.{is_fault};
@@ -11,21 +11,23 @@ use s7_cotp::{Connection, Joined, Joiner, Tpdu, read_tpdu};
 use s7_outer::Memory;
 use std::alloc::Global;
 
-/// How many octets a packet has before its body.
+/// The number of octets of a packet before its body.
 const HEADER: usize = 4;
 
-/// What was read of the packets so far.
+/// What was read from the packets so far.
 #[derive(Drop)]
 pub(crate) struct Transport {
+    /// The TPDU that opens the link.
     pub(crate) opening: Opening,
-    /// The message that isn't whole, or the last one.
+    /// Holds the message that isn't whole, or the last one.
     pub(crate) joiner: Joiner,
-    /// The TPDU size, from 128 to 8,192, and none before the opening.
+    /// The TPDU size, from 128 to 8,192; `None` before the opening.
     pub(crate) size: Option<u16>,
     /// The number of octets of the packets so far.
     pub(crate) at: u64,
-    /// That number before the last packet, whole or at fault.
+    /// The number of octets before the last packet, which was whole or at fault.
     pub(crate) place: u64,
+    /// Why nothing more is read, if the link has ended.
     pub(crate) ended: Option<Ended>,
     ghost joins: { joiner.limit ≡ message_limit },
     ghost least_size: { ForSome size (λ n. 128 ≤ n) },
@@ -42,7 +44,7 @@ impl Transport {
     ghost use Rattle.s7_wire.specs.Reading.{with_ending, with_fault, after_packet, torn_by};
     ghost use Rattle.s7_wire.specs.Reads.{IsAt, Finds, found_by, ending_at, counted, unfinished_in};
 
-    /// A link on which nothing came. The whole buffer of messages is taken here.
+    /// A link without packets. The buffer for messages is allocated here; returns `Memory` if that fails.
     pub(crate) fn new(alloc: Global, opening: Opening) -> Result<Transport, Memory>
         ensures at { IfOk result (λ t. IsAt t start) }
         ensures opening { IfOk result (λ t. t.opening ≡ opening) }
@@ -59,7 +61,7 @@ impl Transport {
         })
     }
 
-    /// A link on which nothing came, with the same buffer.
+    /// Back to a link without packets. The buffer stays.
     pub(crate) fn restart(&mut self)
         ensures at { IsAt self.new start }
         ensures opening { self.new.opening ≡ self.old.opening }
@@ -73,7 +75,7 @@ impl Transport {
         self.ended = None;
     }
 
-    /// The length that no packet passes.
+    /// The greatest length of the next packet, in octets.
     pub(crate) fn limit(&self) -> u16
         ensures limit { result ≡ limit_by self.now.size }
         ensures least { 7 ≤ result }
@@ -85,8 +87,8 @@ impl Transport {
         }
     }
 
-    /// How many octets there are of an open packet and an open message, where so many are held of a
-    /// packet, and none where neither is open.
+    /// The number of octets of an open packet and an open message, if `held` octets are held of the packet; `None`
+    /// if neither is open.
     pub(crate) fn torn(&self, held: usize) -> Option<usize>
         requires { held ≤ 8199 }
         ensures { result ≡ torn_by held (unfinished_in self.now.joiner) }
@@ -117,7 +119,7 @@ impl Transport {
         }
     }
 
-    // Takes a packet of so many octets, before which none opened the link.
+    /// Takes the first TPDU of the link, in a packet of this number of octets.
     fn open(&mut self, tpdu: &Tpdu<'_>, octets: usize) -> Found
         requires going { self.old.ended ≡ None }
         requires writable { CanBeWrittenAgain tpdu.now }
@@ -137,7 +139,7 @@ impl Transport {
         Found::Opened(connection)
     }
 
-    // Takes a packet of so many octets after the opening.
+    /// Takes a TPDU after the opening, in a packet of this number of octets.
     fn connected(&mut self, tpdu: &Tpdu<'_>, octets: usize) -> Found
         requires going { self.old.ended ≡ None }
         ensures finds { (p : Progress) (body : List ℕ) → IsAt self.old p → octets ≡ length body + 4
@@ -155,7 +157,7 @@ impl Transport {
         }
     }
 
-    // Takes a fragment in a packet of so many octets.
+    /// Takes a fragment, in a packet of this number of octets.
     fn fragment(&mut self, user: &[u8], last: bool, octets: usize) -> Found
         requires going { self.old.ended ≡ None }
         ensures finds { (p : Progress) (body : List ℕ) → IsAt self.old p → octets ≡ length body + 4
@@ -186,7 +188,7 @@ impl Transport {
         }
     }
 
-    /// The next packet is at fault.
+    /// Ends the link, since the next packet is at fault.
     pub(crate) fn fault(&mut self, fault: ReadFault) -> Found
         requires going { self.old.ended ≡ None }
         ensures finds { (p : Progress) → IsAt self.old p → Finds p (with_fault p fault) self.new result }
@@ -197,7 +199,7 @@ impl Transport {
         self.end(Ended::Faulted(fault))
     }
 
-    // A packet ends the link.
+    /// Ends the link with the current packet.
     fn end(&mut self, ended: Ended) -> Found
         ensures result { result ≡ found_by ended }
         ensures ended { self.new.ended ≡ Some ended }
@@ -212,7 +214,7 @@ impl Transport {
         ended.found()
     }
 
-    // A packet of so many octets was taken.
+    /// Counts a packet of this number of octets.
     fn advance(&mut self, octets: usize)
         ensures new { self.new ≡ record self.old { place = self.old.at; at = counted (self.old.at + octets) } }
     {

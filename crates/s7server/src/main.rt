@@ -14,6 +14,7 @@ use std::rt::{Env, Runtime};
 use std::sync::Wait;
 use std::thread::Threads;
 
+/// Prints to standard error for `pipe`, whose link uses standard output, and to standard output otherwise.
 fn main(rt: HostRuntime) -> ExitCode {
     if is_pipe(&rt) {
         let mut out = StdOut::new(rt.stderr());
@@ -24,14 +25,14 @@ fn main(rt: HostRuntime) -> ExitCode {
     }
 }
 
-// The first word is `pipe`, whose link has the standard output. No memory is taken, so that want of it is told
-// on the right stream too.
+/// Whether the first word is `pipe`, whose link uses standard output. Allocates nothing, so that a failed allocation is
+/// reported on the right stream, too.
 fn is_pipe<E: Env>(rt: &E) -> bool {
     let mut word = [0u8; 4];
     rt.arg(1, &mut word).is_ok() && word == *b"pipe"
 }
 
-// The status of what the words ask for.
+/// Runs the command that the words name, and returns its status.
 fn run<R, O>(rt: &R, out: &mut O) -> Result<u8, Memory>
 where
     R: Runtime + AllocGlobal + Net<Listener = TcpListener, Stream = TcpStream>,
@@ -60,7 +61,7 @@ where
     Ok(end.status)
 }
 
-// The words of the command line. Where one isn't UTF-8 there are none, which is no command either.
+/// The words of the command line. If one of them isn't UTF-8 there are none, and no words are no command.
 fn own_words<R: Env + AllocGlobal>(rt: &R) -> Result<Vec<String>, AllocError> {
     match env::args(rt) {
         Ok(words) => words.skip(1).collect(rt.alloc()),
@@ -69,11 +70,13 @@ fn own_words<R: Env + AllocGlobal>(rt: &R) -> Result<Vec<String>, AllocError> {
     }
 }
 
+/// The words, borrowed.
 fn lent_words(alloc: Global, owned: &[String]) -> Result<Vec<&str>, AllocError> {
     owned.iter().map(|word| word.as_str()).collect(alloc)
 }
 
-// Says that memory was wanting where no status came. The line's own failure changes nothing.
+/// The exit code of this status. Without a status memory ran out: prints a line that says so, and ignores a failure of
+/// the output.
 fn ended<O: Out>(status: Result<u8, Memory>, out: &mut O) -> ExitCode {
     match status {
         Ok(status) => ExitCode::from(status),

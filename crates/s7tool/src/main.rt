@@ -1,4 +1,4 @@
-//! Runs scripts against controllers, and in rigs.
+//! Runs scripts against controllers and in rigs, and runs partners.
 #![tactic(auto)]
 
 use s7_client::Counter;
@@ -12,6 +12,7 @@ use std::net::{Net, TcpStream};
 use std::process::ExitCode;
 use std::rt::{Env, Runtime};
 
+/// Runs the program, and exits with its status.
 fn main(rt: HostRuntime) -> ExitCode {
     let mut out = StdOut::new(rt.stdout());
     match run(&rt, &mut out) {
@@ -23,7 +24,7 @@ fn main(rt: HostRuntime) -> ExitCode {
     }
 }
 
-// The status of what the words ask for.
+/// Runs the command that the words name, and returns its status.
 fn run<R, O>(rt: &R, out: &mut O) -> Result<u8, AllocError>
 where
     R: Runtime + AllocGlobal + Net<Stream = TcpStream>,
@@ -34,13 +35,13 @@ where
     let words = lent_words(alloc, owned.as_slice())?;
     let mut files = StdFiles::new(rt.clone()?);
     let mut dial = TcpDial::new(rt.clone()?);
-    // nobody is told of jobs but by what is printed
+    // // no completion: the results are only printed
     let done: Option<Counter> = None;
     let end = tool_main(alloc, words.as_slice(), &mut files, &mut dial, out, done);
     Ok(end.status)
 }
 
-// The words of the command line. Where one isn't UTF-8 there are none, which is no command either.
+/// The words of the command line. If one of them isn't UTF-8 there are none, and no words are no command.
 fn own_words<R: Env + AllocGlobal>(rt: &R) -> Result<Vec<String>, AllocError> {
     match env::args(rt) {
         Ok(words) => words.skip(1).collect(rt.alloc()),
@@ -49,6 +50,7 @@ fn own_words<R: Env + AllocGlobal>(rt: &R) -> Result<Vec<String>, AllocError> {
     }
 }
 
+/// The words, borrowed.
 fn lent_words(alloc: Global, owned: &[String]) -> Result<Vec<&str>, AllocError> {
     owned.iter().map(|word| word.as_str()).collect(alloc)
 }

@@ -1,4 +1,4 @@
-// What a message answers.
+//! Messages read as answers to reads, writes and the negotiation.
 ghost use Rattle.std.specs.Prelude.{◌≡◌, ◌==◌, ◌&&◌, if◌then◌else◌, List, ℕ, None, Some, IfSome, IfNone};
 ghost use Rattle.s7_header.specs.declared.negotiation.Negotiation.{Negotiation as Asking};
 ghost use Rattle.s7_dialogue.specs.Question.{Question, negotiates, reads, writes};
@@ -11,32 +11,32 @@ use s7_header::{Header, Kind, Negotiation, parts, read_header, read_negotiate};
 use s7_item::Items;
 use s7_item::codes::{READ_FUNCTION, WRITE_FUNCTION};
 
-/// What an outstanding telegram asks, as far as its answer depends on it.
+/// What an outstanding telegram asks, as far as reading its answer depends on it.
 #[derive(Default, Drop)]
 pub(crate) enum Asked {
-    /// A PDU and parallel jobs.
+    /// It negotiates the PDU and the parallel jobs.
     #[default]
     Negotiation,
-    /// The octets of these items.
+    /// It reads these items.
     Read(Items),
-    /// New octets for these items.
+    /// It writes these items.
     Write(Items),
 }
 
-/// What a message answers, with the data that it carries.
+/// The answer that a message is, with the data that it carries.
 #[derive(Drop)]
 pub(crate) enum Answer<'a> {
     /// The telegram was refused with this error word.
     Refused(u16),
     /// This was granted.
     Granted(Negotiation),
-    /// What a read's answer tells of its items.
+    /// The return codes and octets of the items that were read.
     Items(ItemAnswers<'a>),
     /// The return codes of a write.
     Codes(&'a [u8]),
 }
 
-/// The answer that the message is to a telegram of this sequence; `None` exactly where it is none.
+/// Reads the message as the answer to a telegram of this sequence; `None` exactly if it isn't an answer to it.
 #[tactic(auto, unfolding(crate::specs::Answer::answer_of))]
 pub(crate) fn read_answer<'a>(asked: &Asked, sequence: u16, message: &'a [u8]) -> Option<Answer<'a>>
     ensures some { (question : Question) → IsAsked asked.now question
@@ -58,7 +58,7 @@ pub(crate) fn read_answer<'a>(asked: &Asked, sequence: u16, message: &'a [u8]) -
     }
 }
 
-// The refusal that an acknowledgement without data is, where nothing follows its header.
+/// The refusal in an acknowledgement without data, if nothing follows its header.
 fn read_refusal<'a>(header: &Header) -> Option<Answer<'a>>
     ensures { (question : Question)
         → IsTold question result
@@ -71,7 +71,7 @@ fn read_refusal<'a>(header: &Header) -> Option<Answer<'a>>
     }
 }
 
-// What an acknowledgement with this error word, these parameters and data answers.
+/// The answer in an acknowledgement with this error word, these parameters and these data.
 fn read_acknowledgement<'a>(
     asked: &Asked,
     error: u16,
@@ -92,7 +92,7 @@ fn read_acknowledgement<'a>(
     }
 }
 
-// What is granted by parameters without data.
+/// The grant in these parameters, if there are no data.
 fn read_grant<'a>(params: &[u8], body: &[u8]) -> Option<Answer<'a>>
     ensures { (asked : Asking)
         → IsTold (negotiates asked) result (acknowledged (negotiates asked) params.now body.now) }
@@ -106,7 +106,7 @@ fn read_grant<'a>(params: &[u8], body: &[u8]) -> Option<Answer<'a>>
     }
 }
 
-// What the answer to a read of these items tells of them.
+/// The return codes and octets in the answer to a read of these items.
 fn read_data<'a>(items: &Items, params: &[u8], body: &'a [u8]) -> Option<Answer<'a>>
     ensures { IsTold (reads items.now) result (acknowledged (reads items.now) params.now body.now) }
 {
@@ -117,7 +117,7 @@ fn read_data<'a>(items: &Items, params: &[u8], body: &'a [u8]) -> Option<Answer<
     Some(Answer::Items(answers))
 }
 
-// The return codes of a write of these items.
+/// The return codes in the answer to a write of these items.
 fn read_codes<'a>(items: &Items, params: &[u8], body: &'a [u8]) -> Option<Answer<'a>>
     ensures { (octets : List ℕ)
         → IsTold (writes items.now octets) result
@@ -130,7 +130,7 @@ fn read_codes<'a>(items: &Items, params: &[u8], body: &'a [u8]) -> Option<Answer
     }
 }
 
-/// The parameters are the function and the number of items.
+/// Whether the parameters are the function and the number of these items.
 pub(crate) fn counts_items(function: u8, items: &Items, params: &[u8]) -> bool
     ensures { result ≡ counts_items function items.now params.now }
 {

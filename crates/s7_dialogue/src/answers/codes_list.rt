@@ -1,4 +1,4 @@
-// The return codes of at most twenty items.
+//! The return codes of at most twenty items.
 ghost use Rattle.std.specs.Prelude.{◌≡◌, ℕ, ◌≤◌, length, take, slice_index, slice_set, replicate};
 
 use std::marker::Model;
@@ -21,7 +21,7 @@ impl Model for Codes {
 }
 
 impl Codes {
-    /// So many codes, all 00.
+    /// A list of `len` codes, all 00.
     pub(crate) fn new(len: u8) -> Codes
         requires { len ≤ 20 }
         ensures { result ≡ replicate len 0 }
@@ -32,7 +32,7 @@ impl Codes {
         }
     }
 
-    /// Sets the code at a place, where there is one.
+    /// Sets the code with index `place`, if the list has one.
     pub(crate) fn set(&mut self, place: usize, code: u8)
         ensures { self.new ≡ slice_set self.old place code }
     {
@@ -48,7 +48,7 @@ impl Codes {
         &self.codes[..usize::from(self.len)]
     }
 
-    /// How many codes there are.
+    /// The number of codes.
     pub(crate) fn len(&self) -> u8
         ensures len { result ≡ length self.now }
         ensures most { result ≤ 20 }
@@ -56,7 +56,7 @@ impl Codes {
         self.len
     }
 
-    /// The codes in the first places, and 0 in the others.
+    /// The codes, followed by 0 up to twenty.
     pub(crate) fn places(&self) -> [u8; 20]
         ensures codes { take (length self.now) result ≡ self.now }
         ensures blank { (k : ℕ) → length self.now ≤ k → slice_index result k ≡ 0 }

@@ -1,4 +1,4 @@
-// What the data items of a read's answer tell.
+//! Collecting what the data items of read answers carry.
 ghost use Rattle.std.specs.Prelude.{◌≡◌, ◌+◌, ◌≤◌, ◌++◌, length, map, take, drop, slice_index};
 ghost use Rattle.s7_dialogue.specs.Answer as spelled;
 ghost use Rattle.s7_dialogue.specs.Checks.{octet_count_of};
@@ -10,8 +10,8 @@ use crate::answers::codes_list::Codes;
 use crate::answers::data_items::ItemAnswer;
 use s7_item::{Item, Items, is_good};
 
-/// Puts the return codes of the items at their places, and the octets of those that were read at
-/// theirs.
+/// Puts the return codes of the items into `codes` from index `place` on, and the octets of the items that were
+/// read into `found` from offset `from` on.
 pub(crate) fn place_items(
     items: &Items,
     answers: &[ItemAnswer<'_>],
@@ -37,7 +37,7 @@ pub(crate) fn place_items(
     }
 }
 
-/// Puts return codes at their places.
+/// Puts return codes into `codes` from index `place` on.
 pub(crate) fn place_codes(noted: &[u8], codes: &mut Codes, place: usize)
     requires { place + length noted.now ≤ usize.MAX }
     ensures { codes.new ≡ with_codes place noted.now codes.old }
@@ -47,7 +47,7 @@ pub(crate) fn place_codes(noted: &[u8], codes: &mut Codes, place: usize)
     }
 }
 
-/// Puts octets at a place.
+/// Copies octets into `found` at offset `at`.
 pub(crate) fn place_octets(octets: &[u8], found: &mut [u8], at: usize)
     requires { at + length octets.now ≤ length found.old }
     ensures octets { found.new ≡ take at found.old ++ octets.now ++ drop (at + length octets.now) found.old }
@@ -56,7 +56,7 @@ pub(crate) fn place_octets(octets: &[u8], found: &mut [u8], at: usize)
     found[at..at + octets.len()].copy_from_slice(octets);
 }
 
-/// Keeps the octets from one place to another, or as many of them as there are.
+/// Keeps the octets from offset `from` to offset `to`, or as many of them as there are, and drops the others.
 pub(crate) fn keep_octets(found: &mut Vec<u8>, from: usize, to: usize)
     ensures { found.new.items ≡ drop from (take to found.old.items) }
 {
@@ -67,7 +67,7 @@ pub(crate) fn keep_octets(found: &mut Vec<u8>, from: usize, to: usize)
     found.truncate(len - from);
 }
 
-/// Closes up the octets of the items whose code isn't FF.
+/// Removes the octets of the items whose code isn't FF.
 pub(crate) fn close_gaps(items: &[Item], codes: &[u8], found: &mut Vec<u8>)
     requires { octet_count_of items.now ≤ length found.old.items }
     ensures { found.new.items ≡ without_gaps items.now codes.now found.old.items }
@@ -85,7 +85,7 @@ pub(crate) fn close_gaps(items: &[Item], codes: &[u8], found: &mut Vec<u8>)
     found.truncate(to);
 }
 
-// The code at a place, and 00 where there is none.
+/// The code with this index; 00 if there is none.
 fn code_at(codes: &[u8], place: usize) -> u8
     ensures { result ≡ slice_index codes.now place }
 {

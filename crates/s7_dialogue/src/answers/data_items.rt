@@ -1,4 +1,4 @@
-// The data items of a read's answer.
+//! The data items of a read's answer.
 ghost use Rattle.std.specs.Prelude.{◌≡◌, ◌+◌, ◌≤◌, IsTrue, length, option_map};
 ghost use Rattle.s7_item.specs.Item.{octet_count};
 ghost use Rattle.s7_header.specs.Octets.{number_at};
@@ -10,29 +10,31 @@ use arrayvec::ArrayVec;
 use s7_item::codes::GOOD;
 use s7_item::{Item, Items, is_good, padding_of, stated_length, transport_of};
 
-/// The octets before those of an item: code, transport size and length.
+/// The number of octets before those of an item: code, transport size and length.
 const HEAD: usize = 4;
 
-/// What a read's answer tells of one item.
+/// The answer for one item of a read.
 #[derive(Clone, Copy, Default)]
 pub(crate) struct ItemAnswer<'a> {
-    /// FF where the item was read.
+    /// FF if the item was read, else the code that refuses it.
     pub(crate) code: u8,
-    /// The item's octets, none where it was refused.
+    /// The item's octets; none if it was refused.
     pub(crate) octets: &'a [u8],
 }
 
-/// What it tells of its items, in order.
+/// The answers for the items of a read, in order.
 pub(crate) type ItemAnswers<'a> = ArrayVec<ItemAnswer<'a>, 20>;
 
-/// What a data item tells, and the octets of those that follow it.
+/// The answer of the first data item, and the octets of the data items that follow it.
 #[derive(Clone, Copy)]
 pub(crate) struct First<'a> {
+    /// The answer in the first data item.
     pub(crate) answer: ItemAnswer<'a>,
+    /// The octets of the data items after it.
     pub(crate) rest: &'a [u8],
 }
 
-/// The answers for these items that the octets are; `None` exactly where they are none.
+/// Reads the octets as the answers for these items; `None` exactly if they aren't.
 pub(crate) fn read_item_answers<'a>(items: &Items, octets: &'a [u8]) -> Option<ItemAnswers<'a>>
     ensures { option_map (λ answers. answers_in answers.items) result ≡ item_answers items.now octets.now }
 {
@@ -46,8 +48,8 @@ pub(crate) fn read_item_answers<'a>(items: &Items, octets: &'a [u8]) -> Option<I
     if rest.is_empty() { Some(answers) } else { None }
 }
 
-/// The data item for this item, the last one or not, that the octets begin with; `None` exactly
-/// where they begin with no such data item.
+/// Reads the data item for this item at the beginning of the octets; `last` says whether it is the last. `None`
+/// exactly if the octets don't begin with such a data item.
 pub(crate) fn first_item<'a>(item: &Item, last: bool, octets: &'a [u8]) -> Option<First<'a>>
     ensures { option_map first_told result ≡ first_of item.now last octets.now }
 {
@@ -71,7 +73,7 @@ pub(crate) fn first_item<'a>(item: &Item, last: bool, octets: &'a [u8]) -> Optio
     None
 }
 
-// The octets begin with the data item of this item, which was read.
+/// Whether the octets begin with the data item of this item, and it was read.
 fn begins_read(item: &Item, last: bool, octets: &[u8]) -> bool
     ensures begins { result ≡ begins_read item.now last octets.now }
     ensures fits { IsTrue result
@@ -85,7 +87,7 @@ fn begins_read(item: &Item, last: bool, octets: &[u8]) -> bool
         && stated_by(octets) == stated_length(transport, count)
 }
 
-// The octets begin with the data item of an item that was refused.
+/// Whether the octets begin with the data item of an item that was refused.
 fn begins_refused(octets: &[u8]) -> bool
     ensures begins { result ≡ begins_refused octets.now }
     ensures fits { IsTrue result → 4 ≤ length octets.now }
@@ -93,7 +95,7 @@ fn begins_refused(octets: &[u8]) -> bool
     octets.len() >= HEAD && !is_good(octets[0]) && octets[1] == 0x00 && stated_by(octets) == 0
 }
 
-// The length that a data item states.
+/// The length that a data item states.
 fn stated_by(octets: &[u8]) -> usize
     requires { 4 ≤ length octets.now }
     ensures { result ≡ number_at octets.now 2 }

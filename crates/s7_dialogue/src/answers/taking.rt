@@ -1,4 +1,4 @@
-// What an answer comes to.
+//! The effect of an answer on a job.
 ghost use Rattle.std.specs.Prelude.{◌≡◌, ◌≤◌, Bool, IfSome, List, true};
 ghost use Rattle.s7_item.specs.declared.item.Item.{Item};
 ghost use Rattle.s7_header.specs.declared.negotiation.Negotiation.{Negotiation};
@@ -23,9 +23,10 @@ use crate::refusals::{number_of_code, number_of_error};
 use crate::stages::asking::Refused;
 use s7_header::Negotiation;
 
+/// The least PDU that a grant may have.
 const LEAST_PDU: u16 = 64;
 
-/// Each item of the job is asked for alone.
+/// Whether each telegram of the job asks for one item.
 pub(crate) fn is_alone(job: &Job) -> bool
     ensures { result ≡ is_alone job.now }
 {
@@ -46,7 +47,8 @@ pub(crate) fn octets_of(job: &Job) -> &[u8]
     }
 }
 
-/// The number of the refusal that the answer is, for one item or for all of its telegram.
+/// The error number if the answer refuses: the one item, if `alone`, or else the whole telegram. `None` if it
+/// doesn't refuse.
 pub(crate) fn refusal_of(alone: bool, answer: &Answer<'_>) -> Option<u32>
     ensures { (write : Bool) (items : List Item) (x : spelled.Answer) → TellsFor write items answer.now x
         → result ≡ refusal_by alone x }
@@ -65,7 +67,7 @@ pub(crate) fn refusal_of(alone: bool, answer: &Answer<'_>) -> Option<u32>
     }
 }
 
-// The number of a return code that isn't FF.
+/// The error number of a return code that isn't FF; `None` for FF.
 fn code_refusal(code: u8) -> Option<u32>
     ensures { result ≡ code_refusal code }
 {
@@ -76,7 +78,7 @@ fn code_refusal(code: u8) -> Option<u32>
     }
 }
 
-// The number of the one item's code.
+/// The error number of the code of the one item; `None` if it was read.
 fn item_refusal(answers: &[ItemAnswer<'_>]) -> Option<u32>
     ensures { result ≡ refusal_by true (spelled.tells (answers_in answers.now)) }
 {
@@ -86,7 +88,7 @@ fn item_refusal(answers: &[ItemAnswer<'_>]) -> Option<u32>
     }
 }
 
-// The number of the one code.
+/// The error number of the one code; `None` if the item was written.
 fn first_refusal(codes: &[u8]) -> Option<u32>
     ensures { result ≡ refusal_by true (spelled.notes codes.now) }
 {
@@ -96,8 +98,8 @@ fn first_refusal(codes: &[u8]) -> Option<u32>
     }
 }
 
-/// The number that the refusal of the question at a place ends the job with: in a write of several
-/// parts, another one after the first.
+/// The error number with which the job ends if this question was refused. In a write of several parts it is another
+/// number after the first part.
 pub(crate) fn number_by(job: &Job, refused: Refused) -> u32
     ensures { result ≡ number_of job.now refused.place refused.number }
 {
@@ -113,7 +115,7 @@ pub(crate) fn number_by(job: &Job, refused: Refused) -> u32
     }
 }
 
-/// The number and what it leaves, by the answer to the negotiation.
+/// The error number and what the job leaves, by the answer to the negotiation.
 pub(crate) fn negotiated(config: &Config, answer: &Answer<'_>) -> (u32, Leaves)
     requires pdu { config.now.pdu ≤ most_pdu }
     requires jobs { config.now.jobs ≤ 8 }
@@ -130,7 +132,7 @@ pub(crate) fn negotiated(config: &Config, answer: &Answer<'_>) -> (u32, Leaves)
     }
 }
 
-// The grant that is taken: a PDU from 64 to the one asked for, and jobs up to those asked for.
+/// The grant, if it is acceptable: a PDU from 64 to the one asked for. It has at most the jobs asked for.
 fn taken_grant(config: &Config, granted: &Negotiation) -> Option<Grant>
     requires pdu { config.now.pdu ≤ most_pdu }
     requires jobs { config.now.jobs ≤ 8 }

@@ -1,4 +1,4 @@
-// What is checked of a job before anything is sent.
+//! The checks of a job before anything is sent. Each gives 0 or an error number.
 ghost use Rattle.std.specs.Prelude.{◌≡◌, ◌+◌, ◌*◌, ◌<◌, ◌≤◌, length, take};
 ghost use Rattle.std.specs.List.{list_all};
 ghost use Rattle.s7_split.specs.Parts.{range_end};
@@ -17,14 +17,14 @@ use s7_split::{Groups, pack};
 /// One more than the highest address.
 const ADDRESSES: u64 = 0x0100_0000;
 
-/// The fewest octets of an image.
+/// The least number of octets of an image.
 const LEAST_IMAGE: usize = 36;
 
-/// The most octets of a password.
+/// The greatest number of octets of a password.
 const MOST_PASSWORD: usize = 8;
 
-/// The check of a read or write of one item: `has_octets` says whether a write has as many octets
-/// as the item, and is true of a read.
+/// Checks a read or write of one item. `has_octets` says whether a write has the item's number of octets; it is
+/// true for a read.
 pub(crate) fn check_item(item: &Item, has_octets: bool) -> u32
     ensures { result ≡ check_item item.now has_octets }
 {
@@ -37,8 +37,7 @@ pub(crate) fn check_item(item: &Item, has_octets: bool) -> u32
     }
 }
 
-/// The check of a read or write of several items. Where all is well, `groups` holds where the groups
-/// of the items end.
+/// Checks a read or write of several items. If it gives 0, `groups` holds where the groups of the items end.
 pub(crate) fn check_items(
     items: &[Item],
     has_octets: bool,
@@ -65,7 +64,7 @@ pub(crate) fn check_items(
     }
 }
 
-/// The check of a moment that a clock is set to.
+/// Checks a time to which a clock is to be set.
 pub(crate) fn check_moment(moment: u64) -> u32
     ensures { result ≡ check_moment moment }
 {
@@ -76,7 +75,7 @@ pub(crate) fn check_moment(moment: u64) -> u32
     }
 }
 
-/// The check of a password.
+/// Checks the length of a password.
 pub(crate) fn check_password(text: &[u8]) -> u32
     ensures { result ≡ check_password text.now }
 {
@@ -87,7 +86,7 @@ pub(crate) fn check_password(text: &[u8]) -> u32
     }
 }
 
-/// The check of the image of a block.
+/// Checks the image of a block.
 #[tactic(auto, unfolding(s7_block::specs::Heads::head_agrees))]
 pub(crate) fn check_image(image: &[u8]) -> u32
     ensures { result ≡ check_image image.now }
@@ -103,19 +102,21 @@ pub(crate) fn check_image(image: &[u8]) -> u32
     }
 }
 
+/// Whether all word lengths are known.
 fn are_known(items: &[Item]) -> bool
     ensures { result ≡ list_all is_known items.now }
 {
     items.iter().all(|item| is_known(item))
 }
 
+/// Whether `is_placed` is true of all items.
 fn are_placed(items: &[Item]) -> bool
     ensures { result ≡ list_all is_placed items.now }
 {
     items.iter().all(|item| is_placed(item))
 }
 
-/// How many octets the items have together.
+/// The number of octets of all items together.
 pub(crate) fn octet_count_of(items: &[Item]) -> usize
     requires { length items.now ≤ 20 }
     ensures count { result ≡ octet_count_of items.now }
@@ -128,21 +129,21 @@ pub(crate) fn octet_count_of(items: &[Item]) -> usize
     count
 }
 
-// The word is known.
+/// Whether the word length is known.
 fn is_known(item: &Item) -> bool
     ensures { result ≡ is_known item.now }
 {
     size_of(item.word).is_some()
 }
 
-// There are elements, exactly one if they are bits, and the range ends inside the address field.
+/// Whether there are elements, exactly one if they are bits, and the range ends inside the address field.
 fn is_placed(item: &Item) -> bool
     ensures { result ≡ is_placed item.now }
 {
     item.count != 0 && (item.word != BIT || item.count == 1) && range_end(item) <= ADDRESSES
 }
 
-// The first address that the item doesn't touch.
+/// The first address after the item's range.
 fn range_end(item: &Item) -> u64
     ensures { result ≡ range_end item.now }
 {

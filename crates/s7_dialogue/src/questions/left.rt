@@ -1,4 +1,4 @@
-// What is left to ask of a job.
+//! What a job still has to ask.
 ghost use Rattle.std.specs.Prelude.{◌≡◌, ◌<◌, ◌≤◌, ◌∷◌, [], length, take, slice_get, IfSome, IfNone};
 ghost use Rattle.std.specs.List.{between};
 ghost use Rattle.s7_dialogue.specs.Left.{groups_in, questions_left, TakesNext};
@@ -7,10 +7,10 @@ use crate::answers::answer::Asked;
 use s7_item::{Item, Items};
 use s7_split::{Groups, Parts};
 
-/// The questions that are still to be asked, in order.
+/// The questions still to be asked, in order.
 #[derive(Drop)]
 pub(crate) enum Left {
-    /// None.
+    /// No question.
     Nothing,
     /// The negotiation.
     Negotiation,
@@ -23,10 +23,10 @@ pub(crate) enum Left {
 /// Groups of items, in order.
 #[derive(Drop)]
 pub(crate) enum Grouped {
-    /// The parts of one item, each alone.
+    /// The parts of one item; each is a group.
     Parts(Parts),
-    /// Of these items, cut where the groups end, the groups from the one at place `next` on. It
-    /// begins at the item at place `from`.
+    /// The groups of these items, cut at their ends, from the group with index `next` on. That group begins with
+    /// the item of index `from`.
     Groups {
         items: Items,
         groups: Groups,
@@ -90,7 +90,7 @@ impl Grouped {
     }
 }
 
-/// A group of one item.
+/// A group of this item alone.
 pub(crate) fn alone(item: Item) -> Items
     ensures { result ≡ item ∷ [] }
 {
@@ -99,7 +99,7 @@ pub(crate) fn alone(item: Item) -> Items
     group
 }
 
-// Where the group at a place ends.
+/// The index at which the group with this index ends, if there is one.
 fn end_of(groups: &Groups, place: u8) -> Option<u8>
     ensures end { result ≡ slice_get (take groups.now.count groups.now.ends) place }
     ensures few { IfSome result (λ end. place < 20) }
@@ -111,7 +111,7 @@ fn end_of(groups: &Groups, place: u8) -> Option<u8>
     }
 }
 
-// The items from a place on that end before another.
+/// The items from index `from` up to index `end`, exclusive.
 fn items_between(items: &Items, from: u8, end: u8) -> Items
     ensures { result ≡ between from end items.now }
 {
@@ -121,7 +121,7 @@ fn items_between(items: &Items, from: u8, end: u8) -> Items
     items_of(&all[low..high])
 }
 
-/// The items of a slice, at most twenty.
+/// The items of a slice of at most twenty.
 pub(crate) fn items_of(slice: &[Item]) -> Items
     requires { length slice.now ≤ 20 }
     ensures { result ≡ slice.now }

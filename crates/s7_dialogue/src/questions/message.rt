@@ -1,4 +1,4 @@
-// The messages of questions.
+//! Writing the messages of questions.
 ghost use Rattle.std.specs.Prelude.{◌≡◌, ◌+◌, ◌^◌, ◌<◌, ◌≤◌, ◌++◌, All, length, map, is_some, true, false};
 ghost use Rattle.s7_header.specs.Header.{header_len, spelling_of};
 ghost use Rattle.s7_header.specs.Negotiation.{most_pdu};
@@ -16,10 +16,10 @@ use s7_item::codes::{READ_FUNCTION, REQUESTED, WRITE_FUNCTION};
 use s7_item::{Item, Items, request_size, write_data_item, write_items};
 use s7_outer::Buffer;
 
-/// The longest message that a client sends, in octets.
+/// The greatest length of a message that a client sends, in octets.
 pub const MOST_MESSAGE: usize = MOST_PDU as usize;
 
-/// Writes the negotiation as the one message that the buffer holds.
+/// Writes the request for the negotiation as the only message in the buffer.
 pub(crate) fn write_negotiation(asked: &Negotiation, sequence: u16, message: &mut Buffer)
     requires { message.old.room ≡ most_pdu }
     ensures octets { message.new.octets ≡ question_octets sequence (negotiates asked.now) }
@@ -30,7 +30,7 @@ pub(crate) fn write_negotiation(asked: &Negotiation, sequence: u16, message: &mu
     begin_message(Kind::Job, sequence, &params, 0, message);
 }
 
-/// Writes the read of these items as the one message that the buffer holds.
+/// Writes the read request for these items as the only message in the buffer.
 pub(crate) fn write_read(items: &Items, sequence: u16, message: &mut Buffer)
     requires some { 0 < length items.now }
     requires addresses { All (λ item. item.address < 2 ^ 24) items.now }
@@ -42,8 +42,8 @@ pub(crate) fn write_read(items: &Items, sequence: u16, message: &mut Buffer)
     begin_items(READ_FUNCTION, items, sequence, 0, message);
 }
 
-/// Writes the write of these items, whose words are known, with the octets of all of them joined, as
-/// the one message that the buffer holds.
+/// Writes the write request for these items as the only message in the buffer. Their word lengths are known, and
+/// `octets` are the octets of all of them joined.
 pub(crate) fn write_write(items: &Items, octets: &[u8], sequence: u16, message: &mut Buffer)
     requires some { 0 < length items.now }
     requires addresses { All (λ item. item.address < 2 ^ 24) items.now }
@@ -59,7 +59,7 @@ pub(crate) fn write_write(items: &Items, octets: &[u8], sequence: u16, message: 
     add_data_items(items.as_slice(), octets, message);
 }
 
-// Begins the message of a job for items, with data of so many octets.
+/// Begins the message of a job for items, whose data have `body_len` octets.
 fn begin_items(function: u8, items: &Items, sequence: u16, body_len: u16, message: &mut Buffer)
     requires some { 0 < length items.now }
     requires addresses { All (λ item. item.address < 2 ^ 24) items.now }
@@ -74,7 +74,8 @@ fn begin_items(function: u8, items: &Items, sequence: u16, body_len: u16, messag
     begin_message(Kind::Job, sequence, &params[..len], body_len, message);
 }
 
-/// Begins a message without an error: its header, and these parameters, which data of so many octets follow.
+/// Begins a message without an error word: its header and these parameters. Data of `body_len` octets are to
+/// follow.
 pub(crate) fn begin_message(
     kind: Kind,
     sequence: u16,
@@ -108,7 +109,7 @@ pub(crate) fn begin_message(
     message.add(params);
 }
 
-// Adds a data item for each item, with its octets from those of all items.
+/// Appends a data item for each item, with its octets out of those of all items.
 fn add_data_items(items: &[Item], octets: &[u8], message: &mut Buffer)
     requires known { All (λ item. is_known item ≡ true) items.now }
     requires all { length octets.now ≡ octet_count_of items.now }
@@ -126,7 +127,7 @@ fn add_data_items(items: &[Item], octets: &[u8], message: &mut Buffer)
     }
 }
 
-// Adds the data item of an item of this word with these octets, the last one or not.
+/// Appends the data item of an item of this word length with these octets; `last` says whether it is the last.
 fn add_data_item(word: u8, octets: &[u8], last: bool, message: &mut Buffer)
     requires known { is_some (size_of word) ≡ true }
     requires fits { length message.old.octets

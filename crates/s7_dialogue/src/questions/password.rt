@@ -1,12 +1,12 @@
-// Passwords on their way (Snap7 1.4 sources, `TSnap7MicroClient::opSetPassword`).
+//! Passwords as they are sent (Snap7 1.4 sources, `TSnap7MicroClient::opSetPassword`).
 ghost use Rattle.std.specs.Prelude.{◌≡◌, ◌<◌, ◌≤◌, length};
 ghost use Rattle.s7_dialogue.specs.UserData.{encoded, filled_text};
 
-/// With this each octet of a password is masked.
+/// The octet with which each octet of a password is masked.
 const MASK: u8 = 0x55;
 
-/// The octets of a password on its way, of a text of at most eight: it is filled up with blanks, each
-/// octet is masked, and from the third on masked again with the masked octet two before it.
+/// The octets in which a password of 1 to 8 octets is sent. It is padded with blanks. Each octet is masked, and
+/// from the third on masked again with the masked octet two before it.
 pub(crate) fn encoded(text: &[u8]) -> [u8; 8]
     requires some { 0 < length text.now }
     requires most { length text.now ≤ 8 }
@@ -17,6 +17,7 @@ pub(crate) fn encoded(text: &[u8]) -> [u8; 8]
     masked(&filled)
 }
 
+/// Masks a password of eight octets.
 fn masked(text: &[u8; 8]) -> [u8; 8]
     ensures { result ≡ encoded text.now }
 {

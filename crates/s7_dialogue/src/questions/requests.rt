@@ -1,5 +1,5 @@
-// User data, controls, uploads, downloads and parts of data blocks: the questions of jobs that ask one at a time
-// (Snap7 1.4 sources, s7_types.h: TReqFunTypedParams, and the data that follow it).
+//! The questions of jobs that ask one at a time: user data, controls, uploads, downloads and parts of data blocks
+//! (Snap7 1.4 sources, s7_types.h: TReqFunTypedParams, and the data that follow it).
 ghost use Rattle.std.specs.Prelude.{◌≡◌, ℕ, ◌++◌, ◌<◌, ◌≤◌, true, [], List, length};
 ghost use Rattle.s7_header.specs.declared.header.Kind.TheVariants as kind;
 ghost use Rattle.s7_header.specs.UserParams.{user_spelling, HasForm};
@@ -27,20 +27,20 @@ use s7_clock::{Control, date_of, to_octets, write_control};
 use s7_header::{Kind, UserParams, write_user};
 use s7_outer::Buffer;
 
-/// The id of the list that tells whether the controller runs.
+/// The id of the list that says whether the controller runs.
 const RUN_STATE: u16 = 0x0424;
 
-/// What stands before the kind of blocks.
+/// The octet before the kind of blocks.
 const MARK: u8 = 0x30;
 
-/// Where a block is whose head or image is asked for.
+/// The location of a block whose head or image is asked for.
 const AT_A: u8 = 0x41;
 
 /// The kind of data blocks.
 const DATA_BLOCK: u8 = 0x41;
 
-/// Writes the message of what the job asks as the one message that the buffer holds, which is empty where none goes
-/// out for it.
+/// Writes the message of this question as the only message in the buffer. The buffer is empty if the question has
+/// none.
 pub(crate) fn write_single(job: &Job, ask: &Ask, sequence: u16, message: &mut Buffer)
     requires asks { (found : ℕ) × (can_ask_single job.now found ask.now ≡ true) }
     requires room { message.old.room ≡ most_pdu }
@@ -82,7 +82,7 @@ pub(crate) fn image_of(job: &Job) -> &[u8]
     }
 }
 
-// Writes the call that inserts the block of this image.
+/// Writes the control that inserts the block of this image.
 fn write_insert(image: &[u8], sequence: u16, message: &mut Buffer)
     requires least { 36 ≤ length image.now }
     requires room { message.old.room ≡ most_pdu }
@@ -98,7 +98,7 @@ fn write_insert(image: &[u8], sequence: u16, message: &mut Buffer)
     write_call(&insertion, sequence, message);
 }
 
-// The block that the job uploads.
+/// The name of the block that the job uploads.
 fn block_of(job: &Job) -> BlockName
     ensures { result ≡ block_of job.now }
 {
@@ -111,7 +111,7 @@ fn block_of(job: &Job) -> BlockName
     }
 }
 
-// Writes the call of a control.
+/// Writes a control.
 fn write_call(control: &Control, sequence: u16, message: &mut Buffer)
     requires room { message.old.room ≡ most_pdu }
     ensures octets { message.new.octets ≡ message_octets kind.Job sequence (control_spelling control.now) [] }
@@ -123,7 +123,7 @@ fn write_call(control: &Control, sequence: u16, message: &mut Buffer)
     begin_message(Kind::Job, sequence, &params[..len], 0, message);
 }
 
-// Writes the request for the head of the data block of this number.
+/// Writes the request for the head of the data block of this number.
 fn write_head(number: u16, sequence: u16, message: &mut Buffer)
     requires { message.old.room ≡ most_pdu }
     ensures octets { message.new.octets ≡ message_octets kind.User sequence
@@ -143,7 +143,7 @@ fn write_head(number: u16, sequence: u16, message: &mut Buffer)
     );
 }
 
-// Writes the request for user data, with the octets that the job sends.
+/// Writes the request for user data, with the octets that the job sends.
 fn write_request(subject: Subject, job: &Job, sequence: u16, message: &mut Buffer)
     requires well { is_sent_well job.now ≡ true }
     requires room { message.old.room ≡ most_pdu }
@@ -176,7 +176,7 @@ fn write_request(subject: Subject, job: &Job, sequence: u16, message: &mut Buffe
     }
 }
 
-// Writes the request for the next octets of an answer with this sequence octet.
+/// Writes the request for the next octets of an answer, with its sequence octet.
 fn write_further(subject: Subject, octet: u8, sequence: u16, message: &mut Buffer)
     requires { message.old.room ≡ most_pdu }
     ensures octets { message.new.octets ≡ message_octets kind.User sequence
@@ -192,7 +192,7 @@ fn write_further(subject: Subject, octet: u8, sequence: u16, message: &mut Buffe
     write_user_data(&params, &[], sequence, message);
 }
 
-// The parameters of a request.
+/// The parameters of a request for this subject.
 fn request_params(subject: Subject) -> UserParams
     ensures { result ≡ request_params subject }
 {
@@ -207,7 +207,7 @@ fn request_params(subject: Subject) -> UserParams
     }
 }
 
-// The id and the index of a status list.
+/// The id and the index of a status list.
 fn list_octets(id: u16, index: u16) -> [u8; 4]
     ensures { result ≡ list_octets id index }
 {
@@ -216,7 +216,7 @@ fn list_octets(id: u16, index: u16) -> [u8; 4]
     [id_high, id_low, index_high, index_low]
 }
 
-// The name of a block that is in the controller's memory.
+/// The name of a block in the controller's memory.
 fn block_octets(name: BlockName) -> [u8; NAME]
     ensures { result ≡ block_octets name.kind name.number }
 {
@@ -225,7 +225,7 @@ fn block_octets(name: BlockName) -> [u8; NAME]
     octets
 }
 
-// Writes user data with these parameters and octets.
+/// Writes user data with these parameters and these octets.
 fn write_user_data(params: &UserParams, octets: &[u8], sequence: u16, message: &mut Buffer)
     requires form { HasForm params.now }
     requires few { length octets.now ≤ 10 }
@@ -244,7 +244,7 @@ fn write_user_data(params: &UserParams, octets: &[u8], sequence: u16, message: &
     message.add(octets);
 }
 
-// What stands before so many octets in the data.
+/// The data's octets before their content of `len` octets.
 fn data_head(len: u16) -> [u8; 4]
     ensures { (octets : List ℕ) → length octets ≡ len → data_of octets ≡ result ++ octets }
 {

@@ -1,4 +1,4 @@
-// What user data is about.
+//! The subjects of user data.
 ghost use Rattle.std.specs.Prelude.{◌≡◌};
 
 /// What a telegram of user data asks for.
@@ -6,30 +6,30 @@ ghost use Rattle.std.specs.Prelude.{◌≡◌};
 pub(crate) enum Subject {
     /// The status list of an id and an index.
     StatusList,
-    /// The status list that tells whether the controller runs.
+    /// The status list that says whether the controller runs.
     RunState,
-    /// How many blocks there are of each kind.
+    /// The number of blocks of each kind.
     BlockCounts,
     /// The blocks of a kind.
     BlocksOfKind,
     /// The head of a block.
     BlockHead,
-    /// The head of a data block that is read or filled whole.
+    /// The head of a data block that is to be read or filled whole.
     DataHead,
-    /// What the clock shows.
+    /// The time of the clock.
     Clock,
-    /// That the clock shows something else.
+    /// The setting of the clock.
     ClockSetting,
-    /// The right that a password gives.
+    /// A password, which gives a right.
     Password,
-    /// That the right is given back.
+    /// Giving up the right of a password.
     PasswordClearing,
 }
 
 impl Subject {
     ghost use Rattle.s7_dialogue.specs.UserData.{group_of, subfunction_of, comes_in_pieces, lead_of};
 
-    /// The group of a request: 43 blocks, 44 status lists, 45 security, 47 the clock.
+    /// The group of a request: 43 for blocks, 44 for status lists, 45 for security, 47 for the clock.
     pub(crate) fn group(self) -> u8
         ensures { result ≡ group_of self }
     {
@@ -57,7 +57,7 @@ impl Subject {
         }
     }
 
-    /// There may be more of an answer than one telegram takes.
+    /// Whether an answer may be longer than one telegram.
     pub(crate) fn comes_in_pieces(self) -> bool
         ensures { result ≡ comes_in_pieces self }
     {
@@ -72,7 +72,7 @@ impl Subject {
         )
     }
 
-    /// How many octets of a whole answer stand before what was asked for.
+    /// The number of octets of a whole answer that come before the octets asked for.
     pub(crate) fn lead(self) -> usize
         ensures { result ≡ lead_of self }
     {

@@ -1,4 +1,4 @@
-// What a job asks.
+//! A job that may ask several questions at a time.
 ghost use Rattle.std.specs.Prelude.{◌≡◌, ◌+◌, ◌<◌, ◌≤◌, length};
 ghost use Rattle.s7_dialogue.specs.Checks.{octet_count_of};
 ghost use Rattle.s7_dialogue.specs.Course.{next_sequence};
@@ -9,27 +9,33 @@ use crate::questions::checks::octet_count_of;
 use crate::questions::left::Left;
 use crate::stages::flight::{Flight, Flights};
 
-/// An answer that refused: the place of its question, and the number of its error.
+/// A refused question: its index among the questions of the job, and the error number.
 #[derive(Clone, Copy)]
 pub(crate) struct Refused {
+    /// The index of the question.
     pub(crate) place: usize,
+    /// The error number.
     pub(crate) number: u32,
 }
 
-/// What a job has asked and has left to ask.
+/// What a job has asked, and what it still has to ask.
 #[derive(Drop)]
 pub struct Asking {
-    /// How many telegrams may be unanswered, from 1 to 8.
+    /// How many telegrams may be unanswered at a time, from 1 to 8.
     pub(crate) width: usize,
+    /// The telegrams in flight.
     pub(crate) flights: Flights,
-    /// How many of the last of these weren't put to be sent yet.
+    /// How many of the last telegrams in flight weren't queued yet.
     pub(crate) unput: usize,
+    /// The questions left to ask.
     pub(crate) left: Left,
-    /// How many questions went out, and how many octets and items they have.
+    /// How many questions were asked.
     pub(crate) place: usize,
+    /// How many octets these questions have.
     pub(crate) from: usize,
+    /// How many items these questions have.
     pub(crate) item: usize,
-    /// Of the answers that refused, the one whose question comes first.
+    /// The refusal whose question comes first, among those so far.
     pub(crate) refused: Option<Refused>,
     ghost least_width: { 1 ≤ width },
     ghost most_width: { width ≤ 8 },
@@ -55,7 +61,7 @@ impl Asking {
     ghost use Rattle.s7_dialogue.specs.Asks.{TakesFirst, Refuses};
     ghost use Rattle.s7_dialogue.specs.GoesOn.{Conducts, HasAsked};
 
-    /// Nothing was asked yet.
+    /// A job that has asked nothing yet.
     pub(crate) fn new(width: usize, left: Left) -> Asking
         requires least { 1 ≤ width }
         requires most { width ≤ 8 }
@@ -74,8 +80,8 @@ impl Asking {
         }
     }
 
-    /// Asks all questions that may go out, under the sequences after this one, and gives the last
-    /// sequence.
+    /// Asks all questions that may be asked now, under the sequences after `sequence`. Returns the last sequence
+    /// used, or `sequence` if nothing is asked.
     pub(crate) fn ask_on(&mut self, sequence: u16) -> u16
         ensures asks { (config : Config) (granted : Option Grant) (job : Job) (found codes : List ℕ) (course : Course)
             → Conducts config granted course.rows course.rows job found codes self.old → course.sequence ≡ sequence
@@ -95,7 +101,8 @@ impl Asking {
         last
     }
 
-    // Asks the next question that may go out, under the sequence after this one.
+    /// Asks the next question that may be asked now, under the sequence after `sequence`, and returns that
+    /// sequence. `None` if none may be asked.
     fn ask(&mut self, sequence: u16) -> Option<u16>
         ensures some { IfSome result (λ next. (next ≡ next_sequence sequence) × AsksNext self.old next self.new) }
         ensures none { IfNone result (MayAskNone self.old) }
@@ -112,7 +119,7 @@ impl Asking {
         Some(next)
     }
 
-    // A question goes out under this sequence.
+    /// Notes that a question is asked under this sequence.
     fn push(&mut self, asked: Asked, sequence: u16)
         requires fewer { length self.old.flights.items < self.old.width }
         requires places { self.old.place + 1 + questions_left self.old.left ≤ most_parts }
@@ -136,7 +143,8 @@ impl Asking {
         self.item += items;
     }
 
-    /// Takes the first telegram that the message answers, with its answer.
+    /// Finds the first telegram in flight that the message answers, and removes it. Returns it with its answer;
+    /// `None` if there is none.
     pub(crate) fn answered<'a>(&mut self, message: &'a [u8]) -> Option<(Flight, Answer<'a>)>
         ensures some { IfSome result (λ taken. TakesFirst message.now self.old self.new taken.0 taken.1) }
         ensures none { IfNone result (AllByRecursion (IsSilent message.now) self.old.flights.items) }
@@ -151,7 +159,7 @@ impl Asking {
         None
     }
 
-    // Takes the telegram at a place.
+    /// Removes the telegram with this index from those in flight.
     fn remove(&mut self, place: usize) -> Flight
         requires { place < length self.old.flights.items }
         ensures taken { result ≡ slice_index_or self.old.flights.items place result }
@@ -161,12 +169,12 @@ impl Asking {
         ensures refused { self.new.refused ≡ self.old.refused }
     {
         let flight = self.flights.remove(place);
-        // No more wait to be put than are out.
+        // Only telegrams in flight can wait to be queued.
         self.unput = self.unput.min(self.flights.len());
         flight
     }
 
-    /// An answer to the question at this place refused with this number.
+    /// Notes that the question with this index was refused with this error number.
     pub(crate) fn refuse(&mut self, place: usize, number: u32)
         ensures { Refuses self.old place number self.new }
     {
@@ -191,7 +199,7 @@ pub(crate) fn sequence_after(sequence: u16) -> u16
     }
 }
 
-// How many items a question has.
+/// The number of items of a question.
 fn items_in(asked: &Asked) -> usize
     ensures { result ≡ length (items_asked asked.now) }
 {
@@ -201,7 +209,7 @@ fn items_in(asked: &Asked) -> usize
     }
 }
 
-// How many octets it reads or writes.
+/// The number of octets that a question reads or writes.
 fn octets_in(asked: &Asked) -> usize
     ensures { result ≡ octet_count_of (items_asked asked.now) }
 {

@@ -1,4 +1,4 @@
-// How a job goes on from answer to answer.
+//! The progress of a job from answer to answer.
 ghost use Rattle.std.specs.Prelude.{◌≡◌, ℕ, ◌+◌, ◌-◌, ◌<◌, ◌≤◌, true, false, List, [], ◌++◌, length, take, drop};
 ghost use Rattle.std.specs.Prelude.{Option, None, Some, IfSome, IfNone, OnSome, IfOk, IfErr};
 ghost use Rattle.std.specs.Option.{ForSome};
@@ -45,8 +45,7 @@ use s7_outer::{Buffer, Octets};
 use std::alloc::Global;
 
 impl Running {
-    /// Begins a job on a client to which this was granted, or hands it back where there is no memory
-    /// for what it will bring.
+    /// Begins a job on a client with this grant. Hands the job back if an allocation fails for what it will read.
     pub fn begin(alloc: Global, granted: Option<Grant>, job: Job) -> Result<Running, Job>
         requires granted { ForSome granted IsGrant }
         ensures begins { IfOk result (λ r. (config : Config) → Begins r config granted) }
@@ -70,8 +69,9 @@ impl Running {
         })
     }
 
-    /// Asks all questions that may go out, under the sequences after this one, and gives the last
-    /// sequence. The job is over where no telegram is unanswered then. Where it asks nothing, all stays as it is.
+    /// Asks all questions that may be asked now, under the sequences after `sequence`, and returns the last
+    /// sequence used. The job is over if no telegram is unanswered then. If the job asks no questions at this
+    /// stage, nothing changes.
     pub fn go_on(&mut self, sequence: u16) -> u16
         ensures reached { (config : Config) (granted : Option Grant) (course : Course)
             → Follows self.old config granted course.rows → course.sequence ≡ sequence
@@ -97,8 +97,8 @@ impl Running {
         }
     }
 
-    /// Writes the message of the next telegram that is to be put, as the one that the buffer holds.
-    /// Says whether there is one; the buffer is left as it is where there is none.
+    /// Writes the message of the next telegram to be queued as the only message in the buffer, and returns true.
+    /// Returns false if there is none; the buffer stays as it is then.
     pub fn write_next(&mut self, config: &Config, message: &mut Buffer) -> bool
         requires room { message.old.room ≡ most_pdu }
         ensures some { result ≡ true → (size : ℕ) → unput_of config.now size self.old
@@ -137,8 +137,9 @@ impl Running {
         }
     }
 
-    /// Takes a message as the answer to the first unanswered telegram that it answers, and asks on
-    /// under the sequences after this one. Gives the last sequence; `None` where it answers none.
+    /// Takes a message as the answer to the first unanswered telegram that it answers, and asks further questions
+    /// under the sequences after `sequence`. Returns the last sequence used; `None` if the message answers no
+    /// telegram.
     pub fn take(&mut self, config: &Config, sequence: u16, message: &[u8]) -> Option<u16>
         requires pdu { config.now.pdu ≤ most_pdu }
         requires jobs { config.now.jobs ≤ 8 }
@@ -186,7 +187,7 @@ impl Running {
         }
     }
 
-    /// Goes on with the confirm of the connect request: the negotiation is to be asked.
+    /// Goes on after the confirm of the connection request: the negotiation is to be asked.
     pub fn confirm(&mut self)
         requires { IsOpening self.old.stage }
         ensures asking { IsAsking self.new.stage }
@@ -201,7 +202,7 @@ impl Running {
         self.stage = Stage::Asking(Asking::new(1, Left::Negotiation));
     }
 
-    /// Ends once the disconnect request was transmitted.
+    /// Ends the job after its disconnect request was transmitted.
     pub fn depart(&mut self)
         requires { IsLeaving self.old.stage }
         ensures departs { awaited_in self.new [] ≡ for_nothing departed_end [] }
@@ -211,7 +212,7 @@ impl Running {
         self.end(GOOD, Leaves::Disconnected);
     }
 
-    /// Ends with a fault that closes the client.
+    /// Ends the job with a fault that closes the client.
     pub fn fail(&mut self, code: u32)
         ensures fails { (carried : List ℕ) → awaited_in self.new carried ≡ for_nothing (fault_end code) carried }
         ensures over { IsOver self.new.stage }
@@ -220,7 +221,7 @@ impl Running {
         self.end(code, Leaves::Closed);
     }
 
-    /// How the job is over; `None` exactly where it isn't.
+    /// How the job ended; `None` exactly if it isn't over.
     pub fn ending(&self) -> Option<Ending>
         ensures some { IfSome result (IsEnding self.now) }
         ensures none { IfNone result (IsOver self.now.stage → ⊥) }
@@ -234,8 +235,8 @@ impl Running {
         }
     }
 
-    /// What came of the job, which is over with this number, and with the message that is no answer, if one came.
-    /// It keeps no room that was taken for octets which didn't come.
+    /// The result of the job, which ended with this number; `carried` is the message that isn't an answer, if one
+    /// came. Memory reserved for octets that didn't come is released.
     pub fn into_result(self, code: u32, carried: Octets) -> JobResult
         ensures { (end : End) → awaited_in self [] ≡ for_nothing end [] → code ≡ end.code
             → IsResult result self.job end carried }
@@ -257,7 +258,7 @@ impl Running {
         }
     }
 
-    /// Ends with this number, with nothing found.
+    /// Ends the job with this number, without octets or codes.
     pub(crate) fn end(&mut self, code: u32, leaves: Leaves)
         requires { IsGoodLeave leaves }
         ensures ends { (carried : List ℕ) → awaited_in self.new carried ≡ for_nothing (number_end code leaves) carried }
@@ -269,8 +270,7 @@ impl Running {
         self.stage = Stage::Over { code, leaves };
     }
 
-    // Ends the job, of which no telegram is unanswered, by the first refusal or with what was
-    // found.
+    /// Ends the job once no telegram is unanswered: with the first refusal, or with what was read.
     fn settle(&mut self, refused: Option<Refused>)
         requires listing { IsListing self.old.stage }
         ensures settles { (config : Config) (granted : Option Grant) (rows : List Row)
@@ -292,7 +292,7 @@ impl Running {
     }
 }
 
-// Keeps what an answer that doesn't refuse tells of these items.
+/// Keeps the codes and octets of these items from an answer that doesn't refuse.
 fn keep(flight: &Flight, items: &Items, answer: &Answer<'_>, found: &mut [u8], codes: &mut Codes)
     requires asked { IsFor items.now flight.now.asked }
     requires flies { (job : Job) × (can_fly job (length found.old) flight.now ≡ true) }
@@ -314,7 +314,7 @@ fn keep(flight: &Flight, items: &Items, answer: &Answer<'_>, found: &mut [u8], c
     }
 }
 
-// Closes up the octets of several items that a job read.
+/// Removes the gaps from the octets that a read of several items has collected.
 fn close_found(job: &Job, codes: &Codes, found: &mut Vec<u8>)
     requires { has_places job.now (length found.old.items) ≡ true }
     ensures { found.new.items ≡ closed job.now codes.now found.old.items }
@@ -324,7 +324,7 @@ fn close_found(job: &Job, codes: &Codes, found: &mut Vec<u8>)
     }
 }
 
-// Writes the first message that isn't put yet of what is out under this sequence.
+/// Writes the first message that isn't queued yet of the question asked under this sequence.
 fn write_unput(single: &Single, job: &Job, sequence: u16, message: &mut Buffer)
     requires asks { (found : ℕ) × (can_ask_single job.now found single.now.ask ≡ true) }
     requires some { 0 < single.now.unput }
@@ -346,7 +346,7 @@ fn write_unput(single: &Single, job: &Job, sequence: u16, message: &mut Buffer)
     write_single(job, &single.ask, sequence, message);
 }
 
-// Writes the message of a telegram of the job.
+/// Writes the message of a telegram of the job.
 fn write_flight(flight: &Flight, job: &Job, config: &Config, message: &mut Buffer)
     requires asked { (found : ℕ) × (can_ask job.now found flight.now.from flight.now.asked ≡ true) }
     requires room { message.old.room ≡ most_pdu }
@@ -364,7 +364,7 @@ fn write_flight(flight: &Flight, job: &Job, config: &Config, message: &mut Buffe
     }
 }
 
-// So many octets from a place on.
+/// The `count` octets from offset `from` on.
 fn piece(octets: &[u8], from: usize, count: usize) -> &[u8]
     requires { from + count ≤ length octets.now }
     ensures piece { result.now ≡ take count (drop from octets.now) }
@@ -373,7 +373,7 @@ fn piece(octets: &[u8], from: usize, count: usize) -> &[u8]
     &octets[from..from + count]
 }
 
-// What a configuration asks for.
+/// The negotiation that a configuration asks for.
 fn asked_by(config: &Config) -> Negotiation
     ensures { result ≡ asked_by config.now }
 {

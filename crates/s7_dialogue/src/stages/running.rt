@@ -1,4 +1,4 @@
-// A job under way.
+//! A job that has been started.
 ghost use Rattle.std.specs.Prelude.{length, IsTrue};
 ghost use Rattle.s7_dialogue.specs.Stages.{is_ready};
 
@@ -11,29 +11,30 @@ use crate::stages::single::Single;
 /// What a job waits for.
 #[derive(Drop)]
 pub enum Stage {
-    /// The confirm of its connect request.
+    /// The confirm of its connection request.
     Opening,
-    /// Answers to what is asked, of which several may be awaited.
+    /// Answers to its questions, of which several may be in flight.
     Asking(Asking),
-    /// An answer to the one question that is asked.
+    /// The answer to its one question.
     Single(Single),
-    /// That its disconnect request is transmitted.
+    /// The transmission of its disconnect request.
     Leaving,
-    /// Nothing: it is over.
+    /// Nothing: the job is over. `code` is 0 or its error number, and `leaves` is the state in which it leaves the
+    /// client.
     Over { code: u32, leaves: Leaves },
 }
 
-/// A job, and what came of it so far.
+/// A job that has been started, and what it has read so far.
 #[derive(Drop)]
 pub struct Running {
-    /// What is asked.
+    /// The job as it was given.
     pub job: Job,
-    /// What it waits for.
+    /// What the job waits for.
     pub stage: Stage,
-    /// The octets that are read, at their places: 00 where none came yet, and where an item was
-    /// refused. Those of user data and of an upload stand at the front.
+    /// The octets read so far, each at its offset. Octets that haven't come, and those of refused items, are 00.
+    /// Octets of user data and of an upload are at its beginning.
     pub(crate) found: Vec<u8>,
-    /// The return codes of several items, at their places.
+    /// The return codes of several items, each at its item's index.
     pub(crate) codes: Codes,
     ghost ready: { IsTrue (is_ready job (length found.items) stage) },
 }

@@ -1,4 +1,4 @@
-// A job that asks one question at a time.
+//! A job that asks one question at a time.
 ghost use Rattle.std.specs.Prelude.{◌≡◌, ◌+◌, ◌<◌, ◌≤◌, true, IsSome};
 ghost use Rattle.s7_dialogue.specs.declared.questions.subject.Subject.{Subject};
 ghost use Rattle.s7_dialogue.specs.declared.transfers.data_block.DataBlock.{DataBlock};
@@ -18,57 +18,60 @@ use crate::transfers::download::Pieces;
 use crate::transfers::user_data::{Told, read_single};
 use s7_clock::Control;
 
-/// What such a job asks.
+/// The question of a job that asks one at a time.
 #[derive(Clone, Copy, Drop)]
 pub(crate) enum Ask {
-    /// A control.
+    /// Asks for a control.
     Control(Control),
-    /// User data about this.
+    /// Asks for user data about this subject.
     About(Subject),
-    /// The next octets of an answer in user data, under this sequence octet.
+    /// Asks for the next octets of an answer in user data, with this sequence octet.
     Further(Subject, u8),
-    /// That the upload of the job's block begins.
+    /// Starts the upload of the job's block.
     Upload,
-    /// The next octets of the upload of this id, an image of so many octets.
+    /// Asks for the next octets of the upload of this id; its image has `size` octets.
     Slice {
         id: u8,
         size: u32,
     },
-    /// That the upload of this id ends.
+    /// Ends the upload of this id.
     UploadEnd {
         id: u8,
     },
-    /// That the download of the job's image begins.
+    /// Announces the download of the job's image.
     Announce(Pieces),
-    /// Nothing: the server is to ask for the first piece of it.
+    /// Asks nothing: the server is to ask for the first piece of the download.
     AwaitCall(Pieces),
-    /// That the server goes on, to whose job of this sequence the image is given from a place on.
+    /// Gives the image from an offset on, as the answer to the server's job of this sequence. The server is then to
+    /// ask for the next piece, or to close the download.
     Give {
         pieces: Pieces,
         from: u32,
         call: u16,
     },
-    /// That the block is inserted, once the server's job of this sequence is answered, which closes the download.
+    /// Answers the server's job of this sequence, which closes the download, and then asks for the insertion of the
+    /// block.
     Insert {
         pieces: Pieces,
         call: u16,
     },
-    /// The head of a data block that is read or filled whole.
+    /// Asks for the head of a data block that is to be read or filled whole.
     Head(DataBlock),
-    /// The next octets of that head, under this sequence octet.
+    /// Asks for the next octets of that head, with this sequence octet.
     HeadFurther(DataBlock, u8),
-    /// The part of the data block at this place.
+    /// Reads or fills the part of the data block at this place.
     Part(DataBlock, Place),
 }
 
-/// What a job that asks one question at a time has asked and asks next.
+/// The state of a job that asks one question at a time.
 #[derive(Drop)]
 pub struct Single {
-    /// What its telegram asks that is out, or else what it asks next.
+    /// The question of the telegram in flight, or the next question if none is.
     pub(crate) ask: Ask,
-    /// The sequence of the telegram, where it went out, or the last one before, where it has none of the client's own.
+    /// The sequence of the telegram in flight, `None` before it was asked. A telegram that answers a job of the
+    /// server's has none of its own; then it is the client's last own sequence.
     pub(crate) out: Option<u16>,
-    /// How many of its messages went out and weren't put to be sent yet.
+    /// How many messages of the question were not queued yet.
     pub(crate) unput: usize,
     /// How many octets of the answer came.
     pub(crate) len: usize,
@@ -86,8 +89,8 @@ impl Single {
     ghost use Rattle.s7_dialogue.specs.Stages.{question_of_single, is_writable};
     ghost use Rattle.s7_dialogue.specs.Singles.{is_numbered_ask, TellsIfSome};
 
-    /// Asks the question, under the sequence after this one where it has one of the client's own, if nothing is out.
-    /// Gives the last sequence.
+    /// Asks the question, if nothing is in flight. It is asked under the sequence after `sequence`, if it has a
+    /// sequence of the client's own. Returns the last sequence used.
     pub(crate) fn ask_on(&mut self, sequence: u16) -> u16
         ensures asks { self.old.out ≡ None
             → (result ≡ (if is_numbered_ask self.old.ask then next_sequence sequence else sequence))
@@ -109,7 +112,7 @@ impl Single {
         next
     }
 
-    /// The sequence of its telegram, where a message of this wasn't put yet.
+    /// The sequence of the telegram in flight, if a message of it isn't queued yet.
     pub(crate) fn unput_sequence(&self) -> Option<u16>
         ensures some { IfSome result (λ number. (0 < self.now.unput) × (self.now.out ≡ Some number)) }
         ensures none { IfNone result (self.now.unput ≡ 0) }
@@ -117,8 +120,8 @@ impl Single {
         if self.unput > 0 { self.out } else { None }
     }
 
-    /// What the message tells of the answer to the telegram that is out, behind the octets that came,
-    /// which stand at the front of these.
+    /// What the message says of the answer to the telegram in flight. `found` begins with the octets received so
+    /// far.
     pub(crate) fn answered<'a>(
         &self,
         job: &Job,
@@ -136,7 +139,7 @@ impl Single {
         let Some(sequence) = self.out else {
             return None;
         };
-        // There is no place for octets where a control is asked.
+        // A control has no room for octets.
         let len = self.len.min(found.len());
         read_single(job, &self.ask, &found[..len], sequence, message)
     }
@@ -147,7 +150,7 @@ impl Ask {
     ghost use Rattle.s7_dialogue.specs.Answer.{refuses};
     ghost use Rattle.s7_dialogue.specs.Singles.{is_numbered_ask, lead_in, refusal_to};
 
-    /// The number that the job ends with where this error word refuses what is asked.
+    /// The error number with which the job ends if this error word refuses the question.
     pub(crate) fn refused(&self, error: u16) -> u32
         ensures { refusal_to self.now (refuses error) ≡ Some result }
     {
@@ -157,7 +160,7 @@ impl Ask {
         }
     }
 
-    /// How many messages go out for it.
+    /// The number of messages that the question has.
     pub(crate) fn message_count(&self) -> usize
         ensures { result ≡ message_count self.now }
     {
@@ -168,14 +171,14 @@ impl Ask {
         }
     }
 
-    /// It goes out under a sequence of the client's own.
+    /// Whether the question is asked under a sequence of the client's own.
     fn is_numbered(&self) -> bool
         ensures { result ≡ is_numbered_ask self.now }
     {
         !matches!(self, Ask::AwaitCall(_) | Ask::Give { .. })
     }
 
-    /// How many octets of a whole answer stand before what was asked for.
+    /// The number of octets of a whole answer that come before the octets asked for.
     fn lead(&self) -> usize
         ensures { result ≡ lead_in self.now }
     {
@@ -199,8 +202,8 @@ impl Running {
     ghost use Rattle.s7_dialogue.specs.Running.{Follows, Reached, IsOver, IsOpening, awaited_in, unput_of};
     ghost use Rattle.s7_dialogue.specs.Running.{conduct_in, answers_left};
 
-    /// Goes on with what a message told of the answer to this question, behind so many octets that came, and asks on
-    /// under the sequence after this one where more is to be asked. Gives the last sequence.
+    /// Goes on with what a message said of the answer to this question, after `len` octets received. If there is
+    /// more to ask, asks it under the next sequence. Returns the last sequence used.
     pub(crate) fn bring(&mut self, ask: Ask, len: usize, told: Told<'_>, sequence: u16) -> u16
         requires { (message : List ℕ) × IsToldTo self.old ask len message told }
         ensures reached { (message : List ℕ) → IsToldTo self.old ask len message told.entry
@@ -232,7 +235,8 @@ impl Running {
         }
     }
 
-    // Asks this next under the sequence after this one, once so many octets of its answer came.
+    /// Asks this question next, under the sequence after `sequence`, after `len` octets of its answer were
+    /// received.
     fn ask_next(&mut self, ask: Ask, len: usize, sequence: u16) -> u16
         requires first { (subject : Subject) → ask ≡ asked.About subject → len ≡ 0 }
         requires alone { (block : DataBlock) → ask ≡ asked.Head block → len ≡ 0 }
@@ -256,7 +260,7 @@ impl Running {
         self.go_on(sequence)
     }
 
-    // Ends the job well with the octets from one place to another.
+    /// Ends the job successfully, with the octets from offset `from` to offset `to`.
     fn finish(&mut self, from: usize, to: usize)
         ensures ends { (carried : List ℕ) → awaited_in self.new carried
             ≡ for_nothing (good_end (drop from (take to self.old.found.items)) self.old.codes) carried }

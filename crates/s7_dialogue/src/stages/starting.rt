@@ -1,4 +1,4 @@
-// How a job begins.
+//! The first stage of a job.
 ghost use Rattle.std.specs.Prelude.{◌≡◌, ◌≤◌, length, take, Some, None, true};
 ghost use Rattle.std.specs.Option.{ForSome};
 ghost use Rattle.s7_szl.specs.Joining.{most_joined};
@@ -33,19 +33,21 @@ use s7_clock::Control;
 use s7_item::{Item, MOST_ITEMS};
 use s7_split::{Groups, parts};
 
-/// What header, parameters and the head of the data take of the telegram of a piece.
+/// The number of octets of a piece's telegram besides the image: header, parameters and the head of the data.
 const HEADS_OF_PIECE: u16 = 18;
 
-/// What a job begins with, and for how many octets it needs room.
+/// The first stage of a job, and the room that its results need.
 #[derive(Drop)]
 pub(crate) struct Start {
+    /// The first stage.
     pub(crate) stage: Stage,
-    /// How many octets it reads, and how many return codes it brings.
+    /// The number of octets that the job reads.
     pub(crate) octets: usize,
+    /// The number of return codes that the job gives.
     pub(crate) codes: u8,
 }
 
-/// How a job begins on a client to which this was granted.
+/// The start of a job on a client with this grant; without one the client isn't connected.
 pub(crate) fn start_of(granted: Option<Grant>, job: &Job) -> Start
     requires { ForSome granted IsGrant }
     ensures { Starts job.now granted result.stage result.octets result.codes }
@@ -56,6 +58,7 @@ pub(crate) fn start_of(granted: Option<Grant>, job: &Job) -> Start
     }
 }
 
+/// The start of a job on a client that isn't connected.
 fn start_unconnected(job: &Job) -> Start
     ensures { Starts job.now None result.stage result.octets result.codes }
 {
@@ -65,6 +68,7 @@ fn start_unconnected(job: &Job) -> Start
     }
 }
 
+/// The start of a job on a connected client.
 fn start_connected(granted: &Grant, job: &Job) -> Start
     requires { IsGrant granted.now }
     ensures { Starts job.now (Some granted.now) result.stage result.octets result.codes }
@@ -103,7 +107,7 @@ fn start_connected(granted: &Grant, job: &Job) -> Start
     }
 }
 
-// A job of this stage that brings nothing.
+/// The start of a job at this stage that reads nothing.
 fn at(stage: Stage) -> Start
     ensures stage { result.stage ≡ stage }
     ensures octets { result.octets ≡ 0 }
@@ -116,6 +120,7 @@ fn at(stage: Stage) -> Start
     }
 }
 
+/// The start of a job that is over already.
 fn over(code: u32, leaves: Leaves) -> Start
     ensures stage { result.stage ≡ stage.Over code leaves }
     ensures octets { result.octets ≡ 0 }
@@ -124,7 +129,7 @@ fn over(code: u32, leaves: Leaves) -> Start
     at(Stage::Over { code, leaves })
 }
 
-// A job that asks these questions.
+/// The start of a job that asks these questions, and needs room for this number of octets and codes.
 fn asking(granted: &Grant, left: Left, octets: usize, codes: u8) -> Start
     requires granted { IsGrant granted.now }
     requires few { AreFew left }
@@ -139,6 +144,7 @@ fn asking(granted: &Grant, left: Left, octets: usize, codes: u8) -> Start
     }
 }
 
+/// The start of a read of one item.
 fn read_area(granted: &Grant, item: &Item) -> Start
     requires { IsGrant granted.now }
     ensures { Starts (job.ReadArea item.now) (Some granted.now) result.stage result.octets result.codes }
@@ -151,6 +157,7 @@ fn read_area(granted: &Grant, item: &Item) -> Start
     asking(granted, Left::Reads(parts), item.octet_count(), 0)
 }
 
+/// The start of a write of one item.
 fn write_area(granted: &Grant, item: &Item, octets: &[u8]) -> Start
     requires { IsGrant granted.now }
     ensures { Starts (job.WriteArea item.now octets.now) (Some granted.now) result.stage result.octets result.codes }
@@ -163,6 +170,7 @@ fn write_area(granted: &Grant, item: &Item, octets: &[u8]) -> Start
     asking(granted, Left::Writes(parts), 0, 0)
 }
 
+/// The start of a read of several items.
 fn read_many(granted: &Grant, items: &[Item]) -> Start
     requires { IsGrant granted.now }
     ensures { Starts (job.ReadMany items.now) (Some granted.now) result.stage result.octets result.codes }
@@ -176,6 +184,7 @@ fn read_many(granted: &Grant, items: &[Item]) -> Start
     asking(granted, left, octet_count_of(items), items.len() as u8)
 }
 
+/// The start of a write of several items.
 fn write_many(granted: &Grant, items: &[Item], octets: &[u8]) -> Start
     requires { IsGrant granted.now }
     ensures { Starts (job.WriteMany items.now octets.now) (Some granted.now) result.stage result.octets result.codes }
@@ -193,6 +202,7 @@ fn write_many(granted: &Grant, items: &[Item], octets: &[u8]) -> Start
     asking(granted, left, 0, items.len() as u8)
 }
 
+/// The start of a setting of the clock.
 fn set_clock(moment: u64) -> Start
     ensures { (granted : Grant) → Starts (job.ClockSet moment) (Some granted) result.stage result.octets result.codes }
 {
@@ -203,6 +213,7 @@ fn set_clock(moment: u64) -> Start
     asking_about(Subject::ClockSetting)
 }
 
+/// The start of a password.
 fn set_password(text: &[u8]) -> Start
     ensures { (granted : Grant)
         → Starts (job.PasswordSet text.now) (Some granted) result.stage result.octets result.codes }
@@ -214,6 +225,7 @@ fn set_password(text: &[u8]) -> Start
     asking_about(Subject::Password)
 }
 
+/// The start of a download.
 fn download(granted: &Grant, image: &[u8]) -> Start
     requires { IsGrant granted.now }
     ensures { Starts (job.Download image.now) (Some granted.now) result.stage result.octets result.codes }
@@ -229,7 +241,7 @@ fn download(granted: &Grant, image: &[u8]) -> Start
     asking_singly(Ask::Announce(pieces), 0)
 }
 
-// A job that asks for this control.
+/// The start of a job that asks for this control.
 fn controlling(control: Control) -> Start
     ensures stage { (s : Single) × (result.stage ≡ stage.Single s)
         × (s.ask ≡ asked.Control control) × (s.out ≡ None) × (s.len ≡ 0) }
@@ -239,7 +251,7 @@ fn controlling(control: Control) -> Start
     asking_singly(Ask::Control(control), 0)
 }
 
-// A job that asks for user data about this.
+/// The start of a job that asks for user data about this subject.
 fn asking_about(subject: Subject) -> Start
     ensures stage { (s : Single) × (result.stage ≡ stage.Single s)
         × (s.ask ≡ asked.About subject) × (s.out ≡ None) × (s.len ≡ 0) }
@@ -249,7 +261,7 @@ fn asking_about(subject: Subject) -> Start
     asking_singly(Ask::About(subject), MOST_JOINED)
 }
 
-// A job that reads a whole data block, or fills it with a value.
+/// The start of a job that reads a whole data block, or fills it with a value.
 fn asking_parts(granted: &Grant, number: u16, value: Option<u8>) -> Start
     requires { IsGrant granted.now }
     ensures stage { (s : Single) × (result.stage ≡ stage.Single s)
@@ -266,7 +278,8 @@ fn asking_parts(granted: &Grant, number: u16, value: Option<u8>) -> Start
     asking_singly(Ask::Head(block), block.room())
 }
 
-// A job that asks one question at a time, from this one on.
+/// The start of a job that asks one question at a time, beginning with this one, and needs room for this number of
+/// octets.
 fn asking_singly(ask: Ask, octets: usize) -> Start
     requires { parts_bring ask ≡ 0 }
     ensures stage { (s : Single) × (result.stage ≡ stage.Single s)
@@ -286,7 +299,7 @@ fn asking_singly(ask: Ask, octets: usize) -> Start
     }
 }
 
-// The groups of these items.
+/// The groups of these items.
 fn grouped(items: &[Item], groups: &Groups) -> Grouped
     requires { length items.now ≤ 20 }
     ensures { groups_in result ≡ cut_at 0 (take groups.now.count groups.now.ends) items.now }

@@ -1,5 +1,5 @@
-// Whole data blocks: the parts in which one is read or filled, their telegrams, and what acknowledges them (Snap7 1.4
-// reference manual, `Cli_DBGet`, `Cli_DBFill`).
+//! Whole data blocks: the parts in which they are read or filled, the telegrams of the parts, and their
+//! acknowledgements (Snap7 1.4 reference manual, `Cli_DBGet`, `Cli_DBFill`).
 ghost use Rattle.std.specs.Prelude.{◌≡◌, ℕ, ◌+◌, ◌<◌, ◌≤◌, true, List, [], ◌∷◌, ◌++◌, length};
 ghost use Rattle.std.specs.Prelude.{None, Some, MatchOption, option_map};
 ghost use Rattle.s7_header.specs.Negotiation.{most_pdu};
@@ -25,18 +25,19 @@ use s7_item::codes::{BYTE, DATA_BLOCKS, READ_FUNCTION, WRITE_FUNCTION};
 use s7_item::{Item, is_good};
 use s7_outer::Buffer;
 
-/// The most octets of a data block.
+/// The greatest number of octets of a data block.
 const MOST_DATA: u32 = 2_097_152;
 
-/// The most octets of an item of one.
+/// The greatest number of octets of one item of a data block.
 const MOST_ITEM: u32 = 65_535;
 
-/// The octets that tell a head, and what of its load length isn't the data block's.
+/// The number of octets of the answer with a block's head.
 const HEAD_TOLD: usize = 40;
 
+/// The number of octets of a head, which the load length counts besides the data block's own.
 const HEAD: u32 = 36;
 
-/// Where the load length stands.
+/// The offset of the load length in that answer.
 const LOAD_LENGTH: usize = 12;
 
 /// A data block that is read or filled whole.
@@ -45,22 +46,23 @@ pub(crate) struct DataBlock {
     pub(crate) number: u16,
     /// The PDU that was granted.
     pub(crate) pdu: u16,
-    /// What it is filled with, where it isn't read.
+    /// The value with which it is filled; `None` if it is read.
     pub(crate) value: Option<u8>,
 }
 
-/// Where the next part of a data block begins.
+/// Where the next part of a data block begins, and how much is left.
 #[derive(Clone, Copy)]
 pub(crate) struct Place {
+    /// The offset of the next part in the data block.
     pub(crate) from: u32,
-    /// How many octets of its item are left there.
+    /// The number of octets left of its item, from there on.
     pub(crate) here: u16,
-    /// How many are left behind that item.
+    /// The number of octets left after that item.
     pub(crate) later: u32,
 }
 
 impl DataBlock {
-    /// How many octets of its answers are kept at most.
+    /// The greatest number of octets kept of its answers.
     pub(crate) fn room(&self) -> usize
         ensures { result ≡ room_for_value self.now.value }
     {
@@ -70,7 +72,7 @@ impl DataBlock {
         }
     }
 
-    // How many octets the part at a place has.
+    /// The number of octets of the part at this place.
     fn count(&self, place: Place) -> u16
         ensures count { result ≡ part_count self.now place }
         ensures within { result ≤ place.here }
@@ -79,7 +81,7 @@ impl DataBlock {
         self.pdu.saturating_sub(besides).min(place.here)
     }
 
-    // The part at a place.
+    /// The item of the part at this place.
     fn part(&self, place: Place) -> Item
         requires { place.from + place.here ≤ 2097152 }
         ensures { result ≡ part_at self.now place }
@@ -93,7 +95,7 @@ impl DataBlock {
         }
     }
 
-    // What is asked behind the part at a place.
+    /// The question after the part at this place, if one is left.
     fn next(&self, place: Place) -> Option<Ask>
         requires { place.from + place.here ≤ 2097152 }
         ensures { result ≡ option_map (asked.Part self.now) (next_part self.now place) }
@@ -102,7 +104,7 @@ impl DataBlock {
         Some(Ask::Part(*self, next))
     }
 
-    /// The number that the refusal of the part at a place ends the job with.
+    /// The error number with which the refusal of the part at this place ends the job.
     pub(crate) fn refused(&self, place: Place, number: u32) -> u32
         ensures { result ≡ refused_number self.now place number }
     {
@@ -113,7 +115,7 @@ impl DataBlock {
         }
     }
 
-    // What the data item of the part at a place tells, by its return code and octets.
+    /// What the data item of the part at this place says, by its return code and its octets.
     fn told<'a>(&self, place: Place, code: u8, octets: &'a [u8]) -> Told<'a>
         requires { place.from + place.here ≤ 2097152 }
         ensures { IsToldOf self.now place code octets.now result }
@@ -130,7 +132,7 @@ impl DataBlock {
 }
 
 impl Place {
-    // The place where so many octets, which are some, are left from one on.
+    /// The place at offset `from` with `left` octets left, at least one.
     fn first(from: u32, left: u32) -> Place
         requires { 0 < left }
         ensures { place_from from left ≡ Some result }
@@ -143,7 +145,7 @@ impl Place {
         }
     }
 
-    // The place behind so many octets of this one's item.
+    /// The place `count` octets further in this item, or at the next item; `None` at the end.
     fn behind(self, count: u16) -> Option<Place>
         requires within { count ≤ self.here }
         requires inside { self.from + self.here ≤ 2097152 }
@@ -165,7 +167,7 @@ impl Place {
     }
 }
 
-/// Writes the question for the part at this place as the one message that the buffer holds.
+/// Writes the question for the part at this place as the only message in the buffer.
 pub(crate) fn write_part(block: &DataBlock, place: Place, sequence: u16, message: &mut Buffer)
     requires pdu { has_pdu block.now ≡ true }
     requires inside { is_inside place ≡ true }
@@ -189,7 +191,7 @@ pub(crate) fn write_part(block: &DataBlock, place: Place, sequence: u16, message
     }
 }
 
-/// What the question for the part at this place is answered.
+/// Reads the answer to the question for the part at this place.
 pub(crate) fn read_part<'a>(
     block: &DataBlock,
     place: Place,
@@ -207,7 +209,7 @@ pub(crate) fn read_part<'a>(
     }
 }
 
-// What its read is answered.
+/// Reads the answer to the read of a part.
 fn read_octets<'a>(
     block: &DataBlock,
     place: Place,
@@ -232,7 +234,7 @@ fn read_octets<'a>(
     Some(block.told(place, first.answer.code, first.answer.octets))
 }
 
-// What its write is answered.
+/// Reads the answer to the write of a part.
 fn read_code<'a>(block: &DataBlock, place: Place, params: &[u8], body: &'a [u8]) -> Option<Told<'a>>
     requires { place.from + place.here ≤ 2097152 }
     ensures { (so_far octets : List ℕ)
@@ -246,8 +248,8 @@ fn read_code<'a>(block: &DataBlock, place: Place, params: &[u8], body: &'a [u8])
     Some(block.told(place, body[0], &[]))
 }
 
-/// What the head of a data block tells that a message tells of, behind these octets: once it is whole, the
-/// first part is asked for.
+/// Takes the octets of a data block's head that a message brings, after `so_far`. Once the head is whole, the first
+/// part is to be asked for.
 pub(crate) fn read_head<'a>(block: DataBlock, so_far: &[u8], told: Told<'a>) -> Told<'a>
     requires { (answer : Answer) × TellsSingle (asked.About subject.DataHead) so_far.now told answer
         × IsWholeIfLast so_far.now answer }
@@ -266,7 +268,7 @@ pub(crate) fn read_head<'a>(block: DataBlock, so_far: &[u8], told: Told<'a>) -> 
     Told::Anew(first_part(block, data_length(so_far, octets)))
 }
 
-// The first part of a data block of so many octets.
+/// The question for the first part of a data block of `size` octets.
 fn first_part(block: DataBlock, size: u32) -> Ask
     requires { 0 < size }
     ensures { (place : Place) × (place_from 0 size ≡ Some place) × (result ≡ asked.Part block place) }
@@ -274,7 +276,7 @@ fn first_part(block: DataBlock, size: u32) -> Ask
     Ask::Part(block, Place::first(0, size))
 }
 
-// How many octets the data block has of whose head these pieces tell.
+/// The number of octets of the data block whose head these two pieces are.
 fn data_length(so_far: &[u8], octets: &[u8]) -> u32
     requires { tells_data (so_far.now ++ octets.now) ≡ true }
     ensures length { result ≡ data_length (so_far.now ++ octets.now) }
@@ -286,14 +288,14 @@ fn data_length(so_far: &[u8], octets: &[u8]) -> u32
     load_length(&told) - HEAD
 }
 
-/// The octets tell the head of a data block that can be read or filled whole.
+/// Whether the octets are the head of a data block that can be read or filled whole.
 pub(crate) fn tells_data(told: &[u8]) -> bool
     ensures { result ≡ tells_data told.now }
 {
     told.len() == HEAD_TOLD && (HEAD + 1..=HEAD + MOST_DATA).contains(&load_length(told))
 }
 
-// The load length that a head tells.
+/// The load length that a head states.
 fn load_length(told: &[u8]) -> u32
     requires { length told.now ≡ 40 }
     ensures { result ≡ four_at told.now 12 }

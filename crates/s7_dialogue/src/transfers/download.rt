@@ -1,5 +1,5 @@
-// Downloads of blocks: what announces, gives and closes one, and the server's jobs that ask on (Snap7 1.4 sources,
-// s7_types.h, `TReqFunStartUploadParams`). The layouts are this profile's own.
+//! Downloads of blocks: announcing them, giving their pieces and closing them, and the server's jobs that ask for
+//! the next piece (Snap7 1.4 sources, s7_types.h, `TReqFunStartUploadParams`). The layouts are this profile's own.
 ghost use Rattle.std.specs.Prelude.{◌≡◌, ◌<◌, ◌≤◌, ◌++◌, ℕ, List, length, None, MatchOption};
 ghost use Rattle.s7_header.specs.Negotiation.{most_pdu};
 ghost use Rattle.s7_block.specs.Names.{name_octets};
@@ -18,39 +18,44 @@ use s7_block::{BlockName, NAME, write_digits, write_name};
 use s7_header::Kind;
 use s7_outer::Buffer;
 
-/// The functions of a download's announcement, of its pieces and of its close.
+/// The function that announces a download.
 const ANNOUNCE: u8 = 0x1A;
 
+/// The function that asks for a piece.
 const PIECE: u8 = 0x1B;
 
+/// The function that closes a download.
 const CLOSE: u8 = 0x1C;
 
-/// Where a block is that is downloaded.
+/// The location of a block that is downloaded.
 const AT_P: u8 = 0x50;
 
-/// What stands before a name, and the octets of both.
+/// The number of octets before a name.
 const NAME_FRONT: usize = 10;
 
+/// The number of octets up to the end of a name.
 const NAMED: usize = NAME_FRONT + NAME;
 
-/// Where a head has the kind, the number and the body length.
+/// The offset of the kind in a head.
 const KIND: usize = 5;
 
+/// The offset of the number in a head.
 const NUMBER: usize = 6;
 
+/// The offset of the body length in a head.
 const BODY_LENGTH: usize = 34;
 
-/// How an image is given.
+/// How an image is cut into pieces.
 #[derive(Clone, Copy)]
 pub(crate) struct Pieces {
-    /// The most octets of a piece.
+    /// The greatest number of octets of a piece.
     pub(crate) room: u16,
-    /// How many octets the image has.
+    /// The number of octets of the image.
     pub(crate) len: u32,
 }
 
 impl Pieces {
-    /// What goes out behind the server's job of this sequence, once the image was given up to a place.
+    /// The next question for the server's job of this sequence, once the image was given up to offset `from`.
     pub(crate) fn behind(self, from: u32, call: u16) -> Ask
         ensures { result ≡ ask_behind self from call }
     {
@@ -65,7 +70,7 @@ impl Pieces {
         }
     }
 
-    // The piece from a place on, and whether others follow it.
+    /// The piece from offset `from` on, and whether further pieces follow it.
     fn at(self, image: &[u8], from: u32) -> (&[u8], bool)
         requires whole { self.len ≡ length image.now }
         requires inside { from < self.len }
@@ -79,7 +84,7 @@ impl Pieces {
     }
 }
 
-/// The block that the head of an image is of; the kind is 0 where it is none.
+/// The name of the block in the head of an image; the kind is 0 if the head has none.
 pub(crate) fn name_in(image: &[u8]) -> BlockName
     requires { 36 ≤ length image.now }
     ensures { result ≡ name_in image.now }
@@ -90,7 +95,7 @@ pub(crate) fn name_in(image: &[u8]) -> BlockName
     }
 }
 
-// The kind that a head has a code for, and 0 where the code is of none.
+/// The kind with this code in heads; 0 if there is none.
 fn kind_of_code(code: u8) -> u8
     ensures { result ≡ kind_of_code code }
 {
@@ -106,7 +111,7 @@ fn kind_of_code(code: u8) -> u8
     }
 }
 
-// The function and the name of a block that is downloaded.
+/// The function and the name of a block that is downloaded.
 fn named(function: u8, name: BlockName) -> [u8; NAMED]
     ensures { result ≡ name_front function ++ name_octets name 0x50 }
 {
@@ -118,7 +123,7 @@ fn named(function: u8, name: BlockName) -> [u8; NAMED]
     octets
 }
 
-/// Writes what announces the download of this image.
+/// Writes the announcement of the download of this image.
 pub(crate) fn write_announce(image: &[u8], sequence: u16, message: &mut Buffer)
     requires least { 36 ≤ length image.now }
     requires most { length image.now ≤ 65536 }
@@ -135,7 +140,7 @@ pub(crate) fn write_announce(image: &[u8], sequence: u16, message: &mut Buffer)
     begin_message(Kind::Job, sequence, &params, 0, message);
 }
 
-/// Writes the piece of the image from a place on, as the answer to the server's job of this sequence.
+/// Writes the piece of the image from offset `from` on, as the answer to the server's job of this sequence.
 pub(crate) fn write_given(image: &[u8], pieces: Pieces, from: u32, call: u16, message: &mut Buffer)
     requires whole { pieces.len ≡ length image.now }
     requires inside { from < pieces.len }
@@ -160,7 +165,7 @@ pub(crate) fn write_given(image: &[u8], pieces: Pieces, from: u32, call: u16, me
     message.add(octets);
 }
 
-/// Writes the answer to the server's job of this sequence, by which it closes a download.
+/// Writes the answer to the server's job of this sequence that closes a download.
 pub(crate) fn write_closing(call: u16, message: &mut Buffer)
     requires { message.old.room ≡ most_pdu }
     ensures octets { message.new.octets ≡ closing_octets call }
@@ -170,7 +175,7 @@ pub(crate) fn write_closing(call: u16, message: &mut Buffer)
     begin_message(Kind::AckData, call, &[CLOSE], 0, message);
 }
 
-/// What the announcement of a download is answered: the server is to ask for the first piece.
+/// Reads the answer to the announcement of a download: the server is to ask for the first piece.
 pub(crate) fn read_announced<'a>(pieces: Pieces, params: &[u8], body: &[u8]) -> Option<Told<'a>>
     ensures { (image so_far : List ℕ) → let answer = acknowledged (announces image) params.now body.now in
         MatchOption result (answer ≡ None) (λ told. TellsIfSome (asked.Announce pieces) so_far told answer) }
@@ -185,7 +190,7 @@ pub(crate) fn read_announced<'a>(pieces: Pieces, params: &[u8], body: &[u8]) -> 
     }
 }
 
-/// What the server's job of this sequence asks for, where it is to ask for the first piece of an image.
+/// Reads the server's job of this sequence, which is to ask for the first piece of an image.
 pub(crate) fn read_first_call<'a>(
     image: &[u8],
     pieces: Pieces,
@@ -206,7 +211,8 @@ pub(crate) fn read_first_call<'a>(
     })
 }
 
-/// What it asks for behind the piece from a place on.
+/// Reads the server's job of this sequence after the piece from offset `from` on: it asks for the next piece, or
+/// closes the download.
 pub(crate) fn read_next_call<'a>(
     image: &[u8],
     pieces: Pieces,
@@ -234,7 +240,7 @@ pub(crate) fn read_next_call<'a>(
     })
 }
 
-// Parameters and data are the server's job with this function for the block.
+/// Whether parameters and data are the server's job with this function for the block.
 fn is_call(function: u8, name: BlockName, params: &[u8], body: &[u8]) -> bool
     ensures { result ≡ is_call function name params.now body.now }
 {

@@ -1,5 +1,5 @@
-// Uploads of blocks: their telegrams, and what acknowledges them (Snap7 1.4 sources, s7_types.h,
-// `TReqFunStartUploadParams`). The layouts are this profile's own.
+//! Uploads of blocks: their telegrams, and the acknowledgements of these (Snap7 1.4 sources, s7_types.h,
+//! `TReqFunStartUploadParams`). The layouts are this profile's own.
 ghost use Rattle.std.specs.Prelude.{◌≡◌, ◌++◌, ◌≤◌, [], ℕ, List, length, option_map, None, Some, IsSome, MatchOption};
 ghost use Rattle.s7_header.specs.declared.header.Kind.TheVariants as kind;
 ghost use Rattle.s7_header.specs.Negotiation.{most_pdu};
@@ -17,25 +17,28 @@ use s7_block::{NAME, Slice, read_digits};
 use s7_header::Kind;
 use s7_outer::Buffer;
 
-/// The most octets of an image.
+/// The greatest number of octets of an image.
 pub(crate) const MOST_UPLOADED: usize = 65_572;
 
-/// The functions of an upload's start, of its slices and of its end.
+/// The function that starts an upload.
 const START: u8 = 0x1D;
 
+/// The function that asks for a slice.
 pub(crate) const SLICE: u8 = 0x1E;
 
+/// The function that ends an upload.
 pub(crate) const END: u8 = 0x1F;
 
-/// What stands before the name of a block.
+/// The octets before the name of a block.
 const NAME_FRONT: [u8; 10] = [START, 0, 0, 0, 0, 0, 0, 0, 0x09, 0x5F];
 
-/// What stands before the id of an upload that was started, and behind it, before the digits of the length.
+/// The octets before the id of an upload that was started.
 const ID_FRONT: [u8; 7] = [START, 0, 0, 0, 0, 0, 0];
 
+/// The octet after the id, which is the number of digits of the length.
 const DIGITS: u8 = 0x07;
 
-/// What stands before the octets of an image, behind their length.
+/// The octets before those of an image, after their length.
 const IMAGE: [u8; 2] = [0x00, 0xFB];
 
 /// Writes the start of the upload of the block with this name.
@@ -51,7 +54,7 @@ pub(crate) fn write_start(name: &[u8; NAME], sequence: u16, message: &mut Buffer
     begin_message(Kind::Job, sequence, &params, 0, message);
 }
 
-/// Writes the question of this function about the upload of an id.
+/// Writes the question of this function about the upload of this id.
 pub(crate) fn write_by_id(function: u8, id: u8, sequence: u16, message: &mut Buffer)
     requires { message.old.room ≡ most_pdu }
     ensures octets { message.new.octets ≡ message_octets kind.Job sequence (id_params function id) [] }
@@ -62,7 +65,7 @@ pub(crate) fn write_by_id(function: u8, id: u8, sequence: u16, message: &mut Buf
     begin_message(Kind::Job, sequence, &params, 0, message);
 }
 
-/// What the start of an upload is answered: its id, and the length of the image.
+/// Reads the answer to the start of an upload: its id, and the length of the image.
 pub(crate) fn read_started<'a>(params: &[u8], body: &[u8]) -> Option<Told<'a>>
     ensures { (name : _) (so_far : List ℕ) → let answer = acknowledged (starts_upload name) params.now body.now in
         MatchOption result (answer ≡ None) (λ told. TellsIfSome asked.Upload so_far told answer) }
@@ -80,7 +83,7 @@ pub(crate) fn read_started<'a>(params: &[u8], body: &[u8]) -> Option<Told<'a>>
     })
 }
 
-// The length of an image, in seven digits.
+/// The length of an image, from its seven digits.
 fn upload_size(params: &[u8]) -> Option<u32>
     ensures size { result ≡ upload_size params.now }
     ensures long { IsSome result → length params.now ≡ 16 }
@@ -91,7 +94,8 @@ fn upload_size(params: &[u8]) -> Option<u32>
     read_digits(&params[9..])
 }
 
-/// What the question for a slice of the upload of this id is answered, behind these octets of an image of this length.
+/// Reads the answer to the question for a slice of the upload of this id, after the octets `so_far` of an image of
+/// `size` octets.
 pub(crate) fn read_slice<'a>(
     id: u8,
     size: u32,
@@ -115,7 +119,7 @@ pub(crate) fn read_slice<'a>(
     })
 }
 
-// The slice that these parameters and data are.
+/// The slice in these parameters and data, if they are one.
 fn slice_in<'a>(params: &[u8], body: &'a [u8]) -> Option<Slice<'a>>
     ensures { option_map (λ s. record { more = s.more; octets = s.octets.now }) result ≡ slice_in params.now body.now }
 {
@@ -133,7 +137,7 @@ fn slice_in<'a>(params: &[u8], body: &'a [u8]) -> Option<Slice<'a>>
     })
 }
 
-// The data are octets of an image, which stand behind their length and `00 FB`.
+/// Whether the data are octets of an image, with their length and `00 FB` before them.
 fn is_image_data(body: &[u8]) -> bool
     ensures { result ≡ is_image_data body.now }
 {
@@ -142,7 +146,7 @@ fn is_image_data(body: &[u8]) -> bool
         && body[2..].starts_with(&IMAGE)
 }
 
-// The slice, where it goes on with these octets of an image of this length.
+/// The slice, if it continues these octets of an image of this length.
 fn fitting<'a>(size: u32, so_far: &[u8], slice: Slice<'a>) -> Option<Slice<'a>>
     ensures { option_map (λ s. record { more = s.more; octets = s.octets.now }) result
         ≡ fitting size so_far.now (Some (record { more = slice.entry.more; octets = slice.entry.octets.now })) }
@@ -155,7 +159,7 @@ fn fitting<'a>(size: u32, so_far: &[u8], slice: Slice<'a>) -> Option<Slice<'a>>
     if is_wrong { None } else { Some(slice) }
 }
 
-/// What the end of an upload is answered.
+/// Reads the answer to the end of an upload.
 pub(crate) fn read_ended<'a>(params: &[u8], body: &[u8]) -> Option<Told<'a>>
     ensures { (id : ℕ) (so_far : List ℕ) → let answer = acknowledged (ends_upload id) params.now body.now in
         MatchOption result (answer ≡ None) (λ told. TellsIfSome (asked.UploadEnd id) so_far told answer) }

@@ -1,5 +1,5 @@
-// User data, controls, uploads, downloads and parts of data blocks: the answers to what jobs ask that ask one question
-// at a time (Snap7 1.4 sources, s7_types.h: TS7Params7, and the data that follow it).
+//! The answers to jobs that ask one question at a time: user data, controls, uploads, downloads and parts of data
+//! blocks (Snap7 1.4 sources, s7_types.h: TS7Params7, and the data that follow it).
 ghost use Rattle.std.specs.Prelude.{◌≡◌, true, ℕ, ◌+◌, ◌<◌, ◌==◌, ◌&&◌, List, length, if◌then◌else◌};
 ghost use Rattle.std.specs.Prelude.{None, Some, IfSome, IfNone, MatchOption, [], Ok};
 ghost use Rattle.s7_header.specs.Octets.{number_at};
@@ -32,41 +32,43 @@ use s7_clock::{Control, from_octets};
 use s7_header::{Header, Kind, UserParams, parts, read_header, read_user};
 use s7_szl::read_mode;
 
-/// The most octets of an answer.
+/// The greatest number of octets of an answer.
 pub(crate) const MOST_JOINED: usize = 8448;
 
-/// The octets of an image before its records.
+/// The number of octets of an image before its records.
 const HEAD: usize = 8;
 
-/// The octets of an answer that counts the blocks of seven kinds, of each block of a kind, and of an answer that tells
-/// a head.
+/// The number of octets of an answer with the counts of seven kinds of blocks.
 const COUNTS: usize = 28;
 
+/// The number of octets for each block in a list of blocks.
 const ENTRY: usize = 4;
 
+/// The number of octets of an answer with a block's head.
 const HEAD_TOLD: usize = 40;
 
-/// The data without octets.
+/// The data of user data without content.
 pub(crate) const NO_DATA: [u8; 4] = [0x0A, 0x00, 0x00, 0x00];
 
-/// The function of a control that isn't a stop, and of a stop.
+/// The function of a control that isn't a stop.
 const CONTROL_FUNCTION: u8 = 0x28;
 
+/// The function of a stop.
 const STOP_FUNCTION: u8 = 0x29;
 
-/// What a message tells of the answer to what a job asks alone.
+/// What a message says of the answer to a job that asks one question at a time.
 #[derive(Clone, Copy)]
 pub(crate) enum Told<'a> {
-    /// It refuses with this number.
+    /// It refuses with this error number.
     Refused(u32),
-    /// It brings these octets, and this is asked next, if anything is.
+    /// It brings these octets; then this is asked next, or the job ends.
     Brought { octets: &'a [u8], next: Option<Ask> },
-    /// This is asked next, whose octets come in the place of those that came.
+    /// Ask this next, and discard the octets received so far.
     Anew(Ask),
 }
 
-/// What the message tells of the answer to what the job asks, behind the octets that came; `None` exactly where it is
-/// no such answer.
+/// Reads the message as the answer to the job's question, after the octets `so_far`; `None` exactly if it is no
+/// such answer.
 #[tactic(auto, unfolding(crate::specs::Answer::answer_of))]
 pub(crate) fn read_single<'a>(
     job: &Job,
@@ -101,7 +103,7 @@ pub(crate) fn read_single<'a>(
     }
 }
 
-// What a message with this header tells where a job of the server's is awaited.
+/// Reads a message with this header while a job of the server's is awaited.
 fn read_call<'a>(job: &Job, ask: &Ask, header: &Header, message: &'a [u8]) -> Option<Told<'a>>
     requires writable { is_writable job.now ask.now ≡ true }
     requires calls { awaits_server (question_of_single job.now ask.now []) ≡ true }
@@ -124,7 +126,7 @@ fn read_call<'a>(job: &Job, ask: &Ask, header: &Header, message: &'a [u8]) -> Op
     }
 }
 
-// The refusal that an acknowledgement without data is, where nothing follows its header.
+/// The refusal in an acknowledgement without data, if nothing follows its header.
 fn read_refusal<'a>(ask: &Ask, header: &Header) -> Option<Told<'a>>
     ensures { (so_far : List ℕ)
         → let answer = (if header.now.param_len == 0 && header.now.body_len == 0 then Some (refuses header.now.error)
@@ -138,7 +140,7 @@ fn read_refusal<'a>(ask: &Ask, header: &Header) -> Option<Told<'a>>
     }
 }
 
-// What an acknowledgement with this error word, these parameters and data answers: user data have no such answer.
+/// Reads an acknowledgement with this error word, these parameters and these data. User data have no such answer.
 fn read_acknowledgement<'a>(
     ask: &Ask,
     so_far: &[u8],
@@ -168,7 +170,7 @@ fn read_acknowledgement<'a>(
     }
 }
 
-// What a control is answered.
+/// Reads the answer to a control.
 fn read_status<'a>(control: &Control, params: &[u8], body: &[u8]) -> Option<Told<'a>>
     ensures { (so_far : List ℕ) → let answer = acknowledged (controls control.now) params.now body.now in
         MatchOption result (answer ≡ None) (λ told. TellsIfSome (asked.Control control.now) so_far told answer) }
@@ -185,7 +187,7 @@ fn read_status<'a>(control: &Control, params: &[u8], body: &[u8]) -> Option<Told
     }
 }
 
-// What the insertion of a block that was downloaded is answered.
+/// Reads the answer to the insertion of a block that was downloaded.
 fn read_inserted<'a>(pieces: Pieces, call: u16, params: &[u8], body: &[u8]) -> Option<Told<'a>>
     ensures { (image so_far : List ℕ) → let answer = acknowledged (inserts image call) params.now body.now in
         MatchOption result (answer ≡ None) (λ told. TellsIfSome (asked.Insert pieces call) so_far told answer) }
@@ -193,14 +195,14 @@ fn read_inserted<'a>(pieces: Pieces, call: u16, params: &[u8], body: &[u8]) -> O
     read_status(&Control::Insert { kind: 0, number: 0 }, params, body)
 }
 
-// The parameters are the function of a control and a status.
+/// Whether the parameters are the function of a control and a status.
 fn tells_status(control: &Control, params: &[u8]) -> bool
     ensures { result ≡ tells_status control.now params.now }
 {
     params.len() == 2 && params[0] == function_of(control)
 }
 
-// The function of a control.
+/// The function of a control.
 fn function_of(control: &Control) -> u8
     ensures { result ≡ function_of control.now }
 {
@@ -210,7 +212,7 @@ fn function_of(control: &Control) -> u8
     }
 }
 
-// What user data with these parameters and data answers.
+/// Reads user data with these parameters and these data.
 fn read_user_data<'a>(ask: &Ask, so_far: &[u8], params: &[u8], body: &'a [u8]) -> Option<Told<'a>>
     requires first { (subject : Subject) → ask.now ≡ asked.About subject → length so_far.now ≡ 0 }
     requires alone { (block : DataBlock) → ask.now ≡ asked.Head block → length so_far.now ≡ 0 }
@@ -237,7 +239,7 @@ fn read_user_data<'a>(ask: &Ask, so_far: &[u8], params: &[u8], body: &'a [u8]) -
     }
 }
 
-// A piece of the head of a data block, under a sequence octet if one is asked for.
+/// Reads a piece of the head of a data block, with this sequence octet if one is expected.
 fn read_piece_of_head<'a>(
     block: DataBlock,
     under: Option<u8>,
@@ -253,7 +255,7 @@ fn read_piece_of_head<'a>(
     Some(read_head(block, so_far, told))
 }
 
-// A piece of an answer in user data about this, under a sequence octet if one is asked for.
+/// Reads a piece of an answer in user data about this subject, with this sequence octet if one is expected.
 fn read_piece<'a>(
     subject: Subject,
     under: Option<u8>,
@@ -275,7 +277,8 @@ fn read_piece<'a>(
     read_brought(subject, so_far, &params, octets)
 }
 
-// The parameters answer user data about this: the long form, the group of an answer, and a last-unit octet 00 or 01.
+/// Whether the parameters answer user data about this subject: they have the long form, the group of an answer, and
+/// a last-data-unit octet 00 or 01.
 fn answers_about(subject: Subject, params: &UserParams) -> bool
     ensures { result ≡ answers_about subject params.now }
 {
@@ -285,7 +288,7 @@ fn answers_about(subject: Subject, params: &UserParams) -> bool
         && params.more <= 1
 }
 
-// The answer has the sequence octet that is asked for, if one is.
+/// Whether the answer has the sequence octet that is expected, if one is.
 fn is_under(asked: Option<u8>, octet: u8) -> bool
     ensures { result ≡ is_under asked octet }
 {
@@ -295,7 +298,7 @@ fn is_under(asked: Option<u8>, octet: u8) -> bool
     }
 }
 
-// The octets of the data, if they are data of user data.
+/// The content of the data, if they are data of user data.
 fn octets_in(body: &[u8]) -> Option<&[u8]>
     ensures { MatchOption result (octets_in body.now ≡ None) (λ octets. octets_in body.now ≡ Some octets.now) }
 {
@@ -309,7 +312,7 @@ fn octets_in(body: &[u8]) -> Option<&[u8]>
     }
 }
 
-// The data have octets.
+/// Whether the data have content.
 fn has_octets(body: &[u8]) -> bool
     ensures { result ≡ has_octets body.now }
 {
@@ -318,7 +321,7 @@ fn has_octets(body: &[u8]) -> bool
         && usize::from(number_at(body, 2)) == body.len() - 4
 }
 
-/// The number in the two octets from this place on.
+/// The number in the two octets from this offset on.
 pub(crate) fn number_at(octets: &[u8], place: usize) -> u16
     requires { place + 1 < length octets.now }
     ensures { result ≡ number_at octets.now place }
@@ -326,7 +329,7 @@ pub(crate) fn number_at(octets: &[u8], place: usize) -> u16
     u16::from(octets[place]) * 256 + u16::from(octets[place + 1])
 }
 
-// What octets with these parameters bring: a refusal comes without octets.
+/// Reads octets with these parameters; a refusal has no octets.
 fn read_brought<'a>(
     subject: Subject,
     so_far: &[u8],
@@ -353,8 +356,8 @@ fn read_brought<'a>(
     }
 }
 
-// A piece goes on with what came before it: more may follow one that isn't empty, all of them have room, and with the
-// last one the answer is whole.
+/// Whether a piece continues what came before it: only a piece with octets may have successors, all octets fit the
+/// room, and after the last piece the answer is whole.
 fn goes_on_with(subject: Subject, so_far: &[u8], more: bool, octets: &[u8]) -> bool
     ensures { result ≡ goes_on_with subject so_far.now more octets.now }
 {
@@ -365,14 +368,14 @@ fn goes_on_with(subject: Subject, so_far: &[u8], more: bool, octets: &[u8]) -> b
     if more {
         return !octets.is_empty() && subject.comes_in_pieces();
     }
-    // What tells whether the answer is whole may stand in several pieces.
+    // Pieces may be cut anywhere, so the test of a whole answer needs all octets together.
     let mut whole = [0u8; MOST_JOINED];
     whole[..so_far.len()].copy_from_slice(so_far);
     whole[so_far.len()..len].copy_from_slice(octets);
     is_whole(subject, &whole[..len])
 }
 
-// The octets are a whole answer.
+/// Whether the octets are a whole answer.
 fn is_whole(subject: Subject, octets: &[u8]) -> bool
     ensures { result ≡ is_whole subject octets.now }
 {
@@ -388,7 +391,7 @@ fn is_whole(subject: Subject, octets: &[u8]) -> bool
     }
 }
 
-// An image has as many whole records behind its head as the head says.
+/// Whether an image has exactly the records after its head that the head states.
 fn adds_up(image: &[u8]) -> bool
     ensures { result ≡ adds_up image.now }
 {

@@ -1,4 +1,4 @@
-// Lines that begin an area.
+//! Lines that begin an area.
 ghost use Rattle.std.specs.Prelude.{◌≡◌, option_map};
 ghost use Rattle.std.specs.List.{position};
 ghost use Rattle.s7_text.specs.Fields.{is_space};
@@ -9,6 +9,7 @@ use s7_area::AreaKey;
 use s7_item::codes::{COUNTERS, DATA_BLOCKS, FLAGS, INPUTS, OUTPUTS, TIMERS};
 use s7_text::{number, split_field};
 
+/// A fault of this kind in this line.
 pub(crate) fn fault(line: u32, kind: AreasKind) -> AreasFault
     ensures { result ≡ record { line = line; kind = kind } }
 {
@@ -27,7 +28,7 @@ pub(crate) fn area_line(line: u32, text: &[u8]) -> Result<(AreaKey, u64), AreasF
     }
 }
 
-/// The code of the area of this name.
+/// The code of the area of this name: `PE`, `PA`, `MK`, `CT` or `TM`; `None` for any other name.
 pub(crate) fn area_named(name: &[u8]) -> Option<u8>
     ensures { result ≡ area_named name.now }
 {
@@ -48,7 +49,7 @@ pub(crate) fn area_named(name: &[u8]) -> Option<u8>
     }
 }
 
-/// The number of a data block, and its length.
+/// The fields after `DB`: the number of a data block, and its length.
 fn block_line(line: u32, rest: Option<&[u8]>) -> Result<(AreaKey, u64), AreasFault>
     ensures { result ≡ block_line line (option_map (λ t. t.now) rest.entry) }
 {
@@ -64,7 +65,7 @@ fn block_line(line: u32, rest: Option<&[u8]>) -> Result<(AreaKey, u64), AreasFau
     with_size(line, key, rest)
 }
 
-/// The length, which is the last field.
+/// The length, which must be the last field.
 fn with_size(line: u32, key: AreaKey, rest: Option<&[u8]>) -> Result<(AreaKey, u64), AreasFault>
     ensures { result ≡ with_size line key (option_map (λ t. t.now) rest.entry) }
 {
@@ -79,7 +80,7 @@ fn with_size(line: u32, key: AreaKey, rest: Option<&[u8]>) -> Result<(AreaKey, u
     }
 }
 
-/// The number, where it is within these limits.
+/// The number, if there is one from `low` to `high`; otherwise the fault `Number` of this line.
 pub(crate) fn number_within(
     low: u64,
     high: u64,

@@ -1,4 +1,4 @@
-// Lines that give a guard.
+//! Lines that give a guard.
 ghost use Rattle.std.specs.Prelude.{◌≡◌, ◌≤◌, length, option_map};
 ghost use Rattle.std.specs.List.{list_all};
 ghost use Rattle.s7_script.specs.Reading.{guard_line, is_graphic, is_word, password_of, with_word};
@@ -8,7 +8,7 @@ use crate::{AreasFault, AreasKind};
 use s7_area::Guard;
 use s7_text::{number, split_field};
 
-/// The guard of a line whose first field is `protect`: what follows are its level, 2 or 3, and its
+/// The guard of a line whose first field is `protect`. The fields after it are the guard's level, 2 or 3, and its
 /// password.
 pub(crate) fn guard_line(line: u32, rest: Option<&[u8]>) -> Result<Guard, AreasFault>
     ensures { result ≡ guard_line line (option_map (λ t. t.now) rest.entry) }
@@ -21,7 +21,7 @@ pub(crate) fn guard_line(line: u32, rest: Option<&[u8]>) -> Result<Guard, AreasF
     with_word(line, level as u8, rest)
 }
 
-/// The password, which is the last field.
+/// The password, which must be the last field.
 fn with_word(line: u32, level: u8, rest: Option<&[u8]>) -> Result<Guard, AreasFault>
     ensures { result ≡ with_word line level (option_map (λ t. t.now) rest.entry) }
 {
@@ -34,7 +34,7 @@ fn with_word(line: u32, level: u8, rest: Option<&[u8]>) -> Result<Guard, AreasFa
     }
 }
 
-/// One to eight printable ASCII octets without space.
+/// Whether a text is one to eight printable ASCII octets without space.
 fn is_word(text: &[u8]) -> bool
     ensures { result ≡ is_word text.now }
 {
@@ -48,7 +48,7 @@ pub(crate) fn all_graphic(text: &[u8]) -> bool
     text.iter().all(|b| b.is_ascii_graphic())
 }
 
-/// A word, filled up with spaces.
+/// The password of a word: the word, padded with spaces to eight octets.
 fn password_of(word: &[u8]) -> [u8; 8]
     requires { length word.now ≤ 8 }
     ensures { result ≡ password_of word.now }

@@ -1,4 +1,4 @@
-// The areas that a word of the command line names.
+//! Loading the areas that an argument of the command line names.
 ghost use Rattle.std.specs.Prelude.{◌≡◌, ◌≢◌, ◌≤◌, length, option_map, Err, IfSome, Ok};
 ghost use Rattle.hex.specs.Hex.{decode_of};
 ghost use Rattle.s7_text.specs.Fields.{number_of};
@@ -16,35 +16,32 @@ use s7_outer::{FileFault, Files, Octets};
 use s7_text::{number, split_mark};
 use std::alloc::Global;
 
-/// How many octets a data block has at most.
+/// The greatest number of octets of a data block.
 const MOST_OCTETS: usize = 2_097_152;
 
-/// Why areas were not loaded.
+/// Why areas weren't loaded.
 #[derive(Clone, Copy, Debug, PartialEq, Eq)]
 pub enum LoadFault {
-    /// The file is not there, or could not be read.
+    /// The file doesn't exist, or couldn't be read.
     Failed,
     /// The file has more than 67,108,864 octets.
     TooLong,
-    /// The first faulty line of the file, from 1 on, or line 1 for an inline word that can't be
-    /// read.
+    /// The number of the first faulty line of the file, from 1 on. It is 1 for an inline word that can't be read.
     Line(u32),
-    /// There is no memory.
+    /// An allocation failed.
     Memory,
 }
 
-/// The areas that a word names. No path changes.
+/// The areas that a word names. No file is changed.
 ///
-/// A word that begins with `DB` and holds `=` is inline: `DBn=HEX`, where `n` is a decimal number
-/// of at most ten digits from 1 to 65,535, and `HEX` an even number of hexadecimal digits in either
-/// case for 1 to 2,097,152 octets. It names the data block `n` alone, with these octets and without a
-/// guard; where it can't be read, the answer is `Line(1)`. It touches no file.
+/// A word that begins with `DB` and contains `=` is inline: `DBn=HEX`, where `n` is a decimal number of at most ten
+/// digits from 1 to 65,535, and `HEX` an even number of hexadecimal digits in either case for 1 to 2,097,152 octets. It
+/// names the data block `n` alone, with these octets and without a guard. If it can't be read, the result is `Line(1)`.
+/// It touches no file.
 ///
-/// Every other word is a path, and the file under it is read as `read_areas` has it, with its guard
-/// where it has one. `Failed` comes
-/// only where this path's count of faults rose in this call, `TooLong` exactly where more than
-/// 67,108,864 octets were read, and `Line` exactly where a line is faulty. `Memory` comes where
-/// there is none.
+/// Every other word is a path. The file is read as `read_areas` reads it, with its guard if it has one. Returns
+/// `Failed` only if this path's fault counter rose in this call, `TooLong` exactly if more than 67,108,864 octets were
+/// read, and `Line` exactly if a line is faulty. Returns `Memory` if an allocation fails.
 pub fn load_areas<F: Files>(alloc: Global, files: &mut F, word: &str) -> Result<Areas, LoadFault>
     ensures { Loads (naming word.now) (F.shows files.old) (F.shows files.new) result }
 {
@@ -54,7 +51,7 @@ pub fn load_areas<F: Files>(alloc: Global, files: &mut F, word: &str) -> Result<
     }
 }
 
-/// The number and the digits of an inline word.
+/// The number and the digits of an inline word; `None` if the word isn't inline.
 fn inline_parts(word: &[u8]) -> Option<(&[u8], &[u8])>
     ensures { option_map (λ p. (p.0.now, p.1.now)) result ≡ inline_parts word.now }
 {
@@ -78,6 +75,7 @@ fn load_block(alloc: Global, number_text: &[u8], digits: &[u8]) -> Result<Areas,
     }
 }
 
+/// The number of a data block, from 1 to 65,535.
 fn block_number(number: Option<u64>) -> Option<u16>
     ensures number { result ≡ block_number number }
     ensures least { IfSome result (λ n. 1 ≤ n) }
@@ -88,6 +86,7 @@ fn block_number(number: Option<u64>) -> Option<u16>
     }
 }
 
+/// One data block with these octets.
 fn open_block(alloc: Global, number: u16, octets: Vec<u8>) -> Result<Areas, LoadFault>
     requires { 1 ≤ number }
     ensures { LoadsBlock (block_with number (block_octets (Ok octets.items))) result }

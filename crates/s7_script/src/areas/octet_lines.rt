@@ -1,4 +1,4 @@
-// Writing the octets of an area.
+//! Writing the octets of an area.
 ghost use Rattle.std.specs.Prelude.{◌≡◌, ◌==◌, ◌<◌, ◌≤◌, ◌++◌, ◌∷◌, [], min, take, IfOk, OnOk, length};
 ghost use Rattle.std.specs.List.{prefix_len};
 ghost use Rattle.std.specs.Fmt.{decimal};
@@ -11,11 +11,11 @@ use std::alloc::Global;
 /// The fewest equal octets that are written as a run.
 const LEAST_RUN: usize = 33;
 
-/// How many octets a line of digits has at most.
+/// The most octets on a line of digits.
 const MOST_DIGITS: usize = 32;
 
-/// Appends the lines of octets: runs of at least 33 equal octets, and 32 octets in digits, or fewer
-/// before a run and at the end.
+/// Appends the lines of octets: at least 33 equal octets are a run; the others are digits, 32 octets on a line, or
+/// fewer before a run and at the end.
 pub(crate) fn write_octets(alloc: Global, text: &mut Vec<u8>, octets: &[u8]) -> Result<(), Memory>
     ensures { OnOk result (text.new.items
         ≡ text.old.items ++ octet_lines (length octets.now) octets.now) }
@@ -28,7 +28,7 @@ pub(crate) fn write_octets(alloc: Global, text: &mut Vec<u8>, octets: &[u8]) -> 
     Ok(())
 }
 
-/// Appends the next line, and tells how many octets it stands for.
+/// Appends the next line, and returns how many octets it states.
 fn write_line(alloc: Global, text: &mut Vec<u8>, octets: &[u8]) -> Result<usize, Memory>
     requires { 0 < length octets.now }
     ensures text { OnOk result (text.new.items ≡ text.old.items ++ (line_text octets.now ++ 10 ∷ [])) }
@@ -46,7 +46,7 @@ fn write_line(alloc: Global, text: &mut Vec<u8>, octets: &[u8]) -> Result<usize,
     Ok(count)
 }
 
-/// Appends a run of so many octets like this one.
+/// Appends a run of this number of octets like this one.
 fn write_run(alloc: Global, text: &mut Vec<u8>, count: usize, octet: &[u8]) -> Result<(), Memory>
     ensures { OnOk result (text.new.items
         ≡ text.old.items ++ ((decimal count ++ 42 ∷ encode_lower octet.now) ++ 10 ∷ [])) }
@@ -67,7 +67,7 @@ fn write_digits(alloc: Global, text: &mut Vec<u8>, octets: &[u8]) -> Result<(), 
     Ok(())
 }
 
-/// How many equal octets a slice begins with.
+/// The number of equal octets with which a slice begins.
 fn front(octets: &[u8]) -> usize
     ensures { result ≡ front_of octets.now }
 {
@@ -77,14 +77,14 @@ fn front(octets: &[u8]) -> usize
     }
 }
 
-/// How often this octet stands at the front.
+/// How often this octet is repeated at the beginning.
 fn repeats(octet: u8, octets: &[u8]) -> usize
     ensures { result ≡ prefix_len (λ b. b == octet) octets.now }
 {
     octets.iter().take_while(|b| **b == octet).count()
 }
 
-/// How many octets stand before the first place where a run begins, up to 32.
+/// The number of octets before the first run, up to 32.
 fn before_run(octets: &[u8]) -> usize
     ensures { result ≡ min 32 (before_run octets.now) }
 {

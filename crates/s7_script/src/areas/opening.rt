@@ -1,4 +1,4 @@
-// What was read of an area file so far.
+//! The state of reading an area file.
 ghost use Rattle.std.specs.Prelude.{◌≡◌, ◌≤◌, vec_len};
 ghost use Rattle.std.specs.List.Sorted.{IsStrictlySortedBy, IsStrictlySortedBy-prop};
 ghost use Rattle.std.specs.Map.{keys_of};
@@ -18,8 +18,8 @@ pub(crate) struct Open {
     ghost within: { vec_len octets ≤ size },
 }
 
-/// The version, whether a guard may still come, the areas that are whole, with the guard, how many
-/// octets they have together, and the area that isn't whole.
+/// What was read so far: the version; whether a guard may still come; the complete areas, with the guard; their octets
+/// in all; and the area that isn't complete.
 #[derive(Drop)]
 pub(crate) struct State {
     pub version: Version,

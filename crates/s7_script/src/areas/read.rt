@@ -1,4 +1,4 @@
-// Reading area files.
+//! Reading area files.
 ghost use Rattle.std.specs.Prelude.{◌≡◌, OnOk, IfErr, ◌<◌, ◌≤◌, ◌+◌, ◌-◌, ◌∷◌, ℕ, [], Ok, length, option_map, vec_len};
 ghost use Rattle.std.specs.Prelude.{Some, None};
 ghost use Rattle.hex.specs.Hex.{decode_of};
@@ -22,27 +22,26 @@ use s7_outer::Octets;
 use s7_text::{first_line, split_field};
 use std::alloc::Global;
 
-/// How many octets an area has at most.
+/// The greatest number of octets of an area.
 const MOST_OCTETS: u64 = 2_097_152;
 
-/// How many octets all areas have together at most.
+/// The greatest number of octets of all areas together.
 const MOST_IN_ALL: u64 = 16_777_216;
 
 /// The areas that an area file names, with the guard that it gives, or its first wrong line.
 ///
-/// Each line ends with LF, before which a CR is passed over; the last LF may be missing. The first
-/// line is `s7 areas 1` or `s7 areas 2`. After it empty lines and lines that begin with `#` are
-/// passed over. Fields are separated by one space, and numbers are decimal with at most ten digits.
+/// Each line ends with LF; a CR right before the LF is skipped, and the last LF may be missing. The first line is `s7
+/// areas 1` or `s7 areas 2`. After it, empty lines and lines that begin with `#` are skipped. Fields are separated by
+/// one space, and numbers are decimal with at most ten digits.
 ///
-/// Before any area there may be one line `protect`, a level, 2 or 3, and a password: one to eight
-/// printable ASCII octets without space. It is the guard, and without it there is none. An area
-/// begins with the line `PE`, `PA`, `MK`, `CT` or `TM` and its length, or `DB`, the number of the
-/// data block from 1 to 65,535, and its length. Lines of hexadecimal digits in either case follow,
-/// and in version 2 runs too: `COUNT*HH` stands for COUNT, from 1 on, times the octet of the two
-/// digits HH; until the area has as many octets as its length says. Each area is registered as
-/// `Areas::register` has it.
+/// Before any area there may be one line `protect`, a level, 2 or 3, and a password: one to eight printable ASCII
+/// octets without space. It is the guard; without this line the areas have none. An area begins with the line `PE`,
+/// `PA`, `MK`, `CT` or `TM` and its length, or `DB`, the number of the data block from 1 to 65,535, and its length.
+/// Lines with the octets follow, until the area has as many octets as its length states. Such a line is hexadecimal
+/// digits in either case; in version 2 it may also be a run, `COUNT*HH`, which states COUNT octets, from 1 on, with the
+/// value HH. Each area is registered by `Areas::register`.
 ///
-/// `AreasKind` says what each fault is. `Memory` comes where there is none.
+/// `AreasKind` explains each fault. Returns `Memory` if an allocation fails.
 pub fn read_areas(alloc: Global, text: &[u8]) -> Result<Areas, AreasFault>
     ensures { Gives (λ a. a) result (areas_by text.now) }
 {
@@ -69,7 +68,7 @@ fn version_of(first: &[u8]) -> Option<Version>
     }
 }
 
-/// The lines from the second on.
+/// Reads the lines from the second on.
 fn read_rest(alloc: Global, version: Version, text: &[u8]) -> Result<Areas, AreasFault>
     ensures { Gives (λ a. a) result (read_lines 2 (nothing_read version) (lines text.now)) }
 {
@@ -89,6 +88,7 @@ fn read_rest(alloc: Global, version: Version, text: &[u8]) -> Result<Areas, Area
     }
 }
 
+/// The state before the second line.
 fn nothing(version: Version) -> State
     ensures { state_of result ≡ nothing_read version }
 {
@@ -102,7 +102,7 @@ fn nothing(version: Version) -> State
 }
 
 impl State {
-    /// Takes the next line.
+    /// Reads the next line.
     #[tactic(auto, unfolding(crate::specs::Reading::with_line))]
     fn take_line(&mut self, alloc: Global, line: u32, text: &[u8]) -> Result<(), AreasFault>
         ensures ok { OnOk result (with_line line (state_of self.old) text.now ≡ Ok (state_of self.new)) }
@@ -121,7 +121,7 @@ impl State {
         }
     }
 
-    /// Takes a line that gives a guard: the fields after its first one.
+    /// Reads a line that gives a guard: the fields after its first one.
     fn take_guard(&mut self, line: u32, rest: Option<&[u8]>) -> Result<(), AreasFault>
         ensures ok { OnOk result
             (guarded line (state_of self.old) (option_map (λ t. t.now) rest.entry) ≡ Ok (state_of self.new)) }
@@ -137,7 +137,7 @@ impl State {
         Ok(())
     }
 
-    /// Takes a line that begins an area.
+    /// Reads a line that begins an area.
     fn begin_area(&mut self, alloc: Global, line: u32, text: &[u8]) -> Result<(), AreasFault>
         ensures ok { OnOk result (by_current line (state_of self.old) None text.now ≡ Ok (state_of self.new)) }
         ensures err { IfErr result (λ e. FailsAs e e.kind (by_current line (state_of self.old) None text.now)) }
@@ -156,7 +156,7 @@ impl State {
         Ok(())
     }
 
-    /// No area of this name may have so many octets beside those that are whole.
+    /// Whether no area of this name and this length may be added to those that are complete.
     fn is_wrong_size(&self, key: AreaKey, size: u64) -> bool
         ensures { result ≡ is_wrong_size self.now.areas key size }
     {
@@ -166,7 +166,7 @@ impl State {
             || size > MOST_IN_ALL - self.total as u64
     }
 
-    /// Takes a line of octets of an area.
+    /// Reads a line of octets of an area.
     fn add_line(
         &mut self,
         alloc: Global,
@@ -185,7 +185,7 @@ impl State {
         }
     }
 
-    /// Takes a run of equal octets of an area.
+    /// Reads a run of equal octets of an area.
     fn add_run(
         &mut self,
         alloc: Global,
@@ -210,7 +210,7 @@ impl State {
         self.fill(alloc, area)
     }
 
-    /// Takes octets of an area, in digits.
+    /// Reads octets of an area, in digits.
     fn add_octets(
         &mut self,
         alloc: Global,
@@ -237,7 +237,7 @@ impl State {
         self.fill(alloc, area)
     }
 
-    /// Goes on with an area that has more octets, or registers it where it is whole.
+    /// Continues with an area that has more octets, or registers it if it is complete.
     fn fill(&mut self, alloc: Global, area: Open) -> Result<(), AreasFault>
         ensures ok { OnOk result (filled (state_of self.old) (open_of area) ≡ Ok (state_of self.new)) }
         ensures err { IfErr result (λ e. FailsAs e e.kind (filled (state_of self.old) (open_of area))) }
@@ -249,7 +249,7 @@ impl State {
         self.register(alloc, area)
     }
 
-    /// Registers an area that is whole.
+    /// Registers an area that is complete.
     fn register(&mut self, alloc: Global, area: Open) -> Result<(), AreasFault>
         ensures ok { OnOk result (registered (state_of self.old) (open_of area) ≡ Ok (state_of self.new)) }
         ensures err { IfErr result (λ e. FailsAs e e.kind (registered (state_of self.old) (open_of area))) }
@@ -270,7 +270,7 @@ impl State {
     }
 }
 
-/// The fault of an area that isn't taken.
+/// The fault of an area that is refused.
 fn kind_of(refusal: RegisterFault) -> AreasKind
     ensures { result ≡ kind_of refusal }
 {

@@ -1,10 +1,10 @@
-// The versions of area files.
+//! The versions of area files.
 
 /// The version of an area file.
 #[derive(Clone, Copy, Debug, PartialEq, Eq)]
 pub(crate) enum Version {
-    /// Octets are hexadecimal digits alone.
+    /// Octets are written in hexadecimal digits only.
     One,
-    /// Lines of octets may be runs too.
+    /// Octets may be written in runs, too.
     Two,
 }

@@ -1,4 +1,4 @@
-// Writing area files.
+//! Writing area files.
 ghost use Rattle.std.specs.Prelude.{◌≡◌, ◌++◌, Ok, IfOk, OnOk, length, map};
 ghost use Rattle.std.specs.List.{AllByRecursion, flat_map};
 ghost use Rattle.std.specs.Map.{keys_of};
@@ -15,12 +15,11 @@ use s7_outer::{Memory, Octets};
 use s7_text::split_field;
 use std::alloc::Global;
 
-/// The area file of areas, in version 2: the first line, the line of the guard, where there is one,
-/// then inputs, outputs, flags, counters, timers and the data blocks in ascending order of their
-/// numbers. At least 33 equal octets are a run, all of them on one line; the others are digits in
-/// lower case, 32 octets on a line, or fewer before a run and at the end of an area. Every line ends
-/// with LF. `read_areas` reads the same areas and the same guard again. `Memory` comes where there is
-/// none.
+/// The area file of these areas, in version 2: the first line; the line of the guard, if there is one; then inputs,
+/// outputs, flags, counters, timers, and the data blocks in ascending order of their numbers. At least 33 equal octets
+/// are a run, all of them on one line. The others are digits in lower case, 32 octets on a line, or fewer before a run
+/// and at the end of an area. Every line ends with LF. `read_areas` reads the same areas and the same guard from it.
+/// Returns `Memory` if an allocation fails.
 pub fn write_areas(alloc: Global, areas: &Areas) -> Result<Octets, Memory>
     ensures spelled { IfOk result (λ text. text ≡ spelling areas.now) }
     ensures law { IfOk result (λ text. areas_by text ≡ Ok areas.now) }
@@ -39,7 +38,7 @@ pub fn write_areas(alloc: Global, areas: &Areas) -> Result<Octets, Memory>
     Ok(Octets::of_vec(text))
 }
 
-/// Appends the line of the guard, where there is one.
+/// Appends the line of the guard, if there is one.
 fn write_guard(alloc: Global, text: &mut Vec<u8>, areas: &Areas) -> Result<(), Memory>
     ensures { OnOk result (text.new.items ≡ text.old.items ++ guard_text areas.now.guard) }
 {
@@ -55,7 +54,7 @@ fn write_guard(alloc: Global, text: &mut Vec<u8>, areas: &Areas) -> Result<(), M
     Ok(())
 }
 
-/// Appends the areas with these codes, of which there is one each.
+/// Appends the areas with these codes; each code has one area at most.
 fn write_singles(
     alloc: Global,
     text: &mut Vec<u8>,
@@ -95,7 +94,7 @@ fn write_blocks(alloc: Global, text: &mut Vec<u8>, areas: &Areas) -> Result<(), 
     Ok(())
 }
 
-/// Appends an area, where there is one of this name.
+/// Appends the area of this name, if there is one.
 #[tactic(auto, unfolding(crate::specs::Spelling::part))]
 fn write_part(alloc: Global, text: &mut Vec<u8>, areas: &Areas, key: AreaKey) -> Result<(), Memory>
     ensures ok { OnOk result (text.new.items ≡ text.old.items ++ part areas.now key) }
@@ -107,6 +106,7 @@ fn write_part(alloc: Global, text: &mut Vec<u8>, areas: &Areas, key: AreaKey) ->
     }
 }
 
+/// Appends an area: the line that begins it, and the lines of its octets.
 fn write_area(alloc: Global, text: &mut Vec<u8>, key: AreaKey, octets: &[u8]) -> Result<(), Memory>
     ensures ok { OnOk result (text.new.items ≡ text.old.items ++ area_text key octets.now) }
     ensures octets { IsBytes octets.now }
@@ -123,6 +123,7 @@ fn write_area(alloc: Global, text: &mut Vec<u8>, key: AreaKey, octets: &[u8]) ->
     write_octets(alloc, text, octets)
 }
 
+/// The name of an area that isn't a data block.
 fn name_of(area: u8) -> &'static str
     ensures { result.now ≡ name_of area }
 {

@@ -1,4 +1,4 @@
-// The jobs of lines about blocks.
+//! The jobs of lines about blocks.
 ghost use Rattle.std.specs.Prelude.{◌≡◌, option_map};
 ghost use Rattle.s7_script.specs.Script.{Gives, block_named, delete_job, download_job, info_job, kind_named};
 ghost use Rattle.s7_script.specs.Script.{list_of_job, upload_job, with_number, word_of};
@@ -13,7 +13,7 @@ use s7_outer::Octets;
 use s7_text::{number, split_field};
 use std::alloc::Global;
 
-/// The list of the blocks of a kind.
+/// The job that lists the blocks of a kind.
 pub(crate) fn list_of_job(rest: Option<&[u8]>) -> Result<Job, ScriptKind>
     ensures { result ≡ list_of_job (option_map (λ t. t.now) rest.entry) }
 {
@@ -25,7 +25,7 @@ pub(crate) fn list_of_job(rest: Option<&[u8]>) -> Result<Job, ScriptKind>
     ended(Job::ListOf { kind }, rest)
 }
 
-/// The head of the block of a kind and a number.
+/// The job that reads the head of a block.
 pub(crate) fn info_job(rest: Option<&[u8]>) -> Result<Job, ScriptKind>
     ensures { result ≡ info_job (option_map (λ t. t.now) rest.entry) }
 {
@@ -33,7 +33,7 @@ pub(crate) fn info_job(rest: Option<&[u8]>) -> Result<Job, ScriptKind>
     Ok(Job::Info { kind, number })
 }
 
-/// Its upload.
+/// The job that uploads a block.
 pub(crate) fn upload_job(rest: Option<&[u8]>) -> Result<Job, ScriptKind>
     ensures { result ≡ upload_job (option_map (λ t. t.now) rest.entry) }
 {
@@ -41,7 +41,7 @@ pub(crate) fn upload_job(rest: Option<&[u8]>) -> Result<Job, ScriptKind>
     Ok(Job::Upload { kind, number })
 }
 
-/// The download of an image.
+/// The job that downloads an image.
 pub(crate) fn download_job(alloc: Global, rest: Option<&[u8]>) -> Result<Job, ScriptKind>
     ensures { Gives (λ j. j) result (download_job (option_map (λ t. t.now) rest.entry)) }
 {
@@ -53,7 +53,7 @@ pub(crate) fn download_job(alloc: Global, rest: Option<&[u8]>) -> Result<Job, Sc
     ended(Job::Download { image }, rest)
 }
 
-/// That a block is deleted.
+/// The job that deletes a block.
 pub(crate) fn delete_job(rest: Option<&[u8]>) -> Result<Job, ScriptKind>
     ensures { result ≡ delete_job (option_map (λ t. t.now) rest.entry) }
 {
@@ -61,6 +61,7 @@ pub(crate) fn delete_job(rest: Option<&[u8]>) -> Result<Job, ScriptKind>
     Ok(Job::Delete { kind, number })
 }
 
+/// The block of the fields: a kind and a number.
 fn block_named(rest: Option<&[u8]>) -> Result<BlockName, ScriptKind>
     ensures { result ≡ block_named (option_map (λ t. t.now) rest.entry) }
 {
@@ -72,6 +73,7 @@ fn block_named(rest: Option<&[u8]>) -> Result<BlockName, ScriptKind>
     with_number(kind, rest)
 }
 
+/// The block of this kind, with the number in the last field.
 fn with_number(kind: u8, rest: Option<&[u8]>) -> Result<BlockName, ScriptKind>
     ensures { result ≡ with_number kind (option_map (λ t. t.now) rest.entry) }
 {
@@ -83,6 +85,7 @@ fn with_number(kind: u8, rest: Option<&[u8]>) -> Result<BlockName, ScriptKind>
     ended(BlockName { kind, number }, rest)
 }
 
+/// The code of the kind of blocks in a field.
 fn kind_of(field: &[u8]) -> Result<u8, ScriptKind>
     ensures { result ≡ word_of (kind_named field.now) }
 {

@@ -1,4 +1,4 @@
-// The jobs of lines about whole data blocks.
+//! The jobs of lines about whole data blocks.
 ghost use Rattle.std.specs.Prelude.{◌≡◌, option_map};
 ghost use Rattle.hex.specs.Hex.{decode_of};
 ghost use Rattle.s7_script.specs.Script.{db_fill_job, db_get_job, octet_in, with_value};
@@ -9,7 +9,7 @@ use hex::FromHex;
 use s7_client::Job;
 use s7_text::{number, split_field};
 
-/// That a data block is read.
+/// The job that reads a whole data block.
 pub(crate) fn db_get_job(rest: Option<&[u8]>) -> Result<Job, ScriptKind>
     ensures { result ≡ db_get_job (option_map (λ t. t.now) rest.entry) }
 {
@@ -21,7 +21,7 @@ pub(crate) fn db_get_job(rest: Option<&[u8]>) -> Result<Job, ScriptKind>
     ended(Job::DbGet { number }, rest)
 }
 
-/// That one is filled with an octet.
+/// The job that fills a data block with an octet.
 pub(crate) fn db_fill_job(rest: Option<&[u8]>) -> Result<Job, ScriptKind>
     ensures { result ≡ db_fill_job (option_map (λ t. t.now) rest.entry) }
 {
@@ -33,6 +33,7 @@ pub(crate) fn db_fill_job(rest: Option<&[u8]>) -> Result<Job, ScriptKind>
     with_value(number, rest)
 }
 
+/// The job that fills the data block of this number, with the octet in the last field.
 fn with_value(number: u16, rest: Option<&[u8]>) -> Result<Job, ScriptKind>
     ensures { result ≡ with_value number (option_map (λ t. t.now) rest.entry) }
 {

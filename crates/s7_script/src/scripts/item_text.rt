@@ -1,4 +1,4 @@
-// Items as scripts write them.
+//! Items as scripts write them.
 ghost use Rattle.std.specs.Prelude.{◌≡◌, ◌<◌, ◌≤◌, ◌+◌, IfOk, IfSome, length, take, drop, option_map};
 ghost use Rattle.std.specs.List.{position};
 ghost use Rattle.std.specs.Result.{result_map_both};
@@ -16,13 +16,13 @@ use s7_item::codes::{
 };
 use s7_text::{number, split_field};
 
-/// The last octet that an address reaches.
+/// The greatest number of an octet in an address.
 const LAST_OCTET: u64 = 2_097_151;
 
-/// The last counter or timer that an address reaches.
+/// The greatest number of a counter or timer in an address.
 const LAST_NUMBER: u64 = 16_777_215;
 
-/// Where an item lies, and the fields that follow.
+/// The place of an item, and the fields that follow.
 #[derive(Clone, Copy)]
 pub(crate) struct Placed<'a> {
     pub(crate) key: AreaKey,
@@ -39,6 +39,7 @@ pub(crate) fn read_item(text: &[u8]) -> Result<Item, ScriptKind>
     with_count(placed)
 }
 
+/// The item at this place, with the count in the last field.
 fn with_count(placed: Placed) -> Result<Item, ScriptKind>
     ensures { result ≡ with_count (placed_told placed.entry) (placed_told placed.entry).rest }
 {
@@ -50,7 +51,7 @@ fn with_count(placed: Placed) -> Result<Item, ScriptKind>
     ended(item_at(placed, count as u16), rest)
 }
 
-/// What was read, where there are no more fields.
+/// What was read, if there are no more fields.
 pub(crate) fn ended<T: Drop>(found: T, rest: Option<&[u8]>) -> Result<T, ScriptKind>
     ensures { result ≡ ended found (option_map (λ t. t.now) rest.entry) }
 {
@@ -60,7 +61,7 @@ pub(crate) fn ended<T: Drop>(found: T, rest: Option<&[u8]>) -> Result<T, ScriptK
     }
 }
 
-/// So many elements from this place on.
+/// This number of elements from this address on.
 pub(crate) fn item_at(placed: Placed, count: u16) -> Item
     ensures { result ≡ item_at (placed_told placed.entry) count }
 {
@@ -73,7 +74,7 @@ pub(crate) fn item_at(placed: Placed, count: u16) -> Item
     }
 }
 
-/// Where an item lies: its key, word and start.
+/// The place of an item: its key, word and start.
 pub(crate) fn place(text: &[u8]) -> Result<Placed<'_>, ScriptKind>
     ensures { result_map_both placed_told (λ e. e) result ≡ place text.now }
 {
@@ -82,6 +83,7 @@ pub(crate) fn place(text: &[u8]) -> Result<Placed<'_>, ScriptKind>
     with_word(key, rest)
 }
 
+/// The place in the area of this key, from the fields of the word and the start.
 fn with_word(key: AreaKey, rest: Option<&[u8]>) -> Result<Placed<'_>, ScriptKind>
     ensures { result_map_both placed_told (λ e. e) result ≡ with_word key (option_map (λ t. t.now) rest.entry) }
 {
@@ -93,6 +95,7 @@ fn with_word(key: AreaKey, rest: Option<&[u8]>) -> Result<Placed<'_>, ScriptKind
     with_start(key, word, rest)
 }
 
+/// The place in the area of this key with this word, from the field of the start.
 fn with_start(key: AreaKey, word: u8, rest: Option<&[u8]>) -> Result<Placed<'_>, ScriptKind>
     ensures { result_map_both placed_told (λ e. e) result ≡ with_start key word (option_map (λ t. t.now) rest.entry) }
 {
@@ -150,6 +153,7 @@ fn address_of(key: AreaKey, word: u8, field: &[u8]) -> Result<u32, ScriptKind>
     }
 }
 
+/// The address of an octet, in bits.
 fn octet_place(field: &[u8]) -> Result<u32, ScriptKind>
     ensures { result ≡ octet_place field.now }
 {
@@ -157,7 +161,7 @@ fn octet_place(field: &[u8]) -> Result<u32, ScriptKind>
     Ok(octet as u32 * 8)
 }
 
-/// Octet and bit, with a point between them.
+/// The address of a bit: an octet and a bit, with a point between them.
 fn bit_place(field: &[u8]) -> Result<u32, ScriptKind>
     ensures { result ≡ bit_place field.now (position is_point field.now) }
 {
@@ -170,7 +174,7 @@ fn bit_place(field: &[u8]) -> Result<u32, ScriptKind>
     Ok(octet as u32 * 8 + bit as u32)
 }
 
-/// A number in a range.
+/// The number, if there is one in this range.
 pub(crate) fn within(low: u64, high: u64, found: Option<u64>) -> Result<u64, ScriptKind>
     ensures value { result ≡ within low high found }
     ensures most { IfOk result (λ n. n ≤ high) }
@@ -181,7 +185,7 @@ pub(crate) fn within(low: u64, high: u64, found: Option<u64>) -> Result<u64, Scr
     }
 }
 
-/// Where the first point is.
+/// The index of the first point, `None` if there is none.
 fn point(field: &[u8]) -> Option<usize>
     ensures place { result ≡ position is_point field.now }
     ensures within { IfSome result (λ n. n < length field.now) }
@@ -189,7 +193,7 @@ fn point(field: &[u8]) -> Option<usize>
     field.iter().position(|b| *b == b'.')
 }
 
-/// What stands before this place, and what stands after it.
+/// The texts before and after this index.
 fn parted(field: &[u8], point: usize) -> (&[u8], &[u8])
     requires { point < length field.now }
     ensures before { result.0.now ≡ take point field.now }

@@ -13,21 +13,20 @@ pub enum ScriptKind {
     /// 2089; or the value of a tag isn't one of its type.
     #[error("no number for this field")]
     Number,
-    /// The octets aren't an even number of hexadecimal digits, at least two; or the id or index of a
-    /// status list isn't four of them, the value of `dbfill` two, or the R_ID of a send eight.
+    /// The octets aren't an even number of hexadecimal digits, at least two; or the id or index of a status list isn't
+    /// four digits, the value of `dbfill` isn't two, or the R_ID of a send isn't eight.
     #[error("no hexadecimal digits")]
     Digits,
-    /// A field is missing or too many, or the octets of a written item are no whole number of
-    /// elements.
+    /// A field is missing or too many, or the octets of a written item make no whole number of elements.
     #[error("a field is missing or too many")]
     Fields,
-    /// There is no memory.
+    /// An allocation failed.
     #[error("out of memory")]
     Memory,
 }
 
-/// The first wrong line of a script, and what is wrong with it. Lines are numbered from 1, and those
-/// after line 4,294,967,295 have its number too.
+/// The first wrong line of a script, and what is wrong with it. Lines are numbered from 1; all lines after line
+/// 4,294,967,295 have that number.
 #[derive(Clone, Copy, Debug, PartialEq, Eq)]
 pub struct ScriptFault {
     pub line: u32,

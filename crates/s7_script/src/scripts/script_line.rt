@@ -1,4 +1,4 @@
-// The jobs of lines.
+//! The jobs of lines.
 ghost use Rattle.std.specs.Prelude.{◌≡◌, ◌<◌, ◌≤◌, ◌+◌, [], ◌∷◌, ◌++◌, length, take, drop, option_map, IfSome, IfNone};
 ghost use Rattle.std.specs.Prelude.{IsTrue, OnOk, IfErr, codes};
 ghost use Rattle.std.specs.Str.{bytes_eq};
@@ -62,7 +62,7 @@ pub(crate) fn job_named(alloc: Global, name: &[u8], rest: Option<&[u8]>) -> Resu
     }
 }
 
-/// The job of this name, of those without fields.
+/// The job of this name, if it is a job without fields.
 fn plain_job(name: &[u8]) -> Option<Job>
     ensures { result ≡ plain_job name.now }
 {
@@ -89,6 +89,7 @@ fn plain_job(name: &[u8]) -> Option<Job>
     }
 }
 
+/// The job that reads one item.
 fn read_job(rest: Option<&[u8]>) -> Result<Job, ScriptKind>
     ensures { result ≡ read_job (option_map (λ t. t.now) rest.entry) }
 {
@@ -99,6 +100,7 @@ fn read_job(rest: Option<&[u8]>) -> Result<Job, ScriptKind>
     Ok(Job::ReadArea { item })
 }
 
+/// The job that writes one item.
 fn write_job(alloc: Global, rest: Option<&[u8]>) -> Result<Job, ScriptKind>
     ensures { Gives (λ j. j) result (write_job (option_map (λ t. t.now) rest.entry)) }
 {
@@ -112,6 +114,7 @@ fn write_job(alloc: Global, rest: Option<&[u8]>) -> Result<Job, ScriptKind>
     })
 }
 
+/// The job that reads several items.
 fn read_many_job(alloc: Global, rest: Option<&[u8]>) -> Result<Job, ScriptKind>
     ensures { Gives (λ j. j) result (read_many_job (option_map (λ t. t.now) rest.entry)) }
 {
@@ -124,6 +127,7 @@ fn read_many_job(alloc: Global, rest: Option<&[u8]>) -> Result<Job, ScriptKind>
     })
 }
 
+/// The job that writes several items.
 fn write_many_job(alloc: Global, rest: Option<&[u8]>) -> Result<Job, ScriptKind>
     ensures { Gives (λ j. j) result (write_many_job (option_map (λ t. t.now) rest.entry)) }
 {
@@ -137,7 +141,7 @@ fn write_many_job(alloc: Global, rest: Option<&[u8]>) -> Result<Job, ScriptKind>
     })
 }
 
-/// The id and the index of a status list.
+/// The job that reads a status list, by the fields of its id and its index.
 fn list_job(rest: Option<&[u8]>) -> Result<Job, ScriptKind>
     ensures { result ≡ list_job (option_map (λ t. t.now) rest.entry) }
 {
@@ -149,6 +153,7 @@ fn list_job(rest: Option<&[u8]>) -> Result<Job, ScriptKind>
     with_index(id, rest)
 }
 
+/// The job that reads the status list of this id, with the index in the last field.
 fn with_index(id: u16, rest: Option<&[u8]>) -> Result<Job, ScriptKind>
     ensures { result ≡ with_index id (option_map (λ t. t.now) rest.entry) }
 {
@@ -170,6 +175,7 @@ fn two_octets_in(field: &[u8]) -> Result<u16, ScriptKind>
     }
 }
 
+/// The job that sets the clock.
 fn set_clock_job(rest: Option<&[u8]>) -> Result<Job, ScriptKind>
     ensures { result ≡ set_clock_job (option_map (λ t. t.now) rest.entry) }
 {
@@ -183,6 +189,7 @@ fn set_clock_job(rest: Option<&[u8]>) -> Result<Job, ScriptKind>
     }
 }
 
+/// The job that sets a password.
 fn password_job(alloc: Global, rest: Option<&[u8]>) -> Result<Job, ScriptKind>
     ensures { Gives (λ j. j) result (password_job (option_map (λ t. t.now) rest.entry)) }
 {
@@ -214,7 +221,7 @@ fn read_items(alloc: Global, text: &[u8]) -> Result<Vec<Item>, ScriptKind>
     Ok(items)
 }
 
-/// Adds an item at the end.
+/// Appends an item.
 fn add_item(items: &mut Vec<Item>, item: Item) -> Result<(), ScriptKind>
     ensures items { OnOk result (items.new.items ≡ items.old.items ++ item ∷ []) }
     ensures memory { IfErr result (λ e. e ≡ Memory) }
@@ -244,7 +251,7 @@ fn written_items(alloc: Global, text: &[u8]) -> Result<WrittenItems, ScriptKind>
 }
 
 impl WrittenItems {
-    /// Adds an item and its octets at the end.
+    /// Appends an item and its octets.
     fn add(&mut self, first: WrittenItem) -> Result<(), ScriptKind>
         ensures items { OnOk result (self.new.items.items ≡ self.old.items.items ++ first.item ∷ []) }
         ensures octets { OnOk result (self.new.octets.items ≡ self.old.octets.items ++ first.octets.items) }
@@ -262,7 +269,7 @@ impl WrittenItems {
     }
 }
 
-/// The part before the first ` ; `, and what stands after it.
+/// The part before the first ` ; `, and the text after it.
 fn split_part(text: &[u8]) -> (&[u8], Option<&[u8]>)
     ensures parts { parts text.now ≡ result.0.now ∷ parts_left (option_map (λ t. t.now) result.1) }
     ensures shorter { IfSome result.1 (λ t. length t.now < length text.now) }
@@ -273,10 +280,10 @@ fn split_part(text: &[u8]) -> (&[u8], Option<&[u8]>)
     }
 }
 
-/// What stands between two items.
+/// The separator between two items.
 const JOINT: &[u8] = b" ; ";
 
-/// Where the first ` ; ` is.
+/// The index of the first ` ; `, `None` if there is none.
 fn joint(text: &[u8]) -> Option<usize>
     ensures within { IfSome result (λ n. n + 3 ≤ length text.now) }
     ensures found { IfSome result (λ n. parts text.now ≡ take n text.now ∷ parts (drop (n + 3) text.now)) }
@@ -290,6 +297,7 @@ fn joint(text: &[u8]) -> Option<usize>
     None
 }
 
+/// Whether a text begins with ` ; `.
 fn begins_joint(text: &[u8]) -> bool
     ensures value { result ≡ bytes_eq (codes " ; ") (take 3 text.now) }
     ensures most { IsTrue result → 3 ≤ length text.now }
@@ -297,6 +305,7 @@ fn begins_joint(text: &[u8]) -> bool
     text.starts_with(JOINT)
 }
 
+/// The text from this index on.
 fn from_place(text: &[u8], place: usize) -> &[u8]
     requires { place ≤ length text.now }
     ensures { result.now ≡ drop place text.now }

@@ -1,4 +1,4 @@
-// Scripts: the jobs of lines.
+//! Scripts as lists of jobs.
 ghost use Rattle.std.specs.Prelude.{◌≡◌};
 
 use s7_client::Job;
@@ -8,11 +8,11 @@ use std::marker::Model;
 /// A job, and the line of the script that names it.
 #[derive(Debug, Drop)]
 pub struct ScriptLine {
-    /// The number of the line, from 1; those after line 4,294,967,295 have its number too.
+    /// The number of the line, from 1; all lines after line 4,294,967,295 have that number.
     pub line: u32,
     /// The job.
     pub job: Job,
-    /// The type of the tag that the job gets or puts, where the line names one.
+    /// The type of the tag that the job gets or puts, if the line names one.
     pub tag: Option<TagKind>,
 }
 
@@ -32,21 +32,21 @@ impl Model for Script {
 }
 
 impl Script {
-    /// The jobs of a vector, which is not copied.
+    /// A script with the jobs of a vector, which isn't copied.
     pub fn of_vec(lines: Vec<ScriptLine>) -> Script
         ensures { result ≡ lines.items }
     {
         Script { lines }
     }
 
-    /// The jobs, lent.
+    /// The jobs, borrowed.
     pub fn as_slice(&self) -> &[ScriptLine]
         ensures { result.now ≡ self.now }
     {
         self.lines.as_slice()
     }
 
-    /// The jobs as a vector, which is not copied.
+    /// The jobs as a vector, which isn't copied.
     pub fn into_vec(self) -> Vec<ScriptLine>
         ensures { result.items ≡ self }
     {

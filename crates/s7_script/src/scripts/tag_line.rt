@@ -1,4 +1,4 @@
-// The jobs of lines, where tags may have names.
+//! The jobs of lines that may name tags.
 ghost use Rattle.std.specs.Prelude.{◌≡◌, option_map};
 ghost use Rattle.std.specs.List.{find};
 ghost use Rattle.std.specs.Result.{result_map_both};
@@ -25,7 +25,7 @@ pub(crate) struct TaggedJob {
     pub(crate) tag: Option<TagKind>,
 }
 
-/// The job that a line names, where these tags have names, if any.
+/// The job that a line names, which may name one of these tags if there are any.
 pub(crate) fn tagged_of(
     alloc: Global,
     tags: Option<&[Tag]>,
@@ -49,7 +49,7 @@ fn untagged(alloc: Global, name: &[u8], rest: Option<&[u8]>) -> Result<TaggedJob
     Ok(TaggedJob { job, tag: None })
 }
 
-/// That a tag is got.
+/// The job that gets a tag.
 fn get_job(tags: &[Tag], rest: Option<&[u8]>) -> Result<TaggedJob, ScriptKind>
     ensures { Gives tagged_told result (get_job tags.now (option_map (λ t. t.now) rest.entry)) }
 {
@@ -65,7 +65,7 @@ fn get_job(tags: &[Tag], rest: Option<&[u8]>) -> Result<TaggedJob, ScriptKind>
     ended(found, rest)
 }
 
-/// That one is put.
+/// The job that puts a tag.
 fn put_job(alloc: Global, tags: &[Tag], rest: Option<&[u8]>) -> Result<TaggedJob, ScriptKind>
     ensures { Gives tagged_told result (put_job tags.now (option_map (λ t. t.now) rest.entry)) }
 {
@@ -77,6 +77,7 @@ fn put_job(alloc: Global, tags: &[Tag], rest: Option<&[u8]>) -> Result<TaggedJob
     put_value(alloc, tag, rest)
 }
 
+/// The job that puts this tag, with the value in the last field.
 fn put_value(alloc: Global, tag: &Tag, rest: Option<&[u8]>) -> Result<TaggedJob, ScriptKind>
     ensures { Gives tagged_told result (put_value tag.now (option_map (λ t. t.now) rest.entry)) }
 {
@@ -119,6 +120,7 @@ fn tag_named<'a>(name: &[u8], tags: &'a [Tag]) -> Result<&'a Tag, ScriptKind>
     }
 }
 
+/// The tag of this name, `None` if there is none.
 fn find_tag<'a>(name: &[u8], tags: &'a [Tag]) -> Option<&'a Tag>
     ensures { option_map (λ t. t.now) result ≡ find (λ t. bytes_eq t.name name.now) tags.now }
 {

@@ -1,4 +1,4 @@
-// Items that are written, and their octets.
+//! Items that are written, and their octets.
 ghost use Rattle.std.specs.Prelude.{◌≡◌, ◌<◌, ◌≤◌, length, option_map};
 ghost use Rattle.s7_script.specs.Script.{Gives, counted, element_size, with_digits, with_hex, written_item};
 ghost use Rattle.s7_script.specs.ScriptShown.{octets_in, placed_told, written_of};
@@ -32,6 +32,7 @@ pub(crate) fn written_item(alloc: Global, text: &[u8]) -> Result<WrittenItem, Sc
     with_hex(alloc, placed)
 }
 
+/// The item at this place, with the octets in the last field.
 fn with_hex(alloc: Global, placed: Placed) -> Result<WrittenItem, ScriptKind>
     ensures { Gives written_of result (with_hex (placed_told placed.entry) (placed_told placed.entry).rest) }
 {
@@ -42,7 +43,7 @@ fn with_hex(alloc: Global, placed: Placed) -> Result<WrittenItem, ScriptKind>
     with_digits(alloc, placed, field, rest)
 }
 
-/// The item with the octets of a field, where there are no more fields.
+/// The item with the octets of a field, if there are no more fields.
 fn with_digits(
     alloc: Global,
     placed: Placed,
@@ -72,7 +73,7 @@ pub(crate) fn octets_in(alloc: Global, field: &[u8]) -> Result<Vec<u8>, ScriptKi
     }
 }
 
-/// The item of as many elements as the octets make.
+/// The item with as many elements as the octets make.
 fn counted(placed: Placed, octets: usize) -> Result<Item, ScriptKind>
     ensures { result ≡ counted (placed_told placed.entry) octets }
 {
@@ -87,7 +88,7 @@ fn counted(placed: Placed, octets: usize) -> Result<Item, ScriptKind>
     Ok(item_at(placed, count as u16))
 }
 
-/// How many octets an element of the word has.
+/// The number of octets of an element of the word.
 fn element_size(word: u8) -> usize
     ensures size { result ≡ element_size word }
     ensures some { 0 < result }

@@ -1,4 +1,4 @@
-// The blocks of lines of sends files.
+//! The blocks of lines of sends files.
 ghost use Rattle.std.specs.Prelude.{◌≡◌, option_map};
 ghost use Rattle.hex.specs.Hex.{decode_of};
 ghost use Rattle.s7_script.specs.Script.{Gives};
@@ -13,10 +13,10 @@ use s7_outer::Octets;
 use s7_text::split_field;
 use std::alloc::Global;
 
-/// How many octets a block has at most.
+/// The greatest number of octets of a block.
 const MOST_OCTETS: usize = 65_535;
 
-/// A block that a line gives to send.
+/// A block that a line names to be sent.
 #[derive(Drop)]
 pub(crate) struct NamedBlock {
     pub(crate) rid: u32,
@@ -34,7 +34,7 @@ pub(crate) fn send_of(alloc: Global, text: &[u8]) -> Result<NamedBlock, ScriptKi
     block_sent(alloc, rest)
 }
 
-/// The block of these fields: R_ID and octets.
+/// The block of the fields: its R_ID and its octets.
 fn block_sent(alloc: Global, rest: Option<&[u8]>) -> Result<NamedBlock, ScriptKind>
     ensures { Gives block_of result (block_sent (option_map (λ t. t.now) rest.entry)) }
 {
@@ -56,6 +56,7 @@ fn four_octets_in(field: &[u8]) -> Result<u32, ScriptKind>
     }
 }
 
+/// The block with this R_ID, and the octets in the last field.
 fn with_hex(alloc: Global, rid: u32, rest: Option<&[u8]>) -> Result<NamedBlock, ScriptKind>
     ensures { Gives block_of result (with_hex rid (option_map (λ t. t.now) rest.entry)) }
 {
@@ -66,7 +67,7 @@ fn with_hex(alloc: Global, rid: u32, rest: Option<&[u8]>) -> Result<NamedBlock, 
     with_digits(alloc, rid, field, rest)
 }
 
-/// The block with the octets of a field, where there are no more fields.
+/// The block with the octets of a field, if there are no more fields.
 fn with_digits(
     alloc: Global,
     rid: u32,

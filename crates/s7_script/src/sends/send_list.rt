@@ -1,15 +1,15 @@
-// Sends files: the blocks of lines.
+//! Sends files as lists of blocks.
 ghost use Rattle.std.specs.Prelude.{◌≡◌};
 
 use s7_outer::Octets;
 use std::marker::Model;
 
-/// A block that is given to send, and the line that names it.
+/// A block to send, and the line that names it.
 #[derive(Debug, Drop)]
 pub struct SendLine {
-    /// The number of the line, from 1; those after line 4,294,967,295 have its number too.
+    /// The number of the line, from 1; all lines after line 4,294,967,295 have that number.
     pub line: u32,
-    /// What the two partners know the block by (R_ID).
+    /// The number that identifies the block for the two partners (R_ID).
     pub rid: u32,
     /// Its octets, from 1 to 65,535.
     pub body: Octets,
@@ -31,21 +31,21 @@ impl Model for Sends {
 }
 
 impl Sends {
-    /// The blocks of a vector, which is not copied.
+    /// A list with the blocks of a vector, which isn't copied.
     pub fn of_vec(lines: Vec<SendLine>) -> Sends
         ensures { result ≡ lines.items }
     {
         Sends { lines }
     }
 
-    /// The blocks, lent.
+    /// The blocks, borrowed.
     pub fn as_slice(&self) -> &[SendLine]
         ensures { result.now ≡ self.now }
     {
         self.lines.as_slice()
     }
 
-    /// The blocks as a vector, which is not copied.
+    /// The blocks as a vector, which isn't copied.
     pub fn into_vec(self) -> Vec<SendLine>
         ensures { result.items ≡ self }
     {

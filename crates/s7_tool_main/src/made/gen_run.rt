@@ -1,4 +1,4 @@
-// The command that makes areas and scripts from a number, and runs them.
+//! The command `gen`, which makes areas and scripts from a seed and runs the scripts.
 ghost use Rattle.std.specs.Prelude.{◌≡◌, ◌≢◌, ◌∷◌, [], IfOk, OnErr, is_some, map, option_map, vec_len};
 ghost use Rattle.std.specs.Map.{keys_of};
 ghost use Rattle.s7_client.specs.Completions.{told_of_results};
@@ -20,11 +20,11 @@ use s7_outer::{Memory, Out};
 use s7_rig::{RigEnd, Schedule, run_rig};
 use std::alloc::Global;
 
-/// How many entries the journal takes.
+/// The greatest number of entries in the journal.
 const JOURNAL: u64 = 65_536;
 
-/// Runs four clients on areas and with scripts that are made from a seed, and prints what came of it. The
-/// completion is told of the first client's jobs.
+/// Runs four clients on made areas, with scripts that are drawn from the seed, and prints the results. The completion
+/// is notified of the first client's jobs.
 pub(crate) fn run_gen<O: Out, C: Completion>(
     alloc: Global,
     seed: u32,
@@ -47,7 +47,7 @@ pub(crate) fn run_gen<O: Out, C: Completion>(
     }
 }
 
-// Runs the clients, and makes the text of what came of it.
+/// Runs the clients, and makes the text of the results.
 fn rig_made<C: Completion>(alloc: Global, seed: u32, done: &mut Option<C>) -> Result<Rigged, Memory>
     ensures ran { IfOk result (λ r.
         RigRan made_areas 65536 made_config (made_scripts seed) (made_turning seed) (end_told r.end)) }
@@ -65,7 +65,7 @@ fn rig_made<C: Completion>(alloc: Global, seed: u32, done: &mut Option<C>) -> Re
     Ok(Rigged { end, text, is_good })
 }
 
-// Runs the clients. The areas keep their names.
+/// Runs the clients. The areas keep their names.
 fn run_made<C: Completion>(alloc: Global, seed: u32, done: &mut Option<C>) -> Result<RigEnd, Memory>
     ensures ran { IfOk result (λ end.
         RigRan made_areas 65536 made_config (made_scripts seed) (made_turning seed) (end_told end)) }

@@ -1,4 +1,4 @@
-// The areas that `gen` runs on.
+//! The areas that `gen` runs on.
 ghost use Rattle.std.specs.Prelude.{◌≡◌, ◌≤◌, ◌<◌, ◌+◌, IfOk, None, OnOk, length};
 ghost use Rattle.s7_area.specs.Memory.{with_area};
 ghost use Rattle.s7_area.specs.Registers.{fault_of};
@@ -25,8 +25,8 @@ pub(crate) fn block_key(number: u16) -> AreaKey
     }
 }
 
-/// The flags with 256 octets 00, and four data blocks of 4,096 octets that go up by one, each from its
-/// own number on.
+/// The flags with 256 octets 00, and four data blocks of 4,096 octets. The octets of a block count up by one, modulo
+/// 256, from the block's number.
 pub(crate) fn made_areas(alloc: Global) -> Result<Areas, Memory>
     ensures { IfOk result (λ areas. areas ≡ made_areas) }
 {
@@ -59,7 +59,7 @@ pub(crate) fn made_areas(alloc: Global) -> Result<Areas, Memory>
     Ok(areas)
 }
 
-// Adds an area that has no fault.
+/// Adds an area, which must have no fault.
 fn add(alloc: Global, areas: &mut Areas, key: AreaKey, octets: Octets) -> Result<(), Memory>
     requires { fault_of areas.old key (length octets) ≡ None }
     ensures { OnOk result (areas.new ≡ with_area areas.old key octets) }
@@ -71,7 +71,7 @@ fn add(alloc: Global, areas: &mut Areas, key: AreaKey, octets: Octets) -> Result
     }
 }
 
-// So many octets 00.
+/// This number of octets 00.
 #[tactic(auto, unfolding(crate::specs::Gen::blank_octets))]
 fn blank_octets(alloc: Global, count: usize) -> Result<Octets, AllocError>
     ensures octets { IfOk result (λ octets. octets ≡ blank_octets count) }
@@ -80,7 +80,7 @@ fn blank_octets(alloc: Global, count: usize) -> Result<Octets, AllocError>
     Ok(Octets::of_vec(vec![in alloc; 0; count]?))
 }
 
-// So many octets that go up by one from this one on.
+/// This number of octets that count up by one from `first`, modulo 256.
 fn rising_octets(alloc: Global, first: u32, count: u32) -> Result<Octets, AllocError>
     requires { first + count < 65536 }
     ensures octets { IfOk result (λ octets. octets ≡ rising_octets first count) }

@@ -1,4 +1,4 @@
-// What is printed of the rig of `gen`.
+//! The text that `gen` prints.
 ghost use Rattle.std.specs.Prelude.{◌≡◌, ◌≤◌, ◌<◌, ◌*◌, ◌^◌, ◌++◌, ◌==◌, ◌∷◌, [], IfOk, OnOk, length, map, sum};
 ghost use Rattle.std.specs.Prelude.{string_bytes};
 ghost use Rattle.std.specs.List.{flat_map, list_all};
@@ -35,13 +35,14 @@ pub(crate) fn made_text(alloc: Global, end: &RigEnd) -> Result<Vec<u8>, Memory>
     Ok(text)
 }
 
+/// The line of a client.
 fn client_tally(alloc: Global, client: &RigClient) -> Result<String, AllocError>
     ensures { IfOk result (λ line. string_bytes line ≡ client_tally (client_told client.now)) }
 {
     tally_line(alloc, client.link, counted(client.results.as_slice()))
 }
 
-// The results of the connect and of the lines.
+/// The results that count: those of the connect and of the lines.
 #[tactic(auto, unfolding(crate::specs::GenText::counted))]
 fn counted(results: &[JobResult]) -> &[JobResult]
     ensures { result.now ≡ counted results.now }
@@ -49,6 +50,7 @@ fn counted(results: &[JobResult]) -> &[JobResult]
     &results[..results.len().min(201)]
 }
 
+/// The line of these results of a link.
 fn tally_line(alloc: Global, link: u32, results: &[JobResult]) -> Result<String, AllocError>
     ensures { IfOk result (λ line. string_bytes line ≡ tally_line link results.now) }
 {
@@ -58,7 +60,7 @@ fn tally_line(alloc: Global, link: u32, results: &[JobResult]) -> Result<String,
     format!(in alloc; "client {link} results {count} errors {errors} octets {octets}\n")
 }
 
-// How many results have another code than 0.
+/// How many results have a code other than 0.
 fn errors_in(results: &[JobResult]) -> usize
     ensures { result ≡ errors_in results.now }
 {
@@ -71,7 +73,7 @@ fn errors_in(results: &[JobResult]) -> usize
     errors
 }
 
-// How many octets the results have, whose lengths could pass 64 bits together.
+/// How many octets the results have. Their sum may exceed 64 bits.
 fn octets_in(results: &[JobResult]) -> u128
     ensures { result ≡ octets_in results.now }
 {
@@ -82,13 +84,14 @@ fn octets_in(results: &[JobResult]) -> u128
     count
 }
 
+/// The line of a sum.
 fn sum_line(alloc: Global, sum: u128) -> Result<String, AllocError>
     ensures { IfOk result (λ line. string_bytes line ≡ sum_line sum) }
 {
     format!(in alloc; "sum {sum}\n")
 }
 
-// The sum of all octets of the flags and the four data blocks.
+/// The sum of all octets of the flags and the four data blocks.
 fn octet_sum(areas: &Areas) -> u128
     requires { keys_of areas.now.areas ≡ flags_key ∷ map block_key (1 ∷ 2 ∷ 3 ∷ 4 ∷ []) }
     ensures { result ≡ octet_sum areas.now }
@@ -100,7 +103,7 @@ fn octet_sum(areas: &Areas) -> u128
         + sum_at(areas, block_key(4))
 }
 
-// The sum of the octets of an area, where there is one of this name.
+/// The sum of the octets of the area of this name, 0 if there is none.
 fn sum_at(areas: &Areas, key: AreaKey) -> u128
     ensures sum { result ≡ sum_at areas.now key }
     ensures most { result < 2 ^ 72 }
@@ -111,6 +114,7 @@ fn sum_at(areas: &Areas, key: AreaKey) -> u128
     }
 }
 
+/// The sum of octets.
 fn sum_of(octets: &[u8]) -> u128
     ensures sum { result ≡ sum octets.now }
     ensures most { result ≤ 255 * length octets.now }
@@ -122,13 +126,14 @@ fn sum_of(octets: &[u8]) -> u128
     sum
 }
 
-/// Whether there are four clients, each of which did all its jobs with no code but 0.
+/// Whether there are four clients, each of which did all its jobs with code 0.
 pub(crate) fn are_made_good(clients: &[RigClient]) -> bool
     ensures { result ≡ are_made_good (map client_told clients.now) }
 {
     clients.len() == 4 && clients.iter().all(|client| is_made_good(client))
 }
 
+/// Whether a client did all its jobs with code 0.
 fn is_made_good(client: &RigClient) -> bool
     ensures { result ≡ is_made_good (client_told client.now) }
 {

@@ -1,4 +1,4 @@
-// The scripts that a seed gives.
+//! The scripts of `gen`.
 ghost use Rattle.std.specs.Prelude.{◌≡◌, ◌<◌, ◌≤◌, ◌*◌, ◌+◌, ◌%◌, [], ◌∷◌, IfOk, OnOk, map, replicate, vec_len};
 ghost use Rattle.s7_dialogue.specs.declared.job.Job.TheVariants as job;
 ghost use Rattle.s7_tool_main.specs.Drawn.{block_item, flags_item, made_scripts};
@@ -11,14 +11,13 @@ use s7_outer::Octets;
 use s7_schedule::Draw;
 use std::alloc::{AllocError, Global};
 
-/// How many clients there are.
+/// The number of clients.
 const CLIENTS: u32 = 4;
 
-/// How many lines the script of each has.
+/// The number of lines in the script of each client.
 const LINES: u32 = 200;
 
-/// The scripts of four clients: each has a connect, 200 lines that are drawn from the seed, and a
-/// disconnect.
+/// The scripts of four clients. Each has a connect, 200 lines that are drawn from the seed, and a disconnect.
 pub fn made_scripts(alloc: Global, seed: u32) -> Result<Vec<Vec<Job>>, AllocError>
     ensures scripts { IfOk result (λ all. map (λ s. s.items) all.items ≡ made_scripts seed) }
     ensures len { IfOk result (λ all. vec_len all ≡ 4) }
@@ -31,7 +30,7 @@ pub fn made_scripts(alloc: Global, seed: u32) -> Result<Vec<Vec<Job>>, AllocErro
     Ok(all)
 }
 
-// The next script.
+/// Draws the next script.
 fn next_script(alloc: Global, draw: &mut Draw) -> Result<Vec<Job>, AllocError>
     ensures script { IfOk result (λ jobs. jobs.items ≡ script_at draw.old) }
     ensures x { OnOk result (draw.new ≡ after_lines 200 draw.old) }
@@ -45,7 +44,7 @@ fn next_script(alloc: Global, draw: &mut Draw) -> Result<Vec<Job>, AllocError>
     Ok(jobs)
 }
 
-// The next line. Only a write draws an octet, and draws it last.
+/// Draws the next line. Only a write draws an octet, and draws it last.
 fn next_line(alloc: Global, draw: &mut Draw) -> Result<Job, AllocError>
     ensures line { IfOk result (λ line. line ≡ line_at draw.old) }
     ensures x { draw.new ≡ after_line draw.old }
@@ -65,7 +64,7 @@ fn next_line(alloc: Global, draw: &mut Draw) -> Result<Job, AllocError>
     }
 }
 
-// Writes this octet to all of an item of octets.
+/// The job that writes this octet to all octets of an item.
 fn write_line(alloc: Global, item: Item, octet: u8) -> Result<Job, AllocError>
     ensures { IfOk result (λ line. line ≡ job.WriteArea item (replicate item.count octet)) }
 {
@@ -76,7 +75,7 @@ fn write_line(alloc: Global, item: Item, octet: u8) -> Result<Job, AllocError>
     })
 }
 
-// Reads the first sixteen octets of the flags, and an item.
+/// The job that reads the first sixteen octets of the flags, and an item.
 fn two_line(alloc: Global, item: Item) -> Result<Job, AllocError>
     ensures { IfOk result (λ line. line ≡ job.ReadMany (flags_item ∷ item ∷ [])) }
 {
@@ -93,7 +92,7 @@ fn two_line(alloc: Global, item: Item) -> Result<Job, AllocError>
     })
 }
 
-// Octets of a data block.
+/// The item of octets of a data block.
 fn block_item(block: u16, start: u32, count: u16) -> Item
     requires { start < 3000 }
     ensures { result ≡ block_item block start count }

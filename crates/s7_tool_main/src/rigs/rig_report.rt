@@ -1,4 +1,4 @@
-// What is printed of a rig.
+//! The text that `rig` prints.
 ghost use Rattle.std.specs.Prelude.{◌≡◌, ◌+◌, ◌==◌, ◌&&◌, ◌++◌, [], All, IfOk, OnOk};
 ghost use Rattle.std.specs.Prelude.{length, map, string_bytes, if◌then◌else◌};
 ghost use Rattle.std.specs.List.{list_all};
@@ -15,7 +15,7 @@ use s7_outer::Memory;
 use s7_rig::{RigClient, RigEnd};
 use std::alloc::{AllocError, Global};
 
-/// The text of a rig whose clients have lines of these heads.
+/// The text of a rig whose clients have lines with these heads.
 pub fn rig_text(alloc: Global, heads: &[Vec<Head>], end: &RigEnd) -> Result<Vec<u8>, Memory>
     requires { All ArePrintable (end_told end.now).clients }
     ensures { IfOk result (λ text. text.items ≡ text_by (map (λ v. v.items) heads.now) (end_told end.now)) }
@@ -27,7 +27,7 @@ pub fn rig_text(alloc: Global, heads: &[Vec<Head>], end: &RigEnd) -> Result<Vec<
     Ok(text)
 }
 
-// Adds the lines of the clients.
+/// Appends the lines of the clients.
 fn add_clients(
     alloc: Global,
     text: &mut Vec<u8>,
@@ -44,7 +44,7 @@ fn add_clients(
     Ok(())
 }
 
-// Adds the lines of a client.
+/// Appends the lines of a client.
 fn add_client(
     alloc: Global,
     text: &mut Vec<u8>,
@@ -62,7 +62,7 @@ fn add_client(
     Ok(())
 }
 
-// Adds the results of lines.
+/// Appends the results of lines.
 fn add_results(
     alloc: Global,
     text: &mut Vec<u8>,
@@ -79,6 +79,7 @@ fn add_results(
     Ok(())
 }
 
+/// Appends the result of a line.
 fn add_result(
     alloc: Global,
     text: &mut Vec<u8>,
@@ -97,13 +98,14 @@ fn add_result(
     Ok(())
 }
 
-// What stands before a result of a client.
+/// The text before a result of a client.
 fn client_head(alloc: Global, link: u32) -> Result<String, AllocError>
     ensures { IfOk result (λ text. string_bytes text ≡ client_line link []) }
 {
     format!(in alloc; "client {link} line ")
 }
 
+/// The line of a client that isn't finished.
 fn unfinished_line(alloc: Global, link: u32) -> Result<String, AllocError>
     ensures { IfOk result (λ text. string_bytes text ≡ unfinished_line link) }
 {
@@ -117,7 +119,7 @@ pub(crate) fn journal_line(alloc: Global, entries: u64) -> Result<String, AllocE
     format!(in alloc; "journal {entries}\n")
 }
 
-/// Whether each of the clients, which have lines of these heads, is finished with no code but 0.
+/// Whether each of these clients is finished, with code 0 in all results. Their lines have these heads.
 pub fn are_good(heads: &[Vec<Head>], clients: &[RigClient]) -> bool
     ensures { result ≡ are_good_by (map (λ v. v.items) heads.now) (map client_told clients.now) }
 {
@@ -128,13 +130,14 @@ pub fn are_good(heads: &[Vec<Head>], clients: &[RigClient]) -> bool
             .all(|(lines, client)| is_client_good(lines.as_slice(), client))
 }
 
+/// Whether a client is finished, with code 0 in all results.
 fn is_client_good(heads: &[Head], client: &RigClient) -> bool
     ensures { result ≡ is_client_good heads.now (client_told client.now) }
 {
     is_finished(heads, client) && all_good(client.results.as_slice())
 }
 
-// Whether a connect, the lines and a disconnect were all done.
+/// Whether a client did its connect, its lines and its disconnect.
 fn is_finished(heads: &[Head], client: &RigClient) -> bool
     ensures { result ≡ is_finished heads.now (client_told client.now) }
 {

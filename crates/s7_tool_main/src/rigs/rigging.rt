@@ -1,4 +1,4 @@
-// The command that runs scripts together.
+//! The command `rig`, which runs scripts together.
 ghost use Rattle.std.specs.Prelude.{◌≡◌, ◌≢◌, ◌≤◌, ◌<◌, ◌*◌, ◌+◌, ◌∷◌, ◌++◌, [], All, IfOk, map, vec_len};
 ghost use Rattle.std.specs.Prelude.{OnErr, is_some, option_map};
 ghost use Rattle.std.specs.List.{AllByRecursion};
@@ -34,8 +34,8 @@ pub(crate) struct Rigged {
     pub is_good: bool,
 }
 
-/// Loads the tags, the areas and the scripts that the words name, runs a client for each script, and prints what
-/// came of it. The completion is told of the first client's jobs.
+/// Loads the tags, the areas and the scripts that the words name, runs a client for each script, and prints the
+/// results. The completion is notified of the first client's jobs.
 pub(crate) fn run_rigging<F: Files, O: Out, C: Completion>(
     alloc: Global,
     words: RigWords<'_>,
@@ -81,7 +81,7 @@ pub(crate) fn run_rigging<F: Files, O: Out, C: Completion>(
     }
 }
 
-// Runs these scripts on these areas, and makes the text of what came of it.
+/// Runs these scripts on these areas, and makes the text of the results.
 fn run_scripts<C: Completion>(
     alloc: Global,
     words: &RigWords<'_>,
@@ -109,7 +109,7 @@ fn run_scripts<C: Completion>(
     Ok(Rigged { end, text, is_good })
 }
 
-// Runs these jobs on these areas.
+/// Runs these jobs on these areas.
 fn run_jobs<C: Completion>(
     alloc: Global,
     words: &RigWords<'_>,
@@ -139,7 +139,7 @@ fn run_jobs<C: Completion>(
     run_rig(alloc, areas, words.journal, jobs, config, schedule, done)
 }
 
-/// How the clients connect.
+/// The configuration of a rig's clients.
 pub(crate) fn rig_config(pdu: u16, jobs: u16) -> Config
     ensures { result ≡ rig_config pdu jobs }
 {
@@ -151,7 +151,7 @@ pub(crate) fn rig_config(pdu: u16, jobs: u16) -> Config
     }
 }
 
-// The heads of the lines of each script, before which the connect has the number 0.
+/// The heads of the lines of each script, after a head of the connect with number 0.
 fn all_heads(alloc: Global, scripts: &[Script]) -> Result<Vec<Vec<Head>>, AllocError>
     ensures { IfOk result (λ all. map (λ v. v.items) all.items ≡ map heads_of scripts.now) }
 {
@@ -162,6 +162,7 @@ fn all_heads(alloc: Global, scripts: &[Script]) -> Result<Vec<Vec<Head>>, AllocE
     Ok(all)
 }
 
+/// The heads of the lines of a script, after a head of the connect.
 fn heads_of(alloc: Global, script: &Script) -> Result<Vec<Head>, AllocError>
     ensures { IfOk result (λ heads. heads.items ≡ heads_of script.now) }
 {
@@ -173,7 +174,7 @@ fn heads_of(alloc: Global, script: &Script) -> Result<Vec<Head>, AllocError>
     Ok(heads)
 }
 
-// The jobs of each client.
+/// The jobs of each client.
 fn all_jobs(alloc: Global, scripts: Vec<Script>) -> Result<Vec<Vec<Job>>, AllocError>
     ensures jobs { IfOk result (λ all. map (λ v. v.items) all.items ≡ map jobs_of scripts.items) }
     ensures len { IfOk result (λ all. vec_len all ≡ vec_len scripts) }
@@ -185,7 +186,7 @@ fn all_jobs(alloc: Global, scripts: Vec<Script>) -> Result<Vec<Vec<Job>>, AllocE
     Ok(all)
 }
 
-// A connect, the jobs of a script, and a disconnect.
+/// A connect, the jobs of a script, and a disconnect.
 fn jobs_of(alloc: Global, script: Script) -> Result<Vec<Job>, AllocError>
     ensures { IfOk result (λ jobs. jobs.items ≡ jobs_of script) }
 {

@@ -1,4 +1,4 @@
-// The jobs of a run.
+//! Carrying out the jobs of a script.
 ghost use Rattle.std.specs.Prelude.{◌≡◌, ◌≢◌, ◌+◌, ◌<◌, ◌≤◌, ◌==◌, [], ◌∷◌, ◌++◌, None};
 ghost use Rattle.std.specs.Prelude.{OnOk, OnErr, IfOk, IsErrOf, Err, option_map, vec_len};
 ghost use Rattle.std.specs.Vec.{vec_capacity};
@@ -23,13 +23,13 @@ use std::alloc::Global;
 /// Why a run ended early.
 #[derive(Clone, Copy, Debug, PartialEq, Eq)]
 pub(crate) enum Stop {
-    /// There is no memory.
+    /// An allocation failed.
     Memory,
     /// The output failed.
     Output,
 }
 
-/// A run under way: the client, the link that it works over, and the results so far.
+/// A run under way: the client, the link over which it works, and the results so far.
 #[derive(Drop)]
 pub(crate) struct ScriptRun<L: Link + Drop, C> {
     pub client: Client<C>,
@@ -40,8 +40,8 @@ pub(crate) struct ScriptRun<L: Link + Drop, C> {
 impl<L: Link + Drop, C: Completion> ScriptRun<L, C> {
     ghost use Rattle.s7_tool_main.specs.Run.{DoesAll, DoesJob, DoesLines, EndsEarly, FailsOutput, PrintsNothing, place};
 
-    /// A connect, the jobs of these lines, and a disconnect. Each result is kept, and all but the
-    /// disconnect's are printed.
+    /// Carries out a connect, the jobs of these lines, and a disconnect. Keeps each result, and prints all but the
+    /// disconnect's.
     pub fn do_all<O: Out>(
         &mut self,
         alloc: Global,
@@ -72,7 +72,7 @@ impl<L: Link + Drop, C: Completion> ScriptRun<L, C> {
         self.disconnect(alloc)
     }
 
-    // The jobs of these lines in order.
+    /// Carries out the jobs of these lines in order.
     fn do_lines<O: Out>(
         &mut self,
         alloc: Global,
@@ -103,7 +103,7 @@ impl<L: Link + Drop, C: Completion> ScriptRun<L, C> {
         Ok(())
     }
 
-    // The job of a line.
+    /// Carries out the job of a line.
     fn do_job<O: Out>(&mut self, alloc: Global, next: ScriptLine, out: &mut O) -> Result<(), Stop>
         requires idle { job_of (connection_of self.old.client) ≡ None }
         requires room { vec_len self.old.results < vec_capacity self.old.results }
@@ -130,7 +130,7 @@ impl<L: Link + Drop, C: Completion> ScriptRun<L, C> {
         printed
     }
 
-    // The disconnect, of which nothing is printed, whatever the output shows.
+    /// Carries out the disconnect. Prints nothing of it, whatever the output shows.
     fn disconnect(&mut self, alloc: Global) -> Result<(), Stop>
         requires idle { job_of (connection_of self.old.client) ≡ None }
         requires room { vec_len self.old.results < vec_capacity self.old.results }
@@ -147,7 +147,7 @@ impl<L: Link + Drop, C: Completion> ScriptRun<L, C> {
     }
 }
 
-// Carries a job out, of which the completion is told.
+/// Carries out a job. The completion is notified of it.
 fn carry_out<L: Link, C: Completion>(
     alloc: Global,
     job: Job,
@@ -175,7 +175,7 @@ fn carry_out<L: Link, C: Completion>(
     }
 }
 
-// Keeps a result, for which there is room.
+/// Keeps a result. The list must have room for it.
 fn keep(results: &mut Vec<JobResult>, told: JobResult)
     requires { vec_len results.old < vec_capacity results.old }
     ensures items { results.new.items ≡ results.old.items ++ told ∷ [] }
@@ -185,7 +185,7 @@ fn keep(results: &mut Vec<JobResult>, told: JobResult)
     results.push_reserved(told);
 }
 
-// Prints what came of the job of a line.
+/// Prints the result of a line's job.
 fn print<O: Out>(alloc: Global, head: Head, told: &JobResult, out: &mut O) -> Result<(), Stop>
     requires { IsPrintable told.now }
     ensures ok { OnOk result (Gains (O.shows out.old) (O.shows out.new) (line_by head.line head.tag told.now)) }
@@ -204,7 +204,7 @@ fn print<O: Out>(alloc: Global, head: Head, told: &JobResult, out: &mut O) -> Re
     }
 }
 
-/// Whether no result has a code but 0.
+/// Whether all results have code 0.
 pub(crate) fn all_good(results: &[JobResult]) -> bool
     ensures { result ≡ list_all is_good results.now }
 {

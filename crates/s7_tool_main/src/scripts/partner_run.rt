@@ -1,4 +1,4 @@
-// The command of partners.
+//! The command `partner`.
 ghost use Rattle.std.specs.Prelude.{◌≡◌, ◌≢◌, ◌⊎◌, [], All, IfOk, IsSome, None};
 ghost use Rattle.s7_outer.specs.Count.{RoseExactly};
 ghost use Rattle.s7_outer.specs.Dial.{NoHostFell};
@@ -21,15 +21,16 @@ use s7_partner_run::{TalkEnd, Talker, pair_text, run_pair, talk};
 use s7_script::Sends;
 use std::alloc::Global;
 
-/// What two partners told, and whether every block of both was acknowledged.
+/// The news of two partners, and whether every block of both was acknowledged.
 #[derive(Drop)]
 struct Paired {
     text: Vec<u8>,
     is_done: bool,
 }
 
-/// Reads the sends files that the words name, and runs two partners in memory, or without a second file the active one
-/// over a link that is dialled. All room is taken before the dial, so a link that came is never dropped.
+/// Reads the sends files that the words name. With two files, runs two partners in memory; with one file, dials, and
+/// runs the active partner over the link. All room is allocated before the dial, so a link that was dialled is never
+/// dropped.
 pub(crate) fn run_partner<F: Files, L: Link + Drop, K: Dial<L>, O: Out>(
     alloc: Global,
     words: PartnerWords<'_>,
@@ -61,7 +62,7 @@ pub(crate) fn run_partner<F: Files, L: Link + Drop, K: Dial<L>, O: Out>(
     }
 }
 
-// Reads the other file, and runs two partners in memory.
+/// Reads the second file, and runs two partners in memory.
 fn run_both<F: Files, O: Out>(
     alloc: Global,
     words: &PartnerWords<'_>,
@@ -86,7 +87,7 @@ fn run_both<F: Files, O: Out>(
     }
 }
 
-// Runs two partners, and makes the text of what they told.
+/// Runs two partners, and makes the text of their news.
 fn pair(alloc: Global, one: Sends, other: Sends, seed: u32, steps: u32) -> Result<Paired, Memory>
     requires sized { All IsSized one }
     requires other_sized { All IsSized other }
@@ -100,7 +101,7 @@ fn pair(alloc: Global, one: Sends, other: Sends, seed: u32, steps: u32) -> Resul
     })
 }
 
-// Dials, and runs the active partner over the link.
+/// Dials, and runs the active partner over the link.
 fn run_alone<L: Link + Drop, K: Dial<L>, O: Out>(
     alloc: Global,
     words: &PartnerWords<'_>,
@@ -130,14 +131,14 @@ fn run_alone<L: Link + Drop, K: Dial<L>, O: Out>(
     }
 }
 
-// How partners connect.
+/// The configuration of partners.
 fn partner_config() -> Config
     ensures { result ≡ partner_config }
 {
     Config::new(1, 0, 2)
 }
 
-// Talks over the link, and says how that went and what it leaves.
+/// Runs the partner over the link, and returns how that ended and what it leaves.
 fn talk_over<L: Link + Drop, O: Out>(
     alloc: Global,
     talker: Talker,
@@ -155,7 +156,7 @@ fn talk_over<L: Link + Drop, O: Out>(
     (ended_by(end, out), run)
 }
 
-// How it ended, for which a line is printed where memory was wanting.
+/// How the command ends. If memory ran out, prints a line that says so.
 fn ended_by<O: Out>(end: TalkEnd, out: &mut O) -> Ended
     ensures { EndsBy end (O.shows out.old) (O.shows out.new) result }
 {

@@ -1,4 +1,4 @@
-// The lines that tell why nothing was run.
+//! The lines for files that weren't loaded.
 ghost use Rattle.std.specs.Prelude.{◌≡◌, IfOk, string_bytes};
 ghost use Rattle.s7_tool_main.specs.Loading.{faulty_line};
 ghost use Rattle.s7_tool_main.specs.Report.{areas_line, file_line};
@@ -16,7 +16,7 @@ pub(crate) fn faulty_line(alloc: Global, kind: TextKind, number: u32) -> Result<
     }
 }
 
-/// The line for areas whose line of this number is faulty.
+/// The line for an area file whose line of this number is faulty.
 pub fn areas_line(alloc: Global, number: u32) -> Result<String, AllocError>
     ensures { IfOk result (λ text. string_bytes text ≡ areas_line number) }
 {

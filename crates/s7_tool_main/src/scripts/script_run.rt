@@ -1,4 +1,4 @@
-// The command that runs a script.
+//! The command `run`, which runs a script against a server.
 ghost use Rattle.std.specs.Prelude.{◌≡◌, ◌≢◌, ◌⊎◌, ◌≤◌, ◌+◌, [], IfOk, IsSome, None, is_some, option_map, vec_len};
 ghost use Rattle.std.specs.Prelude.{if◌then◌else◌};
 ghost use Rattle.std.specs.Vec.{vec_capacity};
@@ -64,8 +64,8 @@ pub(crate) fn run_script<F: Files, L: Link + Drop, K: Dial<L>, O: Out, C: Comple
     }
 }
 
-// Dials the controller, and runs these lines over the link. All room is taken before the dial, so a link that came is
-// never dropped. The completion is lent to the client for the run.
+/// Dials the controller, and runs these lines over the link. All room is allocated before the dial, so a link that was
+/// dialled is never dropped. The client has the completion during the run.
 fn run_lines<L: Link + Drop, K: Dial<L>, O: Out, C: Completion>(
     alloc: Global,
     words: &RunWords<'_>,
@@ -105,7 +105,7 @@ fn run_lines<L: Link + Drop, K: Dial<L>, O: Out, C: Completion>(
     }
 }
 
-// Room for the results of so many lines, a connect and a disconnect.
+/// Room for the results of this number of lines, of a connect and of a disconnect.
 fn results_for(alloc: Global, lines: usize) -> Result<Vec<JobResult>, AllocError>
     ensures items { IfOk result (λ v. v.items ≡ []) }
     ensures len { IfOk result (λ v. vec_len v ≡ 0) }
@@ -117,7 +117,7 @@ fn results_for(alloc: Global, lines: usize) -> Result<Vec<JobResult>, AllocError
     }
 }
 
-// How the words have the client connect.
+/// The configuration of the client, by the words.
 fn config_of(words: &RunWords<'_>) -> Config
     ensures value { result ≡ config_by (run_told_of words.now) }
     ensures least_pdu { 64 ≤ result.pdu }
@@ -135,8 +135,8 @@ fn config_of(words: &RunWords<'_>) -> Config
     }
 }
 
-// Runs the jobs of these lines from the first on, and says how that went and what it leaves. The client has the
-// completion meanwhile.
+/// Runs the jobs of these lines, and returns how that ended and what it leaves. The client has the completion during
+/// the run.
 fn run_over<L: Link + Drop, O: Out, C: Completion>(
     alloc: Global,
     lines: Vec<ScriptLine>,
@@ -160,7 +160,7 @@ fn run_over<L: Link + Drop, O: Out, C: Completion>(
     (ended, RunEnd { line, results })
 }
 
-// Runs the jobs of these lines, and says how that went.
+/// Runs the jobs of these lines, and returns how that ended.
 fn run_jobs<L: Link + Drop, O: Out, C: Completion>(
     alloc: Global,
     lines: Vec<ScriptLine>,
@@ -181,7 +181,7 @@ fn run_jobs<L: Link + Drop, O: Out, C: Completion>(
     }
 }
 
-// How it ended where all jobs were done.
+/// How a command ends whose jobs were all done.
 fn ended_by(results: &[JobResult]) -> Ended
     ensures { result ≡ (if list_all is_good results.now then Ended.Done else Ended.Jobs) }
 {

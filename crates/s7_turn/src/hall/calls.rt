@@ -1,4 +1,4 @@
-//! What a hall does.
+//! The operations of a hall.
 ghost use Rattle.std.specs.Prelude.{◌≡◌, ℕ, ◌+◌, ◌<◌, true, List, [], ◌∷◌, ◌++◌, length, Some, None, IsSome, IfOk};
 ghost use Rattle.std.specs.Prelude.{IfErr, MatchResult};
 ghost use Rattle.std.specs.Option.{option_or};
@@ -19,7 +19,8 @@ use std::snapshot::Snapshot;
 use std::sync::Wait;
 
 impl<M: Machine> Seat<M> {
-    /// In whose name it makes calls: 0 for the first seat, and then the numbers in the order in which they were given.
+    /// The caller in whose name it makes calls: 0 for the first seat, then the numbers in the order in which they were
+    /// handed out.
     pub fn caller(&self) -> u32
         ensures { result ≡ caller self.now }
     {
@@ -27,7 +28,7 @@ impl<M: Machine> Seat<M> {
     }
 }
 
-// One slot, with the machine in it.
+/// One slot, with the machine in it. Hands the machine back if the allocation fails.
 fn slot_of<M>(alloc: Global, machine: M) -> Result<Vec<Option<Box<M>>>, M>
     ensures { MatchResult result (λ v. (b : _) × (v.items ≡ Some b ∷ []) × (b.value ≡ machine)) (λ m. m ≡ machine) }
 {
@@ -47,6 +48,7 @@ fn slot_of<M>(alloc: Global, machine: M) -> Result<Vec<Option<Box<M>>>, M>
     Ok(slots)
 }
 
+/// The machine of the one slot.
 fn machine_of<M>(mut slots: Vec<Option<Box<M>>>) -> M
     requires { (b : _) × (slots.items ≡ Some b ∷ []) }
     ensures { (b : _) → slots.items ≡ Some b ∷ [] → result ≡ b.value }
@@ -57,8 +59,8 @@ fn machine_of<M>(mut slots: Vec<Option<Box<M>>>) -> M
 }
 
 impl<M: Machine> Hall<M> {
-    /// The first seat has caller 0, and gives the numbers of the others, from 1. Where there is no memory the machine
-    /// comes back.
+    /// A hall with this machine, and its first seat. That seat's caller is 0, and it hands out the numbers of the
+    /// others, from 1. Hands the machine back with `Memory` if an allocation fails.
     pub fn new(alloc: Global, machine: M) -> Result<(Hall<M>, Seat<M>), (Memory, M)>
         requires new { (M.history machine ≡ []) × (M.state machine ≡ M.opening machine) }
         requires holds { M.holds machine }
@@ -86,8 +88,8 @@ impl<M: Machine> Hall<M> {
         }
     }
 
-    /// Gives a new caller a seat that has seen as much and has made no call. The caller is the number that was next,
-    /// which is now one higher. It waits for nobody.
+    /// Splits a seat for a new caller off this one, without waiting. The new seat has seen as much of the history, and
+    /// its caller has made no call. The caller is the number that was next; the next one is then one higher.
     pub fn split(&self, seat: &mut Seat<M>) -> Seat<M>
         requires hall { IsOf self.now seat.old }
         requires number { (n : ℕ) × (next seat.old ≡ Some n) × (n < most) }
@@ -109,8 +111,8 @@ impl<M: Machine> Hall<M> {
         }
     }
 
-    /// Has the machine take the request, in a turn of the seat's. `Full` comes exactly where the history that it finds
-    /// has its greatest length.
+    /// Has the machine carry out the request, in a turn of the seat's. Fails with `Full` exactly if the history that it
+    /// finds has its greatest length.
     pub fn act<R: Wait>(
         &self,
         rt: &R,
@@ -145,8 +147,8 @@ impl<M: Machine> Hall<M> {
         }
     }
 
-    /// Makes one seat of two. It has the caller of `one`, stands for the callers of both, and has seen what either has.
-    /// It gives numbers where one of the two does. It waits for nobody.
+    /// Joins two seats, without waiting. The result calls as `one`'s caller, represents the callers of both, has seen
+    /// the longer of their histories, and hands out new caller numbers if one of the two did.
     pub fn meet(&self, one: Seat<M>, two: Seat<M>) -> Seat<M>
         requires one { IsOf self.now one }
         requires two { IsOf self.now two }
@@ -176,7 +178,7 @@ impl<M: Machine> Hall<M> {
         }
     }
 
-    /// Takes a turn like a call, and keeps the machine. Its history begins with all that the seat has seen.
+    /// Takes a turn like a call, and returns the machine. The machine's history begins with all that the seat has seen.
     pub fn close<R: Wait>(self, rt: &R, seat: Seat<M>) -> M
         requires hall { IsOf self seat }
         ensures fixed { (M.opening result ≡ M.opening (made self)) × (M.limit result ≡ M.limit (made self)) }
