@@ -67,7 +67,7 @@ pub(crate) fn number<'a>(alloc: Global, name: &'a str, low: u64, high: u64) -> A
 fn number_parser<'a>(low: u64, high: u64) -> ValueParser<'a>
     ensures { result ≡ ValueParser.Unsigned low high }
 {
-    // // the parsers of the signed and the small types would accept `-0`
+    // the parsers of the signed and the small types would accept `-0`
     ValueParser::Unsigned(low, high)
 }
 

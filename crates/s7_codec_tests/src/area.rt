@@ -1,11 +1,11 @@
-ghost use Rattle.std.specs.Prelude.{IfSome};
+ghost use Rattle.std.specs.Prelude.{◌≡◌, IfSome};
 ghost use Rattle.s7_area.specs.Guards.{IsGuard};
+ghost use Rattle.s7_area.specs.Memory.{shape_of};
 
 use s7_area::{AreaKey, Areas, Guard, RegisterFault};
 use s7_item::Item;
 use s7_outer::{Memory, Octets};
 use std::alloc::Global;
-use std::test::Fail;
 
 const DB1: AreaKey = AreaKey {
     area: 0x84,
@@ -186,43 +186,65 @@ const GUARDS: &[(u8, bool, Place, (u8, u8))] = &[
     (3, true, BAD, (0x06, 0x06)),
 ];
 
-/// Whether areas with the guard, and a copy of them, answer so.
-fn guards(
-    alloc: Global,
-    level: u8,
-    right: bool,
-    item: &Item,
-    answers: (u8, u8),
-) -> Result<bool, Memory> {
+/// The two areas with the guard.
+fn guarded(alloc: Global, level: u8) -> Result<Areas, Memory> {
     let mut areas = two_areas(alloc)?;
     areas.set_guard(guard(level));
-    let mut copy = areas.copy(alloc)?;
-    Ok(
-        copy.guard() == guard(level)
-            && codes(&mut areas, right, item) == answers
-            && codes(&mut copy, right, item) == answers,
-    )
+    Ok(areas)
+}
+
+/// A copy of them.
+fn copied(alloc: Global, level: u8) -> Result<Areas, Memory> {
+    guarded(alloc, level)?.copy(alloc)
+}
+
+/// Whether areas with the guard, and a copy of them, answer so.
+fn guards(alloc: Global, level: u8, right: bool, item: &Item, answers: (u8, u8)) -> bool {
+    let (Ok(mut areas), Ok(mut copy)) = (guarded(alloc, level), copied(alloc, level)) else {
+        return false;
+    };
+    has_guard(&copy, level)
+        && codes(&mut areas, right, item) == answers
+        && codes(&mut copy, right, item) == answers
 }
 
 #[test]
 fn guards_bar_items(rt: HostRuntime) {
     for &(level, right, place, answers) in GUARDS {
-        assert!(rt; guards(rt.alloc(), level, right, &item_at(place), answers) == Ok(true));
+        assert!(rt; guards(rt.alloc(), level, right, &item_at(place), answers));
     }
 }
 
-#[test]
-fn areas_take_over_others(rt: HostRuntime) -> Result<(), Fail> {
-    let mut areas = two_areas(rt.alloc())?;
-    let mut image = areas.copy(rt.alloc())?;
+/// Writes both areas and guards them.
+fn change(areas: &mut Areas)
+    ensures { shape_of areas.new ≡ shape_of areas.old }
+{
     areas.write(true, &item(0x84, 1, 0x02, 4, 0), &[5, 6, 7, 8]);
     areas.write(true, &item(0x1C, 0, 0x1C, 1, 1), &[0, 9]);
     areas.set_guard(guard(3));
+}
+
+/// A copy of areas that took over what these became.
+fn taken_over(alloc: Global) -> Result<Areas, Memory> {
+    let mut areas = two_areas(alloc)?;
+    let mut image = areas.copy(alloc)?;
+    change(&mut areas);
     image.overwrite(&areas);
-    assert!(rt; image.octets_of(DB1) == Some([5, 6, 7, 8].as_slice()));
-    assert!(rt; image.octets_of(COUNTERS) == Some([0, 1, 0, 9].as_slice()));
-    assert!(rt; image.guard() == guard(3));
-    Ok(())
+    Ok(image)
+}
+
+fn has_guard(areas: &Areas, level: u8) -> bool {
+    areas.guard() == guard(level)
+}
+
+#[test]
+fn areas_take_over_others(rt: HostRuntime) {
+    let image = taken_over(rt.alloc()).expect(&rt, "there is memory");
+    assert!(rt;
+        has_octets(&image, DB1, Some(&[5, 6, 7, 8]))
+            && has_octets(&image, COUNTERS, Some(&[0, 1, 0, 9]))
+            && has_guard(&image, 3)
+    );
 }
 
 /// Whether an area of so many octets is registered, or refused by this fault with its octets handed back.
@@ -232,11 +254,13 @@ fn registers(
     key: AreaKey,
     len: usize,
     wanted: Result<(), RegisterFault>,
-) -> Result<bool, Memory> {
-    let octets = Octets::of_vec(vec![in alloc; 7; len]?);
-    match areas.register(alloc, key, octets) {
-        Ok(()) => Ok(wanted == Ok(())),
-        Err((fault, back)) => Ok(wanted == Err(fault) && back.as_slice().len() == len),
+) -> bool {
+    let Ok(octets) = vec![in alloc; 7; len] else {
+        return false;
+    };
+    match areas.register(alloc, key, Octets::of_vec(octets)) {
+        Ok(()) => wanted == Ok(()),
+        Err((fault, back)) => wanted == Err(fault) && back.as_slice().len() == len,
     }
 }
 
@@ -264,8 +288,10 @@ fn has_data_blocks(areas: &Areas, count: usize) -> bool {
 fn areas_are_refused(rt: HostRuntime) {
     let mut areas = two_areas(rt.alloc()).expect(&rt, "there is memory");
     for &(area, number, len, fault, code) in REFUSED {
-        let refused = registers(rt.alloc(), &mut areas, key(area, number), len, Err(fault));
-        assert!(rt; refused == Ok(true) && has_code(fault, code));
+        assert!(rt;
+            registers(rt.alloc(), &mut areas, key(area, number), len, Err(fault))
+                && has_code(fault, code)
+        );
     }
     assert!(rt; has_data_blocks(&areas, 1));
 }
@@ -282,7 +308,7 @@ fn unregisters(areas: &mut Areas, key: AreaKey, wanted: Option<&[u8]>) -> bool {
 fn areas_are_registered(rt: HostRuntime) {
     let mut areas = two_areas(rt.alloc()).expect(&rt, "there is memory");
     assert!(rt;
-        registers(rt.alloc(), &mut areas, key(0x84, 3), 2_097_152, Ok(())) == Ok(true)
+        registers(rt.alloc(), &mut areas, key(0x84, 3), 2_097_152, Ok(()))
             && unregisters(&mut areas, key(0x84, 9), None)
             && has_data_blocks(&areas, 2)
     );
@@ -298,12 +324,12 @@ fn areas_are_registered(rt: HostRuntime) {
 fn data_blocks_are_counted(rt: HostRuntime) {
     let mut areas = Areas::new();
     for number in 1..=2_048 {
-        assert!(rt; registers(rt.alloc(), &mut areas, key(0x84, number), 1, Ok(())) == Ok(true));
+        assert!(rt; registers(rt.alloc(), &mut areas, key(0x84, number), 1, Ok(())));
     }
     let fault = RegisterFault::TooManyDbs;
     assert!(rt;
-        registers(rt.alloc(), &mut areas, key(0x84, 2_049), 1, Err(fault)) == Ok(true)
+        registers(rt.alloc(), &mut areas, key(0x84, 2_049), 1, Err(fault))
             && has_code(fault, 0x0060_0000)
-            && registers(rt.alloc(), &mut areas, key(0x83, 0), 1, Ok(())) == Ok(true)
+            && registers(rt.alloc(), &mut areas, key(0x83, 0), 1, Ok(()))
     );
 }

@@ -3,7 +3,7 @@ use s7_area::{AreaKey, Areas};
 use s7_item::Item;
 use s7_item::codes::{BYTE, DATA_BLOCKS, GOOD};
 use s7_outer::Octets;
-use std::test::Fail;
+use std::alloc::Global;
 
 const DB1: AreaKey = AreaKey {
     area: DATA_BLOCKS,
@@ -19,14 +19,21 @@ const MIDDLE: Item = Item {
     address: 8,
 };
 
-#[test]
-fn two_bytes_are_written(rt: HostRuntime) -> Result<(), Fail> {
+/// Data block 1 with four octets.
+fn new_areas(alloc: Global) -> Option<Areas> {
     let mut areas = Areas::new();
-    let octets = Octets::copy_of(rt.alloc(), &[0x11, 0x22, 0x33, 0x44])?;
-    areas.register(rt.alloc(), DB1, octets)?;
-    assert_eq!(rt; areas.write(true, &MIDDLE, &[0xCA, 0xFE]), GOOD);
-    assert_eq!(rt; areas.look_up(true, &MIDDLE), Ok([0xCA, 0xFE].as_slice()));
-    let octets = areas.unregister(DB1)?;
-    assert_eq!(rt; octets.as_slice(), [0x11, 0xCA, 0xFE, 0x44].as_slice());
-    Ok(())
+    let octets = Octets::copy_of(alloc, &[0x11, 0x22, 0x33, 0x44]).ok()?;
+    match areas.register(alloc, DB1, octets) {
+        Ok(()) => Some(areas),
+        Err((_fault, _octets)) => None,
+    }
+}
+
+#[test]
+fn two_bytes_are_written(rt: HostRuntime) {
+    let mut areas = new_areas(rt.alloc()).expect(&rt, "there is memory");
+    assert!(rt; areas.write(true, &MIDDLE, &[0xCA, 0xFE]) == GOOD);
+    assert!(rt; areas.look_up(true, &MIDDLE) == Ok([0xCA, 0xFE].as_slice()));
+    let octets = areas.unregister(DB1).ok().expect(&rt, "it is registered");
+    assert!(rt; octets.as_slice() == [0x11, 0xCA, 0xFE, 0x44].as_slice());
 }

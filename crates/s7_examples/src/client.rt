@@ -5,7 +5,6 @@ use s7_item::codes::{BYTE, DATA_BLOCKS};
 use s7_memory::MemoryLink;
 use s7_outer::{Link, Octets};
 use std::alloc::Global;
-use std::test::Fail;
 
 const FOUR_BYTES: Item = Item {
     area: DATA_BLOCKS,
@@ -16,13 +15,15 @@ const FOUR_BYTES: Item = Item {
 };
 
 /// Connects to rack 0, slot 2 as a programming device does, and reads. The result's code is 0, or says what failed.
-fn read_four<L: Link>(alloc: Global, link: &mut L) -> Result<JobResult, Fail> {
-    let mut client = Connection::new(alloc, Config::new(1, 0, 2))?;
-    let connected = client.carry_out(alloc, Job::Connect, link)?;
+/// There is none where there is no memory.
+fn read_four<L: Link>(alloc: Global, link: &mut L) -> Option<JobResult> {
+    let mut client = Connection::new(alloc, Config::new(1, 0, 2)).ok()?;
+    let connected = client.carry_out(alloc, Job::Connect, link).ok()?;
     if connected.code != 0 {
-        return Ok(connected);
+        return Some(connected);
     }
-    Ok(client.carry_out(alloc, Job::ReadArea { item: FOUR_BYTES }, link)?)
+    let read = Job::ReadArea { item: FOUR_BYTES };
+    client.carry_out(alloc, read, link).ok()
 }
 
 /// The connect confirm, the granted negotiation, and the read's answer.
@@ -35,16 +36,25 @@ const WRITTEN: &str = "0300001611e00000000100c0010ac1020100c2020102\
     0300001902f08032010000000100080000f0000001000101e0\
     0300001f02f080320100000002000e00000401120a10020004000184000000";
 
+/// A link that gives the octets of these digits.
+fn new_link(alloc: Global, digits: &str) -> Option<MemoryLink> {
+    let given = Octets::of_vec(hex::decode(alloc, digits).ok()?);
+    MemoryLink::new(alloc, given, 8_192, 4_096, 0).ok()
+}
+
+/// The octets of these digits were written.
+fn has_written(alloc: Global, link: &MemoryLink, digits: &str) -> bool {
+    match hex::decode(alloc, digits) {
+        Ok(octets) => link.written() == octets.as_slice(),
+        Err(_) => false,
+    }
+}
+
 #[test]
-fn four_bytes_are_read(rt: HostRuntime) -> Result<(), Fail> {
-    let given = Octets::of_vec(hex::decode(rt.alloc(), GIVEN)?);
-    let mut link = MemoryLink::new(rt.alloc(), given, 8_192, 4_096, 0)?;
-    let read = read_four(rt.alloc(), &mut link)?;
-    assert_eq!(rt; read.code, 0);
-    assert_eq!(rt; read.octets.as_slice(), [0x11, 0x22, 0x33, 0x44].as_slice());
-    assert_eq!(rt;
-        link.written(),
-        hex::decode(rt.alloc(), WRITTEN)?.as_slice()
-    );
-    Ok(())
+fn four_bytes_are_read(rt: HostRuntime) {
+    let mut link = new_link(rt.alloc(), GIVEN).expect(&rt, "there is memory");
+    let read = read_four(rt.alloc(), &mut link).expect(&rt, "there is memory");
+    assert!(rt; read.code == 0);
+    assert!(rt; read.octets.as_slice() == [0x11, 0x22, 0x33, 0x44].as_slice());
+    assert!(rt; has_written(rt.alloc(), &link, WRITTEN));
 }

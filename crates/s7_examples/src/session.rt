@@ -9,7 +9,8 @@ use s7_outer::Octets;
 use s7_plant::{Ask, MOST_BLOCKS, Plant, Reply};
 use s7_session::{Doer, NotDone, Outcome, Session};
 use std::alloc::Global;
-use std::test::Fail;
+use std::sync::Wait;
+use std::time::Clock;
 
 /// Has a plant do what telegrams ask, so many of them, and counts them in place of a journal.
 #[derive(Drop)]
@@ -55,36 +56,61 @@ const ANSWERED: &str = "0300001611d00001000100c0010ac1020100c2020102\
     0300001b02f080320300000004000800000000f0000001000101e0\
     0300001d02f0803203000000050002000800000401ff04002011223344";
 
-/// A tally over data block 1.
-fn new_tally(alloc: Global) -> Result<Tally, Fail> {
-    let name = AreaKey {
-        area: DATA_BLOCKS,
-        number: 1,
-    };
+const DB1: AreaKey = AreaKey {
+    area: DATA_BLOCKS,
+    number: 1,
+};
+
+/// Data block 1 with four octets.
+fn new_areas(alloc: Global) -> Option<Areas> {
     let mut areas = Areas::new();
-    areas.register(
-        alloc,
-        name,
-        Octets::copy_of(alloc, &[0x11, 0x22, 0x33, 0x44])?,
-    )?;
-    Ok(Tally {
-        plant: Plant::new(areas, Blocks::new(alloc, MOST_BLOCKS)?),
+    let octets = Octets::copy_of(alloc, &[0x11, 0x22, 0x33, 0x44]).ok()?;
+    match areas.register(alloc, DB1, octets) {
+        Ok(()) => Some(areas),
+        Err((_fault, _octets)) => None,
+    }
+}
+
+/// A tally over these areas.
+fn new_tally(alloc: Global) -> Option<Tally> {
+    let blocks = Blocks::new(alloc, MOST_BLOCKS).ok()?;
+    Some(Tally {
+        plant: Plant::new(new_areas(alloc)?, blocks),
         count: 0,
         limit: 1_000,
     })
 }
 
+/// A link that gives the octets of these digits.
+fn new_link(alloc: Global, digits: &str) -> Option<MemoryLink> {
+    let given = Octets::of_vec(hex::decode(alloc, digits).ok()?);
+    MemoryLink::new(alloc, given, 8_192, 4_096, 0).ok()
+}
+
+/// The octets of these digits were written.
+fn has_written(alloc: Global, link: &MemoryLink, digits: &str) -> bool {
+    match hex::decode(alloc, digits) {
+        Ok(octets) => link.written() == octets.as_slice(),
+        Err(_) => false,
+    }
+}
+
+/// Serves the link, as link 1 and without a guard, until it ends.
+fn serve<R: Wait + Clock>(
+    rt: &R,
+    alloc: Global,
+    link: &mut MemoryLink,
+    tally: &mut Tally,
+) -> Option<Outcome> {
+    let mut session = Session::new(alloc, 1, None).ok()?;
+    Some(session.serve(rt, alloc, link, tally))
+}
+
 #[test]
-fn a_read_is_answered_and_counted(rt: HostRuntime) -> Result<(), Fail> {
-    let asked = Octets::of_vec(hex::decode(rt.alloc(), ASKED)?);
-    let mut link = MemoryLink::new(rt.alloc(), asked, 8_192, 4_096, 0)?;
-    let mut tally = new_tally(rt.alloc())?;
-    let mut session = Session::new(rt.alloc(), 1, None)?;
-    let outcome = session.serve(&rt, rt.alloc(), &mut link, &mut tally);
-    assert_eq!(rt; (outcome, tally.count), (Outcome::Ended, 1));
-    assert_eq!(rt;
-        link.written(),
-        hex::decode(rt.alloc(), ANSWERED)?.as_slice()
-    );
-    Ok(())
+fn a_read_is_answered_and_counted(rt: HostRuntime) {
+    let mut link = new_link(rt.alloc(), ASKED).expect(&rt, "there is memory");
+    let mut tally = new_tally(rt.alloc()).expect(&rt, "there is memory");
+    assert!(rt; serve(&rt, rt.alloc(), &mut link, &mut tally) == Some(Outcome::Ended));
+    assert!(rt; tally.count == 1);
+    assert!(rt; has_written(rt.alloc(), &link, ANSWERED));
 }

@@ -5,7 +5,6 @@ ghost use Rattle.s7_turn.specs.Seats.{IsOf};
 
 use s7_turn::{Entry, Hall, Machine, Seat};
 use std::sync::Wait;
-use std::test::Fail;
 use std::thread::join;
 
 /// Keeps the highest value that it was told, and answers with the highest before.
@@ -73,13 +72,15 @@ fn tell<R: Wait>(rt: &R, hall: &Hall<Peak>, mut seat: Seat<Peak>, values: &[u64]
 }
 
 #[test]
-fn two_threads_find_one_peak(rt: HostRuntime) -> Result<(), Fail> {
+fn two_threads_find_one_peak(rt: HostRuntime) {
     let peak = Peak {
-        entries: Vec::with_capacity(rt.alloc(), 9)?,
+        entries: Vec::with_capacity(rt.alloc(), 9).expect(&rt, "there is memory"),
         limit: 9,
         highest: 0,
     };
-    let (hall, mut one) = Hall::new(rt.alloc(), peak).ok().ok_or("memory")?;
+    let (hall, mut one) = Hall::new(rt.alloc(), peak)
+        .ok()
+        .expect(&rt, "there is memory");
     let other = hall.split(&mut one);
     let (one, other) = join(
         &rt,
@@ -94,6 +95,5 @@ fn two_threads_find_one_peak(rt: HostRuntime) -> Result<(), Fail> {
     );
     let both = hall.meet(one, other);
     let peak = hall.close(&rt, both);
-    assert_eq!(rt; (peak.highest, peak.entries.len()), (40, 5));
-    Ok(())
+    assert!(rt; (peak.highest, peak.entries.len()) == (40, 5));
 }

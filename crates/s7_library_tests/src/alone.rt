@@ -1,7 +1,6 @@
 // A partner over a line. Each line of a text is steps of an active partner `a` or a passive one `b`, as `scene` reads
 // them.
-use crate::scene::all_hold;
-use std::test::Fail;
+use crate::scene::{Form, unmet};
 
 /// Blocks that aren't taken.
 const REFUSED: &str = "
@@ -97,7 +96,10 @@ const TOLD: &str = "
     a sent, a received 1 aabbcc, a idle, a closed 00020000, wrote request asked fragment taken
 ";
 
+/// The texts.
+const FORMS: &[Form] = &[(REFUSED, "refused"), (CLOSING, "closing"), (TOLD, "told")];
+
 #[test]
-fn partners_refuse_close_and_tell(rt: HostRuntime) -> Result<(), Fail> {
-    all_hold(rt.alloc(), &[REFUSED, CLOSING, TOLD])
+fn partners_refuse_close_and_tell(rt: HostRuntime) {
+    assert_eq!(rt; unmet(rt.alloc(), FORMS), None);
 }

@@ -35,6 +35,18 @@ pub(crate) fn number_of(text: &str) -> Option<u8> {
     None
 }
 
+/// Both jobs are shown alike.
+pub(crate) fn is_same(alloc: Global, one: &Job, other: &Job) -> Option<bool> {
+    let one = shown(alloc, one)?;
+    let other = shown(alloc, other)?;
+    Some(one.as_str() == other.as_str())
+}
+
+/// A job as it is shown.
+fn shown(alloc: Global, job: &Job) -> Option<String> {
+    format!(in alloc; "{job:?}").ok()
+}
+
 /// The octets of a text.
 fn octets(alloc: Global, text: &str) -> Option<Octets> {
     Some(Octets::of_vec(octets_of(alloc, text)?))
@@ -83,6 +95,7 @@ fn of_numbers(name: &str, takes: &str) -> Option<Job> {
         "connect" => Some(Job::Connect),
         "clock" => Some(Job::ClockRead),
         "status" => Some(Job::Status),
+        "stop" => Some(Job::Stop),
         "disconnect" => Some(Job::Disconnect),
         _ => of_two(name, takes),
     }

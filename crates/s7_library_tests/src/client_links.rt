@@ -3,9 +3,7 @@
 // The forms stand over each of several exchanges: what happens behind the connect. A call is known by how many calls
 // there are before it. The octets that are written by then show whether it receives or transmits: it transmits where
 // the call behind it finds more of them. The end of each receive lies somewhere in a packet.
-use crate::exchange::{each_holds, holds, with_values};
-use std::alloc::Global;
-use std::test::Fail;
+use crate::exchange::{Form, unmet};
 
 /// A call fails and ends the job with this number, where so many octets are written. The next job has no link, and the
 /// client connects over another one, on which nothing is left of the first.
@@ -308,46 +306,40 @@ const MUCH_CALLS: &str = "\
 10 | 00090000 | 264
 11 | 000a0000 | 295";
 
-/// The form over the exchange holds with each of its calls.
-fn form_holds(alloc: Global, exchange: &str, form: &str, calls: &str) -> Result<(), Fail> {
-    match with_values(alloc, exchange, form) {
-        Some(form) => each_holds(alloc, exchange, form.as_str(), calls),
-        None => Err(Fail::from("memory")),
-    }
-}
-
-/// The exchange makes no more calls than it names.
-fn is_done(alloc: Global, exchange: &str) -> Result<(), Fail> {
-    match with_values(alloc, exchange, IS_DONE) {
-        Some(text) => holds(alloc, exchange, text.as_str()),
-        None => Err(Fail::from("memory")),
-    }
-}
-
-/// An exchange over links that fail or wait at each of its calls, which are these.
-fn goes(alloc: Global, exchange: &str, calls: &str) -> Result<(), Fail> {
-    is_done(alloc, exchange)?;
-    for form in &[FAILS, TIRES, WAITS] {
-        form_holds(alloc, exchange, form, calls)?;
-    }
-    Ok(())
-}
-
-/// The exchanges, and the calls of each.
-const EXCHANGES: &[(&str, &str)] = &[
-    (READ, READ_CALLS),
-    (DISCONNECT, DISCONNECT_CALLS),
-    (UPLOAD, UPLOAD_CALLS),
-    (DOWNLOAD, DOWNLOAD_CALLS),
-    (LIST, LIST_CALLS),
-    (FLIGHT, FLIGHT_CALLS),
-    (MUCH, MUCH_CALLS),
+/// Each exchange under each form.
+const FORMS: &[Form] = &[
+    (READ, IS_DONE, "read is done"),
+    (READ, FAILS, READ_CALLS),
+    (READ, TIRES, READ_CALLS),
+    (READ, WAITS, READ_CALLS),
+    (DISCONNECT, IS_DONE, "disconnect is done"),
+    (DISCONNECT, FAILS, DISCONNECT_CALLS),
+    (DISCONNECT, TIRES, DISCONNECT_CALLS),
+    (DISCONNECT, WAITS, DISCONNECT_CALLS),
+    (UPLOAD, IS_DONE, "upload is done"),
+    (UPLOAD, FAILS, UPLOAD_CALLS),
+    (UPLOAD, TIRES, UPLOAD_CALLS),
+    (UPLOAD, WAITS, UPLOAD_CALLS),
+    (DOWNLOAD, IS_DONE, "download is done"),
+    (DOWNLOAD, FAILS, DOWNLOAD_CALLS),
+    (DOWNLOAD, TIRES, DOWNLOAD_CALLS),
+    (DOWNLOAD, WAITS, DOWNLOAD_CALLS),
+    (LIST, IS_DONE, "list is done"),
+    (LIST, FAILS, LIST_CALLS),
+    (LIST, TIRES, LIST_CALLS),
+    (LIST, WAITS, LIST_CALLS),
+    (FLIGHT, IS_DONE, "flight is done"),
+    (FLIGHT, FAILS, FLIGHT_CALLS),
+    (FLIGHT, TIRES, FLIGHT_CALLS),
+    (FLIGHT, WAITS, FLIGHT_CALLS),
+    (MUCH, IS_DONE, "much is done"),
+    (MUCH, FAILS, MUCH_CALLS),
+    (MUCH, TIRES, MUCH_CALLS),
+    (MUCH, WAITS, MUCH_CALLS),
+    ("", CONNECT_WAITS, CONNECT_CALLS),
 ];
 
 #[test]
-fn links_fail_and_wait_at_each_call(rt: HostRuntime) -> Result<(), Fail> {
-    for (exchange, calls) in EXCHANGES {
-        goes(rt.alloc(), exchange, calls)?;
-    }
-    each_holds(rt.alloc(), "", CONNECT_WAITS, CONNECT_CALLS)
+fn links_fail_and_wait_at_each_call(rt: HostRuntime) {
+    assert_eq!(rt; unmet(rt.alloc(), FORMS), None);
 }

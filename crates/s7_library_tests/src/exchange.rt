@@ -24,7 +24,13 @@ use s7_client::{Client, Config, Counter, Job, JobResult, Polled};
 use s7_memory::{FailingLink, Fate, MemoryLink, Pipes, Side};
 use s7_outer::Octets;
 use std::alloc::Global;
-use std::test::Fail;
+
+/// Names with what they stand for; a text in which `$1` to `$6` are the fields of a row; and its rows, in which `|` is
+/// between two fields, or the name of a text without fields.
+pub(crate) type Form = (&'static str, &'static str, &'static str);
+
+/// A row with which a form doesn't hold, and the number of the line that doesn't.
+pub(crate) type Unmet = (&'static str, usize);
 
 /// Names that every text may use. The item `FOUR` is four bytes of data block 1.
 const NAMES: &str = "\
@@ -74,59 +80,85 @@ impl Drop for Exchange<'_> {
     }
 }
 
-/// The exchange of each text holds.
-pub(crate) fn all_hold(alloc: Global, names: &str, texts: &[&str]) -> Result<(), Fail> {
-    for text in texts {
-        holds(alloc, names, text)?;
+/// The first row with which a line of its form doesn't hold, and that line's number.
+pub(crate) fn unmet(alloc: Global, forms: &[Form]) -> Option<Unmet> {
+    for form in forms {
+        if let Some(row) = unmet_row(alloc, form) {
+            return Some(row);
+        }
     }
-    Ok(())
+    None
 }
 
-/// The exchange of each row holds: the form, in which `$1` to `$6` are the fields of the row, with `|` between them.
-/// A line of the rows that begins with `#` says what the next row is.
-pub(crate) fn each_holds(alloc: Global, names: &str, form: &str, rows: &str) -> Result<(), Fail> {
+/// The first such row of a form. A line of the rows that begins with `#` says what the next row is.
+fn unmet_row(alloc: Global, form: &Form) -> Option<Unmet> {
+    let (names, form, rows) = *form;
     for row in rows.lines() {
-        if !row.starts_with('#') {
-            row_holds(alloc, names, form, row)?;
+        if let Some(line) = unmet_with(alloc, names, form, row) {
+            return Some((row, line));
         }
     }
-    Ok(())
+    None
 }
 
-/// The exchange of a row holds.
-fn row_holds(alloc: Global, names: &str, form: &str, row: &str) -> Result<(), Fail> {
-    match filled(alloc, form, row) {
-        Some(text) => goes(alloc, names, text.as_str(), row),
-        None => Err(Fail::new(row)),
+/// The number of the first line of the form that doesn't hold with a row.
+fn unmet_with(alloc: Global, names: &str, form: &str, row: &str) -> Option<usize> {
+    if row.starts_with('#') {
+        return None;
+    }
+    match text_of(alloc, names, form, row) {
+        Some(text) => unmet_at_any(alloc, text.as_str()),
+        None => Some(0),
     }
 }
 
-/// The exchange of a text holds with every number of jobs and in all pieces.
-pub(crate) fn holds(alloc: Global, names: &str, text: &str) -> Result<(), Fail> {
-    goes(alloc, names, text, "")
+/// The form with the fields of a row, and the values in place of the names, also of those that values have.
+fn text_of(alloc: Global, names: &str, form: &str, row: &str) -> Option<String> {
+    let text = with_values(alloc, names, form)?;
+    let text = filled(alloc, text.as_str(), row)?;
+    with_values(alloc, names, text.as_str())
 }
 
-/// The exchange of a text that was made of a row.
-fn goes(alloc: Global, names: &str, text: &str, row: &str) -> Result<(), Fail> {
-    match with_values(alloc, names, text) {
-        Some(text) => goes_at_all(alloc, text.as_str(), row),
-        None => Err(Fail::new(row)),
-    }
-}
-
-/// It holds with every number of jobs.
-fn goes_at_all(alloc: Global, text: &str, row: &str) -> Result<(), Fail> {
+/// The number of the first line that doesn't hold with a number of jobs.
+fn unmet_at_any(alloc: Global, text: &str) -> Option<usize> {
     for jobs in setting(text, "jobs", "1").split_ascii_whitespace() {
-        match text.replace(alloc, '@', jobs) {
-            Ok(text) => goes_in_pieces(alloc, text.as_str(), jobs, row)?,
-            Err(_) => return Err(Fail::new(row)),
+        let unmet = unmet_at(alloc, text, jobs);
+        if unmet.is_some() {
+            return unmet;
         }
     }
-    Ok(())
+    None
+}
+
+/// The number of the first line that doesn't hold with this number of jobs.
+fn unmet_at(alloc: Global, text: &str, jobs: &str) -> Option<usize> {
+    match text.replace(alloc, '@', jobs) {
+        Ok(text) => unmet_in_pieces(alloc, text.as_str(), jobs),
+        Err(_) => Some(0),
+    }
+}
+
+/// The number of the first line that doesn't hold in some pieces.
+fn unmet_in_pieces(alloc: Global, text: &str, jobs: &str) -> Option<usize> {
+    for most in setting(text, "most", "8192").split_ascii_whitespace() {
+        let unmet = unmet_line(alloc, text, jobs, most);
+        if unmet.is_some() {
+            return unmet;
+        }
+    }
+    None
+}
+
+/// The number of the first line, from 0, in which not all happens as it says.
+fn unmet_line(alloc: Global, text: &str, jobs: &str, most: &str) -> Option<usize> {
+    match begun(alloc, text, jobs, most) {
+        Some(mut exchange) => exchange.unmet(),
+        None => Some(0),
+    }
 }
 
 /// The text with the values in place of the names.
-pub(crate) fn with_values(alloc: Global, names: &str, text: &str) -> Option<String> {
+fn with_values(alloc: Global, names: &str, text: &str) -> Option<String> {
     let mut all = String::new(alloc);
     for line in text.lines() {
         add_line(&mut all, names, line)?;
@@ -163,24 +195,6 @@ fn setting<'a>(text: &'a str, name: &str, usual: &'a str) -> &'a str {
         }
     }
     usual
-}
-
-/// It holds in all pieces.
-fn goes_in_pieces(alloc: Global, text: &str, jobs: &str, row: &str) -> Result<(), Fail> {
-    for most in setting(text, "most", "8192").split_ascii_whitespace() {
-        if let Some(line) = unmet(alloc, text, jobs, most) {
-            return Err(Fail::from((line, row)));
-        }
-    }
-    Ok(())
-}
-
-/// The first line in which not all happens as it says.
-fn unmet<'a>(alloc: Global, text: &'a str, jobs: &str, most: &'a str) -> Option<&'a str> {
-    match begun(alloc, text, jobs, most) {
-        Some(mut exchange) => exchange.unmet(),
-        None => Some(most),
-    }
 }
 
 /// A client, its link and its pipes before the first line of a text.
@@ -267,14 +281,15 @@ fn fate_of(word: &str) -> Option<Fate> {
     }
 }
 
-impl<'a> Exchange<'a> {
-    /// The first line in which not all happens as it says.
-    fn unmet(&mut self) -> Option<&'a str> {
+impl Exchange<'_> {
+    /// The number of the first line, from 0, in which not all happens as it says.
+    fn unmet(&mut self) -> Option<usize> {
+        let mut number = 0usize;
         for line in self.text.lines() {
-            match self.line_holds(line) {
-                Some(true) if self.is_counted() => {}
-                _ => return Some(line),
+            if self.line_holds(line) != Some(true) || !self.is_counted() {
+                return Some(number);
             }
+            number = number.saturating_add(1);
         }
         None
     }

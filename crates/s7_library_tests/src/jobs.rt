@@ -1,6 +1,5 @@
 // Jobs that no script makes, and clients over a second link.
-use crate::exchange::{all_hold, each_holds};
-use std::test::Fail;
+use crate::exchange::{Form, unmet};
 
 /// A connected client ends a job with this number and sends nothing, and the next read goes on.
 const TURNED_DOWN: &str = "\
@@ -154,26 +153,19 @@ upload ff 65535 | 0300002302f080320100000002001200001d00000000000000095f30ff3635
 delete ff 65535 | 0300002b02f080320100000002001a000028000000000000fd000a010030ff363535333542055f44454c45 | \
   0300001502f0803203000000020002000000002800 | 0";
 
-/// The forms, and the rows of each.
-const FORMS: &[(&str, &str)] = &[
-    (TURNED_DOWN, BAD_JOBS),
-    (CARRIED, NO_ANSWERS),
-    (COMES_OFF, ANY_KIND),
-];
-
-/// Exchanges without rows.
-const TEXTS: &[&str] = &[
-    TWO_CONNECTS,
-    TWENTY_ONE_ITEMS,
-    NO_ITEMS,
-    UNCONNECTED,
-    READ_AFTER_DISCONNECT,
+/// The forms.
+const FORMS: &[Form] = &[
+    ("", TURNED_DOWN, BAD_JOBS),
+    ("", CARRIED, NO_ANSWERS),
+    ("", COMES_OFF, ANY_KIND),
+    ("", TWO_CONNECTS, "two connects"),
+    ("", TWENTY_ONE_ITEMS, "twenty one items"),
+    ("", NO_ITEMS, "no items"),
+    ("", UNCONNECTED, "unconnected"),
+    ("", READ_AFTER_DISCONNECT, "read after disconnect"),
 ];
 
 #[test]
-fn clients_go_on(rt: HostRuntime) -> Result<(), Fail> {
-    for (form, rows) in FORMS {
-        each_holds(rt.alloc(), "", form, rows)?;
-    }
-    all_hold(rt.alloc(), "", TEXTS)
+fn clients_go_on(rt: HostRuntime) {
+    assert_eq!(rt; unmet(rt.alloc(), FORMS), None);
 }

@@ -46,3 +46,5 @@ mod together;
 mod tool_words;
 #[cfg(test)]
 mod words;
+#[cfg(test)]
+mod wrong_lines;

@@ -2,8 +2,7 @@
 // The end of each receive lies somewhere in a packet, and the longer packets go in several transmits. A call is known
 // by how many calls there are before it. The octets that are written by then show whether it receives or transmits: it
 // transmits where the call behind it finds more of them.
-use crate::scene::{all_hold, each_holds};
-use std::test::Fail;
+use crate::scene::{Form, unmet};
 
 /// A call of the partner that sends fails: it closes with this number, the block isn't acknowledged, so many octets
 /// are written, and it takes no other block.
@@ -98,16 +97,17 @@ const ACKNOWLEDGED: &str = "
 ";
 
 /// The forms, and the rows of each.
-const FORMS: &[(&str, &str)] = &[
+const FORMS: &[Form] = &[
+    (SENT, "sent"),
     (SENDING_FAILS, SENDING),
     (SENDING_WAITS, SENDING),
     (RECEIVING_FAILS, RECEIVING),
     (RECEIVING_WAITS, RECEIVING),
     (RECEIVED, ACKNOWLEDGING),
+    (ACKNOWLEDGED, "acknowledged"),
 ];
 
 #[test]
-fn a_block_is_sent_and_received(rt: HostRuntime) -> Result<(), Fail> {
-    each_holds(rt.alloc(), FORMS)?;
-    all_hold(rt.alloc(), &[SENT, ACKNOWLEDGED])
+fn a_block_is_sent_and_received(rt: HostRuntime) {
+    assert_eq!(rt; unmet(rt.alloc(), FORMS), None);
 }

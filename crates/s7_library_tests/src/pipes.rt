@@ -5,13 +5,12 @@
 // the server and for the client.
 use crate::asks::job_of;
 use crate::clients::{polled, start};
-use crate::exchange::{Exchange, all_hold, holds};
+use crate::exchange::{Exchange, Form, unmet};
 use crate::words::{are, hex_number, item_of, octets_of};
 use s7_client::{Job, JobResult, Polled, StartCause, StartFault};
 use s7_item::Item;
 use s7_memory::{PipeEnd, Pipes, Side};
 use s7_outer::{Got, Link, Sent};
-use std::test::Fail;
 
 impl Exchange<'_> {
     /// The client takes this job.
@@ -199,8 +198,15 @@ polls pending
 takes CLOSED INSERTS
 granted 64";
 
+/// The texts.
+const FORMS: &[Form] = &[
+    ("", PATIENCE, "patience"),
+    ("", NARROW, "narrow"),
+    ("", ALL_SENT, "all sent"),
+    (DOWNLOAD, WAITS, "waits"),
+];
+
 #[test]
-fn a_job_goes_on_by_polls(rt: HostRuntime) -> Result<(), Fail> {
-    all_hold(rt.alloc(), "", &[PATIENCE, NARROW, ALL_SENT])?;
-    holds(rt.alloc(), DOWNLOAD, WAITS)
+fn a_job_goes_on_by_polls(rt: HostRuntime) {
+    assert_eq!(rt; unmet(rt.alloc(), FORMS), None);
 }

@@ -9,7 +9,6 @@ use s7_client::{Job, JobResult};
 use s7_outer::Octets;
 use s7_script::print_result;
 use std::alloc::Global;
-use std::test::Fail;
 
 /// The line, the code, the job, its octets, and what is printed.
 type Row = (u32, u32, &'static str, &'static str, &'static str);
@@ -56,38 +55,36 @@ fn is_printable(done: &JobResult) -> bool
     }
 }
 
-/// What came of the job of a row.
-fn done(alloc: Global, row: &Row) -> Option<JobResult> {
-    let (_, code, job, octets, _) = *row;
-    let octets = Octets::of_vec(octets_of(alloc, octets)?);
-    let job = job_of(alloc, job)?;
+/// What came of a job: its number and octets.
+pub(crate) fn done_of(alloc: Global, job: Job, code: u32, octets: &str) -> Option<JobResult> {
     Some(JobResult {
         job,
         code,
-        octets,
+        octets: Octets::of_vec(octets_of(alloc, octets)?),
         codes: [0; 20],
         count: 0,
         carried: Octets::of_vec(Vec::new(alloc)),
     })
 }
 
-/// The line of a row is printed.
-fn prints(alloc: Global, row: &Row) -> Option<bool> {
-    let (line, _, _, _, text) = *row;
-    let done = done(alloc, row)?;
-    if !is_printable(&done) {
+/// The line that is printed.
+fn text_of(alloc: Global, line: u32, done: &JobResult) -> Option<Octets> {
+    if !is_printable(done) {
         return None;
     }
-    let printed = print_result(alloc, line, &done).ok()?;
-    Some(printed.as_slice() == text.as_bytes())
+    print_result(alloc, line, done).ok()
+}
+
+/// The line of a row is printed.
+fn prints(alloc: Global, row: &Row) -> Option<bool> {
+    let (line, code, job, octets, wanted) = *row;
+    let done = done_of(alloc, job_of(alloc, job)?, code, octets)?;
+    Some(text_of(alloc, line, &done)?.as_slice() == wanted.as_bytes())
 }
 
 #[test]
-fn results_are_printed(rt: HostRuntime) -> Result<(), Fail> {
+fn results_are_printed(rt: HostRuntime) {
     for row in PRINTED {
-        if !prints(rt.alloc(), row).unwrap_or(false) {
-            return Err(Fail::new(row.4));
-        }
+        assert!(rt; prints(rt.alloc(), row) == Some(true), "{}", row.4);
     }
-    Ok(())
 }

@@ -5,6 +5,7 @@ ghost use Rattle.s7_header.specs.Negotiation.{most_pdu};
 ghost use Rattle.s7_dialogue.specs.declared.job.Job.TheVariants.{Connect, Disconnect};
 ghost use Rattle.s7_rig.specs.Scripts.{ConnectsFirst};
 
+use crate::asks::is_same;
 use crate::completions::is_last;
 use crate::pairs::is_filled;
 use s7_area::{AreaKey, Areas};
@@ -242,18 +243,6 @@ fn script_of(alloc: Global) -> Option<Script> {
         text.extend_from_slice(b"69").ok()?;
     }
     read_script(alloc, text.as_slice()).ok()
-}
-
-/// Both jobs are shown alike.
-fn is_same(alloc: Global, one: &Job, other: &Job) -> Option<bool> {
-    let one = shown(alloc, one)?;
-    let other = shown(alloc, other)?;
-    Some(one.as_str() == other.as_str())
-}
-
-/// A job as it is shown.
-fn shown(alloc: Global, job: &Job) -> Option<String> {
-    format!(in alloc; "{job:?}").ok()
 }
 
 /// Whether the jobs behind the connect begin with those of the script.

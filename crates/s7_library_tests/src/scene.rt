@@ -6,7 +6,12 @@ use s7_memory::{FailingLink, Fate, MemoryLink, PipeEnd, Pipes, Side};
 use s7_outer::{Link, Memory, Octets};
 use s7_partner::{Partner, PartnerEvent, Role, SendFault};
 use std::alloc::Global;
-use std::test::Fail;
+
+/// A text of lines in which `$1` to `$6` are the fields of a row, and its rows, or the name of a text without fields.
+pub(crate) type Form = (&'static str, &'static str);
+
+/// A row with which a form doesn't hold, and the number of the line that doesn't.
+pub(crate) type Unmet = (&'static str, usize);
 
 /// A partner, and what it was given and told.
 struct Talker {
@@ -367,54 +372,48 @@ fn repeat(scene: &mut Scene, text: &str) -> Option<bool> {
     Some(true)
 }
 
-/// The first line that doesn't hold, where all are done one after another.
-fn unmet<'a>(scene: &mut Scene, text: &'a str) -> Option<&'a str> {
+/// The number of the first line that doesn't hold, from 0, where all are done one after another.
+fn unmet_line(scene: &mut Scene, text: &str) -> Option<usize> {
+    let mut number = 0usize;
     for line in text.lines() {
-        let line = line.trim();
-        if line.is_empty() || line.starts_with('#') {
-            continue;
+        if !line_holds(scene, line.trim()) {
+            return Some(number);
         }
-        match repeat(scene, line) {
-            Some(true) => {}
-            _ => return Some(line),
+        number = number.saturating_add(1);
+    }
+    None
+}
+
+/// A line holds: steps, a comment behind `#`, or nothing.
+fn line_holds(scene: &mut Scene, line: &str) -> bool {
+    line.is_empty() || line.starts_with('#') || repeat(scene, line) == Some(true)
+}
+
+/// The number of the first line of the form that doesn't hold with a row.
+fn unmet_with(alloc: Global, form: &str, row: &str) -> Option<usize> {
+    match (filled(alloc, form, row), anew(alloc, "480")) {
+        (Some(text), Some(mut scene)) => unmet_line(&mut scene, text.as_str()),
+        _ => Some(0),
+    }
+}
+
+/// The first row with which a line of the form doesn't hold, and that line's number.
+fn unmet_row(alloc: Global, form: &Form) -> Option<Unmet> {
+    let (form, rows) = *form;
+    for row in rows.lines() {
+        if let Some(line) = unmet_with(alloc, form, row) {
+            return Some((row, line));
         }
     }
     None
 }
 
-/// All lines of a text, which was made of a row, hold.
-fn goes(alloc: Global, text: &str, row: &str) -> Result<(), Fail> {
-    let Some(mut scene) = anew(alloc, "480") else {
-        return Err(Fail::new(row));
-    };
-    match unmet(&mut scene, text) {
-        Some(line) => Err(Fail::from((line, row))),
-        None => Ok(()),
-    }
-}
-
-/// All lines of each text hold, one after another.
-pub(crate) fn all_hold(alloc: Global, texts: &[&str]) -> Result<(), Fail> {
-    for text in texts {
-        goes(alloc, text, "")?;
-    }
-    Ok(())
-}
-
-/// The lines of the form hold with a row.
-fn row_holds(alloc: Global, form: &str, row: &str) -> Result<(), Fail> {
-    match filled(alloc, form, row) {
-        Some(text) => goes(alloc, text.as_str(), row),
-        None => Err(Fail::new(row)),
-    }
-}
-
-/// The lines of each form hold with each of its rows.
-pub(crate) fn each_holds(alloc: Global, forms: &[(&str, &str)]) -> Result<(), Fail> {
-    for (form, rows) in forms {
-        for row in rows.lines() {
-            row_holds(alloc, form, row)?;
+/// The first such row of all forms.
+pub(crate) fn unmet(alloc: Global, forms: &[Form]) -> Option<Unmet> {
+    for form in forms {
+        if let Some(row) = unmet_row(alloc, form) {
+            return Some(row);
         }
     }
-    Ok(())
+    None
 }

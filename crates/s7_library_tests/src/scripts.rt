@@ -1,15 +1,12 @@
 // Scripts: the first wrong line, and what is wrong with it.
-use s7_script::{ScriptKind, read_script};
-use std::alloc::Global;
-use std::test::Fail;
+use crate::wrong_lines::{Row, Wrong};
+use s7_script::ScriptKind;
 
-/// A line, what is wrong with it, and texts whose first wrong line it is, with a bar between them.
-type Row = (u32, ScriptKind, &'static str);
-
-const WRONG_LINES: &[Row] = &[
+/// The first wrong lines.
+pub(crate) const WRONG_LINES: &[Row] = &[
     (
         1,
-        ScriptKind::Word,
+        Wrong::Script(ScriptKind::Word),
         "raed DB1 byte 0 1|\
          get Speed|\
          put Speed 1|\
@@ -36,7 +33,7 @@ const WRONG_LINES: &[Row] = &[
     ),
     (
         1,
-        ScriptKind::Fields,
+        Wrong::Script(ScriptKind::Fields),
         "read|\
          read DB1|\
          read DB1 byte|\
@@ -81,7 +78,7 @@ const WRONG_LINES: &[Row] = &[
     ),
     (
         1,
-        ScriptKind::Number,
+        Wrong::Script(ScriptKind::Number),
         "read DB byte 0 1|\
          read DB0 byte 0 1|\
          read DB65536 byte 0 1|\
@@ -121,7 +118,7 @@ const WRONG_LINES: &[Row] = &[
     ),
     (
         1,
-        ScriptKind::Digits,
+        Wrong::Script(ScriptKind::Digits),
         "write DB1 byte 0 |\
          write DB1 byte 0 1|\
          write DB1 byte 0 1g|\
@@ -139,42 +136,13 @@ const WRONG_LINES: &[Row] = &[
     ),
     (
         4,
-        ScriptKind::Number,
+        Wrong::Script(ScriptKind::Number),
         "# x\n\nread DB1 byte 0 1\r\nread DB1 byte 0 1\r2\n",
     ),
-    (2, ScriptKind::Word, "read DB1 byte 0 1\n \n"),
+    (2, Wrong::Script(ScriptKind::Word), "read DB1 byte 0 1\n \n"),
     (
         2,
-        ScriptKind::Digits,
+        Wrong::Script(ScriptKind::Digits),
         "read DB1 byte 0 1\nwrite DB1 byte 0 1\nraed\n",
     ),
 ];
-
-/// The first wrong line of a text is this one.
-fn is_wrong(alloc: Global, text: &str, line: u32, kind: ScriptKind) -> bool {
-    match read_script(alloc, text.as_bytes()) {
-        Ok(_) => false,
-        Err(fault) => fault.line == line && fault.kind == kind,
-    }
-}
-
-/// The first text of a row whose first wrong line is another.
-fn unmet(alloc: Global, row: &Row) -> Option<&'static str> {
-    let (line, kind, texts) = *row;
-    for text in texts.split('|') {
-        if !is_wrong(alloc, text, line, kind) {
-            return Some(text);
-        }
-    }
-    None
-}
-
-#[test]
-fn first_wrong_line(rt: HostRuntime) -> Result<(), Fail> {
-    for row in WRONG_LINES {
-        if let Some(text) = unmet(rt.alloc(), row) {
-            return Err(Fail::new(text));
-        }
-    }
-    Ok(())
-}

@@ -1,15 +1,15 @@
 // Tag scripts: the jobs that their lines name, the first wrong line, and what is printed of a job that gets or puts.
-use crate::asks::job_of;
-use crate::words::octets_of;
+use crate::asks::{is_same, job_of};
+use crate::printing::done_of;
+use crate::wrong_lines::{Row, Wrong};
 use s7_client::JobResult;
 use s7_outer::Octets;
-use s7_script::{Script, ScriptFault, ScriptKind, ScriptLine, print_tag, read_tag_script};
+use s7_script::{ScriptKind, ScriptLine, print_tag, read_tag_script};
 use s7_symbol::{TagKind, Tags, read_tags};
 use std::alloc::Global;
-use std::test::Fail;
 
 /// A tag of each type.
-const TAGS: &str = "\
+pub(crate) const TAGS: &str = "\
 Speed INT DB1 0
 Bit BOOL DB1 4.3
 Total DINT DB1 6
@@ -20,40 +20,31 @@ Moment DATE_AND_TIME PA 100
 ";
 
 /// The tags. Nothing is promised of them, so that what calls this is soon proved.
-fn tags_of(alloc: Global) -> Result<Tags, Fail> {
-    match read_tags(alloc, TAGS.as_bytes()) {
-        Ok(tags) => Ok(tags),
-        Err(fault) => Err(Fail::from(fault.line)),
-    }
+fn tags_of(alloc: Global) -> Option<Tags> {
+    read_tags(alloc, TAGS.as_bytes()).ok()
 }
 
 /// The jobs of a text, of which nothing is promised either.
-fn script_of(alloc: Global, tags: &Tags, text: &str) -> Result<Script, ScriptFault> {
-    read_tag_script(alloc, text.as_bytes(), tags)
-}
-
-/// The line that is printed, of which nothing is promised either.
-fn text_of(alloc: Global, line: u32, kind: TagKind, done: &JobResult) -> Result<Octets, Fail> {
-    match print_tag(alloc, line, kind, done) {
-        Ok(text) => Ok(text),
-        Err(_) => Err(Fail::from("no text")),
-    }
+fn lines_of(alloc: Global, tags: &Tags, text: &str) -> Option<Vec<ScriptLine>> {
+    Some(
+        read_tag_script(alloc, text.as_bytes(), tags)
+            .ok()?
+            .into_vec(),
+    )
 }
 
 /// The last line of a text that names a job.
-fn last_line(alloc: Global, tags: &Tags, text: &str) -> Result<ScriptLine, Fail> {
-    let Ok(script) = script_of(alloc, tags, text) else {
-        return Err(Fail::from("no script"));
-    };
-    match script.into_vec().pop() {
-        Some(line) => Ok(line),
-        None => Err(Fail::from("no line")),
-    }
+fn last_line(alloc: Global, text: &str) -> Option<ScriptLine> {
+    let tags = tags_of(alloc)?;
+    lines_of(alloc, &tags, text)?.pop()
 }
+
+/// A text, the type of the tag that its last line gets or puts, and the job of that line.
+type Named = (&'static str, Option<TagKind>, &'static str);
 
 /// Lines, the types of the tags that they get or put, and their jobs with the items by area in hex, data block, word in
 /// hex, count and address in bits.
-const JOBS: &[(&str, Option<TagKind>, &str)] = &[
+const JOBS: &[Named] = &[
     ("get Speed", Some(TagKind::Int), "read 84.1.02.2.0"),
     ("get Bit", Some(TagKind::Bool), "read 84.1.01.1.35"),
     ("get Total", Some(TagKind::Dint), "read 84.1.02.4.48"),
@@ -104,91 +95,95 @@ const JOBS: &[(&str, Option<TagKind>, &str)] = &[
     ("get Speed\n# x\nstop", None, "stop"),
 ];
 
-#[test]
-fn lines_name_jobs(rt: HostRuntime) -> Result<(), Fail> {
-    let tags = tags_of(rt.alloc())?;
-    for (text, kind, job) in JOBS {
-        let line = last_line(rt.alloc(), &tags, *text)?;
-        let job = job_of(rt.alloc(), *job)?;
-        let wanted = format!(in rt.alloc(); "{job:?}")?;
-        let told = format!(in rt.alloc(); "{:?}", line.job)?;
-        assert!(rt; told == wanted, "{text}");
-        assert!(rt; line.tag == *kind, "{text}");
-    }
-    Ok(())
+/// The last line of a text names this job, and gets or puts a tag of this type.
+fn names(alloc: Global, row: &Named) -> Option<bool> {
+    let (text, kind, job) = *row;
+    let line = last_line(alloc, text)?;
+    let job = job_of(alloc, job)?;
+    Some(line.tag == kind && is_same(alloc, &line.job, &job)?)
 }
 
-/// Texts, their first wrong line, and what is wrong with it.
-const WRONG_LINES: &[(&str, u32, ScriptKind)] = &[
-    ("get", 1, ScriptKind::Fields),
-    ("get ", 1, ScriptKind::Word),
-    ("get  Speed", 1, ScriptKind::Word),
-    ("get Spee", 1, ScriptKind::Word),
-    ("get Speeds", 1, ScriptKind::Word),
-    ("get speed", 1, ScriptKind::Word),
-    ("get Nothing 1", 1, ScriptKind::Word),
-    ("get Speed ", 1, ScriptKind::Fields),
-    ("get Speed 1", 1, ScriptKind::Fields),
-    ("Get Speed", 1, ScriptKind::Word),
-    (" get Speed", 1, ScriptKind::Word),
-    ("put", 1, ScriptKind::Fields),
-    ("put ", 1, ScriptKind::Word),
-    ("put Nothing", 1, ScriptKind::Word),
-    ("put Nothing x 2", 1, ScriptKind::Word),
-    ("put Speed", 1, ScriptKind::Fields),
-    ("put Speed ", 1, ScriptKind::Number),
-    ("put Speed  1", 1, ScriptKind::Number),
-    ("put Speed 1 ", 1, ScriptKind::Fields),
-    ("put Speed 1 2", 1, ScriptKind::Fields),
-    ("put Speed x 2", 1, ScriptKind::Number),
-    ("Put Speed 1", 1, ScriptKind::Word),
-    // Values of no form, and outside the range of their type.
-    ("put Speed -0", 1, ScriptKind::Number),
-    ("put Speed 07", 1, ScriptKind::Number),
-    ("put Speed 32768", 1, ScriptKind::Number),
-    ("put Speed -32769", 1, ScriptKind::Number),
-    ("put Bit 2", 1, ScriptKind::Number),
-    ("put Total 2147483648", 1, ScriptKind::Number),
-    ("put Total -2147483649", 1, ScriptKind::Number),
-    ("put Count -1", 1, ScriptKind::Number),
-    ("put Count 10000", 1, ScriptKind::Number),
-    ("put Delay 123", 1, ScriptKind::Number),
-    ("put Delay 1000.0", 1, ScriptKind::Number),
-    ("put Delay 1.4", 1, ScriptKind::Number),
-    ("put Name 4A", 1, ScriptKind::Number),
-    ("put Name 414", 1, ScriptKind::Number),
-    ("put Name 4142434445", 1, ScriptKind::Number),
-    ("put Moment 2024-02-30T00:00:00.000", 1, ScriptKind::Number),
-    ("put Moment 1989-12-31T23:59:59.999", 1, ScriptKind::Number),
-    ("put Moment 2090-01-01T00:00:00.000", 1, ScriptKind::Number),
-    // The lines of other scripts, and lines behind others.
-    ("raed DB1 byte 0 1", 1, ScriptKind::Word),
-    ("read DB1 byte 0 1 2", 1, ScriptKind::Fields),
+#[test]
+fn lines_name_jobs(rt: HostRuntime) {
+    for row in JOBS {
+        assert!(rt; names(rt.alloc(), row) == Some(true), "{}", row.0);
+    }
+}
+
+/// The first wrong lines.
+pub(crate) const WRONG_LINES: &[Row] = &[
     (
-        "# x\n\nget Speed\r\nput Speed 1\r2\n",
-        4,
-        ScriptKind::Number,
+        1,
+        Wrong::TagScript(ScriptKind::Fields),
+        "get|\
+         get Speed |\
+         get Speed 1|\
+         put|\
+         put Speed|\
+         put Speed 1 |\
+         put Speed 1 2|\
+         read DB1 byte 0 1 2",
     ),
-    ("get Speed\n \n", 2, ScriptKind::Word),
-    ("get Speed\nput Speed x\nget\n", 2, ScriptKind::Number),
+    (
+        1,
+        Wrong::TagScript(ScriptKind::Word),
+        "get |\
+         get  Speed|\
+         get Spee|\
+         get Speeds|\
+         get speed|\
+         get Nothing 1|\
+         Get Speed|\
+         \x20get Speed|\
+         put |\
+         put Nothing|\
+         put Nothing x 2|\
+         Put Speed 1|\
+         raed DB1 byte 0 1",
+    ),
+    (
+        1,
+        Wrong::TagScript(ScriptKind::Number),
+        "put Speed |\
+         put Speed  1|\
+         put Speed x 2|\
+         put Speed -0|\
+         put Speed 07|\
+         put Speed 32768|\
+         put Speed -32769|\
+         put Bit 2|\
+         put Total 2147483648|\
+         put Total -2147483649|\
+         put Count -1|\
+         put Count 10000|\
+         put Delay 123|\
+         put Delay 1000.0|\
+         put Delay 1.4|\
+         put Name 4A|\
+         put Name 414|\
+         put Name 4142434445|\
+         put Moment 2024-02-30T00:00:00.000|\
+         put Moment 1989-12-31T23:59:59.999|\
+         put Moment 2090-01-01T00:00:00.000",
+    ),
+    (
+        4,
+        Wrong::TagScript(ScriptKind::Number),
+        "# x\n\nget Speed\r\nput Speed 1\r2\n",
+    ),
+    (2, Wrong::TagScript(ScriptKind::Word), "get Speed\n \n"),
+    (
+        2,
+        Wrong::TagScript(ScriptKind::Number),
+        "get Speed\nput Speed x\nget\n",
+    ),
 ];
 
-#[test]
-fn first_wrong_line(rt: HostRuntime) -> Result<(), Fail> {
-    let tags = tags_of(rt.alloc())?;
-    for (text, line, kind) in WRONG_LINES {
-        let fault = ScriptFault {
-            line: *line,
-            kind: *kind,
-        };
-        let told = script_of(rt.alloc(), &tags, *text).err();
-        assert!(rt; told == Some(fault), "{text:?}");
-    }
-    Ok(())
-}
+/// A text, the number that the job of its last line ends with, the octets that it reads, and what is printed of it.
+type Told = (&'static str, u32, &'static str, &'static str);
 
-/// Texts, the number that the job of their last line ends with, the octets that it reads, and what is printed of it.
-const PRINTED: &[(&str, u32, &str, &str)] = &[
+/// The results.
+const PRINTED: &[Told] = &[
     ("get Speed", 0, "fffe", "1 get 00000000 -2\n"),
     ("get Speed", 0, "7fff", "1 get 00000000 32767\n"),
     ("get Bit", 0, "01", "1 get 00000000 1\n"),
@@ -245,33 +240,32 @@ const PRINTED: &[(&str, u32, &str, &str)] = &[
     ),
 ];
 
+/// The line that is printed, of which nothing is promised.
+fn text_of(alloc: Global, line: u32, kind: TagKind, done: &JobResult) -> Option<Octets> {
+    print_tag(alloc, line, kind, done).ok()
+}
+
 /// The line that is printed where the job of the last line of a text ends with this number and these octets.
-fn printed(
-    alloc: Global,
-    tags: &Tags,
-    text: &str,
-    code: u32,
-    octets: &str,
-) -> Result<Octets, Fail> {
-    let line = last_line(alloc, tags, text)?;
-    let kind = line.tag.ok_or("no tag")?;
-    let done = JobResult {
-        job: line.job,
-        code,
-        octets: Octets::of_vec(octets_of(alloc, octets)?),
-        codes: [0; 20],
-        count: 0,
-        carried: Octets::of_vec(Vec::new(alloc)),
-    };
-    text_of(alloc, line.line, kind, &done)
+fn printed(alloc: Global, text: &str, code: u32, octets: &str) -> Option<Octets> {
+    let ScriptLine { line, job, tag } = last_line(alloc, text)?;
+    let done = done_of(alloc, job, code, octets)?;
+    text_of(alloc, line, tag?, &done)
+}
+
+/// The line of a row is printed.
+fn prints(alloc: Global, row: &Told) -> Option<bool> {
+    let (text, code, octets, wanted) = *row;
+    Some(printed(alloc, text, code, octets)?.as_slice() == wanted.as_bytes())
 }
 
 #[test]
-fn results_are_printed(rt: HostRuntime) -> Result<(), Fail> {
-    let tags = tags_of(rt.alloc())?;
-    for (text, code, octets, wanted) in PRINTED {
-        let told = printed(rt.alloc(), &tags, *text, *code, *octets)?;
-        assert!(rt; told.as_slice() == wanted.as_bytes(), "{text} {octets}");
+fn results_are_printed(rt: HostRuntime) {
+    for row in PRINTED {
+        assert!(rt;
+            prints(rt.alloc(), row) == Some(true),
+            "{} {}",
+            row.0,
+            row.2
+        );
     }
-    Ok(())
 }

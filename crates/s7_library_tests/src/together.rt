@@ -1,6 +1,5 @@
 // Two partners that send each other blocks. Each line of a text is their steps, as `scene` reads them.
-use crate::scene::all_hold;
-use std::test::Fail;
+use crate::scene::{Form, unmet};
 
 /// The link is opened, and blocks go.
 const ONE_BY_ONE: &str = "
@@ -72,12 +71,10 @@ const AT_ONCE: &str = "
     anew 64, draws 3, a acknowledged 30, a took 30, b acknowledged 30, b took 30
 ";
 
-#[test]
-fn blocks_come_whole(rt: HostRuntime) -> Result<(), Fail> {
-    all_hold(rt.alloc(), &[ONE_BY_ONE])
-}
+/// The texts.
+const FORMS: &[Form] = &[(ONE_BY_ONE, "one by one"), (AT_ONCE, "at once")];
 
 #[test]
-fn both_send_at_once(rt: HostRuntime) -> Result<(), Fail> {
-    all_hold(rt.alloc(), &[AT_ONCE])
+fn blocks_come_whole(rt: HostRuntime) {
+    assert_eq!(rt; unmet(rt.alloc(), FORMS), None);
 }

@@ -1,16 +1,6 @@
 // The words of the tool, as they are read.
-use crate::server_words::wrong;
 use s7_args::{PartnerWords, RigWords, RunWords, ToolWords, read_tool_words};
 use std::alloc::Global;
-use std::test::Fail;
-
-/// The words of a command.
-type Words = &'static [&'static str];
-
-/// The words are read. Nothing is promised of it, so that what calls this is soon proved.
-fn words_of<'a>(alloc: Global, words: &'a [&'a str]) -> Result<Option<ToolWords<'a>>, Fail> {
-    Ok(read_tool_words(alloc, words)?)
-}
 
 /// The host that is called where none is named.
 const LOCAL: &str = "127.0.0.1";
@@ -18,66 +8,107 @@ const LOCAL: &str = "127.0.0.1";
 /// The script, the host, the port, the kind, the rack, the slot, the PDU and the polls.
 type Run = (&'static str, &'static str, u16, u8, u8, u8, u16, u32);
 
+/// The areas, the scripts, the turns, the seed, the steps, the PDU and the journal's room.
+type Rig = (
+    &'static str,
+    &'static [&'static str],
+    &'static [u32],
+    u32,
+    u32,
+    u16,
+    u64,
+);
+
+/// The one file, the other one, the host, the port, the seed and the steps.
+type Partner = (
+    &'static str,
+    Option<&'static str>,
+    &'static str,
+    u16,
+    u32,
+    u32,
+);
+
+/// What words say, or that they are usage.
+enum Wanted {
+    Run(Run),
+    Rig(Rig),
+    Partner(Partner),
+    Usage,
+}
+
+/// A command, and what it says.
+type Line = (&'static [&'static str], Wanted);
+
 /// Commands that run a script.
-const RUNS: &[(Words, Run)] = &[
-    (&["run", "s"], ("s", LOCAL, 102, 1, 0, 2, 480, 50)),
-    (&["run", "--", "-s"], ("-s", LOCAL, 102, 1, 0, 2, 480, 50)),
+const RUNS: &[Line] = &[
+    (
+        &["run", "s"],
+        Wanted::Run(("s", LOCAL, 102, 1, 0, 2, 480, 50)),
+    ),
+    (
+        &["run", "--", "-s"],
+        Wanted::Run(("-s", LOCAL, 102, 1, 0, 2, 480, 50)),
+    ),
     (
         &["run", "s", "--host", "h"],
-        ("s", "h", 102, 1, 0, 2, 480, 50),
+        Wanted::Run(("s", "h", 102, 1, 0, 2, 480, 50)),
     ),
-    (&["run", "s", "--host="], ("s", "", 102, 1, 0, 2, 480, 50)),
+    (
+        &["run", "s", "--host="],
+        Wanted::Run(("s", "", 102, 1, 0, 2, 480, 50)),
+    ),
     (
         &["run", "--port", "1", "s"],
-        ("s", LOCAL, 1, 1, 0, 2, 480, 50),
+        Wanted::Run(("s", LOCAL, 1, 1, 0, 2, 480, 50)),
     ),
     (
         &["run", "s", "--port=65535"],
-        ("s", LOCAL, 65535, 1, 0, 2, 480, 50),
+        Wanted::Run(("s", LOCAL, 65535, 1, 0, 2, 480, 50)),
     ),
     (
         &["run", "s", "--port=+007"],
-        ("s", LOCAL, 7, 1, 0, 2, 480, 50),
+        Wanted::Run(("s", LOCAL, 7, 1, 0, 2, 480, 50)),
     ),
     (
         &["run", "s", "--type", "1"],
-        ("s", LOCAL, 102, 1, 0, 2, 480, 50),
+        Wanted::Run(("s", LOCAL, 102, 1, 0, 2, 480, 50)),
     ),
     (
         &["run", "s", "--type", "3"],
-        ("s", LOCAL, 102, 3, 0, 2, 480, 50),
+        Wanted::Run(("s", LOCAL, 102, 3, 0, 2, 480, 50)),
     ),
     (
         &["run", "s", "--rack", "+0"],
-        ("s", LOCAL, 102, 1, 0, 2, 480, 50),
+        Wanted::Run(("s", LOCAL, 102, 1, 0, 2, 480, 50)),
     ),
     (
         &["run", "s", "--rack", "7"],
-        ("s", LOCAL, 102, 1, 7, 2, 480, 50),
+        Wanted::Run(("s", LOCAL, 102, 1, 7, 2, 480, 50)),
     ),
     (
         &["run", "s", "--slot", "0"],
-        ("s", LOCAL, 102, 1, 0, 0, 480, 50),
+        Wanted::Run(("s", LOCAL, 102, 1, 0, 0, 480, 50)),
     ),
     (
         &["run", "s", "--slot", "31"],
-        ("s", LOCAL, 102, 1, 0, 31, 480, 50),
+        Wanted::Run(("s", LOCAL, 102, 1, 0, 31, 480, 50)),
     ),
     (
         &["run", "s", "--pdu", "64"],
-        ("s", LOCAL, 102, 1, 0, 2, 64, 50),
+        Wanted::Run(("s", LOCAL, 102, 1, 0, 2, 64, 50)),
     ),
     (
         &["run", "s", "--pdu", "1920"],
-        ("s", LOCAL, 102, 1, 0, 2, 1_920, 50),
+        Wanted::Run(("s", LOCAL, 102, 1, 0, 2, 1_920, 50)),
     ),
     (
         &["run", "s", "--polls", "1"],
-        ("s", LOCAL, 102, 1, 0, 2, 480, 1),
+        Wanted::Run(("s", LOCAL, 102, 1, 0, 2, 480, 1)),
     ),
     (
         &["run", "s", "--polls", "00000000000000000000004294967295"],
-        ("s", LOCAL, 102, 1, 0, 2, 480, 4_294_967_295),
+        Wanted::Run(("s", LOCAL, 102, 1, 0, 2, 480, 4_294_967_295)),
     ),
     (
         &[
@@ -96,8 +127,122 @@ const RUNS: &[(Words, Run)] = &[
             "--host",
             "plc.example",
         ],
-        ("s", "plc.example", 1102, 2, 3, 1, 240, 8),
+        Wanted::Run(("s", "plc.example", 1102, 2, 3, 1, 240, 8)),
     ),
+];
+
+/// Commands that run scripts together.
+const RIGS: &[Line] = &[
+    (
+        &["rig", "a", "s"],
+        Wanted::Rig(("a", &["s"], &[], 0, 0, 480, 65_536)),
+    ),
+    (
+        &["rig", "", ""],
+        Wanted::Rig(("", &[""], &[], 0, 0, 480, 65_536)),
+    ),
+    (
+        &["rig", "DB1=00", "-", "s", "s", "rig"],
+        Wanted::Rig(("DB1=00", &["-", "s", "s", "rig"], &[], 0, 0, 480, 65_536)),
+    ),
+    (
+        &["rig", "--", "-a", "--seed", "--"],
+        Wanted::Rig(("-a", &["--seed", "--"], &[], 0, 0, 480, 65_536)),
+    ),
+    (
+        &["rig", "a", "s", "--", "-t"],
+        Wanted::Rig(("a", &["s", "-t"], &[], 0, 0, 480, 65_536)),
+    ),
+    (
+        &[
+            "rig",
+            "a",
+            "s",
+            "--seed",
+            "4294967295",
+            "t",
+            "--steps=1000000",
+            "u",
+        ],
+        Wanted::Rig((
+            "a",
+            &["s", "t", "u"],
+            &[],
+            4_294_967_295,
+            1_000_000,
+            480,
+            65_536,
+        )),
+    ),
+    (
+        &["rig", "--pdu", "64", "a", "--journal=+01", "s"],
+        Wanted::Rig(("a", &["s"], &[], 0, 0, 64, 1)),
+    ),
+    (
+        &[
+            "rig",
+            "a",
+            "s",
+            "--pdu=1920",
+            "--journal",
+            "262144",
+            "--seed=+0",
+            "--steps",
+            "0",
+        ],
+        Wanted::Rig(("a", &["s"], &[], 0, 0, 1_920, 262_144)),
+    ),
+    (
+        &["rig", "a", "s", "--turns", "0,1,+1,01"],
+        Wanted::Rig(("a", &["s"], &[0, 1, 1, 1], 0, 0, 480, 65_536)),
+    ),
+    (
+        &["rig", "a", "--turns=3", "s", "t"],
+        Wanted::Rig(("a", &["s", "t"], &[3], 0, 0, 480, 65_536)),
+    ),
+];
+
+/// Commands of partners, and words that are usage.
+const PARTNERS: &[Line] = &[
+    (
+        &["partner", "a"],
+        Wanted::Partner(("a", None, LOCAL, 102, 0, 0)),
+    ),
+    (
+        &["partner", "a", "b"],
+        Wanted::Partner(("a", Some("b"), LOCAL, 102, 0, 0)),
+    ),
+    (
+        &["partner", "--", "-a", "-b"],
+        Wanted::Partner(("-a", Some("-b"), LOCAL, 102, 0, 0)),
+    ),
+    (
+        &["partner", "a", ""],
+        Wanted::Partner(("a", Some(""), LOCAL, 102, 0, 0)),
+    ),
+    (
+        &["partner", "a", "--host", "h", "--port=65535"],
+        Wanted::Partner(("a", None, "h", 65_535, 0, 0)),
+    ),
+    (
+        &[
+            "partner",
+            "--seed",
+            "4294967295",
+            "a",
+            "--steps=1000000",
+            "b",
+        ],
+        Wanted::Partner(("a", Some("b"), LOCAL, 102, 4_294_967_295, 1_000_000)),
+    ),
+    (&["partner"], Wanted::Usage),
+    (&["partner", "a", "b", "c"], Wanted::Usage),
+    (&["partner", "-a"], Wanted::Usage),
+    (&["partner", "a", "--port", "0"], Wanted::Usage),
+    (&["partner", "a", "--seed", "4294967296"], Wanted::Usage),
+    (&["partner", "a", "--steps", "1000001"], Wanted::Usage),
+    (&["partner", "a", "--pdu", "64"], Wanted::Usage),
+    (&["partner", "a", "--B", "b"], Wanted::Usage),
 ];
 
 /// The words are these.
@@ -113,90 +258,6 @@ fn is_run(run: &RunWords, wanted: &Run) -> bool {
         && run.polls == polls
 }
 
-/// The words are read as a run of these.
-fn runs_so(alloc: Global, words: Words, wanted: &Run) -> Result<bool, Fail> {
-    match &words_of(alloc, words)? {
-        Some(ToolWords::Run(run)) => Ok(is_run(run, wanted)),
-        _ => Ok(false),
-    }
-}
-
-/// The areas, the scripts, the turns, the seed, the steps, the PDU and the journal's room.
-type Rig = (
-    &'static str,
-    &'static [&'static str],
-    &'static [u32],
-    u32,
-    u32,
-    u16,
-    u64,
-);
-
-/// Commands that run scripts together.
-const RIGS: &[(Words, Rig)] = &[
-    (&["rig", "a", "s"], ("a", &["s"], &[], 0, 0, 480, 65_536)),
-    (&["rig", "", ""], ("", &[""], &[], 0, 0, 480, 65_536)),
-    (
-        &["rig", "DB1=00", "-", "s", "s", "rig"],
-        ("DB1=00", &["-", "s", "s", "rig"], &[], 0, 0, 480, 65_536),
-    ),
-    (
-        &["rig", "--", "-a", "--seed", "--"],
-        ("-a", &["--seed", "--"], &[], 0, 0, 480, 65_536),
-    ),
-    (
-        &["rig", "a", "s", "--", "-t"],
-        ("a", &["s", "-t"], &[], 0, 0, 480, 65_536),
-    ),
-    (
-        &[
-            "rig",
-            "a",
-            "s",
-            "--seed",
-            "4294967295",
-            "t",
-            "--steps=1000000",
-            "u",
-        ],
-        (
-            "a",
-            &["s", "t", "u"],
-            &[],
-            4_294_967_295,
-            1_000_000,
-            480,
-            65_536,
-        ),
-    ),
-    (
-        &["rig", "--pdu", "64", "a", "--journal=+01", "s"],
-        ("a", &["s"], &[], 0, 0, 64, 1),
-    ),
-    (
-        &[
-            "rig",
-            "a",
-            "s",
-            "--pdu=1920",
-            "--journal",
-            "262144",
-            "--seed=+0",
-            "--steps",
-            "0",
-        ],
-        ("a", &["s"], &[], 0, 0, 1_920, 262_144),
-    ),
-    (
-        &["rig", "a", "s", "--turns", "0,1,+1,01"],
-        ("a", &["s"], &[0, 1, 1, 1], 0, 0, 480, 65_536),
-    ),
-    (
-        &["rig", "a", "--turns=3", "s", "t"],
-        ("a", &["s", "t"], &[3], 0, 0, 480, 65_536),
-    ),
-];
-
 /// The words are these.
 fn is_rig(rig: &RigWords, wanted: &Rig) -> bool {
     let (areas, scripts, turns, seed, steps, pdu, journal) = *wanted;
@@ -209,75 +270,6 @@ fn is_rig(rig: &RigWords, wanted: &Rig) -> bool {
         && rig.journal == journal
 }
 
-/// The words are read as a rig of these.
-fn rigs_so(alloc: Global, words: Words, wanted: &Rig) -> Result<bool, Fail> {
-    match &words_of(alloc, words)? {
-        Some(ToolWords::Rig(rig)) => Ok(is_rig(rig, wanted)),
-        _ => Ok(false),
-    }
-}
-
-/// A rig with so many scripts is taken.
-fn takes_scripts(alloc: Global, count: u32) -> Result<bool, Fail> {
-    let mut words: Vec<&str> = Vec::new(alloc);
-    words.push("rig")?;
-    words.push("a")?;
-    for _script in 0..count {
-        words.push("s")?;
-    }
-    Ok(words_of(alloc, words.as_slice())?.is_some())
-}
-
-/// The one file, the other one, the host, the port, the seed and the steps.
-type Partner = (
-    &'static str,
-    Option<&'static str>,
-    &'static str,
-    u16,
-    u32,
-    u32,
-);
-
-/// Commands of partners, and words that are usage.
-const PARTNERS: &[(Words, Option<Partner>)] = &[
-    (&["partner", "a"], Some(("a", None, LOCAL, 102, 0, 0))),
-    (
-        &["partner", "a", "b"],
-        Some(("a", Some("b"), LOCAL, 102, 0, 0)),
-    ),
-    (
-        &["partner", "--", "-a", "-b"],
-        Some(("-a", Some("-b"), LOCAL, 102, 0, 0)),
-    ),
-    (
-        &["partner", "a", ""],
-        Some(("a", Some(""), LOCAL, 102, 0, 0)),
-    ),
-    (
-        &["partner", "a", "--host", "h", "--port=65535"],
-        Some(("a", None, "h", 65_535, 0, 0)),
-    ),
-    (
-        &[
-            "partner",
-            "--seed",
-            "4294967295",
-            "a",
-            "--steps=1000000",
-            "b",
-        ],
-        Some(("a", Some("b"), LOCAL, 102, 4_294_967_295, 1_000_000)),
-    ),
-    (&["partner"], None),
-    (&["partner", "a", "b", "c"], None),
-    (&["partner", "-a"], None),
-    (&["partner", "a", "--port", "0"], None),
-    (&["partner", "a", "--seed", "4294967296"], None),
-    (&["partner", "a", "--steps", "1000001"], None),
-    (&["partner", "a", "--pdu", "64"], None),
-    (&["partner", "a", "--B", "b"], None),
-];
-
 /// The words are these.
 fn is_partner(partner: &PartnerWords, wanted: &Partner) -> bool {
     let (one, other, host, port, seed, steps) = *wanted;
@@ -289,38 +281,54 @@ fn is_partner(partner: &PartnerWords, wanted: &Partner) -> bool {
         && partner.steps == steps
 }
 
-/// The words are of partners that are these, or usage where none is wanted.
-fn partners_so(alloc: Global, words: Words, wanted: &Option<Partner>) -> Result<bool, Fail> {
-    match (&words_of(alloc, words)?, wanted) {
-        (Some(ToolWords::Partner(partner)), Some(wanted)) => Ok(is_partner(partner, wanted)),
-        (None, None) => Ok(true),
-        _ => Ok(false),
+/// The words say this.
+fn say(words: &Option<ToolWords<'_>>, wanted: &Wanted) -> bool {
+    match (words, wanted) {
+        (Some(ToolWords::Run(run)), Wanted::Run(wanted)) => is_run(run, wanted),
+        (Some(ToolWords::Rig(rig)), Wanted::Rig(wanted)) => is_rig(rig, wanted),
+        (Some(ToolWords::Partner(partner)), Wanted::Partner(wanted)) => is_partner(partner, wanted),
+        (None, Wanted::Usage) => true,
+        _ => false,
     }
 }
 
-#[test]
-fn tool_lines(rt: HostRuntime) -> Result<(), Fail> {
-    for (words, wanted) in RUNS {
-        if !runs_so(rt.alloc(), words, wanted)? {
-            return Err(wrong(words));
-        }
+/// The words are read, and say this.
+fn are_read(alloc: Global, words: &[&str], wanted: &Wanted) -> bool {
+    match read_tool_words(alloc, words) {
+        Ok(words) => say(&words, wanted),
+        Err(_) => false,
     }
-    for (words, wanted) in RIGS {
-        if !rigs_so(rt.alloc(), words, wanted)? {
-            return Err(wrong(words));
+}
+
+/// The first line, from 0, that isn't read so.
+fn unmet(alloc: Global, lines: &[Line]) -> Option<usize> {
+    let mut number = 0usize;
+    for (words, wanted) in lines {
+        if !are_read(alloc, words, wanted) {
+            return Some(number);
         }
+        number = number.saturating_add(1);
     }
-    for (words, wanted) in PARTNERS {
-        if !partners_so(rt.alloc(), words, wanted)? {
-            return Err(wrong(words));
-        }
-    }
-    Ok(())
+    None
 }
 
 #[test]
-fn scripts_are_at_most_1024(rt: HostRuntime) -> Result<(), Fail> {
-    assert!(rt; takes_scripts(rt.alloc(), 1024)?);
-    assert!(rt; !takes_scripts(rt.alloc(), 1025)?);
-    Ok(())
+fn tool_lines(rt: HostRuntime) {
+    assert_eq!(rt; unmet(rt.alloc(), RUNS), None);
+    assert_eq!(rt; unmet(rt.alloc(), RIGS), None);
+    assert_eq!(rt; unmet(rt.alloc(), PARTNERS), None);
+}
+
+/// The words are no usage.
+fn are_taken(alloc: Global, words: &[&str]) -> Option<bool> {
+    Some(read_tool_words(alloc, words).ok()?.is_some())
+}
+
+#[test]
+fn scripts_are_at_most_1024(rt: HostRuntime) {
+    let mut words = ["s"; 1_027];
+    words[0] = "rig";
+    words[1] = "a";
+    assert!(rt; are_taken(rt.alloc(), &words[..1_026]) == Some(true));
+    assert!(rt; are_taken(rt.alloc(), &words) == Some(false));
 }

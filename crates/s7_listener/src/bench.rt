@@ -19,7 +19,7 @@ pub trait Bench {
 
     ghost told: { Self.Seat → SeatTold };
 
-    // // the plant's state at the opening, the limit of the history, and the state in which each link begins
+    // the plant's state at the opening, the limit of the history, and the state in which each link begins
     ghost terms: { Self → Terms };
 
     /// Splits a new seat off this one. The new seat has the number that the old one hands out next.

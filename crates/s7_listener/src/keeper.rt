@@ -27,20 +27,20 @@ pub trait Keeper: Machine<Request = Ask, Reply = Reply> {
     fn entries(&self) -> u64
         ensures { result ≡ length (Self.history self.now) };
 
-    // // machines with the same opening have the same state of the plant at the opening
+    // machines with the same opening have the same state of the plant at the opening
     ghost opens: { (a b : Self) → Self.opening a ≡ Self.opening b → opened a ≡ opened b };
 
-    // // its history keeps the same of a request as a plant's history
+    // its history keeps the same of a request as a plant's history
     ghost keeps_asks: { (ask : Ask) → Self.kept ask ≡ kept ask };
 
-    // // it accepts every request that a plant accepts
+    // it accepts every request that a plant accepts
     ghost takes: { (ask : Ask) → CanBeDone ask.request → Self.request_ready ask };
 
     ghost takes_replies: { (reply : Reply) → IsReadyReply reply → Self.reply_ready reply };
 
     ghost leaves_replies: { (reply : Reply) → Self.reply_ready reply → IsReadyReply reply };
 
-    // // after a history it answers as a plant answers that began at this state
+    // after a history it answers as a plant answers that began at this state
     ghost answers: { (k : Self) (history : History) (caller : ℕ) (ask : Ask) (reply : Reply)
         → Self.gives (replay Self.after (Self.opening k) history) caller ask reply
         → IsReplyOf (replay after_call (opened k) history) ask reply };

@@ -26,7 +26,7 @@ pub(crate) fn say_info(plant: &Plant, kind: u8, number: u16, reply: &mut Reply)
 {
     match find_image(plant, kind, number) {
         Some(image) => {
-            // // the length of what follows, less two octets
+            // the length of what follows, less two octets
             reply.body.add(&[KIND_MARK, kind, 0x00, 0x22]);
             reply.body.add(&image.head);
         }
@@ -77,7 +77,7 @@ fn say_image(image: &Image<'_>, reply: &mut Reply)
         reply.refuse(NO_ROOM);
         return;
     }
-    // // six octets 00, one for the upload's id, and the number of digits that follow
+    // six octets 00, one for the upload's id, and the number of digits that follow
     reply.params.add(&[UPLOAD_FUNCTION, 0, 0, 0, 0, 0, 0, 0, 7]);
     let mut digits = [0; 7];
     write_digits(len as u32, &mut digits);

@@ -36,7 +36,7 @@ pub struct Book<O> {
     pub journal: Journal,
     /// The observers, in the order in which they are notified.
     pub observers: Vec<Watcher<O>>,
-    // // the plant after every 4,096th entry, so that an earlier plant is reached in few steps
+    // the plant after every 4,096th entry, so that an earlier plant is reached in few steps
     pub(crate) images: Images,
     pub ghost replayed: { state_of plant ≡ replay_entries (state_of opening) journal.entries },
     pub ghost kept: { AreKept (state_of opening) journal images },

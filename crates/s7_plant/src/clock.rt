@@ -26,6 +26,6 @@ fn nearest(moment: u64) -> u64
     ensures value { result ≡ held (pos moment) }
     ensures within { IsHeld result }
 {
-    // // `i64::MAX` is later than every moment that clock octets can represent
+    // `i64::MAX` is later than every moment that clock octets can represent
     hold(moment.min(i64::MAX as u64) as i64)
 }

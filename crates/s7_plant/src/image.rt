@@ -40,7 +40,7 @@ fn find_area(areas: &Areas, number: u16) -> Option<Image<'_>>
     ensures { option_map (λ image. image.head ++ image.rest.now) result
         ≡ option_map (db_image number) (area_octets areas.now (record { area = data_blocks; number = number })) }
 {
-    // // every registered area is within the limits of areas
+    // every registered area is within the limits of areas
     let _numbers = areas.db_numbers();
     let key = AreaKey {
         area: DATA_BLOCKS,

@@ -25,7 +25,7 @@ pub(crate) struct Kept {
     areas: Areas,
     offset: i64,
     running: bool,
-    // // for each block the number of the entry that stored it, or none if it was there at the opening
+    // for each block the number of the entry that stored it, or none if it was there at the opening
     sources: Marks,
 }
 
@@ -85,7 +85,7 @@ impl Images {
         requires { limit ≤ 262144 }
         ensures { IfOk result (AreKept (state_of opening.now) (entries_of [] limit)) }
     {
-        // // a store keeps its blocks in order
+        // a store keeps its blocks in order
         let _blocks = opening.blocks.len();
         let room = limit / IMAGE_INTERVAL;
         let mut kept = Vec::with_capacity(alloc, room as usize)?;
@@ -188,7 +188,7 @@ fn blocks_from(
             unreachable!();
         };
         let image = Octets::copy_of(alloc, image)?;
-        // // the names come in order, and there is room for all of them
+        // the names come in order, and there is room for all of them
         let _ = blocks.insert(Block {
             kind: name.kind,
             number: name.number,

@@ -241,7 +241,7 @@ impl Plant {
         requires head { head_agrees image kind number ≡ true }
         ensures { state_of self.new ≡ with_inserted (state_of self.old) kind number image }
     {
-        // // a block that has no room is returned, and dropped here
+        // a block that has no room is returned, and dropped here
         let _ = self.blocks.insert(Block {
             kind,
             number,

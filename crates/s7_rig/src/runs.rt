@@ -68,7 +68,7 @@ pub fn run_rig<C: Completion>(
         (option_map C.told done.old) (option_map C.told done.new)) }
     ensures handed { is_some done.new ≡ is_some done.old }
 {
-    // // every registered area is within the limits of areas
+    // every registered area is within the limits of areas
     let _numbers = areas.db_numbers();
     let mut rig = Rig::new(alloc, areas, limit, scripts, config)?;
     rig.run(alloc, schedule.turns, schedule.seed, schedule.steps, done)?;

@@ -150,7 +150,7 @@ impl Station {
         if was_wanting(turn) {
             return Err(Memory);
         }
-        // // every request that is entered can be carried out again
+        // every request that is entered can be carried out again
         let _entries = book.journal.as_slice();
         self.note(first, book.journal.len())?;
         Ok(count_held(&self.pipes) != before || self.session.used() != used)

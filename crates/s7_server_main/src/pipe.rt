@@ -138,7 +138,7 @@ fn serve_link<R: Wait + time::Clock, L: Link + Clock + Drop, O: Observer>(
         };
     };
     let outcome = serve_session(rt, alloc, &mut session, &mut line, book);
-    // // each entry is of this link
+    // each entry is of this link
     prove!(session.entries() == book.journal.len());
     Served {
         link: LINK,

@@ -96,7 +96,7 @@ pub fn server_main<
     observers: Vec<O>,
 ) -> ServerEnd<L, O>
     requires fresh { AllByRecursion (λ o. IsFresh (O.seen o)) observers.items }
-    // // The statuses.
+    // The statuses.
     ensures statuses { (result.status ≡ status.done) ⊎ (result.status ≡ status.usage) ⊎ (result.status ≡ status.areas)
         ⊎ (result.status ≡ status.file) ⊎ (result.status ≡ status.door) ⊎ (result.status ≡ status.output)
         ⊎ (result.status ≡ status.memory) }
@@ -112,10 +112,10 @@ pub fn server_main<
         (D.shows door.old) (D.shows door.new) (U.shows out.old) (U.shows out.new) }
     ensures output_failed { result.status ≡ status.output → Rose (U.shows out.old).faults (U.shows out.new).faults }
 
-    // // Links were served over the areas that the words name, or the link is handed back unused.
+    // Links were served over the areas that the words name, or the link is handed back unused.
     ensures served { IfSome result.run (λ run. Serves L.shows (command_of words.now) (F.shows files.old)
         (L.shows pipe) (D.shows door.old) (D.shows door.new) (run_told L.shows run)) }
-    // // Each observer was notified of each entry, once and in order, and of nothing else.
+    // Each observer was notified of each entry, once and in order, and of nothing else.
     ensures told { IfSome result.run (λ run. seen_of O.seen run.book
         ≡ map (λ o. told (O.seen o) (events_of (book_told run.book))) observers.items) }
     ensures unserved { result.pipe ≡ handed_back (command_of words.now) result.run pipe }
@@ -126,18 +126,18 @@ pub fn server_main<
     ensures no_run { (result.status ≡ status.usage) ⊎ (result.status ≡ status.areas) ⊎ (result.status ≡ status.door)
         → IsNone result.run }
 
-    // // The content of the files.
+    // The content of the files.
     ensures saved { (result.status ≡ status.done) ⊎ (result.status ≡ status.output) → IfSome result.run (λ run.
         HoldsAreas (save_path (command_of words.now)) (F.shows files.old) (F.shows files.new) run.book.plant.areas) }
     ensures paths { KeepsBut (if is_some result.run then save_path (command_of words.now) else None)
         (F.shows files.old) (F.shows files.new) }
-    // // At most one call on a path failed, and none unless the status says that a file failed or memory ran out.
+    // At most one call on a path failed, and none unless the status says that a file failed or memory ran out.
     ensures file_faults { FailedOnce (F.shows files.old).faults (F.shows files.new).faults }
     ensures unfailed { result.status ≢ status.file → result.status ≢ status.memory
         → (F.shows files.new).faults ≡ (F.shows files.old).faults }
     ensures unread { command_of words.now ≡ None → F.shows files.new ≡ F.shows files.old }
 
-    // // The text that was printed.
+    // The text that was printed.
     ensures done { result.status ≡ status.done → IfSome result.run (λ run.
         Gains (U.shows out.old) (U.shows out.new)
         (report_text (run_told L.shows run) (entry_asked (command_of words.now)))) }

@@ -39,18 +39,18 @@ pub trait Doer {
         requires request { CanBeDone ask.request }
         requires reply { IsReadyReply reply.old }
 
-        // // Whatever list the doer represented, it now represents that list with one more entry.
+        // Whatever list the doer represented, it now represents that list with one more entry.
         ensures ok { IfOk result (λ number. (entries : List Entry) → stands self.old entries
             → stands self.new
             (entries ++ record { number = number; ask = kept ask; reply = said_of reply.new } ∷ [])) }
         ensures err { OnErr result ((entries : List Entry) → stands self.old entries → stands self.new entries) }
 
         ensures ready { IsReadyReply reply.new }
-        // // If the reply has no error, its answer has at most its full size.
+        // If the reply has no error, its answer has at most its full size.
         ensures fits { OnOk result (Fits ask.request (said_of reply.new)) }
         ensures err_reply { OnErr result (reply.new ≡ reply.old) }
 
-        // // It fails only if it is full for the request as a history keeps it, or if an allocation for it may fail. It
+        // It fails only if it is full for the request as a history keeps it, or if an allocation for it may fail. It
         // always fails if it was full for it before.
         ensures full { (back : Ask) → result ≡ Err (NotDone.Full back)
             → (back ≡ ask) × is_full self.new (kept ask) }

@@ -103,7 +103,7 @@ impl Session {
         ensures served { IsServed D.stands D.is_full D.may_lack
             self.old (L.shows line.old) doer.old self.new (L.shows line.new) doer.new result }
 
-        // // A fresh session serves a link from its beginning.
+        // A fresh session serves a link from its beginning.
         ensures run { (first : LinkState) → IsFresh first self.old → IsLinkRun D.stands D.is_full D.may_lack first
             (L.shows line.old) doer.old (L.shows line.new) doer.new result (entry_count self.new) (newest self.new) }
         ensures number { number_of self.new ≡ number_of self.old }

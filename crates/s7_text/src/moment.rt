@@ -25,7 +25,7 @@ pub fn read_moment(field: &[u8]) -> Option<u64>
     if year < 1990 || year > 2089 {
         return None;
     }
-    // // clock octets with these digits represent the same date and time
+    // clock octets with these digits represent the same date and time
     match from_octets(clock_octets(field).as_slice()) {
         Ok(date) => Some(moment_of(&date)),
         Err(_) => None,

@@ -99,7 +99,7 @@ pub fn tool_main<F: Files, L: Link + Drop, K: Dial<L>, O: Out, C: Completion>(
     out: &mut O,
     done: Option<C>,
 ) -> ToolEnd<L, C>
-    // // The statuses.
+    // The statuses.
     ensures statuses { (result.status ≡ status.done) ⊎ (result.status ≡ status.usage)
         ⊎ (result.status ≡ status.script) ⊎ (result.status ≡ status.file) ⊎ (result.status ≡ status.dial)
         ⊎ (result.status ≡ status.output) ⊎ (result.status ≡ status.jobs) ⊎ (result.status ≡ status.memory) }
@@ -114,7 +114,7 @@ pub fn tool_main<F: Files, L: Link + Drop, K: Dial<L>, O: Out, C: Completion>(
         (K.shows dial.old) (K.shows dial.new) (Printed (O.shows out.old) (O.shows out.new)) }
     ensures output_failed { result.status ≡ status.output → Rose (O.shows out.old).faults (O.shows out.new).faults }
 
-    // // What was done: everything, with all results good or not, or a part.
+    // What was done: everything, with all results good or not, or a part.
     ensures done { result.status ≡ status.done → CarriesOut L.shows (command_of words.now)
         (F.shows files.old) (K.shows dial.old) (O.shows out.old) (O.shows out.new) result Ended.Done }
     ensures jobs { result.status ≡ status.jobs → CarriesOut L.shows (command_of words.now)
@@ -124,15 +124,15 @@ pub fn tool_main<F: Files, L: Link + Drop, K: Dial<L>, O: Out, C: Completion>(
     ensures wanting { result.status ≡ status.memory → LacksMemory L.shows (command_of words.now)
         (F.shows files.old) (K.shows dial.old) (O.shows out.old) (O.shows out.new) result }
 
-    // // What is left.
+    // What is left.
     ensures left { LeavesOnly (command_of words.now) result }
     ensures unrun { (result.status ≡ status.usage) ⊎ (result.status ≡ status.script)
         ⊎ (result.status ≡ status.file) ⊎ (result.status ≡ status.dial) → IsUnrun result }
 
-    // // What else was printed.
+    // What else was printed.
     ensures usage_line { result.status ≡ status.usage → Printed (O.shows out.old) (O.shows out.new) usage_line }
 
-    // // No file is changed. A call on a path failed only if the status says so or memory ran out, and then only one.
+    // No file is changed. A call on a path failed only if the status says so or memory ran out, and then only one.
     // Nothing is dialled except for a run, and for that once.
     ensures paths { KeepsPaths (F.shows files.old) (F.shows files.new) }
     ensures unfailed { result.status ≢ status.file → result.status ≢ status.memory
@@ -144,7 +144,7 @@ pub fn tool_main<F: Files, L: Link + Drop, K: Dial<L>, O: Out, C: Completion>(
         → RoseExactly 1 (K.shows dial.old).calls (K.shows dial.new).calls }
     ensures undropped { result.status ≡ status.dial → (K.shows dial.new).next ≡ (K.shows dial.old).next }
 
-    // // The completion is handed back, notified of the results that are left. A rig for which memory ran out leaves
+    // The completion is handed back, notified of the results that are left. A rig for which memory ran out leaves
     // none; the completion was notified of those that there were.
     ensures handed_back { is_some result.done ≡ is_some done }
     ensures told { (result.status ≢ status.memory) ⊎ IsSome result.run → option_map C.told result.done

@@ -13,7 +13,7 @@ pub trait Machine {
 
     /// What they are answered.
     type Reply;
-    // // The state to which a history leads.
+    // The state to which a history leads.
     ghost State: { Type 0 };
 
     // The state before the first entry.
@@ -26,20 +26,20 @@ pub trait Machine {
 
     ghost state: { Self → State };
 
-    // // The state after one more entry.
+    // The state after one more entry.
     ghost after: { State → Entry Self.Request → State };
 
-    // // What the history keeps of a request.
+    // What the history keeps of a request.
     ghost kept: { Self.Request → Self.Request };
 
     ghost request_ready: { Self.Request → Type 0 };
 
     ghost reply_ready: { Self.Reply → Type 0 };
 
-    // // The reply that a state may give to a caller's request, as the history keeps it.
+    // The reply that a state may give to a caller's request, as the history keeps it.
     ghost gives: { State → ℕ → Self.Request → Self.Reply → Type 0 };
 
-    // // What else each step preserves, of a machine whose type doesn't say it.
+    // What else each step preserves, of a machine whose type doesn't say it.
     ghost holds: { Self → Type 0 } = { λ _. Unit {0} };
 
     /// The number of entries in the history.

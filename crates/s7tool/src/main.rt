@@ -35,7 +35,7 @@ where
     let words = lent_words(alloc, owned.as_slice())?;
     let mut files = StdFiles::new(rt.clone()?);
     let mut dial = TcpDial::new(rt.clone()?);
-    // // no completion: the results are only printed
+    // no completion: the results are only printed
     let done: Option<Counter> = None;
     let end = tool_main(alloc, words.as_slice(), &mut files, &mut dial, out, done);
     Ok(end.status)

@@ -1,8 +1,0 @@
-use Rattle.std.proofs.Common.{sym, ap, ◌∙◌}
-use Rattle.s7_area.specs.Memory.{shape_of}
-use Rattle.s7_area.proofs.ShapeLemmas.{writes_keep}
-use Rattle.s7_codec_tests.proofs.area.areas_take_over_others.Goals as goal
-
-pub overwrite-requires : goal.overwrite-requires
-overwrite-requires b c =
-    ap shape_of c.set_guard.ensures ∙ ap shape_of c.write-2.ensures.written ∙ writes_keep _ _ _ _ ∙ ap shape_of c.write.ensures.written ∙ writes_keep _ _ _ _ ∙ sym (ap shape_of c.in_ok-image.ensures)
