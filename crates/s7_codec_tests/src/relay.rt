@@ -303,6 +303,10 @@ fn codes_of_writes_go_by_the_octets_of_each_item(rt: HostRuntime) {
         assert!(rt; false, "the data items are read");
         return;
     }
+    assert!(rt;
+        places.as_slice().len() == items.as_slice().len(),
+        "each item has its octets"
+    );
     let codes = put_codes(&windows, &items, &places, octets);
     assert!(rt; codes.as_slice() == [0xFF, 0x07, 0xFF].as_slice());
 }

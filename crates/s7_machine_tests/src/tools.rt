@@ -236,12 +236,22 @@ fn tells(host: HostRuntime, words: &[&str], room: usize) -> Option<Told> {
     })
 }
 
-// What is told of a call whose words are followed by a port.
+// What is told of a call with the words of a line.
+fn line_tells(host: HostRuntime, line: &str, room: usize) -> Option<Told> {
+    let mut words = Vec::new(host.alloc());
+    for word in line.split_ascii_whitespace() {
+        words.push(word).ok()?;
+    }
+    tells(host, words.as_slice(), room)
+}
+
+// What is told of a call of two words, which are followed by a port.
 fn tells_at(host: HostRuntime, command: &Command, port: u16) -> Option<Told> {
-    let port = format!(in host.alloc(); "{port}").ok()?;
-    let mut words = Vec::from_slice(host.alloc(), command.words).ok()?;
-    words.extend_from_slice(&["--port", port.as_str()]).ok()?;
-    tells(host, words.as_slice(), command.room)
+    let [name, file] = command.words else {
+        return None;
+    };
+    let line = format!(in host.alloc(); "{name} {file} --port {port}").ok()?;
+    line_tells(host, line.as_str(), command.room)
 }
 
 // A partner that listens.
