@@ -33,7 +33,7 @@ pub record RigTold : Type 0 where
   pub jobs : ℕ
   pub tags : Option Text
 
--- what partners send, and the second partner: a file of its own, or the other end of a link
+-- the sends file of the first partner, and that of the second; `None` if the second is reached at a host and port
 pub record PartnerTold : Type 0 where
   pub one : Text
   pub other : Option Text

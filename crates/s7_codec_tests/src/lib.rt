@@ -20,8 +20,6 @@ mod item;
 #[cfg(test)]
 mod memory;
 #[cfg(test)]
-mod relay;
-#[cfg(test)]
 mod schedule;
 #[cfg(test)]
 mod split;

@@ -212,7 +212,7 @@ abbrev pub octets_kept : Ask → List (Option Answer) → List ℕ
 octets_kept (ask.Part block place) answers = told_for block.value answers
 octets_kept _ answers = octets_brought answers
 
--- If parts are asked for, the questions after those that were answered are the ones from the next place on.
+-- the questions for the parts that aren't answered yet, if parts of a data block are asked for; otherwise none
 abbrev pub questions_left_by : Ask → List (Option Answer) → List Question
 questions_left_by (ask.Part block place) answers =
     drop (count_of_data answers) (data_questions block (data_length (octets_brought answers)))

@@ -24,7 +24,7 @@ pub record SeatTold : Type 0 where
   pub next : Option ℕ
   pub seen : History
 
--- it represents its caller alone, which has made no call
+-- the seat represents its caller alone, which has made no call
 pub record IsNew (seat : SeatTold) : Type 0 where
   pub alone : seat.callers ≡ seat.number ∷ []
   pub silent : calls seat.number seat.seen ≡ []

@@ -23,7 +23,7 @@ pub record Handed : Type 0 where
 abbrev pub handed : SeatTold → Shown → Handed
 handed seat pipe = record { seat = seat; pipe = pipe }
 
--- it is a new seat of this number, which hands out no numbers
+-- what was handed is a new seat of this number, which hands out no numbers, and a link that showed this
 pub record IsHanded (limit number : ℕ) (pipe : Shown) (given : Handed) : Type 0 where
   pub number_is : given.seat.number ≡ number
   pub is_new : IsNew given.seat

@@ -9,8 +9,8 @@ use std::alloc::Global;
 use std::sync::Wait;
 use std::time;
 
-/// Serves many links at once, each in the name of a seat. The loop over links is generic over it, so that no thread's
-/// closure names the type that the hall holds.
+/// Serves many links at once, each in the name of a seat. The loop over links is generic over this trait, so that no
+/// thread's closure names the type that the hall holds.
 pub trait Bench {
     /// The right to have one link served.
     type Seat;

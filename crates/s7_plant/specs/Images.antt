@@ -42,7 +42,7 @@ sourced opening entries marks = map (λ e. (e.0, image_of_source opening entries
 abbrev pub all_there : BlockImages → List (BlockName × Option (List ℕ))
 all_there images = map (λ e. (e.0, Some e.1)) images
 
--- these are the sources of the blocks, and they have room for as many as the store
+-- these are the sources of the blocks, and the list of sources has room for as many blocks as the store
 pub record AreSources (opening : State) (entries : List Entry) (sources : MarkList) (blocks : Store) : Type 0 where
   pub images : sourced opening.blocks.images entries sources.marks ≡ all_there blocks.images
   pub limit : sources.limit ≡ blocks.limit

@@ -106,8 +106,8 @@ HasBody most reply = reply.error ≡ 0 → length reply.body ≤ most
 abbrev pub HasImage : Said → Type 0
 HasImage reply = reply.error ≡ 0 → (length reply.params ≡ 16) × (length reply.body ≤ 65572)
 
--- The telegram made of the reply has at most the full size of an answer to this request; for a control that is the
--- function and a status. The octets of an answer to user data have at most 8,192 octets.
+-- The telegram that is made of the reply is at most as long as the full answer to this request. The full answer to a
+-- control is the function and a status. An answer to user data has at most 8,192 octets.
 abbrev pub Fits : Request → Said → Type 0
 Fits (Read items) reply = HasAtMost (answer_size items) reply
 Fits (Write items places octets) reply = HasAtMost (14 + length items) reply

@@ -4,3 +4,8 @@ pub mod FileLawLemmas
 pub mod SpellingLemmas
 pub mod NearLemmas
 pub mod FarLemmas
+pub mod TravelLemmas
+pub mod ReplyLemmas
+pub mod EnoughLemmas
+pub mod ErrorLemmas
+pub mod DoerLemmas

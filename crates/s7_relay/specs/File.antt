@@ -10,7 +10,7 @@ use Rattle.s7_relay.specs.declared.fault.WindowKind.{WindowKind}
 use Rattle.s7_relay.specs.declared.fault.WindowKind.TheVariants as fault
 use Rattle.s7_relay.specs.declared.windows.Window.{Window}
 
--- what a line would say of a window
+-- a window, as a line states it
 abbrev pub terms_in : Window → Terms
 terms_in w = record { near = w.near; length = w.length; far = w.far; offset = w.offset }
 
@@ -21,14 +21,14 @@ near_of terms = terms.near
 abbrev pub spoken : List Text → List Text
 spoken texts = filter (λ text. not (is_passed text)) texts
 
--- THESE LINES SAY THESE WINDOWS: each line that isn't passed over says one, in order, and their near areas differ
+-- THESE LINES STATE THESE WINDOWS: each line that isn't passed over states one, in order, and their near areas differ
 pub record Say (texts : List Text) (windows : List Terms) : Type 0 where
   pub each : map line_said (spoken texts) ≡ map Ok windows
   pub apart : IsDistinct same_key (map near_of windows)
 
 -- ---- the first faulty line
 
--- a line before says a window of this near area
+-- one of these windows, which the lines before state, has this near area
 abbrev pub is_met : AreaKey → List Terms → Bool
 is_met key windows = list_any (λ (terms : Terms). same_key terms.near key) windows
 
@@ -36,12 +36,12 @@ abbrev pub fault_in : List Terms → Result Terms WindowKind → Option WindowKi
 fault_in windows (Ok terms) = if is_met terms.near windows then Some fault.Double else None
 fault_in windows (Err kind) = Some kind
 
--- what is wrong with a line, where the lines before it say these windows
+-- what is wrong with a line, if the lines before it state these windows
 abbrev pub fault_behind : List Terms → Text → Option WindowKind
 fault_behind windows text = if is_passed text then None else fault_in windows (line_said text)
 
--- THE FIRST FAULTY LINE: those before it say windows, and it has this fault behind them. Lines are numbered from 1, and
--- those after line 4,294,967,295 have its number too.
+-- THE FIRST FAULTY LINE: the lines before it state windows, and after these it has this fault. Lines are numbered from
+-- 1; all lines after line 4,294,967,295 have that number.
 pub record IsFirstFault (texts : List Text) (e : WindowFault) : Type 0 where
   pub before : List Text
   pub text : Text
@@ -54,11 +54,11 @@ pub record IsFirstFault (texts : List Text) (e : WindowFault) : Type 0 where
 
 -- ---- a file
 
--- THE WINDOWS that a file says
+-- THE WINDOWS that a file states
 abbrev pub SaysWindows : Text → List Window → Type 0
 SaysWindows text windows = Say (lines text) (map terms_in windows)
 
--- its first faulty line, unless memory ran out
+-- the claim holds, unless memory ran out
 abbrev pub FailsBy : WindowKind → Type 0 → Type 0
 FailsBy fault.Memory Claim = Unit {0}
 FailsBy kind Claim = Claim
@@ -72,6 +72,6 @@ abbrev pub ok_list : Result Terms WindowKind → List Terms
 ok_list (Ok terms) = terms ∷ []
 ok_list (Err kind) = []
 
--- the window that a line says, where it isn't passed over
+-- the window that a line states, none if the line is passed over
 abbrev pub said_by : Text → List Terms
 said_by text = if is_passed text then [] else ok_list (line_said text)

@@ -18,7 +18,7 @@ use Rattle.s7_relay.specs.declared.windows.Window.{Window}
 
 -- ---- files
 
--- lines say one list of windows or have one first fault, and not both
+-- lines state at most one list of windows and have at most one first fault, and not both
 pub record FilesAreOne : Type 0 where
   pub windows : (texts : List Text) (ws vs : List Terms) → Say texts ws → Say texts vs → ws ≡ vs
   pub fault : (texts : List Text) (e d : WindowFault) → IsFirstFault texts e → IsFirstFault texts d → e ≡ d
@@ -29,7 +29,7 @@ pub record HasNumbers (w : Window) : Type 0 where
   pub near : w.near.number < 65536
   pub far : w.far.number < 65536
 
--- the text of windows whose near areas differ says these windows
+-- the text of windows whose near areas differ states these windows
 abbrev pub WindowsHaveTexts : Type 0
 WindowsHaveTexts =
     (ws : List Window) → AllByRecursion HasNumbers ws → IsDistinct same_key (map near_of (map terms_in ws))
@@ -45,7 +45,7 @@ pub record IsAsLong (m : Memory) (windows : List Window) : Type 0 where
   pub unguarded : m.guard ≡ None
   pub areas : (key : AreaKey) → option_map length (area_octets m key) ≡ option_map length_of (window_of windows key)
 
--- the near codes are those of reads and writes in any such memory, and there is one
+-- the near codes are those of reads and writes in any such memory, and there is such a memory
 pub record NearCodesAreCodes : Type 0 where
   pub reads :
       (m : Memory) (windows : List Window) → IsAsLong m windows
@@ -62,7 +62,7 @@ pub record NearCodesAreCodes : Type 0 where
 
 -- ---- far items
 
--- an item in the far area of a window, so many octets further on than the near one, and inside the part that is shown
+-- the far item is in the far area of the window, further on by the window's offset, and inside the part that is shown
 pub record LiesIn (w : Window) (item far : Item) : Type 0 where
   pub area : key_of far ≡ w.far
   pub start : start_of far ≡ start_of item + w.offset

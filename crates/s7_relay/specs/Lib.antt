@@ -5,3 +5,12 @@ pub mod LineShown
 pub mod File
 pub mod Spelling
 pub mod Laws
+pub mod Errors
+pub mod Travel
+pub mod Replies
+pub mod Far
+pub mod Reaching
+pub mod Acts
+pub mod Doer
+pub mod DoerLaws
+pub mod ReplyLaws

@@ -9,7 +9,7 @@ use Rattle.s7_text.specs.Lines.{Text, with_first}
 use Rattle.s7_relay.specs.declared.fault.WindowKind.{WindowKind}
 use Rattle.s7_relay.specs.declared.fault.WindowKind.TheVariants as fault
 
--- what a line says: the near area of so many octets is the far area from an octet on
+-- what a line states: the near area has `length` octets, which are those of the far area from octet `offset` on
 pub record Terms : Type 0 where
   pub near : AreaKey
   pub length : ℕ
@@ -30,7 +30,7 @@ pub record Parts : Type 0 where
   pub far : Text
   pub offset : Text
 
--- five fields, of which the third is =
+-- the fields around the =, if there are five fields and the third is =
 abbrev pub around_sign : List Text → Option Parts
 around_sign (near ∷ length ∷ sign ∷ far ∷ offset ∷ []) =
     if bytes_eq sign (codes "=")
@@ -39,11 +39,11 @@ around_sign _ = None
 
 -- ---- keys and numbers
 
--- the letters of a data block, whose number follows
+-- the field begins with the letters of a data block; its number follows
 abbrev pub is_block : Text → Bool
 is_block field = bytes_eq (take 2 field) (codes "DB")
 
--- an area that is there once
+-- the code of an area whose KEY has no number
 abbrev pub area_named : Text → Option ℕ
 area_named field =
     if bytes_eq field (codes "PE") then Some inputs
@@ -51,7 +51,7 @@ area_named field =
     else (if bytes_eq field (codes "MK") then Some flags
     else None))
 
--- a KEY is PE, PA, MK, or DB and a number
+-- the field is PE, PA or MK, or begins with DB
 abbrev pub is_word : Text → Bool
 is_word field = is_block field || is_some (area_named field)
 
@@ -78,7 +78,7 @@ abbrev pub ◌>>=◌ : {A B : Type 0} → Option A → (A → Option B) → Opti
 None >>= f = None
 (Some x) >>= f = f x
 
--- the numbers of a line are decimal: LENGTH is at least 1, and LENGTH and OFFSET together are at most 2,097,152
+-- what the four fields state: LENGTH is at least 1, and LENGTH and OFFSET together are at most 2,097,152
 abbrev pub terms_of : Parts → Option Terms
 terms_of parts = do
   near ← key_named parts.near
@@ -96,6 +96,6 @@ abbrev pub worded : Option Parts → Result Terms WindowKind
 worded None = Err fault.Fields
 worded (Some parts) = if is_word parts.near && is_word parts.far then numbered (terms_of parts) else Err fault.Word
 
--- WHAT A LINE SAYS, or what is wrong with it: the fields are looked at first, then both words, then all numbers
+-- WHAT A LINE STATES, or what is wrong with it: the fields are looked at first, then both words, then all numbers
 abbrev pub line_said : Text → Result Terms WindowKind
 line_said text = worded (around_sign (fields text))

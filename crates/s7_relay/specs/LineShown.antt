@@ -10,7 +10,7 @@ use Rattle.s7_relay.specs.declared.line.LineFields.{LineFields}
 abbrev pub parts_told : LineFields → Parts
 parts_told f = record { near = f.near.now; length = f.length.now; far = f.far.now; offset = f.offset.now }
 
--- a line behind these windows has no fault, and these are they with what it says
+-- after these windows the line has no fault; `more` are these windows and the one that the line states, if there is one
 pub record Adds (windows : List Terms) (text : Text) (more : List Terms) : Type 0 where
   pub faultless : fault_behind windows text ≡ None
   pub said : more ≡ windows ++ said_by text

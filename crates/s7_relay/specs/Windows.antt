@@ -11,7 +11,7 @@ use Rattle.s7_area.specs.declared.key.AreaKey.{AreaKey}
 use Rattle.s7_relay.specs.Keys.{same_key}
 use Rattle.s7_relay.specs.declared.windows.Window.{Window}
 
--- THE WINDOW of a near area: the first of its name
+-- THE WINDOW of a near area: the first one that has this near area
 abbrev pub window_of : List Window → AreaKey → Option Window
 window_of windows key = find (λ (w : Window). same_key w.near key) windows
 
@@ -21,12 +21,13 @@ abbrev pub code_in : Option Window → Item → ℕ
 code_in None item = no_area
 code_in (Some w) item = if is_inside item w.length then good else out_of_range
 
--- THE NEAR CODE of an item that is read: FF where its window has it
+-- THE NEAR CODE of an item that is read: FF if the item is inside its window
 abbrev pub near_code : List Window → Item → ℕ
 near_code windows item =
     if is_misfit item then wrong_word else code_in (window_of windows (key_of item)) item
 
--- the near code of one that is written: the octets may not be those of its elements
+-- the near code of an item that is written: that of a read, or 07 if that is FF and the number of octets isn't the
+-- item's
 abbrev pub near_put_code : List Window → Item → List ℕ → ℕ
 near_put_code windows item octets =
     if near_code windows item == good && not (length octets == octet_count item) then wrong_size
@@ -41,7 +42,7 @@ put_codes windows (item ∷ items) (place ∷ places) octets =
 
 -- ---- items far
 
--- the item in the far area, as many octets further on as the window starts there; eight bits are an octet
+-- the item in the far area, further on by the window's offset; an address counts bits, eight for an octet
 abbrev pub moved : Window → Item → Item
 moved w item = record {
   area = w.far.area;
@@ -55,6 +56,6 @@ abbrev pub moved_by : Option Window → Item → Item
 moved_by None item = item
 moved_by (Some w) item = moved w item
 
--- THE FAR ITEM of an item that its window has
+-- THE FAR ITEM of an item that is inside its window
 abbrev pub far_item : List Window → Item → Item
 far_item windows item = moved_by (window_of windows (key_of item)) item

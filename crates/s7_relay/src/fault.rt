@@ -3,20 +3,20 @@
 /// What is wrong with a line of a windows file, in the order in which it is found.
 #[derive(Clone, Copy, Debug, PartialEq, Eq)]
 pub enum WindowKind {
-    /// It hasn't five fields, of which the third is `=`.
+    /// The line hasn't five fields, or the third isn't `=`.
     Fields,
-    /// One of the areas has no name that there is.
+    /// The near or the far area isn't `PE`, `PA` or `MK` and doesn't begin with `DB`.
     Word,
-    /// A number isn't one or is outside its range, or both together pass 2,097,152.
+    /// A number can't be read or is outside its range, or length and offset together exceed 2,097,152.
     Number,
     /// An earlier line has the same near area.
     Double,
-    /// There is no memory.
+    /// An allocation failed.
     Memory,
 }
 
-/// The first wrong line of a windows file, and what is wrong with it. Lines are numbered from 1, and those after line
-/// 4,294,967,295 have its number too.
+/// The first wrong line of a windows file, and what is wrong with it. Lines are numbered from 1; all lines after line
+/// 4,294,967,295 have that number.
 #[derive(Clone, Copy, Debug, PartialEq, Eq)]
 pub struct WindowFault {
     pub line: u32,

@@ -1,12 +1,13 @@
-//! Laws of windows.
+//! Laws of windows and of replies.
 ghost use Rattle.s7_relay.specs.Laws.{FarItemsLie, FilesAreOne, NearCodesAreCodes, WindowsHaveTexts};
+ghost use Rattle.s7_relay.specs.ReplyLaws.{LostLinksHaveCauses};
 
-/// A law: a windows file says one list of windows or has one first faulty line, and not both.
+/// A law: a windows file states at most one list of windows and has at most one first faulty line, and not both.
 pub fn files_are_one()
     ensures { FilesAreOne }
 {}
 
-/// A law: the text of windows whose near areas differ says these windows.
+/// A law: the text of windows whose near areas differ states these windows.
 pub fn windows_have_texts()
     ensures { WindowsHaveTexts }
 {}
@@ -16,8 +17,14 @@ pub fn near_codes_are_codes()
     ensures { NearCodesAreCodes }
 {}
 
-/// A law: the far item of an item with the near code FF lies in the far area, as many octets further on as the window
-/// starts there, at the same bit, and inside the part that the window shows.
+/// A law: the far item of an item with the near code FF lies in the far area, further on by the window's offset, at the
+/// same bit, and inside the part that the window shows.
 pub fn far_items_lie()
     ensures { FarItemsLie }
+{}
+
+/// A law: a telegram has the error word 8F05 only if the dial or the link failed, which the count of far faults shows,
+/// or the far server ended the link.
+pub fn lost_links_have_causes()
+    ensures { LostLinksHaveCauses }
 {}

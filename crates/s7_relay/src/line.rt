@@ -13,7 +13,7 @@ use s7_area::AreaKey;
 use s7_item::codes::{DATA_BLOCKS, FLAGS, INPUTS, OUTPUTS};
 use s7_text::{number, split_field};
 
-/// The most octets that a window's length and offset have together.
+/// The greatest sum of a window's length and offset.
 const MOST_OCTETS: u64 = 2_097_152;
 
 /// The fields around the `=`.
@@ -25,7 +25,7 @@ pub(crate) struct LineFields<'a> {
     offset: &'a [u8],
 }
 
-/// The window that a line says, or what is wrong with it.
+/// The window that a line states, or what is wrong with the line.
 pub(crate) fn read_line(text: &[u8]) -> Result<Window, WindowKind>
     ensures { result_map_both terms_in (λ e. e) result ≡ line_said text.now }
 {
@@ -41,7 +41,7 @@ pub(crate) fn read_line(text: &[u8]) -> Result<Window, WindowKind>
     }
 }
 
-/// The fields around the `=`; `None` where the line hasn't five, or another one stands between.
+/// The fields around the `=`; `None` if the line hasn't five fields, or if the third isn't `=`.
 fn fields_of(text: &[u8]) -> Option<LineFields<'_>>
     ensures { option_map parts_told result ≡ around_sign (fields text.now) }
 {
@@ -62,7 +62,7 @@ fn fields_of(text: &[u8]) -> Option<LineFields<'_>>
     }
 }
 
-/// The first field of a line, and what follows the space behind it.
+/// The first field of a line, and the text after the space that ends it; `None` if there is no space.
 fn next_field(text: &[u8]) -> (&[u8], Option<&[u8]>)
     ensures more { IfSome result.1 (λ rest. fields text.now ≡ result.0.now ∷ fields rest.now) }
     ensures last { IfNone result.1 (fields text.now ≡ result.0.now ∷ []) }
@@ -84,7 +84,7 @@ fn is_block(field: &[u8]) -> bool
     field.starts_with(b"DB".as_slice())
 }
 
-/// The area of this name that is there once.
+/// The area that `PE`, `PA` or `MK` names; `None` for every other field.
 fn area_named(field: &[u8]) -> Option<u8>
     ensures { result ≡ area_named field.now }
 {
@@ -99,7 +99,7 @@ fn area_named(field: &[u8]) -> Option<u8>
     }
 }
 
-/// The window whose areas and numbers the fields are; `None` where a number is wrong.
+/// The window whose areas and numbers are in these fields; `None` if one of them is wrong.
 fn window_of(fields: LineFields<'_>) -> Option<Window>
     ensures { option_map terms_in result ≡ terms_of (parts_told fields.entry) }
 {
@@ -118,7 +118,7 @@ fn window_of(fields: LineFields<'_>) -> Option<Window>
     })
 }
 
-/// The area that a field names; `None` where it names none, or the number of a data block isn't 1 to 65,535.
+/// The area that a field names; `None` if it names none, or if the number of a data block isn't from 1 to 65,535.
 fn key_named(field: &[u8]) -> Option<AreaKey>
     ensures key { result ≡ key_named field.now }
     ensures octets { IfSome result (λ key. has_octets key ≡ true) }
@@ -134,7 +134,7 @@ fn key_named(field: &[u8]) -> Option<AreaKey>
     Some(AreaKey { area, number: 0 })
 }
 
-/// A number in a range.
+/// The number that was found, if it is from `low` to `high`.
 fn up_to(low: u64, high: u64, found: Option<u64>) -> Option<u64>
     ensures value { result ≡ up_to low high found }
     ensures low { IfSome result (λ n. low ≤ n) }

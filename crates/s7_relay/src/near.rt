@@ -12,8 +12,9 @@ use s7_item::{DataItems, Item, Items};
 /// The near codes of a telegram's items, at most twenty.
 pub type NearCodes = ArrayVec<u8, 20>;
 
-/// The code of an item that is read: FF where its window has it. The others are those with which an area refuses it: 06
-/// for a word that doesn't fit, 0A where no window has the area, and 05 outside the window.
+/// The code of an item that is read near. It is FF if the item is inside its window. Otherwise it is the code with
+/// which an area refuses the item: 06 if the word doesn't fit, 0A if no window has the area, and 05 if the item isn't
+/// inside the window.
 pub fn near_code(windows: &Windows, item: &Item) -> u8
     ensures { result ≡ near_code windows.now item.now }
 {
@@ -30,8 +31,8 @@ pub fn near_code(windows: &Windows, item: &Item) -> u8
     }
 }
 
-/// The code of an item that is written with these octets: as of one that is read, and 07 where they aren't as many as
-/// it has.
+/// The code of an item that is written near with these octets. It is the code of a read, or 07 if that is FF and the
+/// number of octets isn't the item's.
 pub fn near_put_code(windows: &Windows, item: &Item, octets: &[u8]) -> u8
     ensures { result ≡ near_put_code windows.now item.now octets.now }
 {
@@ -43,7 +44,7 @@ pub fn near_put_code(windows: &Windows, item: &Item, octets: &[u8]) -> u8
     }
 }
 
-/// The codes of items that are read.
+/// The codes of the items of a read.
 pub fn near_codes(windows: &Windows, items: &Items) -> NearCodes
     ensures { result.items ≡ map (near_code windows.now) items.now }
 {
@@ -55,7 +56,7 @@ pub fn near_codes(windows: &Windows, items: &Items) -> NearCodes
     codes
 }
 
-/// The codes of items that are written with the octets at these places.
+/// The codes of the items of a write; `places` are the ranges of their octets.
 pub fn put_codes(windows: &Windows, items: &Items, places: &DataItems, octets: &[u8]) -> NearCodes
     requires places { length places.now ≡ length items.now }
     requires inside { All (λ place. place.from + place.len ≤ length octets.now) places.now }
@@ -75,8 +76,8 @@ pub fn put_codes(windows: &Windows, items: &Items, places: &DataItems, octets: &
     codes
 }
 
-/// The far item of one that its window has: in the far area, and as many octets further on as the window starts there.
-/// Its address fits the three octets that a telegram has for it.
+/// The far item of an item that is inside its window. It is in the far area, further on by the window's offset. Its
+/// address fits the three octets that a telegram has for it.
 pub fn far_item(windows: &Windows, item: &Item) -> Item
     requires { near_code windows.now item.now ≡ good }
     ensures item { result ≡ far_item windows.now item.now }

@@ -13,14 +13,14 @@ use s7_area::AreaKey;
 use s7_text::first_line;
 use std::alloc::Global;
 
-/// The windows of a file, or its first wrong line.
+/// The windows of a file, or the first wrong line if there is one.
 ///
 /// Each line ends with LF, before which a CR is passed over; the last LF may be missing. Empty lines and lines that
 /// begin with `#` are passed over. Every other line is `KEY LENGTH = KEY OFFSET`, with one space between fields: the
 /// near area, how many octets it has, the far area, and the octet at which it starts there. KEY is `PE`, `PA`, `MK`, or
 /// `DB` and the number of the data block from 1 to 65,535. LENGTH is at least 1, OFFSET at least 0, and both together
-/// are at most 2,097,152. Numbers are decimal, with at most ten digits. No near area stands in two lines. What is wrong
-/// with a line is found in the order of `WindowKind`. `Memory` comes only where there is none for the windows.
+/// are at most 2,097,152. Numbers are decimal, with at most ten digits. No two lines have the same near area. What is
+/// wrong with a line is found in the order of `WindowKind`. Returns `Memory` if an allocation fails.
 pub fn read_windows(alloc: Global, text: &[u8]) -> Result<Windows, WindowFault>
     ensures ok { IfOk result (SaysWindows text.now) }
     ensures err { IfErr result (SaysFault text.now) }
@@ -39,7 +39,7 @@ pub fn read_windows(alloc: Global, text: &[u8]) -> Result<Windows, WindowFault>
     Ok(Windows::of_vec(found))
 }
 
-/// Adds the window of a line, where it has one.
+/// Appends the window of a line, unless the line is passed over.
 fn take_line(text: &[u8], found: &mut Vec<Window>) -> Result<(), WindowKind>
     ensures ok { OnOk result (Adds (map terms_in found.old.items) text.now (map terms_in found.new.items)) }
     ensures err { IfErr result (FailsLine (map terms_in found.old.items) text.now) }

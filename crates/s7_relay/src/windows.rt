@@ -6,7 +6,7 @@ ghost use Rattle.s7_relay.specs.Keys.{has_octets, same_key};
 use s7_area::AreaKey;
 use std::marker::Model;
 
-/// A near area of `length` octets, which is the far area from octet `offset` on.
+/// A near area of `length` octets, which are the octets of the far area from octet `offset` on.
 ///
 /// The length is at least 1, and both numbers together are at most 2,097,152, the octets that an address reaches. Both
 /// areas are inputs, outputs, flags or data blocks.
@@ -21,7 +21,7 @@ pub struct Window {
     pub ghost octets: { (has_octets near && has_octets far) ≡ true },
 }
 
-/// Windows in order, of which the first of a near area counts. Contracts see them as a list.
+/// Windows in order. If several have the same near area, the first counts. Contracts see them as a list.
 #[derive(Debug, Drop)]
 pub struct Windows {
     list: Vec<Window>,
@@ -46,14 +46,14 @@ impl Windows {
         Windows { list }
     }
 
-    /// The windows, lent.
+    /// The windows as a slice.
     pub fn as_slice(&self) -> &[Window]
         ensures { result.now ≡ self.now }
     {
         self.list.as_slice()
     }
 
-    /// The window of a near area: the first, where there are several.
+    /// The window of a near area, the first if there are several; `None` if there is none.
     pub fn window_of(&self, near: AreaKey) -> Option<Window>
         ensures { result ≡ window_of self.now near }
     {
@@ -65,7 +65,7 @@ impl Windows {
     }
 }
 
-/// Whether both names are the same.
+/// Whether two names are the same.
 pub(crate) fn is_same(a: AreaKey, b: AreaKey) -> bool
     ensures { result ≡ same_key a b }
 {

@@ -197,7 +197,7 @@ user_heard pdu octet reply =
 abbrev pub uploaded_of : BlockName → Option BlockName
 uploaded_of name = named (name_octets name 0x41) 0x41
 
--- the answer that the client reads for a reply to the start of an upload, under this id
+-- the answer that the client reads for this reply to the start of an upload; the upload has this id
 abbrev pub upload_heard : ℕ → Said → Answer
 upload_heard id reply = if reply.error == 0 then uploads id (length reply.body) else refuses reply.error
 

@@ -29,7 +29,7 @@ actors_of s = count_from 0 (2 * length s.posts)
 
 -- ---- rounds
 
--- ROUNDS of all actors in order, at most this number: they end when every client is finished, and after a round that
+-- ROUNDS of all actors in order, at most this number: they end when every client is finished, or after a round that
 -- made no progress
 unfoldable pub Rounds : ℕ → State → State → Type 0
 Rounds zero old new = new ≡ old

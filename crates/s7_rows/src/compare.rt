@@ -95,7 +95,8 @@ pub fn compare_texts(
     note(what, wanted, came.as_str(), differences)
 }
 
-/// Appends a difference of the printed text from what the lines with the word state.
+/// Compares the printed text with what the row's lines with this word state, and appends a difference if there is one.
+/// A row without such a line states nothing.
 pub fn compare_printed(
     row: &Row<'_>,
     first: u64,

@@ -41,7 +41,7 @@ fn add_ways(row: &Row<'_>, way: Way, ways: &mut Vec<Way>) -> Result<(), Wrong> {
     }
 }
 
-/// Appends a way for each number of octets that come.
+/// Appends this way once for each number of a range `A..B`: only as many octets come.
 fn add_firsts(firsts: &str, way: Way, ways: &mut Vec<Way>) -> Result<(), Wrong> {
     let (from, to) = range(firsts)?;
     for first in from..to {
@@ -50,7 +50,7 @@ fn add_firsts(firsts: &str, way: Way, ways: &mut Vec<Way>) -> Result<(), Wrong> 
     Ok(())
 }
 
-/// Appends a way for each call that waits.
+/// Appends this way once for each number of a range `A..B`: as many calls pass before one that waits.
 fn add_waits(waits: &str, way: Way, ways: &mut Vec<Way>) -> Result<(), Wrong> {
     let (from, to) = range(waits)?;
     for passing in from..to {

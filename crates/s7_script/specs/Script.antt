@@ -197,7 +197,7 @@ read_items (part ∷ rest) = do
   items ← read_items rest
   Ok (item ∷ items)
 
--- the same, with their octets joined
+-- the items that these texts write and all their octets, joined; or the fault of the first wrong text
 unfoldable pub written_items : List Text → Result (List Item × List ℕ) ScriptKind
 written_items [] = Ok ([], [])
 written_items (part ∷ rest) = do

@@ -26,12 +26,12 @@ all_written w = (w.items.items, w.octets.items)
 abbrev pub tagged_told : TaggedJob → Tagged
 tagged_told t = (t.job, t.tag)
 
--- the octets of a field, an even number of hexadecimal digits
+-- the octets that were decoded from a field, or the fault if it isn't an even number of hexadecimal digits
 abbrev pub octets_or_fault : Result (List ℕ) FromHexError → Result (List ℕ) ScriptKind
 octets_or_fault (Ok octets) = Ok octets
 octets_or_fault (Err e) = Err kind.Digits
 
--- at least two digits
+-- the octets that the hexadecimal digits of a field spell; an empty field is a fault, too
 abbrev pub octets_in : Text → Result (List ℕ) ScriptKind
 octets_in field = if length field == 0 then Err kind.Digits else octets_or_fault (decode_of field)
 

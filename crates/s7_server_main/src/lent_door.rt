@@ -1,4 +1,4 @@
-//! A door behind a mutable borrow.
+//! A door that is lent by a mutable borrow.
 ghost use Rattle.s7_server_main.specs.LentDoor.{lent_shown};
 
 use s7_outer::{Arrival, Door, DoorFailed};

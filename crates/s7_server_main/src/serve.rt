@@ -111,7 +111,7 @@ fn serve_book<
 }
 
 /// Serves the links of an owned door over a fresh book. The door is returned by itself, not with the run, so that
-/// contracts can tell that a borrowed door is the one that was handed in.
+/// contracts can state that a borrowed door is the one that was handed in.
 fn host<
     R: Threads + Wait + time::Clock + Sync,
     L: Link + Clock + Send + Drop,

@@ -1,5 +1,5 @@
-//! Tests of plants, books, turns and sessions as libraries: calls that no program makes, or whose answers no
-//! program prints.
+//! Tests of plants, books, turns, sessions, windows and relays as libraries: calls that no program makes, or whose
+//! answers no program prints.
 //!
 //! Most tests are tables of rows that a plant or a book has to meet, one after another. `plants`, `books`, `tails` and
 //! `requests` say how a row is written, and `fields` how octets are.
@@ -22,6 +22,8 @@ mod images;
 #[cfg(test)]
 mod plants;
 #[cfg(test)]
+mod relays;
+#[cfg(test)]
 mod requests;
 #[cfg(test)]
 mod sessions;
@@ -29,3 +31,5 @@ mod sessions;
 mod tails;
 #[cfg(test)]
 mod turns;
+#[cfg(test)]
+mod windows;

@@ -11,21 +11,21 @@ use std::sync::Wait;
 use std::test::Fail;
 use std::time::Clock;
 
-const CONNECT: &str = "0300001611E00000000100C0010AC1020100C2020102";
+pub(crate) const CONNECT: &str = "0300001611E00000000100C0010AC1020100C2020102";
 
-const CONFIRM: &str = "0300001611D00001000100C0010AC1020100C2020102";
+pub(crate) const CONFIRM: &str = "0300001611D00001000100C0010AC1020100C2020102";
 
 /// A PDU of 240 is negotiated.
-const SETUP: &str = "32010000000400080000F0000001000100F0";
+pub(crate) const SETUP: &str = "32010000000400080000F0000001000100F0";
 
-const GRANTED: &str = "320300000004000800000000F0000001000100F0";
+pub(crate) const GRANTED: &str = "320300000004000800000000F0000001000100F0";
 
 /// Data block 1 is read, and the refusal of that where the journal is full.
-const READ: &str = "320100000005000E00000401120A10020004000184000000";
+pub(crate) const READ: &str = "320100000005000E00000401120A10020004000184000000";
 
-const READ_ANSWER: &str = "3203000000050002000800000401FF04002011223344";
+pub(crate) const READ_ANSWER: &str = "3203000000050002000800000401FF04002011223344";
 
-const READ_FULL: &str = "320200000005000000008F01";
+pub(crate) const READ_FULL: &str = "320200000005000000008F01";
 
 /// The clock is read, at the moment of each link's clock.
 const CLOCK_READ: &str = "32070000000B0008000400011204114701000A000000";
@@ -49,7 +49,7 @@ const NO_LIST: &str = "32070000000C000800080001120411440100FF09000409990000";
 const NO_LIST_ANSWER: &str = "32070000000C000C000400011208128401020000D4010A000000";
 
 /// The controller stops.
-const STOP: &str = "32010000000D0010000029000000000009505F50524F4752414D";
+pub(crate) const STOP: &str = "32010000000D0010000029000000000009505F50524F4752414D";
 
 const STOPPED: &str = "32030000000D0002000000002900";
 
@@ -57,7 +57,7 @@ const STOPPED: &str = "32030000000D0002000000002900";
 const MOMENT: u64 = 1_709_214_330_123;
 
 /// A line in memory whose calls may fail.
-type Line = FailingLink<MemoryLink>;
+pub(crate) type Line = FailingLink<MemoryLink>;
 
 /// Adds octets in hex, in a packet where they are a message.
 fn add(alloc: Global, all: &mut Vec<u8>, hex: &str) -> Option<()> {
@@ -71,7 +71,7 @@ fn add(alloc: Global, all: &mut Vec<u8>, hex: &str) -> Option<()> {
 }
 
 /// The octets of all parts, one after another.
-fn octets_of(alloc: Global, parts: &[&str]) -> Option<Vec<u8>> {
+pub(crate) fn octets_of(alloc: Global, parts: &[&str]) -> Option<Vec<u8>> {
     let mut all = Vec::new(alloc);
     for part in parts {
         add(alloc, &mut all, part)?;
@@ -80,7 +80,7 @@ fn octets_of(alloc: Global, parts: &[&str]) -> Option<Vec<u8>> {
 }
 
 /// A link that gives this, and whose calls meet these fates.
-fn a_line(alloc: Global, asked: &[&str], fates: &[Fate]) -> Option<Line> {
+pub(crate) fn a_line(alloc: Global, asked: &[&str], fates: &[Fate]) -> Option<Line> {
     let fates = fates.to_vec(alloc).ok()?;
     let input = Octets::of_vec(octets_of(alloc, asked)?);
     let inner = MemoryLink::new(alloc, input, 8_192, 16_384, MOMENT).ok()?;
@@ -108,7 +108,7 @@ fn a_talk(alloc: Global, asked: &[&str], fates: &[Fate], limit: u64) -> Option<T
 }
 
 /// What was written on the link is this.
-fn is_written(alloc: Global, line: &Line, answered: &[&str]) -> bool {
+pub(crate) fn is_written(alloc: Global, line: &Line, answered: &[&str]) -> bool {
     match octets_of(alloc, answered) {
         Some(answered) => line.inner().written() == answered.as_slice(),
         None => false,

@@ -340,7 +340,7 @@ slice_octets sequence group subfunction octet pdu octets =
     })
     (user_data (take (slice_room pdu) octets))
 
--- the octets that the link holds after that: those that follow, if there are any
+-- the octets that don't fit this answer, which the link then holds; `None` if all of them fit
 abbrev pub slices_left : ℕ → ℕ → ℕ → ℕ → List ℕ → Option Sliced
 slices_left group subfunction octet pdu octets =
     if nat_lt (slice_room pdu) (length octets)
@@ -498,7 +498,7 @@ kind_listed link pdu sequence body =
     then asks_user link pdu sequence 0x43 0x02 false (λ moment. request.ListOf (slice_index body 5))
     else refuse Unreadable
 
--- the block that the data name, at `A`
+-- the block that the data name, at the location `A`
 abbrev pub block_told : List ℕ → Option BlockName
 block_told body =
     if bytes_eq (take 4 body) (0xFF ∷ 0x09 ∷ 0x00 ∷ 0x08 ∷ []) then named (drop 4 body) 0x41 else None

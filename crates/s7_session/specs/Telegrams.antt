@@ -43,7 +43,7 @@ abbrev pub looks_in : List Met → ℕ
 looks_in [] = 0
 looks_in (m ∷ mets) = looks_for m.asking.is_timed + looks_in mets
 
--- none needs a moment
+-- none of the telegrams needs a moment
 abbrev pub NoneTimed : List Met → Type 0
 NoneTimed mets = AllByRecursion (λ (m : Met). m.asking.is_timed ≡ false) mets
 

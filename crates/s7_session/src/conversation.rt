@@ -30,7 +30,7 @@ pub(crate) const FULL: u16 = 0x8F01;
 /// The error word of a refusal because the clock failed.
 const CLOCK_FAILED: u16 = 0x8F02;
 
-/// The messages of one link: what its earlier ones left, and what is still to be sent.
+/// The conversation on one link: what its earlier messages left, and what is still to be sent.
 #[derive(Drop)]
 pub(crate) struct Conversation {
     /// The TPDU size of the connect request, `None` before it.

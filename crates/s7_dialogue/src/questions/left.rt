@@ -99,7 +99,7 @@ pub(crate) fn alone(item: Item) -> Items
     group
 }
 
-/// The index at which the group with this index ends, if there is one.
+/// The index of the item before which the group with index `place` ends; `None` if there is no such group.
 fn end_of(groups: &Groups, place: u8) -> Option<u8>
     ensures end { result ≡ slice_get (take groups.now.count groups.now.ends) place }
     ensures few { IfSome result (λ end. place < 20) }

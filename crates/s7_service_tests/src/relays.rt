@@ -1,0 +1,480 @@
+// Links over windows on another server: what each telegram is answered, what is asked far, and what is kept.
+use crate::sessions::{
+    CONFIRM, CONNECT, GRANTED, Line, READ, READ_ANSWER, READ_FULL, SETUP, STOP, a_line, is_written,
+    octets_of,
+};
+use s7_client::Config;
+use s7_memory::{FailingLink, Fate, MemoryDial, MemoryLink};
+use s7_outer::Octets;
+use s7_relay::{Passage, RelayDoer, Relayed, read_windows};
+use s7_session::{Outcome, Session};
+use std::alloc::Global;
+use std::sync::Wait;
+use std::test::Fail;
+use std::time::Clock;
+
+/// Data block 1 is a part of the far data block 7.
+const WINDOWS: &str = "DB1 4 = DB7 10";
+
+/// A part that is longer than an answer in a PDU of 64.
+const LONG: &str = "DB1 100 = DB7 10";
+
+/// The far negotiation of a PDU of 480, and its grant.
+const FAR_SETUP: &str = "32010000000100080000F0000001000101E0";
+
+const FAR_GRANTED: &str = "320300000001000800000000F0000001000101E0";
+
+/// A grant of a PDU of 64.
+const FAR_GRANTED_64: &str = "320300000001000800000000F000000100010040";
+
+/// The near read asked far, its answer, and the same answer with another sequence.
+const FAR_READ: &str = "320100000002000E00000401120A10020004000784000050";
+
+const FAR_ANSWER: &str = "3203000000020002000800000401FF04002011223344";
+
+const OTHER_ANSWER: &str = "3203000000030002000800000401FF04002011223344";
+
+/// An answer whose item has the code 00, and what is answered near.
+const FAR_ANSWER_00: &str = "320300000002000200040000040100000000";
+
+const READ_ANSWER_00: &str = "320300000005000200040000040100000000";
+
+/// A read of data block 2, which no window has, and its answer.
+const READ_2: &str = "320100000005000E00000401120A10020004000284000000";
+
+const READ_2_ANSWER: &str = "32030000000500020004000004010A000000";
+
+/// A read of both data blocks, and its answer.
+const READ_BOTH: &str = "320100000005001A00000402120A10020004000284000000120A10020004000184000000";
+
+const BOTH_ANSWER: &str = "3203000000050002000C000004020A000000FF04002011223344";
+
+/// A read of 60 octets of data block 1.
+const READ_60: &str = "320100000005000E00000401120A1002003C000184000000";
+
+/// A write of two octets, and its answer: near and far.
+const WRITE: &str = "320100000006000E00060501120A1002000200018400000000040010AABB";
+
+const WRITTEN: &str = "3203000000060002000100000501FF";
+
+const FAR_WRITE: &str = "320100000002000E00060501120A1002000200078400005000040010AABB";
+
+const FAR_WRITTEN: &str = "3203000000020002000100000501FF";
+
+/// Two areas that are the same far part, a read of both, and its answer: near and far.
+const BOTH: &str = "DB1 4 = DB7 10\nMK 4 = DB7 10";
+
+const READ_SAME: &str = "320100000005001A00000402120A10020004000184000000120A10020004000083000000";
+
+const SAME_ANSWER: &str = "3203000000050002001000000402.FF04002011223344*2";
+
+const FAR_READ_SAME: &str = "320100000002001A00000402.120A10020004000784000050*2";
+
+const FAR_SAME_ANSWER: &str = "3203000000020002001000000402.FF04002011223344*2";
+
+/// A near negotiation of a PDU of 480, and its grant.
+const LONG_SETUP: &str = "32010000000400080000F0000001000101E0";
+
+const LONG_GRANTED: &str = "320300000004000800000000F0000001000101E0";
+
+/// A read of twenty octets, of which every other one has no window, and its answer: near and far.
+const READ_20: &str =
+    "32010000000500F200000414.120A10020001000284000000120A10020001000184000000*10";
+
+const ANSWER_20: &str = "3203000000050002006300000414.0A000000FF040008AA00*9.0A000000FF040008AA";
+
+const FAR_READ_10: &str = "320100000002007A0000040A.120A10020001000784000050*10";
+
+const FAR_ANSWER_10: &str = "3203000000020002003B0000040A.FF040008AA00*9.FF040008AA";
+
+/// A write of two items of twenty octets, which a PDU of 64 has no room for together, and its refusal.
+const WRITE_TWO: &str = "320100000006001A00300502120A10020014000184000000120A100200140001840000A0\
+    .000400A0.AB*20.000400A0.CD*20";
+
+const WRITE_TOO_LONG: &str = "320200000006000000008F07";
+
+/// A far negotiation that is refused.
+const FAR_REFUSED: &str = "320200000001000000008500";
+
+/// The refusals of a read that is lost, isn't answered, is too long for far, and fails far; and that of a control.
+const NO_LINK: &str = "320200000005000000008F05";
+
+const NO_ANSWER: &str = "320200000005000000008F06";
+
+const TOO_LONG: &str = "320200000005000000008F07";
+
+const FAR_FAULT: &str = "320200000005000000008F08";
+
+const NO_FUNCTION: &str = "32020000000D000000008104";
+
+/// A link whose doer keeps so many telegrams: its windows, what the far link gives if there is one, what becomes of the
+/// far link's calls, what the near link asks and is answered, what is asked far, and how far each telegram got.
+struct Row {
+    windows: &'static str,
+    limit: u64,
+    far: Option<&'static [&'static str]>,
+    fates: &'static [Fate],
+    asked: &'static [&'static str],
+    answered: &'static [&'static str],
+    asked_far: &'static [&'static str],
+    kept: &'static str,
+}
+
+/// A doer over a dial in memory.
+type Relay = RelayDoer<MemoryDial<Line>, Line>;
+
+/// A doer of these windows that keeps so many telegrams, and whose dial gives this link.
+fn a_doer(alloc: Global, windows: &str, limit: u64, far: Option<Line>) -> Option<Relay> {
+    let windows = read_windows(alloc, windows.as_bytes()).ok()?;
+    let host = Octets::of_vec(b"127.0.0.1".to_vec(alloc).ok()?);
+    if limit < 1 || limit > 262_144 || std::str::from_utf8(host.as_slice()).is_err() {
+        return None;
+    }
+    let dial = MemoryDial::new(far);
+    RelayDoer::new(alloc, windows, dial, host, 102, Config::new(1, 0, 2), limit).ok()
+}
+
+/// A near link, and the doer that relays what it asks.
+struct Talk {
+    near: Line,
+    doer: Relay,
+}
+
+// It is dropped by a function of its own, so that what drops it is soon proved.
+impl Drop for Talk {
+    fn drop(self) {
+        let Talk { near: _, doer: _ } = self;
+    }
+}
+
+/// The talk of a row.
+fn a_talk(alloc: Global, row: &Row) -> Option<Talk> {
+    let far = match row.far {
+        Some(gives) => Some(a_line(alloc, gives, row.fates)?),
+        None => None,
+    };
+    let near = a_line(alloc, row.asked, &[])?;
+    let doer = a_doer(alloc, row.windows, row.limit, far)?;
+    Some(Talk { near, doer })
+}
+
+/// How serving the near link ends. Nothing is promised of it.
+fn serve<R: Wait + Clock>(rt: &R, alloc: Global, talk: &mut Talk) -> Option<Outcome> {
+    let mut session = Session::new(alloc, 1, None).ok()?;
+    Some(session.serve(rt, alloc, &mut talk.near, &mut talk.doer))
+}
+
+/// The letter of how far a telegram got.
+fn letter(passage: &Passage) -> u8 {
+    match passage {
+        Passage::Near => b'N',
+        Passage::Undialled => b'D',
+        Passage::Unconnected { .. } => b'C',
+        Passage::Unpacked { .. } => b'P',
+        Passage::Asked { .. } => b'A',
+    }
+}
+
+/// The telegrams that are kept got as far as these letters say.
+fn are_kept(kept: &[Relayed], letters: &[u8]) -> bool {
+    if kept.len() != letters.len() {
+        return false;
+    }
+    for (relayed, wanted) in kept.iter().zip(letters.iter()) {
+        if letter(&relayed.passage) != *wanted {
+            return false;
+        }
+    }
+    true
+}
+
+/// What was asked over the link that was dialled last is this; nothing if none was dialled.
+fn is_asked_far(alloc: Global, doer: &Relay, asked: &[&str]) -> bool {
+    match doer.far_link() {
+        Some(link) => is_written(alloc, link, asked),
+        None => asked.is_empty(),
+    }
+}
+
+/// The link of a row is served as the row says.
+fn goes<R: Wait + Clock>(rt: &R, alloc: Global, row: &Row) -> Option<bool> {
+    let mut talk = a_talk(alloc, row)?;
+    let outcome = serve(rt, alloc, &mut talk)?;
+    Some(
+        outcome == Outcome::Ended
+            && is_written(alloc, &talk.near, row.answered)
+            && is_asked_far(alloc, &talk.doer, row.asked_far)
+            && are_kept(talk.doer.kept(), row.kept.as_bytes()),
+    )
+}
+
+/// What becomes of the telegrams of links.
+const LINKS: &[Row] = &[
+    // A read is asked far, at the window's octet.
+    Row {
+        windows: WINDOWS,
+        limit: 9,
+        far: Some(&[CONFIRM, FAR_GRANTED, FAR_ANSWER]),
+        fates: &[],
+        asked: &[CONNECT, SETUP, READ],
+        answered: &[CONFIRM, GRANTED, READ_ANSWER],
+        asked_far: &[CONNECT, FAR_SETUP, FAR_READ],
+        kept: "A",
+    },
+    // The far link ends there, and the next read dials again, in vain.
+    Row {
+        windows: WINDOWS,
+        limit: 9,
+        far: Some(&[CONFIRM, FAR_GRANTED]),
+        fates: &[],
+        asked: &[CONNECT, SETUP, READ, READ],
+        answered: &[CONFIRM, GRANTED, NO_LINK, NO_LINK],
+        asked_far: &[CONNECT, FAR_SETUP, FAR_READ],
+        kept: "AD",
+    },
+    // A write is asked far with its octets.
+    Row {
+        windows: WINDOWS,
+        limit: 9,
+        far: Some(&[CONFIRM, FAR_GRANTED, FAR_WRITTEN]),
+        fates: &[],
+        asked: &[CONNECT, SETUP, WRITE],
+        answered: &[CONFIRM, GRANTED, WRITTEN],
+        asked_far: &[CONNECT, FAR_SETUP, FAR_WRITE],
+        kept: "A",
+    },
+    // The far code 00 stands near without a transport size.
+    Row {
+        windows: WINDOWS,
+        limit: 9,
+        far: Some(&[CONFIRM, FAR_GRANTED, FAR_ANSWER_00]),
+        fates: &[],
+        asked: &[CONNECT, SETUP, READ],
+        answered: &[CONFIRM, GRANTED, READ_ANSWER_00],
+        asked_far: &[CONNECT, FAR_SETUP, FAR_READ],
+        kept: "A",
+    },
+    // An item that no window has doesn't travel, and the far code stands at the place of the item that did.
+    Row {
+        windows: WINDOWS,
+        limit: 9,
+        far: Some(&[CONFIRM, FAR_GRANTED, FAR_ANSWER]),
+        fates: &[],
+        asked: &[CONNECT, SETUP, READ_BOTH],
+        answered: &[CONFIRM, GRANTED, BOTH_ANSWER],
+        asked_far: &[CONNECT, FAR_SETUP, FAR_READ],
+        kept: "A",
+    },
+    // What asks for no item of a window doesn't dial.
+    Row {
+        windows: WINDOWS,
+        limit: 9,
+        far: Some(&[CONFIRM, FAR_GRANTED, FAR_ANSWER]),
+        fates: &[],
+        asked: &[CONNECT, SETUP, READ_2, STOP],
+        answered: &[CONFIRM, GRANTED, READ_2_ANSWER, NO_FUNCTION],
+        asked_far: &[],
+        kept: "NN",
+    },
+    // There is no far server.
+    Row {
+        windows: WINDOWS,
+        limit: 9,
+        far: None,
+        fates: &[],
+        asked: &[CONNECT, SETUP, READ],
+        answered: &[CONFIRM, GRANTED, NO_LINK],
+        asked_far: &[],
+        kept: "D",
+    },
+    // The far link ends before the connect is confirmed.
+    Row {
+        windows: WINDOWS,
+        limit: 9,
+        far: Some(&[]),
+        fates: &[],
+        asked: &[CONNECT, SETUP, READ],
+        answered: &[CONFIRM, GRANTED, NO_LINK],
+        asked_far: &[CONNECT],
+        kept: "C",
+    },
+    // The far link fails in its first call.
+    Row {
+        windows: WINDOWS,
+        limit: 9,
+        far: Some(&[CONFIRM, FAR_GRANTED, FAR_ANSWER]),
+        fates: &[Fate::Fail],
+        asked: &[CONNECT, SETUP, READ],
+        answered: &[CONFIRM, GRANTED, NO_LINK],
+        asked_far: &[],
+        kept: "C",
+    },
+    // The far link isn't ready in any of 50 polls.
+    Row {
+        windows: WINDOWS,
+        limit: 9,
+        far: Some(&[CONFIRM, FAR_GRANTED, FAR_ANSWER]),
+        fates: &[Fate::NotYet; 50],
+        asked: &[CONNECT, SETUP, READ],
+        answered: &[CONFIRM, GRANTED, NO_ANSWER],
+        asked_far: &[],
+        kept: "C",
+    },
+    // A read whose answer is longer than the PDU that the far server grants isn't asked.
+    Row {
+        windows: LONG,
+        limit: 9,
+        far: Some(&[CONFIRM, FAR_GRANTED_64, FAR_ANSWER]),
+        fates: &[],
+        asked: &[CONNECT, SETUP, READ_60],
+        answered: &[CONFIRM, GRANTED, TOO_LONG],
+        asked_far: &[CONNECT, FAR_SETUP],
+        kept: "P",
+    },
+    // The far answer has another sequence.
+    Row {
+        windows: WINDOWS,
+        limit: 9,
+        far: Some(&[CONFIRM, FAR_GRANTED, OTHER_ANSWER]),
+        fates: &[],
+        asked: &[CONNECT, SETUP, READ],
+        answered: &[CONFIRM, GRANTED, FAR_FAULT],
+        asked_far: &[CONNECT, FAR_SETUP, FAR_READ],
+        kept: "A",
+    },
+    // Two near areas are one far part.
+    Row {
+        windows: BOTH,
+        limit: 9,
+        far: Some(&[CONFIRM, FAR_GRANTED, FAR_SAME_ANSWER]),
+        fates: &[],
+        asked: &[CONNECT, SETUP, READ_SAME],
+        answered: &[CONFIRM, GRANTED, SAME_ANSWER],
+        asked_far: &[CONNECT, FAR_SETUP, FAR_READ_SAME],
+        kept: "A",
+    },
+    // Every other one of twenty items travels. The last far item is the last near one, and isn't padded.
+    Row {
+        windows: WINDOWS,
+        limit: 9,
+        far: Some(&[CONFIRM, FAR_GRANTED, FAR_ANSWER_10]),
+        fates: &[],
+        asked: &[CONNECT, LONG_SETUP, READ_20],
+        answered: &[CONFIRM, LONG_GRANTED, ANSWER_20],
+        asked_far: &[CONNECT, FAR_SETUP, FAR_READ_10],
+        kept: "A",
+    },
+    // A write that would need two telegrams isn't asked.
+    Row {
+        windows: LONG,
+        limit: 9,
+        far: Some(&[CONFIRM, FAR_GRANTED_64]),
+        fates: &[],
+        asked: &[CONNECT, SETUP, WRITE_TWO],
+        answered: &[CONFIRM, GRANTED, WRITE_TOO_LONG],
+        asked_far: &[CONNECT, FAR_SETUP],
+        kept: "P",
+    },
+    // The far server refuses the negotiation.
+    Row {
+        windows: WINDOWS,
+        limit: 9,
+        far: Some(&[CONFIRM, FAR_REFUSED]),
+        fates: &[],
+        asked: &[CONNECT, SETUP, READ],
+        answered: &[CONFIRM, GRANTED, FAR_FAULT],
+        asked_far: &[CONNECT, FAR_SETUP],
+        kept: "C",
+    },
+    // No more is kept than the limit.
+    Row {
+        windows: WINDOWS,
+        limit: 1,
+        far: Some(&[CONFIRM, FAR_GRANTED, FAR_ANSWER]),
+        fates: &[],
+        asked: &[CONNECT, SETUP, READ, READ],
+        answered: &[CONFIRM, GRANTED, READ_ANSWER, READ_FULL],
+        asked_far: &[CONNECT, FAR_SETUP, FAR_READ],
+        kept: "A",
+    },
+];
+
+#[test]
+fn links_are_relayed(rt: HostRuntime) -> Result<(), Fail> {
+    for (number, row) in LINKS.iter().enumerate() {
+        if !goes(&rt, rt.alloc(), row).unwrap_or(false) {
+            return Err(Fail::from(("row", number)));
+        }
+    }
+    Ok(())
+}
+
+/// All that a far link gives for a read.
+const FAR: &[&str] = &[CONFIRM, FAR_GRANTED, FAR_ANSWER];
+
+/// A far link that ends after so many octets.
+fn a_cut_line(alloc: Global, len: usize) -> Option<Line> {
+    let gives = octets_of(alloc, FAR)?;
+    let input = gives.as_slice().get(..len)?.to_vec(alloc).ok()?;
+    let inner = MemoryLink::new(alloc, Octets::of_vec(input), 8_192, 16_384, 0).ok()?;
+    Some(FailingLink::new(inner, Vec::new(alloc)))
+}
+
+/// A far link whose call of this number, from 0, fails.
+fn a_failing_line(alloc: Global, call: usize) -> Option<Line> {
+    let mut fates = Vec::new(alloc);
+    for _ in 0..call {
+        fates.push(Fate::Pass).ok()?;
+    }
+    fates.push(Fate::Fail).ok()?;
+    a_line(alloc, FAR, fates.as_slice())
+}
+
+/// A read over this far link is answered by this.
+fn is_answered<R: Wait + Clock>(rt: &R, alloc: Global, far: Line, answer: &str) -> Option<bool> {
+    let near = a_line(alloc, &[CONNECT, SETUP, READ], &[])?;
+    let doer = a_doer(alloc, WINDOWS, 1, Some(far))?;
+    let mut talk = Talk { near, doer };
+    let outcome = serve(rt, alloc, &mut talk)?;
+    let is_so = outcome == Outcome::Ended
+        && is_written(alloc, &talk.near, &[CONFIRM, GRANTED, answer])
+        && talk.doer.kept().len() == 1;
+    Some(is_so)
+}
+
+/// A read is lost if the far link ends after so many octets.
+fn is_lost_after<R: Wait + Clock>(rt: &R, alloc: Global, len: usize) -> Option<bool> {
+    is_answered(rt, alloc, a_cut_line(alloc, len)?, NO_LINK)
+}
+
+/// A read is lost if this call of the far link fails.
+fn is_lost_at<R: Wait + Clock>(rt: &R, alloc: Global, call: usize) -> Option<bool> {
+    is_answered(rt, alloc, a_failing_line(alloc, call)?, NO_LINK)
+}
+
+/// A far link's octets for a read: 22 of the confirm, 27 of the grant, 29 of the answer.
+const FAR_OCTETS: usize = 78;
+
+/// A far link's calls for a read: it transmits the connect request, receives all, and transmits the negotiation and the
+/// job.
+const FAR_CALLS: usize = 4;
+
+#[test]
+fn a_read_is_lost_wherever_the_far_link_ends(rt: HostRuntime) -> Result<(), Fail> {
+    for len in 0..FAR_OCTETS {
+        if !is_lost_after(&rt, rt.alloc(), len).unwrap_or(false) {
+            return Err(Fail::from(("octet", len)));
+        }
+    }
+    Ok(())
+}
+
+#[test]
+fn a_read_is_lost_whichever_call_fails(rt: HostRuntime) -> Result<(), Fail> {
+    for call in 0..FAR_CALLS {
+        if !is_lost_at(&rt, rt.alloc(), call).unwrap_or(false) {
+            return Err(Fail::from(("call", call)));
+        }
+    }
+    Ok(())
+}
