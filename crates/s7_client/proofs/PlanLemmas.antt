@@ -1,7 +1,7 @@
 -- Laws of the plans of jobs: how a course stands at what it awaits, and which of them begins with a disconnect request.
-use Rattle.std.proofs.Common.{◌≡◌, ◌≢◌, ◌⊎◌, inl, inr, ℕ, ◌<◌, Bool, true, false, cond, eqb, Option, Some, None, List, [], length, refl, ap, subst, arith}
+use Rattle.std.proofs.Common.{◌≡◌, ◌≢◌, ◌⊎◌, inl, inr, ℕ, ◌<◌, Bool, true, false, cond, eqb, ltb, Option, Some, None, List, [], length, refl, sym, ◌∙◌, ap, subst, arith}
 use Rattle.std.specs.Prelude.{IsSome}
-use Rattle.std.proofs.lemmas.Bool.{eqb-true, eqb-false}
+use Rattle.std.proofs.lemmas.Bool.{eqb-true, eqb-false, ltb-true, ltb-false}
 use Rattle.s7_item.specs.Item.{octet_count}
 use Rattle.s7_dialogue.specs.declared.config.Config.{Config}
 use Rattle.s7_dialogue.specs.declared.grant.Grant.{Grant}
@@ -11,10 +11,11 @@ use Rattle.s7_dialogue.specs.declared.job.Job.TheVariants as job
 use Rattle.s7_dialogue.specs.Codes.{not_connected}
 use Rattle.s7_dialogue.specs.Checks.{check_item, check_items, check_moment, check_password, check_image, octet_count_of}
 use Rattle.s7_dialogue.specs.Flight.{Row, answers_of, open_count}
-use Rattle.s7_dialogue.specs.Dialogue.{End, fault_end, number_end, departed_end, First, nothing, connect_request, disconnect_request, Plan, over, connecting_plan, is_connect, connected_plan, plan_of}
+use Rattle.s7_dialogue.specs.Dialogue.{Conduct, End, first_refusal, fault_end, number_end, departed_end, First, nothing, connect_request, disconnect_request, Plan, over, connecting_plan, is_connect, connected_plan, plan_of}
 use Rattle.s7_dialogue.specs.Course.{Origin, Course, Awaits, for_confirm, for_answers, for_departure, for_nothing, conduct_of, next_question, asked_on, asking, by_first, begins_anew, blank, begun, course}
-use Rattle.s7_dialogue.proofs.FlightLemmas.{nothing_more, settled_ends, IsEnded, asking_ends}
+use Rattle.s7_dialogue.proofs.FlightLemmas.{nothing_left, nothing_more, settled_ends, IsEnded, asking_ends}
 use Rattle.s7_dialogue.proofs.RowLemmas.{IsKept, course_kept}
+use Rattle.s7_client.specs.Fit.{IsNoneAsked, JobsAskAll}
 
 -- ---- how a course stands at what it awaits
 
@@ -88,6 +89,20 @@ pub course_asks : (origin : Origin) (b : List ℕ) → (course origin b).awaits 
     → (0 < open_count (course origin b).rows)
     × (next_question (conduct_of origin) (course origin b).rows ≡ None)
 course_asks origin b is = subst (StandsAt origin (course origin b).rows) is (course_stands origin b)
+
+none_asked_by : (c : Conduct) (rows : List Row) (less : Bool) (refused : Option (ℕ × ℕ)) → ltb (open_count rows) c.width ≡ less
+    → first_refusal c.refusal 0 (answers_of rows) ≡ refused → next_question c rows ≡ None → IsNoneAsked c rows
+none_asked_by c rows false refused fewer is none = inl (ltb-false (open_count rows) c.width fewer)
+none_asked_by c rows true (Some r) fewer is none = inr (inl (λ e. let x : Some r ≡ None = sym is ∙ e in cc))
+none_asked_by c rows true None fewer is none = inr (inr (nothing_left c rows (ltb-true (open_count rows) c.width fewer) is none))
+
+-- all that may be asked was asked
+pub course_asks_all : JobsAskAll
+course_asks_all origin b is =
+    let c = conduct_of origin in
+    let rows = (course origin b).rows in
+    let asks = course_asks origin b is in
+    (asks.0, none_asked_by c rows (ltb (open_count rows) c.width) (first_refusal c.refusal 0 (answers_of rows)) refl refl asks.1)
 
 -- and one that awaits that its disconnect request is transmitted
 pub course_leaves : (origin : Origin) (b : List ℕ) → (course origin b).awaits ≡ for_departure

@@ -1,6 +1,6 @@
 //! Laws of results and of telegrams. They do nothing at run time.
 ghost use Rattle.s7_client.specs.Form.{EndsHaveForm};
-ghost use Rattle.s7_client.specs.Fit.{TelegramsFit};
+ghost use Rattle.s7_client.specs.Fit.{JobsAskAll, TelegramsFit};
 
 /// A law: every result has the form of its job.
 ///
@@ -18,4 +18,10 @@ pub fn ends_have_form()
 /// The number of unanswered questions never exceeds the number of jobs granted, or one if that is 0.
 pub fn telegrams_fit()
     ensures { TelegramsFit }
+{}
+
+/// A law: a job asks all that it may. While it awaits answers, at least one question is unanswered, and no further one
+/// may be asked: as many are unanswered as jobs were granted, or an answer refuses, or no question is left.
+pub fn jobs_ask_all()
+    ensures { JobsAskAll }
 {}

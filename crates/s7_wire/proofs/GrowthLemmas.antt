@@ -11,7 +11,7 @@ use Rattle.s7_cotp.specs.Messages.{Step, more, whole, too_many_fragments, too_lo
 use Rattle.s7_cotp.specs.declared.tpdu.CotpFault.{CotpFault}
 use Rattle.s7_wire.specs.Bounds.{message_limit}
 use Rattle.s7_wire.specs.declared.found.Opening.{Opening}
-use Rattle.s7_wire.specs.Reading.{opened, message, Ending, Progress, start, limits, opening_of, with_opening, with_joining, connected, with_told, with_tpdu, unless_ended, with_body, with_bodies, with_state, with_rest, state_behind, reading, ReadsOn, GrowsTo}
+use Rattle.s7_wire.specs.Reading.{opened, message, Ending, Progress, start, limits, opening_of, with_opening, with_joining, connected, with_told, with_tpdu, unless_ended, with_body, with_bodies, with_state, with_rest, state_behind, reading, ReadsOn, GrowsTo, octets_in}
 use Rattle.s7_wire.proofs.ReadingLemmas.{reading_is, bodies_are, bodies_ended, with_bodies-append, rest_at, rest_ended}
 
 -- ---- behind an ending nothing is read
@@ -175,16 +175,11 @@ body_place : (opening : Opening) (p : Progress) (body : List ℕ) → (with_body
 unfolding with_body
 body_place opening p body = unless_place p.ending _ p (4 + length body) (omega (arith, tpdu_place opening p body (tpdu_of body)))
 
--- the octets of packets with these bodies
-abbrev packed_octets : List (List ℕ) → ℕ
-packed_octets [] = 0
-packed_octets (body ∷ bodies) = 4 + length body + packed_octets bodies
-
-bodies_place : (opening : Opening) (p : Progress) (bodies : List (List ℕ)) → (with_bodies opening p bodies).at ≤ p.at + packed_octets bodies
+bodies_place : (opening : Opening) (p : Progress) (bodies : List (List ℕ)) → (with_bodies opening p bodies).at ≤ p.at + octets_in bodies
 bodies_place opening p [] = omega arith
 bodies_place opening p (body ∷ bodies) = omega (arith, body_place opening p body, bodies_place opening (with_body opening p body) bodies)
 
-packed_within : (ls : List (List ℕ) → ℕ) (before : List (List ℕ)) (b : List ℕ) (ps : List (List ℕ)) (rest : List ℕ) → Packed ls before b ps rest → packed_octets ps ≤ length b
+packed_within : (ls : List (List ℕ) → ℕ) (before : List (List ℕ)) (b : List ℕ) (ps : List (List ℕ)) (rest : List ℕ) → Packed ls before b ps rest → octets_in ps ≤ length b
 packed_within ls before b [] rest h = omega arith
 packed_within ls before b (p ∷ ps) rest h =
     let q = h.0 in

@@ -2,7 +2,7 @@
 -- and how the link ends. The octets are packets (RFC 1006, section 6) whose bodies are TPDUs of class 0 (ISO 8073,
 -- 13.3 to 13.7).
 use Rattle.std.specs.Prelude.{◌≡◌, ℕ, ◌+◌, ◌==◌, ◌&&◌, if◌then◌else◌, List, [], ◌∷◌, ◌++◌, length, Option, None, Some, Result, Ok, Err}
-use Rattle.s7_tpkt.specs.Packets.{packets_of, rest_of, state_of}
+use Rattle.s7_tpkt.specs.Packets.{Packed, packets_of, rest_of, state_of}
 use Rattle.s7_tpkt.specs.declared.state.FedState.{FedState}
 use Rattle.s7_tpkt.specs.declared.state.FedState.TheVariants as fed
 use Rattle.s7_cotp.specs.Told.{Told, ConnectionTold, connect, confirm, fragment, disconnect, reject}
@@ -208,6 +208,34 @@ pub record ReadsOn (opening : Opening) (b rest : List ℕ) : Type 0 where
 pub record GrowsTo (p p' : Progress) : Type 0 where
   pub further : List Event
   pub events : p'.events ≡ p.events ++ further
+
+-- the number of octets of the packets with these bodies (RFC 1006, section 6)
+abbrev pub octets_in : List (List ℕ) → ℕ
+octets_in [] = 0
+octets_in (body ∷ bodies) = 4 + length body + octets_in bodies
+
+-- What comes after the packets `before` is at fault: the next packet, or, if there is none, octets that can't be the
+-- beginning of a packet.
+abbrev pub IsFaultAfter : Opening → List (List ℕ) → List (List ℕ) → List ℕ → Ending → Type 0
+IsFaultAfter opening before [] rest ending =
+    (with_state (with_bodies opening start before) (state_of (limits opening before) rest)).ending ≡ Some ending
+IsFaultAfter opening before (body ∷ bodies) rest ending =
+    (with_body opening (with_bodies opening start before) body).ending ≡ Some ending
+
+-- THE PLACE OF A FAULT is the sum of the lengths of the packets before it. None of these ends the link, and they are
+-- the octets up to the place.
+pub record IsFaultPlace (opening : Opening) (b : List ℕ) (fault : ReadFault) (at : ℕ) : Type 0 where
+  pub before : List (List ℕ)
+  pub further : List (List ℕ)
+  pub packets : packets_of (limits opening) b ≡ before ++ further
+  pub sound : (with_bodies opening start before).ending ≡ None
+  pub next : IsFaultAfter opening before further (rest_of (limits opening) b) (faulted fault at)
+  pub sum : at ≡ octets_in before
+  pub octets : List ℕ
+  pub later : List ℕ
+  pub cut : b ≡ octets ++ later
+  pub packed : Packed (limits opening) [] octets before []
+  pub place : length octets ≡ at
 
 -- The bodies are data TPDUs with these fragments, in order (ISO 8073, 13.7).
 abbrev pub AreData : List (List ℕ) → List Fragment → Type 0

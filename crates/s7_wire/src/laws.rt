@@ -6,10 +6,12 @@ ghost use Rattle.s7_cotp.specs.Reading.{tpdu_of};
 ghost use Rattle.s7_cotp.specs.declared.tpdu.CotpFault.{CotpFault};
 ghost use Rattle.s7_wire.specs.declared.found.Opening.{Opening};
 ghost use Rattle.s7_wire.specs.declared.found.Ended.{Ended};
+ghost use Rattle.s7_wire.specs.declared.found.ReadFault.{ReadFault};
 ghost use Rattle.s7_wire.specs.declared.reader.Reader.{Reader};
 ghost use Rattle.s7_wire.specs.Bounds.{first_limit, size_of_code, limit_of_size};
 ghost use Rattle.s7_wire.specs.Reads.{HasRead, opens_by, ended_with, ending_by, found_by};
-ghost use Rattle.s7_wire.specs.Reading.{Ending, limits, limit_by, opening_of, reading, ReadsOn, GrowsTo, JoinsMessages};
+ghost use Rattle.s7_wire.specs.Reading.{Ending, faulted, limits, limit_by, opening_of, reading};
+ghost use Rattle.s7_wire.specs.Reading.{ReadsOn, GrowsTo, IsFaultPlace, JoinsMessages};
 
 /// A law: octets in two pieces are read as if they came at once, wherever they are cut. Events that were read stay.
 /// After an ending nothing more is read.
@@ -53,4 +55,11 @@ pub fn numbers_of_readings()
     ensures limit { (opening : Opening) (b : List ℕ) → (reading opening b).ending ≡ None
         → limits opening (packets_of (limits opening) b) ≡ limit_by (reading opening b).size }
     ensures place { (opening : Opening) (b : List ℕ) → (reading opening b).at ≤ length b }
+{}
+
+/// A law: the place of a fault is the sum of the lengths of the packets before it, which are the octets up to that
+/// place. After them comes a packet at fault, or octets that can't be the beginning of a packet.
+pub fn faults_have_places()
+    ensures { (opening : Opening) (b : List ℕ) (fault : ReadFault) (at : ℕ)
+        → (reading opening b).ending ≡ Some (faulted fault at) → IsFaultPlace opening b fault at }
 {}
