@@ -31,15 +31,21 @@ legal_on : (s : State) (limit : ℕ) (front history : History) (link : ℕ) (met
     → IsLegalFor s limit front link mets moment entries newest → IsLegalFor s limit history link mets moment entries newest
 legal_on s limit front history link mets moment entries newest a few l =
     let same : own s link history ≡ own s link front = own_agrees s link (link ∷ []) front history (one-has link) a in
+    let called = l.called in
+    let counted = l.counted in
     record {
-      calls = ap (map answered) same ∙ l.calls;
-      full = λ any. full_goes_on limit front history (link ∷ []) a few (l.full any);
-      full_stays = l.full_stays;
-      memory = l.memory;
-      causes = l.causes;
-      moments = subst (AllAt moment) (sym same) l.moments;
-      count = l.count ∙ ap length (sym same);
-      last = l.last ∙ ap (last_number None) (sym same);
+      called = record {
+        calls = ap (map answered) same ∙ called.calls;
+        full = λ any. full_goes_on limit front history (link ∷ []) a few (called.full any);
+        full_stays = called.full_stays;
+        moments = subst (AllAt moment) (sym same) called.moments;
+      };
+      counted = record {
+        memory = counted.memory;
+        causes = counted.causes;
+        count = counted.count ∙ ap length (sym same);
+        last = counted.last ∙ ap (last_number None) (sym same);
+      };
     }
 
 -- a link that was served over a front of a history, after which it has no calls, was served over the history

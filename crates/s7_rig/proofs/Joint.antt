@@ -26,7 +26,7 @@ use Rattle.s7_rig.specs.Scripts.{IsNoConnect, NoneConnects, ConnectsFirst}
 use Rattle.s7_rig.specs.Settled.{Settled}
 use Rattle.s7_rig.specs.Split.{AllStand}
 use Rattle.s7_rig.specs.Complete.{AllComeOff}
-use Rattle.s7_rig.specs.Turns.{is_full_in, lacks_in}
+use Rattle.s7_rig.specs.Turns.{is_full_in, lacks_in, did_in, keeps_in}
 use Rattle.s7_rig.proofs.ResultLemmas.{HaveGone}
 use Rattle.s7_rig.proofs.SoundLemmas.{IsSound}
 
@@ -155,7 +155,7 @@ pub record IsServing (opening : Memory) (limit : ℕ) (book : BookTold) (link : 
   -- the history is legal for the link
   pub legal : entered_of mets ≡ map answered (own_in opening book link)
   pub begun : BookTold
-  pub trail : Trail is_full_in lacks_in begun mets book
+  pub trail : Trail is_full_in lacks_in did_in keeps_in begun mets book
   -- no telegram stopped the link for want of memory, and none waits for its verdict
   pub sound : IsSound (past (first_link opening.guard) used verdicts).standing
   pub clock : clock_failures verdicts ≡ 0

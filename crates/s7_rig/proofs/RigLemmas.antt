@@ -22,7 +22,7 @@ use Rattle.s7_session.specs.Owed.{Past, past, owed, telegrams}
 use Rattle.s7_session.specs.Stands.{unread, unsent}
 use Rattle.s7_session.specs.Telegrams.{verdicts_of, AnyFull, MemoryIsLast, AllAt, clock_failures, last_number}
 use Rattle.s7_session.proofs.BookLemmas.{replay-calls}
-use Rattle.s7_session.proofs.DoerLemmas.{full_end, full_stays, are_caused}
+use Rattle.s7_session.proofs.DoerLemmas.{goes_same, full_end, full_stays, are_caused}
 use Rattle.s7_session.proofs.PastLemmas.{past_nothing, memory_is_last}
 use Rattle.s7_session.proofs.SumLemmas.{all_different, all_served, counts_add_up}
 use Rattle.s7_rig.specs.State.{Post, State}
@@ -33,7 +33,7 @@ use Rattle.s7_rig.specs.Scripts.{ConnectsFirst}
 use Rattle.s7_rig.specs.Shown.{EndTold, state_told, post_told, ClientTold}
 use Rattle.s7_rig.specs.Split.{AllStand}
 use Rattle.s7_rig.specs.Complete.{AllComeOff}
-use Rattle.s7_rig.specs.Turns.{is_full_in, lacks_in}
+use Rattle.s7_rig.specs.Turns.{is_full_in, lacks_in, did_in, keeps_in}
 use Rattle.s7_rig.proofs.Joint.{Octets, untouched, Joint}
 use Rattle.s7_rig.proofs.ResultLemmas.{none_come_off}
 use Rattle.s7_rig.proofs.SoundLemmas.{IsSound, AreRemembered, past_remembers}
@@ -94,7 +94,7 @@ joint_fresh opening limit config book p link f opened journal =
           met = refl;
           legal = ap (map answered) (sym none);
           begun = book;
-          trail = λ ask full. full;
+          trail = goes_same is_full_in keeps_in book;
           sound = subst (λ (x : Past). IsSound x.standing) (sym (past_nothing (first_link opening.guard) [])) tt;
           clock = refl;
           moments = subst (λ es. AllAt (Some moment) es) (sym none) tt;
@@ -138,14 +138,18 @@ module _ (opening : Memory) (limit : ℕ) (config : Config) where
         judged = λ is. subst IsSound is (subst (λ vs. IsSound (past first o.used vs).standing) (sym j.met) j.sound);
         owed_is = ap (owed first o.used) j.met ∙ (j.stands.owed ∙ ap (λ x. x ++ unsent p.session) h.answered_are);
         legal = record {
-          calls = sym j.legal;
-          full = λ any. (full_end is_full_in lacks_in j.begun book o.mets j.trail any).1 ∙ j.limited;
-          full_stays = full_stays is_full_in lacks_in j.begun book o.mets (λ b ask other full. full) j.trail;
-          memory = subst (λ ms. MemoryIsLast (verdicts_of ms)) asks (memory_is_last first o.used (verdicts_of o.mets));
-          causes = are_caused is_full_in lacks_in j.begun book o.mets (λ b a h. h) j.trail;
-          moments = j.moments;
-          count = j.count;
-          last = j.last;
+          called = record {
+            calls = sym j.legal;
+            full = λ any. (full_end is_full_in lacks_in did_in keeps_in j.begun book o.mets j.trail any).1 ∙ j.limited;
+            full_stays = full_stays is_full_in lacks_in did_in keeps_in j.begun book o.mets (λ b ask other full. full) j.trail;
+            moments = j.moments;
+          };
+          counted = record {
+            memory = subst (λ ms. MemoryIsLast (verdicts_of ms)) asks (memory_is_last first o.used (verdicts_of o.mets));
+            causes = are_caused is_full_in lacks_in did_in keeps_in j.begun book o.mets (λ b a h. h) j.trail;
+            count = j.count;
+            last = j.last;
+          };
         };
         lives = λ still. ap (λ vs. (past first o.used vs).standing) j.met ∙ j.stands.lives still;
         clock = ap clock_failures j.met ∙ j.clock;
@@ -158,7 +162,7 @@ module _ (opening : Memory) (limit : ℕ) (config : Config) where
   never_full : (book : BookTold) (p : Post) (o : Octets) → Joint opening limit config book p o
       → length (history_of book) < limit → AnyFull o.verdicts → ⊥
   never_full book p o j room any =
-      let full = (full_end is_full_in lacks_in j.begun book o.mets j.trail (subst AnyFull (sym j.met) any)).1 in
+      let full = (full_end is_full_in lacks_in did_in keeps_in j.begun book o.mets j.trail (subst AnyFull (sym j.met) any)).1 in
       absurd (omega (arith, room, full, j.limited))
 
   -- what holds of each place holds of all that is told

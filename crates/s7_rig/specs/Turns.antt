@@ -2,7 +2,7 @@
 -- octet, uses one that its session had read, or ends a job.
 use Rattle.std.specs.Prelude.{◌≡◌, ◌≢◌, ◌⊎◌, ℕ, ◌-◌, ◌<◌, ◌≤◌, ◌==◌, ◌&&◌, ◌||◌, not, nat_lt}
 use Rattle.std.specs.Prelude.{Bool, true, false, List, [], ◌∷◌, ◌++◌, length, slice_get}
-use Rattle.std.specs.Prelude.{slice_set, None, Some, option_map, unwrap_or, IsSome}
+use Rattle.std.specs.Prelude.{slice_set, Option, None, Some, option_map, unwrap_or, IsSome}
 use Rattle.std.specs.Borrow.{GName}
 use Rattle.s7_memory.specs.PipesHeld.{PipesHeld}
 use Rattle.s7_memory.specs.Pipes.{end_of}
@@ -15,6 +15,7 @@ use Rattle.s7_client.specs.Polling.{job_of, IsStarted, IsPoll}
 use Rattle.s7_plant.specs.Books.{BookTold}
 use Rattle.s7_plant.specs.declared.request.Ask.{Ask}
 use Rattle.s7_plant.specs.Journals.{AreReady}
+use Rattle.s7_plant.specs.Replies.{Said}
 use Rattle.s7_plant.specs.State.{state_of}
 use Rattle.s7_session.specs.declared.session.Session.{Session}
 use Rattle.s7_session.specs.declared.outcome.Outcome.{Outcome}
@@ -100,11 +101,18 @@ is_full_in book ask = length (history_of book) ≡ book.journal.limit
 abbrev pub lacks_in : BookTold → Ask → Type 0
 lacks_in book ask = ⊥
 
+-- The book's entries say what was done with a request, and `GoesOnBy` what a book keeps, so nothing more is said here.
+abbrev pub did_in : BookTold → Ask → Option (ℕ × Said) → BookTold → Type 0
+did_in book ask answer book' = Unit {0}
+
+abbrev pub keeps_in : BookTold → BookTold → Type 0
+keeps_in book book' = Unit {0}
+
 -- a session takes a turn over its end of the pipes, by whichever borrow, and the book goes on by calls of its link
 pub record TakesTurn (link : ℕ) (session : Session) (pipes : PipesHeld) (book : BookTold) (session' : Session)
     (pipes' : PipesHeld) (book' : BookTold) (result : Turn) : Type 0 where
   pub loan : GName
-  pub turn : IsTurn (stands_in link) is_full_in lacks_in session (end_of loan pipes side.Server) book
+  pub turn : IsTurn (stands_in link) is_full_in lacks_in did_in keeps_in session (end_of loan pipes side.Server) book
       session' (end_of loan pipes' side.Server) book' result
   pub stays : (o : Outcome) → closed_with session ≡ Some o → session' ≡ session
   pub number : number_of session' ≡ number_of session

@@ -9,6 +9,7 @@ use Rattle.s7_turn.specs.declared.view.Entry.{Entry as Call}
 use Rattle.s7_turn.specs.Histories.{replay}
 use Rattle.s7_plant.specs.Books.{BookTold, book_told}
 use Rattle.s7_plant.specs.declared.request.Ask.{Ask}
+use Rattle.s7_plant.specs.Replies.{Said}
 use Rattle.s7_plant.specs.Answers.{after}
 use Rattle.s7_plant.specs.Journals.{after_call}
 use Rattle.s7_plant.specs.State.{State, state_of, begins_with}
@@ -64,11 +65,12 @@ lacks d ask = ⊥
 all_of_link : (link : ℕ) (old new : BookTold) → GoesOnBy link old new → history_of old ≡ [] → AreOf link (history_of new)
 all_of_link link old new goes none = subst (AreOf link) (sym (goes.history ∙ ap (λ h. h ++ goes.calls) none)) goes.own
 
-pub served_link : {O : Type 0} (opening : Memory) (pipe line : Shown) (d d' : BookDoer O) (o : Outcome) (accepted : ℕ) (last : Option ℕ)
-    → IsLinkRun stands is_full lacks (first_of opening) pipe d line d' o accepted last
+pub served_link : {O : Type 0} {did : BookDoer O → Ask → Option (ℕ × Said) → BookDoer O → Type 0} {keeps : BookDoer O → BookDoer O → Type 0}
+    (opening : Memory) (pipe line : Shown) (d d' : BookDoer O) (o : Outcome) (accepted : ℕ) (last : Option ℕ)
+    → IsLinkRun stands is_full lacks did keeps (first_of opening) pipe d line d' o accepted last
     → history_of (book_told d.book.now) ≡ [] → state_of (book_told d.book.now).opening ≡ begins_with opening → d'.link ≡ d.link → GoesOnBy d.link (book_told d.book.now) (book_told d'.book.now)
     → IsServedLink (begins_with opening) (book_told d.book.now).journal.limit (first_of opening) (history_of (book_told d'.book.now)) pipe (served_told d.link line o accepted last)
-served_link opening pipe line d d' o accepted last run none opens same goes =
+served_link {O} {did} {keeps} opening pipe line d d' o accepted last run none opens same goes =
     let history = history_of (book_told d'.book.now) in
     let s = begins_with opening in
     let opened : state_of (book_told d'.book.now).opening ≡ s = ap state_of goes.opening ∙ opens in
@@ -88,14 +90,18 @@ served_link opening pipe line d d' o accepted last run none opens same goes =
       asked = run.asked;
       answers = run.owed;
       legal = record {
-        calls = ap (map answered) (sym mine) ∙ run.entered;
-        full = λ any. (full_end is_full lacks d d' run.mets run.trail any).1 ∙ goes.limit;
-        full_stays = full_stays is_full lacks d d' run.mets (λ e a b h. h) run.trail;
-        memory = subst (λ ms. MemoryIsLast (verdicts_of ms)) run.asked (memory_is_last (first_of opening) run.taken (verdicts_of run.mets));
-        causes = are_caused is_full lacks d d' run.mets (λ e a h. h) run.trail;
-        moments = subst (AllAt pipe.moment) mine run.moments;
-        count = run.count ∙ ap length mine;
-        last = run.last_is ∙ ap (last_number None) mine;
+        called = record {
+          calls = ap (map answered) (sym mine) ∙ run.entered;
+          full = λ any. (full_end is_full lacks did keeps d d' run.mets run.trail any).1 ∙ goes.limit;
+          full_stays = full_stays is_full lacks did keeps d d' run.mets (λ e a b h. h) run.trail;
+          moments = subst (AllAt pipe.moment) mine run.moments;
+        };
+        counted = record {
+          memory = subst (λ ms. MemoryIsLast (verdicts_of ms)) run.asked (memory_is_last (first_of opening) run.taken (verdicts_of run.mets));
+          causes = are_caused is_full lacks did keeps d d' run.mets (λ e a h. h) run.trail;
+          count = run.count ∙ ap length mine;
+          last = run.last_is ∙ ap (last_number None) mine;
+        };
       };
       clock = run.clock;
       unasked = run.unasked;
@@ -127,13 +133,14 @@ pub record IsServedAlone (opening : Memory) (limit : ℕ) (pipe : Shown) (served
   pub link : IsServedLink (begins_with opening) limit (first_of opening) (history_of book) pipe served
   pub legal_book : IsLegalBook (begins_with opening) limit ((served.link, served.entries) ∷ []) book
 
-pub served_alone : {O : Type 0} (opening : Memory) (pipe line : Shown) (d d' : BookDoer O) (o : Outcome) (accepted : ℕ) (last : Option ℕ)
-    → IsLinkRun stands is_full lacks (first_of opening) pipe d line d' o accepted last
+pub served_alone : {O : Type 0} {did : BookDoer O → Ask → Option (ℕ × Said) → BookDoer O → Type 0} {keeps : BookDoer O → BookDoer O → Type 0}
+    (opening : Memory) (pipe line : Shown) (d d' : BookDoer O) (o : Outcome) (accepted : ℕ) (last : Option ℕ)
+    → IsLinkRun stands is_full lacks did keeps (first_of opening) pipe d line d' o accepted last
     → history_of (book_told d.book.now) ≡ [] → state_of (book_told d.book.now).opening ≡ begins_with opening → d'.link ≡ d.link → GoesOnBy d.link (book_told d.book.now) (book_told d'.book.now)
     → IsServedAlone opening (book_told d.book.now).journal.limit pipe (served_told d.link line o accepted last) (book_told d'.book.now)
 served_alone opening pipe line d d' o accepted last run none opens same goes =
     let served = served_link opening pipe line d d' o accepted last run none opens same goes in
-    record { link = served; legal_book = served_book opening d d' accepted none opens same goes served.legal.count }
+    record { link = served; legal_book = served_book opening d d' accepted none opens same goes served.legal.counted.count }
 
 -- ---- the link was shut then
 
@@ -142,8 +149,9 @@ pub record IsShutAlone (opening : Memory) (limit : ℕ) (pipe : Shown) (served :
   pub legal_book : IsLegalBook (begins_with opening) limit ((served.link, served.entries) ∷ []) book
   pub shut : IsShut pipe served.line
 
-pub shut_alone : {O : Type 0} (opening : Memory) (pipe line line' : Shown) (d d' : BookDoer O) (o : Outcome) (accepted : ℕ) (last : Option ℕ)
-    → IsLinkRun stands is_full lacks (first_of opening) pipe d line d' o accepted last
+pub shut_alone : {O : Type 0} {did : BookDoer O → Ask → Option (ℕ × Said) → BookDoer O → Type 0} {keeps : BookDoer O → BookDoer O → Type 0}
+    (opening : Memory) (pipe line line' : Shown) (d d' : BookDoer O) (o : Outcome) (accepted : ℕ) (last : Option ℕ)
+    → IsLinkRun stands is_full lacks did keeps (first_of opening) pipe d line d' o accepted last
     → history_of (book_told d.book.now) ≡ [] → state_of (book_told d.book.now).opening ≡ begins_with opening → d'.link ≡ d.link → GoesOnBy d.link (book_told d.book.now) (book_told d'.book.now)
     → line' ≡ shut_down line
     → IsShutAlone opening (book_told d.book.now).journal.limit pipe (served_told d.link line' o accepted last) (book_told d'.book.now)

@@ -11,7 +11,7 @@ use Rattle.s7_session.specs.Answers.{Answers}
 use Rattle.s7_session.specs.declared.handled.Handled.{Handled}
 use Rattle.s7_session.specs.declared.handled.Handled.TheVariants as handled
 use Rattle.s7_session.specs.declared.outcome.Outcome.TheVariants.{NotS7}
-use Rattle.s7_session.specs.Doers.{StaysFull, Trail}
+use Rattle.s7_session.specs.Doers.{GoesOn, Trail}
 use Rattle.s7_session.specs.Entry.{Entry}
 use Rattle.s7_session.specs.Errors.{FULL, CLOCK_FAILED}
 use Rattle.s7_session.specs.Events.{lives, closes, Made, settled, asks, by_clock, judged, refusal_sent}
@@ -19,7 +19,7 @@ use Rattle.s7_session.specs.Judgement.{Asking}
 use Rattle.s7_session.specs.LinkState.{LinkState}
 use Rattle.s7_session.specs.Telegrams.{Met, met, verdicts_of, entered_of, looks_for, looks_in, NoneTimed, IsAt, moment_of}
 use Rattle.s7_session.specs.Verdict.{Verdict, Entered, Full, ClockFailed, NoMemory}
-use Rattle.s7_session.proofs.DoerLemmas.{stays_same, trail_one}
+use Rattle.s7_session.proofs.DoerLemmas.{goes_same, trail_one}
 
 -- what asking the clock, or not asking it, does to a line
 pub record Looked (line line' : Shown) (asking : Asking) : Type 0 where
@@ -41,9 +41,9 @@ looks_alone : (n before now : ℕ) → RoseExactly n before now → RoseExactly 
 looks_alone n before now rose = (omega (arith, rose.0), omega (arith, rose.1))
 
 -- a message that asks nothing, with what it is owed
-pub answers_settled : {D : Type 0} (stands : D → List Entry → Type 0) (full lack : D → Ask → Type 0) (line : Shown) (d : D) (made : List Verdict → Made) (at : ℕ) (size : Option ℕ) (link : LinkState) (sent : List ℕ)
-    → made [] ≡ settled size link sent [] → Answers stands full lack line d line d made at size link sent handled.Answered
-answers_settled stands full lack line d made at size link sent is = record {
+pub answers_settled : {D : Type 0} (stands : D → List Entry → Type 0) (full lack : D → Ask → Type 0) (did : D → Ask → Option (ℕ × Said) → D → Type 0) (kept : D → D → Type 0) (line : Shown) (d : D) (made : List Verdict → Made) (at : ℕ) (size : Option ℕ) (link : LinkState) (sent : List ℕ)
+    → made [] ≡ settled size link sent [] → Answers stands full lack did kept line d line d made at size link sent handled.Answered
+answers_settled stands full lack did kept line d made at size link sent is = record {
   verdicts = [];
   one = omega arith;
   entries = [];
@@ -58,7 +58,7 @@ answers_settled stands full lack line d made at size link sent is = record {
   count = refl;
   last = λ before. refl;
   doer = λ es h. subst (stands d) (sym (append-nil es)) h;
-  trail = subst (λ (ms : List Met). Trail full lack d ms d) (sym (ap (λ (m : Made). m.mets) is)) (stays_same full d);
+  trail = subst (λ (ms : List Met). Trail full lack did kept d ms d) (sym (ap (λ (m : Made). m.mets) is)) (goes_same full kept d);
   line_is = refl;
   clock = (omega arith, omega arith);
   unasked = λ h. refl;
@@ -67,10 +67,10 @@ answers_settled stands full lack line d made at size link sent is = record {
 }
 
 -- a message of another protocol closes the link
-pub answers_closing : {D : Type 0} (stands : D → List Entry → Type 0) (full lack : D → Ask → Type 0) (line : Shown) (d : D) (made : List Verdict → Made) (at : ℕ) (size : Option ℕ) (link : LinkState) (sent : List ℕ)
+pub answers_closing : {D : Type 0} (stands : D → List Entry → Type 0) (full lack : D → Ask → Type 0) (did : D → Ask → Option (ℕ × Said) → D → Type 0) (kept : D → D → Type 0) (line : Shown) (d : D) (made : List Verdict → Made) (at : ℕ) (size : Option ℕ) (link : LinkState) (sent : List ℕ)
     → made [] ≡ record { size = size; link = link; out = []; mets = []; verdicts = []; standing = closes (NotS7 at) } → sent ≡ []
-    → Answers stands full lack line d line d made at size link sent handled.NotS7
-answers_closing stands full lack line d made at size link sent is none = record {
+    → Answers stands full lack did kept line d line d made at size link sent handled.NotS7
+answers_closing stands full lack did kept line d made at size link sent is none = record {
   verdicts = [];
   one = omega arith;
   entries = [];
@@ -85,7 +85,7 @@ answers_closing stands full lack line d made at size link sent is none = record 
   count = refl;
   last = λ before. refl;
   doer = λ es h. subst (stands d) (sym (append-nil es)) h;
-  trail = subst (λ (ms : List Met). Trail full lack d ms d) (sym (ap (λ (m : Made). m.mets) is)) (stays_same full d);
+  trail = subst (λ (ms : List Met). Trail full lack did kept d ms d) (sym (ap (λ (m : Made). m.mets) is)) (goes_same full kept d);
   line_is = refl;
   clock = (omega arith, omega arith);
   unasked = λ h. refl;
@@ -94,15 +94,15 @@ answers_closing stands full lack line d made at size link sent is none = record 
 }
 
 -- the doer entered what was asked
-pub answers_entered : {D : Type 0} (stands : D → List Entry → Type 0) (full lack : D → Ask → Type 0) (line line' : Shown) (d d' : D) (n : ℕ) (link link' : LinkState) (sequence : ℕ) (asking : Asking) (at : ℕ) (sent : List ℕ)
+pub answers_entered : {D : Type 0} (stands : D → List Entry → Type 0) (full lack : D → Ask → Type 0) (did : D → Ask → Option (ℕ × Said) → D → Type 0) (kept : D → D → Type 0) (line line' : Shown) (d d' : D) (n : ℕ) (link link' : LinkState) (sequence : ℕ) (asking : Asking) (at : ℕ) (sent : List ℕ)
     (number : ℕ) (a : Ask) (reply : Said) (moment : ℕ)
     → Looked line line' asking → line'.clock_faults ≡ line.clock_faults → (asking.is_timed ≡ false → moment ≡ 0)
     → IsAt line.moment (moment_of a.request)
     → a ≡ asking.ask moment → asking.link reply ≡ link' → sent_messages n (asking.messages reply) ≡ sent
     → ((es : List Entry) → stands d es → stands d' (es ++ record { number = number; ask = a; reply = reply } ∷ []))
-    → StaysFull full d d' → (full d (asking.ask moment) → ⊥)
-    → Answers stands full lack line d line' d' (asks n link sequence asking) at (Some n) link' sent (handled.Entered number)
-answers_entered stands full lack line line' d d' n link link' sequence asking at sent number a reply moment looked told untimed at_moment is goes out doer still not_full = record {
+    → GoesOn full kept d d' → (full d (asking.ask moment) → ⊥) → did d (asking.ask moment) (Some (number, reply)) d'
+    → Answers stands full lack did kept line d line' d' (asks n link sequence asking) at (Some n) link' sent (handled.Entered number)
+answers_entered stands full lack did kept line line' d d' n link link' sequence asking at sent number a reply moment looked told untimed at_moment is goes out doer still not_full entered = record {
   verdicts = Entered reply moment ∷ [];
   one = omega arith;
   entries = record { number = number; ask = a; reply = reply } ∷ [];
@@ -117,7 +117,7 @@ answers_entered stands full lack line line' d d' n link link' sequence asking at
   count = refl;
   last = λ before. refl;
   doer = doer;
-  trail = trail_one full lack d d' (met asking (Entered reply moment)) still (not_full, untimed);
+  trail = trail_one full lack did kept d d' (met asking (Entered reply moment)) still (not_full, untimed, (number, entered));
   line_is = looked.same;
   clock = (omega (arith, told), omega (arith, told));
   unasked = λ h. looked.unasked h.0;
@@ -126,12 +126,12 @@ answers_entered stands full lack line line' d d' n link link' sequence asking at
 }
 
 -- the doer was full
-pub answers_full : {D : Type 0} (stands : D → List Entry → Type 0) (full lack : D → Ask → Type 0) (line line' : Shown) (d d' : D) (n : ℕ) (link link' : LinkState) (sequence : ℕ) (asking : Asking) (at : ℕ) (sent : List ℕ) (moment : ℕ)
+pub answers_full : {D : Type 0} (stands : D → List Entry → Type 0) (full lack : D → Ask → Type 0) (did : D → Ask → Option (ℕ × Said) → D → Type 0) (kept : D → D → Type 0) (line line' : Shown) (d d' : D) (n : ℕ) (link link' : LinkState) (sequence : ℕ) (asking : Asking) (at : ℕ) (sent : List ℕ) (moment : ℕ)
     → Looked line line' asking → line'.clock_faults ≡ line.clock_faults → link ≡ link'
     → refusal_sent n sequence FULL ≡ sent
-    → ((es : List Entry) → stands d es → stands d' es) → StaysFull full d d' → full d' (asking.ask moment)
-    → Answers stands full lack line d line' d' (asks n link sequence asking) at (Some n) link' sent handled.Answered
-answers_full stands full lack line line' d d' n link link' sequence asking at sent moment looked told goes out doer still is_full = record {
+    → ((es : List Entry) → stands d es → stands d' es) → GoesOn full kept d d' → full d' (asking.ask moment) → did d (asking.ask moment) None d'
+    → Answers stands full lack did kept line d line' d' (asks n link sequence asking) at (Some n) link' sent handled.Answered
+answers_full stands full lack did kept line line' d d' n link link' sequence asking at sent moment looked told goes out doer still is_full refused = record {
   verdicts = Full ∷ [];
   one = omega arith;
   entries = [];
@@ -146,7 +146,7 @@ answers_full stands full lack line line' d d' n link link' sequence asking at se
   count = refl;
   last = λ before. refl;
   doer = λ es h. subst (stands d') (sym (append-nil es)) (doer es h);
-  trail = trail_one full lack d d' (met asking Full) still (moment, is_full);
+  trail = trail_one full lack did kept d d' (met asking Full) still (moment, is_full, refused);
   line_is = looked.same;
   clock = (omega (arith, told), omega (arith, told));
   unasked = λ h. looked.unasked h.0;
@@ -160,10 +160,10 @@ clock_made : (n : ℕ) (link : LinkState) (sequence : ℕ) (asking : Asking) →
 clock_made n link sequence asking timed = ap (λ b. by_clock b n link sequence asking []) timed
 
 -- and the doer isn't asked
-pub answers_clock_failed : {D : Type 0} (stands : D → List Entry → Type 0) (full lack : D → Ask → Type 0) (line line' : Shown) (d : D) (n : ℕ) (link link' : LinkState) (sequence : ℕ) (asking : Asking) (at : ℕ) (sent : List ℕ)
+pub answers_clock_failed : {D : Type 0} (stands : D → List Entry → Type 0) (full lack : D → Ask → Type 0) (did : D → Ask → Option (ℕ × Said) → D → Type 0) (kept : D → D → Type 0) (line line' : Shown) (d : D) (n : ℕ) (link link' : LinkState) (sequence : ℕ) (asking : Asking) (at : ℕ) (sent : List ℕ)
     → Looked line line' asking → asking.is_timed ≡ true → Rose line.clock_faults line'.clock_faults → link ≡ link' → refusal_sent n sequence CLOCK_FAILED ≡ sent
-    → Answers stands full lack line d line' d (asks n link sequence asking) at (Some n) link' sent handled.Answered
-answers_clock_failed stands full lack line line' d n link link' sequence asking at sent looked timed rose goes out =
+    → Answers stands full lack did kept line d line' d (asks n link sequence asking) at (Some n) link' sent handled.Answered
+answers_clock_failed stands full lack did kept line line' d n link link' sequence asking at sent looked timed rose goes out =
     let is = clock_made n link sequence asking timed in
     record {
       verdicts = ClockFailed ∷ [];
@@ -180,8 +180,8 @@ answers_clock_failed stands full lack line line' d n link link' sequence asking 
       count = refl;
       last = λ before. refl;
       doer = λ es h. subst (stands d) (sym (append-nil es)) h;
-      trail = subst (λ (ms : List Met). Trail full lack d ms d) (sym (ap (λ (m : Made). m.mets) is))
-          (trail_one full lack d d (met asking ClockFailed) (stays_same full d) (subst IsTrue (sym timed) refl));
+      trail = subst (λ (ms : List Met). Trail full lack did kept d ms d) (sym (ap (λ (m : Made). m.mets) is))
+          (trail_one full lack did kept d d (met asking ClockFailed) (goes_same full kept d) (subst IsTrue (sym timed) refl));
       line_is = looked.same;
       clock = (omega (arith, rose), omega (arith, looked.once));
       unasked = λ h. looked.unasked (subst NoneTimed (ap (λ (m : Made). m.mets) is) h).0;
@@ -191,12 +191,12 @@ answers_clock_failed stands full lack line line' d n link link' sequence asking 
     }
 
 -- memory was wanting
-pub answers_memory : {D : Type 0} (stands : D → List Entry → Type 0) (full lack : D → Ask → Type 0) (line line' : Shown) (d d' : D) (n : ℕ) (link link' : LinkState) (sequence : ℕ) (asking : Asking) (at : ℕ) (sent : List ℕ)
+pub answers_memory : {D : Type 0} (stands : D → List Entry → Type 0) (full lack : D → Ask → Type 0) (did : D → Ask → Option (ℕ × Said) → D → Type 0) (kept : D → D → Type 0) (line line' : Shown) (d d' : D) (n : ℕ) (link link' : LinkState) (sequence : ℕ) (asking : Asking) (at : ℕ) (sent : List ℕ)
     → Looked line line' asking → line'.clock_faults ≡ line.clock_faults → sent ≡ []
-    → ((es : List Entry) → stands d es → stands d' es) → StaysFull full d d'
+    → ((es : List Entry) → stands d es → stands d' es) → GoesOn full kept d d'
     → IsTrue asking.is_copied ⊎ ((moment : ℕ) × lack d (asking.ask moment))
-    → Answers stands full lack line d line' d' (asks n link sequence asking) at (Some n) link' sent handled.NoMemory
-answers_memory stands full lack line line' d d' n link link' sequence asking at sent looked told none doer still lacks = record {
+    → Answers stands full lack did kept line d line' d' (asks n link sequence asking) at (Some n) link' sent handled.NoMemory
+answers_memory stands full lack did kept line line' d d' n link link' sequence asking at sent looked told none doer still lacks = record {
   verdicts = NoMemory ∷ [];
   one = omega arith;
   entries = [];
@@ -211,7 +211,7 @@ answers_memory stands full lack line line' d d' n link link' sequence asking at 
   count = refl;
   last = λ before. refl;
   doer = λ es h. subst (stands d') (sym (append-nil es)) (doer es h);
-  trail = trail_one full lack d d' (met asking NoMemory) still lacks;
+  trail = trail_one full lack did kept d d' (met asking NoMemory) still lacks;
   line_is = looked.same;
   clock = (omega (arith, told), omega (arith, told));
   unasked = λ h. looked.unasked h.0;
@@ -220,9 +220,9 @@ answers_memory stands full lack line line' d d' n link link' sequence asking at 
 }
 
 -- answers to what is made are those to what is the same
-pub same_made : {D : Type 0} (stands : D → List Entry → Type 0) (full lack : D → Ask → Type 0) (line line' : Shown) (d d' : D) (f g : List Verdict → Made) (at : ℕ) (size : Option ℕ) (link : LinkState) (sent : List ℕ) (result : Handled)
-    → ((vs : List Verdict) → f vs ≡ g vs) → Answers stands full lack line d line' d' g at size link sent result → Answers stands full lack line d line' d' f at size link sent result
-same_made stands full lack line line' d d' f g at size link sent result same a =
+pub same_made : {D : Type 0} (stands : D → List Entry → Type 0) (full lack : D → Ask → Type 0) (did : D → Ask → Option (ℕ × Said) → D → Type 0) (kept : D → D → Type 0) (line line' : Shown) (d d' : D) (f g : List Verdict → Made) (at : ℕ) (size : Option ℕ) (link : LinkState) (sent : List ℕ) (result : Handled)
+    → ((vs : List Verdict) → f vs ≡ g vs) → Answers stands full lack did kept line d line' d' g at size link sent result → Answers stands full lack did kept line d line' d' f at size link sent result
+same_made stands full lack did kept line line' d d' f g at size link sent result same a =
     let e = same a.verdicts in
     record {
       verdicts = a.verdicts;
@@ -239,7 +239,7 @@ same_made stands full lack line line' d d' f g at size link sent result same a =
       count = a.count;
       last = a.last;
       doer = a.doer;
-      trail = subst (λ (ms : List Met). Trail full lack d ms d') (sym (ap (λ (m : Made). m.mets) e)) a.trail;
+      trail = subst (λ (ms : List Met). Trail full lack did kept d ms d') (sym (ap (λ (m : Made). m.mets) e)) a.trail;
       line_is = a.line_is;
       clock = a.clock;
       unasked = λ h. a.unasked (subst NoneTimed (ap (λ (m : Made). m.mets) e) h);

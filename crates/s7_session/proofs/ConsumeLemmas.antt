@@ -5,6 +5,7 @@ use Rattle.std.specs.Prelude.{Option, None, Some}
 use Rattle.s7_outer.specs.Count.{RoseExactly}
 use Rattle.s7_outer.specs.Shown.{Shown}
 use Rattle.s7_plant.specs.declared.request.Ask.{Ask}
+use Rattle.s7_plant.specs.Replies.{Said}
 use Rattle.s7_cotp.specs.declared.tpdu.Connection.{Connection}
 use Rattle.s7_cotp.specs.Told.{ConnectionTold}
 use Rattle.s7_wire.specs.declared.found.Opening.{Opening}
@@ -42,7 +43,7 @@ use Rattle.s7_session.specs.Stands.{unsent, used_of, entry_count, newest, link_a
 use Rattle.s7_session.specs.Telegrams.{Met, verdicts_of, entered_by, entered_of, looks_in, NoneTimed, AllAt, clock_failures}
 use Rattle.s7_session.specs.Telegrams.{last_number}
 use Rattle.s7_session.specs.Verdict.{Verdict}
-use Rattle.s7_session.proofs.DoerLemmas.{stays_same}
+use Rattle.s7_session.proofs.DoerLemmas.{goes_same}
 use Rattle.s7_session.proofs.PastLemmas.{past_more, past_event, past_ended, closes_by}
 
 -- ---- what a reader found behind octets that open by a connect request
@@ -135,7 +136,7 @@ stood_by first old new b used js vs w out ms h sent read count s out_is few =
     }
 
 -- what a session does with octets, by what they make of whatever it stands for
-pub record Uses {D : Type 0} (stands : D → List Entry → Type 0) (full lack : D → Ask → Type 0) (old : Session) (line : Shown) (d : D) (new : Session) (line' : Shown) (d' : D) (result : Turn) (used : List ℕ) (ms : List Met) (entries : List Entry) : Type 0 where
+pub record Uses {D : Type 0} (stands : D → List Entry → Type 0) (full lack : D → Ask → Type 0) (did : D → Ask → Option (ℕ × Said) → D → Type 0) (kept : D → D → Type 0) (old : Session) (line : Shown) (d : D) (new : Session) (line' : Shown) (d' : D) (result : Turn) (used : List ℕ) (ms : List Met) (entries : List Entry) : Type 0 where
   pub some : result ≡ turn.Went → 0 < length used
   pub one : length ms ≤ 1
   pub few : length (entered_of ms) ≤ 1
@@ -148,7 +149,7 @@ pub record Uses {D : Type 0} (stands : D → List Entry → Type 0) (full lack :
   pub count : entry_count new ≡ entry_count old + length entries
   pub newest : newest new ≡ last_number (newest old) entries
   pub doer : (es : List Entry) → stands d es → stands d' (es ++ entries)
-  pub trail : Trail full lack d ms d'
+  pub trail : Trail full lack did kept d ms d'
   pub closed : closed_with new ≡ closed_by result
   pub waits : result ≡ turn.NotYet → ⊥
   pub by_octets : (o : Outcome) → result ≡ turn.Closed o → (o ≢ outcome.ReadFault) × (o ≢ outcome.WriteFault)
@@ -161,10 +162,10 @@ pub record Uses {D : Type 0} (stands : D → List Entry → Type 0) (full lack :
       → (first : LinkState) (b : List ℕ) (js : List Verdict) (w : List ℕ) → Stands first old b js w
       → HasCause k k' first new (b ++ used) (js ++ verdicts_of ms) o
 
-pub consumes_by : {D : Type 0} (stands : D → List Entry → Type 0) (full lack : D → Ask → Type 0) (old new : Session) (line line' : Shown) (d d' : D) (result : Turn) (used : List ℕ) (ms : List Met) (entries : List Entry)
-    → unsent old ≡ [] → Uses stands full lack old line d new line' d' result used ms entries
-    → Consumes stands full lack old line d new line' d' result
-consumes_by stands full lack old new line line' d d' result used ms entries sent u = record {
+pub consumes_by : {D : Type 0} (stands : D → List Entry → Type 0) (full lack : D → Ask → Type 0) (did : D → Ask → Option (ℕ × Said) → D → Type 0) (kept : D → D → Type 0) (old new : Session) (line line' : Shown) (d d' : D) (result : Turn) (used : List ℕ) (ms : List Met) (entries : List Entry)
+    → unsent old ≡ [] → Uses stands full lack did kept old line d new line' d' result used ms entries
+    → Consumes stands full lack did kept old line d new line' d' result
+consumes_by stands full lack did kept old new line line' d d' result used ms entries sent u = record {
   used = used;
   some = u.some;
   mets = ms;
@@ -210,12 +211,12 @@ same_closed o o' e = cc
 
 -- ---- octets that bring no event
 
-pub uses_more : {D : Type 0} (stands : D → List Entry → Type 0) (full lack : D → Ask → Type 0) (old new : Session) (line : Shown) (d : D) (used : List ℕ)
+pub uses_more : {D : Type 0} (stands : D → List Entry → Type 0) (full lack : D → Ask → Type 0) (did : D → Ask → Option (ℕ × Said) → D → Type 0) (kept : D → D → Type 0) (old new : Session) (line : Shown) (d : D) (used : List ℕ)
     → closed_with old ≡ None → opens_by new.reader ≡ Request → ((b : List ℕ) → HasRead old.reader b → HasFound new.reader b used finding.More)
     → 0 < length used → unread old ≡ used ++ unread new → used_of new ≡ used_of old + length used
     → unsent old ≡ [] → new.conversation ≡ old.conversation → entry_count new ≡ entry_count old → newest new ≡ newest old → closed_with new ≡ None
-    → Uses stands full lack old line d new line d turn.Went used [] []
-uses_more stands full lack old new line d used going opens found some inbox counted sent same count last closed = record {
+    → Uses stands full lack did kept old line d new line d turn.Went used [] []
+uses_more stands full lack did kept old new line d used going opens found some inbox counted sent same count last closed = record {
   some = λ e. some;
   one = omega arith;
   few = omega arith;
@@ -239,7 +240,7 @@ uses_more stands full lack old new line d used going opens found some inbox coun
   count = omega (arith, count);
   newest = last;
   doer = λ es h. subst (stands d) (sym (append-nil es)) h;
-  trail = stays_same full d;
+  trail = goes_same full kept d;
   closed = closed;
   waits = went_not_yet;
   by_octets = λ o e. absurd (went_not_closed o e);
@@ -253,14 +254,14 @@ uses_more stands full lack old new line d used going opens found some inbox coun
 
 -- ---- the connect request
 
-pub uses_opened : {D : Type 0} (stands : D → List Entry → Type 0) (full lack : D → Ask → Type 0) (old new : Session) (line : Shown) (d : D) (used : List ℕ) (c : Connection) (told : ConnectionTold)
+pub uses_opened : {D : Type 0} (stands : D → List Entry → Type 0) (full lack : D → Ask → Type 0) (did : D → Ask → Option (ℕ × Said) → D → Type 0) (kept : D → D → Type 0) (old new : Session) (line : Shown) (d : D) (used : List ℕ) (c : Connection) (told : ConnectionTold)
     → closed_with old ≡ None → opens_by new.reader ≡ Request → ((b : List ℕ) → HasRead old.reader b → HasFound new.reader b used (finding.Opened c))
     → events_by (finding.Opened c) [] 0 ≡ opened told ∷ []
     → made (tpdu_size_of old.conversation.size) (link_at old) (opened told) [] ≡ settled (tpdu_size_of new.conversation.size) (link_at new) (unsent new) []
     → 0 < length used → unread old ≡ used ++ unread new → used_of new ≡ used_of old + length used
     → entry_count new ≡ entry_count old → newest new ≡ newest old → closed_with new ≡ None
-    → Uses stands full lack old line d new line d turn.Went used [] []
-uses_opened stands full lack old new line d used c told going opens found event is some inbox counted count last closed = record {
+    → Uses stands full lack did kept old line d new line d turn.Went used [] []
+uses_opened stands full lack did kept old new line d used c told going opens found event is some inbox counted count last closed = record {
   some = λ e. some;
   one = omega arith;
   few = omega arith;
@@ -287,7 +288,7 @@ uses_opened stands full lack old new line d used c told going opens found event 
   count = omega (arith, count);
   newest = last;
   doer = λ es h. subst (stands d) (sym (append-nil es)) h;
-  trail = stays_same full d;
+  trail = goes_same full kept d;
   closed = closed;
   waits = went_not_yet;
   by_octets = λ o e. absurd (went_not_closed o e);
@@ -355,14 +356,14 @@ message_cause at handled.NotS7 k k' first s b js is silent o e =
       sent = silent (closed_not_lives (outcome.NotS7 at));
     })
 
-pub uses_message : {D : Type 0} (stands : D → List Entry → Type 0) (full lack : D → Ask → Type 0) (old mid new : Session) (line line' : Shown) (d d' : D) (used : List ℕ) (result : Turn)
-    → (a : Handles stands full lack mid line d new line' d' result)
+pub uses_message : {D : Type 0} (stands : D → List Entry → Type 0) (full lack : D → Ask → Type 0) (did : D → Ask → Option (ℕ × Said) → D → Type 0) (kept : D → D → Type 0) (old mid new : Session) (line line' : Shown) (d d' : D) (used : List ℕ) (result : Turn)
+    → (a : Handles stands full lack did kept mid line d new line' d' result)
     → closed_with old ≡ None → opens_by mid.reader ≡ Request → ((b : List ℕ) → HasRead old.reader b → HasFound mid.reader b used finding.Message)
     → mid.conversation ≡ old.conversation → used_of mid ≤ spent
     → 0 < length used → unread old ≡ used ++ unread mid → used_of mid ≡ used_of old + length used
     → entry_count mid ≡ entry_count old → newest mid ≡ newest old
-    → Uses stands full lack old line d new line' d' result used (made (tpdu_size_of mid.conversation.size) (link_at mid) (message (message_at mid.reader) (place_at mid.reader)) a.answers.verdicts).mets a.answers.entries
-uses_message stands full lack old mid new line line' d d' used result a going opens found same few some inbox size count last =
+    → Uses stands full lack did kept old line d new line' d' result used (made (tpdu_size_of mid.conversation.size) (link_at mid) (message (message_at mid.reader) (place_at mid.reader)) a.answers.verdicts).mets a.answers.entries
+uses_message stands full lack did kept old mid new line line' d d' used result a going opens found same few some inbox size count last =
     let t = a.answers in
     let at = place_at mid.reader in
     let event : Event = message (message_at mid.reader) at in
@@ -460,13 +461,13 @@ pub record Ends (new : Session) (b used : List ℕ) (end : Outcome) : Type 0 whe
   pub cause : (k k' : Shown) (first : LinkState) (js : List Verdict) → (past first (b ++ used) js).standing ≡ closes (ended_by (torn_of Request (b ++ used)) ending)
       → unsent new ≡ [] → HasCause k k' first new (b ++ used) js end
 
-pub uses_ended : {D : Type 0} (stands : D → List Entry → Type 0) (full lack : D → Ask → Type 0) (old new : Session) (line : Shown) (d : D) (used : List ℕ) (found : Found) (end : Outcome)
+pub uses_ended : {D : Type 0} (stands : D → List Entry → Type 0) (full lack : D → Ask → Type 0) (did : D → Ask → Option (ℕ × Said) → D → Type 0) (kept : D → D → Type 0) (old new : Session) (line : Shown) (d : D) (used : List ℕ) (found : Found) (end : Outcome)
     → ((b : List ℕ) → FoundIn new.reader b used found → length b ≡ used_of old → Ends new b used end)
     → closed_with old ≡ None → opens_by new.reader ≡ Request → ((b : List ℕ) → HasRead old.reader b → HasFound new.reader b used found)
     → unread old ≡ used ++ unread new → used_of new ≡ used_of old + length used
     → unsent old ≡ [] → new.conversation ≡ old.conversation → entry_count new ≡ entry_count old → newest new ≡ newest old → closed_with new ≡ Some end
-    → IsByOctets end → Uses stands full lack old line d new line d (turn.Closed end) used [] []
-uses_ended stands full lack old new line d used found end ends going opens finds inbox counted sent same count last closed octets =
+    → IsByOctets end → Uses stands full lack did kept old line d new line d (turn.Closed end) used [] []
+uses_ended stands full lack did kept old new line d used found end ends going opens finds inbox counted sent same count last closed octets =
     let unsent_is : unsent new ≡ [] = ap sends same ∙ sent in
     let end_at : (first : LinkState) (b : List ℕ) (js : List Verdict) (w : List ℕ) → Stands first old b js w → Ends new b used end =
     λ first b js w h. ends b (found_in new.reader b used found opens (finds b h.read)) h.used in
@@ -497,7 +498,7 @@ uses_ended stands full lack old new line d used found end ends going opens finds
       count = omega (arith, count);
       newest = last;
       doer = λ es h. subst (stands d) (sym (append-nil es)) h;
-      trail = stays_same full d;
+      trail = goes_same full kept d;
       closed = closed;
       waits = closed_not_yet end;
       by_octets = λ o e. subst IsByOctets (same_closed end o e) octets;

@@ -1,9 +1,11 @@
 -- Laws of whole runs.
 use Rattle.std.proofs.Common.{inl, inr, ◌≡◌, ℕ, ◌+◌, ◌≤◌, List, [], ◌++◌, length, ap, sym, ◌∙◌, subst, append_assoc}
 use Rattle.std.proofs.Common.{append-nil, length-append, arith}
+use Rattle.std.specs.Prelude.{Option}
 use Rattle.std.specs.Io.KnownBytes.{prepend_known}
 use Rattle.s7_outer.specs.Shown.{Shown}
 use Rattle.s7_plant.specs.declared.request.Ask.{Ask}
+use Rattle.s7_plant.specs.Replies.{Said}
 use Rattle.s7_session.specs.declared.session.Session.{Session}
 use Rattle.s7_session.specs.declared.outcome.Outcome.{Outcome}
 use Rattle.s7_session.specs.declared.outcome.Outcome.TheVariants as outcome
@@ -127,9 +129,9 @@ finishes link link' first s used js written outcome.Memory h cause =
     record { owed = sent_same first s used js written h cause.1 u.same; end = ap (λ (p : Past). p.standing) u.same ∙ cause.0 }
 
 -- a fresh session that is served to its end
-pub link_run : {D : Type 0} (stands : D → List Entry → Type 0) (full lack : D → Ask → Type 0) (first : LinkState) (old new : Session) (k k' : Shown) (d d' : D) (o : Outcome)
-    → IsServed stands full lack old k d new k' d' o → IsFresh first old → IsLinkRun stands full lack first k d k' d' o (entry_count new) (newest new)
-link_run stands full lack first old new k k' d d' o served fresh =
+pub link_run : {D : Type 0} (stands : D → List Entry → Type 0) (full lack : D → Ask → Type 0) (did : D → Ask → Option (ℕ × Said) → D → Type 0) (kept : D → D → Type 0) (first : LinkState) (old new : Session) (k k' : Shown) (d d' : D) (o : Outcome)
+    → IsServed stands full lack did kept old k d new k' d' o → IsFresh first old → IsLinkRun stands full lack did kept first k d k' d' o (entry_count new) (newest new)
+link_run stands full lack did kept first old new k k' d d' o served fresh =
     let m = served.moves in
     let js = verdicts_of m.mets in
     let s : Stands first new m.used js m.written = m.stood first [] [] [] fresh.stands in

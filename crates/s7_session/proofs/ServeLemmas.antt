@@ -8,6 +8,7 @@ use Rattle.std.specs.Io.KnownBytes.{prepend_known, IsAtEnd}
 use Rattle.s7_outer.specs.Shown.{Shown}
 use Rattle.s7_outer.specs.Count.{Rose}
 use Rattle.s7_plant.specs.declared.request.Ask.{Ask}
+use Rattle.s7_plant.specs.Replies.{Said}
 use Rattle.s7_wire.specs.declared.found.Opening.TheVariants.{Request}
 use Rattle.s7_wire.specs.Reading.{torn_of}
 use Rattle.s7_wire.specs.Reads.{HasRead}
@@ -93,17 +94,17 @@ pub none_failed : (t is : Turn) (link link' : Shown) (before : ℕ) → t ≡ is
 none_failed t is link link' before e same from h = from (subst (λ x. Counts x link link') e h) ∙ same
 
 -- a turn that only received and sent
-pub turn_plain : {D : Type 0} (stands : D → List Entry → Type 0) (full lack : D → Ask → Type 0) (old new : Session) (link link' : Shown) (d : D) (written : List ℕ) (result : Turn)
+pub turn_plain : {D : Type 0} (stands : D → List Entry → Type 0) (full lack : D → Ask → Type 0) (did : D → Ask → Option (ℕ × Said) → D → Type 0) (kept : D → D → Type 0) (old new : Session) (link link' : Shown) (d : D) (written : List ℕ) (result : Turn)
     → Keeps old new → sends old.conversation ≡ written ++ sends new.conversation → old.inbox ≡ new.inbox
     → Moved link link' [] written → closed_with old ≡ None → closed_with new ≡ closed_by result
     → (result ≡ turn.Went → 0 < length written) → (result ≡ turn.NotYet → (written ≡ []) × Rose link.waits link'.waits × HasMetNotYet old link)
     → ((o : Outcome) → result ≡ turn.Closed o → (first : LinkState) (b : List ℕ) (js : List Verdict) (w : List ℕ) → Stands first old b js w → Stands first new b js (w ++ written) → HasCause link link' first new b js o)
     → (result ≡ turn.Closed outcome.ReadFault → IsIdle old) → (result ≡ turn.Closed outcome.WriteFault → 0 < length (unsent old))
     → Counts result link link'
-    → IsTurn stands full lack old link d new link' d result
+    → IsTurn stands full lack did kept old link d new link' d result
 unfolding moves_plain
-turn_plain stands full lack old new link link' d written result keeps outbox inbox moved live closed went not_yet cause reads writes counts = record {
-  moves = moves_plain stands full lack old new link link' d [] written keeps outbox (append-nil old.inbox ∙ inbox) (λ e. live) moved;
+turn_plain stands full lack did kept old new link link' d written result keeps outbox inbox moved live closed went not_yet cause reads writes counts = record {
+  moves = moves_plain stands full lack did kept old new link link' d [] written keeps outbox (append-nil old.inbox ∙ inbox) (λ e. live) moved;
   one = omega arith;
   went = λ e. omega (arith, went e);
   not_yet = λ e. (refl, refl, (not_yet e).0, (not_yet e).1, (not_yet e).2, sym (outbox ∙ ap (λ x. x ++ sends new.conversation) (not_yet e).0));
@@ -120,25 +121,25 @@ turn_plain stands full lack old new link link' d written result keeps outbox inb
 }
 
 -- a turn that moved nothing and closes
-pub turn_closing : {D : Type 0} (stands : D → List Entry → Type 0) (full lack : D → Ask → Type 0) (old new : Session) (link link' : Shown) (d : D) (o : Outcome) (result : Turn)
+pub turn_closing : {D : Type 0} (stands : D → List Entry → Type 0) (full lack : D → Ask → Type 0) (did : D → Ask → Option (ℕ × Said) → D → Type 0) (kept : D → D → Type 0) (old new : Session) (link link' : Shown) (d : D) (o : Outcome) (result : Turn)
     → Keeps old new → sends new.conversation ≡ sends old.conversation → new.inbox ≡ old.inbox
     → Moved link link' [] [] → closed_with old ≡ None → closed_with new ≡ Some o → result ≡ turn.Closed o
     → ((first : LinkState) (b : List ℕ) (js : List Verdict) (w : List ℕ) → Stands first old b js w → HasCause link link' first new b js o)
     → (o ≡ outcome.ReadFault → IsIdle old) → (o ≡ outcome.WriteFault → 0 < length (unsent old))
     → Counts (turn.Closed o) link link'
-    → IsTurn stands full lack old link d new link' d result
-turn_closing stands full lack old new link link' d o result keeps outbox inbox moved live closed is cause reads writes counts =
-    let P : Turn → Type 0 = λ t. IsTurn stands full lack old link d new link' d t in
-    subst P (sym is) (turn_plain stands full lack old new link link' d [] (turn.Closed o) keeps (sym outbox) (sym inbox)
+    → IsTurn stands full lack did kept old link d new link' d result
+turn_closing stands full lack did kept old new link link' d o result keeps outbox inbox moved live closed is cause reads writes counts =
+    let P : Turn → Type 0 = λ t. IsTurn stands full lack did kept old link d new link' d t in
+    subst P (sym is) (turn_plain stands full lack did kept old new link link' d [] (turn.Closed o) keeps (sym outbox) (sym inbox)
     moved live closed (λ e. absurd (closed_not_went o e)) (λ e. absurd (closed_not_yet o e))
     (λ o' e first b js w h n.
     let Q : Outcome → Type 0 = λ x. HasCause link link' first new b js x in
     subst Q (same_closed o o' e) (cause first b js w h))
     (λ e. reads (same_closed o outcome.ReadFault e)) (λ e. writes (same_closed o outcome.WriteFault e)) counts)
 
-pub moves_used : {D : Type 0} (stands : D → List Entry → Type 0) (full lack : D → Ask → Type 0) (old new : Session) (link link' : Shown) (d d' : D) (result : Turn) → Consumes stands full lack old link d new link' d' result
-    → Moves stands full lack old link d new link' d'
-moves_used stands full lack old new link link' d d' result k = record {
+pub moves_used : {D : Type 0} (stands : D → List Entry → Type 0) (full lack : D → Ask → Type 0) (did : D → Ask → Option (ℕ × Said) → D → Type 0) (kept : D → D → Type 0) (old new : Session) (link link' : Shown) (d d' : D) (result : Turn) → Consumes stands full lack did kept old link d new link' d' result
+    → Moves stands full lack did kept old link d new link' d'
+moves_used stands full lack did kept old new link link' d d' result k = record {
   received = [];
   used = k.used;
   written = [];
@@ -170,11 +171,11 @@ moves_used stands full lack old new link link' d d' result k = record {
 }
 
 -- a turn that used octets that were there
-pub turn_used : {D : Type 0} (stands : D → List Entry → Type 0) (full lack : D → Ask → Type 0) (old new : Session) (link link' : Shown) (d d' : D) (result : Turn) → closed_with old ≡ None → unsent old ≡ []
-    → Consumes stands full lack old link d new link' d' result → IsTurn stands full lack old link d new link' d' result
+pub turn_used : {D : Type 0} (stands : D → List Entry → Type 0) (full lack : D → Ask → Type 0) (did : D → Ask → Option (ℕ × Said) → D → Type 0) (kept : D → D → Type 0) (old new : Session) (link link' : Shown) (d d' : D) (result : Turn) → closed_with old ≡ None → unsent old ≡ []
+    → Consumes stands full lack did kept old link d new link' d' result → IsTurn stands full lack did kept old link d new link' d' result
 unfolding moves_used
-turn_used stands full lack old new link link' d d' result live sent k = record {
-  moves = moves_used stands full lack old new link link' d d' result k;
+turn_used stands full lack did kept old new link link' d d' result live sent k = record {
+  moves = moves_used stands full lack did kept old new link link' d d' result k;
   one = k.one;
   went = λ e. omega (arith, k.some e);
   not_yet = λ e. absurd (k.waits e);
@@ -188,16 +189,16 @@ turn_used stands full lack old new link link' d d' result live sent k = record {
 }
 
 -- a turn that received octets and used some of them
-pub turn_both : {D : Type 0} (stands : D → List Entry → Type 0) (full lack : D → Ask → Type 0) (old mid new : Session) (link link' link'' : Shown) (d d' : D) (result : Turn)
+pub turn_both : {D : Type 0} (stands : D → List Entry → Type 0) (full lack : D → Ask → Type 0) (did : D → Ask → Option (ℕ × Said) → D → Type 0) (kept : D → D → Type 0) (old mid new : Session) (link link' link'' : Shown) (d d' : D) (result : Turn)
     → Keeps old mid → sends mid.conversation ≡ sends old.conversation → closed_with mid ≡ closed_with old
-    → Moved link link' mid.inbox [] → closed_with old ≡ None → IsIdle old → Consumes stands full lack mid link' d new link'' d' result
-    → link'.faults ≡ link.faults → link'.waits ≡ link.waits → IsTurn stands full lack old link d new link'' d' result
+    → Moved link link' mid.inbox [] → closed_with old ≡ None → IsIdle old → Consumes stands full lack did kept mid link' d new link'' d' result
+    → link'.faults ≡ link.faults → link'.waits ≡ link.waits → IsTurn stands full lack did kept old link d new link'' d' result
 unfolding moves_both moves_plain moves_used
-turn_both stands full lack old mid new link link' link'' d d' result keeps outbox closed moved live idle k faults waits =
+turn_both stands full lack did kept old mid new link link' link'' d d' result keeps outbox closed moved live idle k faults waits =
     let same : old.inbox ++ mid.inbox ≡ mid.inbox = ap (λ x. x ++ mid.inbox) idle.1 in
-    let first_moves = moves_plain stands full lack old mid link link' d mid.inbox [] keeps (sym outbox) same (λ e. live) moved in
+    let first_moves = moves_plain stands full lack did kept old mid link link' d mid.inbox [] keeps (sym outbox) same (λ e. live) moved in
     record {
-      moves = moves_both stands full lack old mid new link link' link'' d d d' first_moves (moves_used stands full lack mid new link' link'' d d' result k);
+      moves = moves_both stands full lack did kept old mid new link link' link'' d d d' first_moves (moves_used stands full lack did kept mid new link' link'' d d' result k);
       one = k.one;
       went = λ e. omega (arith, k.some e);
       not_yet = λ e. absurd (k.waits e);
@@ -213,10 +214,10 @@ turn_both stands full lack old mid new link link' link'' d d' result keeps outbo
     }
 
 -- a session that is closed stays so
-pub turn_closed : {D : Type 0} (stands : D → List Entry → Type 0) (full lack : D → Ask → Type 0) (s : Session) (link : Shown) (d : D) (o : Outcome) → closed_with s ≡ Some o → IsTurn stands full lack s link d s link d (turn.Closed o)
+pub turn_closed : {D : Type 0} (stands : D → List Entry → Type 0) (full lack : D → Ask → Type 0) (did : D → Ask → Option (ℕ × Said) → D → Type 0) (kept : D → D → Type 0) (s : Session) (link : Shown) (d : D) (o : Outcome) → closed_with s ≡ Some o → IsTurn stands full lack did kept s link d s link d (turn.Closed o)
 unfolding moves_none moves_plain
-turn_closed stands full lack s link d o is = record {
-  moves = moves_none stands full lack s link d;
+turn_closed stands full lack did kept s link d o is = record {
+  moves = moves_none stands full lack did kept s link d;
   one = omega arith;
   went = λ e. absurd (closed_not_went o e);
   not_yet = λ e. absurd (closed_not_yet o e);
@@ -260,13 +261,13 @@ cause_end old s link link' o live is sent read end ended first b js w h =
     (ap (λ st. end_by st (torn_of Request b)) (h.lives live)) sent read end ended)
 
 -- turns, and then one that closes
-pub served_after : {D : Type 0} (stands : D → List Entry → Type 0) (full lack : D → Ask → Type 0) (s0 s1 s2 : Session) (k0 k1 k2 : Shown) (d0 d1 d2 : D) (o : Outcome)
-    → Moves stands full lack s0 k0 d0 s1 k1 d1 → (closed_with s0 ≡ None → closed_with s1 ≡ None) → (closed_with s0 ≡ None → k1.faults ≡ k0.faults)
-    → IsTurn stands full lack s1 k1 d1 s2 k2 d2 (turn.Closed o)
-    → IsServed stands full lack s0 k0 d0 s2 k2 d2 o
+pub served_after : {D : Type 0} (stands : D → List Entry → Type 0) (full lack : D → Ask → Type 0) (did : D → Ask → Option (ℕ × Said) → D → Type 0) (kept : D → D → Type 0) (s0 s1 s2 : Session) (k0 k1 k2 : Shown) (d0 d1 d2 : D) (o : Outcome)
+    → Moves stands full lack did kept s0 k0 d0 s1 k1 d1 → (closed_with s0 ≡ None → closed_with s1 ≡ None) → (closed_with s0 ≡ None → k1.faults ≡ k0.faults)
+    → IsTurn stands full lack did kept s1 k1 d1 s2 k2 d2 (turn.Closed o)
+    → IsServed stands full lack did kept s0 k0 d0 s2 k2 d2 o
 unfolding moves_both
-served_after stands full lack s0 s1 s2 k0 k1 k2 d0 d1 d2 o m live none t = record {
-  moves = moves_both stands full lack s0 s1 s2 k0 k1 k2 d0 d1 d2 m t.moves;
+served_after stands full lack did kept s0 s1 s2 k0 k1 k2 d0 d1 d2 o m live none t = record {
+  moves = moves_both stands full lack did kept s0 s1 s2 k0 k1 k2 d0 d1 d2 m t.moves;
   closed = t.closed;
   fails = λ l. fails_later o k0.faults k1.faults k2.faults (none l) (t.counts (live l)).0;
   cause = λ l first b js w h.

@@ -7,6 +7,7 @@ use Rattle.std.specs.Io.KnownBytes.{prepend_known, append_known}
 use Rattle.s7_outer.specs.Shown.{Shown}
 use Rattle.s7_outer.specs.Count.{RoseExactly}
 use Rattle.s7_plant.specs.declared.request.Ask.{Ask}
+use Rattle.s7_plant.specs.Replies.{Said}
 use Rattle.s7_wire.specs.Reads.{HasRead}
 use Rattle.s7_session.specs.declared.session.Session.{Session}
 use Rattle.s7_session.specs.declared.outcome.Outcome.{Outcome}
@@ -19,7 +20,7 @@ use Rattle.s7_session.specs.Stands.{Stands, AllButOne, Moves, HasCause, closed_w
 use Rattle.s7_session.specs.Telegrams.{Met, verdicts_of, entered_of, looks_in, NoneTimed, AllAt, clock_failures, last_number}
 use Rattle.s7_session.specs.Verdict.{Verdict, Entered, Full, ClockFailed, NoMemory}
 use Rattle.s7_session.proofs.ConsumeLemmas.{entered-append}
-use Rattle.s7_session.proofs.DoerLemmas.{stays_same, trail-append}
+use Rattle.s7_session.proofs.DoerLemmas.{goes_same, trail-append}
 
 pub prepend_twice : (a b : List ℕ) (o : Option (List ℕ)) → prepend_known a (prepend_known b o) ≡ prepend_known (a ++ b) o
 prepend_twice a b None = refl
@@ -197,12 +198,12 @@ stood_plain first old new written k outbox closed b js w h = record {
 }
 
 -- a session that only received and sent
-unfoldable pub moves_plain : {D : Type 0} (stands : D → List Entry → Type 0) (full lack : D → Ask → Type 0) (old new : Session) (link link' : Shown) (d : D) (received written : List ℕ)
+unfoldable pub moves_plain : {D : Type 0} (stands : D → List Entry → Type 0) (full lack : D → Ask → Type 0) (did : D → Ask → Option (ℕ × Said) → D → Type 0) (kept : D → D → Type 0) (old new : Session) (link link' : Shown) (d : D) (received written : List ℕ)
     → Keeps old new → sends old.conversation ≡ written ++ sends new.conversation → old.inbox ++ received ≡ new.inbox
     → (closed_with new ≡ None → closed_with old ≡ None)
     → Moved link link' received written
-    → Moves stands full lack old link d new link' d
-moves_plain stands full lack old new link link' d received written k outbox inbox closed moved = record {
+    → Moves stands full lack did kept old link d new link' d
+moves_plain stands full lack did kept old new link link' d received written k outbox inbox closed moved = record {
   received = received;
   used = [];
   written = written;
@@ -221,7 +222,7 @@ moves_plain stands full lack old new link link' d received written k outbox inbo
   count = omega (arith, k.count);
   newest = k.newest;
   doer = λ es h. subst (stands d) (sym (append-nil es)) h;
-  trail = stays_same full d;
+  trail = goes_same full kept d;
   clock = (omega (arith, moved.clock_faults), omega (arith, moved.clock_faults));
   unasked = λ h. moved.clock_faults;
   looks = (omega (arith, moved.looks), omega (arith, moved.looks));
@@ -232,9 +233,9 @@ moves_plain stands full lack old new link link' d received written k outbox inbo
 }
 
 -- calls one after another
-unfoldable pub moves_both : {D : Type 0} (stands : D → List Entry → Type 0) (full lack : D → Ask → Type 0) (s0 s1 s2 : Session) (k0 k1 k2 : Shown) (d0 d1 d2 : D)
-    → Moves stands full lack s0 k0 d0 s1 k1 d1 → Moves stands full lack s1 k1 d1 s2 k2 d2 → Moves stands full lack s0 k0 d0 s2 k2 d2
-moves_both stands full lack s0 s1 s2 k0 k1 k2 d0 d1 d2 m n =
+unfoldable pub moves_both : {D : Type 0} (stands : D → List Entry → Type 0) (full lack : D → Ask → Type 0) (did : D → Ask → Option (ℕ × Said) → D → Type 0) (kept : D → D → Type 0) (s0 s1 s2 : Session) (k0 k1 k2 : Shown) (d0 d1 d2 : D)
+    → Moves stands full lack did kept s0 k0 d0 s1 k1 d1 → Moves stands full lack did kept s1 k1 d1 s2 k2 d2 → Moves stands full lack did kept s0 k0 d0 s2 k2 d2
+moves_both stands full lack did kept s0 s1 s2 k0 k1 k2 d0 d1 d2 m n =
     let vs = verdicts-append m.mets n.mets in
     record {
       received = m.received ++ n.received;
@@ -272,7 +273,7 @@ moves_both stands full lack s0 s1 s2 k0 k1 k2 d0 d1 d2 m n =
       count = omega (arith, m.count, n.count, length-append m.entries n.entries);
       newest = n.newest ∙ (ap (λ x. last_number x n.entries) m.newest ∙ sym (last_number-append s0.newest m.entries n.entries));
       doer = λ es h. subst (stands d2) (append_assoc es m.entries n.entries) (n.doer (es ++ m.entries) (m.doer es h));
-      trail = trail-append full lack d0 d1 d2 m.mets n.mets m.trail n.trail;
+      trail = trail-append full lack did kept d0 d1 d2 m.mets n.mets m.trail n.trail;
       clock =
           subst (λ (x : ℕ). RoseExactly x k0.clock_faults k2.clock_faults) (sym (ap clock_failures vs ∙ clock_failures-append (verdicts_of m.mets) (verdicts_of n.mets)))
           (rose_both (clock_failures (verdicts_of m.mets)) (clock_failures (verdicts_of n.mets)) k0.clock_faults k1.clock_faults k2.clock_faults m.clock n.clock);
@@ -289,9 +290,9 @@ moves_both stands full lack s0 s1 s2 k0 k1 k2 d0 d1 d2 m n =
 pub keeps_same : (s : Session) → Keeps s s
 keeps_same s = record { reader = refl; used = refl; count = refl; newest = refl; held = refl; size = refl }
 
-unfoldable pub moves_none : {D : Type 0} (stands : D → List Entry → Type 0) (full lack : D → Ask → Type 0) (s : Session) (k : Shown) (d : D) → Moves stands full lack s k d s k d
-moves_none stands full lack s k d =
-    moves_plain stands full lack s s k k d [] [] (keeps_same s) refl (append-nil s.inbox) (λ h. h) (moved_nothing k)
+unfoldable pub moves_none : {D : Type 0} (stands : D → List Entry → Type 0) (full lack : D → Ask → Type 0) (did : D → Ask → Option (ℕ × Said) → D → Type 0) (kept : D → D → Type 0) (s : Session) (k : Shown) (d : D) → Moves stands full lack did kept s k d s k d
+moves_none stands full lack did kept s k d =
+    moves_plain stands full lack did kept s s k k d [] [] (keeps_same s) refl (append-nil s.inbox) (λ h. h) (moved_nothing k)
 
 -- a cause in a later part is one in the whole
 pub cause_earlier : (k0 k1 k2 : Shown) (first : LinkState) (s : Session) (b : List ℕ) (js : List Verdict) (o : Outcome) → k0.faults ≤ k1.faults → HasCause k1 k2 first s b js o → HasCause k0 k2 first s b js o

@@ -3,6 +3,7 @@ use Rattle.std.specs.Prelude.{◌≡◌, ℕ, ◌≤◌, List, [], ◌++◌, len
 use Rattle.s7_outer.specs.Count.{RoseExactly}
 use Rattle.s7_outer.specs.Shown.{Shown}
 use Rattle.s7_plant.specs.declared.request.Ask.{Ask}
+use Rattle.s7_plant.specs.Replies.{Said}
 use Rattle.s7_session.specs.declared.handled.Handled.{Handled}
 use Rattle.s7_session.specs.declared.handled.Handled.TheVariants as handled
 use Rattle.s7_session.specs.declared.outcome.Outcome.TheVariants.{NotS7}
@@ -37,6 +38,7 @@ entries_by handled.NotS7 = 0
 -- What handling one message does: the expected output was queued, the doer entered what was asked, and of the line at
 -- most the clock was used.
 pub record Answers {D : Type 0} (stands : D → List Entry → Type 0) (is_full may_lack : D → Ask → Type 0)
+    (did : D → Ask → Option (ℕ × Said) → D → Type 0) (keeps : D → D → Type 0)
     (line : Shown) (d : D) (line' : Shown) (d' : D)
     (made : List Verdict → Made) (at : ℕ) (size : Option ℕ) (link : LinkState) (sent : List ℕ) (result : Handled)
     : Type 0 where
@@ -56,7 +58,7 @@ pub record Answers {D : Type 0} (stands : D → List Entry → Type 0) (is_full 
   pub count : length entries ≡ entries_by result
   pub last : (before : Option ℕ) → last_number before entries ≡ last_after before result
   pub doer : (es : List Entry) → stands d es → stands d' (es ++ entries)
-  pub trail : Trail is_full may_lack d (made verdicts).mets d'
+  pub trail : Trail is_full may_lack did keeps d (made verdicts).mets d'
   -- nothing of the line changed but two counters: of its clock's failures, by as many as the verdict says, and of its
   -- clock's reads, by one if the telegram needs the time
   pub line_is : line' ≡ record line { clock_faults = line'.clock_faults; looks = line'.looks }

@@ -14,11 +14,10 @@ use Rattle.s7_session.specs.Telegrams.{MemoryIsLast, AreCaused, AllAt, last_numb
 
 -- ---- for a link
 
--- A history that began at a state and has room for `limit` calls is legal for a link. The link's telegrams asked this
--- and have these verdicts; its clock showed this moment; `entries` of its telegrams were entered, the newest under this
--- number.
-pub record IsLegalFor (opening : State) (limit : ℕ) (history : History) (link : ℕ) (mets : List Met)
-    (moment : Option ℕ) (entries : ℕ) (newest : Option ℕ)
+-- WHAT A HISTORY CONTAINS OF A LINK. The history began at a state and has room for `limit` calls. The link's telegrams
+-- asked this and have these verdicts, and its clock showed this moment.
+pub record IsCalledFor (opening : State) (limit : ℕ) (history : History) (link : ℕ) (mets : List Met)
+    (moment : Option ℕ)
     : Type 0 where
   -- the link's own calls are the requests that were entered, in order and each once, each answered by the state at its
   -- point in the history
@@ -26,14 +25,29 @@ pub record IsLegalFor (opening : State) (limit : ℕ) (history : History) (link 
   -- a telegram was refused for lack of room only if the history is full, and none was entered afterwards
   pub full : AnyFull (verdicts_of mets) → length history ≡ limit
   pub full_stays : FullStays (verdicts_of mets)
+  -- a request that needs a moment has the one that the clock showed
+  pub moments : AllAt moment (own opening link history)
+
+-- WHAT IS COUNTED FOR A LINK: `entries` of its telegrams were entered in the history, the newest under this number. Each
+-- failure of an allocation or of the clock has its cause.
+pub record IsCounted (opening : State) (history : History) (link : ℕ) (mets : List Met)
+    (entries : ℕ) (newest : Option ℕ)
+    : Type 0 where
   -- an allocation failed for the last telegram at most, and only if octets of it are copied; the clock failed only for
   -- a telegram that needs a moment
   pub memory : MemoryIsLast (verdicts_of mets)
   pub causes : AreCaused mets
-  -- a request that needs a moment has the one that the clock showed
-  pub moments : AllAt moment (own opening link history)
   pub count : entries ≡ length (own opening link history)
   pub last : newest ≡ last_number None (own opening link history)
+
+-- A history that began at a state and has room for `limit` calls is legal for a link. The link's telegrams asked this
+-- and have these verdicts; its clock showed this moment; `entries` of its telegrams were entered, the newest under this
+-- number.
+pub record IsLegalFor (opening : State) (limit : ℕ) (history : History) (link : ℕ) (mets : List Met)
+    (moment : Option ℕ) (entries : ℕ) (newest : Option ℕ)
+    : Type 0 where
+  pub called : IsCalledFor opening limit history link mets moment
+  pub counted : IsCounted opening history link mets entries newest
 
 -- ---- for a book
 

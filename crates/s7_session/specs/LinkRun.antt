@@ -5,6 +5,7 @@ use Rattle.std.specs.Io.KnownBytes.{prepend_known, append_known, IsAtEnd}
 use Rattle.s7_outer.specs.Shown.{Shown}
 use Rattle.s7_outer.specs.Count.{Rose, RoseExactly}
 use Rattle.s7_plant.specs.declared.request.Ask.{Ask}
+use Rattle.s7_plant.specs.Replies.{Said}
 use Rattle.s7_session.specs.declared.session.Session.{Session}
 use Rattle.s7_session.specs.declared.outcome.Outcome.{Outcome}
 use Rattle.s7_session.specs.declared.outcome.Outcome.TheVariants as outcome
@@ -76,6 +77,7 @@ IsEnd link link' first b js outcome.Memory = (past first b js).standing ≡ stop
 
 -- A WHOLE RUN of a link that begins in this state
 pub record IsLinkRun {D : Type 0} (stands : D → List Entry → Type 0) (is_full may_lack : D → Ask → Type 0)
+    (did : D → Ask → Option (ℕ × Said) → D → Type 0) (keeps : D → D → Type 0)
     (first : LinkState) (link : Shown) (d : D) (link' : Shown) (d' : D)
     (result : Outcome) (accepted : ℕ) (last : Option ℕ)
     : Type 0 where
@@ -100,7 +102,7 @@ pub record IsLinkRun {D : Type 0} (stands : D → List Entry → Type 0) (is_ful
   -- the doer entered the requests that have such a verdict, in order and with these replies, and nothing else
   pub entered : map answered entries ≡ entered_of mets
   pub doer : (es : List Entry) → stands d es → stands d' (es ++ entries)
-  pub trail : Trail is_full may_lack d mets d'
+  pub trail : Trail is_full may_lack did keeps d mets d'
   pub count : accepted ≡ length entries
   pub last_is : last ≡ last_number None entries
   pub clock : RoseExactly (clock_failures (verdicts_of mets)) link.clock_faults link'.clock_faults

@@ -5,6 +5,7 @@ use Rattle.std.specs.Io.KnownBytes.{prepend_known, append_known, IsAtEnd}
 use Rattle.s7_outer.specs.Shown.{Shown}
 use Rattle.s7_outer.specs.Count.{Rose, RoseExactly}
 use Rattle.s7_plant.specs.declared.request.Ask.{Ask}
+use Rattle.s7_plant.specs.Replies.{Said}
 use Rattle.s7_wire.specs.Reading.{message}
 use Rattle.s7_wire.specs.Reads.{HasRead, message_at, place_at}
 use Rattle.s7_session.specs.declared.handled.Handled.{Handled}
@@ -94,6 +95,7 @@ pub record Stands (first : LinkState) (s : Session) (b : List ℕ) (js : List Ve
 
 -- What any number of calls did to a session, its link and its doer.
 pub record Moves {D : Type 0} (stands : D → List Entry → Type 0) (is_full may_lack : D → Ask → Type 0)
+    (did : D → Ask → Option (ℕ × Said) → D → Type 0) (keeps : D → D → Type 0)
     (old : Session) (link : Shown) (d : D) (new : Session) (link' : Shown) (d' : D)
     : Type 0 where
   -- the octets that came, those that were used and those that were written
@@ -121,7 +123,7 @@ pub record Moves {D : Type 0} (stands : D → List Entry → Type 0) (is_full ma
   pub count : entry_count new ≡ entry_count old + length entries
   pub newest : newest new ≡ last_number (newest old) entries
   pub doer : (es : List Entry) → stands d es → stands d' (es ++ entries)
-  pub trail : Trail is_full may_lack d mets d'
+  pub trail : Trail is_full may_lack did keeps d mets d'
   -- the clock failed as often as the verdicts say, showed one moment, and was read once for each telegram that needs
   -- the moment, and at no other time
   pub clock : RoseExactly (clock_failures (verdicts_of mets)) link.clock_faults link'.clock_faults
@@ -189,9 +191,10 @@ pub record HasMetNotYet (old : Session) (link : Shown) : Type 0 where
   pub empty : (space : ℕ) → link.space ≡ Some space → unsent old ≡ [] → link.left ≡ Some []
 
 pub record IsTurn {D : Type 0} (stands : D → List Entry → Type 0) (is_full may_lack : D → Ask → Type 0)
+    (did : D → Ask → Option (ℕ × Said) → D → Type 0) (keeps : D → D → Type 0)
     (old : Session) (link : Shown) (d : D) (new : Session) (link' : Shown) (d' : D) (result : Turn)
     : Type 0 where
-  pub moves : Moves stands is_full may_lack old link d new link' d'
+  pub moves : Moves stands is_full may_lack did keeps old link d new link' d'
   -- at most one telegram has a verdict in a turn
   pub one : length moves.mets ≤ 1
   pub went : result ≡ turn.Went → 0 < length moves.received + length moves.used + length moves.written
@@ -213,9 +216,10 @@ pub record IsTurn {D : Type 0} (stands : D → List Entry → Type 0) (is_full m
 
 -- what turns do, up to the one that closes the link
 pub record IsServed {D : Type 0} (stands : D → List Entry → Type 0) (is_full may_lack : D → Ask → Type 0)
+    (did : D → Ask → Option (ℕ × Said) → D → Type 0) (keeps : D → D → Type 0)
     (old : Session) (link : Shown) (d : D) (new : Session) (link' : Shown) (d' : D) (result : Outcome)
     : Type 0 where
-  pub moves : Moves stands is_full may_lack old link d new link' d'
+  pub moves : Moves stands is_full may_lack did keeps old link d new link' d'
   pub closed : closed_with new ≡ Some result
   pub fails : closed_with old ≡ None → FailsBy result link.faults link'.faults
   pub cause : closed_with old ≡ None
@@ -225,10 +229,11 @@ pub record IsServed {D : Type 0} (stands : D → List Entry → Type 0) (is_full
 -- What a session does with the complete message of its reader: it answers it, and closes if that ends the link. Nothing
 -- else of the session changes.
 pub record Handles {D : Type 0} (stands : D → List Entry → Type 0) (is_full may_lack : D → Ask → Type 0)
+    (did : D → Ask → Option (ℕ × Said) → D → Type 0) (keeps : D → D → Type 0)
     (old : Session) (link : Shown) (d : D) (new : Session) (link' : Shown) (d' : D) (result : Turn)
     : Type 0 where
   pub handled : Handled
-  pub answers : Answers stands is_full may_lack link d link' d'
+  pub answers : Answers stands is_full may_lack did keeps link d link' d'
       (made (tpdu_size_of old.conversation.size) (link_at old) (message (message_at old.reader) (place_at old.reader)))
       (place_at old.reader)
       (tpdu_size_of new.conversation.size) (link_at new) (unsent new) handled
@@ -242,6 +247,7 @@ pub record Handles {D : Type 0} (stands : D → List Entry → Type 0) (is_full 
 
 -- what one turn does with octets that were read
 pub record Consumes {D : Type 0} (stands : D → List Entry → Type 0) (is_full may_lack : D → Ask → Type 0)
+    (did : D → Ask → Option (ℕ × Said) → D → Type 0) (keeps : D → D → Type 0)
     (old : Session) (link : Shown) (d : D) (new : Session) (link' : Shown) (d' : D) (result : Turn)
     : Type 0 where
   pub used : List ℕ
@@ -258,7 +264,7 @@ pub record Consumes {D : Type 0} (stands : D → List Entry → Type 0) (is_full
   pub count : entry_count new ≡ entry_count old + length entries
   pub newest : newest new ≡ last_number (newest old) entries
   pub doer : (es : List Entry) → stands d es → stands d' (es ++ entries)
-  pub trail : Trail is_full may_lack d mets d'
+  pub trail : Trail is_full may_lack did keeps d mets d'
   pub closed : closed_with new ≡ closed_by result
   pub waits : result ≡ turn.NotYet → ⊥
   pub by_octets : (o : Outcome) → result ≡ turn.Closed o → (o ≢ outcome.ReadFault) × (o ≢ outcome.WriteFault)

@@ -109,7 +109,7 @@ impl Conversation {
         doer: &mut D,
     ) -> Handled
         requires sent { sends self.old ≡ [] }
-        ensures answers { (at : ℕ) → Answers D.stands D.is_full D.may_lack
+        ensures answers { (at : ℕ) → Answers D.stands D.is_full D.may_lack D.did D.keeps
             (L.shows line.old) doer.old (L.shows line.new) doer.new
             (made (tpdu_size_of self.old.size) (link_of self.old.held) (message octets.now at)) at
             (tpdu_size_of self.new.size) (link_of self.new.held) (sends self.new) result }
@@ -141,7 +141,7 @@ impl Conversation {
         requires size { self.old.size ≡ Some size }
         requires sent { sends self.old ≡ [] }
         requires room { self.old.sender.outbox.room ≡ most_waiting }
-        ensures answers { (at : ℕ) → Answers D.stands D.is_full D.may_lack
+        ensures answers { (at : ℕ) → Answers D.stands D.is_full D.may_lack D.did D.keeps
             (L.shows line.old) doer.old (L.shows line.new) doer.new
             (λ verdicts. by_judgement size.octets (link_of self.old.held) sequence verdicts
             (judgement_of (link_of self.old.held) sequence judgement.entry)) at
@@ -241,7 +241,7 @@ impl Conversation {
         requires fits { (said : Said) → Fits request said → HasAtMost most_pdu said }
         requires sent { sends self.old ≡ [] }
         requires room { self.old.sender.outbox.room ≡ most_waiting }
-        ensures answers { (line : Shown) (at : ℕ) → Answers D.stands D.is_full D.may_lack
+        ensures answers { (line : Shown) (at : ℕ) → Answers D.stands D.is_full D.may_lack D.did D.keeps
             line doer.old line doer.new
             (asks size.octets (link_of self.old.held) sequence
             (plainly (link_of self.old.held) sequence (kept_request request))) at
@@ -283,7 +283,7 @@ impl Conversation {
         requires most { pdu ≤ most_pdu }
         requires sent { sends self.old ≡ [] }
         requires room { self.old.sender.outbox.room ≡ most_waiting }
-        ensures answers { (at : ℕ) → Answers D.stands D.is_full D.may_lack
+        ensures answers { (at : ℕ) → Answers D.stands D.is_full D.may_lack D.did D.keeps
             (L.shows line.old) doer.old (L.shows line.new) doer.new
             (asks size.octets (link_of self.old.held) sequence
             (queries (link_of self.old.held) pdu sequence query)) at

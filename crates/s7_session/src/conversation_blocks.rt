@@ -70,7 +70,7 @@ impl Conversation {
     ) -> Handled
         requires sent { sends self.old ≡ [] }
         requires room { self.old.sender.outbox.room ≡ most_waiting }
-        ensures answers { (line : Shown) (at : ℕ) → Answers D.stands D.is_full D.may_lack
+        ensures answers { (line : Shown) (at : ℕ) → Answers D.stands D.is_full D.may_lack D.did D.keeps
             line doer.old line doer.new
             (asks size.octets (link_of self.old.held) sequence
             (by_upload (link_of self.old.held) sequence name)) at
@@ -197,7 +197,7 @@ impl Conversation {
     ) -> Handled
         requires sent { sends self.old ≡ [] }
         requires room { self.old.sender.outbox.room ≡ most_waiting }
-        ensures answers { (line : Shown) (at : ℕ) → Answers D.stands D.is_full D.may_lack
+        ensures answers { (line : Shown) (at : ℕ) → Answers D.stands D.is_full D.may_lack D.did D.keeps
             line doer.old line doer.new
             (λ verdicts. by_judgement size.octets (link_of self.old.held) sequence verdicts
             (insert (link_of self.old.held) sequence name.kind name.number

@@ -1,8 +1,8 @@
 //! Who carries out what a link's telegrams ask.
-ghost use Rattle.std.specs.Prelude.{◌≡◌, List, [], ◌∷◌, ◌++◌, Err, IfOk, OnOk, OnErr, IsErr};
+ghost use Rattle.std.specs.Prelude.{◌≡◌, ℕ, List, [], ◌∷◌, ◌++◌, Option, None, Some, Err, IfOk, OnOk, OnErr, IsErr};
 ghost use Rattle.s7_plant.specs.declared.request.Ask.{Ask};
 ghost use Rattle.s7_plant.specs.Requests.{CanBeDone, Fits, kept};
-ghost use Rattle.s7_plant.specs.Replies.{IsReadyReply, said_of};
+ghost use Rattle.s7_plant.specs.Replies.{Said, IsReadyReply, said_of};
 ghost use Rattle.s7_session.specs.Doers.{StaysFull};
 ghost use Rattle.s7_session.specs.Entry.{Entry};
 
@@ -32,6 +32,10 @@ pub trait Doer {
     /// What no call changes, for instance a limit or an opening state.
     ghost keeps: { Self → Self → Type 0 };
 
+    /// What the doer does with a request, as a history keeps it: it enters the request under a number with a reply, or
+    /// refuses it because it is full (`None`). A doer of more than one history says here what each of them gained.
+    ghost did: { Self → Ask → Option (ℕ × Said) → Self → Type 0 } = { λ _ _ _ _. Unit {0} };
+
     /// Carries out `ask`, appends it to the history and returns the number of its entry; `reply` then holds the answer.
     /// On failure the doer's entries and `reply` are unchanged and `ask` is handed back: in `Full` if there is no room
     /// for it, in `Memory` if an allocation failed. A doer that was full for `ask` before the call always fails.
@@ -58,7 +62,13 @@ pub trait Doer {
             → (back ≡ ask) × may_lack self.old (kept ask) }
         ensures was_full { is_full self.old (kept ask) → IsErr result }
         ensures stays_full { StaysFull is_full self.old self.new }
-        ensures kept { keeps self.old self.new };
+        ensures kept { keeps self.old self.new }
+
+        // What it did with a request that it entered, and with one that it refused because it is full.
+        ensures entered { IfOk result (λ number.
+            did self.old (kept ask) (Some (number, said_of reply.new)) self.new) }
+        ensures refused { (back : Ask) → result ≡ Err (NotDone.Full back)
+            → did self.old (kept ask) None self.new };
 
     ghost keeps_same: { (d : Self) → keeps d d };
 

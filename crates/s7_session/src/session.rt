@@ -100,11 +100,12 @@ impl Session {
         line: &mut L,
         doer: &mut D,
     ) -> Outcome
-        ensures served { IsServed D.stands D.is_full D.may_lack
+        ensures served { IsServed D.stands D.is_full D.may_lack D.did D.keeps
             self.old (L.shows line.old) doer.old self.new (L.shows line.new) doer.new result }
 
         // A fresh session serves a link from its beginning.
-        ensures run { (first : LinkState) → IsFresh first self.old → IsLinkRun D.stands D.is_full D.may_lack first
+        ensures run { (first : LinkState) → IsFresh first self.old
+            → IsLinkRun D.stands D.is_full D.may_lack D.did D.keeps first
             (L.shows line.old) doer.old (L.shows line.new) doer.new result (entry_count self.new) (newest self.new) }
         ensures number { number_of self.new ≡ number_of self.old }
         ensures kept { D.keeps doer.old doer.new }
@@ -134,7 +135,7 @@ impl Session {
         line: &mut L,
         doer: &mut D,
     ) -> Turn
-        ensures turn { IsTurn D.stands D.is_full D.may_lack
+        ensures turn { IsTurn D.stands D.is_full D.may_lack D.did D.keeps
             self.old (L.shows line.old) doer.old self.new (L.shows line.new) doer.new result }
         ensures number { number_of self.new ≡ number_of self.old }
         ensures kept { D.keeps doer.old doer.new }
@@ -180,7 +181,7 @@ impl Session {
         requires going { closed_with self.old ≡ None }
         requires sent { unsent self.old ≡ [] }
         requires read { 0 < length (unread self.old) }
-        ensures consumes { Consumes D.stands D.is_full D.may_lack
+        ensures consumes { Consumes D.stands D.is_full D.may_lack D.did D.keeps
             self.old (L.shows line.old) doer.old self.new (L.shows line.new) doer.new result }
         ensures number { number_of self.new ≡ number_of self.old }
         ensures kept { D.keeps doer.old doer.new }
@@ -217,7 +218,7 @@ impl Session {
         requires sent { unsent self.old ≡ [] }
         requires whole { HasMessage self.old.reader }
         requires some { entry_count self.old < used_of self.old }
-        ensures handles { Handles D.stands D.is_full D.may_lack
+        ensures handles { Handles D.stands D.is_full D.may_lack D.did D.keeps
             self.old (L.shows line.old) doer.old self.new (L.shows line.new) doer.new result }
         ensures number { number_of self.new ≡ number_of self.old }
         ensures kept { D.keeps doer.old doer.new }

@@ -14,7 +14,7 @@ returns-clause-served g c =
     let kept = c.serve.ensures.kept in
     let last = c.seat-1.given.1 (sym kept.1) in
     λ first fresh.
-    rw last (served_link _ _ _ s limit first (seen new) (caller seat) _ _ _ _ c.serve.result _ _
+    rw last (served_link _ _ _ _ _ s limit first (seen new) (caller seat) _ _ _ _ c.serve.result _ _
     (c.serve.ensures.run first fresh)
     (own_of_none s (caller seat) (seen seat) c.requires.new)
     (λ entries e. e ∙ (λ i. own (g.M.Keeper.opened (made (kept.0 i))) (kept.2.same_caller i) (seen new)))

@@ -10,5 +10,5 @@ returns c =
     let pipes = c.pipes-1.given.1 (sym lent) in
     let book = c.book-1.given.1 (sym kept.0) in
     rw pipes (rw book
-    (taken _ _ c.turn.new.line.side c.args.session.now c.turn.new.self _ _ _ c.turn.new.doer c.turn.result turn
+    (taken _ _ _ _ c.turn.new.line.side c.args.session.now c.turn.new.self _ _ _ c.turn.new.doer c.turn.result turn
     (λ o e. (c.turn.ensures.stays o e).1) c.turn.ensures.number kept.1 kept.2))

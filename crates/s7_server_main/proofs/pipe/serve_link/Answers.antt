@@ -55,7 +55,7 @@ returns g c =
               number_is = refl;
               is_served = told_so s book.journal.limit (first_of book.opening.areas) (history_of (book_told new)) _ _ _ refl told c.last.ensures
                   (record { came = inl run.served; shut = run.shut });
-              count = told ∙ run.served.legal.count;
+              count = told ∙ run.served.legal.counted.count;
             },
             tt,
           );

@@ -9,7 +9,7 @@ use Rattle.s7_session.specs.Judgement.{Judgement, refuse, insert, plainly, asks_
 use Rattle.s7_session.specs.declared.held.Held.{Held}
 use Rattle.s7_session.specs.declared.judge.Refusal.TheVariants.{NotAllowed}
 use Rattle.s7_session.proofs.AnswerLemmas.{answers_settled, answers_memory, looked_not, same_made}
-use Rattle.s7_session.proofs.DoerLemmas.{stays_same}
+use Rattle.s7_session.proofs.DoerLemmas.{goes_same}
 use Rattle.s7_session.proofs.LoadLemmas.{finished_held}
 use Rattle.s7_session.proofs.conversation.Conversation.insert.Goals as goal
 
@@ -22,7 +22,7 @@ returns-in_default-clause-answers g c = λ line at.
     let none =
     finished_held c.args.self.now.held.download name.kind name.number
     ∙ (sym c.image.ensures ∙ ap (option_map (λ octets. octets.now)) c.in_default.is) in
-    answers_settled g.D.Doer.stands g.D.Doer.is_full g.D.Doer.may_lack line c.args.doer.now _ at _ _ _
+    answers_settled g.D.Doer.stands g.D.Doer.is_full g.D.Doer.may_lack g.D.Doer.did g.D.Doer.keeps line c.args.doer.now _ at _ _ _
     (ap (λ o. by_judgement n link c.args.sequence [] (insert link c.args.sequence name.kind name.number o)) none
     ∙ (ap (λ (x : List ℕ). settled (Some n) link x []) (sym r.ensures.sends)
     ∙ ap (λ (h : Held). settled (Some n) (link_of h) (sends r.new.self) []) (sym r.ensures.held)))
@@ -37,7 +37,7 @@ returns-then-not-is_insertable-clause-answers g c = λ line at.
     finished_held c.args.self.now.held.download name.kind name.number
     ∙ (sym c.image.ensures ∙ ap (option_map (λ octets. octets.now)) c.in-Some.is) in
     let asked : Judgement = asks_plainly link c.args.sequence (Insert name.kind name.number c.in-Some.image.now no_room) in
-    answers_settled g.D.Doer.stands g.D.Doer.is_full g.D.Doer.may_lack line c.args.doer.now _ at _ _ _
+    answers_settled g.D.Doer.stands g.D.Doer.is_full g.D.Doer.may_lack g.D.Doer.did g.D.Doer.keeps line c.args.doer.now _ at _ _ _
     (ap (λ o. by_judgement n link c.args.sequence [] (insert link c.args.sequence name.kind name.number o)) some
     ∙ (ap (λ (b : Bool). by_judgement n link c.args.sequence [] (cond b asked (refuse NotAllowed))) (sym c.is_insertable.ensures ∙ c.if-not-is_insertable.true)
     ∙ (ap (λ (x : List ℕ). settled (Some n) link x []) (sym r.ensures.sends)
@@ -53,7 +53,7 @@ returns-in-Ok-clause-answers g c = λ line at.
     finished_held c.args.self.now.held.download name.kind name.number
     ∙ (sym c.image.ensures ∙ ap (option_map (λ octets. octets.now)) c.in-Some.is) in
     let asked : Judgement = asks_plainly link sequence (Insert name.kind name.number c.in-Some.image.now no_room) in
-    same_made g.D.Doer.stands g.D.Doer.is_full g.D.Doer.may_lack line line c.args.doer.now c.ask.new.doer _ _ at _ _ _ _
+    same_made g.D.Doer.stands g.D.Doer.is_full g.D.Doer.may_lack g.D.Doer.did g.D.Doer.keeps line line c.args.doer.now c.ask.new.doer _ _ at _ _ _ _
     (λ vs. ap (λ o. by_judgement n link sequence vs (insert link sequence name.kind name.number o)) some
     ∙ (ap (λ (b : Bool). by_judgement n link sequence vs (cond b asked (refuse NotAllowed))) (sym c.is_insertable.ensures ∙ c.if-not-is_insertable.false)
     ∙ ap (λ (r : Request). asks n link sequence (plainly link sequence r) vs) (sym c.in-Ok.ensures.kept)))
@@ -69,9 +69,9 @@ returns-in-Err-clause-answers g c = λ line at.
     let some =
     finished_held c.args.self.now.held.download name.kind name.number
     ∙ (sym c.image.ensures ∙ ap (option_map (λ octets. octets.now)) c.in-Some.is) in
-    same_made g.D.Doer.stands g.D.Doer.is_full g.D.Doer.may_lack line line c.args.doer.now c.args.doer.now _ _ at _ _ _ _
+    same_made g.D.Doer.stands g.D.Doer.is_full g.D.Doer.may_lack g.D.Doer.did g.D.Doer.keeps line line c.args.doer.now c.args.doer.now _ _ at _ _ _ _
     (λ vs. ap (λ o. by_judgement n link sequence vs (insert link sequence name.kind name.number o)) some
     ∙ ap (λ (b : Bool). by_judgement n link sequence vs (cond b (asks_plainly link sequence request) (refuse NotAllowed))) (sym c.is_insertable.ensures ∙ c.if-not-is_insertable.false))
-    (answers_memory g.D.Doer.stands g.D.Doer.is_full g.D.Doer.may_lack line line c.args.doer.now c.args.doer.now n link link
+    (answers_memory g.D.Doer.stands g.D.Doer.is_full g.D.Doer.may_lack g.D.Doer.did g.D.Doer.keeps line line c.args.doer.now c.args.doer.now n link link
     sequence (plainly link sequence request) at _ (looked_not line _ refl) refl c.requires.sent (λ es h. h)
-    (stays_same g.D.Doer.is_full c.args.doer.now) (inl refl))
+    (goes_same g.D.Doer.is_full g.D.Doer.keeps c.args.doer.now) (inl refl))

@@ -41,13 +41,13 @@ made_judged size n link m at sequence b j vs is test this sequence_is judged =
 pub returns-in_default-clause-answers : goal.returns-in_default-clause-answers
 returns-in_default-clause-answers g c = λ at.
     let link = link_of c.args.self.now.held in
-    answers_settled g.D.Doer.stands g.D.Doer.is_full g.D.Doer.may_lack (g.L.Link.shows c.args.line.now) c.args.doer.now (made (tpdu_size_of c.args.self.now.size) link (message c.args.octets.now at)) at (tpdu_size_of c.args.self.now.size) link _
+    answers_settled g.D.Doer.stands g.D.Doer.is_full g.D.Doer.may_lack g.D.Doer.did g.D.Doer.keeps (g.L.Link.shows c.args.line.now) c.args.doer.now (made (tpdu_size_of c.args.self.now.size) link (message c.args.octets.now at)) at (tpdu_size_of c.args.self.now.size) link _
     (made_before (tpdu_size_of c.args.self.now.size) link c.args.octets.now at _ (ap tpdu_size_of c.in_default.is) (ap (λ o. o.unsent) c.clear.ensures))
 
 pub returns-then-not-is_s7-clause-answers : goal.returns-then-not-is_s7-clause-answers
 returns-then-not-is_s7-clause-answers g c = λ at.
     let link = link_of c.args.self.now.held in
-    answers_closing g.D.Doer.stands g.D.Doer.is_full g.D.Doer.may_lack (g.L.Link.shows c.args.line.now) c.args.doer.now (made (tpdu_size_of c.args.self.now.size) link (message c.args.octets.now at)) at (tpdu_size_of c.args.self.now.size) link _
+    answers_closing g.D.Doer.stands g.D.Doer.is_full g.D.Doer.may_lack g.D.Doer.did g.D.Doer.keeps (g.L.Link.shows c.args.line.now) c.args.doer.now (made (tpdu_size_of c.args.self.now.size) link (message c.args.octets.now at)) at (tpdu_size_of c.args.self.now.size) link _
     (made_other (tpdu_size_of c.args.self.now.size) c.in-Some.size.octets link c.args.octets.now at c.is_s7.result (ap tpdu_size_of c.in-Some.is) c.is_s7.ensures c.if-not-is_s7.true)
     (ap (λ o. o.unsent) c.clear.ensures)
 
@@ -55,7 +55,7 @@ pub returns-clause-answers : goal.returns-clause-answers
 returns-clause-answers g c = λ at.
     let link = link_of c.args.self.now.held in
     let m = c.args.octets.now in
-    same_made g.D.Doer.stands g.D.Doer.is_full g.D.Doer.may_lack (g.L.Link.shows c.args.line.now) (g.L.Link.shows c.answer.new.line) c.args.doer.now c.answer.new.doer (made (tpdu_size_of c.args.self.now.size) link (message m at)) _ at _ _ _ c.answer.result
+    same_made g.D.Doer.stands g.D.Doer.is_full g.D.Doer.may_lack g.D.Doer.did g.D.Doer.keeps (g.L.Link.shows c.args.line.now) (g.L.Link.shows c.answer.new.line) c.args.doer.now c.answer.new.doer (made (tpdu_size_of c.args.self.now.size) link (message m at)) _ at _ _ _ c.answer.result
     (λ vs. made_judged (tpdu_size_of c.args.self.now.size) c.in-Some.size.octets link m at c.sequence_of.result c.is_s7.result
     (judgement_of link c.sequence_of.result c.judge-judgement.result) vs (ap tpdu_size_of c.in-Some.is) c.is_s7.ensures c.if-not-is_s7.false c.sequence_of.ensures
     (ap (λ k. judgement_of link k c.judge-judgement.result) c.sequence_of.ensures ∙ c.judge-judgement.ensures.judged))

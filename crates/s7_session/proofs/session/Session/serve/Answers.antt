@@ -9,7 +9,7 @@ use Rattle.s7_session.proofs.session.Session.serve.Goals as goal
 
 pub loop-init : goal.loop-init
 loop-init g c = record {
-  moves = moves_none g.D.Doer.stands g.D.Doer.is_full g.D.Doer.may_lack c.args.self.now (g.L.Link.shows c.args.line.now) c.args.doer.now;
+  moves = moves_none g.D.Doer.stands g.D.Doer.is_full g.D.Doer.may_lack g.D.Doer.did g.D.Doer.keeps c.args.self.now (g.L.Link.shows c.args.line.now) c.args.doer.now;
   number = refl;
   kept = g.met.D.Doer.keeps_same c.args.doer.now;
   going = λ e. e;
@@ -20,14 +20,14 @@ loop-init g c = record {
 pub returns-in-Closed : goal.returns-in-Closed
 returns-in-Closed g c =
     let served =
-    served_after g.D.Doer.stands g.D.Doer.is_full g.D.Doer.may_lack c.args.self.now c.loop.self c.turn.new.self (g.L.Link.shows c.args.line.now) (g.L.Link.shows c.loop.line) (g.L.Link.shows c.turn.new.line)
+    served_after g.D.Doer.stands g.D.Doer.is_full g.D.Doer.may_lack g.D.Doer.did g.D.Doer.keeps c.args.self.now c.loop.self c.turn.new.self (g.L.Link.shows c.args.line.now) (g.L.Link.shows c.loop.line) (g.L.Link.shows c.turn.new.line)
     c.args.doer.now c.loop.doer c.turn.new.doer c.in-Closed.outcome c.loop.invariant.moves c.loop.invariant.going c.loop.invariant.fails
     c.in-Closed.ensures.turn
     in
     record {
       served = served;
       run = λ first fresh.
-          link_run g.D.Doer.stands g.D.Doer.is_full g.D.Doer.may_lack first c.args.self.now c.turn.new.self (g.L.Link.shows c.args.line.now) (g.L.Link.shows c.turn.new.line)
+          link_run g.D.Doer.stands g.D.Doer.is_full g.D.Doer.may_lack g.D.Doer.did g.D.Doer.keeps first c.args.self.now c.turn.new.self (g.L.Link.shows c.args.line.now) (g.L.Link.shows c.turn.new.line)
           c.args.doer.now c.turn.new.doer c.in-Closed.outcome served fresh;
       number = c.turn.ensures.number ∙ c.loop.invariant.number;
       kept = g.met.D.Doer.keeps_both c.args.doer.now c.loop.doer c.turn.new.doer c.loop.invariant.kept c.turn.ensures.kept;
@@ -44,7 +44,7 @@ returns-in-Closed g c =
 pub loop-preserved : goal.loop-preserved
 loop-preserved g c = record {
   moves =
-      moves_both g.D.Doer.stands g.D.Doer.is_full g.D.Doer.may_lack c.args.self.now c.loop.self c.turn.new.self (g.L.Link.shows c.args.line.now) (g.L.Link.shows c.loop.line) (g.L.Link.shows c.turn.new.line)
+      moves_both g.D.Doer.stands g.D.Doer.is_full g.D.Doer.may_lack g.D.Doer.did g.D.Doer.keeps c.args.self.now c.loop.self c.turn.new.self (g.L.Link.shows c.args.line.now) (g.L.Link.shows c.loop.line) (g.L.Link.shows c.turn.new.line)
       c.args.doer.now c.loop.doer c.turn.new.doer c.loop.invariant.moves c.turn.ensures.turn.moves;
   number = c.turn.ensures.number ∙ c.loop.invariant.number;
   kept = g.met.D.Doer.keeps_both c.args.doer.now c.loop.doer c.turn.new.doer c.loop.invariant.kept c.turn.ensures.kept;
@@ -60,7 +60,7 @@ loop-preserved g c = record {
 pub loop-preserved-in-NotYet : goal.loop-preserved-in-NotYet
 loop-preserved-in-NotYet g c = record {
   moves =
-      moves_both g.D.Doer.stands g.D.Doer.is_full g.D.Doer.may_lack c.args.self.now c.loop.self c.turn.new.self (g.L.Link.shows c.args.line.now) (g.L.Link.shows c.loop.line) (g.L.Link.shows c.turn.new.line)
+      moves_both g.D.Doer.stands g.D.Doer.is_full g.D.Doer.may_lack g.D.Doer.did g.D.Doer.keeps c.args.self.now c.loop.self c.turn.new.self (g.L.Link.shows c.args.line.now) (g.L.Link.shows c.loop.line) (g.L.Link.shows c.turn.new.line)
       c.args.doer.now c.loop.doer c.turn.new.doer c.loop.invariant.moves c.turn.ensures.turn.moves;
   number = c.turn.ensures.number ∙ c.loop.invariant.number;
   kept = g.met.D.Doer.keeps_both c.args.doer.now c.loop.doer c.turn.new.doer c.loop.invariant.kept c.turn.ensures.kept;

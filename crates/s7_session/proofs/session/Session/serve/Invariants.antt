@@ -6,7 +6,7 @@ use Rattle.s7_session.proofs.session.Session.serve.Given as goal
 
 abbrev pub invariant-loop : goal.invariant-loop
 invariant-loop g l = record {
-  moves : Moves g.D.Doer.stands g.D.Doer.is_full g.D.Doer.may_lack l.fn.self (g.L.Link.shows l.fn.line) l.fn.doer l.self (g.L.Link.shows l.line) l.doer;
+  moves : Moves g.D.Doer.stands g.D.Doer.is_full g.D.Doer.may_lack g.D.Doer.did g.D.Doer.keeps l.fn.self (g.L.Link.shows l.fn.line) l.fn.doer l.self (g.L.Link.shows l.line) l.doer;
   number : number_of l.self ≡ number_of l.fn.self;
   kept : g.D.Doer.keeps l.fn.doer l.doer;
   going : closed_with l.fn.self ≡ None → closed_with l.self ≡ None;

@@ -9,12 +9,12 @@ use Rattle.s7_session.proofs.ServeLemmas.{turn_closed, turn_plain, turn_closing,
 use Rattle.s7_session.proofs.session.Session.turn.Goals as goal
 
 pub returns-in-Some-clause-turn : goal.returns-in-Some-clause-turn
-returns-in-Some-clause-turn g c = turn_closed g.D.Doer.stands g.D.Doer.is_full g.D.Doer.may_lack c.args.self.now (g.L.Link.shows c.args.line.now) c.args.doer.now c.in-Some.outcome c.in-Some.is
+returns-in-Some-clause-turn g c = turn_closed g.D.Doer.stands g.D.Doer.is_full g.D.Doer.may_lack g.D.Doer.did g.D.Doer.keeps c.args.self.now (g.L.Link.shows c.args.line.now) c.args.doer.now c.in-Some.outcome c.in-Some.is
 
 pub returns-in-Bytes-clause-turn : goal.returns-in-Bytes-clause-turn
 returns-in-Bytes-clause-turn g c =
     let live : c.args.self.now.closed ≡ None = none_from_not c.args.self.now.closed c.in_default.not-Some in
-    turn_plain g.D.Doer.stands g.D.Doer.is_full g.D.Doer.may_lack c.args.self.now _ (g.L.Link.shows c.args.line.now) (g.L.Link.shows c.flush.new.line) c.args.doer.now
+    turn_plain g.D.Doer.stands g.D.Doer.is_full g.D.Doer.may_lack g.D.Doer.did g.D.Doer.keeps c.args.self.now _ (g.L.Link.shows c.args.line.now) (g.L.Link.shows c.flush.new.line) c.args.doer.now
     (take c.in-Bytes.field-0 c.args.self.now.conversation.sender.outbox.unsent) turn.Went (record { reader = refl; used = refl; count = refl; newest = refl; held = refl; size = refl }) c.in-Bytes.ensures.sent refl
     (moved_by_transmit (g.L.Link.shows c.args.line.now) (g.L.Link.shows c.flush.new.line) _ c.in-Bytes.ensures.wrote c.in-Bytes.ensures.fits c.in-Bytes.ensures.space c.flush.ensures.faults c.flush.ensures.waits c.flush.ensures.same) live live
     (λ e. (c.in-Bytes.ensures.some c.in-Bytes.field-0 refl).1) (λ e. absurd (went_not_yet e)) (λ o e. absurd (went_not_closed o e))
@@ -25,7 +25,7 @@ pub returns-in-NotYet-clause-turn : goal.returns-in-NotYet-clause-turn
 returns-in-NotYet-clause-turn g c =
     let live : c.args.self.now.closed ≡ None = none_from_not c.args.self.now.closed c.in_default.not-Some in
     let some = some_of c.args.self.now.conversation.sender.outbox.unsent c.is_empty.result c.is_empty.ensures c.if-not-is_empty.true in
-    turn_plain g.D.Doer.stands g.D.Doer.is_full g.D.Doer.may_lack c.args.self.now _ (g.L.Link.shows c.args.line.now) (g.L.Link.shows c.flush.new.line) c.args.doer.now
+    turn_plain g.D.Doer.stands g.D.Doer.is_full g.D.Doer.may_lack g.D.Doer.did g.D.Doer.keeps c.args.self.now _ (g.L.Link.shows c.args.line.now) (g.L.Link.shows c.flush.new.line) c.args.doer.now
     [] turn.NotYet (record { reader = refl; used = refl; count = refl; newest = refl; held = refl; size = refl }) c.in-NotYet.ensures.sent refl
     (moved_by_transmit (g.L.Link.shows c.args.line.now) (g.L.Link.shows c.flush.new.line) _ c.in-NotYet.ensures.wrote c.in-NotYet.ensures.fits c.in-NotYet.ensures.space c.flush.ensures.faults c.flush.ensures.waits c.flush.ensures.same) live live
     (λ e. absurd (not_yet_not_went e))
@@ -40,7 +40,7 @@ returns-in-Failed-clause-turn g c =
     let k = c.close.ensures in
     let same = ap (λ x. x.sender.outbox.unsent) k.conversation ∙ sym c.in-Failed.ensures.sent in
     let some = some_of c.args.self.now.conversation.sender.outbox.unsent c.is_empty.result c.is_empty.ensures c.if-not-is_empty.true in
-    turn_closing g.D.Doer.stands g.D.Doer.is_full g.D.Doer.may_lack c.args.self.now c.close.new.self (g.L.Link.shows c.args.line.now) (g.L.Link.shows c.flush.new.line) c.args.doer.now
+    turn_closing g.D.Doer.stands g.D.Doer.is_full g.D.Doer.may_lack g.D.Doer.did g.D.Doer.keeps c.args.self.now c.close.new.self (g.L.Link.shows c.args.line.now) (g.L.Link.shows c.flush.new.line) c.args.doer.now
     outcome.WriteFault c.close.result (record { reader = k.reader; used = k.used; count = k.count; newest = k.newest; held = ap (λ x. x.held) k.conversation; size = ap (λ x. x.size) k.conversation }) same k.inbox
     (moved_by_transmit (g.L.Link.shows c.args.line.now) (g.L.Link.shows c.flush.new.line) _ c.in-Failed.ensures.wrote c.in-Failed.ensures.fits c.in-Failed.ensures.space c.flush.ensures.faults c.flush.ensures.waits c.flush.ensures.same)
     live k.closed k.result
@@ -50,7 +50,7 @@ returns-in-Failed-clause-turn g c =
 
 pub returns-then-not-is_empty-2-clause-turn : goal.returns-then-not-is_empty-2-clause-turn
 returns-then-not-is_empty-2-clause-turn g c =
-    turn_used g.D.Doer.stands g.D.Doer.is_full g.D.Doer.may_lack c.args.self.now c.consume.new.self (g.L.Link.shows c.args.line.now) (g.L.Link.shows c.consume.new.line) c.args.doer.now c.consume.new.doer
+    turn_used g.D.Doer.stands g.D.Doer.is_full g.D.Doer.may_lack g.D.Doer.did g.D.Doer.keeps c.args.self.now c.consume.new.self (g.L.Link.shows c.args.line.now) (g.L.Link.shows c.consume.new.line) c.args.doer.now c.consume.new.doer
     c.consume.result (none_from_not c.args.self.now.closed c.in_default.not-Some) (empty_of c.args.self.now.conversation.sender.outbox.unsent c.is_empty.result c.is_empty.ensures c.if-not-is_empty.false) c.consume.ensures.consumes
 
 pub returns-then-self-eq-SPENT-clause-turn : goal.returns-then-self-eq-SPENT-clause-turn
@@ -59,7 +59,7 @@ returns-then-self-eq-SPENT-clause-turn g c =
     let live : c.args.self.now.closed ≡ None = none_from_not c.args.self.now.closed c.in_default.not-Some in
     let none = empty_of c.args.self.now.conversation.sender.outbox.unsent c.is_empty.result c.is_empty.ensures c.if-not-is_empty.false in
     let read = empty_of c.args.self.now.inbox c.is_empty-2.result c.is_empty-2.ensures c.if-not-is_empty-2.false in
-    turn_closing g.D.Doer.stands g.D.Doer.is_full g.D.Doer.may_lack c.args.self.now c.close-then-self-eq-SPENT.new.self (g.L.Link.shows c.args.line.now) (g.L.Link.shows c.args.line.now) c.args.doer.now
+    turn_closing g.D.Doer.stands g.D.Doer.is_full g.D.Doer.may_lack g.D.Doer.did g.D.Doer.keeps c.args.self.now c.close-then-self-eq-SPENT.new.self (g.L.Link.shows c.args.line.now) (g.L.Link.shows c.args.line.now) c.args.doer.now
     outcome.Spent c.close-then-self-eq-SPENT.result (closed_keeps _ _ k.reader k.conversation k.used k.count k.newest) (ap (λ x. x.sender.outbox.unsent) k.conversation) k.inbox
     (moved_nothing (g.L.Link.shows c.args.line.now)) live k.closed k.result
     (λ first b js w h. (h.used ∙ c.if-self-eq-SPENT.true, (ap (λ x. x.sender.outbox.unsent) k.conversation ∙ none, k.inbox ∙ read), h.lives live))
@@ -68,7 +68,7 @@ returns-then-self-eq-SPENT-clause-turn g c =
 pub returns-in-Bytes-refill-clause-turn : goal.returns-in-Bytes-refill-clause-turn
 returns-in-Bytes-refill-clause-turn g c =
     let k = c.consume-in-Bytes-refill in
-    turn_both g.D.Doer.stands g.D.Doer.is_full g.D.Doer.may_lack c.args.self.now _ k.new.self (g.L.Link.shows c.args.line.now) (g.L.Link.shows c.refill.new.line) (g.L.Link.shows k.new.line)
+    turn_both g.D.Doer.stands g.D.Doer.is_full g.D.Doer.may_lack g.D.Doer.did g.D.Doer.keeps c.args.self.now _ k.new.self (g.L.Link.shows c.args.line.now) (g.L.Link.shows c.refill.new.line) (g.L.Link.shows k.new.line)
     c.args.doer.now k.new.doer k.result (closed_keeps _ _ refl refl refl refl refl) refl refl (moved_by_receive (g.L.Link.shows c.args.line.now) (g.L.Link.shows c.refill.new.line) _ c.refill.ensures.took c.refill.ensures.faults c.refill.ensures.waits c.refill.ensures.same)
     (none_from_not c.args.self.now.closed c.in_default.not-Some) (
       empty_of c.args.self.now.conversation.sender.outbox.unsent c.is_empty.result c.is_empty.ensures c.if-not-is_empty.false,
@@ -83,7 +83,7 @@ returns-in-NotYet-refill-clause-turn g c =
     let none = (c.in-NotYet-refill.ensures.not_yet refl).0 in
     let sent = empty_of c.args.self.now.conversation.sender.outbox.unsent c.is_empty.result c.is_empty.ensures c.if-not-is_empty.false in
     let old_none = empty_of c.args.self.now.inbox c.is_empty-2.result c.is_empty-2.ensures c.if-not-is_empty-2.false in
-    turn_plain g.D.Doer.stands g.D.Doer.is_full g.D.Doer.may_lack c.args.self.now _ (g.L.Link.shows c.args.line.now) (g.L.Link.shows c.refill.new.line) c.args.doer.now
+    turn_plain g.D.Doer.stands g.D.Doer.is_full g.D.Doer.may_lack g.D.Doer.did g.D.Doer.keeps c.args.self.now _ (g.L.Link.shows c.args.line.now) (g.L.Link.shows c.refill.new.line) c.args.doer.now
     [] turn.NotYet (closed_keeps _ _ refl refl refl refl refl) refl (old_none ∙ sym none)
     (moved_by_receive (g.L.Link.shows c.args.line.now) (g.L.Link.shows c.refill.new.line) [] (c.refill.ensures.took ∙ ap (λ x. prepend_known x (g.L.Link.shows c.refill.new.line).left) none) c.refill.ensures.faults c.refill.ensures.waits c.refill.ensures.same) live live
     (λ e. absurd (not_yet_not_went e))
@@ -101,7 +101,7 @@ returns-in-Failed-refill-clause-turn g c =
     let none = (c.in-Failed-refill.ensures.failed refl).0 in
     let sent = empty_of c.args.self.now.conversation.sender.outbox.unsent c.is_empty.result c.is_empty.ensures c.if-not-is_empty.false in
     let old_none = empty_of c.args.self.now.inbox c.is_empty-2.result c.is_empty-2.ensures c.if-not-is_empty-2.false in
-    turn_closing g.D.Doer.stands g.D.Doer.is_full g.D.Doer.may_lack c.args.self.now c.close-in-Failed-refill.new.self (g.L.Link.shows c.args.line.now) (g.L.Link.shows c.refill.new.line) c.args.doer.now
+    turn_closing g.D.Doer.stands g.D.Doer.is_full g.D.Doer.may_lack g.D.Doer.did g.D.Doer.keeps c.args.self.now c.close-in-Failed-refill.new.self (g.L.Link.shows c.args.line.now) (g.L.Link.shows c.refill.new.line) c.args.doer.now
     outcome.ReadFault c.close-in-Failed-refill.result (closed_keeps _ _ k.reader k.conversation k.used k.count k.newest) (ap (λ x. x.sender.outbox.unsent) k.conversation) (k.inbox ∙ (none ∙ sym old_none))
     (moved_by_receive (g.L.Link.shows c.args.line.now) (g.L.Link.shows c.refill.new.line) [] (c.refill.ensures.took ∙ ap (λ x. prepend_known x (g.L.Link.shows c.refill.new.line).left) none) c.refill.ensures.faults c.refill.ensures.waits c.refill.ensures.same)
     live k.closed k.result
@@ -122,7 +122,7 @@ returns-in-End-clause-turn g c =
     let ended = c.in-End.ensures.end refl in
     let sent = empty_of c.args.self.now.conversation.sender.outbox.unsent c.is_empty.result c.is_empty.ensures c.if-not-is_empty.false in
     let old_none = empty_of c.args.self.now.inbox c.is_empty-2.result c.is_empty-2.ensures c.if-not-is_empty-2.false in
-    turn_closing g.D.Doer.stands g.D.Doer.is_full g.D.Doer.may_lack c.args.self.now c.close-in-End.new.self (g.L.Link.shows c.args.line.now) (g.L.Link.shows c.refill.new.line) c.args.doer.now
+    turn_closing g.D.Doer.stands g.D.Doer.is_full g.D.Doer.may_lack g.D.Doer.did g.D.Doer.keeps c.args.self.now c.close-in-End.new.self (g.L.Link.shows c.args.line.now) (g.L.Link.shows c.refill.new.line) c.args.doer.now
     c.end-outcome.result c.close-in-End.result (closed_keeps _ _ k.reader k.conversation k.used k.count k.newest) (ap (λ x. x.sender.outbox.unsent) k.conversation) (k.inbox ∙ (ended.0 ∙ sym old_none))
     (moved_by_receive (g.L.Link.shows c.args.line.now) (g.L.Link.shows c.refill.new.line) [] (c.refill.ensures.took ∙ ap (λ x. prepend_known x (g.L.Link.shows c.refill.new.line).left) ended.0) c.refill.ensures.faults c.refill.ensures.waits c.refill.ensures.same)
     live k.closed k.result
