@@ -110,7 +110,7 @@ impl UploadSide {
         })
     }
 
-    /// Drops the upload of this id, and returns whether one was held.
+    /// Drops the upload of this id, and returns true. Returns false if no upload of this id was held.
     pub fn end(&mut self, id: u8) -> bool
         ensures held { result ≡ is_held self.old.upload id }
         ensures after { self.new ≡ ended self.old id }

@@ -172,8 +172,8 @@ Comes old link new link' used written polled.Idle =
 
 pub record IsPoll (old : Connection) (link : Shown) (new : Connection) (link' : Shown) (result : Polled) : Type 0 where
   pub moves : Moves (unread_of old) link (unread_of new) link'
-  -- what the poll moved consists of deeds in order: octets were used only if all was sent, and received only if
-  -- none was unused
+  -- the poll kept an order: it used octets only when all was sent, and received only when no received octet was
+  -- unused
   pub orderly : (origin : Origin) (b w : List ℕ) → StandsFor old origin b w
       → IsOrderly origin (unread_of old) b w moves
   pub config : config_of new ≡ config_of old

@@ -83,8 +83,9 @@ impl Connection {
     }
 
     /// Starts a job and polls until it is done. The job times out once the link wasn't ready in as many polls as
-    /// the configuration allows. No job is outstanding before the call. Returns `Memory` if an allocation for the
-    /// job fails; the job is handed back then, and the client and the link are as before.
+    /// the configuration allows. No job is outstanding before the call. The code of the result is 0 or the number
+    /// of an error. Returns `Memory` if an allocation for the job fails; the job is handed back then, and the client
+    /// and the link are as before.
     pub fn carry_out<L: Link>(
         &mut self,
         alloc: Global,

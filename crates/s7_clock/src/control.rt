@@ -87,7 +87,7 @@ pub fn read_control(params: &[u8]) -> Result<Control, BadParams>
 }
 
 /// Writes the parameters of a control to the beginning of `into`, and returns their length, from 16 to 26. `into`
-/// has room for them, and its rest stays. A block's kind may be any.
+/// has room for them, and its rest stays. The kind of a block is written as it is, even if there is no such kind.
 pub fn write_control(c: &Control, into: &mut [u8]) -> usize
     requires room { length (control_spelling c.now) ≤ length into.old }
     ensures written { into.new ≡ control_spelling c.now ++ drop result into.old }

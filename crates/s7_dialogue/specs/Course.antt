@@ -93,7 +93,8 @@ next_question c rows =
     if nat_lt (open_count rows) c.width && is_none (first_refusal c.refusal 0 (answers_of rows))
     then c.question_at (answers_of rows) else None
 
--- the last sequence after a question: the next one if the question is numbered, under which it is asked
+-- The last sequence once a question is asked. A question that is numbered is asked under the next sequence, and any
+-- other question uses none.
 abbrev pub sequence_behind : ℕ → Question → ℕ
 sequence_behind sequence question = if is_numbered question then next_sequence sequence else sequence
 

@@ -121,8 +121,8 @@ conduct_of_single job (ask.Part block place) = block_conduct block
 abbrev pub single_messages : Job → Single → List (List ℕ)
 single_messages job s = messages_of (unwrap_or s.out 0) (question_of_single job s.ask [])
 
--- a clock is set to a time that it can show, and a password has one to eight octets (Snap7 1.4 reference manual,
--- `Cli_SetPlcDateTime`, `Cli_SetSessionPassword`)
+-- The job's own value can be sent: a time that a clock can show, or a password of one to eight octets (Snap7 1.4
+-- reference manual, `Cli_SetPlcDateTime`, `Cli_SetSessionPassword`). Other jobs have no such value.
 abbrev pub is_sent_well : Job → Bool
 is_sent_well (job.ClockSet moment) = check_moment moment == no_fault
 is_sent_well (job.PasswordSet text) = check_password text == no_fault
@@ -164,7 +164,8 @@ unput_by config size job (stage.Single s) =
 unput_by config size job stage.Leaving = []
 unput_by config size job (stage.Over code leaves) = []
 
--- what is awaited; `carried` is the message that was no answer, if one came
+-- What a stage awaits. If the job is over, it awaits nothing, and has its end: with the octets `found`, the return
+-- codes `codes`, and the message `carried` that was no answer, if one came.
 abbrev pub awaited_by : List ℕ → List ℕ → List ℕ → Stage → Awaits
 awaited_by found codes carried stage.Opening = for_confirm
 awaited_by found codes carried (stage.Asking a) = for_answers

@@ -25,7 +25,7 @@ question_for write items octets = if write then writes items octets else reads i
 abbrev pub TellsFor : Bool → List Item → Answer → spelled.Answer → Type 0
 TellsFor write items told x = (octets : List ℕ) × Tells (question_for write items octets) told x
 
--- the code keeps a read or a write of these items
+-- the value with which the code keeps a question is that of a read or of a write of these items
 abbrev pub IsFor : List Item → Asked → Type 0
 IsFor items told = (told ≡ asked.Read items) ⊎ (told ≡ asked.Write items)
 

@@ -1,16 +1,17 @@
-// Areas that are registered, written, read and taken back.
+//! Areas: one is registered, written, read and removed again.
 use s7_area::{AreaKey, Areas};
 use s7_item::Item;
 use s7_item::codes::{BYTE, DATA_BLOCKS, GOOD};
 use s7_outer::Octets;
 use std::alloc::Global;
 
+/// The name of data block 1.
 const DB1: AreaKey = AreaKey {
     area: DATA_BLOCKS,
     number: 1,
 };
 
-/// Two bytes of data block 1. The address counts bits: eight times the octet.
+/// Two bytes of data block 1, from octet 1 on. The address counts bits: it is eight times the number of the octet.
 const MIDDLE: Item = Item {
     area: DATA_BLOCKS,
     db: 1,
@@ -19,7 +20,7 @@ const MIDDLE: Item = Item {
     address: 8,
 };
 
-/// Data block 1 with four octets.
+/// Areas with data block 1 alone, which has four octets. `None` if memory ran out.
 fn new_areas(alloc: Global) -> Option<Areas> {
     let mut areas = Areas::new();
     let octets = Octets::copy_of(alloc, &[0x11, 0x22, 0x33, 0x44]).ok()?;
@@ -29,6 +30,7 @@ fn new_areas(alloc: Global) -> Option<Areas> {
     }
 }
 
+/// A write changes two bytes, a read gives them, and the block that is handed back has them.
 #[test]
 fn two_bytes_are_written(rt: HostRuntime) {
     let mut areas = new_areas(rt.alloc()).expect(&rt, "there is memory");

@@ -1,4 +1,4 @@
-// A client that reads four bytes of data block 1, over any link.
+//! A client that reads four bytes of data block 1, over any link.
 use s7_client::{Config, Connection, Job, JobResult};
 use s7_item::Item;
 use s7_item::codes::{BYTE, DATA_BLOCKS};
@@ -6,6 +6,7 @@ use s7_memory::MemoryLink;
 use s7_outer::{Link, Octets};
 use std::alloc::Global;
 
+/// The first four bytes of data block 1.
 const FOUR_BYTES: Item = Item {
     area: DATA_BLOCKS,
     db: 1,
@@ -14,8 +15,8 @@ const FOUR_BYTES: Item = Item {
     address: 0,
 };
 
-/// Connects to rack 0, slot 2 as a programming device does, and reads. The result's code is 0, or says what failed.
-/// There is none where there is no memory.
+/// Connects to rack 0, slot 2 as a programming device does, and reads. The code of the result is 0, or says what
+/// failed. Returns `None` if memory ran out.
 fn read_four<L: Link>(alloc: Global, link: &mut L) -> Option<JobResult> {
     let mut client = Connection::new(alloc, Config::new(1, 0, 2)).ok()?;
     let connected = client.carry_out(alloc, Job::Connect, link).ok()?;
@@ -26,23 +27,23 @@ fn read_four<L: Link>(alloc: Global, link: &mut L) -> Option<JobResult> {
     client.carry_out(alloc, read, link).ok()
 }
 
-/// The connect confirm, the granted negotiation, and the read's answer.
+/// What the link gives: the connect confirm, the answer to the negotiation, and the answer to the read.
 const GIVEN: &str = "0300001611d00001000100c0010ac1020100c2020102\
     0300001b02f080320300000001000800000000f0000001000101e0\
     0300001d02f0803203000000020002000800000401ff04002011223344";
 
-/// The connect request, the negotiation, and the read.
+/// What the client writes: the connect request, the negotiation, and the read.
 const WRITTEN: &str = "0300001611e00000000100c0010ac1020100c2020102\
     0300001902f08032010000000100080000f0000001000101e0\
     0300001f02f080320100000002000e00000401120a10020004000184000000";
 
-/// A link that gives the octets of these digits.
+/// A link in memory that gives the octets of these hexadecimal digits. `None` if memory ran out.
 fn new_link(alloc: Global, digits: &str) -> Option<MemoryLink> {
     let given = Octets::of_vec(hex::decode(alloc, digits).ok()?);
     MemoryLink::new(alloc, given, 8_192, 4_096, 0).ok()
 }
 
-/// The octets of these digits were written.
+/// Whether the octets of these hexadecimal digits were written on the link, and no others.
 fn has_written(alloc: Global, link: &MemoryLink, digits: &str) -> bool {
     match hex::decode(alloc, digits) {
         Ok(octets) => link.written() == octets.as_slice(),
@@ -50,6 +51,7 @@ fn has_written(alloc: Global, link: &MemoryLink, digits: &str) -> bool {
     }
 }
 
+/// The client reads four bytes, and writes the telegrams that it should.
 #[test]
 fn four_bytes_are_read(rt: HostRuntime) {
     let mut link = new_link(rt.alloc(), GIVEN).expect(&rt, "there is memory");

@@ -1,11 +1,11 @@
-// Two partners, of which one sends the other a block.
+//! Two partners over two pipes: one sends a block to the other.
 use s7_client::Config;
 use s7_memory::{PipeEnd, Pipes, Side};
 use s7_outer::Octets;
 use s7_partner::{Partner, PartnerEvent, Role};
 use std::alloc::Global;
 
-/// Polls a partner at its end of the pipes.
+/// Polls a partner once, at its end of the pipes. `None` if memory ran out.
 fn poll(
     alloc: Global,
     partner: &mut Partner,
@@ -16,18 +16,19 @@ fn poll(
     partner.poll(alloc, &mut end).ok()
 }
 
-/// A partner that nobody has called yet.
+/// A partner whose link isn't open yet. `None` if memory ran out.
 fn new_partner(alloc: Global, role: Role) -> Option<Partner> {
     Partner::new(alloc, role, Config::new(1, 0, 2)).ok()
 }
 
-/// Gives a partner the block `CA FE` with the R_ID 7. It goes out by polls.
+/// Gives a partner the block `CA FE` with the R_ID 7 to send. The polls after it send the block. `None` if the partner
+/// didn't accept the block, or if memory ran out.
 fn send(alloc: Global, partner: &mut Partner) -> Option<()> {
     let body = Octets::copy_of(alloc, &[0xCA, 0xFE]).ok()?;
     partner.b_send(7, body).ok()
 }
 
-/// The event is that block.
+/// Whether the event is the arrival of this block.
 fn is_block(event: &PartnerEvent) -> bool {
     match event {
         PartnerEvent::Received { rid, body } => {
@@ -37,14 +38,14 @@ fn is_block(event: &PartnerEvent) -> bool {
     }
 }
 
-/// Whether an active partner was told that its block was sent, and a passive one was given it.
+/// Whether the active partner reported its block as sent, and whether the passive one delivered it.
 fn is_carried(alloc: Global) -> Option<(bool, bool)> {
     let mut pipes = Pipes::new(alloc, 4_096, 0).ok()?;
     let mut active = new_partner(alloc, Role::Active)?;
     let mut passive = new_partner(alloc, Role::Passive)?;
     send(alloc, &mut active)?;
     let mut carried = (false, false);
-    // a few polls open the link and carry the block
+    // a few polls of each open the link and carry the block
     for _ in 0..9 {
         let event = poll(alloc, &mut active, &mut pipes, Side::Client)?;
         carried.0 |= matches!(event, PartnerEvent::Sent);
@@ -54,6 +55,7 @@ fn is_carried(alloc: Global) -> Option<(bool, bool)> {
     Some(carried)
 }
 
+/// The active partner reports its block as sent, and the passive one delivers it whole.
 #[test]
 fn a_block_comes_whole(rt: HostRuntime) {
     assert!(rt; is_carried(rt.alloc()) == Some((true, true)));

@@ -1,4 +1,4 @@
-// A session over a doer of one's own.
+//! A session over a doer of your own.
 ghost use Rattle.std.specs.Prelude.{◌≡◌, ◌≤◌, length};
 
 use s7_area::{AreaKey, Areas};
@@ -12,7 +12,7 @@ use std::alloc::Global;
 use std::sync::Wait;
 use std::time::Clock;
 
-/// Has a plant do what telegrams ask, so many of them, and counts them in place of a journal.
+/// A doer that has a plant carry out at most `limit` requests. It counts them, and keeps no journal.
 #[derive(Drop)]
 struct Tally {
     plant: Plant,
@@ -22,7 +22,7 @@ struct Tally {
 }
 
 impl Doer for Tally {
-    // what its count means
+    // its count is the length of the list of entries that it represents
     ghost stands = { λ tally entries. length entries ≡ tally.count };
 
     ghost is_full = { λ tally _. tally.limit ≤ tally.count };
@@ -47,21 +47,23 @@ impl Doer for Tally {
     }
 }
 
-/// A connect request, a negotiation, and a read of four bytes of data block 1.
+/// What the link gives: a connect request, a negotiation, and a read of four bytes of data block 1.
 const ASKED: &str = "0300001611e00000000100c0010ac1020100c2020102\
     0300001902f08032010000000400080000f0000001000101e0\
     0300001f02f080320100000005000e00000401120a10020004000184000000";
 
+/// What the session writes: the confirm, the answer to the negotiation, and the answer to the read.
 const ANSWERED: &str = "0300001611d00001000100c0010ac1020100c2020102\
     0300001b02f080320300000004000800000000f0000001000101e0\
     0300001d02f0803203000000050002000800000401ff04002011223344";
 
+/// The name of data block 1.
 const DB1: AreaKey = AreaKey {
     area: DATA_BLOCKS,
     number: 1,
 };
 
-/// Data block 1 with four octets.
+/// Areas with data block 1 alone, which has four octets. `None` if memory ran out.
 fn new_areas(alloc: Global) -> Option<Areas> {
     let mut areas = Areas::new();
     let octets = Octets::copy_of(alloc, &[0x11, 0x22, 0x33, 0x44]).ok()?;
@@ -71,7 +73,7 @@ fn new_areas(alloc: Global) -> Option<Areas> {
     }
 }
 
-/// A tally over these areas.
+/// A tally over a plant with these areas and no blocks. `None` if memory ran out.
 fn new_tally(alloc: Global) -> Option<Tally> {
     let blocks = Blocks::new(alloc, MOST_BLOCKS).ok()?;
     Some(Tally {
@@ -81,13 +83,13 @@ fn new_tally(alloc: Global) -> Option<Tally> {
     })
 }
 
-/// A link that gives the octets of these digits.
+/// A link in memory that gives the octets of these hexadecimal digits. `None` if memory ran out.
 fn new_link(alloc: Global, digits: &str) -> Option<MemoryLink> {
     let given = Octets::of_vec(hex::decode(alloc, digits).ok()?);
     MemoryLink::new(alloc, given, 8_192, 4_096, 0).ok()
 }
 
-/// The octets of these digits were written.
+/// Whether the octets of these hexadecimal digits were written on the link, and no others.
 fn has_written(alloc: Global, link: &MemoryLink, digits: &str) -> bool {
     match hex::decode(alloc, digits) {
         Ok(octets) => link.written() == octets.as_slice(),
@@ -95,7 +97,7 @@ fn has_written(alloc: Global, link: &MemoryLink, digits: &str) -> bool {
     }
 }
 
-/// Serves the link, as link 1 and without a guard, until it ends.
+/// Serves the link, as link 1 and without a guard, until it ends. `None` if memory ran out before.
 fn serve<R: Wait + Clock>(
     rt: &R,
     alloc: Global,
@@ -106,6 +108,7 @@ fn serve<R: Wait + Clock>(
     Some(session.serve(rt, alloc, link, tally))
 }
 
+/// The session answers the read, and the tally counts it.
 #[test]
 fn a_read_is_answered_and_counted(rt: HostRuntime) {
     let mut link = new_link(rt.alloc(), ASKED).expect(&rt, "there is memory");

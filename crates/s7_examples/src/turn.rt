@@ -1,4 +1,4 @@
-// A machine of one's own that two threads use in turns.
+//! A machine of your own that two threads use in turns.
 ghost use Rattle.std.specs.Prelude.{◌≡◌, ℕ, ◌≤◌, max, vec_capacity, vec_len};
 ghost use Rattle.s7_turn.specs.Histories.{replay};
 ghost use Rattle.s7_turn.specs.Seats.{IsOf};
@@ -7,7 +7,7 @@ use s7_turn::{Entry, Hall, Machine, Seat};
 use std::sync::Wait;
 use std::thread::join;
 
-/// Keeps the highest value that it was told, and answers with the highest before.
+/// A machine that keeps the highest value requested. It answers a request with the highest value before it.
 #[derive(Drop)]
 struct Peak {
     entries: Vec<Entry<u64>>,
@@ -58,19 +58,20 @@ impl Machine for Peak {
     }
 }
 
-/// Tells the machine these values, as one caller.
+/// Calls the machine with each of these values, as one caller.
 fn tell<R: Wait>(rt: &R, hall: &Hall<Peak>, mut seat: Seat<Peak>, values: &[u64]) -> Seat<Peak>
     requires { IsOf hall.now seat }
     ensures { IsOf hall.entry.now result }
 {
     let mut before = 0;
     for value in values {
-        // a full machine hands it back
+        // the value comes back if the machine is full
         drop(hall.act(rt, &mut seat, *value, &mut before));
     }
     seat
 }
 
+/// Two threads call with five values, and the machine has their highest and five entries.
 #[test]
 fn two_threads_find_one_peak(rt: HostRuntime) {
     let peak = Peak {

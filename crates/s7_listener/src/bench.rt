@@ -31,7 +31,7 @@ pub trait Bench {
         ensures split { IsSplit (told seat.old) (told seat.new) (told result) };
 
     /// Serves a link to its end in the name of a seat. The seat must represent its caller alone, which has made no
-    /// call.
+    /// call. The outcome says why the link ended.
     fn serve<R: Wait + time::Clock, L: Link + Clock>(
         &self,
         rt: &R,

@@ -15,10 +15,10 @@ use s7_turn::{Full, Hall, Seat};
 use std::alloc::Global;
 use std::sync::Wait;
 
-/// Carries out the requests of one link at a hall, in the name of a seat's caller. Each request passes the gate and
-/// takes its turn. It is answered by the state after all earlier entries, those of other links included, and is entered
-/// under the caller's number. The history that the doer represents is the caller's own calls in what its seat has seen.
-/// It is full exactly if that has reached the limit. It allocates nothing.
+/// Carries out the requests of one link at a hall, as the caller of a seat. Each request passes the gate and waits for
+/// its turn. It is answered by the state after all earlier entries, those of other links included, and is entered under
+/// the caller's number. The entries that the doer represents are the caller's own calls in the history that the seat
+/// has seen. The doer is full exactly if this history has reached its limit. It allocates nothing.
 #[derive(Drop)]
 pub struct HallDoer<'a, M: Keeper, R: Wait, G: Gate> {
     pub rt: &'a R,

@@ -10,7 +10,7 @@ use Rattle.s7_dialogue.specs.Running.{IsResult}
 use Rattle.s7_rig.specs.Shown.{ClientTold, EndTold}
 use Rattle.s7_rig.specs.Rigs.{RigRan, Turning}
 
--- a result is that of an end that has the form of its job
+-- The result has the form of its job: it is the result of some end of a job, and that end has the form of the job.
 pub record IsFormed (told : JobResult) : Type 0 where
   pub asked : Job
   pub end : End

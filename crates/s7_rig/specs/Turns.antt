@@ -49,7 +49,7 @@ pub record StartsNothing (old new : Post) : Type 0 where
   pub none : IsSome (job_of old.client) ⊎ (old.rest ≡ [])
   pub same : new ≡ old
 
--- a job that is done adds its result, and the numbers of its entries that were kept
+-- A poll that ends a job adds the job's result, and the numbers of the link's entries that were noted since it began.
 abbrev pub with_polled : Polled → Post → Post
 with_polled (polled.Done told) p = record p {
   results = p.results ++ told ∷ [];

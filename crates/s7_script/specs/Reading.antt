@@ -254,7 +254,7 @@ after_header (text ∷ rest) = by_version (version_of text) rest
 abbrev pub areas : Text → Result Memory AreasFault
 areas text = after_header (lines text)
 
--- what a call returned is this, unless memory ran out
+-- the call returned this fault; nothing is said of the call if the fault is that memory ran out
 abbrev pub FailsAs : {Y : Type 0} → AreasFault → AreasKind → Result Y AreasFault → Type 0
 FailsAs e kind.Memory told = Unit {0}
 FailsAs e _ told = told ≡ Err e

@@ -43,7 +43,8 @@ Serves shows (Some (serve areas port links save journal entry)) files link door 
     ServesNamed (asked_by (serve areas port links save journal entry)) files
     (λ opening limit. ServesDoor shows port links opening limit door door' run)
 
--- the link that a command hands back: `pipe` the link if it didn't serve it, and `serve` the link that it never uses
+-- The link that is handed back. `pipe` hands it back if it didn't serve it. `serve` and a faulty command line hand it
+-- back always.
 abbrev pub handed_back : {L O : Type 0} → Option ServerTold → Option (Run L O) → L → Option L
 handed_back None run link = Some link
 handed_back (Some (pipe areas save journal)) run link = if is_some run then None else Some link

@@ -1,10 +1,10 @@
-// Rows of plants and of books with areas.
+//! Rows of plants and of books with areas.
 
-/// Data block 1 and the counters 1 and 2.
+/// Data block 1 with four octets, and counters with the values 1 and 2.
 pub(crate) const AREAS: &str = "area 84 1 11223344\narea 1C 0 00010002";
 
-/// Of a plant: a read's parameters, and its answer: two octets; one octet past the end; another block, no octet and a
-/// word of counters; two items; a counter; a bit.
+/// Of a plant: the parameters and the answer of each read. The reads are of two octets; of two octets of which one lies
+/// after the end; of another block, of no octet, and of an unknown word length; of two items; of a counter; of a bit.
 pub(crate) const READS: &str = "\
     owner read 0401.120A10020002000184000010 | 0 0401 FF0400103344\n\
     owner read 0401.120A10020002000184000018 | 0 0401 05000000\n\
@@ -14,8 +14,8 @@ pub(crate) const READS: &str = "\
     owner read 0401.120A101C000100001C000001 | 0 0401 FF0900020002\n\
     owner read 0401.120A10010001000184000004 | 0 0401 FF03000101";
 
-/// Of a plant: a write's parameters and data, and its answer: three items, whose second lies outside of data block 1.
-/// Then what the block holds: what it did where the write wasn't carried out.
+/// Of a plant: the parameters, the data and the answer of a write of three items, whose second lies outside of data
+/// block 1. After `asks` the block holds what it held before, and after `owner` what was written.
 pub(crate) const WRITES: &str = "\
     asks write 0503.120A10020001000184000000.120A10020001000184000020.120A10020001000184000018 \
         00040008AA00.00040008BB00.00040008CC | 0 0503 FF05FF\n\
@@ -24,8 +24,8 @@ pub(crate) const WRITES: &str = "\
         00040008AA00.00040008BB00.00040008CC | 0 0503 FF05FF\n\
     holds 84 1 AA2233CC";
 
-/// Of a book: the link, its request, the entry's number and the answer: a write at octet 0 of data block 1, a read of
-/// all of it, and a write at octet 3. Then what data block 1 held after so many entries.
+/// Of a book: a write at octet 0 of data block 1, a read of the whole block by another link, and a write at octet 3.
+/// Then what data block 1 held after each entry.
 pub(crate) const STEPS: &str = "\
     7 write 0501.120A10020001000184000000 00040008AA | 0 | 0 0501 FF\n\
     8 read 0401.120A10020004000184000000 | 1 | 0 0401 FF040020AA223344\n\
@@ -38,7 +38,7 @@ pub(crate) const STEPS: &str = "\
     image 2 | holds 84 1 AA223344\n\
     image 3 | holds 84 1 AA2233CC";
 
-/// Of a book: the write of three items is its one entry, and stands between two images.
+/// Of a book: a write of three items makes one entry, and the images before and after it have none and all of it.
 pub(crate) const WRITTEN: &str = "\
     7 write 0503.120A10020001000184000000.120A10020001000184000020.120A10020001000184000018 \
         00040008AA00.00040008BB00.00040008CC | 0 | 0 0503 FF05FF\n\
@@ -46,7 +46,7 @@ pub(crate) const WRITTEN: &str = "\
     image 0 | holds 84 1 11223344\n\
     image 1 | holds 84 1 AA2233CC";
 
-/// Of a book: the link, its request, the entry's number and the answer: a read, and a write that is handed back.
+/// Of a book that takes one entry: a read, and a write that is handed back.
 pub(crate) const FULL: &str = "\
     7 read 0401.120A10020004000184000000 | 0 | 0 0401 FF04002011223344\n\
     7 write 0501.120A10020001000184000000 00040008AA | full | 0 0401 FF04002011223344\n\

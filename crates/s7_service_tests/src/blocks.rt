@@ -1,7 +1,7 @@
-// Rows of plants and of books with blocks.
+//! Rows of plants and of books with blocks.
 
-/// Data blocks 1 and 300 and counters; functions 5 and 258, function block 1 and organization block 1, each with a head
-/// and the body AAAA. The kinds are OB 38, DB 41, SDB 42, FC 43, SFC 44, FB 45 and SFB 46.
+/// Data blocks 1 and 300, and counters. Functions 5 and 258, function block 1 and organization block 1, each with a
+/// head and the body AAAA. The codes of the kinds are OB 38, DB 41, SDB 42, FC 43, SFC 44, FB 45 and SFB 46.
 pub(crate) const BLOCKS: &str = "\
     area 84 1 11223344\n\
     area 1C 0 00010002\n\
@@ -11,7 +11,8 @@ pub(crate) const BLOCKS: &str = "\
     block 38 1 70700101.05.08.0001.00000026.00*22.0002.AAAA\n\
     block 43 102 70700101.01.0C.0102.00000026.00*22.0002.AAAA";
 
-/// A block that is refused, and one that is stored: its image stays with the request, and the room is taken up.
+/// Of a plant: a block is refused without the right, and stored with it. The image of the stored block stays with the
+/// request, and the request's room for a copy is used up.
 pub(crate) const TAKEN: &str = "\
     guard 2\n\
     any insert 45 7 70700101.07.0E.0007.00000026.00*22.0002.CCCC | D241 - -\n\
@@ -19,7 +20,8 @@ pub(crate) const TAKEN: &str = "\
     owner insert 45 7 70700101.07.0E.0007.00000026.00*22.0002.CCCC | 0 2800 -\n\
     last 45 7 CC";
 
-/// As many functions as a plant takes; one more, one in the place of another, and again one more behind a deletion.
+/// Of a plant: it has as many functions as it takes. One more is refused, one replaces another, and after a deletion
+/// one more is stored.
 pub(crate) const FULL: &str = "\
     functions 1 1024\n\
     owner insert 43 401 70700101.01.0C.0401.00000026.00*22.0002.CCCC | 8F04 - -\n\
@@ -31,7 +33,8 @@ pub(crate) const FULL: &str = "\
     loaded 1024\n\
     last 43 401 CC";
 
-/// What a link enters, and the last octets of function 5 and function block 9 after so many entries.
+/// Of a book: inserts and a deletion by a link, and the last octets of function 5 and function block 9 after each
+/// entry.
 pub(crate) const REPLAYED: &str = "\
     7 insert 43 5 70700101.01.0C.0005.00000026.00*22.0002.BBBB | 0 | 0 2800 -\n\
     7 insert 45 9 70700101.01.0E.0009.00000026.00*22.0002.CCCC | 1 | 0 2800 -\n\

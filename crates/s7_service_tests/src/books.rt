@@ -1,4 +1,4 @@
-// Rows that a book has to meet.
+//! Rows that a book has to meet.
 ghost use Rattle.std.specs.Prelude.{◌≡◌, [], map, IfSome};
 ghost use Rattle.std.specs.List.{AllByRecursion};
 ghost use Rattle.s7_plant.specs.Books.{seen_of};
@@ -17,20 +17,20 @@ use std::marker::Brand;
 use std::sync::ledger::{Blank, Ledger};
 use std::test::Fail;
 
-/// What the plant of a book is given, the tails that watch, how many entries the journal takes, and the rows that the
-/// book meets then.
+/// A test of a book: the rows that its plant is given, its tails, how many entries its journal takes, and the rows that
+/// the book has to meet then.
 type Row = (&'static str, &'static str, u64, &'static str);
 
-/// A book in the midst of its rows.
+/// A book, and what its rows need beside it.
 pub(crate) struct Scene {
     pub(crate) alloc: Global,
     pub(crate) book: Book<Tail>,
-    /// The tail that went last.
+    /// The tail that was swapped or removed last.
     pub(crate) gone: Option<Tail>,
     reply: Reply,
 }
 
-// It is dropped by a function of its own, so that what drops it is soon proved.
+// This drop is a function of its own, so that the proof of a function that drops a scene takes less time.
 impl Drop for Scene {
     fn drop(self) {
         let Scene {
@@ -42,20 +42,20 @@ impl Drop for Scene {
     }
 }
 
-/// A book whose plant was given some rows, that tails watch, and whose journal takes so many entries, meets the others.
-/// A row asks it, or says what it shows, as `plants::shows` has it.
+/// Fails unless the book of a test meets its rows. A row makes a request or states what the book shows. `SHOWN` is what
+/// `plants::shows` describes.
 ///
 ///     LINK REQUEST | NUMBER | ANSWER     a link asks with the right: the entry's number, and the answer
 ///     LINK REQUEST | full | ANSWER       a write of one item is handed back, and the reply is still this answer
-///     writes COUNT                       link 1 writes 0, 1, 2 and so on to the first octet of data block 1, so often
-///     links LINK ..                      the journal's entries are of these links
+///     writes COUNT                       link 1 writes COUNT times to the first octet of DB 1: 0, 1, 2 and so on
+///     links LINK ..                      the links of the journal's entries, in order
 ///     opening | SHOWN                    what the plant showed before the first entry
-///     now | SHOWN                        what it shows
-///     image NUMBER | SHOWN               what it showed after so many entries
-///     tail PLACE | COUNT EVENT ..        what the tail at this place has, the newest event first
-///     swap PLACE | MASK DEPTH            another tail comes there, and the one that was there goes
-///     remove PLACE                       the tail there goes
-///     gone | COUNT EVENT ..              what the one has that went last
+///     now | SHOWN                        what the plant shows
+///     image NUMBER | SHOWN               what the plant showed after the first NUMBER entries
+///     tail PLACE | COUNT EVENT ..        the tail at index PLACE counted COUNT events and keeps these, newest first
+///     swap PLACE | MASK DEPTH            another tail replaces the one at index PLACE
+///     remove PLACE                       the tail at index PLACE is removed
+///     gone | COUNT EVENT ..              the same as `tail` for the tail that was swapped or removed last
 ///
 /// An event is `NUMBER:LINK:CODE:ERROR`, the last two in hexadecimal.
 fn does(alloc: Global, row: &Row) -> Result<(), Fail> {
@@ -65,7 +65,7 @@ fn does(alloc: Global, row: &Row) -> Result<(), Fail> {
     }
 }
 
-/// The first row that the book doesn't meet.
+/// The first row that the book of a test doesn't meet, `None` if it meets all.
 fn unmet_by(alloc: Global, row: &Row) -> Option<&'static str> {
     let (given, tails, limit, rows) = *row;
     match a_scene(alloc, given, tails, limit) {
@@ -74,7 +74,7 @@ fn unmet_by(alloc: Global, row: &Row) -> Option<&'static str> {
     }
 }
 
-/// A book before its rows.
+/// A book of this kind before its rows. `None` if it can't be made.
 fn a_scene(alloc: Global, given: &str, tails: &str, limit: u64) -> Option<Scene> {
     let reply = Reply::new(alloc, BODY_ROOM).ok()?;
     let book = a_book(alloc, given, limit, tails_of(alloc, tails)?)?;
@@ -86,7 +86,7 @@ fn a_scene(alloc: Global, given: &str, tails: &str, limit: u64) -> Option<Scene>
     })
 }
 
-/// A book whose plant was given these rows, whose journal takes so many entries, and that these tails watch.
+/// A book whose plant was given these rows, whose journal takes `limit` entries, and whose observers are these tails.
 pub(crate) fn a_book(alloc: Global, given: &str, limit: u64, tails: Vec<Tail>) -> Option<Book<Tail>>
     requires { AllByRecursion IsFresh tails.items }
     ensures journal { IfSome result (λ book. book.journal ≡ entries_of [] limit) }
@@ -100,7 +100,7 @@ pub(crate) fn a_book(alloc: Global, given: &str, limit: u64, tails: Vec<Tail>) -
     Book::new(alloc, plant.areas, plant.blocks, limit, tails).ok()
 }
 
-/// The first row that the book doesn't meet.
+/// The first row that the book doesn't meet, `None` if it meets all.
 fn unmet<'a>(scene: &mut Scene, rows: &'a str) -> Option<&'a str> {
     for row in rows.lines() {
         match does_row(scene, row) {
@@ -111,7 +111,7 @@ fn unmet<'a>(scene: &mut Scene, rows: &'a str) -> Option<&'a str> {
     None
 }
 
-/// The book meets a row.
+/// Whether the book meets a row.
 fn does_row(scene: &mut Scene, row: &str) -> Option<bool> {
     match field(row, 0) {
         "writes" => are_entered(scene, number(field(row, 1))),
@@ -127,7 +127,7 @@ fn does_row(scene: &mut Scene, row: &str) -> Option<bool> {
     }
 }
 
-/// So many writes are entered.
+/// Whether `count` writes are entered, each of the next octet.
 fn are_entered(scene: &mut Scene, count: u64) -> Option<bool> {
     for n in 0..count {
         let request = a_write(scene.alloc, n.to_be_bytes()[7])?;
@@ -138,14 +138,14 @@ fn are_entered(scene: &mut Scene, count: u64) -> Option<bool> {
     Some(true)
 }
 
-/// A write of an octet to the first of data block 1.
+/// A write of this octet to the first one of data block 1.
 fn a_write(alloc: Global, octet: u8) -> Option<Request> {
     let mut data = octets(alloc, "00040008")?;
     data.push(octet).ok()?;
     write_of(alloc, "0501.120A10020001000184000000", data)
 }
 
-/// The journal's entries are of the links that the row names.
+/// Whether the journal's entries are those of the links that the row names, in order.
 pub(crate) fn are_of_links(book: &Book<Tail>, row: &str) -> bool {
     let mut place = 1usize;
     for entry in book.journal.as_slice() {
@@ -157,7 +157,7 @@ pub(crate) fn are_of_links(book: &Book<Tail>, row: &str) -> bool {
     field(row, place).is_empty()
 }
 
-/// A link's request is entered, or comes back, and is answered so.
+/// Whether a link's request is entered or handed back as the row states, and the reply is the row's answer.
 fn enters(scene: &mut Scene, row: &str) -> Option<bool> {
     let link = u32::try_from(number(field(row, 0))).ok()?;
     let request = request_of(scene.alloc, row)?;
@@ -168,7 +168,8 @@ fn enters(scene: &mut Scene, row: &str) -> Option<bool> {
     Some(is_so && says(scene.alloc, &scene.reply, part(row, '|', 2)))
 }
 
-/// The number of the entry that the request makes; or what comes back, where it can be carried out.
+/// The number of the entry that the request makes. If there is none, the error is what the book handed back, or `None`
+/// if the request can't be carried out.
 fn step(
     book: &mut Book<Tail>,
     link: u32,
@@ -188,7 +189,7 @@ fn step(
     }
 }
 
-/// The row says that the journal is full, and what comes back is the write that it asks.
+/// Whether the row states that the journal is full, and the book handed back the row's write.
 fn is_back(alloc: Global, back: &Option<Ask>, row: &str) -> bool {
     match back {
         Some(ask) => {
@@ -198,13 +199,13 @@ fn is_back(alloc: Global, back: &Option<Ask>, row: &str) -> bool {
     }
 }
 
-/// The plant after so many entries shows this.
+/// Whether the plant after the first entries shows what the row states.
 fn image_shows(alloc: Global, book: &Book<Tail>, row: &str) -> Option<bool> {
     let image = image_of::<Brand>(alloc, book, number(field(row, 1)), Blank::new(1))?;
     shows(alloc, &image, part(row, '|', 1))
 }
 
-/// The plant after the first entries.
+/// The plant after the first `n` entries. `None` if the journal has fewer, or if memory ran out.
 fn image_of<S: Ledger>(alloc: Global, book: &Book<Tail>, n: u64, blank: Blank) -> Option<Plant>
     requires name { blank.name ≡ S.name }
     requires parts { blank.parts ≡ S.parts }
@@ -217,7 +218,7 @@ fn image_of<S: Ledger>(alloc: Global, book: &Book<Tail>, n: u64, blank: Blank) -
     book.image_at(alloc, n, &mut steps).ok()
 }
 
-/// The books.
+/// The tests of books.
 const BOOKS: &[Row] = &[
     (AREAS, "", 3, areas::STEPS),
     (AREAS, "", 262_144, areas::STEPS),
@@ -233,6 +234,7 @@ const BOOKS: &[Row] = &[
     (AREAS, "04000000 2 | 04000000 1", 2, tails::REMOVED),
 ];
 
+/// Each book meets its rows.
 #[test]
 fn books_meet_their_rows(rt: HostRuntime) -> Result<(), Fail> {
     for row in BOOKS {

@@ -1,8 +1,9 @@
-// Rows of the clock and of control.
+//! Rows of the clock and of controls.
 
-/// By how much the clock is ahead, a moment, and the clock octets. The moment 1709214330123 is on Thursday, 2024-02-29,
-/// at 13:45:30.123; a clock that is 762529530124 behind shows the last millisecond of 1999 then, a Friday. The first of
-/// 1990 is a Monday, the last of 2089 a Saturday.
+/// Of a plant: by how many milliseconds its clock is ahead, a read of the clock at a moment, and the clock octets. The
+/// moment 1709214330123 is Thursday, 2024-02-29, 13:45:30.123. At that moment a clock that is 762529530124 milliseconds
+/// slow shows the last millisecond of 1999, a Friday. The first day of 1990 is a Monday, the last day of 2089 a
+/// Saturday.
 pub(crate) const CLOCKS: &str = "\
     ahead 0\n\
     owner clock 1709214330123 | 0 - 0019.240229.134530.1235\n\
@@ -21,7 +22,7 @@ pub(crate) const CLOCKS: &str = "\
     ahead -9223372036854775808\n\
     owner clock 1709214330123 | 0 - 0019.900101.000000.0002";
 
-/// Controls that a link enters, and what the plant showed after so many entries.
+/// Of a book: controls by a link, and what the plant showed after each entry.
 pub(crate) const IMAGES: &str = "\
     7 stop | 0 | 0 2900 -\n\
     7 set 1709214330123 946684799999 | 1 | 0 - -\n\

@@ -1,4 +1,4 @@
-// Halls that serve a book.
+//! Halls that serve a book.
 ghost use Rattle.std.specs.Prelude.{◌≡◌, IfSome, Some};
 ghost use Rattle.s7_turn.specs.Seats.{IsOf, next};
 
@@ -13,7 +13,7 @@ use std::sync::Wait;
 use std::test::Fail;
 use std::thread::{Threads, join_mut};
 
-/// A hall with a book of so many entries, and its first seat.
+/// A hall with a book whose journal takes `limit` entries, and the hall's first seat.
 fn opened(alloc: Global, limit: u64) -> Option<(Hall<Book<Tail>>, Seat<Book<Tail>>)>
     ensures { IfSome result (λ r. IsOf r.0 r.1 × (next r.1 ≡ Some 1)) }
 {
@@ -27,15 +27,15 @@ fn opened(alloc: Global, limit: u64) -> Option<(Hall<Book<Tail>>, Seat<Book<Tail
 /// How a call at a hall ends.
 #[derive(Clone, Copy)]
 enum Called {
-    /// With the entry of this number.
+    /// It made the entry of this number.
     Entered(u64),
-    /// The history is full, and the request comes back.
+    /// The history is full, and the request was handed back.
     Full,
-    /// It isn't made.
+    /// It wasn't made, since the request can't be carried out or the reply isn't ready.
     Unfit,
 }
 
-/// Has the hall carry the request out, where it can be.
+/// Has the hall carry out the request, if it can be carried out.
 fn call<R: Wait>(
     rt: &R,
     hall: &Hall<Book<Tail>>,
@@ -59,19 +59,20 @@ fn call<R: Wait>(
     }
 }
 
-/// A write of an octet to the first of data block 1, and its answer.
+/// A write of the first octet of data block 1, and its answer.
 const WRITE: (&str, &str) = (
     "0 write 0501.120A10020001000184000000 00040008AA",
     "0 0501 FF",
 );
 
-/// A read of data block 1, and its answer.
+/// A read of the four octets of data block 1, and its answer.
 const READ: (&str, &str) = (
     "0 read 0401.120A10020004000184000000",
     "0 0401 FF04002011223344",
 );
 
-/// Whether a row's request is entered as the first, and answered; or else comes back, and nothing is answered.
+/// Makes a row's request. `Some(true)` if it was entered as the first and was answered as the row states, `Some(false)`
+/// if it was handed back and the reply stayed empty, and `None` otherwise.
 fn is_first<R: Wait>(
     rt: &R,
     alloc: Global,
@@ -92,31 +93,32 @@ fn is_first<R: Wait>(
     }
 }
 
-/// The book once a write was entered.
+/// The book after one write, and whether the write was entered and answered as it should be.
 fn written<R: Wait>(rt: &R, alloc: Global) -> Option<(bool, Book<Tail>)> {
     let (hall, mut seat) = opened(alloc, 2)?;
     let is_so = is_first(rt, alloc, &hall, &mut seat, WRITE).unwrap_or(false);
     Some((is_so, hall.close(rt, seat)))
 }
 
-/// The book has one entry, and the area holds this.
+/// Whether the book has one entry, and its plant shows this.
 fn holds_it(alloc: Global, book: &Book<Tail>, shown: &str) -> bool {
     book.journal.len() == 1 && shows(alloc, &book.plant, shown).unwrap_or(false)
 }
 
-/// A write at a hall is entered, and the area holds it.
+/// Whether a write at a hall was entered, and the area holds what was written.
 fn is_served<R: Wait>(rt: &R, alloc: Global) -> Option<bool> {
     let (is_so, book) = written(rt, alloc)?;
     Some(is_so && holds_it(alloc, &book, "holds 84 1 AA223344"))
 }
 
+/// A hall enters a write in its book.
 #[test]
 fn a_hall_serves_a_book(rt: HostRuntime) -> Result<(), Fail> {
     assert!(rt; is_served(&rt, rt.alloc()).unwrap_or(false));
     Ok(())
 }
 
-/// Two seats read once each, in two threads, and nobody is kept.
+/// Two seats read once each, in two threads, and neither is held up. The results are those of `is_first`.
 fn both_read<R: Threads + Wait + Sync>(
     rt: &R,
     alloc: Global,
@@ -140,7 +142,8 @@ fn both_read<R: Threads + Wait + Sync>(
     join_mut(rt, &mut first, &mut second)
 }
 
-/// The links of the entries that there are where one of two seats was the first and the other was refused.
+/// The row of the entry's link, if one of the two seats was entered and the other was refused. No book meets the row
+/// otherwise.
 fn links_of(first: (Option<bool>, Option<bool>)) -> &'static str {
     match first {
         (Some(true), Some(false)) => "links 0",
@@ -149,7 +152,7 @@ fn links_of(first: (Option<bool>, Option<bool>)) -> &'static str {
     }
 }
 
-/// What came of two reads at a book of one entry, and the book.
+/// Two reads at a book that takes one entry: the row of the entry's link, and the book.
 fn one_read<R: Threads + Wait + Sync>(rt: &R, alloc: Global) -> Option<(&'static str, Book<Tail>)> {
     let (hall, mut one) = opened(alloc, 1)?;
     let mut two = hall.split(&mut one);
@@ -158,13 +161,14 @@ fn one_read<R: Threads + Wait + Sync>(rt: &R, alloc: Global) -> Option<(&'static
     Some((links, hall.close(rt, both)))
 }
 
-/// One of two reads at a book of one entry is entered.
+/// Whether one of two reads at a book that takes one entry was entered, and the other one wasn't.
 fn is_refused<R: Threads + Wait + Sync>(rt: &R, alloc: Global) -> Option<bool> {
     let (links, book) = one_read(rt, alloc)?;
     let is_so = holds_it(alloc, &book, "holds 84 1 11223344") && are_of_links(&book, links);
     Some(is_so)
 }
 
+/// A book that takes one entry refuses one of two reads.
 #[test]
 fn a_full_book_refuses_one_of_two(rt: HostRuntime) -> Result<(), Fail> {
     assert!(rt; is_refused(&rt, rt.alloc()).unwrap_or(false));

@@ -1,7 +1,7 @@
-// Rows of books that keep an image of the plant at each 4,096th entry.
+//! Rows of books that keep an image of the plant after each 4,096th entry.
 
-/// The first octet is one less than the number of entries, past 255 from 0 again: before the image that is kept, at
-/// it, behind it, and at the end.
+/// Each write stores its number, counted from 0 and modulo 256, in the first octet. The images are those before the
+/// kept image, at it, after it, and at the end.
 pub(crate) const WRITTEN: &str = "\
     writes 5000\n\
     opening | holds 84 1 11223344\n\
@@ -15,8 +15,8 @@ pub(crate) const WRITTEN: &str = "\
     2 write 0501.120A10020001000184000000 00040008BB | full | 0 0501 FF\n\
     image 4096 | holds 84 1 FF223344";
 
-/// A function comes by the last entry before an image is kept, the plant stops by the first behind it, and the
-/// function goes. Behind the second image nothing but writes came.
+/// The last entry before the first kept image inserts a function. The first entry after that image stops the plant, and
+/// the next one deletes the function. Before and after these three there are only writes.
 pub(crate) const LOADED: &str = "\
     writes 4095\n\
     2 insert 43 5 70700101.01.0C.0005.00000026.00*22.0002.BBBB | 4095 | 0 2800 -\n\

@@ -1,8 +1,8 @@
-//! Tests of plants, books, turns, sessions, windows and relays as libraries: calls that no program makes, or whose
-//! answers no program prints.
+//! Tests of plants, books, turns, sessions, windows and relays as libraries. They make calls that no program makes, or
+//! compare answers that no program prints.
 //!
-//! Most tests are tables of rows that a plant or a book has to meet, one after another. `plants`, `books`, `tails` and
-//! `requests` say how a row is written, and `fields` how octets are.
+//! Most tests are tables of rows. A plant or a book has to meet the rows of a table one after another. The modules
+//! `plants`, `books`, `tails` and `requests` describe how a row is written, and `fields` how octets are written.
 #![tactic(auto)]
 
 #[cfg(test)]

@@ -1,4 +1,4 @@
-// Rows that a plant has to meet.
+//! Rows that a plant has to meet.
 ghost use Rattle.std.specs.Prelude.{IfSome};
 ghost use Rattle.s7_area.specs.Guards.{IsGuard};
 
@@ -12,16 +12,16 @@ use s7_plant::{BODY_ROOM, Plant, Reply, Request};
 use std::alloc::Global;
 use std::test::Fail;
 
-/// A plant meets these rows after those that were given. A row gives it something, asks it, or says what it shows, as
-/// `shows` has it.
+/// Fails unless a plant that was given some rows meets these rows. A row changes the plant, makes a request, or states
+/// what the plant shows, as `shows` describes.
 ///
-///     area AREA NUMBER OCTETS       an area is registered
-///     block KIND NUMBER IMAGE       a block is loaded
-///     functions FIRST LAST          functions of these numbers, in decimal, are loaded
-///     guard LEVEL                   level 2 or 3 is set, with a password
-///     ahead MILLISECONDS            the clock is so much ahead
-///     asks REQUEST | ANSWER         how a request with the right is answered before it is carried out
-///     owner REQUEST | ANSWER        how it is answered before that, and by it
+///     area AREA NUMBER OCTETS       registers an area
+///     block KIND NUMBER IMAGE       loads a block
+///     functions FIRST LAST          loads the functions of these numbers, which are decimal
+///     guard LEVEL                   sets a guard of level 2 or 3, with a password
+///     ahead MILLISECONDS            sets by how much the clock is ahead
+///     asks REQUEST | ANSWER         the answer to a request with the right, which isn't carried out
+///     owner REQUEST | ANSWER        the answer to a request with the right, before it is carried out and by that
 ///     any REQUEST | ANSWER          the same without the right
 ///
 /// An answer is an error word, parameters and a body.
@@ -32,7 +32,7 @@ fn does(alloc: Global, given: &str, rows: &str) -> Result<(), Fail> {
     }
 }
 
-/// The first row that the plant doesn't meet which was given the others.
+/// The first row that a plant doesn't meet after it was given the others, `None` if it meets all.
 fn unmet_by<'a>(alloc: Global, given: &'a str, rows: &'a str) -> Option<&'a str> {
     match a_plant(alloc, given) {
         Some(mut plant) => unmet(alloc, &mut plant, rows),
@@ -40,7 +40,7 @@ fn unmet_by<'a>(alloc: Global, given: &'a str, rows: &'a str) -> Option<&'a str>
     }
 }
 
-/// A plant that was given these rows.
+/// A plant that was given these rows. `None` if it doesn't meet one of them.
 pub(crate) fn a_plant(alloc: Global, given: &str) -> Option<Plant> {
     let blocks = Blocks::new(alloc, 1_024).ok()?;
     let mut plant = Plant::new(Areas::new(), blocks);
@@ -50,7 +50,7 @@ pub(crate) fn a_plant(alloc: Global, given: &str) -> Option<Plant> {
     }
 }
 
-/// The first row that the plant doesn't meet.
+/// The first row that the plant doesn't meet, `None` if it meets all.
 fn unmet<'a>(alloc: Global, plant: &mut Plant, rows: &'a str) -> Option<&'a str> {
     for row in rows.lines() {
         match does_row(alloc, plant, row) {
@@ -61,7 +61,7 @@ fn unmet<'a>(alloc: Global, plant: &mut Plant, rows: &'a str) -> Option<&'a str>
     None
 }
 
-/// The plant meets a row.
+/// Whether the plant meets a row.
 fn does_row(alloc: Global, plant: &mut Plant, row: &str) -> Option<bool> {
     match field(row, 0) {
         "area" => registers(alloc, plant, row),
@@ -85,19 +85,19 @@ fn key_of(row: &str) -> AreaKey {
     }
 }
 
-/// The area of a row is registered.
+/// Registers the area of a row, and returns whether that succeeded.
 fn registers(alloc: Global, plant: &mut Plant, row: &str) -> Option<bool> {
     let octets = Octets::of_vec(octets(alloc, field(row, 3))?);
     Some(plant.areas.register(alloc, key_of(row), octets).is_ok())
 }
 
-/// The block of a row is loaded.
+/// Loads the block of a row, and returns whether that succeeded.
 fn loads(alloc: Global, plant: &mut Plant, row: &str) -> Option<bool> {
     let image = octets(alloc, field(row, 3))?;
     Some(inserts(plant, key_of(row), image))
 }
 
-/// The plant takes a block with the kind and the number of the key.
+/// Loads a block with the kind and the number of the key, and returns whether that succeeded.
 fn inserts(plant: &mut Plant, key: AreaKey, image: Vec<u8>) -> bool {
     let block = Block {
         kind: key.area,
@@ -107,7 +107,7 @@ fn inserts(plant: &mut Plant, key: AreaKey, image: Vec<u8>) -> bool {
     plant.blocks.insert(block).is_ok()
 }
 
-/// The functions of a row are loaded.
+/// Loads the functions of a row, and returns whether that succeeded.
 fn loads_functions(alloc: Global, plant: &mut Plant, row: &str) -> Option<bool> {
     let end = number(field(row, 2)).saturating_add(1);
     for n in number(field(row, 1))..end {
@@ -118,14 +118,14 @@ fn loads_functions(alloc: Global, plant: &mut Plant, row: &str) -> Option<bool> 
     Some(true)
 }
 
-/// The function of this number is loaded.
+/// Loads the function of this number, and returns whether that succeeded.
 fn loads_function(alloc: Global, plant: &mut Plant, number: u16) -> Option<bool> {
     let image = a_function(alloc, number)?;
     let key = AreaKey { area: 0x43, number };
     Some(inserts(plant, key, image))
 }
 
-/// A function of this number, with a body of two octets AA.
+/// The image of the function of this number, with a body of two octets AA.
 fn a_function(alloc: Global, number: u16) -> Option<Vec<u8>> {
     let mut image = octets(alloc, "70700101.01.0C")?;
     image.extend_from_slice(&number.to_be_bytes()).ok()?;
@@ -133,14 +133,14 @@ fn a_function(alloc: Global, number: u16) -> Option<Vec<u8>> {
     Some(image)
 }
 
-/// The guard is set.
+/// Sets a guard of this level. False if there is no such level.
 fn is_guarded(plant: &mut Plant, level: u8) -> bool {
     let guard = a_guard(level);
     plant.areas.set_guard(guard);
     guard.is_some()
 }
 
-/// A guard of level 2 or 3; none for another level.
+/// A guard of level 2 or 3; `None` for another level.
 fn a_guard(level: u8) -> Option<Guard>
     ensures { IfSome result IsGuard }
 {
@@ -153,20 +153,21 @@ fn a_guard(level: u8) -> Option<Guard>
     })
 }
 
-/// The plant answers so before the request is carried out, and by it where it is.
+/// Whether the plant answers the request of a row as the row states: before it is carried out, and, unless the word is
+/// `asks`, when it is carried out.
 fn answers(alloc: Global, plant: &mut Plant, row: &str) -> Option<bool> {
     let word = field(row, 0);
     let right = word != "any";
     Some(tells(alloc, plant, right, row)? && (word == "asks" || steps(alloc, plant, right, row)?))
 }
 
-/// The plant answers so, and nothing is carried out.
+/// Whether the plant answers the request of a row as the row states. The request isn't carried out.
 fn tells(alloc: Global, plant: &Plant, right: bool, row: &str) -> Option<bool> {
     let request = request_of(alloc, row)?;
     Some(is_told(alloc, plant, right, &request, row))
 }
 
-/// A new reply says so, and nothing is carried out.
+/// Whether the plant's answer in a new reply is the row's. The request isn't carried out.
 fn is_told(alloc: Global, plant: &Plant, right: bool, request: &Request, row: &str) -> bool {
     match Reply::new(alloc, BODY_ROOM) {
         Ok(mut reply) => {
@@ -176,7 +177,8 @@ fn is_told(alloc: Global, plant: &Plant, right: bool, request: &Request, row: &s
     }
 }
 
-/// Has the plant answer. It doesn't where the request can't be carried out.
+/// Has the plant answer the request without carrying it out. False if the request can't be carried out or the reply
+/// isn't ready; then the plant isn't called.
 fn tell(plant: &Plant, right: bool, request: &Request, reply: &mut Reply) -> bool {
     if !can_be_done(request) || !is_ready(reply) {
         return false;
@@ -185,14 +187,15 @@ fn tell(plant: &Plant, right: bool, request: &Request, reply: &mut Reply) -> boo
     true
 }
 
-/// The plant carries the request out and answers so.
+/// Whether the plant carries out the request of a row, answers as the row states, and leaves the request as a history
+/// keeps it.
 fn steps(alloc: Global, plant: &mut Plant, right: bool, row: &str) -> Option<bool> {
     let mut request = request_of(alloc, row)?;
     let is_so = is_done(alloc, plant, right, &mut request, row) && is_kept(alloc, &request, row);
     Some(is_so)
 }
 
-/// The request is carried out, and a new reply says so.
+/// Whether the plant carries out the request, and its answer in a new reply is the row's.
 fn is_done(
     alloc: Global,
     plant: &mut Plant,
@@ -208,7 +211,8 @@ fn is_done(
     }
 }
 
-/// Has the plant carry the request out, where it can be.
+/// Has the plant carry out the request. False if the request can't be carried out or the reply isn't ready; then the
+/// plant isn't called.
 fn step(plant: &mut Plant, right: bool, request: &mut Request, reply: &mut Reply) -> bool {
     if !can_be_done(request) || !is_ready(reply) {
         return false;
@@ -217,21 +221,22 @@ fn step(plant: &mut Plant, right: bool, request: &mut Request, reply: &mut Reply
     true
 }
 
-/// The reply is this answer.
+/// Whether the reply is this answer: an error word, parameters and a body.
 pub(crate) fn says(alloc: Global, reply: &Reply, answer: &str) -> bool {
     reply.error == code(answer, 0)
         && is(alloc, reply.params.as_slice(), field(answer, 1))
         && is(alloc, reply.body.as_slice(), field(answer, 2))
 }
 
-/// What a plant shows:
+/// Whether the plant shows what a row states. `None` if the row can't be read, or names an area or a block that the
+/// plant doesn't have.
 ///
-///     runs MILLISECONDS             it runs, and its clock is so much ahead
-///     stands MILLISECONDS           it is stopped
+///     runs MILLISECONDS             it runs, and its clock is ahead by this
+///     stands MILLISECONDS           it is stopped, and its clock is ahead by this
 ///     holds AREA NUMBER OCTETS      the octets of an area
-///     loaded COUNT                  how many blocks were loaded
-///     last KIND NUMBER OCTET        the last octet of a block that was loaded
-///     without KIND NUMBER           no such block was loaded
+///     loaded COUNT                  how many blocks are in the store
+///     last KIND NUMBER OCTET        the last octet of a block in the store
+///     without KIND NUMBER           no such block is in the store
 pub(crate) fn shows(alloc: Global, plant: &Plant, row: &str) -> Option<bool> {
     match field(row, 0) {
         "runs" => Some(plant.running && plant.offset == offset_of(row)?),
@@ -244,25 +249,25 @@ pub(crate) fn shows(alloc: Global, plant: &Plant, row: &str) -> Option<bool> {
     }
 }
 
-/// By how many milliseconds a row has the clock ahead.
+/// The number of milliseconds in the second field of a row, by which the clock is ahead.
 fn offset_of(row: &str) -> Option<i64> {
     field(row, 1).parse::<i64>().ok()
 }
 
-/// The area of a row has its octets.
+/// Whether the area of a row has the row's octets.
 fn holds(alloc: Global, plant: &Plant, row: &str) -> Option<bool> {
     let found = plant.areas.octets_of(key_of(row))?;
     Some(is(alloc, found, field(row, 3)))
 }
 
-/// The block of a row ends with its octet.
+/// Whether the block of a row ends with the row's octet.
 fn has_last(plant: &Plant, row: &str) -> Option<bool> {
     let block = plant.blocks.get(kind(row, 1), code(row, 2))?;
     let last = block.image.as_slice().last()?;
     Some(*last == kind(row, 3))
 }
 
-/// What a plant is given, and the rows that it meets then.
+/// The tests of plants: the rows that a plant is given, and the rows that it has to meet then.
 const PLANTS: &[(&str, &str)] = &[
     (areas::AREAS, areas::READS),
     (areas::AREAS, areas::WRITES),
@@ -271,6 +276,7 @@ const PLANTS: &[(&str, &str)] = &[
     (areas::AREAS, control::CLOCKS),
 ];
 
+/// Each plant meets its rows.
 #[test]
 fn plants_meet_their_rows(rt: HostRuntime) -> Result<(), Fail> {
     for (given, rows) in PLANTS {

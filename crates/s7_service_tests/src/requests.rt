@@ -1,4 +1,4 @@
-// The requests of rows.
+//! The requests that rows state.
 ghost use Rattle.std.specs.Prelude.{◌+◌, ◌≤◌, All, IsTrue};
 ghost use Rattle.s7_plant.specs.Replies.{IsReadyReply};
 ghost use Rattle.s7_plant.specs.Requests.{CanBeDone};
@@ -12,14 +12,14 @@ use s7_outer::{Buffer, Octets};
 use s7_plant::{BODY_ROOM, PARAMS_ROOM, Reply, Request};
 use std::alloc::Global;
 
-/// The request that a row asks, from its second field on:
+/// The request that a row states, from its second field on:
 ///
 ///     read PARAMETERS            write PARAMETERS DATA
 ///     clock MOMENT               set MOMENT VALUE
 ///     start  stop  compress
 ///     insert KIND NUMBER IMAGE   delete KIND NUMBER
 ///
-/// Moments are in decimal, all else is in hexadecimal.
+/// Moments are decimal numbers. Everything else is hexadecimal.
 pub(crate) fn request_of(alloc: Global, row: &str) -> Option<Request> {
     match field(row, 1) {
         "read" => a_read(alloc, row),
@@ -35,7 +35,7 @@ pub(crate) fn request_of(alloc: Global, row: &str) -> Option<Request> {
     }
 }
 
-/// A request that takes two numbers.
+/// The request of this word, which takes two numbers.
 fn of_numbers(word: &str, row: &str) -> Option<Request> {
     match word {
         "set" => Some(Request::ClockSet {
@@ -50,19 +50,19 @@ fn of_numbers(word: &str, row: &str) -> Option<Request> {
     }
 }
 
-/// A read of a row.
+/// The read that a row states.
 fn a_read(alloc: Global, row: &str) -> Option<Request> {
     let items = items_of(alloc, field(row, 2))?;
     Some(Request::Read { items })
 }
 
-/// A write of a row.
+/// The write that a row states.
 fn a_write(alloc: Global, row: &str) -> Option<Request> {
     let data = octets(alloc, field(row, 3))?;
     write_of(alloc, field(row, 2), data)
 }
 
-/// The items of a read's or a write's parameters.
+/// The items of the parameters of a read or a write.
 fn items_of(alloc: Global, params: &str) -> Option<Items> {
     let mut items = Items::new();
     let params = octets(alloc, params)?;
@@ -82,7 +82,7 @@ pub(crate) fn write_of(alloc: Global, params: &str, data: Vec<u8>) -> Option<Req
     })
 }
 
-/// An insert of a row, with room for its image.
+/// The insert that a row states, with room for a copy of its image.
 fn an_insert(alloc: Global, row: &str) -> Option<Request> {
     let image = octets(alloc, field(row, 4))?;
     let spare = Buffer::new(alloc, image.len()).ok()?;
@@ -94,7 +94,7 @@ fn an_insert(alloc: Global, row: &str) -> Option<Request> {
     })
 }
 
-/// The request can be carried out.
+/// Whether the request can be carried out.
 pub(crate) fn can_be_done(request: &Request) -> bool
     ensures { IsTrue result → CanBeDone request.now }
 {
@@ -122,7 +122,7 @@ pub(crate) fn can_be_done(request: &Request) -> bool
     }
 }
 
-/// Each place lies inside so many octets.
+/// Whether each range lies inside `len` octets.
 fn are_inside(places: &[DataPlace], len: usize) -> bool
     ensures { IsTrue result → All (λ place. place.from + place.len ≤ len) places.now }
 {
@@ -131,14 +131,15 @@ fn are_inside(places: &[DataPlace], len: usize) -> bool
         .all(|place| place.from <= len && place.len <= len - place.from)
 }
 
-/// The reply has its rooms.
+/// Whether the reply has the rooms that a plant needs.
 pub(crate) fn is_ready(reply: &Reply) -> bool
     ensures { IsTrue result → IsReadyReply reply.now }
 {
     reply.params.room() == PARAMS_ROOM && reply.body.room() == BODY_ROOM
 }
 
-/// What is left of a request that was carried out: of an insert its image, and no room for a copy.
+/// Whether a request that was carried out is as a history keeps it: an insert still has its image, and no room for a
+/// copy any more.
 pub(crate) fn is_kept(alloc: Global, request: &Request, row: &str) -> bool {
     match request {
         Request::Insert { image, spare, .. } => {
@@ -148,7 +149,7 @@ pub(crate) fn is_kept(alloc: Global, request: &Request, row: &str) -> bool {
     }
 }
 
-/// It is a write of one item and of the data of this row.
+/// Whether the request is a write of one item with the data of this row.
 pub(crate) fn is_write(alloc: Global, request: &Request, row: &str) -> bool {
     match request {
         Request::Write { items, octets, .. } => {

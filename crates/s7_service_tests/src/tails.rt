@@ -1,4 +1,4 @@
-// Tails of events, and rows of books that two of them watch.
+//! Tails of events, and rows of books that have two of them as observers.
 ghost use Rattle.std.specs.Prelude.{IfSome};
 ghost use Rattle.std.specs.List.{AllByRecursion};
 ghost use Rattle.s7_plant.specs.Observers.{IsFresh};
@@ -9,8 +9,8 @@ use s7_plant::{Book, Event, Observer, Tail};
 use std::alloc::Global;
 use std::test::Fail;
 
-/// The two tails of a text, with a bar between them, or none where it is empty. A tail is a mask in hexadecimal and a
-/// depth.
+/// The two tails that a text states, with a bar between them, or no tail if the text is empty. A tail is stated as a
+/// mask in hexadecimal and a depth.
 pub(crate) fn tails_of(alloc: Global, text: &str) -> Option<Vec<Tail>>
     ensures { IfSome result (λ tails. AllByRecursion IsFresh tails.items) }
 {
@@ -23,7 +23,7 @@ pub(crate) fn tails_of(alloc: Global, text: &str) -> Option<Vec<Tail>>
     Some(tails)
 }
 
-/// A tail that has counted nothing.
+/// The tail that a text states, before it has counted anything.
 fn a_tail(alloc: Global, text: &str) -> Option<Tail>
     ensures { IfSome result IsFresh }
 {
@@ -35,23 +35,23 @@ fn a_tail(alloc: Global, text: &str) -> Option<Tail>
     Tail::new(alloc, mask, depth).ok()
 }
 
-/// The place that a row names in its second field.
+/// The index of a tail, which a row states in its second field.
 fn place_of(row: &str) -> Option<usize> {
     field(row, 1).parse::<usize>().ok()
 }
 
-/// The tail at the place of a row has these events.
+/// Whether the tail at the index of a row has the row's events.
 pub(crate) fn has_tail(book: &Book<Tail>, row: &str) -> Option<bool> {
     let watcher = book.observers.get(place_of(row)?)?;
     has(&watcher.observer, part(row, '|', 1))
 }
 
-/// The tail that went last has these events.
+/// Whether the tail that was swapped or removed last has the row's events.
 pub(crate) fn is_gone(scene: &Scene, row: &str) -> Option<bool> {
     has(scene.gone.as_ref()?, part(row, '|', 1))
 }
 
-/// Another tail comes to the place of a row.
+/// Replaces the tail at the index of a row, and keeps the old one. False if there is no tail at that index.
 pub(crate) fn is_swapped(scene: &mut Scene, row: &str) -> Option<bool> {
     let place = place_of(row)?;
     let comes = a_tail(scene.alloc, part(row, '|', 1))?;
@@ -62,7 +62,7 @@ pub(crate) fn is_swapped(scene: &mut Scene, row: &str) -> Option<bool> {
     Some(true)
 }
 
-/// The tail at the place of a row goes.
+/// Removes the tail at the index of a row, and keeps it. False if there is no tail at that index.
 pub(crate) fn is_removed(scene: &mut Scene, row: &str) -> Option<bool> {
     let place = place_of(row)?;
     if place >= scene.book.observers.len() {
@@ -72,7 +72,7 @@ pub(crate) fn is_removed(scene: &mut Scene, row: &str) -> Option<bool> {
     Some(true)
 }
 
-/// The tail counted so many events and has these, from the newest, and no more of them.
+/// Whether the tail counted the stated number of events and keeps exactly the stated ones, newest first.
 fn has(tail: &Tail, text: &str) -> Option<bool> {
     let (count, events) = text.split_once(' ').unwrap_or((text, ""));
     let mut n = 0usize;
@@ -85,12 +85,12 @@ fn has(tail: &Tail, text: &str) -> Option<bool> {
     Some(tail.count() == number(count) && ends_at(tail, n))
 }
 
-/// The tail has so many events and no more.
+/// Whether the tail keeps at most `n` events.
 fn ends_at(tail: &Tail, n: usize) -> bool {
     tail.newest(n).is_none() && tail.newest(n.saturating_add(1)).is_none()
 }
 
-/// The event is the one of a text.
+/// Whether the event is the one that a text states.
 fn is_event(event: &Event, text: &str) -> bool {
     event.number == number(part(text, ':', 0))
         && u64::from(event.link) == number(part(text, ':', 1))
@@ -98,7 +98,7 @@ fn is_event(event: &Event, text: &str) -> bool {
         && u32::from(event.error) == hex_number(part(text, ':', 3))
 }
 
-/// A write, of which one tail hears. The journal is full then, and a request that is handed back tells nobody.
+/// A write, of which one tail is notified. Then the journal is full. A request that is handed back notifies no tail.
 pub(crate) const HEARD: &str = "\
     7 write 0501.120A10020001000184000000 00040008AA | 0 | 0 0501 FF\n\
     tail 0 | 1 0:7:40000:0\n\
@@ -107,8 +107,8 @@ pub(crate) const HEARD: &str = "\
     tail 0 | 1 0:7:40000:0\n\
     tail 1 | 0";
 
-/// Both tails hear of control and of writes, and not of the read. The second stop is answered by a status, and the
-/// block that isn't there by an error.
+/// Both tails are notified of controls and of writes, and not of the read. The second stop is answered with a status,
+/// and the deletion of a block that doesn't exist with an error.
 pub(crate) const LAST: &str = "\
     1 stop | 0 | 0 2900 -\n\
     2 read 0401.120A10020002000184000010 | 1 | 0 0401 FF0400103344\n\
@@ -120,7 +120,7 @@ pub(crate) const LAST: &str = "\
     tail 0 | 4 4:2:4000000:0\n\
     tail 1 | 4 4:2:4000000:0 3:1:40000:0 2:3:4000000:D209";
 
-/// One tail goes after the first of two stops, and another comes.
+/// After the first of two stops another tail replaces the first tail.
 pub(crate) const SWAPPED: &str = "\
     1 stop | 0 | 0 2900 -\n\
     swap 0 | 04000000 2\n\
@@ -129,7 +129,7 @@ pub(crate) const SWAPPED: &str = "\
     tail 0 | 1 1:1:4000000:0\n\
     tail 1 | 2 1:1:4000000:0 0:1:4000000:0";
 
-/// One tail goes after the first of two stops, and the one behind it moves up.
+/// After the first of two stops the first tail is removed, and the second one takes its index.
 pub(crate) const REMOVED: &str = "\
     1 stop | 0 | 0 2900 -\n\
     remove 0\n\
@@ -137,7 +137,7 @@ pub(crate) const REMOVED: &str = "\
     gone | 1 0:1:4000000:0\n\
     tail 0 | 2 1:1:4000000:0";
 
-/// A tail that was told of so many reads.
+/// The tail that a text states, after it was notified of `count` reads.
 fn told(alloc: Global, text: &str, count: u64) -> Option<Tail> {
     let mut tail = a_tail(alloc, text)?;
     for number in 0..count {
@@ -151,7 +151,7 @@ fn told(alloc: Global, text: &str, count: u64) -> Option<Tail> {
     Some(tail)
 }
 
-/// The event with so many behind it is the entry of this number.
+/// Whether the event that `behind` newer ones follow is that of the entry with this number.
 fn is_at(tail: &Tail, behind: usize, number: u64) -> bool {
     match tail.newest(behind) {
         Some(event) => event.number == number,
@@ -159,10 +159,10 @@ fn is_at(tail: &Tail, behind: usize, number: u64) -> bool {
     }
 }
 
-/// A tail, the place of its oldest event, and the number of the entry that this tells of.
+/// A tail, the index of its oldest event counted from the newest, and the number of that event's entry.
 const DEPTHS: &[(&str, usize, u64)] = &[("00020000 1", 0, 9_999), ("00020000 1000", 999, 9_000)];
 
-/// A tail that was told of ten thousand events has the last of them.
+/// Whether a tail that was notified of ten thousand events keeps the last of them.
 fn has_last(alloc: Global, row: &(&str, usize, u64)) -> Option<bool> {
     let (text, oldest, number) = *row;
     let tail = told(alloc, text, 10_000)?;
@@ -173,6 +173,7 @@ fn has_last(alloc: Global, row: &(&str, usize, u64)) -> Option<bool> {
     Some(is_so)
 }
 
+/// Tails keep the last of ten thousand events.
 #[test]
 fn ten_thousand_events(rt: HostRuntime) -> Result<(), Fail> {
     for row in DEPTHS {

@@ -1,3 +1,4 @@
+//! Halls that serve an adder: one history of the calls of many threads.
 ghost use Rattle.std.specs.Prelude.{◌≡◌, ℕ, ◌+◌, ◌≤◌, ◌%◌, ◌^◌, Some, IfOk};
 ghost use Rattle.s7_turn.specs.Seats.{IsOf, next};
 
@@ -7,7 +8,7 @@ use std::sync::Wait;
 use std::test::Fail;
 use std::thread::{Threads, for_each_mut, join_mut, yield_now};
 
-/// An adder that lets other threads run in the midst of a turn, so that they come while it is out.
+/// An adder that lets other threads run in the middle of a turn, so that they call while it is taken.
 #[derive(Drop)]
 struct Slow {
     adder: Adder,
@@ -48,7 +49,7 @@ impl Machine for Slow {
     }
 }
 
-/// A hall with an adder of so many entries, and its first seat.
+/// A hall with an adder of at most `limit` entries, and the hall's first seat.
 fn opened(alloc: Global, limit: usize) -> Result<(Hall<Slow>, Seat<Slow>), Fail>
     ensures { IfOk result (λ r. IsOf r.0 r.1 × (next r.1 ≡ Some 1)) }
 {
@@ -59,7 +60,7 @@ fn opened(alloc: Global, limit: usize) -> Result<(Hall<Slow>, Seat<Slow>), Fail>
     }
 }
 
-/// The adder of a hall that is closed.
+/// Closes the hall, and returns its adder.
 fn closed<R: Wait>(rt: &R, hall: Hall<Slow>, seat: Seat<Slow>) -> Adder
     requires { IsOf hall seat }
 {
@@ -67,7 +68,8 @@ fn closed<R: Wait>(rt: &R, hall: Hall<Slow>, seat: Seat<Slow>) -> Adder
     adder
 }
 
-/// The number of the entry that a call makes; or the request that comes back, and how many entries there are.
+/// The number of the entry that a call makes. If the history is full, the error is the request, which is handed back,
+/// and the number of entries.
 fn call<R: Wait>(
     rt: &R,
     hall: &Hall<Slow>,
@@ -84,7 +86,8 @@ fn call<R: Wait>(
     }
 }
 
-/// The call makes the entry of this number, and is answered with this sum.
+/// Whether the call makes the entry of this number and is answered with this sum. A row has the request, the number and
+/// the sum.
 fn is_added<R: Wait>(
     rt: &R,
     hall: &Hall<Slow>,
@@ -102,7 +105,8 @@ fn is_added<R: Wait>(
     }
 }
 
-/// The request comes back where there are so many entries, and the answer is still this one.
+/// Whether the request is handed back with this number of entries, and the reply is still this one. A row has the
+/// request, the number of entries and the reply.
 fn is_full<R: Wait>(
     rt: &R,
     hall: &Hall<Slow>,
@@ -120,7 +124,7 @@ fn is_full<R: Wait>(
     }
 }
 
-/// Three calls make entries, and the fourth comes back.
+/// Whether three calls make entries, and the request of the fourth is handed back.
 fn fills<R: Wait>(rt: &R, hall: &Hall<Slow>, seat: &mut Seat<Slow>) -> bool
     requires { IsOf hall.now seat.old }
     ensures { IsOf hall.now seat.new }
@@ -132,7 +136,7 @@ fn fills<R: Wait>(rt: &R, hall: &Hall<Slow>, seat: &mut Seat<Slow>) -> bool
         && is_full(rt, hall, seat, &mut reply, (8, 3, 11))
 }
 
-/// The adder behind these calls, where they went so.
+/// The adder after these calls; `None` if one of them ended otherwise.
 fn filled<R: Wait>(rt: &R, alloc: Global) -> Result<Option<Adder>, Fail> {
     let (hall, mut seat) = opened(alloc, 3)?;
     let is_so = fills(rt, &hall, &mut seat);
@@ -140,7 +144,7 @@ fn filled<R: Wait>(rt: &R, alloc: Global) -> Result<Option<Adder>, Fail> {
     Ok(is_so.then_some(adder))
 }
 
-/// The adder has the three entries of these requests, all of caller 0.
+/// Whether the adder has the three entries of these requests, all of caller 0.
 fn has_three(adder: &Adder) -> bool {
     match adder.entries.as_slice() {
         [one, two, three] => {
@@ -153,6 +157,7 @@ fn has_three(adder: &Adder) -> bool {
     }
 }
 
+/// A hall makes entries until its adder is full.
 #[test]
 fn adds_until_it_is_full(rt: HostRuntime) -> Result<(), Fail> {
     match filled(&rt, rt.alloc())? {
@@ -162,7 +167,7 @@ fn adds_until_it_is_full(rt: HostRuntime) -> Result<(), Fail> {
     Ok(())
 }
 
-/// Adds 1 so often.
+/// Adds 1 in each of `calls` calls.
 fn add_ones<R: Wait>(rt: &R, hall: &Hall<Slow>, seat: &mut Seat<Slow>, calls: u32)
     requires { IsOf hall.now seat.old }
     ensures { IsOf hall.now seat.new }
@@ -173,7 +178,7 @@ fn add_ones<R: Wait>(rt: &R, hall: &Hall<Slow>, seat: &mut Seat<Slow>, calls: u3
     }
 }
 
-/// How many entries a caller has.
+/// The number of entries of a caller.
 fn calls_of(adder: &Adder, caller: u32) -> u32 {
     let mut count = 0u32;
     for entry in adder.entries.as_slice() {
@@ -184,7 +189,8 @@ fn calls_of(adder: &Adder, caller: u32) -> u32 {
     count
 }
 
-/// The adder has so many entries of one each, and each caller from the first up to the end has so many of them.
+/// Whether the adder has `entries` entries that add 1, and each caller of a range, whose end isn't one of them, has
+/// `calls` of these entries.
 fn has_ones(adder: &Adder, entries: u64, callers: (u32, u32), calls: u32) -> bool {
     let (first, end) = callers;
     for caller in first..end {
@@ -195,7 +201,7 @@ fn has_ones(adder: &Adder, entries: u64, callers: (u32, u32), calls: u32) -> boo
     adder.entries.len() as u64 == entries && adder.sum == entries
 }
 
-/// The seats make 100 calls each, in two threads.
+/// Each of two seats makes 100 calls, in a thread of its own.
 fn add_in_two<R: Threads + Wait + Sync>(
     rt: &R,
     hall: &Hall<Slow>,
@@ -218,7 +224,7 @@ fn add_in_two<R: Threads + Wait + Sync>(
     join_mut(rt, &mut first, &mut second);
 }
 
-/// The caller of the seat that two others came to, and the adder.
+/// Two threads make their calls, and their seats are joined to one: its caller, and the adder.
 fn added_by_two<R: Threads + Wait + Sync>(rt: &R, alloc: Global) -> Result<(u32, Adder), Fail> {
     let (hall, mut one) = opened(alloc, 1000)?;
     let mut two = hall.split(&mut one);
@@ -228,6 +234,7 @@ fn added_by_two<R: Threads + Wait + Sync>(rt: &R, alloc: Global) -> Result<(u32,
     Ok((caller, closed(rt, hall, both)))
 }
 
+/// The calls of two threads make one history.
 #[test]
 fn two_threads_make_one_history(rt: HostRuntime) -> Result<(), Fail> {
     let (caller, adder) = added_by_two(&rt, rt.alloc())?;
@@ -236,7 +243,7 @@ fn two_threads_make_one_history(rt: HostRuntime) -> Result<(), Fail> {
     Ok(())
 }
 
-/// A seat at a hall.
+/// A seat at a hall, with the hall.
 #[derive(Drop)]
 struct Place<'a> {
     hall: &'a Hall<Slow>,
@@ -244,7 +251,7 @@ struct Place<'a> {
     ghost of: { IsOf hall.now seat },
 }
 
-/// So many seats beside the first.
+/// This number of seats beside the first one.
 fn places<'a>(
     alloc: Global,
     hall: &'a Hall<Slow>,
@@ -263,7 +270,8 @@ fn places<'a>(
     Ok(places)
 }
 
-/// Each of so many seats beside the first makes so many calls, in a thread of its own.
+/// Each of the seats beside the first one makes calls, in a thread of its own. A row has the number of these seats, and
+/// of the calls of each.
 fn add_in_many<R: Threads + Wait + Sync>(
     rt: &R,
     alloc: Global,
@@ -285,7 +293,7 @@ fn add_in_many<R: Threads + Wait + Sync>(
     Ok(())
 }
 
-/// The adder of so many entries once all have made their calls.
+/// An adder of at most `entries` entries, once all seats of a row have made their calls.
 fn added_by<R: Threads + Wait + Sync>(
     rt: &R,
     alloc: Global,
@@ -301,7 +309,7 @@ fn added_by<R: Threads + Wait + Sync>(
     }
 }
 
-/// So many seats beside the first make so many calls each, and there are so many entries.
+/// Whether the seats of a row make `entries` entries in all, and each seat has as many of them as it made calls.
 fn are_added<R: Threads + Wait + Sync>(
     rt: &R,
     alloc: Global,
@@ -313,12 +321,14 @@ fn are_added<R: Threads + Wait + Sync>(
     Ok(has_ones(&adder, entries, (1, seats.saturating_add(1)), calls))
 }
 
+/// A hundred seats wait for one another, more than a hall has bells.
 #[test]
 fn a_hundred_seats_share_bells_and_a_door(rt: HostRuntime) -> Result<(), Fail> {
     assert!(rt; are_added(&rt, rt.alloc(), 2_000, (100, 20))?);
     Ok(())
 }
 
+/// Many threads wait for one another, and no call is lost.
 #[test]
 fn many_threads_wait_for_one_another(rt: HostRuntime) -> Result<(), Fail> {
     assert!(rt; are_added(&rt, rt.alloc(), 12_800, (64, 200))?);

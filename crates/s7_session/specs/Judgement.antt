@@ -450,7 +450,7 @@ clock link pdu sequence params body =
 
 -- ---- passwords (Snap7 1.4 sources, s7_types.h: TReqFunSecurity, TReqDataSecurity)
 
--- the link has the right that `right` says from now on, and holds no sliced answer
+-- the state of the link after a telegram about its password: its right is `right`, and it holds no sliced answer
 abbrev pub secured : LinkState → Bool → LinkState
 secured link right = record link { right = right; user_sequence = next_octet link.user_sequence; sliced = None }
 

@@ -85,7 +85,8 @@ PutsSaid (Err e) old new (Err f) = (f ≡ e) × (new ≡ old)
 
 -- ---- laws, for octets below 256
 
--- THE CALLS RETURN Ok exactly for a `Value`, and otherwise the fault by the meaning.
+-- THE STEPS GIVE WHAT `AnswersOctets` and `AnswersText` require: Ok exactly for a `Value`, and otherwise the fault that
+-- the meaning has.
 pub record ValuesAnswer : Type 0 where
   pub octets : (of : TagKind) (text : Text) (old new : List ℕ) (told : Result ℕ ValueFault)
       → PutsSaid (octets_said of text) old new told → AnswersOctets of text old new told

@@ -4,7 +4,7 @@ use Rattle.s7_szl.specs.declared.join.SzlAdded.{SzlAdded}
 use Rattle.s7_szl.specs.declared.join.SzlAdded.TheVariants.{More, Whole, Bad}
 
 pub record Joined : Type 0 where
-  -- the octets of the image that is whole, or else of the image that is open
+  -- the octets of the last image if it is whole, otherwise those of the slices so far
   pub octets : List ℕ
   -- the last answer; `More` before the first
   pub state : SzlAdded

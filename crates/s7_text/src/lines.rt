@@ -49,7 +49,8 @@ fn cut_return(line: &[u8]) -> &[u8]
     }
 }
 
-/// The first field of a line, and the fields after it. Fields are separated by one space.
+/// The first field of a line, and the fields after it; `None` if no further field follows. Fields are separated by one
+/// space.
 pub fn split_field(text: &[u8]) -> (&[u8], Option<&[u8]>)
     ensures first { result.0.now ≡ first_field text.now (position is_space text.now) }
     ensures rest { option_map (λ t. t.now) result.1 ≡ fields_after text.now (position is_space text.now) }

@@ -127,6 +127,6 @@ pub record BreaksOffRig (told : RigTold) (files : FilesShown) (before after : Op
   pub read : ReadsScripts known told.scripts files scripts
   pub wanting : JobsWanting told opening (map jobs_of scripts) before after
 
--- MEMORY RAN OUT: before a rig was begun, and the completion was notified of nothing, or for that rig
+-- IF MEMORY RAN OUT, the completion was notified of nothing, or of what `BreaksOffRig` says for a rig that was begun.
 abbrev pub RigWanting : RigTold → FilesShown → Option Told → Option Told → Type 0
 RigWanting told files before after = (after ≡ before) ⊎ BreaksOffRig told files before after

@@ -30,7 +30,8 @@ impl Head {
         }
     }
 
-    /// The line for the result of a job, with the value of the tag if one is named.
+    /// The line for the result of a job, with the value of the tag if one is named. Returns `Memory` if an allocation
+    /// fails.
     pub fn print(self, alloc: Global, told: &JobResult) -> Result<Octets, Memory>
         requires { IsPrintable told.now }
         ensures { IfOk result (λ text. text ≡ line_by self.line self.tag told.now) }

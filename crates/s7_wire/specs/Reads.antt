@@ -24,7 +24,7 @@ events_by finding.Message octets at = message octets at ∷ []
 events_by finding.Disconnected octets at = []
 events_by (finding.Fault fault) octets at = []
 
--- the ending of this finding; `at` is the number of octets before the packet
+-- the ending that was found, if one was; `at` is the number of octets before the packet
 abbrev pub ending_by : Found → ℕ → Option Ending
 ending_by finding.More at = None
 ending_by (finding.Opened c) at = None

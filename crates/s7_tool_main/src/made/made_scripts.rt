@@ -17,7 +17,8 @@ const CLIENTS: u32 = 4;
 /// The number of lines in the script of each client.
 const LINES: u32 = 200;
 
-/// The scripts of four clients. Each has a connect, 200 lines that are drawn from the seed, and a disconnect.
+/// The scripts of four clients. Each has a connect, 200 lines that are drawn from the seed, and a disconnect. Returns
+/// `AllocError` if an allocation fails.
 pub fn made_scripts(alloc: Global, seed: u32) -> Result<Vec<Vec<Job>>, AllocError>
     ensures scripts { IfOk result (λ all. map (λ s. s.items) all.items ≡ made_scripts seed) }
     ensures len { IfOk result (λ all. vec_len all ≡ 4) }

@@ -15,7 +15,7 @@ use s7_outer::Memory;
 use s7_rig::{RigClient, RigEnd};
 use std::alloc::{AllocError, Global};
 
-/// The text of a rig whose clients have lines with these heads.
+/// The text of a rig whose clients have lines with these heads. Returns `Memory` if an allocation fails.
 pub fn rig_text(alloc: Global, heads: &[Vec<Head>], end: &RigEnd) -> Result<Vec<u8>, Memory>
     requires { All ArePrintable (end_told end.now).clients }
     ensures { IfOk result (λ text. text.items ≡ text_by (map (λ v. v.items) heads.now) (end_told end.now)) }
