@@ -2,27 +2,29 @@
 ghost use Rattle.std.specs.Prelude.{◌≡◌, ◌<◌, ◌≤◌, [], ◌∷◌, ◌++◌, length, slice_get, ◌↔◌, IsTrue};
 
 use crate::Item;
-use arrayvec::ArrayVec;
 use std::marker::Model;
 
 /// The greatest number of items of a telegram.
 pub const MOST_ITEMS: usize = 20;
 
-/// The items of a telegram, at most twenty, in order.
+/// The items of a telegram, at most twenty, in order. They lie in the value itself, which has 244 octets.
 #[derive(Drop)]
 pub struct Items {
-    list: ArrayVec<Item, 20>,
+    cells: [Item; 20],
+    count: u8,
 }
 
+const _: () = prove!(size_of::<Items>() == 244);
+
 impl Model for Items {
-    ghost use Rattle.std.specs.Prelude.{List, length, ◌≤◌};
+    ghost use Rattle.std.specs.Prelude.{List, length, take, ◌≡◌, ◌≤◌};
     ghost use Rattle.s7_item.specs.declared.item.Item.{Item};
 
     ghost Value = { List Item };
 
-    ghost view = { λ a. a.list.items };
+    ghost view = { λ a. take a.count a.cells };
 
-    ghost invariant = { λ a. length a.list.items ≤ 20 };
+    ghost invariant = { λ a. (a.count ≤ 20) × (length a.cells ≡ 20) };
 }
 
 impl Items {
@@ -31,7 +33,8 @@ impl Items {
         ensures { result ≡ [] }
     {
         Items {
-            list: ArrayVec::new(),
+            cells: [Item::default(); 20],
+            count: 0,
         }
     }
 
@@ -40,14 +43,14 @@ impl Items {
         ensures len { result ≡ length self.now }
         ensures most { result ≤ 20 }
     {
-        self.list.len()
+        usize::from(self.count)
     }
 
     /// Whether there are no items.
     pub fn is_empty(&self) -> bool
         ensures { IsTrue result ↔ (length self.now ≡ 0) }
     {
-        self.list.is_empty()
+        self.count == 0
     }
 
     /// The items in order.
@@ -55,7 +58,7 @@ impl Items {
         ensures items { result.now ≡ self.now }
         ensures most { length self.now ≤ 20 }
     {
-        self.list.as_slice()
+        &self.cells[..self.len()]
     }
 
     /// The item with index `k`, counted from 0; `None` exactly if `k` is at least the length.
@@ -70,13 +73,14 @@ impl Items {
         requires { length self.old < 20 }
         ensures { self.new ≡ self.old ++ item ∷ [] }
     {
-        self.list.push(item);
+        self.cells[self.len()] = item;
+        self.count += 1;
     }
 
     /// Removes all items.
     pub(crate) fn clear(&mut self)
         ensures { self.new ≡ [] }
     {
-        self.list.clear();
+        self.count = 0;
     }
 }

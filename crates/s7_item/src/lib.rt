@@ -22,7 +22,7 @@ pub use laws::{
     data_items_are_exact, data_items_read_back, items_are_exact, items_read_back, sizes_are_lengths,
 };
 pub use params::{ItemFault, read_items, write_items};
-pub use places::{DataItems, DataPlace};
+pub use places::{BoxedDataItems, DataItems, DataPlace};
 pub use read_data::{DataFault, read_data_items};
 pub use sizes::{answer_size, request_size};
 pub use word::{size_of, transport_of};

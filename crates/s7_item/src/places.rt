@@ -1,7 +1,9 @@
 //! A list of the ranges of at most twenty data items.
-ghost use Rattle.std.specs.Prelude.{◌≡◌, ◌<◌, ◌≤◌, [], ◌∷◌, ◌++◌, length, slice_get, ◌↔◌, IsTrue};
+ghost use Rattle.std.specs.Prelude.{◌≡◌, ◌<◌, ◌≤◌, [], ◌∷◌, ◌++◌, length, slice_get, ◌↔◌, IsTrue, IfOk};
 
 use arrayvec::ArrayVec;
+use s7_outer::Memory;
+use std::alloc::Global;
 use std::marker::Model;
 
 /// The range of the octets of one data item: its transport size, the offset of its first octet in the octets that
@@ -86,5 +88,39 @@ impl DataItems {
         ensures { self.new ≡ [] }
     {
         self.list.clear();
+    }
+}
+
+/// The ranges of data items in an allocation of their own. What holds them stays small.
+#[derive(Drop)]
+pub struct BoxedDataItems {
+    list: Box<DataItems>,
+}
+
+impl Model for BoxedDataItems {
+    ghost use Rattle.std.specs.Prelude.{List};
+    ghost use Rattle.s7_item.specs.declared.places.DataPlace.{DataPlace};
+
+    ghost Value = { List DataPlace };
+
+    ghost view = { λ b. b.list.value };
+}
+
+impl BoxedDataItems {
+    /// Moves the ranges into an allocation. Returns `Memory` if the allocation fails.
+    pub fn new(alloc: Global, list: DataItems) -> Result<BoxedDataItems, Memory>
+        ensures { IfOk result (λ boxed. boxed ≡ list) }
+    {
+        match Box::new(alloc, list) {
+            Ok(list) => Ok(BoxedDataItems { list }),
+            Err(_) => Err(Memory),
+        }
+    }
+
+    /// The ranges, borrowed.
+    pub fn list(&self) -> &DataItems
+        ensures { result.now ≡ self.now }
+    {
+        &self.list
     }
 }

@@ -65,7 +65,7 @@ impl<'a> Walk<'a> {
                 places,
                 octets,
             } => {
-                let place = places.get(0)?;
+                let place = places.list().get(0)?;
                 let value = octets.as_slice().get(place.from..)?.get(..place.len)?;
                 self.writes(entry.link, items.as_slice(), value)
             }

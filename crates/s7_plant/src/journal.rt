@@ -4,7 +4,7 @@ ghost use Rattle.std.specs.Prelude.{IsTrue, IfOk};
 ghost use Rattle.s7_plant.specs.Journals.{entries_of, AreReady};
 ghost use Rattle.s7_plant.specs.Requests.{IsReady};
 
-use crate::request::Ask;
+use crate::request::{Ask, Request};
 use s7_outer::Memory;
 use std::alloc::Global;
 use std::marker::Model;
@@ -17,6 +17,8 @@ pub struct Entry {
     /// What it asked, as a history keeps it.
     pub ask: Ask,
 }
+
+const _: () = prove!(size_of::<Entry>() <= 300);
 
 /// Entries in order, with room for all that may come. Contracts see the list of entries and its limit, which is from 1
 /// to 262,144.
@@ -38,17 +40,20 @@ impl Model for Journal {
 }
 
 impl Journal {
-    /// An empty journal with room for `limit` entries, from 1 to 262,144, all of it allocated here. Returns `Memory` if
-    /// the allocation fails.
+    /// An empty journal with room for `limit` entries, from 1 to 262,144, all of it allocated and written once here. So
+    /// the memory is resident from the start, and no `push` waits for a page of it. Returns `Memory` if the allocation
+    /// fails.
     pub(crate) fn new(alloc: Global, limit: u64) -> Result<Journal, Memory>
         requires some { 1 ≤ limit }
         requires few { limit ≤ 262144 }
         ensures { IfOk result (λ journal. journal ≡ entries_of [] limit) }
     {
-        Ok(Journal {
-            entries: Vec::with_capacity(alloc, limit as usize)?,
-            limit,
-        })
+        let mut entries = Vec::with_capacity(alloc, limit as usize)?;
+        for _ in 0..limit {
+            entries.push_reserved(blank());
+        }
+        entries.clear();
+        Ok(Journal { entries, limit })
     }
 
     /// The number of entries.
@@ -81,5 +86,16 @@ impl Journal {
         ensures { self.new ≡ entries_of (self.old.entries ++ entry ∷ []) self.old.limit }
     {
         self.entries.push_reserved(entry);
+    }
+}
+
+/// An entry that no link asked for.
+fn blank() -> Entry {
+    Entry {
+        link: 0,
+        ask: Ask {
+            right: false,
+            request: Request::Stop,
+        },
     }
 }

@@ -117,7 +117,7 @@ impl Plant {
                 items,
                 places,
                 octets,
-            } => say_codes(&self.areas, right, items, places, octets, reply),
+            } => say_codes(&self.areas, right, items, places.list(), octets, reply),
             Request::Szl { id, index } => say_list(*id, *index, self.running, reply),
             Request::ClockRead { moment } => {
                 reply.body.add(&shown_octets(*moment, self.offset));
@@ -212,7 +212,7 @@ impl Plant {
         } = r
         {
             reply.clear();
-            say_writes(&mut self.areas, right, items, places, octets, reply);
+            say_writes(&mut self.areas, right, items, places.list(), octets, reply);
             return;
         }
         self.reply(right, r, reply);

@@ -6,7 +6,7 @@ ghost use Rattle.s7_outer.specs.Held.{Held};
 
 use crate::codes::{CLOCK, CONTROL, DIRECTORY, DOWNLOADS, READS, STATUS_LISTS, UPLOADS, WRITES};
 use s7_block::BlockName;
-use s7_item::{DataItems, Items};
+use s7_item::{BoxedDataItems, Items};
 use s7_outer::{Buffer, Memory, Octets};
 use std::alloc::Global;
 
@@ -32,7 +32,7 @@ pub enum Request {
         /// At most 20 items, in order.
         items: Items,
         /// For each item, the range of its new octets in `octets`.
-        places: DataItems,
+        places: BoxedDataItems,
         /// The octets that `places` refers to.
         octets: Octets,
     },

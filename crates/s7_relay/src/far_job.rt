@@ -26,7 +26,7 @@ pub(crate) fn request_codes(windows: &Windows, request: &Request) -> NearCodes
             items,
             places,
             octets,
-        } => put_codes(windows, items, places, octets.as_slice()),
+        } => put_codes(windows, items, places.list(), octets.as_slice()),
         _ => NearCodes::new(),
     }
 }
@@ -63,7 +63,8 @@ pub(crate) fn far_job(
             octets,
         } => {
             let items = far_items(alloc, windows, items.as_slice(), codes)?;
-            let octets = far_octets(alloc, codes, places.as_slice(), octets.as_slice())?;
+            let places = places.list().as_slice();
+            let octets = far_octets(alloc, codes, places, octets.as_slice())?;
             Ok(Some(Job::WriteMany {
                 items: ItemList::of_vec(items),
                 octets: Octets::of_vec(octets),

@@ -7,7 +7,9 @@ use crate::fields::{code, field, is, kind, number, octets};
 use s7_block::head_agrees;
 use s7_block::kinds::is_stored_kind;
 use s7_clock::{FIRST_MOMENT, LAST_MOMENT};
-use s7_item::{DataItems, DataPlace, Items, answer_size, read_data_items, read_items};
+use s7_item::{
+    BoxedDataItems, DataItems, DataPlace, Items, answer_size, read_data_items, read_items,
+};
 use s7_outer::{Buffer, Octets};
 use s7_plant::{BODY_ROOM, PARAMS_ROOM, Reply, Request};
 use std::alloc::Global;
@@ -77,7 +79,7 @@ pub(crate) fn write_of(alloc: Global, params: &str, data: Vec<u8>) -> Option<Req
     read_data_items(data.as_slice(), items.len(), &mut places).ok()?;
     Some(Request::Write {
         items,
-        places,
+        places: BoxedDataItems::new(alloc, places).ok()?,
         octets: Octets::of_vec(data),
     })
 }
@@ -105,6 +107,7 @@ pub(crate) fn can_be_done(request: &Request) -> bool
             places,
             octets,
         } => {
+            let places = places.list();
             places.len() == items.len() && are_inside(places.as_slice(), octets.as_slice().len())
         }
         Request::ClockSet { value, .. } => *value >= FIRST_MOMENT && *value <= LAST_MOMENT,

@@ -16,7 +16,7 @@ use crate::size::TpduSize;
 use crate::slices::{AnswerId, slice_room};
 use s7_area::Guard;
 use s7_cotp::Connection;
-use s7_item::{DataItems, Items};
+use s7_item::{BoxedDataItems, DataItems, Items};
 use s7_outer::{Clock, Link, Memory, Octets};
 use s7_plant::{Ask, BODY_ROOM, Reply, Request};
 use std::alloc::Global;
@@ -384,7 +384,7 @@ fn is_s7(message: &[u8]) -> bool
     message.len() >= 10 && message[0] == 0x32
 }
 
-/// A write request with a copy of the octets that its ranges refer to. Returns `Memory` if the allocation fails.
+/// A write request with a copy of the octets that its ranges refer to. Returns `Memory` if an allocation fails.
 fn copied_write(
     alloc: Global,
     items: Items,
@@ -395,7 +395,7 @@ fn copied_write(
 {
     Ok(Request::Write {
         items,
-        places,
+        places: BoxedDataItems::new(alloc, places)?,
         octets: Octets::copy_of(alloc, body)?,
     })
 }
