@@ -12,7 +12,7 @@ use Rattle.s7_session.specs.Entry.{Entry, answered}
 use Rattle.s7_session.specs.LinkRun.{IsLinkRun, IsEnd}
 use Rattle.s7_session.specs.LinkState.{LinkState}
 use Rattle.s7_session.specs.Telegrams.{verdicts_of, MemoryIsLast, AllAt, last_number}
-use Rattle.s7_session.proofs.DoerLemmas.{full_end, full_stays, are_caused}
+use Rattle.s7_session.proofs.DoerLemmas.{loose_of, full_end, full_stays, are_caused}
 use Rattle.s7_session.proofs.PastLemmas.{memory_is_last}
 use Rattle.s7_session.specs.Verdict.{Verdict}
 use Rattle.s7_listener.specs.Served.{IsServedLink, IsServed, IsShut, served_told}
@@ -31,6 +31,7 @@ pub served_link : {D : Type 0} (stands : D → List Entry → Type 0) (is_full m
     → IsServedLink s limit first history pipe (served_told link line o accepted last)
 served_link stands is_full may_lack did keeps s limit first history link pipe line d d' o accepted last run begins mine_of alike full_of none =
     let mine : run.entries ≡ own s link history = mine_of run.entries (run.doer [] begins) in
+    let trail = loose_of is_full may_lack did keeps d d' run.mets run.trail in
     record {
       taken = run.taken;
       written = run.written;
@@ -47,13 +48,13 @@ served_link stands is_full may_lack did keeps s limit first history link pipe li
         called = record {
           calls = ap (map answered) (sym mine) ∙ run.entered;
           full = λ any.
-              let found = full_end is_full may_lack did keeps d d' run.mets run.trail any in full_of found.0 found.1;
-          full_stays = full_stays is_full may_lack did keeps d d' run.mets alike run.trail;
+              let found = full_end is_full may_lack did keeps d d' run.mets trail any in full_of found.0 found.1;
+          full_stays = full_stays is_full may_lack did keeps d d' run.mets alike trail;
           moments = subst (AllAt pipe.moment) mine run.moments;
         };
         counted = record {
           memory = subst (λ ms. MemoryIsLast (verdicts_of ms)) run.asked (memory_is_last first run.taken (verdicts_of run.mets));
-          causes = are_caused is_full may_lack did keeps d d' run.mets none run.trail;
+          causes = are_caused is_full may_lack did keeps d d' run.mets none trail;
           count = run.count ∙ ap length mine;
           last = run.last_is ∙ ap (last_number None) mine;
         };

@@ -61,8 +61,9 @@ fn add_data_item(areas: &Areas, right: bool, item: &Item, last: bool, body: &mut
     }
 }
 
-/// Adds the data item of an item that was read as these octets.
-fn add_octets(word: u8, octets: &[u8], last: bool, body: &mut Buffer)
+/// Adds the data item of an item that was read as these octets: code FF, transport size, length and the octets. A
+/// padding octet follows an odd number of octets unless `last` is true.
+pub fn add_octets(word: u8, octets: &[u8], last: bool, body: &mut Buffer)
     requires few { length octets.now ≤ 8178 }
     requires room { length body.old.octets + item_size (length octets.now) last ≤ body.old.room }
     ensures octets { body.new.octets

@@ -23,6 +23,7 @@ mod watcher;
 mod write;
 
 pub use book::Book;
+pub use data_item::add_octets;
 pub use event::Event;
 pub use journal::{Entry, Journal};
 pub use laws::{calls_lead_the_same, kept_requests_are_the_same, replay_goes_on};

@@ -39,7 +39,7 @@ impl Reply {
     }
 
     /// Empties the reply. Its rooms stay.
-    pub(crate) fn clear(&mut self)
+    pub fn clear(&mut self)
         ensures said { said_of self.new ≡ said 0 [] [] }
         ensures params { self.new.params.room ≡ self.old.params.room }
         ensures body { self.new.body.room ≡ self.old.body.room }
@@ -50,7 +50,7 @@ impl Reply {
     }
 
     /// Makes the reply a refusal: this error word, no parameters and no body. Its rooms stay.
-    pub(crate) fn refuse(&mut self, error: u16)
+    pub fn refuse(&mut self, error: u16)
         ensures said { said_of self.new ≡ refused error }
         ensures params { self.new.params.room ≡ self.old.params.room }
         ensures body { self.new.body.room ≡ self.old.body.room }

@@ -1,7 +1,6 @@
 //! What is answered near.
 ghost use Rattle.std.specs.Prelude.{◌≡◌, ◌+◌, ◌<◌, ◌≤◌, [], ◌∷◌, ◌++◌, length, map, slice_index};
 ghost use Rattle.s7_item.specs.Codes.{good, read_function, write_function};
-ghost use Rattle.s7_item.specs.DataItem.{head_octets};
 ghost use Rattle.s7_item.specs.Item.{octet_count};
 ghost use Rattle.s7_item.specs.Sizes.{answer_size, data_size};
 ghost use Rattle.s7_client.specs.Form.{count_read};
@@ -17,9 +16,9 @@ use crate::passage::Passage;
 use s7_client::JobResult;
 use s7_client::codes::GOOD as NO_FAULT;
 use s7_item::codes::{GOOD, READ_FUNCTION, WRITE_FUNCTION};
-use s7_item::{Item, padding_of, stated_length, transport_of};
+use s7_item::Item;
 use s7_outer::Buffer;
-use s7_plant::{Reply, Request};
+use s7_plant::{Reply, Request, add_octets};
 
 /// Puts the answer to a request with these near codes that got so far into the reply.
 pub(crate) fn say(request: &Request, near: &[u8], passage: &Passage, reply: &mut Reply)
@@ -33,9 +32,9 @@ pub(crate) fn say(request: &Request, near: &[u8], passage: &Passage, reply: &mut
 {
     match passage {
         Passage::Near => say_with(request, near, &[], &[], reply),
-        Passage::Undialled => refuse(NO_LINK, reply),
-        Passage::Unconnected { connect } => refuse(error_of(connect.code), reply),
-        Passage::Unpacked { .. } => refuse(TOO_LONG, reply),
+        Passage::Undialled => reply.refuse(NO_LINK),
+        Passage::Unconnected { connect } => reply.refuse(error_of(connect.code)),
+        Passage::Unpacked { .. } => reply.refuse(TOO_LONG),
         Passage::Asked { job, .. } => say_result(request, near, job, reply),
     }
 }
@@ -54,7 +53,7 @@ fn say_result(request: &Request, near: &[u8], told: &JobResult, reply: &mut Repl
         let codes = &told.codes[..usize::from(told.count)];
         say_with(request, near, codes, told.octets.as_slice(), reply);
     } else {
-        refuse(error_of(told.code), reply);
+        reply.refuse(error_of(told.code));
     }
 }
 
@@ -71,19 +70,8 @@ fn say_with(request: &Request, near: &[u8], codes: &[u8], octets: &[u8], reply: 
     match request {
         Request::Read { items } => say_items(items.as_slice(), near, codes, octets, reply),
         Request::Write { items, .. } => say_codes(items.as_slice(), near, codes, reply),
-        _ => refuse(NO_FUNCTION, reply),
+        _ => reply.refuse(NO_FUNCTION),
     }
-}
-
-/// Makes the reply a refusal: this error word, no parameters and no body.
-fn refuse(error: u16, reply: &mut Reply)
-    requires { IsReadyReply reply.old }
-    ensures said { said_of reply.new ≡ refused error }
-    ensures ready { IsReadyReply reply.new }
-{
-    reply.error = error;
-    reply.params.clear();
-    reply.body.clear();
 }
 
 /// Puts the answer to a read of these items into the reply.
@@ -99,7 +87,7 @@ fn say_items(items: &[Item], near: &[u8], codes: &[u8], octets: &[u8], reply: &m
     ensures fits { HasAtMost (answer_size items.now) (said_of reply.new) }
     ensures ready { IsReadyReply reply.new }
 {
-    refuse(0, reply);
+    reply.clear();
     reply.params.add(&[READ_FUNCTION, items.len() as u8]);
     add_items(items, near, codes, octets, &mut reply.body);
 }
@@ -186,22 +174,7 @@ fn add_item(item: &Item, code: u8, octets: &[u8], last: bool, body: &mut Buffer)
         body.add(&[code, 0x00, 0x00, 0x00]);
         return;
     }
-    body.add(&head(item.word, octets.len()));
-    body.add(octets);
-    if padding_of(octets.len(), last) != 0 {
-        body.add(&[0x00]);
-    }
-}
-
-/// The octets before those of an item that was read: code FF, transport size and length.
-fn head(word: u8, len: usize) -> [u8; 4]
-    requires { len ≤ 8178 }
-    ensures { result ≡ head_octets good word len }
-{
-    let transport = transport_of(word);
-    let stated = stated_length(transport, len) as u16;
-    let [high, low] = stated.to_be_bytes();
-    [GOOD, transport, high, low]
+    add_octets(item.word, octets, last, body);
 }
 
 /// Puts the answer to a write of these items into the reply.
@@ -215,7 +188,7 @@ fn say_codes(items: &[Item], near: &[u8], codes: &[u8], reply: &mut Reply)
     ensures fits { HasAtMost (14 + length items.now) (said_of reply.new) }
     ensures ready { IsReadyReply reply.new }
 {
-    refuse(0, reply);
+    reply.clear();
     reply.params.add(&[WRITE_FUNCTION, items.len() as u8]);
     add_codes(near, codes, &mut reply.body);
 }

@@ -12,7 +12,6 @@ use Rattle.s7_client.specs.Polling as client
 use Rattle.s7_plant.specs.Books.{BookTold}
 use Rattle.s7_plant.specs.State.{begins_with, state_of}
 use Rattle.s7_session.specs.Books.{own, history_of}
-use Rattle.s7_session.specs.Doers.{Trail}
 use Rattle.s7_session.specs.Entry.{Entry, answered}
 use Rattle.s7_session.specs.LinkState.{LinkState, first_link}
 use Rattle.s7_session.specs.Owed.{past, owed, entered, telegrams}
@@ -20,6 +19,7 @@ use Rattle.s7_session.specs.declared.session.Session.{Session}
 use Rattle.s7_session.specs.Stands.{Stands, unread, entry_count, newest}
 use Rattle.s7_session.specs.Telegrams.{Met, verdicts_of, entered_of, AnyFull, AllAt, clock_failures, last_number}
 use Rattle.s7_session.specs.Verdict.{Verdict}
+use Rattle.s7_session.proofs.DoerLemmas.{LooseTrail}
 use Rattle.s7_rig.specs.State.{Post}
 use Rattle.s7_rig.specs.Runs.{moment}
 use Rattle.s7_rig.specs.Scripts.{IsNoConnect, NoneConnects, ConnectsFirst}
@@ -155,7 +155,7 @@ pub record IsServing (opening : Memory) (limit : ℕ) (book : BookTold) (link : 
   -- the history is legal for the link
   pub legal : entered_of mets ≡ map answered (own_in opening book link)
   pub begun : BookTold
-  pub trail : Trail is_full_in lacks_in did_in keeps_in begun mets book
+  pub trail : LooseTrail is_full_in lacks_in did_in keeps_in begun mets book
   -- no telegram stopped the link for want of memory, and none waits for its verdict
   pub sound : IsSound (past (first_link opening.guard) used verdicts).standing
   pub clock : clock_failures verdicts ≡ 0

@@ -53,7 +53,7 @@ seen did kept = record {
   was_full = λ d a h. h;
   lacks = λ d a h. h;
   does = λ d a answer e h. tt;
-  keeps = λ d e h b k. tt;
+  keeps = λ d e h. tt;
 }
 
 -- what calls did with a doer of one link they did with its book

@@ -22,7 +22,7 @@ use Rattle.s7_session.specs.Owed.{Past, past, owed, telegrams}
 use Rattle.s7_session.specs.Stands.{unread, unsent}
 use Rattle.s7_session.specs.Telegrams.{verdicts_of, AnyFull, MemoryIsLast, AllAt, clock_failures, last_number}
 use Rattle.s7_session.proofs.BookLemmas.{replay-calls}
-use Rattle.s7_session.proofs.DoerLemmas.{goes_same, full_end, full_stays, are_caused}
+use Rattle.s7_session.proofs.DoerLemmas.{full_end, full_stays, are_caused}
 use Rattle.s7_session.proofs.PastLemmas.{past_nothing, memory_is_last}
 use Rattle.s7_session.proofs.SumLemmas.{all_different, all_served, counts_add_up}
 use Rattle.s7_rig.specs.State.{Post, State}
@@ -94,7 +94,7 @@ joint_fresh opening limit config book p link f opened journal =
           met = refl;
           legal = ap (map answered) (sym none);
           begun = book;
-          trail = goes_same is_full_in keeps_in book;
+          trail = λ ask full. full;
           sound = subst (λ (x : Past). IsSound x.standing) (sym (past_nothing (first_link opening.guard) [])) tt;
           clock = refl;
           moments = subst (λ es. AllAt (Some moment) es) (sym none) tt;

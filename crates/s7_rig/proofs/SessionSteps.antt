@@ -20,7 +20,7 @@ use Rattle.s7_session.specs.declared.outcome.Outcome.TheVariants as outcome
 use Rattle.s7_session.specs.declared.outcome.Turn.{Turn}
 use Rattle.s7_session.specs.declared.outcome.Turn.TheVariants.{Went, NotYet, Closed}
 use Rattle.s7_session.specs.Books.{History, history_of, own, own_from, GoesOnBy}
-use Rattle.s7_session.specs.Doers.{StaysFull, Trail}
+use Rattle.s7_session.specs.Doers.{StaysFull}
 use Rattle.s7_session.specs.Entry.{Entry, answered}
 use Rattle.s7_session.specs.Events.{lives}
 use Rattle.s7_session.specs.LinkState.{LinkState, first_link}
@@ -29,7 +29,7 @@ use Rattle.s7_session.specs.Stands.{Stands, unread, used_of, closed_with, closed
 use Rattle.s7_session.specs.Telegrams.{Met, verdicts_of, entered_of, AllAt, clock_failures, last_number}
 use Rattle.s7_session.specs.Verdict.{Verdict}
 use Rattle.s7_session.proofs.ConsumeLemmas.{entered-append}
-use Rattle.s7_session.proofs.DoerLemmas.{trail-append, trail_goes}
+use Rattle.s7_session.proofs.DoerLemmas.{LooseTrail, loose_of, loose-append, loose_stays}
 use Rattle.s7_session.proofs.TurnLemmas.{AllAt-append, clock_failures-append, last_number-append, map-append, verdicts-append}
 use Rattle.s7_rig.specs.Numbers.{count_from}
 use Rattle.s7_rig.specs.Runs.{moment}
@@ -82,10 +82,10 @@ none_met first b new js vs none live met =
     none_behind (x ∷ xs) ys is = absurd (cc)
 
 -- a book that stays full goes on for the telegrams that met it
-stays_on : (begun book book' : BookTold) (mets : List Met) → Trail is_full_in lacks_in did_in keeps_in begun mets book → StaysFull is_full_in book book' → Trail is_full_in lacks_in did_in keeps_in begun mets book'
+stays_on : (begun book book' : BookTold) (mets : List Met) → LooseTrail is_full_in lacks_in did_in keeps_in begun mets book → StaysFull is_full_in book book' → LooseTrail is_full_in lacks_in did_in keeps_in begun mets book'
 stays_on begun book book' mets trail stays =
-    subst (λ ms. Trail is_full_in lacks_in did_in keeps_in begun ms book') (append-nil mets)
-    (trail-append is_full_in lacks_in did_in keeps_in begun book book' mets [] trail (stays, λ e k. tt))
+    subst (λ ms. LooseTrail is_full_in lacks_in did_in keeps_in begun ms book') (append-nil mets)
+    (loose-append is_full_in lacks_in did_in keeps_in begun book book' mets [] trail stays)
 
 -- results that stand in a history stand in one that goes on
 stand_on : (opening : Memory) (book book' : BookTold) (link : ℕ) → GoesOnBy link book book' → state_of book.opening ≡ begins_with opening → (own_link pdu : ℕ) (results : List JobResult) (places : List (List ℕ))
@@ -223,8 +223,9 @@ module _ (opening : Memory) (limit : ℕ) (config : Config) (old : Post) (book b
       ∙ sym (map-append (mine history) entries)
       ∙ ap (map answered) (sym own_is)
 
-  trail : Trail is_full_in lacks_in did_in keeps_in j.begun o'.mets book'
-  trail = trail-append is_full_in lacks_in did_in keeps_in j.begun book book' o.mets new_mets j.trail takes.turn.moves.trail
+  trail : LooseTrail is_full_in lacks_in did_in keeps_in j.begun o'.mets book'
+  trail = loose-append is_full_in lacks_in did_in keeps_in j.begun book book' o.mets new_mets j.trail
+      (loose_of is_full_in lacks_in did_in keeps_in book book' new_mets takes.turn.moves.trail)
 
   -- A session that goes on lives, one that closes doesn't do so for want of memory, and one that was closed stays as it
   -- was.
@@ -351,7 +352,8 @@ session_step opening limit config old new book book' stirs o j turn =
 -- a full book stays full, whose session's turn it is
 turn_keeps_full : (old new : Post) (book book' : BookTold) (stirs : Bool) → IsSessionTurn old new book book' stirs → StaysFull is_full_in book book'
 turn_keeps_full old new book book' stirs turn =
-    (trail_goes is_full_in lacks_in did_in keeps_in book book' turn.takes.turn.moves.mets turn.takes.turn.moves.trail).0
+    loose_stays is_full_in lacks_in did_in keeps_in book book' turn.takes.turn.moves.mets
+    (loose_of is_full_in lacks_in did_in keeps_in book book' turn.takes.turn.moves.mets turn.takes.turn.moves.trail)
 
 -- A book that goes on by calls of another link keeps what holds of a client and its session.
 pub other_step : (opening : Memory) (limit : ℕ) (config : Config) (p : Post) (book book' : BookTold) (other : ℕ) (o : Octets)

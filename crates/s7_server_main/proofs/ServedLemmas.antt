@@ -22,7 +22,7 @@ use Rattle.s7_session.specs.LinkRun.{IsLinkRun}
 use Rattle.s7_session.specs.LinkState.{LinkState}
 use Rattle.s7_session.specs.Telegrams.{verdicts_of, MemoryIsLast, AllAt, last_number}
 use Rattle.s7_session.proofs.BookLemmas.{replay-calls}
-use Rattle.s7_session.proofs.DoerLemmas.{full_end, full_stays, are_caused}
+use Rattle.s7_session.proofs.DoerLemmas.{loose_of, full_end, full_stays, are_caused}
 use Rattle.s7_session.proofs.PastLemmas.{memory_is_last}
 use Rattle.s7_outer.specs.Calls.{shut_down}
 use Rattle.s7_listener.specs.Served.{IsServedLink, IsShut, ServedTold, served_told}
@@ -77,6 +77,7 @@ served_link {O} {did} {keeps} opening pipe line d d' o accepted last run none op
     let mine : run.entries ≡ own s d.link history =
     run.doer [] (sym (ap (own (state_of (book_told d.book.now).opening) d.link) none))
     ∙ ap (λ t. own t d'.link history) opened ∙ ap (λ n. own s n history) same in
+    let trail = loose_of is_full lacks did keeps d d' run.mets run.trail in
     record {
       taken = run.taken;
       written = run.written;
@@ -92,13 +93,13 @@ served_link {O} {did} {keeps} opening pipe line d d' o accepted last run none op
       legal = record {
         called = record {
           calls = ap (map answered) (sym mine) ∙ run.entered;
-          full = λ any. (full_end is_full lacks did keeps d d' run.mets run.trail any).1 ∙ goes.limit;
-          full_stays = full_stays is_full lacks did keeps d d' run.mets (λ e a b h. h) run.trail;
+          full = λ any. (full_end is_full lacks did keeps d d' run.mets trail any).1 ∙ goes.limit;
+          full_stays = full_stays is_full lacks did keeps d d' run.mets (λ e a b h. h) trail;
           moments = subst (AllAt pipe.moment) mine run.moments;
         };
         counted = record {
           memory = subst (λ ms. MemoryIsLast (verdicts_of ms)) run.asked (memory_is_last (first_of opening) run.taken (verdicts_of run.mets));
-          causes = are_caused is_full lacks did keeps d d' run.mets (λ e a h. h) run.trail;
+          causes = are_caused is_full lacks did keeps d d' run.mets (λ e a h. h) trail;
           count = run.count ∙ ap length mine;
           last = run.last_is ∙ ap (last_number None) mine;
         };

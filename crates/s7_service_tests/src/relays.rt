@@ -1,4 +1,7 @@
 // Links over windows on another server: what each telegram is answered, what is asked far, and what is kept.
+ghost use Rattle.std.specs.Prelude.{IfSome};
+ghost use Rattle.std.specs.Str.{IsUtf8};
+
 use crate::sessions::{
     CONFIRM, CONNECT, GRANTED, Line, READ, READ_ANSWER, READ_FULL, SETUP, STOP, a_line, is_written,
     octets_of,
@@ -61,16 +64,23 @@ const FAR_WRITE: &str = "320100000002000E00060501120A100200020007840000500004001
 
 const FAR_WRITTEN: &str = "3203000000020002000100000501FF";
 
-/// Two areas that are the same far part, a read of both, and its answer: near and far.
-const BOTH: &str = "DB1 4 = DB7 10\nMK 4 = DB7 10";
+/// Two areas whose far parts share two octets, a read of both, and its answer: near and far.
+const OVERLAPPING: &str = "DB1 4 = DB7 10\nMK 4 = DB7 12";
 
-const READ_SAME: &str = "320100000005001A00000402120A10020004000184000000120A10020004000083000000";
+const READ_SHARED: &str =
+    "320100000005001A00000402120A10020004000184000000120A10020004000083000000";
 
-const SAME_ANSWER: &str = "3203000000050002001000000402.FF04002011223344*2";
+const SHARED_ANSWER: &str = "3203000000050002001000000402FF04002011223344FF04002033445566";
 
-const FAR_READ_SAME: &str = "320100000002001A00000402.120A10020004000784000050*2";
+const FAR_READ_SHARED: &str =
+    "320100000002001A00000402120A10020004000784000050120A10020004000784000060";
 
-const FAR_SAME_ANSWER: &str = "3203000000020002001000000402.FF04002011223344*2";
+const FAR_SHARED_ANSWER: &str = "3203000000020002001000000402FF04002011223344FF04002033445566";
+
+/// Fragments without octets. The next message is their last one.
+const EMPTY_63: &str = "0300000702F000*63";
+
+const EMPTY_64: &str = "0300000702F000*64";
 
 /// A near negotiation of a PDU of 480, and its grant.
 const LONG_SETUP: &str = "32010000000400080000F0000001000101E0";
@@ -123,13 +133,24 @@ struct Row {
 /// A doer over a dial in memory.
 type Relay = RelayDoer<MemoryDial<Line>, Line>;
 
+/// The host that is dialled. A doer needs that it is UTF-8.
+fn a_host(alloc: Global) -> Option<Octets>
+    ensures { IfSome result (λ host. IsUtf8 host) }
+{
+    let host = b"127.0.0.1".to_vec(alloc).ok()?;
+    match std::str::from_utf8(host.as_slice()) {
+        Ok(_) => Some(Octets::of_vec(host)),
+        Err(_) => None,
+    }
+}
+
 /// A doer of these windows that keeps so many telegrams, and whose dial gives this link.
 fn a_doer(alloc: Global, windows: &str, limit: u64, far: Option<Line>) -> Option<Relay> {
-    let windows = read_windows(alloc, windows.as_bytes()).ok()?;
-    let host = Octets::of_vec(b"127.0.0.1".to_vec(alloc).ok()?);
-    if limit < 1 || limit > 262_144 || std::str::from_utf8(host.as_slice()).is_err() {
+    if limit < 1 || limit > 262_144 {
         return None;
     }
+    let windows = read_windows(alloc, windows.as_bytes()).ok()?;
+    let host = a_host(alloc)?;
     let dial = MemoryDial::new(far);
     RelayDoer::new(alloc, windows, dial, host, 102, Config::new(1, 0, 2), limit).ok()
 }
@@ -298,7 +319,7 @@ const LINKS: &[Row] = &[
         asked_far: &[CONNECT],
         kept: "C",
     },
-    // The far link fails in its first call.
+    // The far link fails in its first call, and isn't ready in any of 50 polls.
     Row {
         windows: WINDOWS,
         limit: 9,
@@ -309,7 +330,6 @@ const LINKS: &[Row] = &[
         asked_far: &[],
         kept: "C",
     },
-    // The far link isn't ready in any of 50 polls.
     Row {
         windows: WINDOWS,
         limit: 9,
@@ -319,6 +339,17 @@ const LINKS: &[Row] = &[
         answered: &[CONFIRM, GRANTED, NO_ANSWER],
         asked_far: &[],
         kept: "C",
+    },
+    // The far server grants a PDU of 64, for which the read is short enough.
+    Row {
+        windows: WINDOWS,
+        limit: 9,
+        far: Some(&[CONFIRM, FAR_GRANTED_64, FAR_ANSWER]),
+        fates: &[],
+        asked: &[CONNECT, SETUP, READ],
+        answered: &[CONFIRM, GRANTED, READ_ANSWER],
+        asked_far: &[CONNECT, FAR_SETUP, FAR_READ],
+        kept: "A",
     },
     // A read whose answer is longer than the PDU that the far server grants isn't asked.
     Row {
@@ -342,15 +373,36 @@ const LINKS: &[Row] = &[
         asked_far: &[CONNECT, FAR_SETUP, FAR_READ],
         kept: "A",
     },
-    // Two near areas are one far part.
+    // A far answer in 64 fragments is read, and the 65th fragment is a fault.
     Row {
-        windows: BOTH,
+        windows: WINDOWS,
         limit: 9,
-        far: Some(&[CONFIRM, FAR_GRANTED, FAR_SAME_ANSWER]),
+        far: Some(&[CONFIRM, FAR_GRANTED, EMPTY_63, FAR_ANSWER]),
         fates: &[],
-        asked: &[CONNECT, SETUP, READ_SAME],
-        answered: &[CONFIRM, GRANTED, SAME_ANSWER],
-        asked_far: &[CONNECT, FAR_SETUP, FAR_READ_SAME],
+        asked: &[CONNECT, SETUP, READ],
+        answered: &[CONFIRM, GRANTED, READ_ANSWER],
+        asked_far: &[CONNECT, FAR_SETUP, FAR_READ],
+        kept: "A",
+    },
+    Row {
+        windows: WINDOWS,
+        limit: 9,
+        far: Some(&[CONFIRM, FAR_GRANTED, EMPTY_64, FAR_ANSWER]),
+        fates: &[],
+        asked: &[CONNECT, SETUP, READ],
+        answered: &[CONFIRM, GRANTED, FAR_FAULT],
+        asked_far: &[CONNECT, FAR_SETUP, FAR_READ],
+        kept: "A",
+    },
+    // Two near areas are far parts that share octets.
+    Row {
+        windows: OVERLAPPING,
+        limit: 9,
+        far: Some(&[CONFIRM, FAR_GRANTED, FAR_SHARED_ANSWER]),
+        fates: &[],
+        asked: &[CONNECT, SETUP, READ_SHARED],
+        answered: &[CONFIRM, GRANTED, SHARED_ANSWER],
+        asked_far: &[CONNECT, FAR_SETUP, FAR_READ_SHARED],
         kept: "A",
     },
     // Every other one of twenty items travels. The last far item is the last near one, and isn't padded.
@@ -420,14 +472,20 @@ fn a_cut_line(alloc: Global, len: usize) -> Option<Line> {
     Some(FailingLink::new(inner, Vec::new(alloc)))
 }
 
-/// A far link whose call of this number, from 0, fails.
-fn a_failing_line(alloc: Global, call: usize) -> Option<Line> {
+/// A far link whose calls from this number on, from 0, meet this fate so often.
+fn a_hindered_line(alloc: Global, call: usize, fate: Fate, times: usize) -> Option<Line> {
     let mut fates = Vec::new(alloc);
-    for _ in 0..call {
-        fates.push(Fate::Pass).ok()?;
-    }
-    fates.push(Fate::Fail).ok()?;
+    add_fates(&mut fates, Fate::Pass, call)?;
+    add_fates(&mut fates, fate, times)?;
     a_line(alloc, FAR, fates.as_slice())
+}
+
+/// Adds a fate so often.
+fn add_fates(fates: &mut Vec<Fate>, fate: Fate, times: usize) -> Option<()> {
+    for _ in 0..times {
+        fates.push(fate).ok()?;
+    }
+    Some(())
 }
 
 /// A read over this far link is answered by this.
@@ -447,9 +505,25 @@ fn is_lost_after<R: Wait + Clock>(rt: &R, alloc: Global, len: usize) -> Option<b
     is_answered(rt, alloc, a_cut_line(alloc, len)?, NO_LINK)
 }
 
-/// A read is lost if this call of the far link fails.
-fn is_lost_at<R: Wait + Clock>(rt: &R, alloc: Global, call: usize) -> Option<bool> {
-    is_answered(rt, alloc, a_failing_line(alloc, call)?, NO_LINK)
+/// What calls of a far link meet, how often, and what a read is answered then.
+type Hindrance = (Fate, usize, &'static str);
+
+/// A call fails; calls aren't ready, less often than a job waits and as often.
+const HINDRANCES: &[Hindrance] = &[
+    (Fate::Fail, 1, NO_LINK),
+    (Fate::NotYet, 49, READ_ANSWER),
+    (Fate::NotYet, 50, NO_ANSWER),
+];
+
+/// A read is answered so if the far link is hindered from this call on.
+fn is_hindered_at<R: Wait + Clock>(
+    rt: &R,
+    alloc: Global,
+    call: usize,
+    hindrance: &Hindrance,
+) -> Option<bool> {
+    let (fate, times, answer) = *hindrance;
+    is_answered(rt, alloc, a_hindered_line(alloc, call, fate, times)?, answer)
 }
 
 /// A far link's octets for a read: 22 of the confirm, 27 of the grant, 29 of the answer.
@@ -469,10 +543,20 @@ fn a_read_is_lost_wherever_the_far_link_ends(rt: HostRuntime) -> Result<(), Fail
     Ok(())
 }
 
+/// A read is answered as each hindrance says if the far link is hindered from this call on.
+fn all_hinder<R: Wait + Clock>(rt: &R, alloc: Global, call: usize) -> bool {
+    for hindrance in HINDRANCES {
+        if !is_hindered_at(rt, alloc, call, hindrance).unwrap_or(false) {
+            return false;
+        }
+    }
+    true
+}
+
 #[test]
-fn a_read_is_lost_whichever_call_fails(rt: HostRuntime) -> Result<(), Fail> {
+fn a_read_is_answered_whichever_call_is_hindered(rt: HostRuntime) -> Result<(), Fail> {
     for call in 0..FAR_CALLS {
-        if !is_lost_at(&rt, rt.alloc(), call).unwrap_or(false) {
+        if !all_hinder(&rt, rt.alloc(), call) {
             return Err(Fail::from(("call", call)));
         }
     }

@@ -19,7 +19,7 @@ use Rattle.s7_session.specs.Judgement.{Asking}
 use Rattle.s7_session.specs.LinkState.{LinkState}
 use Rattle.s7_session.specs.Telegrams.{Met, met, verdicts_of, entered_of, looks_for, looks_in, NoneTimed, IsAt, moment_of}
 use Rattle.s7_session.specs.Verdict.{Verdict, Entered, Full, ClockFailed, NoMemory}
-use Rattle.s7_session.proofs.DoerLemmas.{goes_same, trail_one}
+use Rattle.s7_session.proofs.DoerLemmas.{trail_one}
 
 -- what asking the clock, or not asking it, does to a line
 pub record Looked (line line' : Shown) (asking : Asking) : Type 0 where
@@ -58,7 +58,7 @@ answers_settled stands full lack did kept line d made at size link sent is = rec
   count = refl;
   last = λ before. refl;
   doer = λ es h. subst (stands d) (sym (append-nil es)) h;
-  trail = subst (λ (ms : List Met). Trail full lack did kept d ms d) (sym (ap (λ (m : Made). m.mets) is)) (goes_same full kept d);
+  trail = subst (λ (ms : List Met). Trail full lack did kept d ms d) (sym (ap (λ (m : Made). m.mets) is)) refl;
   line_is = refl;
   clock = (omega arith, omega arith);
   unasked = λ h. refl;
@@ -85,7 +85,7 @@ answers_closing stands full lack did kept line d made at size link sent is none 
   count = refl;
   last = λ before. refl;
   doer = λ es h. subst (stands d) (sym (append-nil es)) h;
-  trail = subst (λ (ms : List Met). Trail full lack did kept d ms d) (sym (ap (λ (m : Made). m.mets) is)) (goes_same full kept d);
+  trail = subst (λ (ms : List Met). Trail full lack did kept d ms d) (sym (ap (λ (m : Made). m.mets) is)) refl;
   line_is = refl;
   clock = (omega arith, omega arith);
   unasked = λ h. refl;
@@ -117,7 +117,7 @@ answers_entered stands full lack did kept line line' d d' n link link' sequence 
   count = refl;
   last = λ before. refl;
   doer = doer;
-  trail = trail_one full lack did kept d d' (met asking (Entered reply moment)) still (not_full, untimed, (number, entered));
+  trail = trail_one full lack did kept d d' (met asking (Entered reply moment)) (not_full, untimed, (number, entered), still);
   line_is = looked.same;
   clock = (omega (arith, told), omega (arith, told));
   unasked = λ h. looked.unasked h.0;
@@ -146,7 +146,7 @@ answers_full stands full lack did kept line line' d d' n link link' sequence ask
   count = refl;
   last = λ before. refl;
   doer = λ es h. subst (stands d') (sym (append-nil es)) (doer es h);
-  trail = trail_one full lack did kept d d' (met asking Full) still (moment, is_full, refused);
+  trail = trail_one full lack did kept d d' (met asking Full) (moment, is_full, refused, still);
   line_is = looked.same;
   clock = (omega (arith, told), omega (arith, told));
   unasked = λ h. looked.unasked h.0;
@@ -181,7 +181,7 @@ answers_clock_failed stands full lack did kept line line' d n link link' sequenc
       last = λ before. refl;
       doer = λ es h. subst (stands d) (sym (append-nil es)) h;
       trail = subst (λ (ms : List Met). Trail full lack did kept d ms d) (sym (ap (λ (m : Made). m.mets) is))
-          (trail_one full lack did kept d d (met asking ClockFailed) (goes_same full kept d) (subst IsTrue (sym timed) refl));
+          (trail_one full lack did kept d d (met asking ClockFailed) (subst IsTrue (sym timed) refl, refl));
       line_is = looked.same;
       clock = (omega (arith, rose), omega (arith, looked.once));
       unasked = λ h. looked.unasked (subst NoneTimed (ap (λ (m : Made). m.mets) is) h).0;
@@ -193,10 +193,10 @@ answers_clock_failed stands full lack did kept line line' d n link link' sequenc
 -- memory was wanting
 pub answers_memory : {D : Type 0} (stands : D → List Entry → Type 0) (full lack : D → Ask → Type 0) (did : D → Ask → Option (ℕ × Said) → D → Type 0) (kept : D → D → Type 0) (line line' : Shown) (d d' : D) (n : ℕ) (link link' : LinkState) (sequence : ℕ) (asking : Asking) (at : ℕ) (sent : List ℕ)
     → Looked line line' asking → line'.clock_faults ≡ line.clock_faults → sent ≡ []
-    → ((es : List Entry) → stands d es → stands d' es) → GoesOn full kept d d'
-    → IsTrue asking.is_copied ⊎ ((moment : ℕ) × lack d (asking.ask moment))
+    → ((es : List Entry) → stands d es → stands d' es)
+    → (IsTrue asking.is_copied × (d ≡ d')) ⊎ ((moment : ℕ) × lack d (asking.ask moment) × did d (asking.ask moment) None d' × GoesOn full kept d d')
     → Answers stands full lack did kept line d line' d' (asks n link sequence asking) at (Some n) link' sent handled.NoMemory
-answers_memory stands full lack did kept line line' d d' n link link' sequence asking at sent looked told none doer still lacks = record {
+answers_memory stands full lack did kept line line' d d' n link link' sequence asking at sent looked told none doer lacks = record {
   verdicts = NoMemory ∷ [];
   one = omega arith;
   entries = [];
@@ -211,7 +211,7 @@ answers_memory stands full lack did kept line line' d d' n link link' sequence a
   count = refl;
   last = λ before. refl;
   doer = λ es h. subst (stands d') (sym (append-nil es)) (doer es h);
-  trail = trail_one full lack did kept d d' (met asking NoMemory) still lacks;
+  trail = trail_one full lack did kept d d' (met asking NoMemory) lacks;
   line_is = looked.same;
   clock = (omega (arith, told), omega (arith, told));
   unasked = λ h. looked.unasked h.0;

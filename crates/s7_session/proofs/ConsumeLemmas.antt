@@ -43,7 +43,6 @@ use Rattle.s7_session.specs.Stands.{unsent, used_of, entry_count, newest, link_a
 use Rattle.s7_session.specs.Telegrams.{Met, verdicts_of, entered_by, entered_of, looks_in, NoneTimed, AllAt, clock_failures}
 use Rattle.s7_session.specs.Telegrams.{last_number}
 use Rattle.s7_session.specs.Verdict.{Verdict}
-use Rattle.s7_session.proofs.DoerLemmas.{goes_same}
 use Rattle.s7_session.proofs.PastLemmas.{past_more, past_event, past_ended, closes_by}
 
 -- ---- what a reader found behind octets that open by a connect request
@@ -240,7 +239,7 @@ uses_more stands full lack did kept old new line d used going opens found some i
   count = omega (arith, count);
   newest = last;
   doer = λ es h. subst (stands d) (sym (append-nil es)) h;
-  trail = goes_same full kept d;
+  trail = refl;
   closed = closed;
   waits = went_not_yet;
   by_octets = λ o e. absurd (went_not_closed o e);
@@ -288,7 +287,7 @@ uses_opened stands full lack did kept old new line d used c told going opens fou
   count = omega (arith, count);
   newest = last;
   doer = λ es h. subst (stands d) (sym (append-nil es)) h;
-  trail = goes_same full kept d;
+  trail = refl;
   closed = closed;
   waits = went_not_yet;
   by_octets = λ o e. absurd (went_not_closed o e);
@@ -498,7 +497,7 @@ uses_ended stands full lack did kept old new line d used found end ends going op
       count = omega (arith, count);
       newest = last;
       doer = λ es h. subst (stands d) (sym (append-nil es)) h;
-      trail = goes_same full kept d;
+      trail = refl;
       closed = closed;
       waits = closed_not_yet end;
       by_octets = λ o e. subst IsByOctets (same_closed end o e) octets;

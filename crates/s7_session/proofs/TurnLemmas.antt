@@ -20,7 +20,7 @@ use Rattle.s7_session.specs.Stands.{Stands, AllButOne, Moves, HasCause, closed_w
 use Rattle.s7_session.specs.Telegrams.{Met, verdicts_of, entered_of, looks_in, NoneTimed, AllAt, clock_failures, last_number}
 use Rattle.s7_session.specs.Verdict.{Verdict, Entered, Full, ClockFailed, NoMemory}
 use Rattle.s7_session.proofs.ConsumeLemmas.{entered-append}
-use Rattle.s7_session.proofs.DoerLemmas.{goes_same, trail-append}
+use Rattle.s7_session.proofs.DoerLemmas.{trail-append}
 
 pub prepend_twice : (a b : List ℕ) (o : Option (List ℕ)) → prepend_known a (prepend_known b o) ≡ prepend_known (a ++ b) o
 prepend_twice a b None = refl
@@ -222,7 +222,7 @@ moves_plain stands full lack did kept old new link link' d received written k ou
   count = omega (arith, k.count);
   newest = k.newest;
   doer = λ es h. subst (stands d) (sym (append-nil es)) h;
-  trail = goes_same full kept d;
+  trail = refl;
   clock = (omega (arith, moved.clock_faults), omega (arith, moved.clock_faults));
   unasked = λ h. moved.clock_faults;
   looks = (omega (arith, moved.looks), omega (arith, moved.looks));

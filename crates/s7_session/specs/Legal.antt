@@ -28,8 +28,8 @@ pub record IsCalledFor (opening : State) (limit : ℕ) (history : History) (link
   -- a request that needs a moment has the one that the clock showed
   pub moments : AllAt moment (own opening link history)
 
--- WHAT IS COUNTED FOR A LINK: `entries` of its telegrams were entered in the history, the newest under this number. Each
--- failure of an allocation or of the clock has its cause.
+-- WHAT IS COUNTED FOR A LINK: `entries` of its telegrams were entered in the history, the newest under this number.
+-- Each failure of an allocation or of the clock has its cause.
 pub record IsCounted (opening : State) (history : History) (link : ℕ) (mets : List Met)
     (entries : ℕ) (newest : Option ℕ)
     : Type 0 where

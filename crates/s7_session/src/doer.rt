@@ -33,7 +33,7 @@ pub trait Doer {
     ghost keeps: { Self → Self → Type 0 };
 
     /// What the doer does with a request, as a history keeps it: it enters the request under a number with a reply, or
-    /// refuses it because it is full (`None`). A doer of more than one history says here what each of them gained.
+    /// doesn't enter it (`None`). A doer of more than one history says here what each of them gained.
     ghost did: { Self → Ask → Option (ℕ × Said) → Self → Type 0 } = { λ _ _ _ _. Unit {0} };
 
     /// Carries out `ask`, appends it to the history and returns the number of its entry; `reply` then holds the answer.
@@ -64,11 +64,10 @@ pub trait Doer {
         ensures stays_full { StaysFull is_full self.old self.new }
         ensures kept { keeps self.old self.new }
 
-        // What it did with a request that it entered, and with one that it refused because it is full.
+        // What it did with a request that it entered, and with one that it didn't enter.
         ensures entered { IfOk result (λ number.
             did self.old (kept ask) (Some (number, said_of reply.new)) self.new) }
-        ensures refused { (back : Ask) → result ≡ Err (NotDone.Full back)
-            → did self.old (kept ask) None self.new };
+        ensures refused { OnErr result (did self.old (kept ask) None self.new) };
 
     ghost keeps_same: { (d : Self) → keeps d d };
 

@@ -9,7 +9,6 @@ use Rattle.s7_session.specs.Judgement.{Judgement, refuse, insert, plainly, asks_
 use Rattle.s7_session.specs.declared.held.Held.{Held}
 use Rattle.s7_session.specs.declared.judge.Refusal.TheVariants.{NotAllowed}
 use Rattle.s7_session.proofs.AnswerLemmas.{answers_settled, answers_memory, looked_not, same_made}
-use Rattle.s7_session.proofs.DoerLemmas.{goes_same}
 use Rattle.s7_session.proofs.LoadLemmas.{finished_held}
 use Rattle.s7_session.proofs.conversation.Conversation.insert.Goals as goal
 
@@ -74,4 +73,4 @@ returns-in-Err-clause-answers g c = λ line at.
     ∙ ap (λ (b : Bool). by_judgement n link sequence vs (cond b (asks_plainly link sequence request) (refuse NotAllowed))) (sym c.is_insertable.ensures ∙ c.if-not-is_insertable.false))
     (answers_memory g.D.Doer.stands g.D.Doer.is_full g.D.Doer.may_lack g.D.Doer.did g.D.Doer.keeps line line c.args.doer.now c.args.doer.now n link link
     sequence (plainly link sequence request) at _ (looked_not line _ refl) refl c.requires.sent (λ es h. h)
-    (goes_same g.D.Doer.is_full g.D.Doer.keeps c.args.doer.now) (inl refl))
+    (inl (refl, refl)))

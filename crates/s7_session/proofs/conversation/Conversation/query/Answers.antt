@@ -14,7 +14,6 @@ use Rattle.s7_session.specs.Telegrams.{IsAt}
 use Rattle.s7_session.proofs.KeptLemmas.{kept_query, moment_kept}
 use Rattle.s7_session.proofs.AnswerLemmas.{answers_entered, answers_full, answers_memory, answers_clock_failed}
 use Rattle.s7_session.proofs.AnswerLemmas.{one_message, after_nothing, false_not_true}
-use Rattle.s7_session.proofs.DoerLemmas.{goes_by}
 use Rattle.s7_session.proofs.conversation.Conversation.query.Goals as goal
 
 -- what is kept of what user data asks
@@ -49,7 +48,7 @@ returns-in-Ok-clause-answers g c = λ at.
     (subst (IsAt line.moment) (sym (moment_kept c.in-Some.request)) m.told_is)
     (kept_is right c.in-Some.request c.args.query m.moment m.request_is) (sym made.ensures.link)
     (one_message n (user_reply link c.args.pdu c.args.sequence (group_of c.args.query) (subfunction_of c.args.query) said) _ (sym made.ensures.sends))
-    c.in-Ok.ensures.ok (goes_by g.D.Doer.is_full g.D.Doer.keeps c.args.doer.now c.act.new.self g.met.D.Doer.keeps_both c.act.ensures.stays_full c.act.ensures.kept)
+    c.in-Ok.ensures.ok (c.act.ensures.stays_full, c.act.ensures.kept)
     (λ e. false_not_true (c.in-Ok.ensures.was_full (subst (g.D.Doer.is_full c.args.doer.now) (sym (kept_is right c.in-Some.request c.args.query m.moment m.request_is)) e)))
     (subst (λ a. g.D.Doer.did c.args.doer.now a (Some (c.in-Ok.number, said)) c.act.new.self) (kept_is right c.in-Some.request c.args.query m.moment m.request_is) c.in-Ok.ensures.entered)
 
@@ -64,9 +63,9 @@ returns-in-Err-Full-clause-answers g c = λ at.
     n link link c.args.sequence (queries link c.args.pdu c.args.sequence c.args.query) at _ m.moment
     (record { same = k.same; once = k.once; unasked = k.unasked; looks = k.looks }) c.in-Some.ensures.told refl
     (after_nothing c.args.self.now.sender.outbox.unsent (refusal_sent n c.args.sequence FULL) c.put_refusal-in-Err-Full.new.self.outbox.unsent c.put_refusal-in-Err-Full.ensures c.requires.sent)
-    f.ensures.err (goes_by g.D.Doer.is_full g.D.Doer.keeps c.args.doer.now c.act.new.self g.met.D.Doer.keeps_both c.act.ensures.stays_full c.act.ensures.kept)
+    f.ensures.err (c.act.ensures.stays_full, c.act.ensures.kept)
     (subst (g.D.Doer.is_full c.act.new.self) (kept_is c.args.self.now.held.right c.in-Some.request c.args.query m.moment m.request_is) (c.act.ensures.full f.field-0-0 (f.is ∙ ap Err f.field-0-is)).1)
-    (subst (λ a. g.D.Doer.did c.args.doer.now a None c.act.new.self) (kept_is c.args.self.now.held.right c.in-Some.request c.args.query m.moment m.request_is) (c.act.ensures.refused f.field-0-0 (f.is ∙ ap Err f.field-0-is)))
+    (subst (λ a. g.D.Doer.did c.args.doer.now a None c.act.new.self) (kept_is c.args.self.now.held.right c.in-Some.request c.args.query m.moment m.request_is) f.ensures.refused)
 
 pub returns-clause-answers : goal.returns-clause-answers
 returns-clause-answers g c = λ at.
@@ -76,5 +75,6 @@ returns-clause-answers g c = λ at.
     let f = c.in-Err-Memory in
     answers_memory g.D.Doer.stands g.D.Doer.is_full g.D.Doer.may_lack g.D.Doer.did g.D.Doer.keeps (g.L.Link.shows c.args.line.now) (g.L.Link.shows c.request.new.line) c.args.doer.now c.act.new.self
     c.args.size.octets link link c.args.sequence (queries link c.args.pdu c.args.sequence c.args.query) at _
-    (record { same = k.same; once = k.once; unasked = k.unasked; looks = k.looks }) c.in-Some.ensures.told c.requires.sent f.ensures.err (goes_by g.D.Doer.is_full g.D.Doer.keeps c.args.doer.now c.act.new.self g.met.D.Doer.keeps_both c.act.ensures.stays_full c.act.ensures.kept)
-    (inr (m.moment, subst (g.D.Doer.may_lack c.args.doer.now) (kept_is c.args.self.now.held.right c.in-Some.request c.args.query m.moment m.request_is) (c.act.ensures.lacked f.field-0-0 (f.is ∙ ap Err f.field-0-is)).1))
+    (record { same = k.same; once = k.once; unasked = k.unasked; looks = k.looks }) c.in-Some.ensures.told c.requires.sent f.ensures.err
+    (inr (m.moment, subst (g.D.Doer.may_lack c.args.doer.now) (kept_is c.args.self.now.held.right c.in-Some.request c.args.query m.moment m.request_is) (c.act.ensures.lacked f.field-0-0 (f.is ∙ ap Err f.field-0-is)).1,
+    subst (λ a. g.D.Doer.did c.args.doer.now a None c.act.new.self) (kept_is c.args.self.now.held.right c.in-Some.request c.args.query m.moment m.request_is) f.ensures.refused, (c.act.ensures.stays_full, c.act.ensures.kept)))
